@@ -1,0 +1,13 @@
+//! The numbers of tasks, groups and levels.
+
+/// The number of a task, 1 to 65,535.
+#[derive(Clone, Copy, Debug, Default, PartialEq, Eq, PartialOrd, Ord, Hash)]
+pub struct TaskId(pub u16);
+
+/// The number of a group of tasks, which go over together: 0, or the number of a task.
+#[derive(Clone, Copy, Debug, Default, PartialEq, Eq, PartialOrd, Ord, Hash)]
+pub struct GroupId(pub u16);
+
+/// How many of the stacked patches apply, 0 to 16: at level 0 nothing is patched.
+#[derive(Clone, Copy, Debug, Default, PartialEq, Eq, PartialOrd, Ord, Hash)]
+pub struct Level(pub u8);

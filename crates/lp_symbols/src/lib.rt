@@ -1,0 +1,11 @@
+//! Names of functions, numbered in the order in which they were first seen.
+#![tactic(auto)]
+
+mod sym_id;
+mod symbols;
+
+pub use sym_id::SymId;
+pub use symbols::{LONGEST_NAME, MOST_SYMBOLS, SymFault, Symbols};
+
+#[cfg(test)]
+mod tests;
