@@ -1,0 +1,14 @@
+//! The patches, and which version of a function runs at a level.
+#![tactic(auto)]
+
+mod aim;
+mod fault;
+mod set;
+mod stack;
+#[cfg(test)]
+mod tests;
+
+pub use aim::Aim;
+pub use fault::PatchFault;
+pub use set::{MOST_FUNCTIONS, PatchSet};
+pub use stack::{MOST_PATCHES, PatchStack};
