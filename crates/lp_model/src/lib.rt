@@ -1,0 +1,12 @@
+//! What a consistency model says, and what each of them has to keep.
+#![tactic(auto)]
+
+mod check;
+mod consistency;
+mod stale;
+mod verdict;
+
+pub use check::{Blame, CheckKind, ForkKind};
+pub use consistency::Consistency;
+pub use stale::lowest_stale;
+pub use verdict::Verdict;

@@ -1,0 +1,77 @@
+-- Four models, each as a row of the table.
+use Rattle.std.specs.Prelude.{Bool, true, false}
+use Rattle.lp_stack.specs.declared.view.Mode.{Mode}
+use Rattle.lp_stack.specs.declared.view.Mode.TheVariants.{Asleep}
+use Rattle.lp_patch.specs.Patches.{is_stale}
+use Rattle.lp_model.specs.declared.check.CheckKind.{CheckKind}
+use Rattle.lp_model.specs.declared.check.CheckKind.TheVariants.{KernelExit, IdlePoint, Stop}
+use Rattle.lp_model.specs.Table.{Table, is_no_stop, at_walk}
+
+-- a task's way out of the kernel, or an idle task's idle point
+abbrev pub is_exit_or_idle : CheckKind → Bool
+is_exit_or_idle KernelExit = true
+is_exit_or_idle IdlePoint = true
+is_exit_or_idle _ = false
+
+abbrev pub is_stop : CheckKind → Bool
+is_stop Stop = true
+is_stop _ = false
+
+abbrev pub is_awake : Mode → Bool
+is_awake Asleep = false
+is_awake _ = true
+
+-- each task by itself.
+-- Admits, at any kind but Stop, a task without a stale frame, and at Walk only one that is asleep.
+-- Blames a kind not used, then the lowest stale frame, then at Walk a task that isn't asleep
+abbrev pub hybrid : Table
+hybrid =
+    record {
+      uses = is_no_stop;
+      keeps = is_stale;
+      busy = at_walk is_awake;
+      first_group = λ task. task;
+      child_group = λ group child how. child;
+      whole_call = true;
+    }
+
+-- each task by itself.
+-- Admits, at KernelExit and IdlePoint, a task without a frame.
+-- Blames a kind not used, then the lowest frame
+abbrev pub leave_kernel : Table
+leave_kernel =
+    record {
+      uses = is_exit_or_idle;
+      keeps = λ aim frame. true;
+      busy = λ kind mode. false;
+      first_group = λ task. task;
+      child_group = λ group child how. child;
+      whole_call = true;
+    }
+
+-- all tasks together.
+-- Admits, at Stop, a task without a stale frame.
+-- Blames a kind not used, then the lowest stale frame
+abbrev pub all_at_once : Table
+all_at_once =
+    record {
+      uses = is_stop;
+      keeps = is_stale;
+      busy = λ kind mode. false;
+      first_group = λ task. 0;
+      child_group = λ group child how. group;
+      whole_call = true;
+    }
+
+-- each task by itself.
+-- Admits everybody at any kind, and blames nobody
+abbrev pub immediate : Table
+immediate =
+    record {
+      uses = λ kind. true;
+      keeps = λ aim frame. false;
+      busy = λ kind mode. false;
+      first_group = λ task. task;
+      child_group = λ group child how. child;
+      whole_call = false;
+    }

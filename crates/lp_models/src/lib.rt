@@ -1,0 +1,16 @@
+//! The consistency models of the Linux livepatching tradition, and the names of all models.
+#![tactic(auto)]
+
+mod all_at_once;
+mod hybrid;
+mod immediate;
+mod leave_kernel;
+mod name;
+#[cfg(test)]
+mod tests;
+
+pub use all_at_once::AllAtOnce;
+pub use hybrid::Hybrid;
+pub use immediate::Immediate;
+pub use leave_kernel::LeaveKernel;
+pub use name::ModelName;

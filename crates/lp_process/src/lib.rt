@@ -1,0 +1,8 @@
+//! A consistency model in which the tasks of a process go over together.
+#![tactic(auto)]
+
+mod process_group;
+#[cfg(test)]
+mod tests;
+
+pub use process_group::ProcessGroup;
