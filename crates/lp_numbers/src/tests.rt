@@ -1,0 +1,94 @@
+//! Sets through inserts, removals and walks.
+use super::*;
+use std::alloc::Global;
+use std::test::Fail;
+
+/// Members at the ends of words of 64 numbers, and at the ends of runs of 64 words.
+const MEMBERS: [u16; 9] = [0, 1, 63, 64, 4_095, 4_096, 4_160, 65_472, 65_535];
+
+/// The set of these numbers.
+fn set_of(alloc: Global, numbers: &[u16]) -> Result<NumberSet, Fail> {
+    let mut set = NumberSet::new(alloc)?;
+    for number in numbers {
+        set.insert(*number);
+    }
+    Ok(set)
+}
+
+#[test]
+fn a_walk_meets_each_member(rt: HostRuntime) -> Result<(), Fail> {
+    let set = set_of(rt.alloc(), MEMBERS.as_slice())?;
+    for (from, want) in [
+        (0, Some(0)),
+        (1, Some(1)),
+        (2, Some(63)),
+        (63, Some(63)),
+        (64, Some(64)),
+        (65, Some(4_095)),
+        (4_096, Some(4_096)),
+        (4_097, Some(4_160)),
+        (4_161, Some(65_472)),
+        (65_473, Some(65_535)),
+        (65_535, Some(65_535)),
+    ] {
+        assert_eq!(rt; set.next(from), want);
+    }
+    Ok(())
+}
+
+#[test]
+fn a_walk_ends_past_the_last_member(rt: HostRuntime) -> Result<(), Fail> {
+    let set = set_of(rt.alloc(), &[0, 64])?;
+    assert_eq!(rt; set.next(64), Some(64));
+    assert_eq!(rt; set.next(65), None);
+    assert_eq!(rt; set.next(65_535), None);
+    Ok(())
+}
+
+#[test]
+fn what_is_removed_is_passed_over(rt: HostRuntime) -> Result<(), Fail> {
+    let mut set = set_of(rt.alloc(), MEMBERS.as_slice())?;
+    for number in [0, 64, 4_096, 65_472, 5] {
+        set.remove(number);
+    }
+    for (from, want) in [
+        (0, Some(1)),
+        (64, Some(4_095)),
+        (4_096, Some(4_160)),
+        (4_161, Some(65_535)),
+    ] {
+        assert_eq!(rt; set.next(from), want);
+    }
+    assert!(rt; !set.contains(64));
+    assert!(rt; set.contains(63));
+    Ok(())
+}
+
+#[test]
+fn a_set_is_empty_until_it_has_a_member(rt: HostRuntime) -> Result<(), Fail> {
+    let mut set = NumberSet::new(rt.alloc())?;
+    assert!(rt; set.is_empty());
+    set.insert(65_535);
+    assert!(rt; !set.is_empty());
+    set.remove(65_535);
+    assert!(rt; set.is_empty());
+    set.insert(7);
+    set.clear();
+    assert!(rt; set.is_empty());
+    assert_eq!(rt; set.next(0), None);
+    Ok(())
+}
+
+#[test]
+fn sets_are_copied_and_subtracted(rt: HostRuntime) -> Result<(), Fail> {
+    let set = set_of(rt.alloc(), &[3, 64, 128])?;
+    let mut copied = set.copy(rt.alloc())?;
+    copied.subtract(&set_of(rt.alloc(), &[4, 64])?);
+    assert_eq!(rt;
+        (copied.next(0), copied.next(4), copied.next(129)),
+        (Some(3), Some(128), None)
+    );
+    copied.copy_from(&set);
+    assert_eq!(rt; copied.next(4), Some(64));
+    Ok(())
+}
