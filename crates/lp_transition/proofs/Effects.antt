@@ -1,0 +1,78 @@
+-- The engine after an accepted event that takes no group over.
+use Rattle.std.proofs.Common.{◌≡◌, ℕ, suc, ◌+◌, ◌<◌, true, List, Option, Some, None, not, nat_eq, refl, sym, ap, ◌∙◌, subst, ⊎_elim, add-one, arith}
+use Rattle.std.proofs.lemmas.Bool.{cases_eq}
+use Rattle.std.specs.Option.{option_map}
+use Rattle.lp_numbers.specs.Numbers.{Numbers}
+use Rattle.lp_model.specs.Rules.{Rules, IsLawful}
+use Rattle.lp_transition.specs.declared.event.Event.{Event}
+use Rattle.lp_transition.specs.Tasks.{Fate, change}
+use Rattle.lp_transition.specs.Leg.{Standing, State}
+use Rattle.lp_transition.specs.Sound.{IsSound}
+use Rattle.lp_transition.specs.Machine.{refusal_of, next, own_effect}
+use Rattle.lp_transition.specs.Table.{Table, Engine, IsWide, slot, standings, changed, state_in, is_off}
+use Rattle.lp_transition.specs.Kept.{IsKept}
+use Rattle.lp_transition.proofs.States.{next_keeps_sound}
+use Rattle.lp_transition.proofs.EngineLemmas.{is_quiet, next-quiet}
+use Rattle.lp_transition.proofs.TableLemmas.{standings-changed, slot-changed, slot-changed_other, IsWide-changed}
+use Rattle.lp_transition.proofs.CountLemmas.{count-changed}
+
+-- one event more, and another table
+abbrev pub with_table : Table → Engine → Engine
+with_table table e = record e { number = e.number + 1; table = table }
+
+-- an engine has taken an event: it keeps what it has to, and is where the machine goes
+pub record HasTaken (model : Rules) (old : Engine) (event : Event) (new : Engine) (waiting : Numbers) (members : List ℕ) : Type 0 where
+  pub kept : IsKept new waiting members
+  pub state : state_in new ≡ next model (state_in old) event
+
+-- the state of an engine whose table stands for these tasks
+pub state-with_table : (e : Engine) (table : Table) (tasks : ℕ → Fate Standing) → standings table ≡ tasks → state_in (with_table table e) ≡ (let s = state_in e in record s { number = suc s.number; tasks = tasks })
+state-with_table e table tasks is =
+    ap {A = ℕ → Fate Standing} {B = State} (λ now. let s = state_in e in record s { number = e.number + 1; tasks = now }) is
+    ∙ ap {A = ℕ} {B = State} (λ n. let s = state_in e in record s { number = n; tasks = tasks }) (add-one e.number)
+
+-- where an engine goes is sound
+pub sound_next : (model : Rules) → IsLawful model → (e new : Engine) (event : Event) → IsSound (state_in e) → state_in new ≡ next model (state_in e) event → IsSound (state_in new)
+sound_next model lawful e new event sound is = subst IsSound (sym is) (next_keeps_sound model lawful (state_in e) event sound)
+
+-- a change that keeps levels keeps who is off the target
+is_off-map : (target : ℕ) (f : Standing → Standing) → ((x : Standing) → (f x).level ≡ x.level) → (o : Option Standing) → is_off target (option_map f o) ≡ is_off target o
+is_off-map target f keeps None = refl
+is_off-map target f keeps (Some x) = ap (λ l. not (nat_eq l target)) (keeps x)
+
+pub is_off-changed : (table : Table) (t u target : ℕ) (f : Standing → Standing) → IsWide table → t < 65536 → ((x : Standing) → (f x).level ≡ x.level) → is_off target (slot (changed t f table) u) ≡ is_off target (slot table u)
+is_off-changed table t u target f wide h keeps =
+    ⊎_elim
+    (λ (e : u ≡ t). subst (λ v. is_off target (slot (changed t f table) v) ≡ is_off target (slot table v)) (sym e) (ap (is_off target) (slot-changed table t f wide h) ∙ is_off-map target f keeps (slot table t)))
+    (λ (ne : u ≡ t → ⊥). ap (is_off target) (slot-changed_other table t u f ne))
+    (cases_eq u t)
+
+module _ (model : Rules) (lawful : IsLawful model) where
+  -- a quiet event whose own effect is a change of one live task, which keeps its level and its group
+  by_change : (e : Engine) (waiting : Numbers) (members : List ℕ) (event : Event) (t : ℕ) (f : Standing → Standing) → IsKept e waiting members → t < 65536 → e.number < 1000000 → is_quiet event ≡ true → refusal_of model (state_in e) event ≡ None
+      → own_effect model.child_group (suc e.number) event (standings e.table) ≡ change t f (standings e.table) → ((x : Standing) → (f x).level ≡ x.level) → ((x : Standing) → (f x).group ≡ x.group)
+      → HasTaken model e event (with_table (changed t f e.table) e) waiting members
+  by_change e waiting members event t f kept h room quiet accepted own levels groups =
+      let there = state-with_table e (changed t f e.table) (own_effect model.child_group (suc e.number) event (standings e.table)) (standings-changed e.table t f kept.wide h ∙ sym own) ∙ sym (next-quiet model (state_in e) event accepted quiet) in
+      record {
+        kept = record {
+          sound = sound_next model lawful e (with_table (changed t f e.table) e) event kept.sound there;
+          wide = IsWide-changed e.table t f kept.wide;
+          waits = λ u. kept.waits u ∙ sym (is_off-changed e.table t u e.target f kept.wide h levels);
+          groups = kept.groups;
+          counted = λ group within. sym (count-changed e.table t f group kept.wide h groups ∙ sym (kept.counted group within));
+          from_fits = kept.from_fits;
+          target_fits = kept.target_fits;
+          number_fits = omega arith;
+        };
+        state = there;
+      }
+
+  -- the same, of the engine that code holds
+  pub takes_change : (e old : Engine) (table : Table) (waiting : Numbers) (members : List ℕ) (event : Event) (t : ℕ) (f : Standing → Standing) → e ≡ old → table ≡ changed t f e.table → IsKept e waiting members → t < 65536 → old.number < 1000000 → is_quiet event ≡ true → refusal_of model (state_in old) event ≡ None
+      → own_effect model.child_group (suc e.number) event (standings e.table) ≡ change t f (standings e.table) → ((x : Standing) → (f x).level ≡ x.level) → ((x : Standing) → (f x).group ≡ x.group)
+      → HasTaken model old event (with_table table e) waiting members
+  takes_change e old table waiting members event t f was is kept h room quiet accepted own levels groups =
+      subst (λ o. HasTaken model o event (with_table table e) waiting members) was
+      (subst (λ now. HasTaken model e event (with_table now e) waiting members) (sym is)
+      (by_change e waiting members event t f kept h (subst (λ o. o.number < 1000000) (sym was) room) quiet (subst (λ o. refusal_of model (state_in o) event ≡ None) (sym was) accepted) own levels groups))

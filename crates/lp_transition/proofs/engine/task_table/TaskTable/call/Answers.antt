@@ -1,0 +1,31 @@
+use Rattle.std.proofs.Common.{◌<◌, List, length, Option, refl, ap, ◌∙◌, arith}
+use Rattle.lp_transition.specs.Machine.{calling}
+use Rattle.lp_transition.specs.Leg.{Standing}
+use Rattle.lp_transition.proofs.SlotLemmas.{boxes_wide, slot-boxed, slots_of-change, IsTable-changed}
+use Rattle.lp_transition.proofs.engine.task_table.TaskTable.call.Goals as goal
+use Rattle.lp_transition.proofs.engine.task_table.TaskTable.call.Goals.{in-Some, in_default}
+
+pub invariant_of-self : goal.invariant_of-self
+invariant_of-self c =
+    let boxes = c.self.inside.slots.items in
+    let within : c.from.result < length boxes = omega (arith, boxes_wide boxes _ _ c.self.invariant) in
+    elim c.match-index_mut.branch [
+      | in-Some w ↦ rw w.self-inside-is (IsTable-changed boxes _ _ c.from.result c.index_mut.result.now _ (calling c.args.serial c.args.func) within c.index_mut.ensures.value (rw w.in-Some.is (rw (w.call.ensures, w.deref_mut.ensures.value) refl)) c.self.invariant)
+      | in_default w ↦ rw w.self-inside-is (IsTable-changed boxes _ _ c.from.result c.index_mut.result.now _ (calling c.args.serial c.args.func) within c.index_mut.ensures.value (rw w.in_default.is refl) c.self.invariant)
+    ]
+
+pub returns : goal.returns
+returns c =
+    let boxes = c.self.inside.slots.items in
+    let within : c.from.result < length boxes = omega (arith, boxes_wide boxes _ _ c.self.invariant) in
+    elim c.match-index_mut.branch [
+      | in-Some w ↦ rw (w.self-inside-is, ← c.self.view_is, ← c.from.ensures) (ap (λ (slots : List (Option Standing)). record { slots = slots; used = c.self.inside.used }) (slots_of-change boxes c.from.result c.index_mut.result.now _ (calling c.args.serial c.args.func) within c.index_mut.ensures.value (rw w.in-Some.is (rw (w.call.ensures, w.deref_mut.ensures.value) refl))))
+      | in_default w ↦ rw (w.self-inside-is, ← c.self.view_is, ← c.from.ensures) (ap (λ (slots : List (Option Standing)). record { slots = slots; used = c.self.inside.used }) (slots_of-change boxes c.from.result c.index_mut.result.now _ (calling c.args.serial c.args.func) within c.index_mut.ensures.value (rw w.in_default.is refl)))
+    ]
+
+pub call-requires : goal.call-requires
+call-requires c =
+    let boxes = c.self.inside.slots.items in
+    let within : c.from.result < length boxes = omega (arith, boxes_wide boxes _ _ c.self.invariant) in
+    let here = slot-boxed boxes c.from.result c.index_mut.result.now within c.index_mut.ensures.value in
+    c.requires c.deref_mut.result.now (rw (← c.self.view_is, ← c.from.ensures) (here ∙ rw c.in-Some.is (rw c.deref_mut.ensures.value refl)))

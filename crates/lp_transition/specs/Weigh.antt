@@ -1,0 +1,37 @@
+-- An event that was weighed: its answer, and what the engine needs to take it without memory.
+use Rattle.std.specs.Prelude.{◌≡◌, ℕ, ◌<◌, List, Option, Some, None}
+use Rattle.lp_model.specs.Rules.{Rules}
+use Rattle.lp_model.specs.declared.verdict.Verdict.{Verdict}
+use Rattle.lp_transition.specs.declared.event.Event.{Event}
+use Rattle.lp_transition.specs.declared.event.Event.TheVariants.{Fork}
+use Rattle.lp_transition.specs.declared.refusal.Refusal.{Refusal}
+use Rattle.lp_transition.specs.declared.reply.Reply.{Reply}
+use Rattle.lp_transition.specs.Tasks.{Fate, Unused, Live, Dead, Grouping}
+use Rattle.lp_transition.specs.Leg.{Standing, State}
+use Rattle.lp_transition.specs.Machine.{bearing, refusal_of, answer}
+use Rattle.lp_transition.specs.Table.{Engine, state_in}
+
+-- an event with its answer, the verdicts that it was answered by, and the child that it brings
+pub record Weighed : Type 0 where
+  pub event : Event
+  pub reply : Reply
+  pub verdicts : List Verdict
+  pub born : Option Standing
+
+abbrev pub child_of : Grouping → ℕ → Event → Fate Standing → Option Standing
+child_of grouping c (Fork p _ how) (Live x) = Some (bearing grouping c how x)
+child_of grouping c _ _ = None
+
+-- the child that an accepted fork brings
+abbrev pub born_by : Grouping → Option Refusal → Event → (ℕ → Fate Standing) → Option Standing
+born_by grouping None (Fork p c how) now = child_of grouping c.0 (Fork p c how) (now p.0)
+born_by grouping _ event now = None
+
+abbrev pub born_of : Rules → State → Event → Option Standing
+born_of model s event = born_by model.child_group (refusal_of model s event) event s.tasks
+
+-- the event was weighed on this engine
+pub record IsWeighed (model : Rules) (engine : Engine) (step : Weighed) : Type 0 where
+  pub room : engine.number < 1000000
+  pub reply : step.reply ≡ answer model (state_in engine) step.event
+  pub born : step.born ≡ born_of model (state_in engine) step.event

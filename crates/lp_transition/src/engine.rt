@@ -1,0 +1,110 @@
+//! The engine: the tasks, and the transition that takes them from one level to another.
+ghost use Rattle.std.specs.Prelude.{◌≡◌, ◌≤◌, not};
+ghost use Rattle.std.specs.Option.{option_map};
+ghost use Rattle.lp_patch.specs.Aimed.{aimed};
+ghost use Rattle.lp_transition.specs.Table.{slot, state_in};
+ghost use Rattle.lp_transition.specs.Machine.{at_rest};
+
+mod live_task;
+mod refuse;
+mod step;
+mod take;
+mod task_table;
+
+use lp_model::Consistency;
+use lp_numbers::NumberSet;
+use lp_patch::{Aim, PatchStack};
+use lp_stack::{GroupId, Level, TaskId};
+use std::marker::Model;
+use task_table::TaskTable;
+
+pub use step::{Halt, Step};
+
+/// The most events that are numbered.
+pub const MOST_EVENTS: u32 = 1_000_000;
+
+/// The engine over a consistency model: it decides at each event which tasks go over.
+///
+/// Contracts see what it keeps: the number of events so far, the levels from which and to which it
+/// goes, the patches, and the tasks by their numbers.
+#[derive(Drop)]
+pub struct Core<M: Consistency> {
+    model: M,
+    patches: PatchStack,
+    from: Level,
+    target: Level,
+    events: u32,
+    tasks: TaskTable,
+    /// The live tasks off the target.
+    waiting: NumberSet,
+    /// For each group, how many live members it has.
+    members: Vec<u32>,
+}
+
+impl<M: Consistency> Model for Core<M> {
+    ghost use Rattle.lp_transition.specs.Table.{Engine};
+    ghost use Rattle.lp_transition.specs.Kept.{IsKept};
+
+    ghost Value = { Engine };
+
+    ghost view = { λ c. record { number = c.events; from = c.from.0; target = c.target.0; patches = c.patches; table = c.tasks } };
+
+    ghost invariant = { λ c. IsKept (record { number = c.events; from = c.from.0; target = c.target.0; patches = c.patches; table = c.tasks }) c.waiting c.members.items };
+}
+
+impl<M: Consistency> Core<M> {
+    ghost use Rattle.lp_patch.specs.Patches.{Goal};
+
+    /// How many events are numbered.
+    pub fn events(&self) -> u64
+        ensures value { result ≡ self.now.number }
+        ensures fits { result ≤ 1000000 }
+    {
+        u64::from(self.events)
+    }
+
+    /// The model.
+    pub fn model(&self) -> M {
+        self.model
+    }
+
+    /// The level to which the tasks go, or on which they are settled.
+    pub fn target(&self) -> Level
+        ensures { result.0 ≡ self.now.target }
+    {
+        self.target
+    }
+
+    /// The patches and the target, lent.
+    pub fn aim(&self) -> Aim<'_>
+        ensures { aimed result ≡ record { patches = self.now.patches; target = self.now.target } }
+    {
+        Aim {
+            patches: &self.patches,
+            target: self.target,
+        }
+    }
+
+    /// Whether a transition is under way: a live task is off the target.
+    pub fn in_transition(&self) -> bool
+        ensures { result ≡ not (at_rest (state_in self.now)) }
+    {
+        !self.waiting.is_empty()
+    }
+
+    /// The level of a live task; None for any other.
+    pub fn side_of(&self, task: TaskId) -> Option<Level>
+        ensures { option_map (λ level. level.0) result ≡ option_map (λ x. x.level) (slot self.now.table task.0) }
+    {
+        let live = self.tasks.get(task)?;
+        Some(live.level())
+    }
+
+    /// The group of a live task; None for any other.
+    pub fn group_of(&self, task: TaskId) -> Option<GroupId>
+        ensures { option_map (λ group. group.0) result ≡ option_map (λ x. x.group) (slot self.now.table task.0) }
+    {
+        let live = self.tasks.get(task)?;
+        Some(live.group())
+    }
+}

@@ -1,0 +1,201 @@
+//! Which events are refused.
+ghost use Rattle.std.specs.Prelude.{◌≡◌, None, not};
+ghost use Rattle.lp_transition.specs.Table.{state_in, task_numbers, standings};
+ghost use Rattle.lp_transition.specs.Tasks.{first_of, tests, same_mode, same_class};
+ghost use Rattle.lp_transition.specs.Machine.{refusal_of, outlines_of};
+
+use super::task_table::TaskTable;
+use crate::{Event, Refusal};
+use lp_model::ForkKind;
+use lp_stack::{Class, MOST_FRAMES, Mode, TaskId};
+use lp_symbols::SymId;
+
+/// Why a call is refused.
+pub(super) fn call_refusal(
+    tasks: &TaskTable,
+    symbols: usize,
+    task: TaskId,
+    func: SymId,
+) -> Option<Refusal>
+    ensures { result ≡ first_of (tests (task_numbers symbols) (outlines_of (standings tasks.now)) (Event.Call task func)) }
+{
+    let Some(live) = tasks.get(task) else {
+        return Some(Refusal::UnknownTask);
+    };
+    if func.index() >= symbols {
+        return Some(Refusal::UnknownSymbol);
+    }
+    if !same_mode(live.mode(), Mode::Kernel) {
+        return Some(Refusal::WrongMode);
+    }
+    if live.depth() >= MOST_FRAMES {
+        return Some(Refusal::StackFull);
+    }
+    None
+}
+
+/// Why a return is refused.
+pub(super) fn ret_refusal(tasks: &TaskTable, symbols: usize, task: TaskId) -> Option<Refusal>
+    ensures { result ≡ first_of (tests (task_numbers symbols) (outlines_of (standings tasks.now)) (Event.Ret task)) }
+{
+    let Some(live) = tasks.get(task) else {
+        return Some(Refusal::UnknownTask);
+    };
+    if !same_mode(live.mode(), Mode::Kernel) {
+        return Some(Refusal::WrongMode);
+    }
+    if live.depth() == 0 {
+        return Some(Refusal::StackEmpty);
+    }
+    None
+}
+
+/// Why going to sleep is refused.
+pub(super) fn sleep_refusal(tasks: &TaskTable, symbols: usize, task: TaskId) -> Option<Refusal>
+    ensures { result ≡ first_of (tests (task_numbers symbols) (outlines_of (standings tasks.now)) (Event.Sleep task)) }
+{
+    let Some(live) = tasks.get(task) else {
+        return Some(Refusal::UnknownTask);
+    };
+    if !same_mode(live.mode(), Mode::Kernel) {
+        return Some(Refusal::WrongMode);
+    }
+    None
+}
+
+/// Why waking up is refused.
+pub(super) fn wake_refusal(tasks: &TaskTable, symbols: usize, task: TaskId) -> Option<Refusal>
+    ensures { result ≡ first_of (tests (task_numbers symbols) (outlines_of (standings tasks.now)) (Event.Wake task)) }
+{
+    let Some(live) = tasks.get(task) else {
+        return Some(Refusal::UnknownTask);
+    };
+    if !same_mode(live.mode(), Mode::Asleep) {
+        return Some(Refusal::WrongMode);
+    }
+    None
+}
+
+/// Why entering the kernel is refused.
+pub(super) fn enter_refusal(tasks: &TaskTable, symbols: usize, task: TaskId) -> Option<Refusal>
+    ensures { result ≡ first_of (tests (task_numbers symbols) (outlines_of (standings tasks.now)) (Event.Enter task)) }
+{
+    let Some(live) = tasks.get(task) else {
+        return Some(Refusal::UnknownTask);
+    };
+    if !same_class(live.class(), Class::Normal) {
+        return Some(Refusal::WrongClass);
+    }
+    if !same_mode(live.mode(), Mode::User) {
+        return Some(Refusal::WrongMode);
+    }
+    None
+}
+
+/// Why leaving the kernel is refused.
+pub(super) fn exit_refusal(tasks: &TaskTable, symbols: usize, task: TaskId) -> Option<Refusal>
+    ensures { result ≡ first_of (tests (task_numbers symbols) (outlines_of (standings tasks.now)) (Event.Exit task)) }
+{
+    let Some(live) = tasks.get(task) else {
+        return Some(Refusal::UnknownTask);
+    };
+    if !same_class(live.class(), Class::Normal) {
+        return Some(Refusal::WrongClass);
+    }
+    if !same_mode(live.mode(), Mode::Kernel) {
+        return Some(Refusal::WrongMode);
+    }
+    if live.depth() != 0 {
+        return Some(Refusal::StackNotEmpty);
+    }
+    None
+}
+
+/// Why an idle point is refused.
+pub(super) fn idle_refusal(tasks: &TaskTable, symbols: usize, task: TaskId) -> Option<Refusal>
+    ensures { result ≡ first_of (tests (task_numbers symbols) (outlines_of (standings tasks.now)) (Event.Idle task)) }
+{
+    let Some(live) = tasks.get(task) else {
+        return Some(Refusal::UnknownTask);
+    };
+    if !same_class(live.class(), Class::Idle) {
+        return Some(Refusal::WrongClass);
+    }
+    if !same_mode(live.mode(), Mode::Kernel) {
+        return Some(Refusal::WrongMode);
+    }
+    if live.depth() != 0 {
+        return Some(Refusal::StackNotEmpty);
+    }
+    None
+}
+
+/// Why a task's end is refused.
+pub(super) fn die_refusal(tasks: &TaskTable, symbols: usize, task: TaskId) -> Option<Refusal>
+    ensures { result ≡ first_of (tests (task_numbers symbols) (outlines_of (standings tasks.now)) (Event.Die task)) }
+{
+    let Some(live) = tasks.get(task) else {
+        return Some(Refusal::UnknownTask);
+    };
+    if !same_class(live.class(), Class::Normal) {
+        return Some(Refusal::WrongClass);
+    }
+    if !same_mode(live.mode(), Mode::Kernel) {
+        return Some(Refusal::WrongMode);
+    }
+    if live.depth() != 0 {
+        return Some(Refusal::StackNotEmpty);
+    }
+    None
+}
+
+/// Why a fork is refused.
+pub(super) fn fork_refusal(
+    tasks: &TaskTable,
+    symbols: usize,
+    parent: TaskId,
+    child: TaskId,
+    how: ForkKind,
+) -> Option<Refusal>
+    ensures { result ≡ first_of (tests (task_numbers symbols) (outlines_of (standings tasks.now)) (Event.Fork parent child how)) }
+{
+    let Some(live) = tasks.get(parent) else {
+        return Some(Refusal::UnknownTask);
+    };
+    if child.0 == 0 {
+        return Some(Refusal::TaskRange);
+    }
+    if tasks.is_used(child) {
+        return Some(Refusal::TaskUsed);
+    }
+    if !same_class(live.class(), Class::Normal) {
+        return Some(Refusal::WrongClass);
+    }
+    if !same_mode(live.mode(), Mode::Kernel) {
+        return Some(Refusal::WrongMode);
+    }
+    None
+}
+
+/// Whether two modes are the same.
+fn same_mode(mode: Mode, other: Mode) -> bool
+    ensures { result ≡ same_mode mode other }
+{
+    match (mode, other) {
+        (Mode::User, Mode::User) => true,
+        (Mode::Kernel, Mode::Kernel) => true,
+        (Mode::Asleep, Mode::Asleep) => true,
+        _ => false,
+    }
+}
+
+/// Whether two classes are the same.
+fn same_class(class: Class, other: Class) -> bool
+    ensures { result ≡ same_class class other }
+{
+    match (class, other) {
+        (Class::Normal, Class::Normal) => true,
+        (Class::Idle, Class::Idle) => true,
+        _ => false,
+    }
+}

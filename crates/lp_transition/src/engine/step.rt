@@ -1,0 +1,95 @@
+//! An event that was weighed.
+ghost use Rattle.std.specs.Prelude.{◌≡◌, [], Some, None};
+ghost use Rattle.std.specs.Option.{option_map};
+ghost use Rattle.lp_transition.specs.declared.engine.step.Halt.TheVariants.{NoMemory};
+
+use super::live_task::LiveTask;
+use crate::{Event, Refusal, Reply, What};
+use lp_model::Verdict;
+use lp_numbers::NumberSet;
+use std::alloc::{AllocError, AllocFailed, Global};
+use std::marker::Model;
+
+/// Why an event takes no number. The engine is then as it was.
+#[derive(Clone, Copy, Debug, PartialEq, Eq)]
+pub enum Halt {
+    /// E13: a growth was refused.
+    NoMemory,
+    /// E14: 1,000,000 events are numbered. Tested before all else.
+    JournalFull,
+}
+
+impl From<AllocError> for Halt {
+    ghost from_gives = { λ _ e. e ≡ NoMemory };
+
+    fn from(_e: AllocError) -> Halt {
+        Halt::NoMemory
+    }
+}
+
+impl<T: Drop> From<AllocFailed<T>> for Halt {
+    ghost from_gives = { λ _ e. e ≡ NoMemory };
+
+    fn from(_e: AllocFailed<T>) -> Halt {
+        Halt::NoMemory
+    }
+}
+
+/// An event with its answer, ready to be taken without memory.
+#[derive(Drop)]
+pub struct Step {
+    event: Event,
+    reply: Reply,
+    verdicts: Vec<Verdict>,
+    /// The child that an accepted fork brings.
+    born: Option<Box<LiveTask>>,
+}
+
+impl Model for Step {
+    ghost use Rattle.std.specs.Prelude.{Box};
+    ghost use Rattle.std.specs.Global.{Global};
+    ghost use Rattle.std.specs.Option.{option_map};
+    ghost use Rattle.lp_transition.specs.Leg.{Standing};
+    ghost use Rattle.lp_transition.specs.Weigh.{Weighed};
+
+    ghost Value = { Weighed };
+
+    ghost view = { λ s. record { event = s.event; reply = s.reply; verdicts = s.verdicts.items; born = option_map (λ (b : Box Standing Global). b.value) s.born } };
+}
+
+impl Step {
+    ghost use Rattle.lp_transition.specs.Weigh.{Weighed};
+
+    /// The event.
+    pub fn event(&self) -> Event
+        ensures { result ≡ self.now.event }
+    {
+        self.event
+    }
+
+    /// The answer to the event.
+    pub fn reply(&self) -> &Reply
+        ensures { result.now ≡ self.now.reply }
+    {
+        &self.reply
+    }
+
+    /// The verdicts by which a scan was answered; none for any other event.
+    pub fn verdicts(&self) -> &[Verdict]
+        ensures { result.now ≡ self.now.verdicts }
+    {
+        self.verdicts.as_slice()
+    }
+
+    /// An event with its answer that brings no child.
+    pub(super) fn plain(alloc: Global, event: Event, reply: Reply) -> Step
+        ensures { result ≡ record { event = event; reply = reply; verdicts = []; born = None } }
+    {
+        Step {
+            event,
+            reply,
+            verdicts: Vec::new(alloc),
+            born: None,
+        }
+    }
+}

@@ -1,0 +1,137 @@
+//! The live tasks by their numbers.
+ghost use Rattle.std.specs.Prelude.{◌≡◌, ℕ, ◌<◌, ◌≤◌, not, length, is_some, option_copied, IfOk};
+ghost use Rattle.std.specs.Option.{ForSome};
+ghost use Rattle.lp_numbers.specs.Numbers.{has, IsNextFrom};
+ghost use Rattle.lp_transition.specs.Tasks.{is_unused};
+ghost use Rattle.lp_transition.specs.Machine.{put_in, calling, returning};
+
+use super::live_task::LiveTask;
+use lp_numbers::{NUMBERS, NumberSet};
+use lp_stack::{Level, Mode, TaskId};
+use lp_symbols::SymId;
+use std::alloc::{AllocError, Global};
+use std::marker::Model;
+
+/// The live tasks, and the numbers that were ever used. Only `new` takes memory.
+#[derive(Drop)]
+pub(crate) struct TaskTable {
+    slots: Vec<Option<Box<LiveTask>>>,
+    live: NumberSet,
+    used: NumberSet,
+}
+
+impl Model for TaskTable {
+    ghost use Rattle.std.specs.Prelude.{◌≡◌, ℕ, List, Option, is_some, length, map};
+    ghost use Rattle.std.specs.Option.{option_map};
+    ghost use Rattle.lp_numbers.specs.Numbers.{has};
+    ghost use Rattle.lp_transition.specs.Leg.{Standing};
+    ghost use Rattle.lp_transition.specs.Table.{Table, slot, IsWide};
+    ghost use Rattle.lp_transition.specs.Slots.{slots_of, IsTable};
+
+    ghost Value = { Table };
+
+    ghost view = { λ t. record { slots = slots_of t.slots.items; used = t.used } };
+
+    ghost invariant = { λ t. IsTable (slots_of t.slots.items) t.live t.used };
+}
+
+impl TaskTable {
+    ghost use Rattle.lp_transition.specs.Leg.{Standing};
+    ghost use Rattle.lp_transition.specs.Table.{slot, standings, changed, with_task, without_task, IsWide, IsKnown, IsBlank};
+    ghost use Rattle.lp_transition.specs.Slots.{slots_of};
+
+    /// A table without tasks.
+    pub(crate) fn new(alloc: Global) -> Result<Self, AllocError>
+        ensures { IfOk result (λ table. IsBlank table) }
+    {
+        let mut slots = Vec::with_capacity(alloc, NUMBERS)?;
+        while slots.len() < NUMBERS {
+            slots.push(None)?;
+        }
+        Ok(TaskTable {
+            slots,
+            live: NumberSet::new(alloc)?,
+            used: NumberSet::new(alloc)?,
+        })
+    }
+
+    /// The live task of a number.
+    pub(crate) fn get(&self, task: TaskId) -> Option<&LiveTask>
+        ensures value { option_copied result ≡ slot self.now task.0 }
+        ensures wide { IsWide self.now }
+        ensures known { IsKnown self.now task.0 }
+    {
+        self.slots[usize::from(task.0)].as_deref()
+    }
+
+    /// Whether a number was ever used.
+    pub(crate) fn is_used(&self, task: TaskId) -> bool
+        ensures value { result ≡ has self.now.used task.0 }
+        ensures known { IsKnown self.now task.0 }
+        ensures fate { result ≡ not (is_unused (standings self.now task.0)) }
+    {
+        self.used.contains(task.0)
+    }
+
+    /// The live task with the least number that is at or above a number.
+    pub(crate) fn next_live(&self, from: u16) -> Option<u16>
+        ensures { IsNextFrom (λ t. is_some (slot self.now t)) from result }
+    {
+        self.live.next(from)
+    }
+
+    /// Makes a task live, under a number.
+    pub(crate) fn put(&mut self, task: TaskId, live: Box<LiveTask>)
+        ensures { self.new ≡ with_task task.0 live.value self.old }
+    {
+        self.slots[usize::from(task.0)] = Some(live);
+        self.live.insert(task.0);
+        self.used.insert(task.0);
+    }
+
+    /// Ends a task.
+    pub(crate) fn remove(&mut self, task: TaskId)
+        ensures removed { self.new ≡ without_task task.0 self.old }
+        ensures known { IsKnown self.old task.0 }
+    {
+        self.slots[usize::from(task.0)] = None;
+        self.live.remove(task.0);
+    }
+
+    /// The task calls a function, if it is live; it has room for one more frame.
+    pub(crate) fn call(&mut self, task: TaskId, func: SymId, serial: u32)
+        requires { ForSome (slot self.old task.0) (λ x. length x.frames < 100) }
+        ensures { self.new ≡ changed task.0 (calling serial func) self.old }
+    {
+        if let Some(live) = &mut self.slots[usize::from(task.0)] {
+            live.call(func, serial);
+        }
+    }
+
+    /// The task returns from the function that it called last, if it is live.
+    pub(crate) fn ret(&mut self, task: TaskId)
+        ensures { self.new ≡ changed task.0 returning self.old }
+    {
+        if let Some(live) = &mut self.slots[usize::from(task.0)] {
+            live.ret();
+        }
+    }
+
+    /// Puts the task in a mode, if it is live.
+    pub(crate) fn set_mode(&mut self, task: TaskId, mode: Mode)
+        ensures { self.new ≡ changed task.0 (put_in mode) self.old }
+    {
+        if let Some(live) = &mut self.slots[usize::from(task.0)] {
+            live.set_mode(mode);
+        }
+    }
+
+    /// Puts the task on a level, if it is live.
+    pub(crate) fn set_level(&mut self, task: TaskId, level: Level)
+        ensures { self.new ≡ changed task.0 (λ x. record x { level = level.0 }) self.old }
+    {
+        if let Some(live) = &mut self.slots[usize::from(task.0)] {
+            live.set_level(level);
+        }
+    }
+}

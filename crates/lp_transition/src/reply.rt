@@ -1,0 +1,118 @@
+//! The answer to an event.
+ghost use Rattle.std.specs.Prelude.{◌≡◌, ◌↔◌, [], length, IsTrue, IfOk};
+ghost use Rattle.lp_transition.specs.Events.{group_numbers};
+
+use crate::Refusal;
+use lp_stack::{GroupId, Level};
+use std::alloc::{AllocError, Global};
+use std::marker::Model;
+
+/// A list of groups. Contracts see the list of their numbers.
+#[derive(Drop)]
+pub struct GroupList {
+    groups: Vec<GroupId>,
+}
+
+impl Model for GroupList {
+    ghost use Rattle.std.specs.Prelude.{List, ℕ};
+    ghost use Rattle.lp_transition.specs.Events.{group_numbers};
+
+    ghost Value = { List ℕ };
+
+    ghost view = { λ l. group_numbers l.groups.items };
+}
+
+impl GroupList {
+    /// The list of these groups. Takes no memory.
+    pub fn from_vec(groups: Vec<GroupId>) -> GroupList
+        ensures { result ≡ group_numbers groups.items }
+    {
+        GroupList { groups }
+    }
+
+    /// The groups, given back. Takes no memory.
+    pub fn into_vec(self) -> Vec<GroupId>
+        ensures { group_numbers result.items ≡ self }
+    {
+        let Self { groups } = self;
+        groups
+    }
+
+    /// The groups, lent.
+    pub fn as_slice(&self) -> &[GroupId]
+        ensures { group_numbers result.now ≡ self.now }
+    {
+        self.groups.as_slice()
+    }
+
+    /// How many groups there are.
+    pub fn len(&self) -> usize
+        ensures { result ≡ length self.now }
+    {
+        self.groups.len()
+    }
+
+    /// Whether there is no group.
+    pub fn is_empty(&self) -> bool
+        ensures { IsTrue result ↔ (self.now ≡ []) }
+    {
+        self.groups.is_empty()
+    }
+
+    /// The same list once more; AllocError where a growth was refused.
+    pub fn copy(&self, alloc: Global) -> Result<GroupList, AllocError>
+        ensures { IfOk result (λ list. list ≡ self.now) }
+    {
+        let mut groups = Vec::with_capacity(alloc, self.len())?;
+        groups.extend_from_slice(self.as_slice())?;
+        Ok(GroupList::from_vec(groups))
+    }
+}
+
+/// What an event did.
+#[derive(Drop)]
+pub enum What {
+    /// The call runs the functions of this level, which is the task's.
+    Ran(Level),
+    /// The event was accepted, and no group went over.
+    Done,
+    /// These groups went over, in increasing order; there is at least one.
+    Switched(GroupList),
+    /// The event was refused and changed nothing.
+    Refused(Refusal),
+}
+
+impl What {
+    /// The same once more; AllocError where a growth was refused.
+    pub fn copy(&self, alloc: Global) -> Result<What, AllocError>
+        ensures { IfOk result (λ what. what ≡ self.now) }
+    {
+        match self {
+            What::Ran(level) => Ok(What::Ran(*level)),
+            What::Done => Ok(What::Done),
+            What::Switched(groups) => Ok(What::Switched(groups.copy(alloc)?)),
+            What::Refused(why) => Ok(What::Refused(*why)),
+        }
+    }
+}
+
+/// The answer to an event.
+#[derive(Drop)]
+pub struct Reply {
+    /// What the event did.
+    pub what: What,
+    /// Whether the transition under way is complete from this event on, and wasn't before.
+    pub completed: bool,
+}
+
+impl Reply {
+    /// The same reply once more; AllocError where a growth was refused.
+    pub fn copy(&self, alloc: Global) -> Result<Reply, AllocError>
+        ensures { IfOk result (λ reply. reply ≡ self.now) }
+    {
+        Ok(Reply {
+            what: self.what.copy(alloc)?,
+            completed: self.completed,
+        })
+    }
+}
