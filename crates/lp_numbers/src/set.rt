@@ -1,7 +1,11 @@
 //! The set.
-ghost use Rattle.std.specs.Prelude.{◌≡◌, ℕ, ◌&&◌, not, true, false, length, slice_set, IsTrue, ◌↔◌, IfOk};
+#![tactic(auto, using(crate::proofs::Sets::sets))]
+
+ghost use Rattle.std.specs.Prelude.{◌≡◌, ℕ, ◌&&◌, ◌<◌, not, true, false, length, slice_set, IsTrue, ◌↔◌, IfOk};
 ghost use Rattle.lp_numbers.specs.Numbers.{has, IsEmpty, IsNextFrom};
 
+use crate::levels::{self, SUMMARIES, WORDS};
+use crate::row;
 use std::alloc::{AllocError, Global};
 use std::marker::Model;
 
@@ -10,21 +14,27 @@ pub const NUMBERS: usize = 65_536;
 
 /// A set of 16-bit numbers, such as task numbers. Only `new` and `copy` take memory.
 ///
+/// A walk over the members, in increasing order, asks for the `next` from 0, and then from one
+/// above each member that it was given. So it costs what the members cost.
+///
 /// Contracts see a list that says of each number whether it is a member.
 #[derive(Drop)]
 pub struct NumberSet {
-    members: Vec<bool>,
+    /// Bit n % 64 of word n / 64 says whether n is a member.
+    words: Vec<u64>,
+    /// Bit i % 64 of word i / 64 says whether word i isn't 0.
+    summary: Vec<u64>,
 }
 
 impl Model for NumberSet {
-    ghost use Rattle.std.specs.Prelude.{◌≡◌, length};
     ghost use Rattle.lp_numbers.specs.Numbers.{Numbers};
+    ghost use Rattle.lp_numbers.specs.Words.{numbers_of, IsTwoLevel};
 
     ghost Value = { Numbers };
 
-    ghost view = { λ s. s.members.items };
+    ghost view = { λ s. numbers_of s.words.items };
 
-    ghost invariant = { λ s. length s.members.items ≡ 65536 };
+    ghost invariant = { λ s. IsTwoLevel s.words.items s.summary.items };
 }
 
 impl NumberSet {
@@ -34,7 +44,8 @@ impl NumberSet {
         ensures numbers { IfOk result (λ set. length set ≡ 65536) }
     {
         Ok(NumberSet {
-            members: blank(alloc, NUMBERS)?,
+            words: row::blank(alloc, WORDS)?,
+            summary: row::blank(alloc, SUMMARIES)?,
         })
     }
 
@@ -43,8 +54,10 @@ impl NumberSet {
         ensures same { IfOk result (λ copied. copied ≡ self.now) }
         ensures numbers { length self.now ≡ 65536 }
     {
-        let members = Vec::from_slice(alloc, self.members.as_slice())?;
-        Ok(NumberSet { members })
+        Ok(NumberSet {
+            words: Vec::from_slice(alloc, self.words.as_slice())?,
+            summary: Vec::from_slice(alloc, self.summary.as_slice())?,
+        })
     }
 
     /// Whether a number is a member, in constant time.
@@ -52,26 +65,25 @@ impl NumberSet {
         ensures member { result ≡ has self.now number }
         ensures numbers { length self.now ≡ 65536 }
     {
-        self.members[usize::from(number)]
+        row::has(self.words.as_slice(), usize::from(number))
     }
 
-    /// Whether the set has no member.
+    /// Whether the set has no member, in constant time.
     pub fn is_empty(&self) -> bool
         ensures { IsTrue result ↔ IsEmpty self.now }
     {
         self.next(0).is_none()
     }
 
-    /// The least member that is at or above a number.
+    /// The least member that is at or above a number, in constant time; `None` where there is none.
+    ///
+    /// Reads two words of members, and at most 16 words that say which of those have any.
     pub fn next(&self, from: u16) -> Option<u16>
         ensures { IsNextFrom (has self.now) from result }
     {
-        for number in usize::from(from)..NUMBERS {
-            if self.members[number] {
-                return Some(number as u16);
-            }
-        }
-        None
+        let at = usize::from(from);
+        let number = levels::next(self.words.as_slice(), self.summary.as_slice(), at)?;
+        Some(number as u16)
     }
 
     /// Makes a number a member, in constant time.
@@ -79,7 +91,7 @@ impl NumberSet {
         ensures after { self.new ≡ slice_set self.old number true }
         ensures numbers { length self.new ≡ 65536 }
     {
-        self.members[usize::from(number)] = true;
+        self.put(number, true);
     }
 
     /// Makes a number no member, in constant time.
@@ -87,48 +99,48 @@ impl NumberSet {
         ensures after { self.new ≡ slice_set self.old number false }
         ensures numbers { length self.new ≡ 65536 }
     {
-        self.members[usize::from(number)] = false;
+        self.put(number, false);
     }
 
-    /// Takes every member out.
+    /// Takes every member out, at the cost of the whole set.
     pub fn clear(&mut self)
         ensures empty { IsEmpty self.new }
         ensures numbers { length self.new ≡ 65536 }
     {
-        self.members.fill(false);
+        levels::clear(self.words.as_mut_slice(), self.summary.as_mut_slice());
     }
 
-    /// Makes the set equal to another.
+    /// Makes the set equal to another, at the cost of the whole set.
     pub fn copy_from(&mut self, other: &NumberSet)
         ensures same { self.new ≡ other.now }
         ensures numbers { length self.new ≡ 65536 }
     {
-        self.members.copy_from_slice(other.members.as_slice());
+        self.words.copy_from_slice(other.words.as_slice());
+        self.summary.copy_from_slice(other.summary.as_slice());
     }
 
-    /// Takes every member of another set out.
+    /// Takes every member of another set out, at the cost of the whole set.
     pub fn subtract(&mut self, other: &NumberSet)
         ensures members { (n : ℕ) → has self.new n ≡ (has self.old n && not (has other.now n)) }
         ensures numbers { length self.new ≡ 65536 }
     {
-        take_out(self.members.as_mut_slice(), other.members.as_slice());
+        levels::take_out(
+            self.words.as_mut_slice(),
+            self.summary.as_mut_slice(),
+            other.words.as_slice(),
+        );
     }
-}
 
-/// As many numbers as are asked for, none of them a member.
-fn blank(alloc: Global, count: usize) -> Result<Vec<bool>, AllocError>
-    ensures empty { IfOk result (λ members. IsEmpty members.items) }
-    ensures count { IfOk result (λ members. length members.items ≡ count) }
-{
-    vec![in alloc; false; count]
-}
-
-/// Takes the members of another set out.
-fn take_out(members: &mut [bool], others: &[bool])
-    requires { length members.old ≡ length others.now }
-    ensures { (n : ℕ) → has members.new n ≡ (has members.old n && not (has others.now n)) }
-{
-    for i in 0..members.len() {
-        members[i] = members[i] & !others[i];
+    /// Makes a number a member, or no member.
+    fn put(&mut self, number: u16, is_member: bool)
+        ensures after { self.new ≡ slice_set self.old number is_member }
+        ensures numbers { length self.new ≡ 65536 }
+    {
+        levels::put(
+            self.words.as_mut_slice(),
+            self.summary.as_mut_slice(),
+            usize::from(number),
+            is_member,
+        );
     }
 }

@@ -53,7 +53,8 @@ module _ (model : Rules) where
   quiet-stays now Disable group q = cc
   quiet-stays now Reverse group q = cc
 
-  quiet-control : (event : Event) → is_quiet event ≡ true → is_control event ≡ false
+  -- a quiet event is no control event
+  pub quiet-control : (event : Event) → is_quiet event ≡ true → is_control event ≡ false
   quiet-control (Call t f) q = refl
   quiet-control (Ret t) q = refl
   quiet-control (Sleep t) q = refl
@@ -103,10 +104,9 @@ module _ (model : Rules) where
   unfolding next
   next-turned s event e c = ap (next_by model s event) e ∙ cond-true _ _ _ c
 
-  -- a quiet event has its own effect alone
-  pub next-quiet : (s : State) (event : Event) → refusal_of model s event ≡ None → is_quiet event ≡ true → next model s event ≡ affected model s event
-  next-quiet s event e q =
-      next-accepted s event e (quiet-control event q) ∙ switched-still s event (λ group. quiet-stays (affected model s event) event group q)
+  -- an event at which no group goes over has its own effect alone
+  pub next-still : (s : State) (event : Event) → refusal_of model s event ≡ None → is_control event ≡ false → ((group : ℕ) → goes_over model (affected model s event) event group ≡ false) → next model s event ≡ affected model s event
+  next-still s event e c none = next-accepted s event e c ∙ switched-still s event none
 
 -- a change that keeps levels keeps who is off the target
 level-kept : (f : Standing → Standing) → ((x : Standing) → (f x).level ≡ x.level) → (test : ℕ → Bool) (fate : Fate Standing) → on_live true (λ x. test x.level) (map_live f fate) ≡ on_live true (λ x. test x.level) fate

@@ -29,3 +29,4 @@ pub mod Effects
 pub mod Accept
 pub mod MemberLemmas
 pub mod Positions
+pub mod Births

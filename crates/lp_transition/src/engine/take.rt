@@ -1,11 +1,14 @@
 //! What an accepted event does to the engine. Nothing here takes memory.
-ghost use Rattle.std.specs.Prelude.{◌≡◌, ◌<◌, None};
+ghost use Rattle.std.specs.Prelude.{◌≡◌, ◌<◌, None, Some};
+ghost use Rattle.lp_transition.specs.Weigh.{born_of};
 ghost use Rattle.lp_transition.specs.Table.{state_in};
 ghost use Rattle.lp_transition.specs.Machine.{refusal_of, next};
 
 use super::Core;
+use super::live_task::LiveTask;
+use super::parts::{group_of, put_number};
 use crate::Event;
-use lp_model::Consistency;
+use lp_model::{Consistency, ForkKind};
 use lp_stack::{Mode, TaskId};
 use lp_symbols::SymId;
 
@@ -58,5 +61,39 @@ impl<M: Consistency> Core<M> {
     {
         self.events += 1;
         self.tasks.set_mode(task, Mode::Kernel);
+    }
+
+    /// An accepted fork, with the child's record.
+    pub(super) fn take_fork(
+        &mut self,
+        parent: TaskId,
+        child: TaskId,
+        how: ForkKind,
+        live: Box<LiveTask>,
+    )
+        requires room { self.old.number < 1000000 }
+        requires accepted { refusal_of M.rules (state_in self.old) (Event.Fork parent child how) ≡ None }
+        requires born { born_of M.rules (state_in self.old) (Event.Fork parent child how) ≡ Some live.value }
+        ensures { state_in self.new ≡ next M.rules (state_in self.old) (Event.Fork parent child how) }
+    {
+        let group = usize::from(live.group().0);
+        let waits = live.level() != self.target;
+        self.events += 1;
+        self.members[group] += 1;
+        put_number(&mut self.waiting, child.0, waits);
+        self.tasks.put(child, live);
+    }
+
+    /// An accepted end of a task.
+    pub(super) fn take_die(&mut self, task: TaskId)
+        requires room { self.old.number < 1000000 }
+        requires accepted { refusal_of M.rules (state_in self.old) (Event.Die task) ≡ None }
+        ensures { state_in self.new ≡ next M.rules (state_in self.old) (Event.Die task) }
+    {
+        let group = usize::from(group_of(&self.tasks, task).0);
+        self.events += 1;
+        self.members[group] -= 1;
+        self.waiting.remove(task.0);
+        self.tasks.remove(task);
     }
 }

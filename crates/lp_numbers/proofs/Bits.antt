@@ -1,0 +1,96 @@
+-- The bits of one word.
+use Rattle.std.proofs.Common.{◌≡◌, ℕ, ◌+◌, ◌-◌, ◌*◌, ◌/◌, ◌%◌, ◌^◌, ◌≤◌, ◌<◌, Bool, true, false, not, ◌&&◌, ◌==◌, if◌then◌else◌, inl, inr, refl, sym, ap, ◌∙◌, arith, w64, bit_and, bit_or, min, zero-le}
+use Rattle.std.specs.Int.{bit_at, trailing_zeros}
+use Rattle.std.proofs.lemmas.Bool.{eqb-true, eqb-false, cases_lt, false≢true}
+use Rattle.std.proofs.lemmas.Bool.Decides.{nat_tests}
+use Rattle.std.proofs.lemmas.Nat.{shr-shr}
+use Rattle.std.proofs.lemmas.Nat.Bits.{bit_at-lt, bit_at-zero, bit_at_above, bit_at_set_same, bit_at_set_other, bit_at_clear_same, bit_at_clear_other, bit_at-trailing_zeros, bit_at_and, bit_at_not, shr_and_one}
+use Rattle.lp_numbers.specs.Numbers.{IsLeastFrom}
+use Rattle.lp_numbers.specs.Words.{word_has}
+
+-- 0 has no bit
+pub word_has-zero : (bit : ℕ) → word_has 0 bit ≡ false
+unfolding word_has
+word_has-zero bit = rw bit_at-zero refl
+
+has-one : (word bit : ℕ) → bit_at word bit ≡ 1 → word_has word bit ≡ true
+unfolding word_has
+has-one word bit e = rw e refl
+
+has-none : (word bit : ℕ) → bit_at word bit ≡ 0 → word_has word bit ≡ false
+unfolding word_has
+has-none word bit e = rw e refl
+
+has-same : (word other bit : ℕ) → bit_at word bit ≡ bit_at other bit → word_has word bit ≡ word_has other bit
+unfolding word_has
+has-same word other bit e = rw e refl
+
+-- `word | 1 << bit`
+pub word_has-set : (word bit k : ℕ) → bit < 64 → word_has (bit_or word (1 * 2 ^ bit % 2 ^ 64)) k ≡ (if k == bit then true else word_has word k)
+word_has-set word bit k h = by (k == bit) refl
+  where
+    by : (b : Bool) → (k == bit) ≡ b → word_has (bit_or word (1 * 2 ^ bit % 2 ^ 64)) k ≡ (if b then true else word_has word k)
+    by true e = rw (eqb-true k bit e) (has-one (bit_or word (1 * 2 ^ bit % 2 ^ 64)) bit (bit_at_set_same w64 word bit h))
+    by false e = has-same (bit_or word (1 * 2 ^ bit % 2 ^ 64)) word k (bit_at_set_other w64 word bit h k (eqb-false k bit e))
+
+-- `word & !(1 << bit)`
+pub word_has-clear : (word bit k : ℕ) → bit < 64 → k < 64 → word_has (bit_and word (2 ^ 64 - 1 - 1 * 2 ^ bit % 2 ^ 64)) k ≡ (if k == bit then false else word_has word k)
+word_has-clear word bit k h l = by (k == bit) refl
+  where
+    by : (b : Bool) → (k == bit) ≡ b → word_has (bit_and word (2 ^ 64 - 1 - 1 * 2 ^ bit % 2 ^ 64)) k ≡ (if b then false else word_has word k)
+    by true e = rw (eqb-true k bit e) (has-none (bit_and word (2 ^ 64 - 1 - 1 * 2 ^ bit % 2 ^ 64)) bit (bit_at_clear_same w64 word bit h))
+    by false e = has-same (bit_and word (2 ^ 64 - 1 - 1 * 2 ^ bit % 2 ^ 64)) word k (bit_at_clear_other w64 word bit h k l (eqb-false k bit e))
+
+-- `word & !other`
+pub word_has-without : (word other k : ℕ) → other < 2 ^ 64 → k < 64 → word_has (bit_and word (2 ^ 64 - 1 - other)) k ≡ (word_has word k && not (word_has other k))
+unfolding word_has
+word_has-without word other k h l =
+    rw (bit_at_and word (2 ^ 64 - 1 - other) k, bit_at_not w64 other k h l) (by (bit_at word k) (bit_at other k) (bit_at-lt word k) (bit_at-lt other k))
+  where
+    by : (a b : ℕ) → a < 2 → b < 2 → (min a (1 - b) == 1) ≡ ((a == 1) && not (b == 1))
+    by a b p q = grind (arith, nat_tests)
+
+-- the lowest bit of a word that isn't 0
+pub lowest-trailing_zeros : (word : ℕ) → 0 < word → word < 2 ^ 64 → IsLeastFrom (word_has word) 0 (trailing_zeros w64 word)
+lowest-trailing_zeros word some fits =
+    let facts = bit_at-trailing_zeros w64 word some fits in
+    record {
+      within = zero-le;
+      passes = has-one word (trailing_zeros w64 word) facts.1;
+      least = λ k _ h. has-none word k (facts.2 k h);
+    }
+
+-- a bit of `word >> from`
+word_has-shifted : (word from k : ℕ) → word_has (word / 2 ^ from) k ≡ word_has word (from + k)
+unfolding word_has
+word_has-shifted word from k = rw (shr-shr word from k) refl
+
+-- a bit from `from` on is a bit of `word >> from`
+word_has-from : (word from n : ℕ) → from ≤ n → word_has word n ≡ word_has (word / 2 ^ from) (n - from)
+word_has-from word from n h =
+    let same : from + (n - from) ≡ n = omega arith in
+    sym (word_has-shifted word from (n - from) ∙ ap (word_has word) same)
+
+-- where `word >> from` is 0, there is no bit from `from` on
+pub none-shifted : (word from : ℕ) → word / 2 ^ from ≡ 0 → (n : ℕ) → from ≤ n → word_has word n ≡ false
+none-shifted word from e n h = word_has-from word from n h ∙ rw e (word_has-zero (n - from))
+
+-- the lowest bit of `word >> from` is the lowest from `from` on
+pub least-shifted : (word from bit : ℕ) → IsLeastFrom (word_has (word / 2 ^ from)) 0 bit → IsLeastFrom (word_has word) from (from + bit)
+least-shifted word from bit lowest = record {
+  within = omega arith;
+  passes = sym (word_has-shifted word from bit) ∙ lowest.passes;
+  least = λ k h l. word_has-from word from k h ∙ lowest.least (k - from) zero-le (omega arith);
+}
+
+-- a word of 64 bits has no bit past them
+pub bit-below : (word bit : ℕ) → word < 2 ^ 64 → word_has word bit ≡ true → bit < 64
+bit-below word bit fits e = elim (cases_lt bit 64) [
+  | inl h ↦ h
+  | inr h ↦ absurd (false≢true (sym (has-none word bit (bit_at_above word 64 bit fits h)) ∙ e))
+]
+
+-- `(word >> bit) & 1 == 1`
+pub word_has-shr : (word bit : ℕ) → (bit_and (word / 2 ^ bit) 1 == 1) ≡ word_has word bit
+unfolding word_has
+word_has-shr word bit = rw (shr_and_one word bit) refl

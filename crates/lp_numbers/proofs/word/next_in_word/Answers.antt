@@ -1,0 +1,11 @@
+use Rattle.lp_numbers.proofs.Bits.{none-shifted, least-shifted, bit-below}
+use Rattle.lp_numbers.proofs.word.next_in_word.Goals as goal
+
+pub returns-then-rest-eq0-clause-next : goal.returns-then-rest-eq0-clause-next
+returns-then-rest-eq0-clause-next c = none-shifted c.args.word c.args.from c.if-rest-eq0.true
+
+pub returns-clause-below : goal.returns-clause-below
+returns-clause-below c = bit-below c.args.word _ c.ranges.word.fits (least-shifted c.args.word c.args.from c.lowest_bit.result c.lowest_bit.ensures.lowest).passes
+
+pub returns-clause-next : goal.returns-clause-next
+returns-clause-next c = least-shifted c.args.word c.args.from c.lowest_bit.result c.lowest_bit.ensures.lowest

@@ -1,0 +1,38 @@
+use Rattle.std.proofs.Common.{◌≡◌, ◌<◌, length, is_some, ap, ◌∙◌, arith}
+use Rattle.lp_transition.proofs.Accept.{die-live}
+use Rattle.lp_transition.proofs.Births.{takes_death, counted-some, value_at}
+use Rattle.lp_transition.proofs.engine.Core.take_die.Goals as goal
+
+pub overflow_sub-index_mut : goal.overflow_sub-index_mut
+overflow_sub-index_mut g c =
+    let i = c.self.inside in
+    let live = die-live g.M.Consistency.rules (record { number = i.events; from = i.from.0; target = i.target.0; patches = i.patches; table = i.tasks }) c.args.task (rw (← c.self.view_is) at c.requires.accepted) in
+    let h : c.args.task.0 < 65536 = omega arith in
+    let within : c.from-group.result < 65536 = omega arith in
+    let wide : c.from-group.result < length i.members.items = omega (arith, c.self.invariant.groups) in
+    let here = value_at i.members.items c.from-group.result c.index_mut.result.now wide c.index_mut.ensures.value in
+    let same : c.from-group.result ≡ live.task.group = c.from-group.ensures ∙ c.group_of.ensures live.task live.there in
+    let some = counted-some (record { number = i.events; from = i.from.0; target = i.target.0; patches = i.patches; table = i.tasks }) i.waiting i.members.items c.args.task.0 c.from-group.result live.task c.self.invariant h live.there same within in
+    omega (arith, some, here)
+
+pub invariant_of-self : goal.invariant_of-self
+invariant_of-self g c =
+    let i = c.self.inside in
+    let live = die-live g.M.Consistency.rules (record { number = i.events; from = i.from.0; target = i.target.0; patches = i.patches; table = i.tasks }) c.args.task (rw (← c.self.view_is) at c.requires.accepted) in
+    let h : c.args.task.0 < 65536 = omega arith in
+    let within : c.from-group.result < 65536 = omega arith in
+    let wide : c.from-group.result < length i.members.items = omega (arith, c.self.invariant.groups) in
+    let here = value_at i.members.items c.from-group.result c.index_mut.result.now wide c.index_mut.ensures.value in
+    let same : c.from-group.result ≡ live.task.group = c.from-group.ensures ∙ c.group_of.ensures live.task live.there in
+    (takes_death g.M.Consistency.rules g.met.M.Consistency.lawful (record { number = i.events; from = i.from.0; target = i.target.0; patches = i.patches; table = i.tasks }) c.args.self.now c.remove-2.new.self i.waiting c.remove.new.self i.members.items c.args.task live.task c.from-group.result c.index_mut.result.now c.self.view_is c.remove-2.ensures.removed here c.self.invariant c.remove.ensures.numbers c.remove.ensures.after h c.requires.room c.requires.accepted live.there (c.remove-2.ensures.known (ap is_some live.there)) same within).kept
+
+pub returns : goal.returns
+returns g c =
+    let i = c.self.inside in
+    let live = die-live g.M.Consistency.rules (record { number = i.events; from = i.from.0; target = i.target.0; patches = i.patches; table = i.tasks }) c.args.task (rw (← c.self.view_is) at c.requires.accepted) in
+    let h : c.args.task.0 < 65536 = omega arith in
+    let within : c.from-group.result < 65536 = omega arith in
+    let wide : c.from-group.result < length i.members.items = omega (arith, c.self.invariant.groups) in
+    let here = value_at i.members.items c.from-group.result c.index_mut.result.now wide c.index_mut.ensures.value in
+    let same : c.from-group.result ≡ live.task.group = c.from-group.ensures ∙ c.group_of.ensures live.task live.there in
+    (takes_death g.M.Consistency.rules g.met.M.Consistency.lawful (record { number = i.events; from = i.from.0; target = i.target.0; patches = i.patches; table = i.tasks }) c.args.self.now c.remove-2.new.self i.waiting c.remove.new.self i.members.items c.args.task live.task c.from-group.result c.index_mut.result.now c.self.view_is c.remove-2.ensures.removed here c.self.invariant c.remove.ensures.numbers c.remove.ensures.after h c.requires.room c.requires.accepted live.there (c.remove-2.ensures.known (ap is_some live.there)) same within).state
