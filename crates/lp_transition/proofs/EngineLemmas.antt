@@ -19,7 +19,7 @@ used-fate None true h = refl
 used-fate None false h = refl
 used-fate (Some x) b h = h refl
 
-and-false : (b : Bool) → (b && false) ≡ false
+pub and-false : (b : Bool) → (b && false) ≡ false
 and-false true = refl
 and-false false = refl
 

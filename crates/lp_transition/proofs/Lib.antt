@@ -30,3 +30,5 @@ pub mod Accept
 pub mod MemberLemmas
 pub mod Positions
 pub mod Births
+pub mod Alone
+pub mod Leaving

@@ -5,6 +5,7 @@ ghost use Rattle.lp_patch.specs.Aimed.{aimed};
 ghost use Rattle.lp_transition.specs.Table.{slot, state_in};
 ghost use Rattle.lp_transition.specs.Machine.{at_rest};
 
+mod alone;
 mod live_task;
 mod parts;
 mod refuse;

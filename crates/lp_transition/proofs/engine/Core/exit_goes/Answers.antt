@@ -1,0 +1,52 @@
+use Rattle.std.proofs.Common.{◌≡◌, ◌<◌, Some, true, false, nat_eq, length, get_or, refl, sym, ap, ap₂, ◌∙◌, arith}
+use Rattle.std.proofs.lemmas.Bool.{eq-eqb, ne_eqb}
+use Rattle.lp_stack.specs.declared.view.Mode.TheVariants.{User}
+use Rattle.lp_stack.specs.TaskView.{TaskView}
+use Rattle.lp_patch.specs.Patches.{Goal}
+use Rattle.lp_model.specs.declared.check.CheckKind.TheVariants.{KernelExit}
+use Rattle.lp_transition.specs.declared.event.Event.TheVariants.{Exit}
+use Rattle.lp_transition.specs.Leg.{Standing}
+use Rattle.lp_transition.specs.Machine.{put_in, view_of}
+use Rattle.lp_transition.specs.Table.{Engine, slot, standings}
+use Rattle.lp_transition.proofs.Births.{value_at}
+use Rattle.lp_transition.proofs.Leaving.{asks, same-after_nothing}
+use Rattle.lp_transition.proofs.engine.Core.exit_goes.Goals as goal
+
+pub returns-then-not-contains : goal.returns-then-not-contains
+returns-then-not-contains g c = λ x there.
+    let i = c.self.inside in
+    let h : c.args.task.0 < 65536 = omega arith in
+    let at : slot i.tasks c.args.task.0 ≡ Some x = ap (λ e. slot e.table c.args.task.0) c.self.view_is ∙ there in
+    let is : c.in-Some.live.now ≡ x = let both = c.in-Some.ensures.value ∙ at in cc in
+    let group : c.from.result ≡ x.group = c.from.ensures ∙ c.group.ensures ∙ ap (λ (y : Standing). y.group) is in
+    let small : c.from.result < 65536 = omega arith in
+    let within : x.group < 65536 = omega (arith, group, small) in
+    asks g.M.Consistency.rules g.met.M.Consistency.lawful (record { number = i.events; from = i.from.0; target = i.target.0; patches = i.patches; table = i.tasks }) i.waiting i.members.items c.self.invariant (Exit c.args.task) KernelExit c.args.task.0 h (put_in User) (λ y. refl) (λ y. refl) x at (λ k. refl) c.args.self.now c.self.view_is refl within false (sym c.if-not-contains.ensures.member) (nat_eq (get_or i.members.items x.group 0) 1) refl
+
+pub returns-then-members-ne1 : goal.returns-then-members-ne1
+returns-then-members-ne1 g c = λ x there.
+    let i = c.self.inside in
+    let h : c.args.task.0 < 65536 = omega arith in
+    let at : slot i.tasks c.args.task.0 ≡ Some x = ap (λ e. slot e.table c.args.task.0) c.self.view_is ∙ there in
+    let is : c.in-Some.live.now ≡ x = let both = c.in-Some.ensures.value ∙ at in cc in
+    let group : c.from.result ≡ x.group = c.from.ensures ∙ c.group.ensures ∙ ap (λ (y : Standing). y.group) is in
+    let small : c.from.result < 65536 = omega arith in
+    let within : x.group < 65536 = omega (arith, group, small) in
+    let wide : c.from.result < length i.members.items = omega (arith, c.self.invariant.groups, small) in
+    let number : c.index-members.result.now ≡ get_or i.members.items x.group 0 = value_at i.members.items c.from.result c.index-members.result.now wide c.index-members.ensures ∙ ap (λ k. get_or i.members.items k 0) group in
+    asks g.M.Consistency.rules g.met.M.Consistency.lawful (record { number = i.events; from = i.from.0; target = i.target.0; patches = i.patches; table = i.tasks }) i.waiting i.members.items c.self.invariant (Exit c.args.task) KernelExit c.args.task.0 h (put_in User) (λ y. refl) (λ y. refl) x at (λ k. refl) c.args.self.now c.self.view_is refl within true (sym c.if-not-contains.ensures.member) false (ap (λ n. nat_eq n 1) (sym number) ∙ ne_eqb c.index-members.result.now 1 c.if-members-ne1.true)
+
+pub returns : goal.returns
+returns g c = λ x there.
+    let i = c.self.inside in
+    let h : c.args.task.0 < 65536 = omega arith in
+    let at : slot i.tasks c.args.task.0 ≡ Some x = ap (λ e. slot e.table c.args.task.0) c.self.view_is ∙ there in
+    let is : c.in-Some.live.now ≡ x = let both = c.in-Some.ensures.value ∙ at in cc in
+    let group : c.from.result ≡ x.group = c.from.ensures ∙ c.group.ensures ∙ ap (λ (y : Standing). y.group) is in
+    let small : c.from.result < 65536 = omega arith in
+    let within : x.group < 65536 = omega (arith, group, small) in
+    let wide : c.from.result < length i.members.items = omega (arith, c.self.invariant.groups, small) in
+    let number : c.index-members.result.now ≡ get_or i.members.items x.group 0 = value_at i.members.items c.from.result c.index-members.result.now wide c.index-members.ensures ∙ ap (λ k. get_or i.members.items k 0) group in
+    let seen_as = c.view-view.ensures ∙ ap (view_of c.args.task.0) is in
+    let bound = c.aim-aim.ensures ∙ ap (λ (o : Engine). let aim : Goal = record { patches = o.patches; target = o.target } in aim) (sym c.self.view_is) in
+    c.admits.ensures ∙ ap₂ (λ (s : TaskView) (aim : Goal). g.M.Consistency.rules.admits KernelExit (record s { task = c.args.task.0; mode = User }) aim) seen_as bound ∙ asks g.M.Consistency.rules g.met.M.Consistency.lawful (record { number = i.events; from = i.from.0; target = i.target.0; patches = i.patches; table = i.tasks }) i.waiting i.members.items c.self.invariant (Exit c.args.task) KernelExit c.args.task.0 h (put_in User) (λ y. refl) (λ y. refl) x at (λ k. refl) c.args.self.now c.self.view_is refl within true (sym c.if-not-contains.ensures.member) true (ap (λ n. nat_eq n 1) (sym number) ∙ eq-eqb c.index-members.result.now 1 c.if-members-ne1.false)
