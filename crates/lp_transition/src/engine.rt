@@ -6,6 +6,7 @@ ghost use Rattle.lp_transition.specs.Table.{slot, state_in};
 ghost use Rattle.lp_transition.specs.Machine.{at_rest};
 
 mod alone;
+mod control;
 mod live_task;
 mod parts;
 mod refuse;

@@ -80,6 +80,17 @@ impl TaskTable {
         self.live.next(from)
     }
 
+    /// The same for any number; none is at or above 65,536.
+    pub(crate) fn next_live_from(&self, from: u32) -> Option<u16>
+        ensures { IsNextFrom (λ t. is_some (slot self.now t)) from result }
+    {
+        let _ = &self.slots;
+        match u16::try_from(from) {
+            Ok(number) => self.next_live(number),
+            Err(_) => None,
+        }
+    }
+
     /// Makes a task live, under a number.
     pub(crate) fn put(&mut self, task: TaskId, live: Box<LiveTask>)
         ensures { self.new ≡ with_task task.0 live.value self.old }
