@@ -32,3 +32,7 @@ pub mod Positions
 pub mod Births
 pub mod Alone
 pub mod Leaving
+pub mod Passing
+pub mod ScanGroups
+pub mod ScanLemmas
+pub mod ScanLists

@@ -16,3 +16,4 @@ pub mod Table
 pub mod Kept
 pub mod Slots
 pub mod Weigh
+pub mod Scan

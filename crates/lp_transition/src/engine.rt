@@ -10,6 +10,7 @@ mod control;
 mod live_task;
 mod parts;
 mod refuse;
+mod scan;
 mod step;
 mod take;
 mod task_table;

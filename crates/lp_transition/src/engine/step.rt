@@ -1,6 +1,8 @@
 //! An event that was weighed.
-ghost use Rattle.std.specs.Prelude.{◌≡◌, [], Some, None};
+ghost use Rattle.std.specs.Prelude.{◌≡◌, [], true, Some, None, option_copied};
 ghost use Rattle.std.specs.Option.{option_map};
+ghost use Rattle.lp_transition.specs.Events.{is_scan};
+ghost use Rattle.lp_transition.specs.Scan.{groups_of, HasOver};
 ghost use Rattle.lp_transition.specs.declared.engine.step.Halt.TheVariants.{NoMemory};
 
 use super::live_task::LiveTask;
@@ -43,6 +45,8 @@ pub struct Step {
     verdicts: Vec<Verdict>,
     /// The child that an accepted fork brings.
     born: Option<Box<LiveTask>>,
+    /// Of a scan, the groups that go over; None where none does.
+    over: Option<NumberSet>,
 }
 
 impl Model for Step {
@@ -50,11 +54,14 @@ impl Model for Step {
     ghost use Rattle.std.specs.Global.{Global};
     ghost use Rattle.std.specs.Option.{option_map};
     ghost use Rattle.lp_transition.specs.Leg.{Standing};
+    ghost use Rattle.lp_transition.specs.Scan.{HasOver};
     ghost use Rattle.lp_transition.specs.Weigh.{Weighed};
 
     ghost Value = { Weighed };
 
     ghost view = { λ s. record { event = s.event; reply = s.reply; verdicts = s.verdicts.items; born = option_map (λ (b : Box Standing Global). b.value) s.born } };
+
+    ghost invariant = { λ s. HasOver s.event s.reply.what s.over };
 }
 
 impl Step {
@@ -81,8 +88,35 @@ impl Step {
         self.verdicts.as_slice()
     }
 
-    /// An event with its answer that brings no child.
+    /// Of a scan, the groups that go over; None where none does.
+    pub(super) fn over(&self) -> Option<&NumberSet>
+        ensures { HasOver self.now.event self.now.reply.what (option_copied result) }
+    {
+        self.over.as_ref()
+    }
+
+    /// A scan with its answer, the verdicts that it was answered by, and the groups that go over.
+    pub(super) fn scan(
+        event: Event,
+        reply: Reply,
+        verdicts: Vec<Verdict>,
+        over: Option<NumberSet>,
+    ) -> Step
+        requires { HasOver event reply.what over }
+        ensures { result ≡ record { event = event; reply = reply; verdicts = verdicts.items; born = None } }
+    {
+        Step {
+            event,
+            reply,
+            verdicts,
+            born: None,
+            over,
+        }
+    }
+
+    /// An event with its answer that brings no child and, if it is a scan, takes no group over.
     pub(super) fn plain(alloc: Global, event: Event, reply: Reply) -> Step
+        requires { is_scan event ≡ true → groups_of reply.what ≡ [] }
         ensures { result ≡ record { event = event; reply = reply; verdicts = []; born = None } }
     {
         Step {
@@ -90,6 +124,7 @@ impl Step {
             reply,
             verdicts: Vec::new(alloc),
             born: None,
+            over: None,
         }
     }
 }
