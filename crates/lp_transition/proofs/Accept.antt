@@ -1,5 +1,6 @@
 -- What an accepted event finds.
-use Rattle.std.proofs.Common.{◌≡◌, ℕ, ◌<◌, Bool, true, false, not, List, [], ◌∷◌, length, Option, Some, None, nat_le, nat_lt, nat_eq, ◌||◌, refl, subst, arith}
+use Rattle.std.proofs.Common.{◌≡◌, ◌≢◌, ℕ, ◌<◌, Bool, true, false, not, List, [], ◌∷◌, length, Option, Some, None, nat_le, nat_lt, nat_eq, ◌||◌, refl, subst, arith}
+use Rattle.std.proofs.lemmas.Bool.{eq-eqb}
 use Rattle.std.proofs.lemmas.Bool.Decides.{nat_tests}
 use Rattle.lp_symbols.specs.declared.sym_id.SymId.{SymId}
 use Rattle.lp_stack.specs.declared.number.TaskId.{TaskId}
@@ -8,13 +9,13 @@ use Rattle.lp_stack.specs.declared.view.Mode.TheVariants.{Kernel}
 use Rattle.lp_model.specs.Rules.{Rules}
 use Rattle.lp_model.specs.declared.check.ForkKind.{ForkKind}
 use Rattle.lp_transition.specs.declared.event.Event.{Event}
-use Rattle.lp_transition.specs.declared.event.Event.TheVariants.{Call, Exit, Idle, Fork, Die}
+use Rattle.lp_transition.specs.declared.event.Event.TheVariants.{Call, Exit, Idle, Fork, Die, Enable}
 use Rattle.lp_transition.specs.declared.refusal.Refusal.{Refusal}
-use Rattle.lp_transition.specs.declared.refusal.Refusal.TheVariants.{UnknownTask, TaskRange, TaskUsed, StackFull}
+use Rattle.lp_transition.specs.declared.refusal.Refusal.TheVariants.{UnknownTask, TaskRange, TaskUsed, StackFull, InTransition, AlreadyThere}
 use Rattle.lp_numbers.specs.Numbers.{has}
 use Rattle.lp_transition.specs.Tasks.{on_live, map_live, is_unused, fits, first_of, unknown_task, unknown_symbol, out_of_range, used, not_of, not_in, stack_full, stack_not_empty}
 use Rattle.lp_transition.specs.Leg.{Standing}
-use Rattle.lp_transition.specs.Machine.{outline_of, outlines_of, refusal_of}
+use Rattle.lp_transition.specs.Machine.{at_rest, outline_of, outlines_of, refusal_of}
 use Rattle.lp_transition.specs.Table.{Engine, bounds_of, slot, fate_at, standings, state_in}
 
 -- no test fits, the first neither
@@ -106,3 +107,13 @@ module _ (model : Rules) (e : Engine) where
       let rest = used live c.0 ∷ not_of Normal live p.0 ∷ not_in Kernel live p.0 ∷ [] in
       let free = fits-free (nat_eq c.0 0 || nat_lt 65535 c.0) TaskRange (first_free b rest (others_free a (b ∷ rest) h)) in
       grind (arith, nat_tests, free)
+
+  -- a patch is left to be enabled
+  pub enable-below : refusal_of model (state_in e) Enable ≡ None → e.target ≢ length e.patches
+  unfolding refusal_of
+  enable-below h same =
+      let a = fits (not (at_rest (state_in e))) InTransition in
+      let b = fits (nat_eq e.target (length e.patches)) AlreadyThere in
+      let free = fits-free (nat_eq e.target (length e.patches)) AlreadyThere (first_free b [] (others_free a (b ∷ []) h)) in
+      let there = eq-eqb e.target (length e.patches) same in
+      cc

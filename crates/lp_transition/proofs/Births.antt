@@ -87,10 +87,10 @@ off-without_task table waiting t target wide long h waits u =
     (cases_eq u t)
 
 module _ (model : Rules) (lawful : IsLawful model) where
-  by_birth : (e : Engine) (waiting now : Numbers) (members : List ℕ) (p c : TaskId) (how : ForkKind) (x : Standing) (group : ℕ) → IsKept e waiting members → c.0 < 65536 → e.number < 1000000 → refusal_of model (state_in e) (Fork p c how) ≡ None
+  by_birth : (e : Engine) (waiting now : Numbers) (members : List ℕ) (p c : TaskId) (how : ForkKind) (x : Standing) (group : ℕ) → IsKept e waiting members → length now ≡ 65536 → c.0 < 65536 → e.number < 1000000 → refusal_of model (state_in e) (Fork p c how) ≡ None
       → born_of model (state_in e) (Fork p c how) ≡ Some x → group ≡ x.group → group < 65536 → ((t : ℕ) → has now t ≡ (if nat_eq t c.0 then not (nat_eq x.level e.target) else has waiting t))
       → HasTaken model e (Fork p c how) (with_table (with_task c.0 x e.table) e) now (set members group (get_or members group 0 + 1))
-  by_birth e waiting now members p c how x group kept h room accepted born same within put =
+  by_birth e waiting now members p c how x group kept wide_now h room accepted born same within put =
       let event = Fork p c how in
       let parent = fork-live model e p c how accepted in
       let fate = live_from_slot e.table p.0 parent.task parent.there in
@@ -107,6 +107,7 @@ module _ (model : Rules) (lawful : IsLawful model) where
         kept = record {
           sound = sound_next model lawful e (with_table (with_task c.0 x e.table) e) event kept.sound there;
           wide = IsWide-with_task e.table c.0 x kept.wide;
+          waiting_wide = wide_now;
           waits = off-with_task e.table waiting now c.0 e.target x kept.wide h kept.waits put;
           groups = length-set members group (get_or members group 0 + 1) ∙ kept.groups;
           counted = λ g below.
@@ -120,14 +121,14 @@ module _ (model : Rules) (lawful : IsLawful model) where
       }
 
   -- an accepted fork, of the engine that code holds
-  pub takes_birth : (e old : Engine) (table : Table) (waiting now : Numbers) (members : List ℕ) (p c : TaskId) (how : ForkKind) (x : Standing) (group count : ℕ) → e ≡ old → table ≡ with_task c.0 x e.table → count ≡ get_or members group 0 → IsKept e waiting members → c.0 < 65536 → old.number < 1000000 → refusal_of model (state_in old) (Fork p c how) ≡ None
+  pub takes_birth : (e old : Engine) (table : Table) (waiting now : Numbers) (members : List ℕ) (p c : TaskId) (how : ForkKind) (x : Standing) (group count : ℕ) → e ≡ old → table ≡ with_task c.0 x e.table → count ≡ get_or members group 0 → IsKept e waiting members → length now ≡ 65536 → c.0 < 65536 → old.number < 1000000 → refusal_of model (state_in old) (Fork p c how) ≡ None
       → born_of model (state_in old) (Fork p c how) ≡ Some x → group ≡ x.group → group < 65536 → ((t : ℕ) → has now t ≡ (if nat_eq t c.0 then not (nat_eq x.level e.target) else has waiting t))
       → HasTaken model old (Fork p c how) (with_table table e) now (set members group (count + 1))
-  takes_birth e old table waiting now members p c how x group count was is counted kept h room accepted born same within put =
+  takes_birth e old table waiting now members p c how x group count was is counted kept wide_now h room accepted born same within put =
       subst (λ o. HasTaken model o (Fork p c how) (with_table table e) now (set members group (count + 1))) was
       (subst (λ n. HasTaken model e (Fork p c how) (with_table table e) now (set members group (n + 1))) (sym counted)
       (subst (λ t. HasTaken model e (Fork p c how) (with_table t e) now (set members group (get_or members group 0 + 1))) (sym is)
-      (by_birth e waiting now members p c how x group kept h (subst (λ o. o.number < 1000000) (sym was) room) (subst (λ o. refusal_of model (state_in o) (Fork p c how) ≡ None) (sym was) accepted) (subst (λ o. born_of model (state_in o) (Fork p c how) ≡ Some x) (sym was) born) same within put)))
+      (by_birth e waiting now members p c how x group kept wide_now h (subst (λ o. o.number < 1000000) (sym was) room) (subst (λ o. refusal_of model (state_in o) (Fork p c how) ≡ None) (sym was) accepted) (subst (λ o. born_of model (state_in o) (Fork p c how) ≡ Some x) (sym was) born) same within put)))
 
   by_death : (e : Engine) (waiting : Numbers) (members : List ℕ) (t : TaskId) (x : Standing) (group : ℕ) → IsKept e waiting members → length waiting ≡ 65536 → t.0 < 65536 → e.number < 1000000 → refusal_of model (state_in e) (Die t) ≡ None
       → slot e.table t.0 ≡ Some x → has e.table.used t.0 ≡ true → group ≡ x.group → group < 65536
@@ -141,6 +142,7 @@ module _ (model : Rules) (lawful : IsLawful model) where
         kept = record {
           sound = sound_next model lawful e (with_table (without_task t.0 e.table) e) event kept.sound gone;
           wide = IsWide-without_task e.table t.0 kept.wide;
+          waiting_wide = length-set waiting t.0 false ∙ long;
           waits = off-without_task e.table waiting t.0 e.target kept.wide long h kept.waits;
           groups = length-set members group (get_or members group 0 - 1) ∙ kept.groups;
           counted = λ g below.

@@ -60,6 +60,7 @@ module _ (model : Rules) (lawful : IsLawful model) where
         kept = record {
           sound = sound_next model lawful e (with_table (changed t f e.table) e) event kept.sound there;
           wide = IsWide-changed e.table t f kept.wide;
+          waiting_wide = kept.waiting_wide;
           waits = λ u. kept.waits u ∙ sym (is_off-changed e.table t u e.target f kept.wide h levels);
           groups = kept.groups;
           counted = λ group within. sym (count-changed e.table t f group kept.wide h groups ∙ sym (kept.counted group within));
@@ -100,6 +101,7 @@ module _ (model : Rules) (lawful : IsLawful model) where
         kept = record {
           sound = sound_next model lawful e (with_table e.table e) event kept.sound there;
           wide = kept.wide;
+          waiting_wide = kept.waiting_wide;
           waits = kept.waits;
           groups = kept.groups;
           counted = kept.counted;
@@ -120,6 +122,7 @@ module _ (model : Rules) (lawful : IsLawful model) where
         kept = record {
           sound = sound_next model lawful e (with_table e.table e) event kept.sound there;
           wide = kept.wide;
+          waiting_wide = kept.waiting_wide;
           waits = kept.waits;
           groups = kept.groups;
           counted = kept.counted;

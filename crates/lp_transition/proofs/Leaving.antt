@@ -159,6 +159,7 @@ module _ (model : Rules) (lawful : IsLawful model) (e : Engine) (waiting : Numbe
         kept = record {
           sound = sound_next model lawful e (with_table (changed t (put_on e.target) (changed t f e.table)) e) event kept.sound state;
           wide = IsWide-changed (changed t f e.table) t (put_on e.target) wide;
+          waiting_wide = length-set waiting t false ∙ long;
           waits = λ u. off-after long u;
           groups = kept.groups;
           counted = λ group below. sym (count-changed (changed t f e.table) t (put_on e.target) group wide small (λ y. refl) ∙ count-changed e.table t f group kept.wide small groups ∙ sym (kept.counted group below));
@@ -196,6 +197,12 @@ module _ (model : Rules) (lawful : IsLawful model) (e : Engine) (waiting : Numbe
       let affected-is : affected model (state_in e) event ≡ asked e t f = ap {A = Standings} {B = State} (λ tasks. record (state_in e) { number = suc e.number; tasks = tasks }) own in
       let here : goes_over model (asked e t f) event (f x).group ≡ false = ap {A = State} {B = Bool} (λ s. goes_over model s event (f x).group) (sym affected-is) ∙ subst (λ o. goes_over model (affected model (state_in o) event) event (f x).group ≡ false) (sym was) stays in
       subst (λ o. goes_over model (affected model (state_in o) event) event group ≡ false) was (ap {A = State} {B = Bool} (λ s. goes_over model s event group) affected-is ∙ none-goes here group)
+
+  -- and every group but the task's own stays anyway
+  pub others-stay_now : (old : Engine) → e ≡ old → own_effect model.child_group (suc e.number) event (standings e.table) ≡ change t f (standings e.table) → (group : ℕ) → (f x).group ≢ group → goes_over model (affected model (state_in old) event) event group ≡ false
+  others-stay_now old was own group ne =
+      let affected-is : affected model (state_in e) event ≡ asked e t f = ap {A = Standings} {B = State} (λ tasks. record (state_in e) { number = suc e.number; tasks = tasks }) own in
+      subst (λ o. goes_over model (affected model (state_in o) event) event group ≡ false) was (ap {A = State} {B = Bool} (λ s. goes_over model s event group) affected-is ∙ other-stays model lawful (asked e t f) event t kind (f x) checks now_live positive within_bounds group ne)
 
 -- a change that changes nothing
 same-fate : (fate : Fate Standing) → fate ≡ map_live (λ y. y) fate

@@ -36,3 +36,7 @@ pub mod Passing
 pub mod ScanGroups
 pub mod ScanLemmas
 pub mod ScanLists
+pub mod Completes
+pub mod Going
+pub mod Weighing
+pub mod Turning

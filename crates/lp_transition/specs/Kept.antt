@@ -9,6 +9,7 @@ pub record IsKept (engine : Engine) (waiting : Numbers) (members : List ℕ) : T
   pub sound : IsSound (state_in engine)
   pub wide : IsWide engine.table
   -- the tasks that wait are the live ones off the target
+  pub waiting_wide : length waiting ≡ 65536
   pub waits : (t : ℕ) → has waiting t ≡ is_off engine.target (slot engine.table t)
   pub groups : length members ≡ 65536
   pub counted : (group : ℕ) → group < 65536 → slice_index members group ≡ count_by (is_in group) engine.table.slots

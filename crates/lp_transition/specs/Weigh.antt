@@ -1,9 +1,9 @@
 -- An event that was weighed: its answer, and what the engine needs to take it without memory.
-use Rattle.std.specs.Prelude.{◌≡◌, ℕ, ◌<◌, List, Option, Some, None}
+use Rattle.std.specs.Prelude.{◌≡◌, ℕ, ◌<◌, Bool, true, false, List, Option, Some, None}
 use Rattle.lp_model.specs.Rules.{Rules}
 use Rattle.lp_model.specs.declared.verdict.Verdict.{Verdict}
 use Rattle.lp_transition.specs.declared.event.Event.{Event}
-use Rattle.lp_transition.specs.declared.event.Event.TheVariants.{Fork}
+use Rattle.lp_transition.specs.declared.event.Event.TheVariants.{Ret, Sleep, Wake, Enter, Fork}
 use Rattle.lp_transition.specs.declared.refusal.Refusal.{Refusal}
 use Rattle.lp_transition.specs.declared.reply.Reply.{Reply}
 use Rattle.lp_transition.specs.Tasks.{Fate, Unused, Live, Dead, Grouping}
@@ -35,3 +35,23 @@ pub record IsWeighed (model : Rules) (engine : Engine) (step : Weighed) : Type 0
   pub room : engine.number < 1000000
   pub reply : step.reply ≡ answer model (state_in engine) step.event
   pub born : step.born ≡ born_of model (state_in engine) step.event
+
+-- an event that moves one task, between user space, the kernel and sleep or down its stack
+abbrev pub moves : Event → Bool
+moves (Ret t) = true
+moves (Sleep t) = true
+moves (Wake t) = true
+moves (Enter t) = true
+moves _ = false
+
+-- its task
+abbrev pub task_of : Event → ℕ
+task_of (Ret t) = t.0
+task_of (Sleep t) = t.0
+task_of (Wake t) = t.0
+task_of (Enter t) = t.0
+task_of _ = 0
+
+abbrev pub is_fork : Event → Bool
+is_fork (Fork p c how) = true
+is_fork _ = false

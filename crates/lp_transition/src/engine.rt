@@ -13,6 +13,7 @@ mod refuse;
 mod scan;
 mod step;
 mod take;
+mod weigh;
 mod task_table;
 
 use lp_model::Consistency;

@@ -1,17 +1,16 @@
 //! The events that begin a transition or turn it round.
-ghost use Rattle.std.specs.Prelude.{◌≡◌, ◌↔◌, ℕ, false, IsTrue};
+ghost use Rattle.std.specs.Prelude.{◌≡◌, ◌≤◌, ◌<◌, ◌↔◌, ℕ, None, true, false, IsTrue, length};
 ghost use Rattle.lp_numbers.specs.Numbers.{has};
 ghost use Rattle.lp_transition.specs.Events.{is_control};
 ghost use Rattle.lp_transition.specs.Tasks.{first_of};
 ghost use Rattle.lp_transition.specs.Run.{control_tests, new_target};
-ghost use Rattle.lp_transition.specs.Table.{slot, state_in, standings, is_off, task_numbers};
-ghost use Rattle.lp_transition.specs.Leg.{each_live};
-ghost use Rattle.lp_transition.specs.Machine.{at_rest, refusal_of, turned, next};
+ghost use Rattle.lp_transition.specs.Table.{slot, state_in, is_off};
+ghost use Rattle.lp_transition.specs.Machine.{at_rest, refusal_of, answer, next};
 
 use super::Core;
 use super::parts::put_number;
 use super::task_table::TaskTable;
-use crate::{Event, Refusal};
+use crate::{Event, Refusal, Reply, What};
 use lp_model::Consistency;
 use lp_numbers::NumberSet;
 use lp_stack::{Level, TaskId};
@@ -43,6 +42,50 @@ impl<M: Consistency> Core<M> {
         None
     }
 
+    /// The level to which an accepted control event takes the tasks.
+    pub(super) fn new_level(&self, event: Event) -> Level
+        requires accepted { refusal_of M.rules (state_in self.now) event ≡ None }
+        requires control { is_control event ≡ true }
+        ensures value { result.0 ≡ new_target (state_in self.now) event }
+        ensures fits { result.0 ≤ length self.now.patches }
+    {
+        let most = self.patches.patches();
+        match event {
+            Event::Enable => Level(self.target.0.min(most.0) + 1),
+            Event::Disable => Level(self.target.0.saturating_sub(1)),
+            Event::Reverse => self.from,
+            _ => self.target,
+        }
+    }
+
+    /// The answer to an accepted control event: it completes the transition that it opens where
+    /// every live task is on its target already.
+    pub(super) fn answer_control(&self, event: Event) -> Reply
+        requires accepted { refusal_of M.rules (state_in self.now) event ≡ None }
+        requires control { is_control event ≡ true }
+        ensures { result ≡ answer M.rules (state_in self.now) event }
+    {
+        let level = self.new_level(event);
+        Reply {
+            what: What::Done,
+            completed: all_on(&self.tasks, level),
+        }
+    }
+
+    /// An accepted control event.
+    pub(super) fn take_control(&mut self, event: Event)
+        requires room { self.old.number < 1000000 }
+        requires accepted { refusal_of M.rules (state_in self.old) event ≡ None }
+        requires control { is_control event ≡ true }
+        ensures { state_in self.new ≡ next M.rules (state_in self.old) event }
+    {
+        let level = self.new_level(event);
+        self.events += 1;
+        self.from = self.target;
+        self.target = level;
+        collect_off(&self.tasks, &mut self.waiting, level);
+    }
+
     /// Why the turning of the transition is refused.
     pub(super) fn reverse_refusal(&self) -> Option<Refusal>
         ensures { result ≡ first_of (control_tests (state_in self.now) (at_rest (state_in self.now)) Event.Reverse) }
@@ -66,7 +109,8 @@ fn is_off_level(tasks: &TaskTable, number: u16, level: Level) -> bool
 
 /// Makes the live tasks that are off a level the members of a set.
 fn collect_off(tasks: &TaskTable, waiting: &mut NumberSet, level: Level)
-    ensures { (t : ℕ) → has waiting.new t ≡ is_off level.0 (slot tasks.now t) }
+    ensures members { (t : ℕ) → has waiting.new t ≡ is_off level.0 (slot tasks.now t) }
+    ensures numbers { length waiting.new ≡ 65536 }
 {
     waiting.clear();
     let mut from = 0u32;

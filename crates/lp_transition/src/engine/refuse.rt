@@ -4,14 +4,42 @@ ghost use Rattle.lp_transition.specs.Table.{state_in, task_numbers, standings};
 ghost use Rattle.lp_transition.specs.Tasks.{first_of, tests, same_mode, same_class};
 ghost use Rattle.lp_transition.specs.Machine.{refusal_of, outlines_of};
 
+use super::Core;
 use super::task_table::TaskTable;
 use crate::{Event, Refusal};
-use lp_model::ForkKind;
+use lp_model::{Consistency, ForkKind};
 use lp_stack::{Class, MOST_FRAMES, Mode, TaskId};
 use lp_symbols::SymId;
 
+impl<M: Consistency> Core<M> {
+    /// Why an event is refused: the first refusal that fits; None where it is accepted.
+    #[tactic(auto, unfolding(crate::specs::Machine::refusal_of))]
+    pub(super) fn refusal(&self, event: Event) -> Option<Refusal>
+        ensures { result ≡ refusal_of M.rules (state_in self.now) event }
+    {
+        let symbols = self.patches.symbols();
+        match event {
+            Event::Call(task, func) => call_refusal(&self.tasks, symbols, task, func),
+            Event::Ret(task) => ret_refusal(&self.tasks, symbols, task),
+            Event::Sleep(task) => sleep_refusal(&self.tasks, symbols, task),
+            Event::Wake(task) => wake_refusal(&self.tasks, symbols, task),
+            Event::Enter(task) => enter_refusal(&self.tasks, symbols, task),
+            Event::Exit(task) => exit_refusal(&self.tasks, symbols, task),
+            Event::Idle(task) => idle_refusal(&self.tasks, symbols, task),
+            Event::Fork(parent, child, how) => {
+                fork_refusal(&self.tasks, symbols, parent, child, how)
+            }
+            Event::Die(task) => die_refusal(&self.tasks, symbols, task),
+            Event::Walk | Event::Stop => None,
+            Event::Enable => self.enable_refusal(),
+            Event::Disable => self.disable_refusal(),
+            Event::Reverse => self.reverse_refusal(),
+        }
+    }
+}
+
 /// Why a call is refused.
-pub(super) fn call_refusal(
+fn call_refusal(
     tasks: &TaskTable,
     symbols: usize,
     task: TaskId,
@@ -35,7 +63,7 @@ pub(super) fn call_refusal(
 }
 
 /// Why a return is refused.
-pub(super) fn ret_refusal(tasks: &TaskTable, symbols: usize, task: TaskId) -> Option<Refusal>
+fn ret_refusal(tasks: &TaskTable, symbols: usize, task: TaskId) -> Option<Refusal>
     ensures { result ≡ first_of (tests (task_numbers symbols) (outlines_of (standings tasks.now)) (Event.Ret task)) }
 {
     let Some(live) = tasks.get(task) else {
@@ -51,7 +79,7 @@ pub(super) fn ret_refusal(tasks: &TaskTable, symbols: usize, task: TaskId) -> Op
 }
 
 /// Why going to sleep is refused.
-pub(super) fn sleep_refusal(tasks: &TaskTable, symbols: usize, task: TaskId) -> Option<Refusal>
+fn sleep_refusal(tasks: &TaskTable, symbols: usize, task: TaskId) -> Option<Refusal>
     ensures { result ≡ first_of (tests (task_numbers symbols) (outlines_of (standings tasks.now)) (Event.Sleep task)) }
 {
     let Some(live) = tasks.get(task) else {
@@ -64,7 +92,7 @@ pub(super) fn sleep_refusal(tasks: &TaskTable, symbols: usize, task: TaskId) -> 
 }
 
 /// Why waking up is refused.
-pub(super) fn wake_refusal(tasks: &TaskTable, symbols: usize, task: TaskId) -> Option<Refusal>
+fn wake_refusal(tasks: &TaskTable, symbols: usize, task: TaskId) -> Option<Refusal>
     ensures { result ≡ first_of (tests (task_numbers symbols) (outlines_of (standings tasks.now)) (Event.Wake task)) }
 {
     let Some(live) = tasks.get(task) else {
@@ -77,7 +105,7 @@ pub(super) fn wake_refusal(tasks: &TaskTable, symbols: usize, task: TaskId) -> O
 }
 
 /// Why entering the kernel is refused.
-pub(super) fn enter_refusal(tasks: &TaskTable, symbols: usize, task: TaskId) -> Option<Refusal>
+fn enter_refusal(tasks: &TaskTable, symbols: usize, task: TaskId) -> Option<Refusal>
     ensures { result ≡ first_of (tests (task_numbers symbols) (outlines_of (standings tasks.now)) (Event.Enter task)) }
 {
     let Some(live) = tasks.get(task) else {
@@ -93,7 +121,7 @@ pub(super) fn enter_refusal(tasks: &TaskTable, symbols: usize, task: TaskId) -> 
 }
 
 /// Why leaving the kernel is refused.
-pub(super) fn exit_refusal(tasks: &TaskTable, symbols: usize, task: TaskId) -> Option<Refusal>
+fn exit_refusal(tasks: &TaskTable, symbols: usize, task: TaskId) -> Option<Refusal>
     ensures { result ≡ first_of (tests (task_numbers symbols) (outlines_of (standings tasks.now)) (Event.Exit task)) }
 {
     let Some(live) = tasks.get(task) else {
@@ -112,7 +140,7 @@ pub(super) fn exit_refusal(tasks: &TaskTable, symbols: usize, task: TaskId) -> O
 }
 
 /// Why an idle point is refused.
-pub(super) fn idle_refusal(tasks: &TaskTable, symbols: usize, task: TaskId) -> Option<Refusal>
+fn idle_refusal(tasks: &TaskTable, symbols: usize, task: TaskId) -> Option<Refusal>
     ensures { result ≡ first_of (tests (task_numbers symbols) (outlines_of (standings tasks.now)) (Event.Idle task)) }
 {
     let Some(live) = tasks.get(task) else {
@@ -131,7 +159,7 @@ pub(super) fn idle_refusal(tasks: &TaskTable, symbols: usize, task: TaskId) -> O
 }
 
 /// Why a task's end is refused.
-pub(super) fn die_refusal(tasks: &TaskTable, symbols: usize, task: TaskId) -> Option<Refusal>
+fn die_refusal(tasks: &TaskTable, symbols: usize, task: TaskId) -> Option<Refusal>
     ensures { result ≡ first_of (tests (task_numbers symbols) (outlines_of (standings tasks.now)) (Event.Die task)) }
 {
     let Some(live) = tasks.get(task) else {
@@ -150,7 +178,7 @@ pub(super) fn die_refusal(tasks: &TaskTable, symbols: usize, task: TaskId) -> Op
 }
 
 /// Why a fork is refused.
-pub(super) fn fork_refusal(
+fn fork_refusal(
     tasks: &TaskTable,
     symbols: usize,
     parent: TaskId,

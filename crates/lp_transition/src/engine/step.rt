@@ -1,12 +1,12 @@
 //! An event that was weighed.
-ghost use Rattle.std.specs.Prelude.{◌≡◌, [], true, Some, None, option_copied};
+ghost use Rattle.std.specs.Prelude.{◌≡◌, [], true, false, Some, None, option_copied};
 ghost use Rattle.std.specs.Option.{option_map};
 ghost use Rattle.lp_transition.specs.Events.{is_scan};
 ghost use Rattle.lp_transition.specs.Scan.{groups_of, HasOver};
 ghost use Rattle.lp_transition.specs.declared.engine.step.Halt.TheVariants.{NoMemory};
 
 use super::live_task::LiveTask;
-use crate::{Event, Refusal, Reply, What};
+use crate::{Event, Reply};
 use lp_model::Verdict;
 use lp_numbers::NumberSet;
 use std::alloc::{AllocError, AllocFailed, Global};
@@ -124,6 +124,20 @@ impl Step {
             reply,
             verdicts: Vec::new(alloc),
             born: None,
+            over: None,
+        }
+    }
+
+    /// An accepted fork with its answer and the child that it brings.
+    pub(super) fn birth(alloc: Global, event: Event, reply: Reply, born: Box<LiveTask>) -> Step
+        requires { is_scan event ≡ false }
+        ensures { result ≡ record { event = event; reply = reply; verdicts = []; born = Some born.value } }
+    {
+        Step {
+            event,
+            reply,
+            verdicts: Vec::new(alloc),
+            born: Some(born),
             over: None,
         }
     }

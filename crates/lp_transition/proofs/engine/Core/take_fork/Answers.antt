@@ -23,7 +23,7 @@ invariant_of-self g c =
     let here = value_at i.members.items c.from-group.result c.index_mut.result.now wide c.index_mut.ensures.value in
     let same : c.from-group.result ≡ c.args.live.value.group = c.from-group.ensures ∙ c.group.ensures ∙ ap (λ (x : Standing). x.group) c.deref.ensures in
     let off : c.ne-waits.result ≡ not (nat_eq c.args.live.value.level i.target.0) = c.ne-waits.ensures ∙ ap (λ l. not (nat_eq l i.target.0)) (c.level.ensures ∙ ap (λ (x : Standing). x.level) c.deref-2.ensures) in
-    (takes_birth g.M.Consistency.rules g.met.M.Consistency.lawful (record { number = i.events; from = i.from.0; target = i.target.0; patches = i.patches; table = i.tasks }) c.args.self.now c.put.new.self i.waiting c.put_number.new.set i.members.items c.args.parent c.args.child c.args.how c.args.live.value c.from-group.result c.index_mut.result.now c.self.view_is c.put.ensures here c.self.invariant h c.requires.room c.requires.accepted c.requires.born same within (λ n. c.put_number.ensures n ∙ ap (λ b. if nat_eq n c.args.child.0 then b else has i.waiting n) off)).kept
+    (takes_birth g.M.Consistency.rules g.met.M.Consistency.lawful (record { number = i.events; from = i.from.0; target = i.target.0; patches = i.patches; table = i.tasks }) c.args.self.now c.put.new.self i.waiting c.put_number.new.set i.members.items c.args.parent c.args.child c.args.how c.args.live.value c.from-group.result c.index_mut.result.now c.self.view_is c.put.ensures here c.self.invariant c.put_number.ensures.numbers h c.requires.room c.requires.accepted c.requires.born same within (λ n. c.put_number.ensures.after n ∙ ap (λ b. if nat_eq n c.args.child.0 then b else has i.waiting n) off)).kept
 
 pub returns : goal.returns
 returns g c =
@@ -34,4 +34,4 @@ returns g c =
     let here = value_at i.members.items c.from-group.result c.index_mut.result.now wide c.index_mut.ensures.value in
     let same : c.from-group.result ≡ c.args.live.value.group = c.from-group.ensures ∙ c.group.ensures ∙ ap (λ (x : Standing). x.group) c.deref.ensures in
     let off : c.ne-waits.result ≡ not (nat_eq c.args.live.value.level i.target.0) = c.ne-waits.ensures ∙ ap (λ l. not (nat_eq l i.target.0)) (c.level.ensures ∙ ap (λ (x : Standing). x.level) c.deref-2.ensures) in
-    (takes_birth g.M.Consistency.rules g.met.M.Consistency.lawful (record { number = i.events; from = i.from.0; target = i.target.0; patches = i.patches; table = i.tasks }) c.args.self.now c.put.new.self i.waiting c.put_number.new.set i.members.items c.args.parent c.args.child c.args.how c.args.live.value c.from-group.result c.index_mut.result.now c.self.view_is c.put.ensures here c.self.invariant h c.requires.room c.requires.accepted c.requires.born same within (λ n. c.put_number.ensures n ∙ ap (λ b. if nat_eq n c.args.child.0 then b else has i.waiting n) off)).state
+    (takes_birth g.M.Consistency.rules g.met.M.Consistency.lawful (record { number = i.events; from = i.from.0; target = i.target.0; patches = i.patches; table = i.tasks }) c.args.self.now c.put.new.self i.waiting c.put_number.new.set i.members.items c.args.parent c.args.child c.args.how c.args.live.value c.from-group.result c.index_mut.result.now c.self.view_is c.put.ensures here c.self.invariant c.put_number.ensures.numbers h c.requires.room c.requires.accepted c.requires.born same within (λ n. c.put_number.ensures.after n ∙ ap (λ b. if nat_eq n c.args.child.0 then b else has i.waiting n) off)).state

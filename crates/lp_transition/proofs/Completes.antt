@@ -1,0 +1,96 @@
+-- When an event completes a transition, and which groups it reports.
+use Rattle.std.proofs.Common.{◌≡◌, ◌≢◌, ◌<◌, ◌≤◌, ◌+◌, ℕ, suc, Bool, true, false, not, ◌&&◌, List, [], ◌∷◌, length, set, Option, Some, None, IsTrue, nat_eq, if◌then◌else◌, refl, sym, ap, ap₂, ◌∙◌, subst, ⊎_elim, ◌↔◌, arith}
+use Rattle.std.proofs.lemmas.Bool.{cases_Bool, cases_eq, eq-eqb, ne_eqb, cond-true, cond-false, not-true, not-false}
+use Rattle.std.proofs.lemmas.List.{get_or-set_same, get_or-set_other}
+use Rattle.std.specs.Bool.{one_answer}
+use Rattle.std.specs.List.{filter, range_with_len}
+use Rattle.lp_numbers.specs.Numbers.{Numbers, has, IsEmpty}
+use Rattle.lp_model.specs.Rules.{Rules, IsLawful}
+use Rattle.lp_transition.specs.declared.event.Event.{Event}
+use Rattle.lp_transition.specs.declared.reply.What.{What}
+use Rattle.lp_transition.specs.declared.reply.Reply.{Reply}
+use Rattle.lp_transition.specs.Events.{is_control}
+use Rattle.lp_transition.specs.Leg.{Standing, State, each_live}
+use Rattle.lp_transition.specs.Machine.{at_rest, goes_over, going, refusal_of, affected, switched_over, next, told, answer, answer_by}
+use Rattle.lp_transition.specs.Table.{Table, Engine, state_in, slot, standings, bounds_of, is_off}
+use Rattle.lp_transition.specs.Kept.{IsKept}
+use Rattle.lp_transition.proofs.EngineLemmas.{and-false, next-accepted, answer-accepted}
+use Rattle.lp_transition.proofs.TableLemmas.{slot-zero}
+use Rattle.lp_transition.proofs.MemberLemmas.{rest}
+use Rattle.lp_transition.proofs.Effects.{HasTaken}
+
+-- nobody waits exactly where the machine is at rest
+pub resting : (e : Engine) (waiting : Numbers) (members : List ℕ) → IsKept e waiting members → IsEmpty waiting ↔ IsTrue (at_rest (state_in e))
+resting e waiting members kept = rest e.table e.patches kept.wide (slot-zero e kept.sound) waiting e.target kept.waits
+
+module _ (model : Rules) where
+  -- the answer to an accepted event that is no control event
+  pub answer-taken : (e new : Engine) (event : Event) → refusal_of model (state_in e) event ≡ None → is_control event ≡ false → state_in new ≡ next model (state_in e) event
+      → answer model (state_in e) event ≡ record { what = told model (state_in e) event; completed = at_rest (state_in new) && not (at_rest (state_in e)) }
+  answer-taken e new event accepted plain is =
+      let s = state_in e in
+      let there : switched_over model s event ≡ state_in new = sym (next-accepted model s event accepted plain) ∙ sym is in
+      answer-accepted model s event accepted ∙ cond-false _ _ _ plain
+      ∙ ap {A = State} {B = Reply} (λ now. record { what = told model s event; completed = at_rest now && not (at_rest s) }) there
+
+-- ---- Whether it completes
+
+settled : (e : Engine) (waiting : Numbers) (members : List ℕ) → IsKept e waiting members → IsEmpty waiting → at_rest (state_in e) ≡ true
+settled e waiting members kept empty = (resting e waiting members kept).0 empty
+
+-- not, where it was settled already if it is settled afterwards
+pub not-completed : (e new : Engine) (waiting now : Numbers) (members counts : List ℕ) → IsKept e waiting members → IsKept new now counts → (IsEmpty now → IsEmpty waiting) → false ≡ (at_rest (state_in new) && not (at_rest (state_in e)))
+not-completed e new waiting now members counts kept kept' back = by (at_rest (state_in new)) refl
+  where
+    by : (b : Bool) → at_rest (state_in new) ≡ b → false ≡ (b && not (at_rest (state_in e)))
+    by false e' = refl
+    by true e' = ap not (sym (settled e waiting members kept (back ((resting new now counts kept').1 e'))))
+
+-- where a task leaves, the others are what is left to wait
+pub completed_by : (e : Engine) (waiting : Numbers) (members : List ℕ) (t : ℕ) (last after : Bool) → IsKept e waiting members → IsTrue after ↔ ((u : ℕ) → u ≢ t → has waiting u ≡ false)
+    → IsTrue last ↔ ((has waiting t ≡ true) × ((u : ℕ) → u ≢ t → has waiting u ≡ false)) → last ≡ (after && not (at_rest (state_in e)))
+completed_by e waiting members t last after kept others lone = by after refl (at_rest (state_in e)) refl
+  where
+    emptied_all : ((u : ℕ) → u ≢ t → has waiting u ≡ false) → has waiting t ≡ false → IsEmpty waiting
+    emptied_all alone none u = ⊎_elim (λ (same : u ≡ t). subst (λ v. has waiting v ≡ false) (sym same) none) (λ (ne : u ≡ t → ⊥). alone u ne) (cases_eq u t)
+
+    by : (b : Bool) → after ≡ b → (a : Bool) → at_rest (state_in e) ≡ a → last ≡ (b && not a)
+    by true e' true e'' = never last refl
+      where
+        never : (l : Bool) → last ≡ l → last ≡ false
+        never false h = h
+        never true h =
+            let waits = (lone.0 h).0 in
+            let none = (resting e waiting members kept).1 e'' t in
+            absurd (cc)
+    by true e' false e'' =
+        let alone = others.0 e' in
+        lone.1 (sure (has waiting t) refl alone, alone)
+      where
+        sure : (w : Bool) → has waiting t ≡ w → ((u : ℕ) → u ≢ t → has waiting u ≡ false) → has waiting t ≡ true
+        sure true h alone = h
+        sure false h alone = let calm = settled e waiting members kept (emptied_all alone h) in absurd (cc)
+    by false e' a e'' = never last refl
+      where
+        never : (l : Bool) → last ≡ l → last ≡ false
+        never false h = h
+        never true h = let calm = others.1 (lone.0 h).1 in absurd (cc)
+
+-- so where the last task that waits goes over
+pub completed : (e new : Engine) (waiting now : Numbers) (members counts : List ℕ) (t : ℕ) (last : Bool) → IsKept e waiting members → IsKept new now counts → t < 65536 → now ≡ set waiting t false
+    → IsTrue last ↔ ((has waiting t ≡ true) × ((u : ℕ) → u ≢ t → has waiting u ≡ false)) → last ≡ (at_rest (state_in new) && not (at_rest (state_in e)))
+completed e new waiting now members counts t last kept kept' small removed lone =
+    completed_by e waiting members t last (at_rest (state_in new)) kept
+    ((λ rests. others ((resting new now counts kept').1 rests)), (λ alone. (resting new now counts kept').0 (emptied alone)))
+    lone
+  where
+    others : IsEmpty now → (u : ℕ) → u ≢ t → has waiting u ≡ false
+    others empty u ne = sym (get_or-set_other waiting t u false false ne) ∙ sym (ap (λ n. has n u) removed) ∙ empty u
+
+    emptied : ((u : ℕ) → u ≢ t → has waiting u ≡ false) → IsEmpty now
+    emptied alone u =
+        ap (λ n. has n u) removed
+        ∙ ⊎_elim
+          (λ (same : u ≡ t). let within : t < length waiting = omega (arith, kept.waiting_wide, small) in subst (λ v. has (set waiting t false) v ≡ false) (sym same) (get_or-set_same waiting t false false within))
+          (λ (ne : u ≡ t → ⊥). get_or-set_other waiting t u false false ne ∙ alone u ne)
+          (cases_eq u t)

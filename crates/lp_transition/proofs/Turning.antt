@@ -1,0 +1,80 @@
+-- The engine at events that begin a transition or turn it round.
+use Rattle.std.proofs.Common.{◌≡◌, ◌≢◌, ◌<◌, ◌≤◌, ◌+◌, ◌-◌, ℕ, zero, suc, pred, Bool, true, false, not, List, length, Option, Some, None, IsTrue, nat_eq, refl, sym, ap, ap₂, ◌∙◌, subst, ◌↔◌, add-one, arith}
+use Rattle.std.proofs.lemmas.Bool.{cond-true, not-false}
+use Rattle.std.specs.Bool.{one_answer}
+use Rattle.lp_numbers.specs.Numbers.{Numbers, has}
+use Rattle.lp_model.specs.Rules.{Rules, IsLawful}
+use Rattle.lp_transition.specs.declared.event.Event.{Event}
+use Rattle.lp_transition.specs.declared.reply.What.TheVariants.{Done}
+use Rattle.lp_transition.specs.declared.reply.Reply.{Reply}
+use Rattle.lp_transition.specs.Events.{is_control}
+use Rattle.lp_transition.specs.Leg.{Standing, State, each_live}
+use Rattle.lp_transition.specs.Run.{new_target}
+use Rattle.lp_transition.specs.Machine.{at_rest, refusal_of, turned, next, answer}
+use Rattle.lp_transition.specs.Table.{Table, Engine, IsWide, slot, standings, state_in, bounds_of, is_off}
+use Rattle.lp_transition.specs.Kept.{IsKept}
+use Rattle.lp_transition.proofs.EngineLemmas.{next-turned, answer-accepted}
+use Rattle.lp_transition.proofs.Quantifiers.{each_live-at, each_live-from}
+use Rattle.lp_transition.proofs.TableLemmas.{slot-zero, slot_from_live, live_from_slot}
+use Rattle.lp_transition.proofs.MemberLemmas.{slot-positive, slot-below}
+use Rattle.lp_transition.proofs.Effects.{HasTaken, sound_next}
+
+-- the engine turned to another level
+abbrev pub turned_to : ℕ → Engine → Engine
+turned_to level e = record { number = e.number + 1; from = e.target; target = level; patches = e.patches; table = e.table }
+
+-- each live task is on a level
+module _ (e : Engine) (waiting : Numbers) (members : List ℕ) (kept : IsKept e waiting members) (level : ℕ) where
+  on_level-is : ((t : ℕ) → is_off level (slot e.table t) ≡ false) → IsTrue (each_live (bounds_of e.patches) (standings e.table) (λ t x. nat_eq x.level level))
+  on_level-is all =
+      each_live-from (bounds_of e.patches) (standings e.table) (λ t x. nat_eq x.level level)
+      (λ t x positive within live. not-false (nat_eq x.level level) (sym (ap (is_off level) (slot_from_live e.table t x live)) ∙ all t))
+
+  on_level-from : IsTrue (each_live (bounds_of e.patches) (standings e.table) (λ t x. nat_eq x.level level)) → (t : ℕ) → is_off level (slot e.table t) ≡ false
+  on_level-from all t = by (slot e.table t) refl
+    where
+      by : (o : Option Standing) → slot e.table t ≡ o → is_off level o ≡ false
+      by None there = refl
+      by (Some x) there =
+          let positive = slot-positive e.table t x (slot-zero e kept.sound) there in
+          let below = slot-below e.table t x kept.wide there in
+          ap not (each_live-at (bounds_of e.patches) (standings e.table) (λ u y. nat_eq y.level level) all t x positive (omega arith) (live_from_slot e.table t x there))
+
+  pub on_level : ((t : ℕ) → is_off level (slot e.table t) ≡ false) ↔ IsTrue (each_live (bounds_of e.patches) (standings e.table) (λ t x. nat_eq x.level level))
+  on_level = (on_level-is, on_level-from)
+
+module _ (model : Rules) where
+  -- the answer to an accepted control event
+  pub answer-turned : (e old : Engine) (waiting : Numbers) (members : List ℕ) (event : Event) (level : ℕ) (all : Bool) → e ≡ old → IsKept e waiting members → refusal_of model (state_in old) event ≡ None → is_control event ≡ true → level ≡ new_target (state_in old) event
+      → IsTrue all ↔ ((t : ℕ) → is_off level (slot e.table t) ≡ false) → record { what = Done; completed = all } ≡ answer model (state_in old) event
+  answer-turned e old waiting members event level all was kept accepted control goes tells =
+      let at : level ≡ new_target (state_in e) event = subst (λ o. level ≡ new_target (state_in o) event) (sym was) goes in
+      let rests = on_level e waiting members kept level in
+      let same : all ≡ each_live (bounds_of e.patches) (standings e.table) (λ t x. nat_eq x.level level) = one_answer all (each_live (bounds_of e.patches) (standings e.table) (λ t x. nat_eq x.level level)) tells (rests.1, rests.0) in
+      subst (λ o. record { what = Done; completed = all } ≡ answer model (state_in o) event) was
+      (sym (answer-accepted model (state_in e) event (subst (λ o. refusal_of model (state_in o) event ≡ None) (sym was) accepted) ∙ cond-true _ _ _ control
+        ∙ ap {A = ℕ} {B = Reply} (λ n. record { what = Done; completed = each_live (bounds_of e.patches) (standings e.table) (λ t x. nat_eq x.level n) }) (sym at) ∙ ap {A = Bool} {B = Reply} (λ b. record { what = Done; completed = b }) (sym same)))
+
+  -- and the engine after it
+  pub takes_turn : IsLawful model → (e old : Engine) (waiting now : Numbers) (members : List ℕ) (event : Event) (level : ℕ) → e ≡ old → IsKept e waiting members → length now ≡ 65536 → ((t : ℕ) → has now t ≡ is_off level (slot e.table t)) → old.number < 1000000 → refusal_of model (state_in old) event ≡ None → is_control event ≡ true → level ≡ new_target (state_in old) event → level ≤ length e.patches
+      → HasTaken model old event (turned_to level e) now members
+  takes_turn lawful e old waiting now members event level was kept wide_now collected room accepted control goes fits =
+      let at : level ≡ new_target (state_in e) event = subst (λ o. level ≡ new_target (state_in o) event) (sym was) goes in
+      let there : state_in (turned_to level e) ≡ next model (state_in e) event =
+          ap₂ {A = ℕ} {B = ℕ} {C = State} (λ n l. record { number = n; bounds = bounds_of e.patches; from = e.target; aim = record { patches = e.patches; target = l }; tasks = standings e.table }) (add-one e.number) at
+          ∙ sym (next-turned model (state_in e) event (subst (λ o. refusal_of model (state_in o) event ≡ None) (sym was) accepted) control) in
+      let below : e.number < 1000000 = subst (λ o. o.number < 1000000) (sym was) room in
+      subst (λ o. HasTaken model o event (turned_to level e) now members) was (record {
+        kept = record {
+          sound = sound_next model lawful e (turned_to level e) event kept.sound there;
+          wide = kept.wide;
+          waiting_wide = wide_now;
+          waits = collected;
+          groups = kept.groups;
+          counted = kept.counted;
+          from_fits = kept.target_fits;
+          target_fits = fits;
+          number_fits = omega arith;
+        };
+        state = there;
+      })

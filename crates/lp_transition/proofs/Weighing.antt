@@ -1,0 +1,197 @@
+-- The answers of an engine to events of one task.
+use Rattle.std.proofs.Common.{◌≡◌, ◌≢◌, ◌<◌, ◌≤◌, ◌+◌, ◌-◌, ℕ, suc, Bool, true, false, not, ◌&&◌, List, [], ◌∷◌, length, set, get_or, Option, Some, None, IsTrue, nat_eq, if◌then◌else◌, refl, sym, ap, ap₂, ◌∙◌, subst, ⊎_elim, ◌↔◌, arith}
+use Rattle.std.proofs.lemmas.Bool.{not-false, cases_eq, eq-eqb, ne_eqb, cond-true, cond-false}
+use Rattle.std.proofs.lemmas.List.{length-set}
+use Rattle.lp_numbers.specs.Numbers.{Numbers, has}
+use Rattle.lp_stack.specs.declared.number.TaskId.{TaskId}
+use Rattle.lp_symbols.specs.declared.sym_id.SymId.{SymId}
+use Rattle.lp_stack.specs.declared.view.Mode.TheVariants.{Kernel, Asleep}
+use Rattle.lp_model.specs.Rules.{Rules, IsLawful}
+use Rattle.lp_model.specs.declared.check.CheckKind.{CheckKind}
+use Rattle.lp_model.specs.declared.check.ForkKind.{ForkKind}
+use Rattle.lp_transition.specs.declared.event.Event.{Event}
+use Rattle.lp_transition.specs.declared.event.Event.TheVariants.{Call, Ret, Sleep, Wake, Enter, Exit, Idle, Fork, Die, Walk, Stop, Enable, Disable, Reverse}
+use Rattle.lp_transition.specs.declared.refusal.Refusal.{Refusal}
+use Rattle.lp_transition.specs.declared.reply.What.{What}
+use Rattle.lp_transition.specs.declared.reply.What.TheVariants.{Done, Switched}
+use Rattle.lp_transition.specs.declared.reply.Reply.{Reply}
+use Rattle.lp_transition.specs.Events.{is_control}
+use Rattle.lp_transition.specs.Tasks.{Fate, Live, Dead, change}
+use Rattle.lp_transition.specs.Leg.{Standing, State}
+use Rattle.lp_transition.specs.Run.{switched}
+use Rattle.lp_transition.specs.Machine.{at_rest, goes_over, going, bearing, refusal_of, affected, own_effect, calling, returning, put_in, told, answer}
+use Rattle.lp_transition.specs.Table.{Engine, slot, standings, changed, with_task, without_task, state_in, bounds_of, is_off}
+use Rattle.lp_transition.specs.Kept.{IsKept}
+use Rattle.lp_transition.specs.Weigh.{Weighed, IsWeighed, moves, task_of, is_fork, child_of, born_by, born_of}
+use Rattle.lp_transition.proofs.EngineLemmas.{is_quiet, quiet-control, quiet-stays, switched-still, answer-accepted}
+use Rattle.lp_transition.proofs.Quantifiers.{each_live-at, each_live-from}
+use Rattle.lp_transition.proofs.Accept.{fork-new}
+use Rattle.lp_transition.proofs.TableLemmas.{slot-zero, slot_from_live, live_from_slot}
+use Rattle.lp_transition.proofs.Effects.{with_table, takes_change_still, takes_nothing}
+use Rattle.lp_transition.proofs.MemberLemmas.{slot-positive, slot-below}
+use Rattle.lp_transition.proofs.Going.{going-none, going-one}
+use Rattle.lp_transition.proofs.Alone.{ChecksAlone}
+use Rattle.lp_transition.proofs.Leaving.{put_on, takes_over, none-goes_now, others-stay_now}
+use Rattle.lp_transition.proofs.Completes.{answer-taken, not-completed, completed_by, completed}
+
+module _ (model : Rules) (lawful : IsLawful model) (e : Engine) (waiting : Numbers) (members : List ℕ) (kept : IsKept e waiting members) (room : e.number < 1000000) where
+  -- an event that changes one task and takes no group over completes nothing
+  pub answer-change : (event : Event) (t : ℕ) (f : Standing → Standing) → t < 65536 → is_control event ≡ false → ((group : ℕ) → goes_over model (affected model (state_in e) event) event group ≡ false) → refusal_of model (state_in e) event ≡ None
+      → own_effect model.child_group (suc e.number) event (standings e.table) ≡ change t f (standings e.table) → ((x : Standing) → (f x).level ≡ x.level) → ((x : Standing) → (f x).group ≡ x.group)
+      → answer model (state_in e) event ≡ record { what = told model (state_in e) event; completed = false }
+  answer-change event t f small plain none accepted own levels groups =
+      let taken = takes_change_still model lawful e e (changed t f e.table) waiting members event t f refl refl kept small room plain none accepted own levels groups in
+      answer-taken model e (with_table (changed t f e.table) e) event accepted plain taken.state
+      ∙ ap {A = Bool} {B = Reply} (λ b. record { what = told model (state_in e) event; completed = b }) (sym (not-completed e (with_table (changed t f e.table) e) waiting waiting members members kept taken.kept (λ empty. empty)))
+
+  -- nor does one that leaves the tasks alone
+  pub answer-nothing : (event : Event) → is_control event ≡ false → ((group : ℕ) → goes_over model (affected model (state_in e) event) event group ≡ false) → refusal_of model (state_in e) event ≡ None
+      → own_effect model.child_group (suc e.number) event (standings e.table) ≡ standings e.table
+      → answer model (state_in e) event ≡ record { what = told model (state_in e) event; completed = false }
+  answer-nothing event plain none accepted own =
+      let taken = takes_nothing model lawful e e waiting members event refl kept room plain none accepted own in
+      answer-taken model e (with_table e.table e) event accepted plain taken.state
+      ∙ ap {A = Bool} {B = Reply} (λ b. record { what = told model (state_in e) event; completed = b }) (sym (not-completed e (with_table e.table e) waiting waiting members members kept taken.kept (λ empty. empty)))
+
+  -- where no group goes over, an event that is no call reports that it was done
+  pub done-still : (event : Event) → ((group : ℕ) → goes_over model (affected model (state_in e) event) event group ≡ false) → told model (state_in e) event ≡ switched (going model (affected model (state_in e) event) event) → told model (state_in e) event ≡ Done
+  done-still event none is = is ∙ ap switched (going-none model (affected model (state_in e) event) event none)
+
+  still : (event : Event) → is_quiet event ≡ true → (group : ℕ) → goes_over model (affected model (state_in e) event) event group ≡ false
+  still event quiet group = quiet-stays model (affected model (state_in e) event) event group quiet
+
+  by : (event : Event) (t : ℕ) (f : Standing → Standing) → t < 65536 → is_quiet event ≡ true → refusal_of model (state_in e) event ≡ None
+      → own_effect model.child_group (suc e.number) event (standings e.table) ≡ change t f (standings e.table) → ((x : Standing) → (f x).level ≡ x.level) → ((x : Standing) → (f x).group ≡ x.group)
+      → told model (state_in e) event ≡ switched (going model (affected model (state_in e) event) event)
+      → answer model (state_in e) event ≡ record { what = Done; completed = false }
+  by event t f small quiet accepted own levels groups reports =
+      answer-change event t f small (quiet-control model event quiet) (still event quiet) accepted own levels groups
+      ∙ ap {A = What} {B = Reply} (λ what. record { what = what; completed = false }) (done-still event (still event quiet) reports)
+
+  -- a return, a sleep, a wake-up and an entry into the kernel are done
+  pub answer-moves : (event : Event) → moves event ≡ true → task_of event < 65536 → refusal_of model (state_in e) event ≡ None → answer model (state_in e) event ≡ record { what = Done; completed = false }
+  answer-moves (Ret t) m small accepted = by (Ret t) t.0 returning small refl accepted refl (λ x. refl) (λ x. refl) refl
+  answer-moves (Sleep t) m small accepted = by (Sleep t) t.0 (put_in Asleep) small refl accepted refl (λ x. refl) (λ x. refl) refl
+  answer-moves (Wake t) m small accepted = by (Wake t) t.0 (put_in Kernel) small refl accepted refl (λ x. refl) (λ x. refl) refl
+  answer-moves (Enter t) m small accepted = by (Enter t) t.0 (put_in Kernel) small refl accepted refl (λ x. refl) (λ x. refl) refl
+  answer-moves _ m small accepted = cc
+
+  -- a call runs its task's level
+  pub answer-call : (t : TaskId) (f : SymId) → t.0 < 65536 → refusal_of model (state_in e) (Call t f) ≡ None → answer model (state_in e) (Call t f) ≡ record { what = told model (state_in e) (Call t f); completed = false }
+  answer-call t f small accepted =
+      answer-change (Call t f) t.0 (calling (suc e.number) f) small refl (still (Call t f) refl) accepted refl (λ x. refl) (λ x. refl)
+
+  -- after a fork the transition is complete only where it was before
+  fork-rest : (p c : TaskId) (how : ForkKind) → refusal_of model (state_in e) (Fork p c how) ≡ None → IsTrue (at_rest (affected model (state_in e) (Fork p c how))) → IsTrue (at_rest (state_in e))
+  fork-rest p c how accepted all =
+      let now = affected model (state_in e) (Fork p c how) in
+      each_live-from (bounds_of e.patches) (standings e.table) (λ u y. nat_eq y.level e.target) (λ u y positive within live.
+        let other : u ≢ c.0 = λ same. let none = (fork-new model e p c how accepted).0 in let there = slot_from_live e.table c.0 y (subst (λ v. standings e.table v ≡ Live y) same live) in absurd (cc) in
+        each_live-at (bounds_of e.patches) now.tasks (λ v z. nat_eq z.level e.target) all u y positive within (cond-false _ _ _ (ne_eqb u c.0 other) ∙ live))
+
+  pub answer-fork : (p c : TaskId) (how : ForkKind) → refusal_of model (state_in e) (Fork p c how) ≡ None → answer model (state_in e) (Fork p c how) ≡ record { what = Done; completed = false }
+  answer-fork p c how accepted =
+      let event = Fork p c how in
+      let s = state_in e in
+      let none = still event refl in
+      answer-accepted model s event accepted
+      ∙ ap₂ {A = What} {B = Bool} {C = Reply} (λ what b. record { what = what; completed = b }) (done-still event none refl)
+        (ap {A = State} {B = Bool} (λ now. at_rest now && not (at_rest s)) (switched-still model s event none) ∙ never (at_rest (affected model s event)) refl)
+    where
+      never : (b : Bool) → at_rest (affected model (state_in e) (Fork p c how)) ≡ b → (b && not (at_rest (state_in e))) ≡ false
+      never false h = refl
+      never true h = ap not (fork-rest p c how accepted h)
+
+  -- after the end of a task the others decide whether the transition is complete
+  die-rest : (t : TaskId) → IsTrue (at_rest (affected model (state_in e) (Die t))) ↔ ((u : ℕ) → u ≢ t.0 → has waiting u ≡ false)
+  die-rest t = (others, back)
+    where
+      others : IsTrue (at_rest (affected model (state_in e) (Die t))) → (u : ℕ) → u ≢ t.0 → has waiting u ≡ false
+      others all u ne = kept.waits u ∙ by (slot e.table u) refl
+        where
+          by : (o : Option Standing) → slot e.table u ≡ o → is_off e.target o ≡ false
+          by None there = refl
+          by (Some y) there =
+              let positive = slot-positive e.table u y (slot-zero e kept.sound) there in
+              let below = slot-below e.table u y kept.wide there in
+              ap not (each_live-at (bounds_of e.patches) (affected model (state_in e) (Die t)).tasks (λ v z. nat_eq z.level e.target) all u y positive (omega arith) (cond-false _ _ _ (ne_eqb u t.0 ne) ∙ live_from_slot e.table u y there))
+
+      apart : (u : ℕ) (y : Standing) → (if nat_eq u t.0 then Dead else standings e.table u) ≡ Live y → u ≢ t.0
+      apart u y live same = let dead : Dead ≡ Live y = sym (cond-true _ _ _ (eq-eqb u t.0 same)) ∙ live in cc
+
+      back : ((u : ℕ) → u ≢ t.0 → has waiting u ≡ false) → IsTrue (at_rest (affected model (state_in e) (Die t)))
+      back alone =
+          each_live-from (bounds_of e.patches) (affected model (state_in e) (Die t)).tasks (λ v z. nat_eq z.level e.target) (λ u y positive within live.
+            let ne = apart u y live in
+            let there = slot_from_live e.table u y (sym (cond-false _ _ _ (ne_eqb u t.0 ne)) ∙ live) in
+            not-false (nat_eq y.level e.target) (sym (ap (is_off e.target) there) ∙ sym (kept.waits u) ∙ alone u ne))
+
+  -- an end of a task completes the transition where nobody else waited
+  pub answer-die : (t : TaskId) (last : Bool) → refusal_of model (state_in e) (Die t) ≡ None → IsTrue last ↔ ((has waiting t.0 ≡ true) × ((u : ℕ) → u ≢ t.0 → has waiting u ≡ false)) → answer model (state_in e) (Die t) ≡ record { what = Done; completed = last }
+  answer-die t last accepted lone =
+      let event = Die t in
+      let s = state_in e in
+      let none = still event refl in
+      answer-accepted model s event accepted
+      ∙ ap₂ {A = What} {B = Bool} {C = Reply} (λ what b. record { what = what; completed = b }) (done-still event none refl)
+        (ap {A = State} {B = Bool} (λ now. at_rest now && not (at_rest s)) (switched-still model s event none) ∙ sym (completed_by e waiting members t.0 last (at_rest (affected model s event)) kept (die-rest t) lone))
+
+  -- a check that a task makes alone
+  module _ (event : Event) (kind : CheckKind) (t : ℕ) (small : t < 65536) (f : Standing → Standing) (levels : (x : Standing) → (f x).level ≡ x.level) (groups : (x : Standing) → (f x).group ≡ x.group) (x : Standing) (there : slot e.table t ≡ Some x) (checks : ChecksAlone (bounds_of e.patches) (change t f (standings e.table)) event t kind) (plain : is_control event ≡ false) (accepted : refusal_of model (state_in e) event ≡ None) (own : own_effect model.child_group (suc e.number) event (standings e.table) ≡ change t f (standings e.table)) (reports : told model (state_in e) event ≡ switched (going model (affected model (state_in e) event) event)) where
+    -- its group stays
+    pub answer-stays : goes_over model (affected model (state_in e) event) event (f x).group ≡ false → answer model (state_in e) event ≡ record { what = Done; completed = false }
+    answer-stays stays =
+        let none = none-goes_now model lawful e waiting members kept event kind t small f levels groups x there checks e refl own stays in
+        answer-change event t f small plain none accepted own levels groups
+        ∙ ap {A = What} {B = Reply} (λ what. record { what = what; completed = false }) (done-still event none reports)
+
+    -- its group goes over
+    pub answer-goes : (f x).group < 65536 → (last : Bool) → IsTrue last ↔ ((has waiting t ≡ true) × ((u : ℕ) → u ≢ t → has waiting u ≡ false)) → goes_over model (affected model (state_in e) event) event (f x).group ≡ true
+        → answer model (state_in e) event ≡ record { what = switched ((f x).group ∷ []); completed = last }
+    answer-goes within last lone goes =
+        let table = changed t (put_on e.target) (changed t f e.table) in
+        let taken = takes_over model lawful e waiting members kept event kind t small f levels groups x there checks e table (set waiting t false) refl refl refl (length-set waiting t false ∙ kept.waiting_wide) room plain accepted own goes in
+        let new = with_table table e in
+        let one = going-one model (affected model (state_in e) event) event (f x).group (omega (arith, within)) goes (λ n ne. others-stay_now model lawful e waiting members kept event kind t small f levels groups x there checks e refl own n (λ same. ne (sym same))) in
+        answer-taken model e new event accepted plain taken.state
+        ∙ ap₂ {A = What} {B = Bool} {C = Reply} (λ what b. record { what = what; completed = b }) (reports ∙ ap switched one)
+          (sym (completed e new waiting (set waiting t false) members members t last kept taken.kept small refl lone))
+
+-- the child that an accepted fork brings
+pub born-child : (model : Rules) (e : Engine) (p c : TaskId) (how : ForkKind) (x : Standing) → refusal_of model (state_in e) (Fork p c how) ≡ None → slot e.table p.0 ≡ Some x
+    → Some (bearing model.child_group c.0 how x) ≡ born_of model (state_in e) (Fork p c how)
+born-child model e p c how x accepted there =
+    sym (ap (λ r. born_by model.child_group r (Fork p c how) (standings e.table)) accepted ∙ ap (child_of model.child_group c.0 (Fork p c how)) (live_from_slot e.table p.0 x there))
+
+-- a refused event brings none
+pub born-refused : (model : Rules) (e : Engine) (event : Event) (why : Refusal) → refusal_of model (state_in e) event ≡ Some why → None ≡ born_of model (state_in e) event
+born-refused model e event why refused = sym (ap (λ r. born_by model.child_group r event (standings e.table)) refused)
+
+-- nor does an event that is no fork
+pub born-none : (model : Rules) (e : Engine) (event : Event) → is_fork event ≡ false → None ≡ born_of model (state_in e) event
+born-none model e event plain = by (refusal_of model (state_in e) event) event plain
+  where
+    by : (r : Option Refusal) (event : Event) → is_fork event ≡ false → None ≡ born_by model.child_group r event (standings e.table)
+    by (Some why) event plain = refl
+    by None (Fork p c how) plain = cc
+    by None (Call t f) plain = refl
+    by None (Ret t) plain = refl
+    by None (Sleep t) plain = refl
+    by None (Wake t) plain = refl
+    by None (Enter t) plain = refl
+    by None (Exit t) plain = refl
+    by None (Idle t) plain = refl
+    by None (Die t) plain = refl
+    by None Walk plain = refl
+    by None Stop plain = refl
+    by None Enable plain = refl
+    by None Disable plain = refl
+    by None Reverse plain = refl
+
+-- an event with its answer and its child was weighed
+pub weighed-as : (model : Rules) (e : Engine) (step : Weighed) (event : Event) (reply : Reply) (born : Option Standing) → e.number < 1000000 → step ≡ record { event = event; reply = reply; verdicts = []; born = born } → reply ≡ answer model (state_in e) event → born ≡ born_of model (state_in e) event
+    → IsWeighed model e step
+weighed-as model e step event reply born room is answers bears =
+    let weighed : Weighed = record { event = event; reply = reply; verdicts = []; born = born } in
+    let there : IsWeighed model e weighed = record { room = room; reply = answers; born = bears } in
+    subst (IsWeighed model e) (sym is) there

@@ -1,0 +1,28 @@
+use Rattle.std.proofs.Common.{◌≡◌, ◌<◌, Option, None, Some, refl, sym, ap, ◌∙◌, arith}
+use Rattle.lp_transition.specs.declared.event.Event.TheVariants.{Fork}
+use Rattle.lp_transition.specs.Leg.{Standing}
+use Rattle.lp_transition.specs.Machine.{refusal_of}
+use Rattle.lp_transition.specs.Table.{Engine, state_in}
+use Rattle.lp_transition.proofs.EngineLemmas.{answer-refused}
+use Rattle.lp_transition.proofs.Weighing.{answer-fork, born-refused, weighed-as}
+use Rattle.lp_transition.proofs.engine.Core.weigh.Goals as goal
+
+pub returns-in-Some-clause-weighed : goal.returns-in-Some-clause-weighed
+returns-in-Some-clause-weighed g c =
+    let i = c.self.inside in
+    let e : Engine = record { number = i.events; from = i.from.0; target = i.target.0; patches = i.patches; table = i.tasks } in
+    let room : e.number < 1000000 = omega (arith, c.if-self-ge-MOST_EVENTS.false) in
+    let refused = rw (← c.self.view_is) at (sym c.refusal.ensures ∙ c.in-Some.is) in
+    rw (← c.self.view_is)
+      (weighed-as g.M.Consistency.rules e c.plain.result c.args.event c.refused.result None room c.plain.ensures (c.refused.ensures ∙ sym (answer-refused g.M.Consistency.rules (state_in e) c.args.event c.in-Some.why refused)) (born-refused g.M.Consistency.rules e c.args.event c.in-Some.why refused))
+
+pub returns-in-Fork-clause-weighed : goal.returns-in-Fork-clause-weighed
+returns-in-Fork-clause-weighed g c =
+    let i = c.self.inside in
+    let e : Engine = record { number = i.events; from = i.from.0; target = i.target.0; patches = i.patches; table = i.tasks } in
+    let room : e.number < 1000000 = omega (arith, c.if-self-ge-MOST_EVENTS.false) in
+    let accepted = rw (← c.self.view_is) at (sym (c.in_default.ensures ∙ ap (refusal_of g.M.Consistency.rules (state_in c.args.self.now)) c.in-Fork.is)) in
+    let answered = c.done.ensures ∙ sym (answer-fork g.M.Consistency.rules g.met.M.Consistency.lawful e i.waiting i.members.items c.self.invariant room c.in-Fork.parent c.in-Fork.child c.in-Fork.how accepted) in
+    let born = rw (← c.self.view_is) at (ap {A = Standing} {B = Option Standing} Some c.in_ok-born.ensures.ok ∙ c.child.ensures) in
+    rw (← c.self.view_is)
+      (weighed-as g.M.Consistency.rules e c.birth.result (Fork c.in-Fork.parent c.in-Fork.child c.in-Fork.how) c.done.result (Some c.in_ok-born.born.value) room c.birth.ensures answered born)

@@ -1,0 +1,176 @@
+//! The answers to events of one task.
+ghost use Rattle.std.specs.Prelude.{◌≡◌, ◌≤◌, ◌<◌, ◌↔◌, [], ◌∷◌, true, false, None, Some, Err, IfOk};
+ghost use Rattle.lp_transition.specs.declared.engine.step.Halt.TheVariants.{JournalFull};
+ghost use Rattle.lp_transition.specs.Events.{is_scan};
+ghost use Rattle.lp_transition.specs.Table.{state_in};
+ghost use Rattle.lp_transition.specs.Weigh.{IsWeighed, born_of, moves, task_of, is_fork};
+ghost use Rattle.lp_transition.specs.Machine.{refusal_of, answer};
+
+use super::live_task::LiveTask;
+use super::parts::{group_of, is_only, level_of};
+use super::step::{Halt, Step};
+use super::{Core, MOST_EVENTS};
+use crate::{Event, GroupList, Refusal, Reply, What};
+use lp_model::{Consistency, ForkKind};
+use lp_stack::{Class, GroupId, Mode, TaskId};
+use lp_symbols::SymId;
+use std::alloc::{AllocError, Global};
+
+impl<M: Consistency> Core<M> {
+    /// The answer to an event that is no scan, and what the engine needs to take it. Changes
+    /// nothing. NoMemory where a growth was refused, JournalFull where no event is left.
+    pub fn weigh(&self, alloc: Global, event: Event) -> Result<Step, Halt>
+        requires { is_scan event ≡ false }
+        ensures full { (result ≡ Err JournalFull) ↔ (1000000 ≤ self.now.number) }
+        ensures weighed { IfOk result (λ step. IsWeighed M.rules self.now step) }
+        ensures event { IfOk result (λ step. step.event ≡ event) }
+        ensures verdicts { IfOk result (λ step. step.verdicts ≡ []) }
+    {
+        if self.events >= MOST_EVENTS {
+            return Err(Halt::JournalFull);
+        }
+        if let Some(why) = self.refusal(event) {
+            return Ok(Step::plain(alloc, event, refused(why)));
+        }
+        if let Event::Fork(parent, child, how) = event {
+            let born = Box::new(alloc, self.child(parent, child, how))?;
+            return Ok(Step::birth(alloc, event, done(), born));
+        }
+        let reply = self.answer_accepted(alloc, event)?;
+        Ok(Step::plain(alloc, event, reply))
+    }
+
+    /// The answer to an accepted event that is no scan and no fork.
+    fn answer_accepted(&self, alloc: Global, event: Event) -> Result<Reply, AllocError>
+        requires room { self.now.number < 1000000 }
+        requires accepted { refusal_of M.rules (state_in self.now) event ≡ None }
+        requires scan { is_scan event ≡ false }
+        requires fork { is_fork event ≡ false }
+        ensures { IfOk result (λ reply. reply ≡ answer M.rules (state_in self.now) event) }
+    {
+        match event {
+            Event::Call(task, func) => Ok(self.answer_call(task, func)),
+            Event::Ret(task) => Ok(self.answer_moves(event, task)),
+            Event::Sleep(task) => Ok(self.answer_moves(event, task)),
+            Event::Wake(task) => Ok(self.answer_moves(event, task)),
+            Event::Enter(task) => Ok(self.answer_moves(event, task)),
+            Event::Exit(task) => self.answer_exit(alloc, task),
+            Event::Idle(task) => self.answer_idle(alloc, task),
+            Event::Die(task) => Ok(self.answer_die(task)),
+            Event::Enable | Event::Disable | Event::Reverse => Ok(self.answer_control(event)),
+            Event::Fork(..) | Event::Walk | Event::Stop => unreachable!(),
+        }
+    }
+
+    /// The answer to an accepted call.
+    fn answer_call(&self, task: TaskId, func: SymId) -> Reply
+        requires room { self.now.number < 1000000 }
+        requires accepted { refusal_of M.rules (state_in self.now) (Event.Call task func) ≡ None }
+        ensures { result ≡ answer M.rules (state_in self.now) (Event.Call task func) }
+    {
+        Reply {
+            what: What::Ran(level_of(&self.tasks, task)),
+            completed: false,
+        }
+    }
+
+    /// The answer to an accepted return, sleep, wake-up or entry into the kernel.
+    fn answer_moves(&self, event: Event, task: TaskId) -> Reply
+        requires room { self.now.number < 1000000 }
+        requires accepted { refusal_of M.rules (state_in self.now) event ≡ None }
+        requires moves { moves event ≡ true }
+        requires task { task_of event ≡ task.0 }
+        ensures { result ≡ answer M.rules (state_in self.now) event }
+    {
+        let _ = &self.tasks;
+        done()
+    }
+
+    /// The answer to an accepted exit; AllocError where a growth was refused, which there is only
+    /// where the task's group goes over.
+    fn answer_exit(&self, alloc: Global, task: TaskId) -> Result<Reply, AllocError>
+        requires room { self.now.number < 1000000 }
+        requires accepted { refusal_of M.rules (state_in self.now) (Event.Exit task) ≡ None }
+        ensures { IfOk result (λ reply. reply ≡ answer M.rules (state_in self.now) (Event.Exit task)) }
+    {
+        let waits_alone = is_only(&self.waiting, task.0);
+        if !self.exit_goes(task) {
+            return Ok(done());
+        }
+        let groups = one_group(alloc, group_of(&self.tasks, task))?;
+        Ok(Reply {
+            what: What::Switched(groups),
+            completed: waits_alone,
+        })
+    }
+
+    /// The answer to an accepted idle point, likewise.
+    fn answer_idle(&self, alloc: Global, task: TaskId) -> Result<Reply, AllocError>
+        requires room { self.now.number < 1000000 }
+        requires accepted { refusal_of M.rules (state_in self.now) (Event.Idle task) ≡ None }
+        ensures { IfOk result (λ reply. reply ≡ answer M.rules (state_in self.now) (Event.Idle task)) }
+    {
+        let waits_alone = is_only(&self.waiting, task.0);
+        if !self.idle_goes(task) {
+            return Ok(done());
+        }
+        let groups = one_group(alloc, group_of(&self.tasks, task))?;
+        Ok(Reply {
+            what: What::Switched(groups),
+            completed: waits_alone,
+        })
+    }
+
+    /// The answer to an accepted end of a task.
+    fn answer_die(&self, task: TaskId) -> Reply
+        requires room { self.now.number < 1000000 }
+        requires accepted { refusal_of M.rules (state_in self.now) (Event.Die task) ≡ None }
+        ensures { result ≡ answer M.rules (state_in self.now) (Event.Die task) }
+    {
+        Reply {
+            what: What::Done,
+            completed: is_only(&self.waiting, task.0),
+        }
+    }
+
+    /// The child that an accepted fork brings.
+    fn child(&self, parent: TaskId, child: TaskId, how: ForkKind) -> LiveTask
+        requires { refusal_of M.rules (state_in self.now) (Event.Fork parent child how) ≡ None }
+        ensures { Some result ≡ born_of M.rules (state_in self.now) (Event.Fork parent child how) }
+    {
+        let group = self
+            .model
+            .child_group(group_of(&self.tasks, parent), child, how);
+        let level = level_of(&self.tasks, parent);
+        LiveTask::new(child, Class::Normal, Mode::Kernel, group, level)
+    }
+}
+
+/// The answer to an event that was accepted and took no group over.
+fn done() -> Reply
+    ensures { result ≡ record { what = What.Done; completed = false } }
+{
+    Reply {
+        what: What::Done,
+        completed: false,
+    }
+}
+
+/// The answer to a refused event.
+fn refused(why: Refusal) -> Reply
+    ensures { result ≡ record { what = What.Refused why; completed = false } }
+{
+    Reply {
+        what: What::Refused(why),
+        completed: false,
+    }
+}
+
+/// A list of one group.
+fn one_group(alloc: Global, group: GroupId) -> Result<GroupList, AllocError>
+    ensures { IfOk result (λ list. list ≡ group.0 ∷ []) }
+{
+    let mut groups = Vec::with_capacity(alloc, 1)?;
+    groups.push(group)?;
+    Ok(GroupList::from_vec(groups))
+}
