@@ -40,3 +40,6 @@ pub mod Completes
 pub mod Going
 pub mod Weighing
 pub mod Turning
+pub mod ScanAnswers
+pub mod Moving
+pub mod ScanTakes

@@ -1,9 +1,9 @@
 -- Numbers that pass a test, in increasing order, and walks over them.
-use Rattle.std.proofs.Common.{◌≡◌, ℕ, zero, suc, ◌+◌, ◌-◌, ◌<◌, ◌≤◌, Bool, true, false, List, [], ◌∷◌, ◌++◌, length, map, append_assoc, Option, Some, None, refl, sym, ap, ap₂, ◌∙◌, ⊎_elim, arith}
-use Rattle.std.proofs.lemmas.Bool.{cond-true, cond-false, cases_lt}
-use Rattle.std.specs.List.{filter, filter_map, cons_option, range_with_len}
-use Rattle.lp_numbers.specs.Numbers.{IsLeastFrom}
-use Rattle.lp_transition.specs.Scan.{passing, passing_at, IsNextBelow}
+use Rattle.std.proofs.Common.{◌≡◌, ℕ, zero, suc, ◌+◌, ◌-◌, ◌<◌, ◌≤◌, Bool, true, false, ◌||◌, List, [], ◌∷◌, ◌++◌, length, map, append_assoc, Option, Some, None, nat_eq, refl, sym, ap, ap₂, ◌∙◌, ⊎_elim, arith}
+use Rattle.std.proofs.lemmas.Bool.{cond-true, cond-false, cases_Bool, cases_eq, cases_lt, or_cases, or_left, or_right, eq-eqb, ne_eqb}
+use Rattle.std.specs.List.{filter, filter_map, cons_option, list_any, range_with_len}
+use Rattle.lp_transition.specs.Scan.{passing}
+use Rattle.lp_transition.specs.ScanSteps.{passing_at, IsNextBelow}
 
 -- ---- By the count of numbers
 
@@ -87,3 +87,93 @@ pub passing-left_out : {X : Type 0} (f : ℕ → Option X) (limit : ℕ) (test :
 passing-left_out f limit test all done now n next is h e none after so =
     let rest = filter_map f (passing_at next limit test) in
     ap (λ o. done ++ cons_option o rest) (sym none) ∙ sym (ap (λ o. done ++ filter_map f (passing_at o limit test)) is ∙ ap (λ ns. done ++ filter_map f ns) (passing-step limit test n next h e after)) ∙ so
+
+any_below : (test : ℕ → Bool) (k a g : ℕ) → g < a → list_any (nat_eq g) (passes test a k) ≡ false
+any_below test zero a g low = refl
+any_below test (suc k) a g low =
+    let later = any_below test k (a + 1) g (omega arith) in
+    ⊎_elim
+    (λ (yes : test a ≡ true).
+    ap (list_any (nat_eq g)) (keep_one test a k yes) ∙ ap (λ b. b || list_any (nat_eq g) (passes test (a + 1) k)) (ne_eqb g a (λ (e : g ≡ a). omega arith)) ∙ later)
+    (λ (out : test a ≡ false). ap (list_any (nat_eq g)) (skip_one test a k out) ∙ later)
+    (cases_Bool (test a))
+
+any_passes : (test : ℕ → Bool) (k a g : ℕ) → a ≤ g → g < a + k → list_any (nat_eq g) (passes test a k) ≡ test g
+any_passes test zero a g low high = absurd (omega arith)
+any_passes test (suc k) a g low high =
+    ⊎_elim
+    (λ (same : g ≡ a).
+    ⊎_elim
+    (λ (yes : test a ≡ true).
+    ap (list_any (nat_eq g)) (keep_one test a k yes) ∙ or_left (nat_eq g a) (list_any (nat_eq g) (passes test (a + 1) k)) (eq-eqb g a same) ∙ sym (ap test same ∙ yes))
+    (λ (out : test a ≡ false).
+    ap (list_any (nat_eq g)) (skip_one test a k out) ∙ any_below test k (a + 1) g (omega arith) ∙ sym (ap test same ∙ out))
+    (cases_Bool (test a)))
+    (λ (ne : g ≡ a → ⊥).
+    let later = any_passes test k (a + 1) g (omega (arith, ne)) (omega arith) in
+    ⊎_elim
+    (λ (yes : test a ≡ true).
+    ap (list_any (nat_eq g)) (keep_one test a k yes) ∙ ap (λ b. b || list_any (nat_eq g) (passes test (a + 1) k)) (ne_eqb g a ne) ∙ later)
+    (λ (out : test a ≡ false). ap (list_any (nat_eq g)) (skip_one test a k out) ∙ later)
+    (cases_Bool (test a)))
+    (cases_eq g a)
+
+-- a number below the limit is listed where it passes
+pub passing-any : (limit : ℕ) (test : ℕ → Bool) (g : ℕ) → g < limit → list_any (nat_eq g) (passing 0 limit test) ≡ test g
+unfolding passing
+passing-any limit test g h = any_passes test (limit - 0) 0 g (omega arith) (omega arith)
+
+-- ---- Some number that passes
+
+-- a number of the list that passes another test
+pub record Both (limit : ℕ) (test p : ℕ → Bool) : Type 0 where
+  pub number : ℕ
+  pub below : number < limit
+  pub member : test number ≡ true
+  pub passed : p number ≡ true
+
+both_is : (test p : ℕ → Bool) (k a limit : ℕ) → a + k ≤ limit → list_any p (passes test a k) ≡ true → Both limit test p
+both_is test p zero a limit h t = absurd (cc)
+both_is test p (suc k) a limit h t =
+    ⊎_elim
+    (λ (yes : test a ≡ true).
+    ⊎_elim
+    (λ (here : p a ≡ true). record { number = a; below = omega arith; member = yes; passed = here })
+    (λ (later : list_any p (passes test (a + 1) k) ≡ true). both_is test p k (a + 1) limit (omega arith) later)
+    (or_cases (p a) (list_any p (passes test (a + 1) k)) (sym (ap (list_any p) (keep_one test a k yes)) ∙ t)))
+    (λ (out : test a ≡ false). both_is test p k (a + 1) limit (omega arith) (sym (ap (list_any p) (skip_one test a k out)) ∙ t))
+    (cases_Bool (test a))
+
+both_from : (test p : ℕ → Bool) (k a n : ℕ) → a ≤ n → n < a + k → test n ≡ true → p n ≡ true → list_any p (passes test a k) ≡ true
+both_from test p zero a n low high e t = absurd (omega arith)
+both_from test p (suc k) a n low high e t =
+    ⊎_elim
+    (λ (same : n ≡ a).
+    ap (list_any p) (keep_one test a k (ap test (sym same) ∙ e)) ∙ or_left (p a) (list_any p (passes test (a + 1) k)) (ap p (sym same) ∙ t))
+    (λ (ne : n ≡ a → ⊥).
+    let later = both_from test p k (a + 1) n (omega (arith, ne)) (omega arith) e t in
+    ⊎_elim
+    (λ (yes : test a ≡ true). ap (list_any p) (keep_one test a k yes) ∙ or_right (p a) (list_any p (passes test (a + 1) k)) later)
+    (λ (out : test a ≡ false). ap (list_any p) (skip_one test a k out) ∙ later)
+    (cases_Bool (test a)))
+    (cases_eq n a)
+
+pub passing-both_is : (limit : ℕ) (test p : ℕ → Bool) → list_any p (passing 0 limit test) ≡ true → Both limit test p
+unfolding passing
+passing-both_is limit test p t = both_is test p (limit - 0) 0 limit (omega arith) t
+
+pub passing-both_from : (limit : ℕ) (test p : ℕ → Bool) → Both limit test p → list_any p (passing 0 limit test) ≡ true
+unfolding passing
+passing-both_from limit test p b = let high = b.below in both_from test p (limit - 0) 0 b.number (omega arith) (omega arith) b.member b.passed
+
+-- the same of the numbers so far and those to come, one step on
+pub passing-any_more : (limit : ℕ) (test p : ℕ → Bool) (now : Option ℕ) (n : ℕ) (next : Option ℕ) (done : Bool) → now ≡ Some n → n < limit → test n ≡ true → IsNextBelow limit test (n + 1) next
+    → (done || list_any p (passing_at now limit test)) ≡ ((done || p n) || list_any p (passing_at next limit test))
+passing-any_more limit test p now n next done is h e after =
+    ap (λ o. done || list_any p (passing_at o limit test)) is
+    ∙ ap (λ ns. done || list_any p ns) (passing-step limit test n next h e after)
+    ∙ or_again done (p n) (list_any p (passing_at next limit test))
+  where
+    or_again : (a b c : Bool) → (a || (b || c)) ≡ ((a || b) || c)
+    or_again true b c = refl
+    or_again false b c = refl

@@ -1,5 +1,5 @@
 -- The groups that a scan takes over are told by its verdicts.
-use Rattle.std.proofs.Common.{◌≡◌, ℕ, suc, ◌+◌, ◌<◌, ◌≤◌, Bool, true, false, not, ◌&&◌, ◌||◌, List, [], ◌∷◌, length, map, Option, Some, None, is_some, is_none, if◌then◌else◌, nat_eq, refl, sym, ap, ◌∙◌, subst, ⊎_elim, arith}
+use Rattle.std.proofs.Common.{◌≡◌, ℕ, suc, Bool, true, false, not, ◌&&◌, ◌||◌, List, [], ◌∷◌, length, Option, Some, None, is_some, is_none, if◌then◌else◌, nat_eq, refl, sym, ap, ◌∙◌, subst, ⊎_elim, arith}
 use Rattle.std.proofs.lemmas.Bool.{cond-true, cond-false, cases_Bool, and_parts, and_from, or_cases, or_left, or_right, eqb-true, eq-eqb, ne_eqb, not-true, not-false, not_from_true, not_from_false, false_from_ne_true}
 use Rattle.std.specs.List.{list_any}
 use Rattle.lp_model.specs.Rules.{Rules, IsLawful}
@@ -8,16 +8,18 @@ use Rattle.lp_model.specs.declared.check.CheckKind.{CheckKind}
 use Rattle.lp_model.specs.declared.verdict.Verdict.{Verdict}
 use Rattle.lp_transition.specs.declared.event.Event.{Event}
 use Rattle.lp_transition.specs.Tasks.{Live, map_live}
-use Rattle.lp_transition.specs.Leg.{Standing, State, each_live, some_live, has_member, check_by, when, if_used}
+use Rattle.lp_transition.specs.Leg.{Standing, State, each_live, has_member, check_by, when, if_used}
 use Rattle.lp_transition.specs.Sound.{IsSound}
 use Rattle.lp_transition.specs.Machine.{view_of, outline_of, outlines_of, at_rest, is_behind, admits_all, goes_over}
 use Rattle.lp_transition.specs.Table.{Table, slot, is_in}
-use Rattle.lp_transition.specs.Scan.{verdict_of, verdicts_of, views_of, is_found, goes_by, all_admit}
+use Rattle.lp_transition.specs.Scan.{verdict_of, verdicts_of}
+use Rattle.lp_transition.specs.ScanSteps.{is_found, goes_by, all_admit}
 use Rattle.lp_transition.proofs.Quantifiers.{each_live-at, each_live-from, some_live-is, some_live-from, some_live-map, each_live-map}
 use Rattle.lp_transition.proofs.States.{waiting_suffice}
-use Rattle.lp_transition.proofs.ScanLists.{Judged, verdict-is, verdict-from}
+use Rattle.lp_transition.proofs.ScanLists.{verdict-is, verdict-from}
 
-same_bool : (a b : Bool) → (a ≡ true → b ≡ true) → (b ≡ true → a ≡ true) → a ≡ b
+-- two tests that hold together are one
+pub same_bool : (a b : Bool) → (a ≡ true → b ≡ true) → (b ≡ true → a ≡ true) → a ≡ b
 same_bool true b h k = sym (h refl)
 same_bool false true h k = k refl
 same_bool false false h k = refl
@@ -204,10 +206,10 @@ module _ (model : Rules) (lawful : IsLawful model) (kind : CheckKind) (s : State
       ⊎_elim
       (λ (none : nat_eq (length (verdicts_of model kind s)) 0 ≡ true).
       let rest = each_live-from s.bounds s.tasks (λ t x. nat_eq x.level s.target) (λ t x positive within live.
-          ⊎_elim
-          (λ (on : nat_eq x.level s.target ≡ true). on)
-          (λ (off : nat_eq x.level s.target ≡ false). let some = any_long (λ v. true) (verdicts_of model kind s) (waiting_judged (λ v. true) t x live off refl) in absurd (cc))
-          (cases_Bool (nat_eq x.level s.target))) in
+      ⊎_elim
+      (λ (on : nat_eq x.level s.target ≡ true). on)
+      (λ (off : nat_eq x.level s.target ≡ false). let some = any_long (λ v. true) (verdicts_of model kind s) (waiting_judged (λ v. true) t x live off refl) in absurd (cc))
+      (cases_Bool (nat_eq x.level s.target))) in
       absurd (cc))
       (λ (some : nat_eq (length (verdicts_of model kind s)) 0 ≡ false). some)
       (cases_Bool (nat_eq (length (verdicts_of model kind s)) 0))
@@ -238,13 +240,13 @@ module _ (model : Rules) (lawful : IsLawful model) (kind : CheckKind) (s : State
         (λ (on : nat_eq x.level s.target ≡ true). on_after x on)
         (λ (off : nat_eq x.level s.target ≡ false).
         let admitted = found-from false x.group t x live off refl (⊎_elim
-            (λ (blame : is_some (model.blame kind (view_of t x) s.aim) ≡ true). let refusal = waiting_judged (λ v. is_some v.blame) t x live off blame in absurd (cc))
-            (λ (free : is_some (model.blame kind (view_of t x) s.aim) ≡ false). not_from_false (is_some (model.blame kind (view_of t x) s.aim)) free)
-            (cases_Bool (is_some (model.blame kind (view_of t x) s.aim)))) in
+        (λ (blame : is_some (model.blame kind (view_of t x) s.aim) ≡ true). let refusal = waiting_judged (λ v. is_some v.blame) t x live off blame in absurd (cc))
+        (λ (free : is_some (model.blame kind (view_of t x) s.aim) ≡ false). not_from_false (is_some (model.blame kind (view_of t x) s.aim)) free)
+        (cases_Bool (is_some (model.blame kind (view_of t x) s.aim)))) in
         let unblocked = not_from_false (list_any (is_found table true x.group) (verdicts_of model kind s)) (false_from_ne_true (list_any (is_found table true x.group) (verdicts_of model kind s)) (λ refused.
-            let j = found-is true x.group refused in
-            let refusal = waiting_judged (λ v. is_some v.blame) j.number j.task j.live j.off j.told in
-            absurd (cc))) in
+        let j = found-is true x.group refused in
+        let refusal = waiting_judged (λ v. is_some v.blame) j.number j.task j.live j.off j.told in
+        absurd (cc))) in
         let went = by x.group ∙ and_from (list_any (is_found table false x.group) (verdicts_of model kind s)) (not (list_any (is_found table true x.group) (verdicts_of model kind s))) admitted unblocked in
         eq-eqb (moved x).level s.target (moved_on x went))
         (cases_Bool (nat_eq x.level s.target)))

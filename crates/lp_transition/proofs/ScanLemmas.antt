@@ -1,19 +1,19 @@
 -- What a scan looks at is what the engine's waiting set gives.
-use Rattle.std.proofs.Common.{◌≡◌, ℕ, zero, suc, ◌+◌, ◌-◌, ◌<◌, ◌≤◌, Bool, true, false, not, List, [], ◌∷◌, Option, Some, None, if◌then◌else◌, nat_eq, refl, sym, ap, ap₂, ◌∙◌, ⊎_elim, arith}
-use Rattle.std.proofs.lemmas.Bool.{cond-true, cond-false, cases_Bool, cases_eq}
-use Rattle.std.specs.List.{filter, filter_map, cons_option, range_with_len}
+use Rattle.std.proofs.Common.{◌≡◌, ℕ, zero, suc, ◌+◌, ◌-◌, Bool, true, false, not, List, ◌∷◌, Option, Some, None, if◌then◌else◌, nat_eq, refl, sym, ap, ◌∙◌, ⊎_elim, arith}
+use Rattle.std.proofs.lemmas.Bool.{cond-true, cond-false, cases_Bool}
+use Rattle.std.specs.List.{filter, filter_map, cons_option, list_any, range_with_len}
 use Rattle.std.specs.Option.{option_map}
 use Rattle.lp_stack.specs.TaskView.{TaskView}
 use Rattle.lp_numbers.specs.Numbers.{Numbers, has}
-use Rattle.lp_transition.specs.Tasks.{Live}
 use Rattle.lp_transition.specs.Leg.{Standing, State}
-use Rattle.lp_transition.specs.Machine.{view_of}
-use Rattle.lp_transition.specs.Sound.{IsSound}
-use Rattle.lp_transition.specs.Table.{Table, Engine, slot, fate_at, state_in, is_off}
+use Rattle.lp_transition.specs.Machine.{view_of, is_behind}
+use Rattle.lp_transition.specs.Table.{Engine, slot, fate_at, state_in, is_off, is_in}
 use Rattle.lp_transition.specs.Kept.{IsKept}
 use Rattle.lp_transition.specs.Scan.{waiting_view, views_of, passing}
-use Rattle.lp_transition.proofs.Passing.{passing-skip}
-use Rattle.lp_transition.proofs.TableLemmas.{live_from_slot}
+use Rattle.lp_transition.proofs.Passing.{passing-skip, passing-both_is, passing-both_from}
+use Rattle.lp_transition.proofs.MemberLemmas.{slot-below, member-is, member-from, behind-is, behind-from}
+use Rattle.lp_transition.proofs.ScanGroups.{same_bool}
+use Rattle.lp_transition.proofs.TableLemmas.{slot-zero}
 
 -- ---- The views of the waiting tasks
 
@@ -50,17 +50,28 @@ in_slot target t None true = refl
 in_slot target t None false = refl
 in_slot target t (Some x) used = by_level target t x used (nat_eq x.level target) refl
 
-no_task_zero : (s : State) (table : Table) → IsSound s → ((x : Standing) → slot table 0 ≡ Some x → s.tasks 0 ≡ Live x) → (o : Option Standing) → slot table 0 ≡ o → o ≡ None
-no_task_zero s table sound live None e = refl
-no_task_zero s table sound live (Some x) e = let h = (sound.numbered 0 x (live x e)).0 in absurd (omega arith)
-
--- no task has the number 0
-pub slot-zero : (e : Engine) → IsSound (state_in e) → slot e.table 0 ≡ None
-slot-zero e sound = no_task_zero (state_in e) e.table sound (λ x is. live_from_slot e.table 0 x is) (slot e.table 0) refl
-
 -- the waiting set gives the views
 pub views-walked : (e : Engine) (waiting : Numbers) (members : List ℕ) → IsKept e waiting members → filter_map (λ t. option_map (view_of t) (slot e.table t)) (passing 0 65536 (has waiting)) ≡ views_of (state_in e)
 views-walked e waiting members kept =
     sym (views_by 65536 (state_in e) (λ t. option_map (view_of t) (slot e.table t)) (has waiting) (omega arith)
     (kept.waits 0 ∙ ap (is_off e.target) (slot-zero e kept.sound))
     (λ t. in_slot e.target t (slot e.table t) (has e.table.used t) ∙ ap (λ b. if b then option_map (view_of t) (slot e.table t) else None) (sym (kept.waits t))))
+
+-- ---- The groups that wait
+
+-- a group waits where a waiting task is a member
+pub behind-walked : (e : Engine) (waiting : Numbers) (members : List ℕ) → IsKept e waiting members → (group : ℕ) → list_any (λ t. is_in group (slot e.table t)) (passing 0 65536 (has waiting)) ≡ is_behind (state_in e) group
+behind-walked e waiting members kept group =
+    let empty = slot-zero e kept.sound in
+    same_bool (list_any (λ t. is_in group (slot e.table t)) (passing 0 65536 (has waiting))) (is_behind (state_in e) group)
+    (λ h.
+    let b = passing-both_is 65536 (has waiting) (λ t. is_in group (slot e.table t)) h in
+    behind-from e.table e.patches kept.wide empty waiting e.target kept.waits group (record { number = b.number; waits = b.member; member = member-is e.table group b.number b.passed }))
+    (λ h.
+    let w = behind-is e.table e.patches kept.wide empty waiting e.target kept.waits group h in
+    passing-both_from 65536 (has waiting) (λ t. is_in group (slot e.table t)) (record {
+      number = w.number;
+      below = slot-below e.table w.number w.member.task kept.wide w.member.there;
+      member = w.waits;
+      passed = member-from e.table group w.number w.member;
+    }))

@@ -17,3 +17,4 @@ pub mod Kept
 pub mod Slots
 pub mod Weigh
 pub mod Scan
+pub mod ScanSteps

@@ -1,19 +1,25 @@
 //! Scans, which look at the stacks of all waiting tasks.
-ghost use Rattle.std.specs.Prelude.{◌≡◌, ℕ, ◌||◌, map, is_some, is_none, IfOk};
+ghost use Rattle.std.specs.Prelude.{◌≡◌, ℕ, ◌||◌, ◌<◌, ◌≤◌, ◌↔◌, true, Err, map, is_some, is_none, nat_eq, option_copied, IfOk};
 ghost use Rattle.std.specs.List.{filter_map, list_any};
 ghost use Rattle.std.specs.Option.{option_map};
 ghost use Rattle.lp_stack.specs.TaskView.{seen};
 ghost use Rattle.lp_numbers.specs.Numbers.{has};
-ghost use Rattle.lp_transition.specs.Table.{state_in, slot};
-ghost use Rattle.lp_transition.specs.Machine.{view_of};
-ghost use Rattle.lp_transition.specs.Scan.{views_of, passing, IsNextBelow, is_found, goes_by, all_admit};
+ghost use Rattle.lp_transition.specs.Table.{state_in, slot, is_in, IsWide};
+ghost use Rattle.lp_transition.specs.Machine.{view_of, is_behind, next};
+ghost use Rattle.lp_transition.specs.Events.{is_scan};
+ghost use Rattle.lp_transition.specs.Run.{switched};
+ghost use Rattle.lp_transition.specs.Weigh.{IsWeighed};
+ghost use Rattle.lp_transition.specs.Scan.{is_scan_kind, scan_event, views_of, verdicts_of, passing};
+ghost use Rattle.lp_transition.specs.ScanSteps.{IsNextBelow, is_found, goes_by, all_admit, groups_of, is_over, IsTaskMoved, IsMoved};
+ghost use Rattle.lp_transition.specs.declared.engine.step.Halt.TheVariants.{JournalFull};
 
-use super::Core;
+use super::step::{Halt, Step};
 use super::task_table::TaskTable;
-use crate::GroupList;
-use lp_model::{Consistency, Verdict};
+use super::{Core, MOST_EVENTS};
+use crate::{Event, GroupList, Reply, What};
+use lp_model::{CheckKind, Consistency, Verdict};
 use lp_numbers::{NUMBERS, NumberSet};
-use lp_stack::{GroupId, TaskId, View};
+use lp_stack::{GroupId, Level, TaskId, View};
 use std::alloc::{AllocError, Global};
 
 impl<M: Consistency> Core<M> {
@@ -23,6 +29,54 @@ impl<M: Consistency> Core<M> {
         ensures { IfOk result (λ views. map seen views.items ≡ views_of (state_in self.now)) }
     {
         views_in(alloc, &self.tasks, &self.waiting)
+    }
+
+    /// The groups that wait, which have a live member off the target, in increasing order;
+    /// AllocError where a growth was refused.
+    pub fn waiting(&self, alloc: Global) -> Result<GroupList, AllocError>
+        ensures { IfOk result (λ list. list ≡ passing 0 65536 (is_behind (state_in self.now))) }
+    {
+        let groups = groups_in(alloc, &self.tasks, &self.waiting)?;
+        group_list(alloc, &groups)
+    }
+
+    /// The answer to a walk or a stop, by what its checks found of the waiting tasks: a group goes
+    /// over where a member is admitted and none is refused. NoMemory where a growth was refused,
+    /// JournalFull where no event is left.
+    pub fn weigh_scan(
+        &self,
+        alloc: Global,
+        kind: CheckKind,
+        verdicts: &[Verdict],
+    ) -> Result<Step, Halt>
+        requires scan { is_scan_kind kind ≡ true }
+        requires found { verdicts.now ≡ verdicts_of M.rules kind (state_in self.now) }
+        ensures full { (result ≡ Err JournalFull) ↔ (1000000 ≤ self.now.number) }
+        ensures weighed { IfOk result (λ step. IsWeighed M.rules self.now step) }
+        ensures event { IfOk result (λ step. step.event ≡ scan_event kind) }
+        ensures verdicts { IfOk result (λ step. step.verdicts ≡ verdicts.now) }
+    {
+        if self.events >= MOST_EVENTS {
+            return Err(Halt::JournalFull);
+        }
+        let (what, over) = scanned(alloc, &self.tasks, verdicts)?;
+        let copied = Vec::from_slice(alloc, verdicts)?;
+        let reply = Reply {
+            what,
+            completed: all_admit(verdicts),
+        };
+        Ok(Step::scan(scan_event(kind), reply, copied, over))
+    }
+
+    /// Takes a walk or a stop that was weighed on this engine: the groups that go over do so.
+    /// Takes no memory.
+    pub(super) fn take_scan(&mut self, step: &Step)
+        requires weighed { IsWeighed M.rules self.old step.now }
+        requires scan { is_scan step.now.event ≡ true }
+        ensures { state_in self.new ≡ next M.rules (state_in self.old) step.now.event }
+    {
+        self.events += 1;
+        move_groups(&mut self.tasks, &mut self.waiting, step.over(), self.target);
     }
 }
 
@@ -69,6 +123,44 @@ fn member_from(set: &NumberSet, first: usize) -> Option<u16>
     set.next(first as u16)
 }
 
+/// The event that is a check of this kind.
+fn scan_event(kind: CheckKind) -> Event
+    ensures { result ≡ scan_event kind }
+{
+    match kind {
+        CheckKind::Stop => Event::Stop,
+        _ => Event::Walk,
+    }
+}
+
+/// What a scan does by these verdicts, and the groups that go over; None where none does. It takes
+/// no memory where no task is admitted.
+fn scanned(
+    alloc: Global,
+    tasks: &TaskTable,
+    verdicts: &[Verdict],
+) -> Result<(What, Option<NumberSet>), AllocError>
+    ensures what { IfOk result (λ done. done.0 ≡ switched (passing 0 65536 (goes_by tasks.now verdicts.now))) }
+    ensures over { IfOk result (λ done. (group : ℕ) → group < 65536 → is_over done.1 group ≡ list_any (nat_eq group) (groups_of done.0)) }
+{
+    if !any_admits(verdicts) {
+        return Ok((What::Done, None));
+    }
+    let over = groups_over(alloc, tasks, verdicts)?;
+    let groups = group_list(alloc, &over)?;
+    Ok((switched(groups), Some(over)))
+}
+
+/// What an event did that took these groups over.
+fn switched(groups: GroupList) -> What
+    ensures { result ≡ switched groups }
+{
+    if groups.is_empty() {
+        return What::Done;
+    }
+    What::Switched(groups)
+}
+
 /// The groups that go over by these verdicts: a member is admitted, and none is refused.
 fn groups_over(
     alloc: Global,
@@ -103,13 +195,31 @@ fn groups_found(
 fn note(groups: &mut NumberSet, tasks: &TaskTable, verdict: Verdict, refused: bool)
     ensures { (group : ℕ) → has groups.new group ≡ (has groups.old group || is_found tasks.now refused group verdict) }
 {
-    if verdict.blame.is_some() != refused {
-        return;
+    if verdict.blame.is_some() == refused {
+        add_group(groups, tasks, verdict.task);
     }
-    let Some(live) = tasks.get(verdict.task) else {
-        return;
-    };
-    groups.insert(live.group().0);
+}
+
+/// The groups of the live tasks of a set.
+fn groups_in(alloc: Global, tasks: &TaskTable, set: &NumberSet) -> Result<NumberSet, AllocError>
+    ensures { IfOk result (λ groups. (group : ℕ) → has groups group ≡ list_any (λ t. is_in group (slot tasks.now t)) (passing 0 65536 (has set.now))) }
+{
+    let mut groups = NumberSet::new(alloc)?;
+    let mut next = member_from(set, 0);
+    while let Some(number) = next {
+        add_group(&mut groups, tasks, TaskId(number));
+        next = member_from(set, usize::from(number) + 1);
+    }
+    Ok(groups)
+}
+
+/// Takes in the group of a live task.
+fn add_group(groups: &mut NumberSet, tasks: &TaskTable, task: TaskId)
+    ensures { (group : ℕ) → has groups.new group ≡ (has groups.old group || is_in group (slot tasks.now task.0)) }
+{
+    if let Some(live) = tasks.get(task) {
+        groups.insert(live.group().0);
+    }
 }
 
 /// Whether a task was looked at, and each was admitted.
@@ -131,4 +241,49 @@ fn any_admits(verdicts: &[Verdict]) -> bool
     ensures { result ≡ list_any (λ verdict. is_none verdict.blame) verdicts.now }
 {
     verdicts.iter().any(|verdict| verdict.blame.is_none())
+}
+
+/// Takes the waiting tasks of these groups over, if there are any. Takes no memory.
+fn move_groups(
+    tasks: &mut TaskTable,
+    waiting: &mut NumberSet,
+    over: Option<&NumberSet>,
+    target: Level,
+)
+    ensures { IsWide tasks.old → IsMoved (is_over (option_copied over.entry)) target.0 tasks.old tasks.new waiting.old waiting.new }
+{
+    if let Some(over) = over {
+        move_over(tasks, waiting, over, target);
+    }
+}
+
+/// Takes the waiting tasks of these groups over. Takes no memory.
+fn move_over(tasks: &mut TaskTable, waiting: &mut NumberSet, over: &NumberSet, target: Level)
+    ensures { IsWide tasks.old → IsMoved (has over.now) target.0 tasks.old tasks.new waiting.old waiting.new }
+{
+    let mut next = member_from(waiting, 0);
+    while let Some(number) = next {
+        move_task(tasks, waiting, over, target, TaskId(number));
+        next = member_from(waiting, usize::from(number) + 1);
+    }
+}
+
+/// Takes a task over, if its group goes.
+fn move_task(
+    tasks: &mut TaskTable,
+    waiting: &mut NumberSet,
+    over: &NumberSet,
+    target: Level,
+    task: TaskId,
+)
+    ensures { IsTaskMoved (has over.now) target.0 task.0 tasks.old tasks.new waiting.old waiting.new }
+{
+    let Some(live) = tasks.get(task) else {
+        return;
+    };
+    if !over.contains(live.group().0) {
+        return;
+    }
+    tasks.set_level(task, target);
+    waiting.remove(task.0);
 }

@@ -2,7 +2,7 @@
 ghost use Rattle.std.specs.Prelude.{◌≡◌, [], true, false, Some, None, option_copied};
 ghost use Rattle.std.specs.Option.{option_map};
 ghost use Rattle.lp_transition.specs.Events.{is_scan};
-ghost use Rattle.lp_transition.specs.Scan.{groups_of, HasOver};
+ghost use Rattle.lp_transition.specs.ScanSteps.{groups_of, HasOver};
 ghost use Rattle.lp_transition.specs.declared.engine.step.Halt.TheVariants.{NoMemory};
 
 use super::live_task::LiveTask;
@@ -54,7 +54,7 @@ impl Model for Step {
     ghost use Rattle.std.specs.Global.{Global};
     ghost use Rattle.std.specs.Option.{option_map};
     ghost use Rattle.lp_transition.specs.Leg.{Standing};
-    ghost use Rattle.lp_transition.specs.Scan.{HasOver};
+    ghost use Rattle.lp_transition.specs.ScanSteps.{HasOver};
     ghost use Rattle.lp_transition.specs.Weigh.{Weighed};
 
     ghost Value = { Weighed };

@@ -1,8 +1,6 @@
-use Rattle.std.proofs.Common.{◌≡◌, ℕ, ◌+◌, ◌<◌, ◌++◌, true, map, sym, ap, ◌∙◌, refl, arith}
+use Rattle.std.proofs.Common.{ℕ, ◌+◌, ◌<◌, map, sym, ap, ◌∙◌, arith}
 use Rattle.std.proofs.lemmas.List.{map-append, map-id, append-nil}
 use Rattle.lp_numbers.specs.Numbers.{has}
-use Rattle.lp_transition.specs.Events.{group_numbers}
-use Rattle.lp_transition.specs.Scan.{passing, passing_at, IsNextBelow}
 use Rattle.lp_transition.proofs.Passing.{passing-next, passing-less, passing-more, next_passes}
 use Rattle.lp_transition.proofs.engine.scan.group_list.Goals as goal
 

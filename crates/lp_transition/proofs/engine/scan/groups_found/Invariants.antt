@@ -1,7 +1,7 @@
 use Rattle.std.proofs.Common.{◌≡◌, ℕ, take}
 use Rattle.std.specs.List.{list_any}
 use Rattle.lp_numbers.specs.Numbers.{has}
-use Rattle.lp_transition.specs.Scan.{is_found}
+use Rattle.lp_transition.specs.ScanSteps.{is_found}
 use Rattle.lp_transition.proofs.engine.scan.groups_found.Given as goal
 
 -- the groups of the verdicts so far

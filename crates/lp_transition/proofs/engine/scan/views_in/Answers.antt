@@ -1,13 +1,11 @@
-use Rattle.std.proofs.Common.{◌≡◌, ℕ, ◌+◌, ◌<◌, ◌++◌, true, map, Option, Some, None, option_copied, refl, sym, ap, ◌∙◌, arith}
+use Rattle.std.proofs.Common.{◌≡◌, ℕ, ◌+◌, ◌<◌, Some, None, option_copied, sym, ap, ◌∙◌, arith}
 use Rattle.std.proofs.lemmas.List.{map-append, append-nil}
 use Rattle.std.specs.List.{filter_map}
 use Rattle.std.specs.Option.{option_map}
-use Rattle.lp_stack.specs.TaskView.{TaskView, seen}
+use Rattle.lp_stack.specs.TaskView.{seen}
 use Rattle.lp_numbers.specs.Numbers.{has}
-use Rattle.lp_transition.specs.Leg.{Standing}
 use Rattle.lp_transition.specs.Table.{slot}
 use Rattle.lp_transition.specs.Machine.{view_of}
-use Rattle.lp_transition.specs.Scan.{passing, passing_at, IsNextBelow}
 use Rattle.lp_transition.proofs.Passing.{passing-next, passing-less, passing-given, passing-left_out, next_passes}
 use Rattle.lp_transition.proofs.engine.scan.views_in.Goals as goal
 use Rattle.lp_transition.proofs.engine.scan.views_in.Goals.{in-Some-get+in_ok-push, in_default-get}
@@ -36,11 +34,11 @@ loop-next-preserved c =
     record {
       all = elim c.match-get.branch [
         | in-Some-get+in_ok-push w ↦
-          let x : f n ≡ Some (view_of n w.in-Some-get.live.now) = ap (option_map (view_of n)) (sym c.get.ensures.value ∙ ap option_copied w.in-Some-get.is) in
-          rw (w.views-is, w.in_ok-push.ensures.items, map-append) (passing-given f 65536 (has c.args.set.now) _ _ c.loop-next.next n (seen w.view.result) c.member_from-next-in-Some.result c.in-Some.is h (c.loop-next.invariant.member n c.in-Some.is) (x ∙ ap Some (sym w.view.ensures)) after c.loop-next.invariant.all)
+            let x : f n ≡ Some (view_of n w.in-Some-get.live.now) = ap (option_map (view_of n)) (sym c.get.ensures.value ∙ ap option_copied w.in-Some-get.is) in
+            rw (w.views-is, w.in_ok-push.ensures.items, map-append) (passing-given f 65536 (has c.args.set.now) _ _ c.loop-next.next n (seen w.view.result) c.member_from-next-in-Some.result c.in-Some.is h (c.loop-next.invariant.member n c.in-Some.is) (x ∙ ap Some (sym w.view.ensures)) after c.loop-next.invariant.all)
         | in_default-get w ↦
-          let none : f n ≡ None = ap (option_map (view_of n)) (sym c.get.ensures.value ∙ ap option_copied w.in_default-get.is) in
-          rw w.views-is (passing-left_out f 65536 (has c.args.set.now) _ _ c.loop-next.next n c.member_from-next-in-Some.result c.in-Some.is h (c.loop-next.invariant.member n c.in-Some.is) none after c.loop-next.invariant.all)
+            let none : f n ≡ None = ap (option_map (view_of n)) (sym c.get.ensures.value ∙ ap option_copied w.in_default-get.is) in
+            rw w.views-is (passing-left_out f 65536 (has c.args.set.now) _ _ c.loop-next.next n c.member_from-next-in-Some.result c.in-Some.is h (c.loop-next.invariant.member n c.in-Some.is) none after c.loop-next.invariant.all)
       ];
       member = next_passes 65536 (has c.args.set.now) (n + 1) c.member_from-next-in-Some.result after;
     }

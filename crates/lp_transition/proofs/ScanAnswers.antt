@@ -1,0 +1,127 @@
+-- The answer to a scan, by its verdicts.
+use Rattle.std.proofs.Common.{◌≡◌, ℕ, suc, ◌-◌, ◌<◌, Bool, true, false, not, ◌&&◌, ◌||◌, List, [], ◌∷◌, Some, None, is_none, nat_eq, refl, sym, ap, ap₂, subst, ◌∙◌, arith}
+use Rattle.std.proofs.lemmas.Bool.{or_left, or_right, false_from_ne_true}
+use Rattle.std.specs.List.{filter, list_any, range_with_len}
+use mathlib.Core.Path.{fun_ext}
+use Rattle.lp_numbers.specs.Numbers.{Numbers, has}
+use Rattle.lp_model.specs.Rules.{Rules, IsLawful}
+use Rattle.lp_model.specs.declared.check.CheckKind.{CheckKind}
+use Rattle.lp_model.specs.declared.check.CheckKind.TheVariants.{KernelExit, IdlePoint, Walk, Stop}
+use Rattle.lp_model.specs.declared.verdict.Verdict.{Verdict}
+use Rattle.lp_transition.specs.declared.event.Event.{Event}
+use Rattle.lp_transition.specs.declared.event.Event.TheVariants.{Walk, Stop}
+use Rattle.lp_transition.specs.declared.reply.What.{What}
+use Rattle.lp_transition.specs.declared.reply.What.TheVariants.{Done}
+use Rattle.lp_transition.specs.declared.reply.Reply.{Reply}
+use Rattle.lp_transition.specs.Tasks.{Live}
+use Rattle.lp_transition.specs.Leg.{Standing, State}
+use Rattle.lp_transition.specs.Run.{switched}
+use Rattle.lp_transition.specs.Sound.{IsSound}
+use Rattle.lp_transition.specs.Machine.{goes_over, going, affected, refusal_of, answer}
+use Rattle.lp_transition.specs.Table.{Table, Engine, slot, state_in, is_in}
+use Rattle.lp_transition.specs.Kept.{IsKept}
+use Rattle.lp_transition.specs.Weigh.{Weighed, IsWeighed, born_of}
+use Rattle.lp_transition.specs.Scan.{is_scan_kind, scan_event, verdicts_of, passing}
+use Rattle.lp_transition.specs.ScanSteps.{is_found, goes_by, all_admit, groups_of}
+use Rattle.lp_transition.proofs.TableLemmas.{slot_from_live}
+use Rattle.lp_transition.proofs.Passing.{passing-none, passing-any}
+use Rattle.lp_transition.proofs.ScanGroups.{told, completes}
+
+-- ---- The reply by verdicts
+
+none_found : (table : Table) (group : ℕ) (vs : List Verdict) → list_any (λ v. is_none v.blame) vs ≡ false → list_any (is_found table false group) vs ≡ false
+none_found table group [] h = refl
+none_found table group (v ∷ vs) h =
+    let first = false_from_ne_true (is_none v.blame) (λ (yes : is_none v.blame ≡ true). let some = or_left (is_none v.blame) (list_any (λ w. is_none w.blame) vs) yes in absurd (cc)) in
+    let later = false_from_ne_true (list_any (λ w. is_none w.blame) vs) (λ (yes : list_any (λ w. is_none w.blame) vs ≡ true). let some = or_right (is_none v.blame) (list_any (λ w. is_none w.blame) vs) yes in absurd (cc)) in
+    ap₂ (λ a b. (a && is_in group (slot table v.task.0)) || b) first (none_found table group vs later)
+
+-- where no verdict admits, no group goes over
+pub still : (table : Table) (limit : ℕ) (vs : List Verdict) → list_any (λ v. is_none v.blame) vs ≡ false → Done ≡ switched (passing 0 limit (goes_by table vs))
+still table limit vs none =
+    sym (ap switched (passing-none 0 limit (goes_by table vs) (λ n low high. ap (λ b. b && not (list_any (is_found table true n) vs)) (none_found table n vs none))))
+
+-- what an event did lists the groups that it took over
+pub groups_of-switched : (groups : List ℕ) → groups_of (switched groups) ≡ groups
+groups_of-switched [] = refl
+groups_of-switched (group ∷ groups) = refl
+
+-- a set's groups are listed
+pub listed : (limit : ℕ) (set : Numbers) (groups : List ℕ) (what : What) (group : ℕ) → groups ≡ passing 0 limit (has set) → what ≡ switched groups → group < limit → has set group ≡ list_any (nat_eq group) (groups_of what)
+listed limit set groups what group e w h =
+    sym (ap (λ x. list_any (nat_eq group) (groups_of x)) w ∙ ap (list_any (nat_eq group)) (groups_of-switched groups ∙ e) ∙ passing-any limit (has set) group h)
+
+-- ---- The machine's answer
+
+-- the groups that go over, by a test that says which
+pub going_by : (model : Rules) (limit : ℕ) (now : State) (event : Event) (goes : ℕ → Bool) → suc now.bounds.tasks ≡ limit → ((group : ℕ) → goes_over model now event group ≡ goes group) → going model now event ≡ passing 0 limit goes
+unfolding going passing
+going_by model limit now event goes e same =
+    let count : suc now.bounds.tasks ≡ limit - 0 = omega arith in
+    ap₂ (λ (test : ℕ → Bool) (n : ℕ). filter test (range_with_len 0 n)) (fun_ext same) count
+
+module _ (model : Rules) (lawful : IsLawful model) (limit : ℕ) (s : State) (wide : suc s.bounds.tasks ≡ limit) (sound : IsSound s) (table : Table) (there : (t : ℕ) (x : Standing) → s.tasks t ≡ Live x → slot table t ≡ Some x) where
+  -- the groups that go over are those that the verdicts tell
+  pub goes-walk : (group : ℕ) → goes_over model (affected model s Walk) Walk group ≡ goes_by table (verdicts_of model Walk s) group
+  unfolding goes_over
+  goes-walk group = told model lawful Walk s sound table there Walk (λ g. refl) group
+
+  pub goes-stop : (group : ℕ) → goes_over model (affected model s Stop) Stop group ≡ goes_by table (verdicts_of model Stop s) group
+  unfolding goes_over
+  goes-stop group = told model lawful Stop s sound table there Stop (λ g. refl) group
+
+  answer-walk : answer model s Walk ≡ record { what = switched (passing 0 limit (goes_by table (verdicts_of model Walk s))); completed = all_admit (verdicts_of model Walk s) }
+  unfolding answer refusal_of
+  answer-walk =
+      let now = affected model s Walk in
+      ap₂ (λ (groups : List ℕ) (b : Bool). let r : Reply = record { what = switched groups; completed = b } in r)
+      (going_by model limit now Walk (goes_by table (verdicts_of model Walk s)) wide goes-walk)
+      (completes model lawful Walk s sound table there (goes_over model now Walk) goes-walk)
+
+  answer-stop : answer model s Stop ≡ record { what = switched (passing 0 limit (goes_by table (verdicts_of model Stop s))); completed = all_admit (verdicts_of model Stop s) }
+  unfolding answer refusal_of
+  answer-stop =
+      let now = affected model s Stop in
+      ap₂ (λ (groups : List ℕ) (b : Bool). let r : Reply = record { what = switched groups; completed = b } in r)
+      (going_by model limit now Stop (goes_by table (verdicts_of model Stop s)) wide goes-stop)
+      (completes model lawful Stop s sound table there (goes_over model now Stop) goes-stop)
+
+  -- the answer to a scan
+  pub answer-scan : (kind : CheckKind) → is_scan_kind kind ≡ true → answer model s (scan_event kind) ≡ record { what = switched (passing 0 limit (goes_by table (verdicts_of model kind s))); completed = all_admit (verdicts_of model kind s) }
+  answer-scan KernelExit scan = absurd (cc)
+  answer-scan IdlePoint scan = absurd (cc)
+  answer-scan Walk scan = answer-walk
+  answer-scan Stop scan = answer-stop
+
+-- a scan brings no child
+pub born-scan : (model : Rules) (s : State) (kind : CheckKind) → None ≡ born_of model s (scan_event kind)
+unfolding refusal_of
+born-scan model s KernelExit = refl
+born-scan model s IdlePoint = refl
+born-scan model s Walk = refl
+born-scan model s Stop = refl
+
+-- what the verdicts tell
+abbrev pub reply_by : Table → List Verdict → Reply
+reply_by table vs = record { what = switched (passing 0 65536 (goes_by table vs)); completed = all_admit vs }
+
+abbrev pub step_by : CheckKind → Table → List Verdict → Weighed
+step_by kind table vs = record { event = scan_event kind; reply = reply_by table vs; verdicts = vs; born = None }
+
+weighs_here : (model : Rules) → IsLawful model → (e : Engine) (waiting : Numbers) (members : List ℕ) (kind : CheckKind) (vs : List Verdict) → IsKept e waiting members → is_scan_kind kind ≡ true → vs ≡ verdicts_of model kind (state_in e) → e.number < 1000000
+    → IsWeighed model e (step_by kind e.table vs)
+weighs_here model lawful e waiting members kind vs kept scan found room =
+    let there = answer-scan model lawful 65536 (state_in e) (omega arith) kept.sound e.table (λ t x live. slot_from_live e.table t x live) kind scan in
+    record {
+      room = room;
+      reply = ap (reply_by e.table) found ∙ sym there;
+      born = born-scan model (state_in e) kind;
+    }
+
+-- a scan is weighed by what its verdicts tell
+pub weighs : (model : Rules) → IsLawful model → (e old : Engine) (waiting : Numbers) (members : List ℕ) (kind : CheckKind) (vs : List Verdict) (step : Weighed) → e ≡ old → IsKept e waiting members → is_scan_kind kind ≡ true → vs ≡ verdicts_of model kind (state_in old) → e.number < 1000000
+    → step ≡ step_by kind e.table vs → IsWeighed model old step
+weighs model lawful e old waiting members kind vs step was kept scan found room is =
+    subst (λ (o : Engine). IsWeighed model o step) was
+    (subst (λ (st : Weighed). IsWeighed model e st) (sym is)
+    (weighs_here model lawful e waiting members kind vs kept scan (subst (λ (o : Engine). vs ≡ verdicts_of model kind (state_in o)) (sym was) found) room))

@@ -1,0 +1,174 @@
+-- The engine after a scan.
+use Rattle.std.proofs.Common.{◌≡◌, ℕ, suc, ◌<◌, ◌≤◌, Bool, true, false, not, ◌&&◌, List, Option, Some, None, if◌then◌else◌, nat_eq, refl, sym, ap, ap₂, ◌∙◌, subst, ⊎_elim, arith}
+use Rattle.std.proofs.lemmas.Bool.{cond-true, cond-false, cases_Bool, cases_lt, eqb-true, eq-eqb, not_from_true, not_from_false}
+use Rattle.std.proofs.lemmas.List.{get_or_past}
+use Rattle.std.specs.List.{list_any}
+use Rattle.std.specs.Option.{option_map}
+use mathlib.Core.Path.{fun_ext}
+use Rattle.lp_numbers.specs.Numbers.{Numbers, has}
+use Rattle.lp_model.specs.Rules.{Rules, IsLawful}
+use Rattle.lp_transition.specs.declared.event.Event.{Event}
+use Rattle.lp_transition.specs.declared.event.Event.TheVariants.{Call, Ret, Sleep, Wake, Enter, Exit, Idle, Fork, Die, Walk, Stop, Enable, Disable, Reverse}
+use Rattle.lp_transition.specs.Events.{is_scan}
+use Rattle.lp_transition.specs.Tasks.{Unused, map_live}
+use Rattle.lp_transition.specs.Leg.{Standing, State}
+use Rattle.lp_transition.specs.Sound.{IsSound}
+use Rattle.lp_transition.specs.Machine.{goes_over, going, affected, refusal_of, next, answer}
+use Rattle.lp_transition.specs.Table.{Table, Engine, IsWide, slot, fate_at, standings, state_in, is_off}
+use Rattle.lp_transition.specs.Kept.{IsKept}
+use Rattle.lp_transition.specs.Weigh.{Weighed, IsWeighed}
+use Rattle.lp_transition.specs.ScanSteps.{moved, task_goes, IsMoved, groups_of, is_over, HasOver}
+use Rattle.lp_transition.proofs.EngineLemmas.{next-accepted}
+use Rattle.lp_transition.proofs.Effects.{HasTaken, with_table, state-with_table, sound_next}
+use Rattle.lp_transition.proofs.TableLemmas.{live_from_slot}
+use Rattle.lp_transition.proofs.Passing.{passing-any}
+use Rattle.lp_transition.proofs.ScanAnswers.{groups_of-switched, going_by}
+
+-- ---- The tasks
+
+fate-map : (f : Standing → Standing) (o : Option Standing) (used : Bool) → fate_at (option_map f o) used ≡ map_live f (fate_at o used)
+fate-map f None true = refl
+fate-map f None false = refl
+fate-map f (Some x) used = refl
+
+-- a task on the target is as it was, whether its group goes or not
+moved_on : (goes : ℕ → Bool) (target : ℕ) (x : Standing) → x.level ≡ target → x ≡ moved goes target x
+moved_on goes target x e =
+    ⊎_elim
+    (λ (went : goes x.group ≡ true). ap (λ (l : ℕ). let y : Standing = record x { level = l } in y) e ∙ sym (cond-true (goes x.group) (record x { level = target }) x went))
+    (λ (stays : goes x.group ≡ false). sym (cond-false (goes x.group) (record x { level = target }) x stays))
+    (cases_Bool (goes x.group))
+
+-- who doesn't wait is on the target
+slot_moved : (goes all : ℕ → Bool) (target : ℕ) (b : Bool) (o : Option Standing) → b ≡ is_off target o → ((x : Standing) → o ≡ Some x → goes x.group ≡ all x.group) → (if b then option_map (moved goes target) o else o) ≡ option_map (moved all target) o
+slot_moved goes all target true None e same = refl
+slot_moved goes all target false None e same = refl
+slot_moved goes all target true (Some x) e same = ap (λ (c : Bool). Some (if c then record x { level = target } else x)) (same x refl)
+slot_moved goes all target false (Some x) e same =
+    ap Some (moved_on all target x (⊎_elim
+    (λ (on : nat_eq x.level target ≡ true). eqb-true x.level target on)
+    (λ (off : nat_eq x.level target ≡ false). let out = not_from_false (nat_eq x.level target) off in absurd (cc))
+    (cases_Bool (nat_eq x.level target))))
+
+-- who went over waits no longer
+waits_moved : (goes : ℕ → Bool) (target : ℕ) (b : Bool) (o : Option Standing) → b ≡ is_off target o → (b && not (task_goes goes o)) ≡ is_off target (if b then option_map (moved goes target) o else o)
+waits_moved goes target true None e = absurd (cc)
+waits_moved goes target false None e = refl
+waits_moved goes target false (Some x) e = e
+waits_moved goes target true (Some x) e =
+    ⊎_elim
+    (λ (went : goes x.group ≡ true).
+    ap not went ∙ sym (ap (λ (y : Standing). not (nat_eq y.level target)) (cond-true (goes x.group) (record x { level = target }) x went) ∙ not_from_true (nat_eq target target) (eq-eqb target target refl)))
+    (λ (stays : goes x.group ≡ false).
+    ap not stays ∙ e ∙ sym (ap (λ (y : Standing). not (nat_eq y.level target)) (cond-false (goes x.group) (record x { level = target }) x stays)))
+    (cases_Bool (goes x.group))
+
+-- ---- The groups
+
+unused_past : (table : Table) (g : ℕ) → IsWide table → 65536 ≤ g → standings table g ≡ Unused
+unused_past table g wide h =
+    ap₂ fate_at (get_or_past table.slots g None (omega (arith, wide.slots))) (get_or_past table.used g false (omega (arith, wide.used)))
+
+-- a live task's group is a 16-bit number
+group_fits : (e : Engine) (t : ℕ) (x : Standing) → IsSound (state_in e) → IsWide e.table → slot e.table t ≡ Some x → x.group < 65536
+group_fits e t x sound wide there =
+    ⊎_elim
+    (λ (zero_is : x.group ≡ 0). omega arith)
+    (λ (known : standings e.table x.group ≡ Unused → ⊥). ⊎_elim (λ (h : x.group < 65536). h) (λ (h : 65536 ≤ x.group). absurd (known (unused_past e.table x.group wide h))) (cases_lt x.group 65536))
+    (sound.grouped t x (live_from_slot e.table t x there))
+
+module _ (model : Rules) (lawful : IsLawful model) where
+  -- the set is that of the groups that go over
+  over_is : (now : State) (event : Event) (over : Option Numbers) (groups : List ℕ) → suc now.bounds.tasks ≡ 65536 → groups ≡ going model now event → ((g : ℕ) → g < 65536 → is_over over g ≡ list_any (nat_eq g) groups) → (g : ℕ) → g < 65536 → is_over over g ≡ goes_over model now event g
+  over_is now event over groups wide e same g h =
+      same g h ∙ ap (list_any (nat_eq g)) (e ∙ going_by model 65536 now event (goes_over model now event) wide (λ group. refl)) ∙ passing-any 65536 (goes_over model now event) g h
+
+  -- the tasks after the groups went over
+  standings_moved : (e : Engine) (waiting left : Numbers) (members : List ℕ) (table : Table) (goes all : ℕ → Bool) → IsKept e waiting members → IsMoved goes e.target e.table table waiting left → ((g : ℕ) → g < 65536 → goes g ≡ all g) → standings table ≡ (λ t. map_live (moved all e.target) (standings e.table t))
+  standings_moved e waiting left members table goes all kept went same =
+      fun_ext (λ t.
+      ap₂ fate_at
+      (went.tasks t ∙ slot_moved goes all e.target (has waiting t) (slot e.table t) (kept.waits t) (λ x there. same x.group (group_fits e t x kept.sound kept.wide there)))
+      (ap (λ set. has set t) went.used)
+      ∙ fate-map (moved all e.target) (slot e.table t) (has e.table.used t))
+
+  kept_moved : (e : Engine) (waiting left : Numbers) (members : List ℕ) (table : Table) (goes : ℕ → Bool) → IsKept e waiting members → IsMoved goes e.target e.table table waiting left → e.number < 1000000 → IsSound (state_in (with_table table e)) → IsKept (with_table table e) left members
+  kept_moved e waiting left members table goes kept went room sound = record {
+    sound = sound;
+    wide = went.wide;
+    waiting_wide = went.numbers ∙ kept.waiting_wide;
+    waits = λ t. went.waits t ∙ waits_moved goes e.target (has waiting t) (slot e.table t) (kept.waits t) ∙ ap (is_off e.target) (sym (went.tasks t));
+    groups = kept.groups;
+    counted = λ group within. kept.counted group within ∙ sym (went.members group);
+    from_fits = kept.from_fits;
+    target_fits = kept.target_fits;
+    number_fits = omega arith;
+  }
+
+  -- an event after which the groups of a set went over
+  goes_there : (e : Engine) (waiting left : Numbers) (members : List ℕ) (table : Table) (over : Option Numbers) (event : Event) → IsKept e waiting members → e.number < 1000000 → IsMoved (is_over over) e.target e.table table waiting left
+      → state_in (with_table table e) ≡ next model (state_in e) event → HasTaken model e event (with_table table e) left members
+  goes_there e waiting left members table over event kept room went state = record {
+    kept = kept_moved e waiting left members table (is_over over) kept went room (sound_next model lawful e (with_table table e) event kept.sound state);
+    state = state;
+  }
+
+  walk_listed : (s : State) → groups_of (answer model s Walk).what ≡ going model (affected model s Walk) Walk
+  unfolding answer refusal_of
+  walk_listed s = groups_of-switched (going model (affected model s Walk) Walk)
+
+  stop_listed : (s : State) → groups_of (answer model s Stop).what ≡ going model (affected model s Stop) Stop
+  unfolding answer refusal_of
+  stop_listed s = groups_of-switched (going model (affected model s Stop) Stop)
+
+  accepted : (s : State) → refusal_of model s Walk ≡ None
+  unfolding refusal_of
+  accepted s = refl
+
+  accepted_stop : (s : State) → refusal_of model s Stop ≡ None
+  unfolding refusal_of
+  accepted_stop s = refl
+
+  module _ (e : Engine) (waiting left : Numbers) (members : List ℕ) (table : Table) (over : Option Numbers) (kept : IsKept e waiting members) (room : e.number < 1000000) (went : IsMoved (is_over over) e.target e.table table waiting left) where
+    takes_walk : ((g : ℕ) → g < 65536 → is_over over g ≡ list_any (nat_eq g) (groups_of (answer model (state_in e) Walk).what)) → HasTaken model e Walk (with_table table e) left members
+    takes_walk same =
+        let s = state_in e in
+        let now = affected model s Walk in
+        let goes = over_is now Walk over (groups_of (answer model s Walk).what) (omega arith) (walk_listed s) same in
+        goes_there e waiting left members table over Walk kept room went
+        (state-with_table e table (λ t. map_live (moved (goes_over model now Walk) e.target) (standings e.table t)) (standings_moved e waiting left members table (is_over over) (goes_over model now Walk) kept went goes)
+        ∙ sym (next-accepted model s Walk (accepted s) refl))
+
+    takes_stop : ((g : ℕ) → g < 65536 → is_over over g ≡ list_any (nat_eq g) (groups_of (answer model (state_in e) Stop).what)) → HasTaken model e Stop (with_table table e) left members
+    takes_stop same =
+        let s = state_in e in
+        let now = affected model s Stop in
+        let goes = over_is now Stop over (groups_of (answer model s Stop).what) (omega arith) (stop_listed s) same in
+        goes_there e waiting left members table over Stop kept room went
+        (state-with_table e table (λ t. map_live (moved (goes_over model now Stop) e.target) (standings e.table t)) (standings_moved e waiting left members table (is_over over) (goes_over model now Stop) kept went goes)
+        ∙ sym (next-accepted model s Stop (accepted_stop s) refl))
+
+    takes_event : (event : Event) → is_scan event ≡ true → ((g : ℕ) → g < 65536 → is_over over g ≡ list_any (nat_eq g) (groups_of (answer model (state_in e) event).what)) → HasTaken model e event (with_table table e) left members
+    takes_event Walk scan same = takes_walk same
+    takes_event Stop scan same = takes_stop same
+    takes_event (Call t f) scan same = absurd (cc)
+    takes_event (Ret t) scan same = absurd (cc)
+    takes_event (Sleep t) scan same = absurd (cc)
+    takes_event (Wake t) scan same = absurd (cc)
+    takes_event (Enter t) scan same = absurd (cc)
+    takes_event (Exit t) scan same = absurd (cc)
+    takes_event (Idle t) scan same = absurd (cc)
+    takes_event (Fork p c how) scan same = absurd (cc)
+    takes_event (Die t) scan same = absurd (cc)
+    takes_event Enable scan same = absurd (cc)
+    takes_event Disable scan same = absurd (cc)
+    takes_event Reverse scan same = absurd (cc)
+
+  -- a scan that was weighed on the engine that code holds
+  pub takes_scan : (e old : Engine) (table : Table) (waiting left : Numbers) (members : List ℕ) (step : Weighed) (over : Option Numbers) → e ≡ old → IsKept e waiting members → IsWeighed model old step → is_scan step.event ≡ true → HasOver step.event step.reply.what over → (IsWide e.table → IsMoved (is_over over) e.target e.table table waiting left)
+      → HasTaken model old step.event (with_table table e) left members
+  takes_scan e old table waiting left members step over was kept weighed scan listed went =
+      let here : IsWeighed model e step = subst (λ (o : Engine). IsWeighed model o step) (sym was) weighed in
+      subst (λ (o : Engine). HasTaken model o step.event (with_table table e) left members) was
+      (takes_event e waiting left members table over kept here.room (went kept.wide) step.event scan
+      (λ g h. listed scan g h ∙ ap (λ r. list_any (nat_eq g) (groups_of r.what)) here.reply))

@@ -1,0 +1,87 @@
+-- How the engine goes from the verdicts of a scan to who goes over, and what it leaves.
+use Rattle.std.specs.Prelude.{◌≡◌, ◌≢◌, ℕ, ◌<◌, ◌≤◌, Bool, true, false, not, ◌&&◌, List, [], length, count_by, Option, Some, None, is_some, is_none, if◌then◌else◌, nat_eq}
+use Rattle.std.specs.List.{list_any}
+use Rattle.std.specs.Option.{option_map}
+use Rattle.lp_model.specs.declared.verdict.Verdict.{Verdict}
+use Rattle.lp_numbers.specs.Numbers.{Numbers, has, IsLeastFrom}
+use Rattle.lp_transition.specs.declared.event.Event.{Event}
+use Rattle.lp_transition.specs.declared.reply.What.{What}
+use Rattle.lp_transition.specs.declared.reply.What.TheVariants.{Switched}
+use Rattle.lp_transition.specs.Events.{is_scan}
+use Rattle.lp_transition.specs.Leg.{Standing}
+use Rattle.lp_transition.specs.Table.{Table, slot, IsWide, is_in}
+use Rattle.lp_transition.specs.Scan.{passing}
+
+-- ---- Who goes over by the verdicts
+
+-- the verdict refuses a member of the group, or admits one
+abbrev pub is_found : Table → Bool → ℕ → Verdict → Bool
+is_found table refused group verdict =
+    (if refused then is_some verdict.blame else is_none verdict.blame) && is_in group (slot table verdict.task.0)
+
+-- the group goes over by these verdicts: a member is admitted, and none is refused
+abbrev pub goes_by : Table → List Verdict → ℕ → Bool
+goes_by table verdicts group =
+    list_any (is_found table false group) verdicts && not (list_any (is_found table true group) verdicts)
+
+-- some task was looked at, and each was admitted
+abbrev pub all_admit : List Verdict → Bool
+all_admit verdicts = not (nat_eq (length verdicts) 0) && not (list_any (λ v. is_some v.blame) verdicts)
+
+-- the groups that an event took over
+abbrev pub groups_of : What → List ℕ
+groups_of (Switched groups) = groups
+groups_of _ = []
+
+-- the group is in the set, where there is one
+abbrev pub is_over : Option Numbers → ℕ → Bool
+is_over None group = false
+is_over (Some set) group = has set group
+
+-- of a scan that did this, the set is that of the groups that it took over
+abbrev pub HasOver : Event → What → Option Numbers → Type 0
+HasOver event what over =
+    is_scan event ≡ true → (group : ℕ) → group < 65536 → is_over over group ≡ list_any (nat_eq group) (groups_of what)
+
+-- ---- What a scan leaves
+
+-- a live task after its group went over, if it goes
+abbrev pub moved : (ℕ → Bool) → ℕ → Standing → Standing
+moved goes target x = if goes x.group then record x { level = target } else x
+
+-- a live task's group goes
+abbrev pub task_goes : (ℕ → Bool) → Option Standing → Bool
+task_goes goes None = false
+task_goes goes (Some x) = goes x.group
+
+-- the task went over with its group, and waits no longer
+pub record IsTaskMoved (goes : ℕ → Bool) (target t : ℕ) (old new : Table) (waiting left : Numbers) : Type 0 where
+  pub task : slot new t ≡ option_map (moved goes target) (slot old t)
+  pub others : (u : ℕ) → u ≢ t → slot new u ≡ slot old u
+  pub waits : has left t ≡ (has waiting t && not (task_goes goes (slot old t)))
+  pub others_wait : (u : ℕ) → u ≢ t → has left u ≡ has waiting u
+  pub numbers : length left ≡ length waiting
+  pub used : new.used ≡ old.used
+  pub wide : IsWide old → IsWide new
+  pub members : IsWide old → (group : ℕ) → count_by (is_in group) new.slots ≡ count_by (is_in group) old.slots
+
+-- each waiting task went over with its group, and waits no longer
+pub record IsMoved (goes : ℕ → Bool) (target : ℕ) (old new : Table) (waiting left : Numbers) : Type 0 where
+  pub tasks : (t : ℕ) → slot new t ≡ (if has waiting t then option_map (moved goes target) (slot old t) else slot old t)
+  pub waits : (t : ℕ) → has left t ≡ (has waiting t && not (task_goes goes (slot old t)))
+  pub numbers : length left ≡ length waiting
+  pub used : new.used ≡ old.used
+  pub wide : IsWide new
+  pub members : (group : ℕ) → count_by (is_in group) new.slots ≡ count_by (is_in group) old.slots
+
+-- ---- Walks over a set of numbers
+
+-- those from a number on, where there is one
+abbrev pub passing_at : Option ℕ → ℕ → (ℕ → Bool) → List ℕ
+passing_at None limit test = []
+passing_at (Some n) limit test = passing n limit test
+
+-- the least number from a first one on that passes a test; None where none below the limit does
+abbrev pub IsNextBelow : ℕ → (ℕ → Bool) → ℕ → Option ℕ → Type 0
+IsNextBelow limit test first None = (n : ℕ) → first ≤ n → n < limit → test n ≡ false
+IsNextBelow limit test first (Some n) = IsLeastFrom test first n
