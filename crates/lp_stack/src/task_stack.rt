@@ -72,6 +72,21 @@ impl TaskStack {
         self.mode = mode;
     }
 
+    /// A copy of the task with its stack.
+    pub fn copy(&self) -> TaskStack
+        ensures { result ≡ self.now }
+    {
+        let mut frames = ArrayVec::new();
+        // As many frames as fit one stack fit another.
+        let _ = frames.try_extend_from_slice(self.frames.as_slice());
+        TaskStack {
+            task: self.task,
+            class: self.class,
+            mode: self.mode,
+            frames,
+        }
+    }
+
     /// The task as it stands, lent without copying.
     pub fn view(&self) -> View<'_>
         ensures { seen result ≡ self.now }

@@ -43,3 +43,5 @@ pub mod Turning
 pub mod ScanAnswers
 pub mod Moving
 pub mod ScanTakes
+pub mod BootLemmas
+pub mod OpeningLemmas

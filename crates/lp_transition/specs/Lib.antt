@@ -18,3 +18,5 @@ pub mod Slots
 pub mod Weigh
 pub mod Scan
 pub mod ScanSteps
+pub mod Boot
+pub mod Openings

@@ -6,24 +6,27 @@ ghost use Rattle.lp_transition.specs.Table.{slot, state_in};
 ghost use Rattle.lp_transition.specs.Machine.{at_rest};
 
 mod alone;
+mod boot;
 mod control;
 mod live_task;
+mod opening;
 mod parts;
 mod refuse;
 mod scan;
 mod step;
 mod take;
-mod weigh;
 mod task_table;
+mod weigh;
 
+pub use boot::BootFault;
 use lp_model::Consistency;
 use lp_numbers::NumberSet;
 use lp_patch::{Aim, PatchStack};
 use lp_stack::{GroupId, Level, TaskId};
+pub use opening::Opening;
 use std::marker::Model;
-use task_table::TaskTable;
-
 pub use step::{Halt, Step};
+use task_table::TaskTable;
 
 /// The most events that are numbered.
 pub const MOST_EVENTS: u32 = 1_000_000;

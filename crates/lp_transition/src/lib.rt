@@ -9,7 +9,7 @@ mod reply;
 #[cfg(test)]
 mod tests;
 
-pub use engine::{Core, Halt, MOST_EVENTS, Step};
+pub use engine::{BootFault, Core, Halt, MOST_EVENTS, Opening, Step};
 pub use event::Event;
 pub use refusal::Refusal;
 pub use reply::{GroupList, Reply, What};

@@ -51,6 +51,17 @@ impl LiveTask {
         }
     }
 
+    /// A copy of the task.
+    pub(crate) fn copy(&self) -> LiveTask
+        ensures { result ≡ self.now }
+    {
+        LiveTask {
+            stack: self.stack.copy(),
+            level: self.level,
+            group: self.group,
+        }
+    }
+
     /// The level of the task.
     pub(crate) fn level(&self) -> Level
         ensures { result.0 ≡ self.now.level }

@@ -2,6 +2,7 @@
 ghost use Rattle.std.specs.Prelude.{◌≡◌, ℕ, ◌<◌, ◌≤◌, not, length, is_some, option_copied, IfOk};
 ghost use Rattle.std.specs.Option.{ForSome};
 ghost use Rattle.lp_numbers.specs.Numbers.{has, IsNextFrom};
+ghost use Rattle.lp_transition.specs.Slots.{slots_of};
 ghost use Rattle.lp_transition.specs.Tasks.{is_unused};
 ghost use Rattle.lp_transition.specs.Machine.{put_in, calling, returning};
 
@@ -12,7 +13,7 @@ use lp_symbols::SymId;
 use std::alloc::{AllocError, Global};
 use std::marker::Model;
 
-/// The live tasks, and the numbers that were ever used. Only `new` takes memory.
+/// The live tasks, and the numbers that were ever used. Only `new` and `copy` take memory.
 #[derive(Drop)]
 pub(crate) struct TaskTable {
     slots: Vec<Option<Box<LiveTask>>>,
@@ -38,7 +39,6 @@ impl Model for TaskTable {
 impl TaskTable {
     ghost use Rattle.lp_transition.specs.Leg.{Standing};
     ghost use Rattle.lp_transition.specs.Table.{slot, standings, changed, with_task, without_task, IsWide, IsKnown, IsBlank};
-    ghost use Rattle.lp_transition.specs.Slots.{slots_of};
 
     /// A table without tasks.
     pub(crate) fn new(alloc: Global) -> Result<Self, AllocError>
@@ -145,4 +145,32 @@ impl TaskTable {
             live.set_level(level);
         }
     }
+
+    /// A copy of the table; an `Err` only where a growth was refused.
+    pub(crate) fn copy(&self, alloc: Global) -> Result<Self, AllocError>
+        ensures { IfOk result (λ copied. copied ≡ self.now) }
+    {
+        Ok(TaskTable {
+            slots: copied_slots(alloc, self.slots.as_slice())?,
+            live: self.live.copy(alloc)?,
+            used: self.used.copy(alloc)?,
+        })
+    }
+}
+
+/// A copy of each slot.
+fn copied_slots(
+    alloc: Global,
+    slots: &[Option<Box<LiveTask>>],
+) -> Result<Vec<Option<Box<LiveTask>>>, AllocError>
+    ensures { IfOk result (λ copied. slots_of copied.items ≡ slots_of slots.now) }
+{
+    let mut copied = Vec::with_capacity(alloc, slots.len())?;
+    for slot in slots {
+        copied.push(match slot {
+            Some(live) => Some(Box::new(alloc, live.copy())?),
+            None => None,
+        })?;
+    }
+    Ok(copied)
 }

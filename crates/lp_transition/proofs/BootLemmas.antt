@@ -1,0 +1,247 @@
+-- The boot tasks, one after another.
+use Rattle.std.proofs.Common.{◌≡◌, ℕ, zero, suc, ◌+◌, ◌<◌, ◌≤◌, Bool, true, false, ◌||◌, List, [], ◌∷◌, ◌++◌, length, get_or, set, take, drop, replicate, count_by, All, if◌then◌else◌, nat_eq, Option, None, Some, refl, sym, ap, ap₂, subst, ◌∙◌, ⊎_elim, append_assoc, append-nil, add-one, drop-cons, arith}
+use Rattle.std.proofs.Math.Seq.{take-suc}
+use Rattle.std.specs.List.{list_any}
+use Rattle.std.proofs.lemmas.Grind.{common_steps, elements}
+use Rattle.std.proofs.lemmas.Bool.{cases_eq, eqb-true, eq-eqb, ne_eqb, cond-true, cond-false}
+use Rattle.std.proofs.lemmas.List.{length-set, get_or-set_same, get_or-set_other}
+use Rattle.std.proofs.lemmas.List.Elements.{All-nil, All-more}
+use Rattle.std.proofs.lemmas.Bool.Decides.{nat_tests}
+use Rattle.std.proofs.lemmas.List.Folds.{list_any_more}
+use mathlib.Core.Path.{fun_ext}
+use Rattle.lp_numbers.specs.Numbers.{Numbers, has, IsEmpty}
+use Rattle.lp_stack.specs.declared.number.TaskId.{TaskId}
+use Rattle.lp_stack.specs.declared.view.Class.{Class}
+use Rattle.lp_patch.specs.Patches.{Patches}
+use Rattle.lp_model.specs.Rules.{Rules, IsLawful}
+use Rattle.lp_transition.specs.declared.engine.boot.BootFault.TheVariants.{TaskRange, TaskDoubled}
+use Rattle.lp_transition.specs.Tasks.{Fate, Unused, Live, on_live}
+use Rattle.lp_transition.specs.Leg.{Standing, State}
+use Rattle.lp_transition.specs.Run.{Run, at_boot, booted, AreInRange, start, leg_after}
+use Rattle.lp_transition.specs.Sound.{IsSound}
+use Rattle.lp_transition.specs.Steps.{StandsIn}
+use Rattle.lp_transition.specs.Kept.{IsKept}
+use Rattle.lp_transition.specs.Boot.{boot_fault, boot_refusal}
+use Rattle.lp_transition.specs.Table.{Table, Engine, state_in, bounds_of, slot, fate_at, standings, IsWide, IsBlank, with_task, is_off, is_in}
+use Rattle.lp_transition.proofs.Positions.{count_zero-from}
+use Rattle.lp_transition.proofs.Runs.{started}
+use Rattle.lp_transition.proofs.WholeRun.{start_sound}
+use Rattle.lp_transition.proofs.TableLemmas.{standings-with_task, IsWide-with_task}
+use Rattle.lp_transition.proofs.CountLemmas.{count-with_task}
+
+-- a boot task has the number
+abbrev pub has_number : ℕ → List (TaskId × Class) → Bool
+has_number t boots = list_any (λ (boot : TaskId × Class). nat_eq t boot.0.0) boots
+
+-- ---- Faults
+
+-- the task at a place, after those in front of it
+pub boot_fault_at : (boots : List (TaskId × Class)) (i : ℕ) (d : TaskId × Class) → i < length boots → boot_fault (take i boots) (drop i boots) ≡ (if nat_eq (get_or boots i d).0.0 0 then Some TaskRange else if has_number (get_or boots i d).0.0 (take i boots) then Some TaskDoubled else boot_fault (take (i + 1) boots) (drop (i + 1) boots))
+boot_fault_at boots i d h = rw (add-one, drop-cons boots i d h, take-suc boots i d h) refl
+
+-- a mark more
+marked-set : (seen : Numbers) (n q : ℕ) → n < length seen → has (set seen n true) q ≡ (has seen q || nat_eq q n)
+marked-set seen n q h = grind (arith, common_steps, elements)
+
+-- the numbers so far, and one more
+pub marked-more : (seen : Numbers) (boots : List (TaskId × Class)) (i : ℕ) (d : TaskId × Class) (q : ℕ) → i < length boots → (get_or boots i d).0.0 < length seen → has seen q ≡ has_number q (take i boots) → has (set seen (get_or boots i d).0.0 true) q ≡ has_number q (take (i + 1) boots)
+marked-more seen boots i d q h l same =
+    marked-set seen (get_or boots i d).0.0 q l ∙ ap (λ b. b || nat_eq q (get_or boots i d).0.0) same
+    ∙ sym (list_any_more (λ (boot : TaskId × Class). nat_eq q boot.0.0) boots i d h)
+
+-- nothing is marked
+pub none_marked : (n q : ℕ) → get_or {A = Bool} (replicate n false) q false ≡ false
+none_marked zero q = refl
+none_marked (suc n) zero = refl
+none_marked (suc n) (suc q) = none_marked n q
+
+-- what holds of a boot task in a list without faults
+pub record IsFit (before : List (TaskId × Class)) (boot : TaskId × Class) : Type 0 where
+  pub positive : 0 < boot.0.0
+  pub fresh : has_number boot.0.0 before ≡ false
+
+-- the first task is at no fault, nor are the others
+fit_first : (before : List (TaskId × Class)) (boot : TaskId × Class) (boots : List (TaskId × Class)) → boot_fault before (boot ∷ boots) ≡ None → IsFit before boot × (boot_fault (before ++ boot ∷ []) boots ≡ None)
+fit_first before boot boots free = by (nat_eq boot.0.0 0) refl (has_number boot.0.0 before) refl free
+  where
+    by : (z : Bool) → nat_eq boot.0.0 0 ≡ z → (d : Bool) → has_number boot.0.0 before ≡ d → (if z then Some TaskRange else if d then Some TaskDoubled else boot_fault (before ++ boot ∷ []) boots) ≡ None → IsFit before boot × (boot_fault (before ++ boot ∷ []) boots ≡ None)
+    by true e d f free = absurd (cc)
+    by false e true f free = absurd (cc)
+    by false e false f free = (record { positive = grind (arith, nat_tests, e); fresh = f }, free)
+
+fit_after : (before boots : List (TaskId × Class)) (i : ℕ) (d : TaskId × Class) → boot_fault before boots ≡ None → i < length boots → IsFit (before ++ take i boots) (get_or boots i d)
+fit_after before [] i d free h = absurd (omega arith)
+fit_after before (boot ∷ boots) zero d free h = rw (append-nil before) (fit_first before boot boots free).0
+fit_after before (boot ∷ boots) (suc i) d free h =
+    let rest = fit_after (before ++ boot ∷ []) boots i d (fit_first before boot boots free).1 (omega arith) in
+    rw append_assoc at rest
+
+-- the task at a place of a list without faults
+pub fit_at : (boots : List (TaskId × Class)) (i : ℕ) (d : TaskId × Class) → boot_refusal boots ≡ None → i < length boots → IsFit (take i boots) (get_or boots i d)
+fit_at boots i d free h = fit_after [] boots i d free h
+
+-- ---- The tasks that the list puts
+
+or_false : (a b : Bool) → (a || b) ≡ false → (a ≡ false) × (b ≡ false)
+or_false true b h = absurd (cc)
+or_false false b h = (refl, h)
+
+module _ (model : Rules) where
+  -- who isn't in the list isn't put
+  pub booted-none : (boots : List (TaskId × Class)) (t : ℕ) → has_number t boots ≡ false → booted model boots t ≡ Unused
+  booted-none [] t none = refl
+  booted-none (boot ∷ boots) t none = let parts = or_false (nat_eq t boot.0.0) (has_number t boots) none in cond-false _ _ _ parts.0 ∙ booted-none boots t parts.1
+
+  -- one task more at the end
+  booted-append : (boots : List (TaskId × Class)) (boot : TaskId × Class) (t : ℕ) → has_number boot.0.0 boots ≡ false → booted model (boots ++ boot ∷ []) t ≡ (if nat_eq t boot.0.0 then Live (at_boot model boot.0.0 boot.1) else booted model boots t)
+  booted-append [] boot t none = by (nat_eq t boot.0.0) refl
+    where
+      by : (b : Bool) → nat_eq t boot.0.0 ≡ b → (if b then Live (at_boot model t boot.1) else Unused) ≡ (if b then Live (at_boot model boot.0.0 boot.1) else Unused)
+      by true e = ap (λ n. Live (at_boot model n boot.1)) (eqb-true t boot.0.0 e)
+      by false e = refl
+  booted-append (first ∷ boots) boot t none =
+      let parts = or_false (nat_eq boot.0.0 first.0.0) (has_number boot.0.0 boots) none in
+      by (nat_eq t first.0.0) refl (nat_eq t boot.0.0) refl parts.0 (booted-append boots boot t parts.1)
+    where
+      by : (b : Bool) → nat_eq t first.0.0 ≡ b → (d : Bool) → nat_eq t boot.0.0 ≡ d → nat_eq boot.0.0 first.0.0 ≡ false → booted model (boots ++ boot ∷ []) t ≡ (if d then Live (at_boot model boot.0.0 boot.1) else booted model boots t)
+          → (if b then Live (at_boot model t first.1) else booted model (boots ++ boot ∷ []) t) ≡ (if d then Live (at_boot model boot.0.0 boot.1) else if b then Live (at_boot model t first.1) else booted model boots t)
+      by false e d f ne rest = rest
+      by true e false f ne rest = refl
+      by true e true f ne rest = let same = eq-eqb boot.0.0 first.0.0 (sym (eqb-true t boot.0.0 f) ∙ eqb-true t first.0.0 e) in absurd (cc)
+
+  -- the tasks after one more place of the list
+  pub booted-more : (boots : List (TaskId × Class)) (i : ℕ) (d : TaskId × Class) → boot_refusal boots ≡ None → i < length boots → booted model (take (i + 1) boots) ≡ (λ t. if nat_eq t (get_or boots i d).0.0 then Live (at_boot model (get_or boots i d).0.0 (get_or boots i d).1) else booted model (take i boots) t)
+  booted-more boots i d free h =
+      rw (add-one, take-suc boots i d h) (fun_ext (λ t. booted-append (take i boots) (get_or boots i d) t (fit_at boots i d free h).fresh))
+
+  -- a task of the start is on level 0
+  booted_low : (boots : List (TaskId × Class)) (t : ℕ) → on_live 0 (λ x. x.level) (booted model boots t) ≡ 0
+  booted_low [] t = refl
+  booted_low (boot ∷ boots) t = by (nat_eq t boot.0.0) (booted_low boots t)
+    where
+      by : (b : Bool) → on_live 0 (λ x. x.level) (booted model boots t) ≡ 0 → on_live 0 (λ x. x.level) (if b then Live (at_boot model t boot.1) else booted model boots t) ≡ 0
+      by true rest = refl
+      by false rest = rest
+
+  -- so no task of the start waits
+  pub none_off : (table : Table) (boots : List (TaskId × Class)) (t : ℕ) → standings table ≡ booted model boots → is_off 0 (slot table t) ≡ false
+  none_off table boots t is = by (slot table t) (ap (λ tasks. on_live 0 (λ x. x.level) (tasks t)) is ∙ booted_low boots t)
+    where
+      by : (o : Option Standing) → on_live 0 (λ x. x.level) (fate_at o (has table.used t)) ≡ 0 → is_off 0 o ≡ false
+      by None low = refl
+      by (Some x) low = rw low refl
+
+  -- who isn't in the list has no slot
+  pub no_slot : (table : Table) (boots : List (TaskId × Class)) (t : ℕ) → standings table ≡ booted model boots → has_number t boots ≡ false → slot table t ≡ None
+  no_slot table boots t is none = by (slot table t) (has table.used t) (ap (λ tasks. tasks t) is ∙ booted-none boots t none)
+    where
+      by : (o : Option Standing) (used : Bool) → fate_at o used ≡ Unused → o ≡ None
+      by None used e = refl
+      by (Some x) used e = absurd (cc)
+
+  -- in a blank table no task was ever put
+  pub booted-blank : (table : Table) → IsBlank table → standings table ≡ booted model []
+  booted-blank table blank = fun_ext (λ t. ap₂ fate_at (blank.no_task t) (blank.none_used t))
+
+-- in a blank table no group has a member
+pub count-blank : (table : Table) (group : ℕ) → IsBlank table → count_by (is_in group) table.slots ≡ 0
+count-blank table group blank = count_zero-from (is_in group) table.slots None (λ t lt. ap (is_in group) (blank.no_task t))
+
+-- ---- The tasks that are put, one after another
+
+-- the tasks of the list are live, and counted as members of their groups
+pub record ArePut (model : Rules) (boots : List (TaskId × Class)) (table : Table) (members : List ℕ) : Type 0 where
+  pub wide : IsWide table
+  pub live : standings table ≡ booted model boots
+  pub groups : length members ≡ 65536
+  pub counted : (group : ℕ) → group < 65536 → get_or members group 0 ≡ count_by (is_in group) table.slots
+  pub in_range : All (λ (boot : TaskId × Class). (0 < boot.0.0) × (boot.0.0 ≤ 65535)) boots
+
+-- no task is put yet
+pub none_put : (model : Rules) (table : Table) (members : List ℕ) → IsBlank table → length members ≡ 65536 → ((group : ℕ) → get_or members group 0 ≡ 0) → ArePut model [] table members
+none_put model table members blank groups uncounted = record {
+  wide = blank.wide;
+  live = booted-blank model table blank;
+  groups = groups;
+  counted = λ group h. uncounted group ∙ sym (count-blank table group blank);
+  in_range = All-nil (λ (boot : TaskId × Class). (0 < boot.0.0) × (boot.0.0 ≤ 65535));
+}
+
+-- one more member of a group
+counted-more : (table : Table) (members : List ℕ) (t group : ℕ) (x : Standing) → IsWide table → t < 65536 → slot table t ≡ None → x.group < length members → get_or members group 0 ≡ count_by (is_in group) table.slots
+    → get_or (set members x.group (get_or members x.group 0 + 1)) group 0 ≡ count_by (is_in group) (with_task t x table).slots
+counted-more table members t group x wide h empty within counted =
+    let more = count-with_task table t x group wide h empty in
+    ⊎_elim
+    (λ (e : group ≡ x.group).
+    let one = cond-true {A = ℕ} (nat_eq x.group group) 1 0 (eq-eqb x.group group (sym e)) in
+    ap (λ n. get_or (set members x.group (get_or members x.group 0 + 1)) n 0) e ∙ get_or-set_same members x.group (get_or members x.group 0 + 1) 0 within
+    ∙ ap (λ n. get_or members n 0 + 1) (sym e) ∙ omega (arith, more, one, counted))
+    (λ (ne : group ≡ x.group → ⊥).
+    let none = cond-false {A = ℕ} (nat_eq x.group group) 1 0 (ne_eqb x.group group (λ e. ne (sym e))) in
+    get_or-set_other members x.group group (get_or members x.group 0 + 1) 0 ne ∙ omega (arith, more, none, counted))
+    (cases_eq group x.group)
+
+-- the task at one more place is put
+pub one_put : (model : Rules) (boots : List (TaskId × Class)) (i : ℕ) (boot : TaskId × Class) (table new : Table) (members : List ℕ) (x : Standing) → boot_refusal boots ≡ None → i < length boots → get_or boots i boot ≡ boot → boot.0.0 < 65536 → x ≡ at_boot model boot.0.0 boot.1 → x.group < 65536
+    → new ≡ with_task boot.0.0 x table → ArePut model (take i boots) table members → ArePut model (take (i + 1) boots) new (set members x.group (get_or members x.group 0 + 1))
+one_put model boots i boot table new members x free h at small is group made put =
+    let fit = subst (λ b. IsFit (take i boots) b) at (fit_at boots i boot free h) in
+    let empty = no_slot model table (take i boots) boot.0.0 put.live fit.fresh in
+    let more = subst (λ b. booted model (take (i + 1) boots) ≡ (λ t. if nat_eq t b.0.0 then Live (at_boot model b.0.0 b.1) else booted model (take i boots) t)) at (booted-more model boots i boot free h) in
+    subst (λ now. ArePut model (take (i + 1) boots) now (set members x.group (get_or members x.group 0 + 1))) (sym made)
+    (record {
+      wide = IsWide-with_task table boot.0.0 x put.wide;
+      live = standings-with_task table boot.0.0 x put.wide small ∙ ap (λ y. λ t. if nat_eq t boot.0.0 then Live y else standings table t) is ∙ ap (λ (old : ℕ → Fate Standing). λ t. if nat_eq t boot.0.0 then Live (at_boot model boot.0.0 boot.1) else old t) put.live ∙ sym more;
+      groups = length-set members x.group (get_or members x.group 0 + 1) ∙ put.groups;
+      counted = λ g within. counted-more table members boot.0.0 g x put.wide small empty (omega (arith, put.groups)) (put.counted g within);
+      in_range = All-more (λ (b : TaskId × Class). (0 < b.0.0) × (b.0.0 ≤ 65535)) boots i boot h put.in_range (subst (λ b. (0 < b.0.0) × (b.0.0 ≤ 65535)) (sym at) (fit.positive, omega arith));
+    })
+
+-- ---- The engine that starts
+
+-- an engine at its start
+abbrev pub at_start : Patches → Table → Engine
+at_start patches table = record { number = 0; from = 0; target = 0; patches = patches; table = table }
+
+-- a run with no event so far
+abbrev pub new_run : Patches → List (TaskId × Class) → Run
+new_run patches boots = record { bounds = bounds_of patches; patches = patches; boots = boots; events = [] }
+
+-- an engine keeps what it has to, and stands at the start of a run over these patches
+pub record HasStarted (model : Rules) (patches : Patches) (boots : List (TaskId × Class)) (engine : Engine) (waiting : Numbers) (members : List ℕ) : Type 0 where
+  pub kept : IsKept engine waiting members
+  pub state : state_in engine ≡ (start model (bounds_of patches) patches boots).opening
+  pub stands : StandsIn model (new_run patches boots) (state_in engine)
+
+at_start-stands : (model : Rules) (patches : Patches) (boots : List (TaskId × Class)) (now : State) → AreInRange (bounds_of patches) boots → now ≡ (start model (bounds_of patches) patches boots).opening → StandsIn model (new_run patches boots) now
+unfolding leg_after
+at_start-stands model patches boots now in_range is = record { in_range = in_range; there = is ∙ sym (started model (new_run patches boots)) }
+
+-- where the tasks of the list are put, and nobody waits
+starts : (model : Rules) → IsLawful model → (patches : Patches) (boots : List (TaskId × Class)) (table : Table) (waiting : Numbers) (members : List ℕ) → ArePut model boots table members → IsEmpty waiting → length waiting ≡ 65536 → HasStarted model patches boots (at_start patches table) waiting members
+starts model lawful patches boots table waiting members put none long =
+    let first = start model (bounds_of patches) patches boots in
+    let state : state_in (at_start patches table) ≡ first.opening = ap {A = ℕ → Fate Standing} {B = State} (λ tasks. record { number = 0; bounds = bounds_of patches; from = 0; aim = record { patches = patches; target = 0 }; tasks = tasks }) put.live in
+    record {
+      kept = record {
+        sound = subst IsSound (sym state) (start_sound model lawful (bounds_of patches) patches boots put.in_range);
+        wide = put.wide;
+        waiting_wide = long;
+        waits = λ t. none t ∙ sym (none_off model table boots t put.live);
+        groups = put.groups;
+        counted = put.counted;
+        from_fits = omega arith;
+        target_fits = omega arith;
+        number_fits = omega arith;
+      };
+      state = state;
+      stands = at_start-stands model patches boots (state_in (at_start patches table)) put.in_range state;
+    }
+
+-- the same, of the engine that code makes
+pub starts_with : (model : Rules) → IsLawful model → (held patches : Patches) (boots : List (TaskId × Class)) (now table : Table) (waiting : Numbers) (members : List ℕ) → held ≡ patches → now ≡ table → ArePut model boots table members → IsEmpty waiting → length waiting ≡ 65536 → HasStarted model patches boots (at_start held now) waiting members
+starts_with model lawful held patches boots now table waiting members same is put none long =
+    subst (λ p. HasStarted model patches boots (at_start p now) waiting members) (sym same)
+    (subst (λ t. HasStarted model patches boots (at_start patches t) waiting members) (sym is)
+    (starts model lawful patches boots table waiting members put none long))

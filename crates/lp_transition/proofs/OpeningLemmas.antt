@@ -1,0 +1,39 @@
+-- A copy of the engine.
+use Rattle.std.proofs.Common.{◌≡◌, ℕ, true, ◌+◌, ◌<◌, List, [], ◌∷◌, ◌++◌, length, get_or, take, map, Option, sym, ap, ap₂, ◌∙◌, add-zero}
+use Rattle.std.proofs.lemmas.Bool.{cond-true}
+use Rattle.std.proofs.lemmas.List.{take_more, map-append}
+use Rattle.std.specs.Global.{Box}
+use Rattle.lp_model.specs.Rules.{Rules}
+use Rattle.lp_transition.specs.declared.event.Event.{Event}
+use Rattle.lp_transition.specs.Tasks.{Fate}
+use Rattle.lp_transition.specs.Leg.{Standing, State, Leg}
+use Rattle.lp_transition.specs.Run.{Run, plus, first_leg, leg_of, next_leg, opens, opened, and_then}
+use Rattle.lp_transition.specs.Machine.{state_of}
+use Rattle.lp_transition.specs.Steps.{StandsIn}
+use Rattle.lp_transition.specs.Slots.{slots_of}
+use Rattle.lp_transition.proofs.SlotLemmas.{boxed}
+use Rattle.lp_transition.proofs.Steps.{open_shown}
+use Rattle.lp_transition.proofs.Runs.{leg_after-plus}
+
+-- one slot more is copied
+pub one_copied : (copied boxes : List (Option (Box Standing))) (i : ℕ) (new old : Option (Box Standing)) → i < length boxes → old ≡ get_or boxes i old → boxed new ≡ boxed old → slots_of copied ≡ slots_of (take i boxes) → slots_of (copied ++ new ∷ []) ≡ slots_of (take (i + 1) boxes)
+one_copied copied boxes i new old h at same so_far =
+    map-append boxed copied (new ∷ []) ∙ ap₂ (λ xs x. xs ++ x ∷ []) so_far (same ∙ ap boxed at) ∙ sym (ap (map boxed) (take_more boxes i old h) ∙ map-append boxed (take i boxes) (get_or boxes i old ∷ []))
+
+-- ---- Openings of legs
+
+module _ (model : Rules) where
+  -- a leg without events is where it opened
+  pub open_state : (o : State) → state_of model (record { opening = o; events = [] }) ≡ o
+  open_state o =
+      ap₂ {A = ℕ} {B = ℕ → Fate Standing} {C = State} (λ number tasks. record { number = number; bounds = o.bounds; from = o.from; aim = o.aim; tasks = tasks }) (add-zero o.number) (open_shown model o)
+
+  opened_next : (leg : Leg) (event : Event) → opens model leg event ≡ true → next_leg model leg event ≡ opened model leg event
+  unfolding next_leg
+  opened_next leg event is = cond-true (opens model leg event) (opened model leg event) (and_then leg event) is
+
+  -- after an accepted control event a run stands at the opening of the leg that the event opens
+  pub stands_at_opening : (run : Run) (event : Event) (now : State) → opens model (leg_of model run) event ≡ true → StandsIn model (plus run event) now → now ≡ (leg_of model (plus run event)).opening
+  stands_at_opening run event now is stands =
+      let leg : leg_of model (plus run event) ≡ opened model (leg_of model run) event = leg_after-plus model (first_leg model run) run.events event ∙ opened_next (leg_of model run) event is in
+      stands.there ∙ ap (state_of model) leg ∙ open_state (opened model (leg_of model run) event).opening ∙ ap (λ l. l.opening) (sym leg)

@@ -1,0 +1,7 @@
+use Rattle.std.proofs.Common.{◌≡◌, take}
+use Rattle.lp_transition.specs.Slots.{slots_of}
+use Rattle.lp_transition.proofs.engine.task_table.copied_slots.Given as goal
+
+-- the slots so far are copied
+abbrev pub invariant-loop-slot : goal.invariant-loop-slot
+invariant-loop-slot l = slots_of l.copied.items ≡ slots_of (take l.slot-index l.slots)

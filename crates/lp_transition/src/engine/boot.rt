@@ -1,0 +1,151 @@
+//! The start of an engine.
+ghost use Rattle.std.specs.Prelude.{◌≡◌, ℕ, ◌<◌, ◌≤◌, [], Err, None, length, count_by, slice_index, All, IfSome, IfOk, OnOk, OnErr};
+ghost use Rattle.lp_transition.specs.Run.{start, booted, at_boot, first_mode};
+ghost use Rattle.lp_transition.specs.Steps.{StandsIn};
+ghost use Rattle.lp_transition.specs.Boot.{boot_refusal};
+ghost use Rattle.lp_transition.specs.Table.{IsBlank, IsWide, is_in, standings, state_in, bounds_of};
+ghost use Rattle.lp_transition.specs.declared.engine.boot.BootFault.TheVariants.{NoMemory};
+
+#[cfg(test)]
+mod tests;
+
+use super::Core;
+use super::live_task::LiveTask;
+use super::task_table::TaskTable;
+use lp_model::Consistency;
+use lp_numbers::{NUMBERS, NumberSet};
+use lp_patch::PatchStack;
+use lp_stack::{Class, Level, Mode, TaskId};
+use std::alloc::{AllocError, AllocFailed, Global};
+
+/// Why no engine was made.
+#[derive(Clone, Copy, Debug, PartialEq, Eq)]
+pub enum BootFault {
+    /// T1: a task has the number 0. Numbers go from 1 to 65,535.
+    TaskRange,
+    /// T2: two tasks have one number.
+    TaskDoubled,
+    /// T3: a growth was refused. Tested after all else.
+    NoMemory,
+}
+
+impl From<AllocError> for BootFault {
+    ghost from_gives = { λ _ e. e ≡ NoMemory };
+
+    fn from(_e: AllocError) -> BootFault {
+        BootFault::NoMemory
+    }
+}
+
+impl<T: Drop> From<AllocFailed<T>> for BootFault {
+    ghost from_gives = { λ _ e. e ≡ NoMemory };
+
+    fn from(_e: AllocFailed<T>) -> BootFault {
+        BootFault::NoMemory
+    }
+}
+
+impl<M: Consistency> Core<M> {
+    /// An engine with these tasks, each on level 0 with an empty stack; a normal task starts in user space,
+    /// an idle task in the kernel.
+    ///
+    /// Refused for the first task at fault, as T1 or T2, else T3 where a growth was refused.
+    pub fn boot(
+        alloc: Global,
+        model: M,
+        patches: PatchStack,
+        tasks: &[(TaskId, Class)],
+    ) -> Result<Core<M>, BootFault>
+        ensures refused { IfSome (boot_refusal tasks.now) (λ fault. result ≡ Err fault) }
+        ensures memory { boot_refusal tasks.now ≡ None → OnErr result (result ≡ Err NoMemory) }
+        ensures started { IfOk result (λ core. state_in core ≡ (start M.rules (bounds_of patches) patches tasks.now).opening) }
+        ensures stands { IfOk result (λ core. StandsIn M.rules (record { bounds = bounds_of patches; patches = patches; boots = tasks.now; events = [] }) (state_in core)) }
+    {
+        if let Some(fault) = first_fault(tasks) {
+            return Err(fault);
+        }
+        let mut table = TaskTable::new(alloc)?;
+        let members = put_all(alloc, model, tasks, &mut table)?;
+        Ok(Core {
+            model,
+            patches,
+            from: Level(0),
+            target: Level(0),
+            events: 0,
+            tasks: table,
+            waiting: NumberSet::new(alloc)?,
+            members,
+        })
+    }
+}
+
+/// The fault of the first task whose number is 0, or is that of one before it. Takes no memory.
+fn first_fault(tasks: &[(TaskId, Class)]) -> Option<BootFault>
+    ensures { result ≡ boot_refusal tasks.now }
+{
+    let mut seen = [false; NUMBERS];
+    for (task, _) in tasks {
+        let number = usize::from(task.0);
+        if number == 0 {
+            return Some(BootFault::TaskRange);
+        }
+        if seen[number] {
+            return Some(BootFault::TaskDoubled);
+        }
+        seen[number] = true;
+    }
+    None
+}
+
+/// The mode in which a task starts.
+fn first_mode(class: Class) -> Mode
+    ensures { result ≡ first_mode class }
+{
+    match class {
+        Class::Normal => Mode::User,
+        Class::Idle => Mode::Kernel,
+    }
+}
+
+/// A task as it stands at the start.
+fn at_boot<M: Consistency>(model: M, task: TaskId, class: Class) -> LiveTask
+    ensures task { result ≡ at_boot M.rules task.0 class }
+    ensures number { task.0 ≤ 65535 }
+{
+    let group = model.first_group(task);
+    LiveTask::new(task, class, first_mode(class), group, Level(0))
+}
+
+/// As many zeros as are asked for.
+fn zeros(alloc: Global, count: usize) -> Result<Vec<u32>, AllocError>
+    ensures zero { IfOk result (λ numbers. (n : ℕ) → slice_index numbers.items n ≡ 0) }
+    ensures count { IfOk result (λ numbers. length numbers.items ≡ count) }
+{
+    vec![in alloc; 0; count]
+}
+
+/// Makes each boot task live; answers how many members each group has.
+fn put_all<M: Consistency>(
+    alloc: Global,
+    model: M,
+    boots: &[(TaskId, Class)],
+    tasks: &mut TaskTable,
+) -> Result<Vec<u32>, BootFault>
+    requires no_fault { boot_refusal boots.now ≡ None }
+    requires blank { IsBlank tasks.old }
+    ensures live { OnOk result (standings tasks.new ≡ booted M.rules boots.now) }
+    ensures wide { OnOk result (IsWide tasks.new) }
+    ensures groups { IfOk result (λ members. length members.items ≡ 65536) }
+    ensures counted { IfOk result (λ members. (group : ℕ) → group < 65536 → slice_index members.items group ≡ count_by (is_in group) tasks.new.slots) }
+    ensures in_range { OnOk result (All (λ boot. (0 < boot.0.0) × (boot.0.0 ≤ 65535)) boots.now) }
+    ensures memory { OnErr result (result ≡ Err NoMemory) }
+{
+    let mut members = zeros(alloc, NUMBERS)?;
+    for (task, class) in boots {
+        let live = at_boot(model, *task, *class);
+        let group = usize::from(live.group().0);
+        tasks.put(*task, Box::new(alloc, live)?);
+        members[group] += 1;
+    }
+    Ok(members)
+}

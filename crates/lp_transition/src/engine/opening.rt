@@ -1,0 +1,126 @@
+//! The engine as it stood when a leg opened.
+ghost use Rattle.std.specs.Prelude.{◌≡◌, ◌≤◌, not, length, is_some, IfOk};
+ghost use Rattle.std.specs.Option.{option_map};
+ghost use Rattle.lp_numbers.specs.Numbers.{IsNextFrom};
+ghost use Rattle.lp_stack.specs.TaskView.{seen};
+ghost use Rattle.lp_transition.specs.Tasks.{is_unused};
+ghost use Rattle.lp_transition.specs.Machine.{view_of};
+ghost use Rattle.lp_transition.specs.Table.{slot, standings};
+
+use super::Core;
+use super::task_table::TaskTable;
+use lp_model::Consistency;
+use lp_patch::PatchStack;
+use lp_stack::{GroupId, Level, TaskId, View};
+use std::alloc::{AllocError, Global};
+use std::marker::Model;
+
+/// What an engine kept at some moment: the number of events so far, the levels from which and to which it went,
+/// the patches, and the tasks by their numbers.
+///
+/// Taken just after an accepted control event, it is the opening of that event's leg.
+#[derive(Drop)]
+pub struct Opening {
+    number: u32,
+    from: Level,
+    target: Level,
+    patches: PatchStack,
+    tasks: TaskTable,
+}
+
+impl Model for Opening {
+    ghost use Rattle.lp_transition.specs.Table.{Engine};
+    ghost use Rattle.lp_transition.specs.Openings.{IsOpening};
+
+    ghost Value = { Engine };
+
+    ghost view = { λ o. record { number = o.number; from = o.from.0; target = o.target.0; patches = o.patches; table = o.tasks } };
+
+    ghost invariant = { λ o. IsOpening (record { number = o.number; from = o.from.0; target = o.target.0; patches = o.patches; table = o.tasks }) };
+}
+
+impl<M: Consistency> Core<M> {
+    /// A copy of the engine as it stands; an `Err` only where a growth was refused.
+    pub fn standing(&self, alloc: Global) -> Result<Opening, AllocError>
+        ensures { IfOk result (λ opening. opening ≡ self.now) }
+    {
+        Ok(Opening {
+            number: self.events,
+            from: self.from,
+            target: self.target,
+            patches: self.patches.copy(alloc)?,
+            tasks: self.tasks.copy(alloc)?,
+        })
+    }
+}
+
+impl Opening {
+    ghost use Rattle.lp_transition.specs.Openings.{IsOpening};
+
+    /// How many events were numbered.
+    pub fn number(&self) -> u64
+        ensures value { result ≡ self.now.number }
+        ensures opening { IsOpening self.now }
+    {
+        u64::from(self.number)
+    }
+
+    /// The level from which the tasks went.
+    pub fn from(&self) -> Level
+        ensures { result.0 ≡ self.now.from }
+    {
+        self.from
+    }
+
+    /// The level to which the tasks went, or on which they were settled.
+    pub fn target(&self) -> Level
+        ensures { result.0 ≡ self.now.target }
+    {
+        self.target
+    }
+
+    /// The patches.
+    pub fn patches(&self) -> &PatchStack
+        ensures { result.now ≡ self.now.patches }
+    {
+        &self.patches
+    }
+
+    /// Whether a task had the number, then or before.
+    pub fn used(&self, task: TaskId) -> bool
+        ensures { result ≡ not (is_unused (standings self.now.table task.0)) }
+    {
+        self.tasks.is_used(task)
+    }
+
+    /// The least number of a live task that is at or above a number.
+    pub fn next_live(&self, from: u16) -> Option<u16>
+        ensures { IsNextFrom (λ t. is_some (slot self.now.table t)) from result }
+    {
+        self.tasks.next_live(from)
+    }
+
+    /// A live task as it stood, lent; None for any other.
+    pub fn task(&self, task: TaskId) -> Option<View<'_>>
+        ensures { option_map seen result ≡ option_map (view_of task.0) (slot self.now.table task.0) }
+    {
+        let live = self.tasks.get(task)?;
+        Some(live.view(task))
+    }
+
+    /// The level of a live task; None for any other.
+    pub fn level_of(&self, task: TaskId) -> Option<Level>
+        ensures { option_map (λ level. level.0) result ≡ option_map (λ x. x.level) (slot self.now.table task.0) }
+    {
+        let live = self.tasks.get(task)?;
+        Some(live.level())
+    }
+
+    /// The group of a live task; None for any other.
+    pub fn group_of(&self, task: TaskId) -> Option<GroupId>
+        ensures { option_map (λ group. group.0) result ≡ option_map (λ x. x.group) (slot self.now.table task.0) }
+    {
+        let live = self.tasks.get(task)?;
+        Some(live.group())
+    }
+}
