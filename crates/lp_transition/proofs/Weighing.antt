@@ -1,7 +1,7 @@
 -- The answers of an engine to events of one task.
 use Rattle.std.proofs.Common.{◌≡◌, ◌≢◌, ◌<◌, ◌≤◌, ◌+◌, ◌-◌, ℕ, suc, Bool, true, false, not, ◌&&◌, List, [], ◌∷◌, length, set, get_or, Option, Some, None, IsTrue, nat_eq, if◌then◌else◌, refl, sym, ap, ap₂, ◌∙◌, subst, ⊎_elim, ◌↔◌, arith}
-use Rattle.std.proofs.lemmas.Bool.{not-false, cases_eq, eq-eqb, ne_eqb, cond-true, cond-false}
-use Rattle.std.proofs.lemmas.List.{length-set}
+use Rattle.std.proofs.lemmas.Bool.{not-false, cases_eq, eq-eqb, ne_eqb, cond-true, cond-false, cases_lt}
+use Rattle.std.proofs.lemmas.List.{length-set, get_or_past}
 use Rattle.lp_numbers.specs.Numbers.{Numbers, has}
 use Rattle.lp_stack.specs.declared.number.TaskId.{TaskId}
 use Rattle.lp_symbols.specs.declared.sym_id.SymId.{SymId}
@@ -16,13 +16,13 @@ use Rattle.lp_transition.specs.declared.reply.What.{What}
 use Rattle.lp_transition.specs.declared.reply.What.TheVariants.{Done, Switched}
 use Rattle.lp_transition.specs.declared.reply.Reply.{Reply}
 use Rattle.lp_transition.specs.Events.{is_control}
-use Rattle.lp_transition.specs.Tasks.{Fate, Live, Dead, change}
+use Rattle.lp_transition.specs.Tasks.{Fate, Unused, Live, Dead, change}
 use Rattle.lp_transition.specs.Leg.{Standing, State}
 use Rattle.lp_transition.specs.Run.{switched}
-use Rattle.lp_transition.specs.Machine.{at_rest, goes_over, going, bearing, refusal_of, affected, own_effect, calling, returning, put_in, told, answer}
-use Rattle.lp_transition.specs.Table.{Engine, slot, standings, changed, with_task, without_task, state_in, bounds_of, is_off}
+use Rattle.lp_transition.specs.Machine.{at_rest, goes_over, going, bearing, refusal_of, affected, own_effect, calling, returning, put_in, told, answer_by, answer}
+use Rattle.lp_transition.specs.Table.{Engine, slot, fate_at, standings, changed, with_task, without_task, state_in, bounds_of, is_off}
 use Rattle.lp_transition.specs.Kept.{IsKept}
-use Rattle.lp_transition.specs.Weigh.{Weighed, IsWeighed, moves, task_of, is_fork, child_of, born_by, born_of}
+use Rattle.lp_transition.specs.Weigh.{Weighed, IsWeighed, moves, task_of, is_fork, child_of, born_by, born_of, is_switched, refused_by}
 use Rattle.lp_transition.proofs.EngineLemmas.{is_quiet, quiet-control, quiet-stays, switched-still, answer-accepted}
 use Rattle.lp_transition.proofs.Quantifiers.{each_live-at, each_live-from}
 use Rattle.lp_transition.proofs.Accept.{fork-new}
@@ -157,6 +157,49 @@ module _ (model : Rules) (lawful : IsLawful model) (e : Engine) (waiting : Numbe
         ∙ ap₂ {A = What} {B = Bool} {C = Reply} (λ what b. record { what = what; completed = b }) (reports ∙ ap switched one)
           (sym (completed e new waiting (set waiting t false) members members t last kept taken.kept small refl lone))
 
+    -- and it does where the answer says that groups went over
+    pub goes-reported : (over : Bool) → (f x).group < 65536 → over ≡ is_switched (answer model (state_in e) event).what → goes_over model (affected model (state_in e) event) event (f x).group ≡ over
+    goes-reported over within is = by (goes_over model (affected model (state_in e) event) event (f x).group) refl
+      where
+        by : (b : Bool) → goes_over model (affected model (state_in e) event) event (f x).group ≡ b → goes_over model (affected model (state_in e) event) event (f x).group ≡ over
+        by false stays = stays ∙ sym (is ∙ ap (λ (r : Reply). is_switched r.what) (answer-stays stays))
+        by true goes =
+            let one = going-one model (affected model (state_in e) event) event (f x).group (omega (arith, within)) goes (λ n ne. others-stay_now model lawful e waiting members kept event kind t small f levels groups x there checks e refl own n (λ same. ne (sym same))) in
+            goes ∙ sym (is ∙ ap (λ (r : Reply). is_switched r.what) (answer-accepted model (state_in e) event accepted ∙ cond-false _ _ _ plain) ∙ ap is_switched (reports ∙ ap switched one))
+
+-- an answer refuses where the event is refused
+pub refused-as : (model : Rules) (s : State) (event : Event) → refused_by (answer model s event).what ≡ refusal_of model s event
+unfolding answer
+refused-as model s event = by (refusal_of model s event)
+  where
+    listed : (groups : List ℕ) → refused_by (switched groups) ≡ None
+    listed [] = refl
+    listed (group ∷ groups) = refl
+
+    told-none : (event : Event) → refused_by (told model s event) ≡ None
+    told-none (Call t f) = refl
+    told-none (Ret t) = listed (going model (affected model s (Ret t)) (Ret t))
+    told-none (Sleep t) = listed (going model (affected model s (Sleep t)) (Sleep t))
+    told-none (Wake t) = listed (going model (affected model s (Wake t)) (Wake t))
+    told-none (Enter t) = listed (going model (affected model s (Enter t)) (Enter t))
+    told-none (Exit t) = listed (going model (affected model s (Exit t)) (Exit t))
+    told-none (Idle t) = listed (going model (affected model s (Idle t)) (Idle t))
+    told-none (Fork p c how) = listed (going model (affected model s (Fork p c how)) (Fork p c how))
+    told-none (Die t) = listed (going model (affected model s (Die t)) (Die t))
+    told-none Walk = listed (going model (affected model s Walk) Walk)
+    told-none Stop = listed (going model (affected model s Stop) Stop)
+    told-none Enable = listed (going model (affected model s Enable) Enable)
+    told-none Disable = listed (going model (affected model s Disable) Disable)
+    told-none Reverse = listed (going model (affected model s Reverse) Reverse)
+
+    accepted : (control : Bool) → is_control event ≡ control → refused_by (answer_by model s event None).what ≡ None
+    accepted true is = ap (λ (r : Reply). refused_by r.what) (cond-true _ _ _ is)
+    accepted false is = ap (λ (r : Reply). refused_by r.what) (cond-false _ _ _ is) ∙ told-none event
+
+    by : (r : Option Refusal) → refused_by (answer_by model s event r).what ≡ r
+    by (Some why) = refl
+    by None = accepted (is_control event) refl
+
 -- the child that an accepted fork brings
 pub born-child : (model : Rules) (e : Engine) (p c : TaskId) (how : ForkKind) (x : Standing) → refusal_of model (state_in e) (Fork p c how) ≡ None → slot e.table p.0 ≡ Some x
     → Some (bearing model.child_group c.0 how x) ≡ born_of model (state_in e) (Fork p c how)
@@ -195,3 +238,13 @@ weighed-as model e step event reply born room is answers bears =
     let weighed : Weighed = record { event = event; reply = reply; verdicts = []; born = born } in
     let there : IsWeighed model e weighed = record { room = room; reply = answers; born = bears } in
     subst (IsWeighed model e) (sym is) there
+
+-- the group of a live task is a number below 65,536
+pub group-below : (e : Engine) (waiting : Numbers) (members : List ℕ) (t : ℕ) (x : Standing) → IsKept e waiting members → slot e.table t ≡ Some x → x.group < 65536
+group-below e waiting members t x kept there = ⊎_elim (λ (h : x.group < 65536). h) (λ (h : 65536 ≤ x.group). absurd (past h)) (cases_lt x.group 65536)
+  where
+    unused : 65536 ≤ x.group → standings e.table x.group ≡ Unused
+    unused h = ap₂ fate_at (get_or_past e.table.slots x.group None (omega (arith, h, kept.wide.slots))) (get_or_past e.table.used x.group false (omega (arith, h, kept.wide.used)))
+
+    past : 65536 ≤ x.group → ⊥
+    past h = ⊎_elim (λ (zero : x.group ≡ 0). omega (arith, h, zero)) (λ (some : standings e.table x.group ≡ Unused → ⊥). some (unused h)) (kept.sound.grouped t x (live_from_slot e.table t x there))

@@ -5,6 +5,8 @@ use Rattle.lp_model.specs.declared.verdict.Verdict.{Verdict}
 use Rattle.lp_transition.specs.declared.event.Event.{Event}
 use Rattle.lp_transition.specs.declared.event.Event.TheVariants.{Ret, Sleep, Wake, Enter, Fork}
 use Rattle.lp_transition.specs.declared.refusal.Refusal.{Refusal}
+use Rattle.lp_transition.specs.declared.reply.What.{What}
+use Rattle.lp_transition.specs.declared.reply.What.TheVariants.{Switched, Refused}
 use Rattle.lp_transition.specs.declared.reply.Reply.{Reply}
 use Rattle.lp_transition.specs.Tasks.{Fate, Unused, Live, Dead, Grouping}
 use Rattle.lp_transition.specs.Leg.{Standing, State}
@@ -55,3 +57,15 @@ task_of _ = 0
 abbrev pub is_fork : Event → Bool
 is_fork (Fork p c how) = true
 is_fork _ = false
+
+-- ---- What an event did
+
+-- it took groups over
+abbrev pub is_switched : What → Bool
+is_switched (Switched groups) = true
+is_switched _ = false
+
+-- why it was refused; None where it was accepted
+abbrev pub refused_by : What → Option Refusal
+refused_by (Refused why) = Some why
+refused_by _ = None

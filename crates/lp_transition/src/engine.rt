@@ -12,6 +12,7 @@ mod live_task;
 mod opening;
 mod parts;
 mod refuse;
+mod run;
 mod scan;
 mod step;
 mod take;

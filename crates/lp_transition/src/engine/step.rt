@@ -65,6 +65,9 @@ impl Model for Step {
 }
 
 impl Step {
+    ghost use Rattle.std.specs.Prelude.{Box};
+    ghost use Rattle.std.specs.Global.{Global};
+    ghost use Rattle.lp_transition.specs.Leg.{Standing};
     ghost use Rattle.lp_transition.specs.Weigh.{Weighed};
 
     /// The event.
@@ -86,6 +89,23 @@ impl Step {
         ensures { result.now ≡ self.now.verdicts }
     {
         self.verdicts.as_slice()
+    }
+
+    /// The answer, given back. Takes no memory.
+    pub(super) fn into_reply(self) -> Reply
+        ensures { result ≡ self.reply }
+    {
+        let Self { reply, .. } = self;
+        reply
+    }
+
+    /// The answer, and the child that an accepted fork brings. Takes no memory.
+    pub(super) fn into_parts(self) -> (Reply, Option<Box<LiveTask>>)
+        ensures reply { result.0 ≡ self.reply }
+        ensures born { option_map (λ (b : Box Standing Global). b.value) result.1 ≡ self.born }
+    {
+        let Self { reply, born, .. } = self;
+        (reply, born)
     }
 
     /// Of a scan, the groups that go over; None where none does.

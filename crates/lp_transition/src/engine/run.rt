@@ -1,0 +1,187 @@
+//! The events of a run: each is weighed, and taken as it was answered.
+ghost use Rattle.std.specs.Prelude.{◌≡◌, ◌≤◌, ◌<◌, ◌↔◌, map, true, false, None, Some, Err, IfOk, OnErr};
+ghost use Rattle.std.specs.Option.{option_map};
+ghost use Rattle.lp_stack.specs.TaskView.{seen};
+ghost use Rattle.lp_patch.specs.Aimed.{aimed};
+ghost use Rattle.lp_transition.specs.declared.engine.step.Halt.TheVariants.{JournalFull};
+ghost use Rattle.lp_transition.specs.Events.{is_scan};
+ghost use Rattle.lp_transition.specs.Scan.{is_scan_kind, scan_event, verdict_of};
+ghost use Rattle.lp_transition.specs.Steps.{IsStep};
+ghost use Rattle.lp_transition.specs.Table.{state_in};
+ghost use Rattle.lp_transition.specs.Weigh.{IsWeighed, born_of, is_switched, refused_by};
+ghost use Rattle.lp_transition.specs.Machine.{refusal_of, answer, next};
+
+use super::live_task::LiveTask;
+use super::step::{Halt, Step};
+use super::{Core, MOST_EVENTS};
+use crate::{Event, Refusal, Reply, What};
+use lp_model::{CheckKind, Consistency, Verdict};
+use lp_patch::Aim;
+use lp_stack::{TaskId, View};
+use std::alloc::{AllocError, Global};
+
+impl<M: Consistency> Core<M> {
+    ghost use Rattle.std.specs.Prelude.{Box};
+    ghost use Rattle.std.specs.Global.{Global};
+    ghost use Rattle.lp_transition.specs.Leg.{Standing};
+
+    /// One event: answers and takes it. Where it fails the engine is as it was: NoMemory where a
+    /// growth was refused, JournalFull where no event is left.
+    pub fn step(&mut self, alloc: Global, event: Event) -> Result<Reply, Halt>
+        ensures full { (result ≡ Err JournalFull) ↔ (1000000 ≤ self.old.number) }
+        ensures step { IfOk result (λ reply. IsStep M.rules (state_in self.old) event reply (state_in self.new)) }
+        ensures unchanged { OnErr result (self.new ≡ self.old) }
+    {
+        let step = self.weigh_any(alloc, event)?;
+        Ok(self.take(step))
+    }
+
+    /// Takes an event that was weighed on this engine, and answers it. Takes no memory.
+    pub fn take(&mut self, step: Step) -> Reply
+        requires { IsWeighed M.rules self.old step }
+        ensures reply { result ≡ step.reply }
+        ensures step { IsStep M.rules (state_in self.old) step.event result (state_in self.new) }
+    {
+        let event = step.event();
+        if event.is_scan() {
+            self.take_scan(&step);
+            return step.into_reply();
+        }
+        let (reply, born) = step.into_parts();
+        match refusal_in(&reply.what) {
+            Some(why) => self.take_refused(event, why),
+            None => self.take_accepted(event, is_switched(&reply.what), born),
+        }
+        reply
+    }
+
+    /// Any event, weighed.
+    fn weigh_any(&self, alloc: Global, event: Event) -> Result<Step, Halt>
+        ensures full { (result ≡ Err JournalFull) ↔ (1000000 ≤ self.now.number) }
+        ensures weighed { IfOk result (λ step. IsWeighed M.rules self.now step) }
+        ensures event { IfOk result (λ step. step.event ≡ event) }
+    {
+        match event {
+            Event::Walk => self.weigh_check(alloc, CheckKind::Walk),
+            Event::Stop => self.weigh_check(alloc, CheckKind::Stop),
+            _ => self.weigh(alloc, event),
+        }
+    }
+
+    /// A walk or a stop, weighed after a look at every waiting task.
+    fn weigh_check(&self, alloc: Global, kind: CheckKind) -> Result<Step, Halt>
+        requires scan { is_scan_kind kind ≡ true }
+        ensures full { (result ≡ Err JournalFull) ↔ (1000000 ≤ self.now.number) }
+        ensures weighed { IfOk result (λ step. IsWeighed M.rules self.now step) }
+        ensures event { IfOk result (λ step. step.event ≡ scan_event kind) }
+    {
+        if self.events >= MOST_EVENTS {
+            return Err(Halt::JournalFull);
+        }
+        let views = self.views(alloc)?;
+        let aim = self.aim();
+        let verdicts = verdicts(alloc, &self.model, kind, views.as_slice(), &aim)?;
+        self.weigh_scan(alloc, kind, verdicts.as_slice())
+    }
+
+    /// A refused event: it is numbered, and changes nothing else.
+    fn take_refused(&mut self, event: Event, why: Refusal)
+        requires room { self.old.number < 1000000 }
+        requires refused { refusal_of M.rules (state_in self.old) event ≡ Some why }
+        ensures { state_in self.new ≡ next M.rules (state_in self.old) event }
+    {
+        self.events += 1;
+    }
+
+    /// An accepted event that is no scan. Over says whether it takes a group over.
+    fn take_accepted(&mut self, event: Event, over: bool, born: Option<Box<LiveTask>>)
+        requires room { self.old.number < 1000000 }
+        requires accepted { refusal_of M.rules (state_in self.old) event ≡ None }
+        requires scan { is_scan event ≡ false }
+        requires over { over ≡ is_switched (answer M.rules (state_in self.old) event).what }
+        requires born { option_map (λ (b : Box Standing Global). b.value) born ≡ born_of M.rules (state_in self.old) event }
+        ensures { state_in self.new ≡ next M.rules (state_in self.old) event }
+    {
+        let _ = &self.tasks;
+        match event {
+            Event::Call(task, func) => self.take_call(task, func),
+            Event::Ret(task) => self.take_ret(task),
+            Event::Sleep(task) => self.take_sleep(task),
+            Event::Wake(task) => self.take_wake(task),
+            Event::Enter(task) => self.take_enter(task),
+            Event::Exit(task) => self.leave(task, over),
+            Event::Idle(task) => self.pause(task, over),
+            Event::Fork(parent, child, how) => {
+                let Some(live) = born else { unreachable!() };
+                self.take_fork(parent, child, how, live);
+            }
+            Event::Die(task) => self.take_die(task),
+            Event::Enable | Event::Disable | Event::Reverse => self.take_control(event),
+            Event::Walk | Event::Stop => unreachable!(),
+        }
+    }
+
+    /// An accepted exit.
+    fn leave(&mut self, task: TaskId, over: bool)
+        requires room { self.old.number < 1000000 }
+        requires accepted { refusal_of M.rules (state_in self.old) (Event.Exit task) ≡ None }
+        requires over { over ≡ is_switched (answer M.rules (state_in self.old) (Event.Exit task)).what }
+        ensures { state_in self.new ≡ next M.rules (state_in self.old) (Event.Exit task) }
+    {
+        let _ = &self.tasks;
+        if over {
+            self.take_exit_over(task);
+        } else {
+            self.take_exit(task);
+        }
+    }
+
+    /// An accepted idle point.
+    fn pause(&mut self, task: TaskId, over: bool)
+        requires room { self.old.number < 1000000 }
+        requires accepted { refusal_of M.rules (state_in self.old) (Event.Idle task) ≡ None }
+        requires over { over ≡ is_switched (answer M.rules (state_in self.old) (Event.Idle task)).what }
+        ensures { state_in self.new ≡ next M.rules (state_in self.old) (Event.Idle task) }
+    {
+        let _ = &self.tasks;
+        if over {
+            self.take_idle_over(task);
+        } else {
+            self.take_idle(task);
+        }
+    }
+}
+
+/// What a check of a kind finds of each task.
+fn verdicts<M: Consistency>(
+    alloc: Global,
+    model: &M,
+    kind: CheckKind,
+    views: &[View<'_>],
+    aim: &Aim<'_>,
+) -> Result<Vec<Verdict>, AllocError>
+    ensures { IfOk result (λ found. found.items ≡ map (verdict_of M.rules kind (aimed aim.now)) (map seen views.now)) }
+{
+    let mut found = Vec::with_capacity(alloc, views.len())?;
+    for view in views {
+        found.push(Verdict::of(model, kind, view, aim))?;
+    }
+    Ok(found)
+}
+
+/// Whether groups went over.
+fn is_switched(what: &What) -> bool
+    ensures { result ≡ is_switched what.now }
+{
+    matches!(what, What::Switched(_))
+}
+
+/// Why the event was refused; None where it was accepted.
+fn refusal_in(what: &What) -> Option<Refusal>
+    ensures { result ≡ refused_by what.now }
+{
+    match what {
+        What::Refused(why) => Some(*why),
+        _ => None,
+    }
+}
