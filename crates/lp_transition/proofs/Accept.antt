@@ -8,7 +8,6 @@ use Rattle.lp_stack.specs.declared.view.Class.TheVariants.{Normal, Idle as IsIdl
 use Rattle.lp_stack.specs.declared.view.Mode.TheVariants.{Kernel}
 use Rattle.lp_model.specs.Rules.{Rules}
 use Rattle.lp_model.specs.declared.check.ForkKind.{ForkKind}
-use Rattle.lp_transition.specs.declared.event.Event.{Event}
 use Rattle.lp_transition.specs.declared.event.Event.TheVariants.{Call, Exit, Idle, Fork, Die, Enable}
 use Rattle.lp_transition.specs.declared.refusal.Refusal.{Refusal}
 use Rattle.lp_transition.specs.declared.refusal.Refusal.TheVariants.{UnknownTask, TaskRange, TaskUsed, StackFull, InTransition, AlreadyThere}

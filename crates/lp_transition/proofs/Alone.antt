@@ -1,6 +1,6 @@
 -- A check that a task makes alone: where it leaves the kernel, or at an idle task's point.
-use Rattle.std.proofs.Common.{◌≡◌, ◌≢◌, ◌<◌, ◌≤◌, ℕ, suc, Bool, true, false, not, ◌&&◌, ◌||◌, Option, Some, None, IsTrue, nat_eq, if◌then◌else◌, refl, sym, ap, ap₂, ◌∙◌, subst, ◌⊎◌, ⊎_elim, inl, inr}
-use Rattle.std.proofs.lemmas.Bool.{cases_Bool, cases_eq, eq-eqb, ne_eqb, eqb-true, cond-true, cond-false, and_parts, and_from, or_left, or_right, not-true}
+use Rattle.std.proofs.Common.{◌≡◌, ◌≢◌, ◌<◌, ◌≤◌, ℕ, Bool, true, false, not, ◌&&◌, ◌||◌, Some, None, IsTrue, nat_eq, refl, sym, ap, ap₂, ◌∙◌, subst, ◌⊎◌, ⊎_elim, inl, inr}
+use Rattle.std.proofs.lemmas.Bool.{cases_Bool, eq-eqb, ne_eqb, eqb-true, cond-true, cond-false, and_parts, or_left, or_right}
 use Rattle.std.specs.Bool.{one_answer}
 use mathlib.Core.Path.{fun_ext}
 use Rattle.lp_model.specs.Rules.{Rules, IsLawful}
@@ -8,10 +8,9 @@ use Rattle.lp_model.specs.declared.check.CheckKind.{CheckKind}
 use Rattle.lp_transition.specs.declared.event.Event.{Event}
 use Rattle.lp_transition.specs.Tasks.{Fate, Unused, Live, Dead, Bounds, on_live, map_live, change}
 use Rattle.lp_transition.specs.Leg.{Standing, State, each_live, some_live, each_task, some_task, is_alone, check_by, when, if_used}
-use Rattle.lp_transition.specs.Sound.{IsSound}
-use Rattle.lp_transition.specs.Machine.{Standings, outlines_of, outline_of, view_of, is_behind, admits_all, goes_over, moved_task}
+use Rattle.lp_transition.specs.Machine.{Standings, outlines_of, outline_of, view_of, is_behind, admits_all, goes_over}
 use Rattle.lp_transition.proofs.EngineLemmas.{and-false}
-use Rattle.lp_transition.proofs.Quantifiers.{each_live-at, each_live-from, some_live-is, some_live-from}
+use Rattle.lp_transition.proofs.Quantifiers.{each_live-at, each_live-from}
 
 -- ---- A change of one task that keeps its level and its group
 
@@ -69,9 +68,10 @@ module _ (bounds : Bounds) (now : Standings) (group t : ℕ) (x : Standing) (liv
   -- so it alone is asked
   pub alone-asked : (admits : ℕ → Standing → Bool) → 0 < t → t ≤ bounds.tasks → each_live bounds now (λ u y. not (nat_eq y.group group) || admits u y) ≡ admits t x
   alone-asked admits positive within =
-      one_answer (each_live bounds now (λ u y. not (nat_eq y.group group) || admits u y)) (admits t x)
-      ((λ all. or_second (nat_eq x.group group) (admits t x) (eq-eqb x.group group mine) (each_live-at bounds now (λ u y. not (nat_eq y.group group) || admits u y) all t x positive within live)),
-        (λ admitted. each_live-from bounds now (λ u y. not (nat_eq y.group group) || admits u y) (λ u y p w there. asked u y p w there admitted (cases_Bool (nat_eq y.group group)))))
+      one_answer (each_live bounds now (λ u y. not (nat_eq y.group group) || admits u y)) (admits t x) (
+        (λ all. or_second (nat_eq x.group group) (admits t x) (eq-eqb x.group group mine) (each_live-at bounds now (λ u y. not (nat_eq y.group group) || admits u y) all t x positive within live)),
+        (λ admitted. each_live-from bounds now (λ u y. not (nat_eq y.group group) || admits u y) (λ u y p w there. asked u y p w there admitted (cases_Bool (nat_eq y.group group)))),
+      )
       ((λ e. e), (λ e. e))
     where
       asked : (u : ℕ) (y : Standing) → 0 < u → u ≤ bounds.tasks → now u ≡ Live y → admits t x ≡ true → (nat_eq y.group group ≡ true) ⊎ (nat_eq y.group group ≡ false) → IsTrue (not (nat_eq y.group group) || admits u y)

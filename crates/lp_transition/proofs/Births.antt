@@ -1,5 +1,5 @@
 -- The engine after a task is born, or ends.
-use Rattle.std.proofs.Common.{◌≡◌, ◌≢◌, ℕ, suc, ◌+◌, ◌-◌, ◌<◌, ◌≤◌, Bool, true, false, not, List, length, set, get_or, count_by, Option, Some, None, if◌then◌else◌, nat_eq, refl, sym, ap, ◌∙◌, subst, ⊎_elim, arith}
+use Rattle.std.proofs.Common.{◌≡◌, ℕ, suc, ◌+◌, ◌-◌, ◌<◌, ◌≤◌, true, false, not, List, length, set, get_or, count_by, Some, None, if◌then◌else◌, nat_eq, refl, sym, ap, ◌∙◌, subst, ⊎_elim, arith}
 use Rattle.std.proofs.lemmas.Bool.{cases_eq, eq-eqb, ne_eqb, cond-true, cond-false}
 use Rattle.std.proofs.lemmas.List.{length-set, get_or-set_same, get_or-set_other}
 use Rattle.std.proofs.lemmas.List.{get_or_default}
@@ -9,17 +9,15 @@ use Rattle.lp_numbers.specs.Numbers.{Numbers, has}
 use Rattle.lp_stack.specs.declared.number.TaskId.{TaskId}
 use Rattle.lp_model.specs.Rules.{Rules, IsLawful}
 use Rattle.lp_model.specs.declared.check.ForkKind.{ForkKind}
-use Rattle.lp_transition.specs.declared.event.Event.{Event}
 use Rattle.lp_transition.specs.declared.event.Event.TheVariants.{Fork, Die}
-use Rattle.lp_transition.specs.Events.{is_control}
-use Rattle.lp_transition.specs.Tasks.{Fate, Live, Dead, map_live}
+use Rattle.lp_transition.specs.Tasks.{Live, map_live}
 use Rattle.lp_transition.specs.Leg.{Standing}
-use Rattle.lp_transition.specs.Machine.{refusal_of, next, own_effect, bearing, affected}
-use Rattle.lp_transition.specs.Table.{Table, Engine, IsWide, IsKnown, slot, standings, with_task, without_task, state_in, is_off, is_in}
+use Rattle.lp_transition.specs.Machine.{refusal_of, own_effect, bearing, affected}
+use Rattle.lp_transition.specs.Table.{Table, Engine, IsWide, slot, standings, with_task, without_task, state_in, is_off, is_in}
 use Rattle.lp_transition.specs.Kept.{IsKept}
 use Rattle.lp_transition.specs.Weigh.{born_of, born_by, child_of}
-use Rattle.lp_transition.proofs.EngineLemmas.{is_quiet, quiet-control, quiet-stays, next-still}
-use Rattle.lp_transition.proofs.Accept.{IsLive, fork-live, fork-new, die-live}
+use Rattle.lp_transition.proofs.EngineLemmas.{quiet-control, quiet-stays, next-still}
+use Rattle.lp_transition.proofs.Accept.{fork-live, fork-new}
 use Rattle.lp_transition.proofs.TableLemmas.{standings-with_task, standings-without_task, slot-with_task, slot-with_task_other, slot-without_task, slot-without_task_other, IsWide-with_task, IsWide-without_task, live_from_slot}
 use Rattle.lp_transition.proofs.CountLemmas.{count-with_task, count-without_task}
 use Rattle.lp_transition.proofs.Effects.{HasTaken, with_table, state-with_table, sound_next}
@@ -29,28 +27,28 @@ counted-more : (members : List ℕ) (group h n : ℕ) → group < length members
 counted-more members group h n within is =
     ⊎_elim
     (λ (e : h ≡ group).
-      let one : ◌≡◌ {A = ℕ} (if nat_eq group h then 1 else 0) 1 = cond-true _ _ _ (eq-eqb group h (sym e)) in
-      let here : get_or (set members group (get_or members group 0 + 1)) h 0 ≡ get_or members group 0 + 1 = subst (λ k. get_or (set members group (get_or members group 0 + 1)) k 0 ≡ get_or members group 0 + 1) (sym e) (get_or-set_same members group (get_or members group 0 + 1) 0 within) in
-      let same : get_or members group 0 ≡ n = subst (λ k. get_or members k 0 ≡ n) e is in
-      omega (arith, one, here, same))
+    let one : ◌≡◌ {A = ℕ} (if nat_eq group h then 1 else 0) 1 = cond-true _ _ _ (eq-eqb group h (sym e)) in
+    let here : get_or (set members group (get_or members group 0 + 1)) h 0 ≡ get_or members group 0 + 1 = subst (λ k. get_or (set members group (get_or members group 0 + 1)) k 0 ≡ get_or members group 0 + 1) (sym e) (get_or-set_same members group (get_or members group 0 + 1) 0 within) in
+    let same : get_or members group 0 ≡ n = subst (λ k. get_or members k 0 ≡ n) e is in
+    omega (arith, one, here, same))
     (λ (ne : h ≡ group → ⊥).
-      let none : ◌≡◌ {A = ℕ} (if nat_eq group h then 1 else 0) 0 = cond-false _ _ _ (ne_eqb group h (λ e. ne (sym e))) in
-      let here = get_or-set_other members group h (get_or members group 0 + 1) 0 ne in
-      omega (arith, none, here, is))
+    let none : ◌≡◌ {A = ℕ} (if nat_eq group h then 1 else 0) 0 = cond-false _ _ _ (ne_eqb group h (λ e. ne (sym e))) in
+    let here = get_or-set_other members group h (get_or members group 0 + 1) 0 ne in
+    omega (arith, none, here, is))
     (cases_eq h group)
 
 counted-fewer : (members : List ℕ) (group h n : ℕ) → group < length members → get_or members h 0 ≡ n + (if nat_eq group h then 1 else 0) → get_or (set members group (get_or members group 0 - 1)) h 0 ≡ n
 counted-fewer members group h n within is =
     ⊎_elim
     (λ (e : h ≡ group).
-      let one : ◌≡◌ {A = ℕ} (if nat_eq group h then 1 else 0) 1 = cond-true _ _ _ (eq-eqb group h (sym e)) in
-      let here : get_or (set members group (get_or members group 0 - 1)) h 0 ≡ get_or members group 0 - 1 = subst (λ k. get_or (set members group (get_or members group 0 - 1)) k 0 ≡ get_or members group 0 - 1) (sym e) (get_or-set_same members group (get_or members group 0 - 1) 0 within) in
-      let same : get_or members group 0 ≡ get_or members h 0 = ap (λ k. get_or members k 0) (sym e) in
-      omega (arith, one, here, same, is))
+    let one : ◌≡◌ {A = ℕ} (if nat_eq group h then 1 else 0) 1 = cond-true _ _ _ (eq-eqb group h (sym e)) in
+    let here : get_or (set members group (get_or members group 0 - 1)) h 0 ≡ get_or members group 0 - 1 = subst (λ k. get_or (set members group (get_or members group 0 - 1)) k 0 ≡ get_or members group 0 - 1) (sym e) (get_or-set_same members group (get_or members group 0 - 1) 0 within) in
+    let same : get_or members group 0 ≡ get_or members h 0 = ap (λ k. get_or members k 0) (sym e) in
+    omega (arith, one, here, same, is))
     (λ (ne : h ≡ group → ⊥).
-      let none : ◌≡◌ {A = ℕ} (if nat_eq group h then 1 else 0) 0 = cond-false _ _ _ (ne_eqb group h (λ e. ne (sym e))) in
-      let here = get_or-set_other members group h (get_or members group 0 - 1) 0 ne in
-      omega (arith, none, here, is))
+    let none : ◌≡◌ {A = ℕ} (if nat_eq group h then 1 else 0) 0 = cond-false _ _ _ (ne_eqb group h (λ e. ne (sym e))) in
+    let here = get_or-set_other members group h (get_or members group 0 - 1) 0 ne in
+    omega (arith, none, here, is))
     (cases_eq h group)
 
 -- a live task is counted in its group
@@ -81,8 +79,8 @@ off-without_task : (table : Table) (waiting : Numbers) (t target : ℕ) → IsWi
 off-without_task table waiting t target wide long h waits u =
     ⊎_elim
     (λ (e : u ≡ t).
-      let within : t < length waiting = omega (arith, long) in
-      subst (λ v. has (set waiting t false) v ≡ is_off target (slot (without_task t table) v)) (sym e) (get_or-set_same waiting t false false within ∙ sym (ap (is_off target) (slot-without_task table t wide h))))
+    let within : t < length waiting = omega (arith, long) in
+    subst (λ v. has (set waiting t false) v ≡ is_off target (slot (without_task t table) v)) (sym e) (get_or-set_same waiting t false false within ∙ sym (ap (is_off target) (slot-without_task table t wide h))))
     (λ (ne : u ≡ t → ⊥). get_or-set_other waiting t u false false ne ∙ waits u ∙ sym (ap (is_off target) (slot-without_task_other table t u ne)))
     (cases_eq u t)
 
@@ -98,9 +96,9 @@ module _ (model : Rules) (lawful : IsLawful model) where
       let child : Some (bearing model.child_group c.0 how parent.task) ≡ Some x = subst (λ f. child_of model.child_group c.0 (Fork p c how) f ≡ Some x) fate brought in
       let is : bearing model.child_group c.0 how parent.task ≡ x = cc in
       let own : standings (with_task c.0 x e.table) ≡ own_effect model.child_group (suc e.number) event (standings e.table) =
-          standings-with_task e.table c.0 x kept.wide h ∙ fun_ext (λ u. ap (λ f. if nat_eq u c.0 then f else standings e.table u) (sym (ap (map_live (bearing model.child_group c.0 how)) fate ∙ ap Live is))) in
+      standings-with_task e.table c.0 x kept.wide h ∙ fun_ext (λ u. ap (λ f. if nat_eq u c.0 then f else standings e.table u) (sym (ap (map_live (bearing model.child_group c.0 how)) fate ∙ ap Live is))) in
       let there = state-with_table e (with_task c.0 x e.table) (own_effect model.child_group (suc e.number) event (standings e.table)) own
-          ∙ sym (next-still model (state_in e) event accepted (quiet-control model event refl) (λ g. quiet-stays model (affected model (state_in e) event) event g refl)) in
+      ∙ sym (next-still model (state_in e) event accepted (quiet-control model event refl) (λ g. quiet-stays model (affected model (state_in e) event) event g refl)) in
       let new = fork-new model e p c how accepted in
       let wide_members : group < length members = omega (arith, kept.groups) in
       record {
@@ -136,7 +134,7 @@ module _ (model : Rules) (lawful : IsLawful model) where
   by_death e waiting members t x group kept long h room accepted there known same within =
       let event = Die t in
       let gone = state-with_table e (without_task t.0 e.table) (own_effect model.child_group (suc e.number) event (standings e.table)) (standings-without_task e.table t.0 kept.wide h known)
-          ∙ sym (next-still model (state_in e) event accepted (quiet-control model event refl) (λ g. quiet-stays model (affected model (state_in e) event) event g refl)) in
+      ∙ sym (next-still model (state_in e) event accepted (quiet-control model event refl) (λ g. quiet-stays model (affected model (state_in e) event) event g refl)) in
       let wide_members : group < length members = omega (arith, kept.groups) in
       record {
         kept = record {

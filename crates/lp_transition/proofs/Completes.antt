@@ -1,23 +1,19 @@
 -- When an event completes a transition, and which groups it reports.
-use Rattle.std.proofs.Common.{◌≡◌, ◌≢◌, ◌<◌, ◌≤◌, ◌+◌, ℕ, suc, Bool, true, false, not, ◌&&◌, List, [], ◌∷◌, length, set, Option, Some, None, IsTrue, nat_eq, if◌then◌else◌, refl, sym, ap, ap₂, ◌∙◌, subst, ⊎_elim, ◌↔◌, arith}
-use Rattle.std.proofs.lemmas.Bool.{cases_Bool, cases_eq, eq-eqb, ne_eqb, cond-true, cond-false, not-true, not-false}
+use Rattle.std.proofs.Common.{◌≡◌, ◌≢◌, ◌<◌, ℕ, Bool, true, false, not, ◌&&◌, List, length, set, None, IsTrue, refl, sym, ap, ◌∙◌, subst, ⊎_elim, ◌↔◌, arith}
+use Rattle.std.proofs.lemmas.Bool.{cases_eq, cond-false}
 use Rattle.std.proofs.lemmas.List.{get_or-set_same, get_or-set_other}
-use Rattle.std.specs.Bool.{one_answer}
-use Rattle.std.specs.List.{filter, range_with_len}
 use Rattle.lp_numbers.specs.Numbers.{Numbers, has, IsEmpty}
-use Rattle.lp_model.specs.Rules.{Rules, IsLawful}
+use Rattle.lp_model.specs.Rules.{Rules}
 use Rattle.lp_transition.specs.declared.event.Event.{Event}
-use Rattle.lp_transition.specs.declared.reply.What.{What}
 use Rattle.lp_transition.specs.declared.reply.Reply.{Reply}
 use Rattle.lp_transition.specs.Events.{is_control}
-use Rattle.lp_transition.specs.Leg.{Standing, State, each_live}
-use Rattle.lp_transition.specs.Machine.{at_rest, goes_over, going, refusal_of, affected, switched_over, next, told, answer, answer_by}
-use Rattle.lp_transition.specs.Table.{Table, Engine, state_in, slot, standings, bounds_of, is_off}
+use Rattle.lp_transition.specs.Leg.{State}
+use Rattle.lp_transition.specs.Machine.{at_rest, refusal_of, switched_over, next, told, answer}
+use Rattle.lp_transition.specs.Table.{Engine, state_in}
 use Rattle.lp_transition.specs.Kept.{IsKept}
-use Rattle.lp_transition.proofs.EngineLemmas.{and-false, next-accepted, answer-accepted}
+use Rattle.lp_transition.proofs.EngineLemmas.{next-accepted, answer-accepted}
 use Rattle.lp_transition.proofs.TableLemmas.{slot-zero}
 use Rattle.lp_transition.proofs.MemberLemmas.{rest}
-use Rattle.lp_transition.proofs.Effects.{HasTaken}
 
 -- nobody waits exactly where the machine is at rest
 pub resting : (e : Engine) (waiting : Numbers) (members : List ℕ) → IsKept e waiting members → IsEmpty waiting ↔ IsTrue (at_rest (state_in e))
@@ -91,6 +87,6 @@ completed e new waiting now members counts t last kept kept' small removed lone 
     emptied alone u =
         ap (λ n. has n u) removed
         ∙ ⊎_elim
-          (λ (same : u ≡ t). let within : t < length waiting = omega (arith, kept.waiting_wide, small) in subst (λ v. has (set waiting t false) v ≡ false) (sym same) (get_or-set_same waiting t false false within))
-          (λ (ne : u ≡ t → ⊥). get_or-set_other waiting t u false false ne ∙ alone u ne)
-          (cases_eq u t)
+        (λ (same : u ≡ t). let within : t < length waiting = omega (arith, kept.waiting_wide, small) in subst (λ v. has (set waiting t false) v ≡ false) (sym same) (get_or-set_same waiting t false false within))
+        (λ (ne : u ≡ t → ⊥). get_or-set_other waiting t u false false ne ∙ alone u ne)
+        (cases_eq u t)

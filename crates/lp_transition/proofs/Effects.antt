@@ -95,7 +95,7 @@ module _ (model : Rules) (lawful : IsLawful model) where
       → HasTaken model old event (with_table e.table e) waiting members
   takes_nothing e old waiting members event was kept room plain none accepted own =
       let there = state-with_table e e.table (own_effect model.child_group (suc e.number) event (standings e.table)) (sym own)
-            ∙ sym (next-still model (state_in e) event (subst (λ o. refusal_of model (state_in o) event ≡ None) (sym was) accepted) plain (subst (λ o. (group : ℕ) → goes_over model (affected model (state_in o) event) event group ≡ false) (sym was) none)) in
+      ∙ sym (next-still model (state_in e) event (subst (λ o. refusal_of model (state_in o) event ≡ None) (sym was) accepted) plain (subst (λ o. (group : ℕ) → goes_over model (affected model (state_in o) event) event group ≡ false) (sym was) none)) in
       let fits : e.number < 1000000 = subst (λ o. o.number < 1000000) (sym was) room in
       subst (λ o. HasTaken model o event (with_table e.table e) waiting members) was (record {
         kept = record {

@@ -3,14 +3,13 @@ use Rattle.std.proofs.Common.{◌≡◌, ℕ, Bool, true, false, not, ◌&&◌, 
 use Rattle.std.proofs.lemmas.Bool.{cond-true, cond-false}
 use mathlib.Core.Path.{fun_ext}
 use Rattle.lp_model.specs.Rules.{Rules}
-use Rattle.lp_model.specs.declared.check.CheckKind.{CheckKind}
 use Rattle.lp_transition.specs.declared.event.Event.{Event}
 use Rattle.lp_transition.specs.declared.event.Event.TheVariants.{Call, Ret, Sleep, Wake, Enter, Exit, Idle, Fork, Die, Walk, Stop, Enable, Disable, Reverse}
 use Rattle.lp_transition.specs.declared.refusal.Refusal.{Refusal}
 use Rattle.lp_transition.specs.Events.{is_control}
-use Rattle.lp_transition.specs.Tasks.{Fate, Unused, Live, Dead, on_live, map_live, is_unused, change}
-use Rattle.lp_transition.specs.Leg.{Standing, State, each_live, each_task}
-use Rattle.lp_transition.specs.Machine.{at_rest, is_behind, admits_all, goes_over, moved_task, refusal_of, counted, affected, switched_over, turned, next_by, next, answer_by, answer, own_effect}
+use Rattle.lp_transition.specs.Tasks.{Fate, Unused, Live, Dead, on_live, map_live, is_unused}
+use Rattle.lp_transition.specs.Leg.{Standing, State}
+use Rattle.lp_transition.specs.Machine.{is_behind, goes_over, moved_task, refusal_of, counted, affected, switched_over, turned, next_by, next, answer_by, answer}
 use Rattle.lp_transition.specs.Table.{fate_at}
 
 -- who lives has a number that was used

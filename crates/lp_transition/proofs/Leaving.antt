@@ -1,6 +1,6 @@
 -- The engine at a check that a task makes alone.
-use Rattle.std.proofs.Common.{◌≡◌, ◌≢◌, ◌<◌, ◌≤◌, ◌+◌, ℕ, suc, Bool, true, false, not, ◌&&◌, List, length, get_or, set, Option, Some, None, IsTrue, nat_eq, if◌then◌else◌, refl, sym, ap, ap₂, ◌∙◌, subst, ◌⊎◌, ⊎_elim, inl, inr, arith}
-use Rattle.std.proofs.lemmas.Bool.{cases_Bool, cases_eq, eq-eqb, ne_eqb, eqb-true, cond-true, cond-false, and_parts, and_from, not-true, not-false}
+use Rattle.std.proofs.Common.{◌≡◌, ◌≢◌, ◌<◌, ◌≤◌, ℕ, suc, Bool, true, false, not, ◌&&◌, List, length, get_or, set, Option, Some, None, IsTrue, nat_eq, refl, sym, ap, ap₂, ◌∙◌, subst, ⊎_elim, arith}
+use Rattle.std.proofs.lemmas.Bool.{cases_Bool, cases_eq, eq-eqb, ne_eqb, eqb-true, cond-true, cond-false}
 use Rattle.std.proofs.lemmas.List.{length-set, set-get_or, get_or-set_same, get_or-set_other}
 use Rattle.std.specs.Option.{option_map}
 use mathlib.Core.Path.{fun_ext}
@@ -9,16 +9,15 @@ use Rattle.lp_model.specs.Rules.{Rules, IsLawful}
 use Rattle.lp_model.specs.declared.check.CheckKind.{CheckKind}
 use Rattle.lp_transition.specs.declared.event.Event.{Event}
 use Rattle.lp_transition.specs.Events.{is_control}
-use Rattle.lp_transition.specs.Tasks.{Fate, Unused, Live, Dead, on_live, map_live, change}
+use Rattle.lp_transition.specs.Tasks.{Fate, Unused, Live, Dead, map_live, change}
 use Rattle.lp_transition.specs.Leg.{Standing, State, is_alone}
-use Rattle.lp_transition.specs.Sound.{IsSound}
-use Rattle.lp_transition.specs.Machine.{Standings, outlines_of, view_of, is_behind, goes_over, moved_task, refusal_of, affected, switched_over, next, own_effect}
-use Rattle.lp_transition.specs.Table.{Table, Engine, IsWide, slot, standings, changed, state_in, bounds_of, is_off}
+use Rattle.lp_transition.specs.Machine.{Standings, outlines_of, view_of, is_behind, goes_over, moved_task, refusal_of, affected, next, own_effect}
+use Rattle.lp_transition.specs.Table.{Table, Engine, slot, standings, changed, state_in, bounds_of, is_off}
 use Rattle.lp_transition.specs.Kept.{IsKept}
 use Rattle.lp_transition.proofs.EngineLemmas.{next-accepted}
-use Rattle.lp_transition.proofs.TableLemmas.{standings-changed, slot-changed, slot-changed_other, IsWide-changed, slot-zero, live_from_slot, slot_from_live}
+use Rattle.lp_transition.proofs.TableLemmas.{standings-changed, slot-changed, slot-changed_other, IsWide-changed, slot-zero, live_from_slot}
 use Rattle.lp_transition.proofs.CountLemmas.{count-changed}
-use Rattle.lp_transition.proofs.MemberLemmas.{Member, Waiter, slot-positive, alone-counted, behind}
+use Rattle.lp_transition.proofs.MemberLemmas.{Member, slot-positive, alone-counted, behind}
 use Rattle.lp_transition.proofs.Effects.{HasTaken, with_table, state-with_table, sound_next}
 use Rattle.lp_transition.proofs.Alone.{ChecksAlone, behind-same, alone-same, alone-other, alone-stays, other-stays, calm-stays, alone-goes}
 
@@ -129,7 +128,7 @@ module _ (model : Rules) (lawful : IsLawful model) (e : Engine) (waiting : Numbe
   moved-one goes u =
       ⊎_elim
       (λ (same : u ≡ t). subst (λ v. map_live (moved_task model (asked e t f) event) (change t f (standings e.table) v) ≡ change t (put_on e.target) (change t f (standings e.table)) v) (sym same)
-        (ap (map_live (moved_task model (asked e t f) event)) now_live ∙ ap Live (cond-true _ _ _ goes) ∙ sym (cond-true _ _ _ (eq-eqb t t refl) ∙ ap (map_live (put_on e.target)) now_live)))
+      (ap (map_live (moved_task model (asked e t f) event)) now_live ∙ ap Live (cond-true _ _ _ goes) ∙ sym (cond-true _ _ _ (eq-eqb t t refl) ∙ ap (map_live (put_on e.target)) now_live)))
       (λ (ne : u ≡ t → ⊥). moved-fate goes u ne (change t f (standings e.table) u) refl ∙ sym (cond-false _ _ _ (ne_eqb u t ne)))
       (cases_eq u t)
 
@@ -139,7 +138,7 @@ module _ (model : Rules) (lawful : IsLawful model) (e : Engine) (waiting : Numbe
       let within : t < length waiting = omega (arith, long, small) in
       ⊎_elim
       (λ (same : u ≡ t). subst (λ v. has (set waiting t false) v ≡ is_off e.target (slot (changed t (put_on e.target) (changed t f e.table)) v)) (sym same)
-        (get_or-set_same waiting t false false within ∙ sym (ap (is_off e.target) (slot-changed (changed t f e.table) t (put_on e.target) wide small ∙ ap (option_map (put_on e.target)) (slot-changed e.table t f kept.wide small ∙ ap (option_map f) there)) ∙ ap not (eq-eqb e.target e.target refl))))
+      (get_or-set_same waiting t false false within ∙ sym (ap (is_off e.target) (slot-changed (changed t f e.table) t (put_on e.target) wide small ∙ ap (option_map (put_on e.target)) (slot-changed e.table t f kept.wide small ∙ ap (option_map f) there)) ∙ ap not (eq-eqb e.target e.target refl))))
       (λ (ne : u ≡ t → ⊥). get_or-set_other waiting t u false false ne ∙ kept.waits u ∙ sym (ap (is_off e.target) (slot-changed_other (changed t f e.table) t u (put_on e.target) ne ∙ slot-changed_other e.table t u f ne)))
       (cases_eq u t)
 
@@ -150,11 +149,11 @@ module _ (model : Rules) (lawful : IsLawful model) (e : Engine) (waiting : Numbe
       let wide = IsWide-changed e.table t f kept.wide in
       let affected-is : affected model (state_in e) event ≡ asked e t f = ap {A = Standings} {B = State} (λ now. record (state_in e) { number = suc e.number; tasks = now }) own in
       let tasks : standings (changed t (put_on e.target) (changed t f e.table)) ≡ (λ u. map_live (moved_task model (asked e t f) event) (change t f (standings e.table) u)) =
-          standings-changed (changed t f e.table) t (put_on e.target) wide small ∙ ap (change t (put_on e.target)) (standings-changed e.table t f kept.wide small) ∙ sym (fun_ext (λ u. moved-one goes u)) in
+      standings-changed (changed t f e.table) t (put_on e.target) wide small ∙ ap (change t (put_on e.target)) (standings-changed e.table t f kept.wide small) ∙ sym (fun_ext (λ u. moved-one goes u)) in
       let state : state_in (with_table (changed t (put_on e.target) (changed t f e.table)) e) ≡ next model (state_in e) event =
-          state-with_table e (changed t (put_on e.target) (changed t f e.table)) (λ u. map_live (moved_task model (asked e t f) event) (change t f (standings e.table) u)) tasks
-          ∙ ap {A = State} {B = State} (λ now. record now { tasks = λ u. map_live (moved_task model now event) (now.tasks u) }) (sym affected-is)
-          ∙ sym (next-accepted model (state_in e) event accepted plain) in
+      state-with_table e (changed t (put_on e.target) (changed t f e.table)) (λ u. map_live (moved_task model (asked e t f) event) (change t f (standings e.table) u)) tasks
+      ∙ ap {A = State} {B = State} (λ now. record now { tasks = λ u. map_live (moved_task model now event) (now.tasks u) }) (sym affected-is)
+      ∙ sym (next-accepted model (state_in e) event accepted plain) in
       record {
         kept = record {
           sound = sound_next model lawful e (with_table (changed t (put_on e.target) (changed t f e.table)) e) event kept.sound state;

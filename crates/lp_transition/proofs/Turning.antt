@@ -1,5 +1,5 @@
 -- The engine at events that begin a transition or turn it round.
-use Rattle.std.proofs.Common.{◌≡◌, ◌≢◌, ◌<◌, ◌≤◌, ◌+◌, ◌-◌, ℕ, zero, suc, pred, Bool, true, false, not, List, length, Option, Some, None, IsTrue, nat_eq, refl, sym, ap, ap₂, ◌∙◌, subst, ◌↔◌, add-one, arith}
+use Rattle.std.proofs.Common.{◌≡◌, ◌<◌, ◌≤◌, ◌+◌, ℕ, Bool, true, false, not, List, length, Option, Some, None, IsTrue, nat_eq, refl, sym, ap, ap₂, ◌∙◌, subst, ◌↔◌, add-one, arith}
 use Rattle.std.proofs.lemmas.Bool.{cond-true, not-false}
 use Rattle.std.specs.Bool.{one_answer}
 use Rattle.lp_numbers.specs.Numbers.{Numbers, has}
@@ -10,8 +10,8 @@ use Rattle.lp_transition.specs.declared.reply.Reply.{Reply}
 use Rattle.lp_transition.specs.Events.{is_control}
 use Rattle.lp_transition.specs.Leg.{Standing, State, each_live}
 use Rattle.lp_transition.specs.Run.{new_target}
-use Rattle.lp_transition.specs.Machine.{at_rest, refusal_of, turned, next, answer}
-use Rattle.lp_transition.specs.Table.{Table, Engine, IsWide, slot, standings, state_in, bounds_of, is_off}
+use Rattle.lp_transition.specs.Machine.{refusal_of, next, answer}
+use Rattle.lp_transition.specs.Table.{Engine, slot, standings, state_in, bounds_of, is_off}
 use Rattle.lp_transition.specs.Kept.{IsKept}
 use Rattle.lp_transition.proofs.EngineLemmas.{next-turned, answer-accepted}
 use Rattle.lp_transition.proofs.Quantifiers.{each_live-at, each_live-from}
@@ -53,7 +53,7 @@ module _ (model : Rules) where
       let same : all ≡ each_live (bounds_of e.patches) (standings e.table) (λ t x. nat_eq x.level level) = one_answer all (each_live (bounds_of e.patches) (standings e.table) (λ t x. nat_eq x.level level)) tells (rests.1, rests.0) in
       subst (λ o. record { what = Done; completed = all } ≡ answer model (state_in o) event) was
       (sym (answer-accepted model (state_in e) event (subst (λ o. refusal_of model (state_in o) event ≡ None) (sym was) accepted) ∙ cond-true _ _ _ control
-        ∙ ap {A = ℕ} {B = Reply} (λ n. record { what = Done; completed = each_live (bounds_of e.patches) (standings e.table) (λ t x. nat_eq x.level n) }) (sym at) ∙ ap {A = Bool} {B = Reply} (λ b. record { what = Done; completed = b }) (sym same)))
+      ∙ ap {A = ℕ} {B = Reply} (λ n. record { what = Done; completed = each_live (bounds_of e.patches) (standings e.table) (λ t x. nat_eq x.level n) }) (sym at) ∙ ap {A = Bool} {B = Reply} (λ b. record { what = Done; completed = b }) (sym same)))
 
   -- and the engine after it
   pub takes_turn : IsLawful model → (e old : Engine) (waiting now : Numbers) (members : List ℕ) (event : Event) (level : ℕ) → e ≡ old → IsKept e waiting members → length now ≡ 65536 → ((t : ℕ) → has now t ≡ is_off level (slot e.table t)) → old.number < 1000000 → refusal_of model (state_in old) event ≡ None → is_control event ≡ true → level ≡ new_target (state_in old) event → level ≤ length e.patches
@@ -61,8 +61,8 @@ module _ (model : Rules) where
   takes_turn lawful e old waiting now members event level was kept wide_now collected room accepted control goes fits =
       let at : level ≡ new_target (state_in e) event = subst (λ o. level ≡ new_target (state_in o) event) (sym was) goes in
       let there : state_in (turned_to level e) ≡ next model (state_in e) event =
-          ap₂ {A = ℕ} {B = ℕ} {C = State} (λ n l. record { number = n; bounds = bounds_of e.patches; from = e.target; aim = record { patches = e.patches; target = l }; tasks = standings e.table }) (add-one e.number) at
-          ∙ sym (next-turned model (state_in e) event (subst (λ o. refusal_of model (state_in o) event ≡ None) (sym was) accepted) control) in
+      ap₂ {A = ℕ} {B = ℕ} {C = State} (λ n l. record { number = n; bounds = bounds_of e.patches; from = e.target; aim = record { patches = e.patches; target = l }; tasks = standings e.table }) (add-one e.number) at
+      ∙ sym (next-turned model (state_in e) event (subst (λ o. refusal_of model (state_in o) event ≡ None) (sym was) accepted) control) in
       let below : e.number < 1000000 = subst (λ o. o.number < 1000000) (sym was) room in
       subst (λ o. HasTaken model o event (turned_to level e) now members) was (record {
         kept = record {

@@ -1,6 +1,6 @@
 -- The answers of an engine to events of one task.
-use Rattle.std.proofs.Common.{◌≡◌, ◌≢◌, ◌<◌, ◌≤◌, ◌+◌, ◌-◌, ℕ, suc, Bool, true, false, not, ◌&&◌, List, [], ◌∷◌, length, set, get_or, Option, Some, None, IsTrue, nat_eq, if◌then◌else◌, refl, sym, ap, ap₂, ◌∙◌, subst, ⊎_elim, ◌↔◌, arith}
-use Rattle.std.proofs.lemmas.Bool.{not-false, cases_eq, eq-eqb, ne_eqb, cond-true, cond-false, cases_lt}
+use Rattle.std.proofs.Common.{◌≡◌, ◌≢◌, ◌<◌, ◌≤◌, ℕ, suc, Bool, true, false, not, ◌&&◌, List, [], ◌∷◌, set, Option, Some, None, IsTrue, nat_eq, if◌then◌else◌, refl, sym, ap, ap₂, ◌∙◌, subst, ⊎_elim, ◌↔◌, arith}
+use Rattle.std.proofs.lemmas.Bool.{not-false, eq-eqb, ne_eqb, cond-true, cond-false, cases_lt}
 use Rattle.std.proofs.lemmas.List.{length-set, get_or_past}
 use Rattle.lp_numbers.specs.Numbers.{Numbers, has}
 use Rattle.lp_stack.specs.declared.number.TaskId.{TaskId}
@@ -13,14 +13,14 @@ use Rattle.lp_transition.specs.declared.event.Event.{Event}
 use Rattle.lp_transition.specs.declared.event.Event.TheVariants.{Call, Ret, Sleep, Wake, Enter, Exit, Idle, Fork, Die, Walk, Stop, Enable, Disable, Reverse}
 use Rattle.lp_transition.specs.declared.refusal.Refusal.{Refusal}
 use Rattle.lp_transition.specs.declared.reply.What.{What}
-use Rattle.lp_transition.specs.declared.reply.What.TheVariants.{Done, Switched}
+use Rattle.lp_transition.specs.declared.reply.What.TheVariants.{Done}
 use Rattle.lp_transition.specs.declared.reply.Reply.{Reply}
 use Rattle.lp_transition.specs.Events.{is_control}
-use Rattle.lp_transition.specs.Tasks.{Fate, Unused, Live, Dead, change}
+use Rattle.lp_transition.specs.Tasks.{Unused, Live, Dead, change}
 use Rattle.lp_transition.specs.Leg.{Standing, State}
 use Rattle.lp_transition.specs.Run.{switched}
 use Rattle.lp_transition.specs.Machine.{at_rest, goes_over, going, bearing, refusal_of, affected, own_effect, calling, returning, put_in, told, answer_by, answer}
-use Rattle.lp_transition.specs.Table.{Engine, slot, fate_at, standings, changed, with_task, without_task, state_in, bounds_of, is_off}
+use Rattle.lp_transition.specs.Table.{Engine, slot, fate_at, standings, changed, state_in, bounds_of, is_off}
 use Rattle.lp_transition.specs.Kept.{IsKept}
 use Rattle.lp_transition.specs.Weigh.{Weighed, IsWeighed, moves, task_of, is_fork, child_of, born_by, born_of, is_switched, refused_by}
 use Rattle.lp_transition.proofs.EngineLemmas.{is_quiet, quiet-control, quiet-stays, switched-still, answer-accepted}
@@ -86,8 +86,8 @@ module _ (model : Rules) (lawful : IsLawful model) (e : Engine) (waiting : Numbe
   fork-rest p c how accepted all =
       let now = affected model (state_in e) (Fork p c how) in
       each_live-from (bounds_of e.patches) (standings e.table) (λ u y. nat_eq y.level e.target) (λ u y positive within live.
-        let other : u ≢ c.0 = λ same. let none = (fork-new model e p c how accepted).0 in let there = slot_from_live e.table c.0 y (subst (λ v. standings e.table v ≡ Live y) same live) in absurd (cc) in
-        each_live-at (bounds_of e.patches) now.tasks (λ v z. nat_eq z.level e.target) all u y positive within (cond-false _ _ _ (ne_eqb u c.0 other) ∙ live))
+      let other : u ≢ c.0 = λ same. let none = (fork-new model e p c how accepted).0 in let there = slot_from_live e.table c.0 y (subst (λ v. standings e.table v ≡ Live y) same live) in absurd (cc) in
+      each_live-at (bounds_of e.patches) now.tasks (λ v z. nat_eq z.level e.target) all u y positive within (cond-false _ _ _ (ne_eqb u c.0 other) ∙ live))
 
   pub answer-fork : (p c : TaskId) (how : ForkKind) → refusal_of model (state_in e) (Fork p c how) ≡ None → answer model (state_in e) (Fork p c how) ≡ record { what = Done; completed = false }
   answer-fork p c how accepted =
@@ -96,7 +96,7 @@ module _ (model : Rules) (lawful : IsLawful model) (e : Engine) (waiting : Numbe
       let none = still event refl in
       answer-accepted model s event accepted
       ∙ ap₂ {A = What} {B = Bool} {C = Reply} (λ what b. record { what = what; completed = b }) (done-still event none refl)
-        (ap {A = State} {B = Bool} (λ now. at_rest now && not (at_rest s)) (switched-still model s event none) ∙ never (at_rest (affected model s event)) refl)
+      (ap {A = State} {B = Bool} (λ now. at_rest now && not (at_rest s)) (switched-still model s event none) ∙ never (at_rest (affected model s event)) refl)
     where
       never : (b : Bool) → at_rest (affected model (state_in e) (Fork p c how)) ≡ b → (b && not (at_rest (state_in e))) ≡ false
       never false h = refl
@@ -122,9 +122,9 @@ module _ (model : Rules) (lawful : IsLawful model) (e : Engine) (waiting : Numbe
       back : ((u : ℕ) → u ≢ t.0 → has waiting u ≡ false) → IsTrue (at_rest (affected model (state_in e) (Die t)))
       back alone =
           each_live-from (bounds_of e.patches) (affected model (state_in e) (Die t)).tasks (λ v z. nat_eq z.level e.target) (λ u y positive within live.
-            let ne = apart u y live in
-            let there = slot_from_live e.table u y (sym (cond-false _ _ _ (ne_eqb u t.0 ne)) ∙ live) in
-            not-false (nat_eq y.level e.target) (sym (ap (is_off e.target) there) ∙ sym (kept.waits u) ∙ alone u ne))
+          let ne = apart u y live in
+          let there = slot_from_live e.table u y (sym (cond-false _ _ _ (ne_eqb u t.0 ne)) ∙ live) in
+          not-false (nat_eq y.level e.target) (sym (ap (is_off e.target) there) ∙ sym (kept.waits u) ∙ alone u ne))
 
   -- an end of a task completes the transition where nobody else waited
   pub answer-die : (t : TaskId) (last : Bool) → refusal_of model (state_in e) (Die t) ≡ None → IsTrue last ↔ ((has waiting t.0 ≡ true) × ((u : ℕ) → u ≢ t.0 → has waiting u ≡ false)) → answer model (state_in e) (Die t) ≡ record { what = Done; completed = last }
@@ -134,7 +134,7 @@ module _ (model : Rules) (lawful : IsLawful model) (e : Engine) (waiting : Numbe
       let none = still event refl in
       answer-accepted model s event accepted
       ∙ ap₂ {A = What} {B = Bool} {C = Reply} (λ what b. record { what = what; completed = b }) (done-still event none refl)
-        (ap {A = State} {B = Bool} (λ now. at_rest now && not (at_rest s)) (switched-still model s event none) ∙ sym (completed_by e waiting members t.0 last (at_rest (affected model s event)) kept (die-rest t) lone))
+      (ap {A = State} {B = Bool} (λ now. at_rest now && not (at_rest s)) (switched-still model s event none) ∙ sym (completed_by e waiting members t.0 last (at_rest (affected model s event)) kept (die-rest t) lone))
 
   -- a check that a task makes alone
   module _ (event : Event) (kind : CheckKind) (t : ℕ) (small : t < 65536) (f : Standing → Standing) (levels : (x : Standing) → (f x).level ≡ x.level) (groups : (x : Standing) → (f x).group ≡ x.group) (x : Standing) (there : slot e.table t ≡ Some x) (checks : ChecksAlone (bounds_of e.patches) (change t f (standings e.table)) event t kind) (plain : is_control event ≡ false) (accepted : refusal_of model (state_in e) event ≡ None) (own : own_effect model.child_group (suc e.number) event (standings e.table) ≡ change t f (standings e.table)) (reports : told model (state_in e) event ≡ switched (going model (affected model (state_in e) event) event)) where
@@ -155,7 +155,7 @@ module _ (model : Rules) (lawful : IsLawful model) (e : Engine) (waiting : Numbe
         let one = going-one model (affected model (state_in e) event) event (f x).group (omega (arith, within)) goes (λ n ne. others-stay_now model lawful e waiting members kept event kind t small f levels groups x there checks e refl own n (λ same. ne (sym same))) in
         answer-taken model e new event accepted plain taken.state
         ∙ ap₂ {A = What} {B = Bool} {C = Reply} (λ what b. record { what = what; completed = b }) (reports ∙ ap switched one)
-          (sym (completed e new waiting (set waiting t false) members members t last kept taken.kept small refl lone))
+        (sym (completed e new waiting (set waiting t false) members members t last kept taken.kept small refl lone))
 
     -- and it does where the answer says that groups went over
     pub goes-reported : (over : Bool) → (f x).group < 65536 → over ≡ is_switched (answer model (state_in e) event).what → goes_over model (affected model (state_in e) event) event (f x).group ≡ over

@@ -8,7 +8,7 @@ use Rattle.lp_transition.specs.declared.refusal.Refusal.{Refusal}
 use Rattle.lp_transition.specs.declared.reply.What.{What}
 use Rattle.lp_transition.specs.declared.reply.What.TheVariants.{Switched, Refused}
 use Rattle.lp_transition.specs.declared.reply.Reply.{Reply}
-use Rattle.lp_transition.specs.Tasks.{Fate, Unused, Live, Dead, Grouping}
+use Rattle.lp_transition.specs.Tasks.{Fate, Live, Grouping}
 use Rattle.lp_transition.specs.Leg.{Standing, State}
 use Rattle.lp_transition.specs.Machine.{bearing, refusal_of, answer}
 use Rattle.lp_transition.specs.Table.{Engine, state_in}

@@ -39,12 +39,7 @@ impl<M: Consistency> Core<M> {
 }
 
 /// Why a call is refused.
-fn call_refusal(
-    tasks: &TaskTable,
-    symbols: usize,
-    task: TaskId,
-    func: SymId,
-) -> Option<Refusal>
+fn call_refusal(tasks: &TaskTable, symbols: usize, task: TaskId, func: SymId) -> Option<Refusal>
     ensures { result ≡ first_of (tests (task_numbers symbols) (outlines_of (standings tasks.now)) (Event.Call task func)) }
 {
     let Some(live) = tasks.get(task) else {

@@ -1,4 +1,4 @@
-use Rattle.std.proofs.Common.{◌≡◌, ◌<◌, Bool, ℕ, false, sym, ap, ◌∙◌, arith}
+use Rattle.std.proofs.Common.{◌<◌, ℕ, false, sym, ap, ◌∙◌, arith}
 use Rattle.lp_transition.specs.declared.reply.Reply.{Reply}
 use Rattle.lp_transition.specs.declared.reply.What.TheVariants.{Ran}
 use Rattle.lp_transition.proofs.Weighing.{answer-call}

@@ -1,4 +1,3 @@
-use Rattle.std.proofs.Common.{◌≡◌, sym, ap, ◌∙◌}
 use Rattle.lp_transition.proofs.Turning.{answer-turned}
 use Rattle.lp_transition.proofs.engine.Core.answer_control.Goals as goal
 

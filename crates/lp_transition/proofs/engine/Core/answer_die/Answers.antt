@@ -1,4 +1,4 @@
-use Rattle.std.proofs.Common.{◌≡◌, sym}
+use Rattle.std.proofs.Common.{sym}
 use Rattle.lp_transition.proofs.Weighing.{answer-die}
 use Rattle.lp_transition.proofs.engine.Core.answer_die.Goals as goal
 

@@ -5,9 +5,8 @@ use Rattle.lp_transition.specs.declared.event.Event.TheVariants.{Exit}
 use Rattle.lp_transition.specs.declared.reply.What.TheVariants.{Switched}
 use Rattle.lp_transition.specs.declared.reply.Reply.{Reply}
 use Rattle.lp_transition.specs.Machine.{put_in}
-use Rattle.lp_transition.specs.Table.{slot, standings}
+use Rattle.lp_transition.specs.Table.{slot}
 use Rattle.lp_transition.proofs.Accept.{exit-live}
-use Rattle.lp_transition.proofs.Leaving.{same-after_nothing}
 use Rattle.lp_transition.proofs.Weighing.{answer-stays, answer-goes}
 use Rattle.lp_transition.proofs.engine.Core.answer_exit.Goals as goal
 
@@ -33,5 +32,5 @@ returns g c =
     let within : live.task.group < 65536 = omega (arith, group) in
     let answered = answer-goes g.M.Consistency.rules g.met.M.Consistency.lawful (record { number = i.events; from = i.from.0; target = i.target.0; patches = i.patches; table = i.tasks }) i.waiting i.members.items c.self.invariant (rw (← c.self.view_is) at c.requires.room) (Exit c.args.task) KernelExit c.args.task.0 h (put_in User) (λ y. refl) (λ y. refl) live.task live.there (λ k. refl) refl accepted refl refl within c.is_only-waits_alone.result c.is_only-waits_alone.ensures goes in
     rw (← c.self.view_is)
-      (ap {A = List ℕ} {B = Reply} (λ list. record { what = Switched list; completed = c.is_only-waits_alone.result }) (c.in_ok-groups.ensures ∙ ap {A = ℕ} {B = List ℕ} (λ k. k ∷ []) group)
-      ∙ sym answered)
+    (ap {A = List ℕ} {B = Reply} (λ list. record { what = Switched list; completed = c.is_only-waits_alone.result }) (c.in_ok-groups.ensures ∙ ap {A = ℕ} {B = List ℕ} (λ k. k ∷ []) group)
+    ∙ sym answered)

@@ -3,7 +3,6 @@ use Rattle.lp_model.specs.declared.check.CheckKind.TheVariants.{IdlePoint}
 use Rattle.lp_transition.specs.declared.event.Event.TheVariants.{Idle}
 use Rattle.lp_transition.specs.declared.reply.What.TheVariants.{Switched}
 use Rattle.lp_transition.specs.declared.reply.Reply.{Reply}
-use Rattle.lp_transition.specs.Machine.{put_in}
 use Rattle.lp_transition.specs.Table.{slot, standings}
 use Rattle.lp_transition.proofs.Accept.{idle-live}
 use Rattle.lp_transition.proofs.Leaving.{same-after_nothing}
@@ -32,5 +31,5 @@ returns g c =
     let within : live.task.group < 65536 = omega (arith, group) in
     let answered = answer-goes g.M.Consistency.rules g.met.M.Consistency.lawful (record { number = i.events; from = i.from.0; target = i.target.0; patches = i.patches; table = i.tasks }) i.waiting i.members.items c.self.invariant (rw (← c.self.view_is) at c.requires.room) (Idle c.args.task) IdlePoint c.args.task.0 h (λ y. y) (λ y. refl) (λ y. refl) live.task live.there (λ k. refl) refl accepted (same-after_nothing c.args.task.0 (standings i.tasks)) refl within c.is_only-waits_alone.result c.is_only-waits_alone.ensures goes in
     rw (← c.self.view_is)
-      (ap {A = List ℕ} {B = Reply} (λ list. record { what = Switched list; completed = c.is_only-waits_alone.result }) (c.in_ok-groups.ensures ∙ ap {A = ℕ} {B = List ℕ} (λ k. k ∷ []) group)
-      ∙ sym answered)
+    (ap {A = List ℕ} {B = Reply} (λ list. record { what = Switched list; completed = c.is_only-waits_alone.result }) (c.in_ok-groups.ensures ∙ ap {A = ℕ} {B = List ℕ} (λ k. k ∷ []) group)
+    ∙ sym answered)

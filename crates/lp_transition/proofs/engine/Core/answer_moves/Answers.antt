@@ -1,4 +1,4 @@
-use Rattle.std.proofs.Common.{◌≡◌, ◌<◌, sym, ◌∙◌, arith}
+use Rattle.std.proofs.Common.{◌<◌, sym, ◌∙◌, arith}
 use Rattle.lp_transition.specs.Weigh.{task_of}
 use Rattle.lp_transition.proofs.Weighing.{answer-moves}
 use Rattle.lp_transition.proofs.engine.Core.answer_moves.Goals as goal

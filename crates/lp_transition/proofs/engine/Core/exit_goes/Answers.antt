@@ -7,9 +7,9 @@ use Rattle.lp_model.specs.declared.check.CheckKind.TheVariants.{KernelExit}
 use Rattle.lp_transition.specs.declared.event.Event.TheVariants.{Exit}
 use Rattle.lp_transition.specs.Leg.{Standing}
 use Rattle.lp_transition.specs.Machine.{put_in, view_of}
-use Rattle.lp_transition.specs.Table.{Engine, slot, standings}
+use Rattle.lp_transition.specs.Table.{Engine, slot}
 use Rattle.lp_transition.proofs.Births.{value_at}
-use Rattle.lp_transition.proofs.Leaving.{asks, same-after_nothing}
+use Rattle.lp_transition.proofs.Leaving.{asks}
 use Rattle.lp_transition.proofs.engine.Core.exit_goes.Goals as goal
 
 pub returns-then-not-contains : goal.returns-then-not-contains

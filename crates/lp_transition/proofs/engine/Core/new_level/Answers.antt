@@ -1,7 +1,4 @@
-use Rattle.std.proofs.Common.{◌≡◌, ◌≢◌, ◌≤◌, None, length, ap, arith}
-use Rattle.lp_transition.specs.declared.event.Event.{Event}
-use Rattle.lp_transition.specs.Machine.{refusal_of}
-use Rattle.lp_transition.specs.Table.{Engine, state_in}
+use Rattle.std.proofs.Common.{arith}
 use Rattle.lp_transition.proofs.Accept.{enable-below}
 use Rattle.lp_transition.proofs.engine.Core.new_level.Goals as goal
 

@@ -1,10 +1,5 @@
-use Rattle.std.proofs.Common.{◌≡◌, Option, None, Some, sym, ap, ◌∙◌}
-use Rattle.std.specs.Global.{Box, Global}
-use Rattle.std.specs.Option.{option_map}
-use Rattle.lp_transition.specs.Leg.{Standing}
-use Rattle.lp_transition.specs.Table.{Engine, state_in}
-use Rattle.lp_transition.specs.Weigh.{born_of}
-use Rattle.lp_transition.specs.Machine.{refusal_of}
+use Rattle.std.proofs.Common.{◌≡◌, None, Some, sym, ◌∙◌}
+use Rattle.lp_transition.specs.Table.{Engine}
 use Rattle.lp_transition.proofs.Accept.{fork-live}
 use Rattle.lp_transition.proofs.Weighing.{born-child}
 use Rattle.lp_transition.proofs.engine.Core.take_accepted.Goals as goal

@@ -1,4 +1,4 @@
-use Rattle.std.proofs.Common.{◌≡◌, ◌≤◌, length, sym, ap, ◌∙◌, subst}
+use Rattle.std.proofs.Common.{◌≤◌, length, sym, subst}
 use Rattle.lp_transition.specs.Table.{Engine}
 use Rattle.lp_transition.proofs.Turning.{takes_turn}
 use Rattle.lp_transition.proofs.engine.Core.take_control.Goals as goal

@@ -1,12 +1,11 @@
-use Rattle.std.proofs.Common.{◌≡◌, ◌<◌, refl, sym, ap, ◌∙◌, subst, Some, arith}
+use Rattle.std.proofs.Common.{◌≡◌, ◌<◌, refl, sym, ap, ◌∙◌, Some, arith}
 use Rattle.lp_stack.specs.declared.view.Mode.TheVariants.{User}
 use Rattle.lp_model.specs.declared.check.CheckKind.TheVariants.{KernelExit}
 use Rattle.lp_transition.specs.declared.event.Event.TheVariants.{Exit}
 use Rattle.lp_transition.specs.Machine.{put_in}
-use Rattle.lp_transition.specs.Table.{slot, standings, changed}
+use Rattle.lp_transition.specs.Table.{slot, changed}
 use Rattle.lp_transition.proofs.Accept.{exit-live}
-use Rattle.lp_transition.proofs.Effects.{takes_change_still, takes_nothing}
-use Rattle.lp_transition.proofs.Leaving.{put_on, none-goes_now, takes_over, changed-nothing, same-after_nothing}
+use Rattle.lp_transition.proofs.Leaving.{put_on, takes_over}
 use Rattle.lp_transition.proofs.engine.Core.take_exit_over.Goals as goal
 
 pub invariant_of-self : goal.invariant_of-self

@@ -1,5 +1,4 @@
-use Rattle.std.proofs.Common.{◌≡◌, ℕ, ◌<◌, length, if◌then◌else◌, nat_eq, not, get_or, sym, ap, ◌∙◌, arith}
-use Rattle.std.specs.Global.{Box}
+use Rattle.std.proofs.Common.{◌≡◌, ◌<◌, length, if◌then◌else◌, nat_eq, not, ap, ◌∙◌, arith}
 use Rattle.lp_numbers.specs.Numbers.{has}
 use Rattle.lp_transition.specs.Leg.{Standing}
 use Rattle.lp_transition.proofs.Births.{takes_birth, counted-few, value_at}

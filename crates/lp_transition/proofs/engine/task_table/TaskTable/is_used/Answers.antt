@@ -1,6 +1,5 @@
 use Rattle.std.proofs.Common.{◌∙◌}
 use Rattle.lp_numbers.specs.Numbers.{has}
-use Rattle.lp_transition.specs.Table.{slot}
 use Rattle.lp_transition.proofs.EngineLemmas.{used-fate}
 use Rattle.lp_transition.proofs.engine.task_table.TaskTable.is_used.Goals as goal
 
