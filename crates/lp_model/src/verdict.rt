@@ -10,6 +10,7 @@ use lp_stack::{TaskId, View};
 /// What a check found of a task.
 #[derive(Clone, Copy, Debug, PartialEq, Eq)]
 pub struct Verdict {
+    /// The task.
     pub task: TaskId,
     /// Why it isn't admitted; None where it is.
     pub blame: Option<Blame>,

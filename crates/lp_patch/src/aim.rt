@@ -9,7 +9,9 @@ use lp_stack::{Frame, Level};
 /// The patches, lent, and the level to which a transition takes the tasks.
 #[derive(Clone, Copy)]
 pub struct Aim<'a> {
+    /// The patches.
     pub patches: &'a PatchStack,
+    /// The level to reach, 0 for none of the patches.
     pub target: Level,
 }
 

@@ -3,6 +3,7 @@
 ghost use Rattle.std.specs.Prelude.{IfOk};
 ghost use Rattle.lp_patch.specs.Patches.{ShareSymbols};
 
+mod calls;
 mod groups;
 mod laws;
 mod stacks;

@@ -1,5 +1,5 @@
 -- A leg of a run: a transition from its opening on, up to the next. A transition opens when a patch is enabled
--- or disabled, or when it is turned round (Linux livepatch: a write to the patch's `enabled` file).
+-- (Linux livepatch: `klp_enable_patch`) or disabled, or when it is turned round (a write to its `enabled` file).
 -- The events of a leg are counted from 1 after the opening, so event k has the number of the opening plus k.
 use Rattle.std.specs.Prelude.{ℕ, zero, suc, Bool, true, false, not, ◌&&◌, ◌||◌, List, map, Option, Some, None, nat_eq, slice_get}
 use Rattle.lp_stack.specs.declared.view.Mode.{Mode}

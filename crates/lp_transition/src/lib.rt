@@ -1,4 +1,5 @@
-//! Events, replies and the laws of a transition from one level of patches to another.
+//! The engine of a transition from one level of patches to another, its definitions and their
+//! laws.
 #![tactic(auto)]
 
 mod engine;

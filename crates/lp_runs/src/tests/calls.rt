@@ -1,0 +1,57 @@
+//! An event that is weighed, and then taken; and what can be asked of an engine.
+use super::*;
+use lp_models::Hybrid;
+use lp_transition::Halt;
+
+const ONE: TaskId = TaskId(1);
+
+const TWO: TaskId = TaskId(2);
+
+#[test]
+fn an_event_is_weighed_and_then_taken(rt: HostRuntime) -> Result<(), Fail> {
+    let boots = [normal(1), normal(2)];
+    let mut core = Core::boot(rt.alloc(), Hybrid, patches(rt.alloc(), &[A])?, &boots)?;
+    let step = core.weigh(rt.alloc(), Event::Enable)?;
+    assert_eq!(rt; (step.event(), step.verdicts().len()), (Event::Enable, 0));
+    assert_eq!(rt; in_short(step.reply()), Said::Done);
+    assert_eq!(rt; (core.events(), core.in_transition()), (0, false));
+    assert_eq!(rt; in_short(&core.take(step)), Said::Done);
+    assert_eq!(rt; (core.events(), core.in_transition()), (1, true));
+    Ok(())
+}
+
+#[test]
+fn an_engine_can_be_asked(rt: HostRuntime) -> Result<(), Fail> {
+    let boots = [normal(1), normal(2)];
+    let mut core = Core::boot(rt.alloc(), Hybrid, patches(rt.alloc(), &[A])?, &boots)?;
+    for event in [Event::Enable, Event::Enter(ONE), Event::Exit(ONE)] {
+        core.step(rt.alloc(), event)?;
+    }
+    assert_eq!(rt; core.model(), Hybrid);
+    assert_eq!(rt; (core.target(), core.aim().target), (Level(1), Level(1)));
+    assert_eq!(rt; core.side_of(ONE), Some(Level(1)));
+    assert_eq!(rt; core.side_of(TWO), Some(Level(0)));
+    assert_eq!(rt; core.side_of(TaskId(3)), None);
+    assert_eq!(rt; core.group_of(TWO), Some(GroupId(2)));
+    assert_eq!(rt;
+        core.waiting(rt.alloc())?.as_slice(),
+        [GroupId(2)].as_slice()
+    );
+    let views = core.views(rt.alloc())?;
+    assert_eq!(rt; views.as_slice().first().map(|view| view.task), Some(TWO));
+    assert_eq!(rt; views.len(), 1);
+    Ok(())
+}
+
+#[test]
+fn a_million_events_are_numbered(rt: HostRuntime) -> Result<(), Fail> {
+    let mut core = Core::boot(rt.alloc(), Hybrid, patches(rt.alloc(), &[A])?, &[normal(1)])?;
+    for _ in 0..500_000 {
+        core.step(rt.alloc(), Event::Enter(ONE))?;
+        core.step(rt.alloc(), Event::Exit(ONE))?;
+    }
+    let full = core.step(rt.alloc(), Event::Enter(ONE));
+    assert_eq!(rt; full.err(), Some(Halt::JournalFull));
+    assert_eq!(rt; core.events(), 1_000_000);
+    Ok(())
+}
