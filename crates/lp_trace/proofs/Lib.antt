@@ -1,0 +1,15 @@
+pub mod Numbers
+pub mod Cuts
+pub mod Symbols
+pub mod Choices
+pub mod Lines
+pub mod Drafts
+pub mod Spelled
+pub mod Pushes
+pub mod Steps
+pub mod Sound
+pub mod Writing
+pub mod Again
+pub mod Folds
+pub mod Complete
+pub mod Rows

@@ -1,0 +1,9 @@
+pub mod Words
+pub mod Traces
+pub mod Reading
+pub mod Faults
+pub mod Left
+pub mod Drafts
+pub mod Rows
+pub mod Writing
+pub mod Laws

@@ -1,0 +1,20 @@
+-- What a writer that may fail has been given.
+use Rattle.std.specs.Prelude.{◌≡◌, ℕ, List, [], ◌∷◌, ◌++◌, Option, Result, MatchResult}
+use Rattle.std.specs.Io.KnownBytes.{Appends}
+
+-- known bytes grew by a front of these
+abbrev pub AppendsFront : Option (List ℕ) → Option (List ℕ) → List ℕ → Type 0
+AppendsFront old new bytes = (front rest : List ℕ) × (bytes ≡ front ++ rest) × Appends old new front
+
+-- all of the bytes were written, or a front of them before a fault
+abbrev pub Writes : {E : Type 0} → Option (List ℕ) → Option (List ℕ) → Result (Unit {0}) E → List ℕ → Type 0
+Writes old new result bytes = MatchResult result (λ _. Appends old new bytes) (λ _. AppendsFront old new bytes)
+
+-- the words of a line after its first, each behind a space, and the line's end
+abbrev pub line_rest : List (List ℕ) → List ℕ
+line_rest [] = 10 ∷ []
+line_rest (word ∷ words) = (32 ∷ [] ++ word) ++ line_rest words
+
+-- of a text, all but this rest was written
+abbrev pub Left : Option (List ℕ) → Option (List ℕ) → List ℕ → List ℕ → Type 0
+Left old new text rest = (done : List ℕ) × (text ≡ done ++ rest) × Appends old new done

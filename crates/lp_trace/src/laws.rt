@@ -1,0 +1,18 @@
+//! The laws of the trace text. The functions do nothing: each has a law as its contract.
+ghost use Rattle.lp_trace.specs.Laws.{ReadsWhatIsSpelled, SpellsOne};
+ghost use Rattle.lp_trace.specs.Rows.{TextsCompute};
+
+/// What the definitions make of short texts: one of each fault, and a text of each form.
+pub fn worked_texts()
+    ensures { TextsCompute }
+{}
+
+/// A text is read exactly where it spells a trace, and as that trace.
+pub fn what_is_spelled_is_read()
+    ensures { ReadsWhatIsSpelled }
+{}
+
+/// A text spells at most one trace.
+pub fn one_trace_a_text()
+    ensures { SpellsOne }
+{}

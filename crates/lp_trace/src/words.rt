@@ -1,0 +1,71 @@
+//! Lines of a text and words of a line.
+ghost use Rattle.std.specs.Prelude.{◌≡◌, ◌∷◌, ◌<◌, length, option_copied, IfSome};
+ghost use Rattle.lp_trace.specs.Words.{parts};
+ghost use Rattle.lp_trace.specs.Faults.{GivesLine};
+ghost use Rattle.lp_trace.specs.Reading.{next_word, last_word, next_number, last_number};
+ghost use Rattle.lp_trace.specs.Left.{parts_left, words_left};
+
+use crate::fault::{Cause, LineFault};
+use crate::number::number_of;
+use memchr::memchr;
+
+/// What stands before the first place of a byte, and what stands after it, if there is such a place.
+pub(crate) fn cut(byte: u8, text: &[u8]) -> (&[u8], Option<&[u8]>)
+    ensures parts { parts byte text.now ≡ result.0.now ∷ parts_left byte (option_copied result.1) }
+    ensures shorter { IfSome result.1 (λ rest. length rest.now < length text.now) }
+{
+    match memchr(byte, text) {
+        Some(end) => (&text[..end], Some(&text[end + 1..])),
+        None => (text, None),
+    }
+}
+
+/// The next word of a line, and what is left after it.
+#[tactic(auto, unfolding(crate::specs::Reading::next_word))]
+pub(crate) fn next_word(left: Option<&[u8]>) -> Result<(&[u8], Option<&[u8]>), LineFault>
+    ensures { GivesLine (λ x. (x.0.now, words_left (option_copied x.1))) result (next_word (words_left (option_copied left.entry))) }
+{
+    let Some(line) = left else {
+        return Err(LineFault::Cause(Cause::Shape));
+    };
+    let (word, left) = cut(b' ', line);
+    if word.is_empty() {
+        return Err(LineFault::Cause(Cause::Shape));
+    }
+    Ok((word, left))
+}
+
+/// The next word of a line, which is to be the last.
+#[tactic(auto, using(crate::proofs::Cuts::last_word_more), unfolding(crate::specs::Reading::last_word))]
+pub(crate) fn last_word(left: Option<&[u8]>) -> Result<&[u8], LineFault>
+    ensures { GivesLine (λ word. word.now) result (last_word (words_left (option_copied left.entry))) }
+{
+    let Some(line) = left else {
+        return Err(LineFault::Cause(Cause::Shape));
+    };
+    let (word, left) = cut(b' ', line);
+    match left {
+        Some(_) => Err(LineFault::Cause(Cause::Shape)),
+        None if word.is_empty() => Err(LineFault::Cause(Cause::Shape)),
+        None => Ok(word),
+    }
+}
+
+/// The next word of a line as a number, and what is left after it.
+#[tactic(auto, unfolding(crate::specs::Reading::next_number))]
+pub(crate) fn next_number(left: Option<&[u8]>) -> Result<(u32, Option<&[u8]>), LineFault>
+    ensures { GivesLine (λ x. (x.0, words_left (option_copied x.1))) result (next_number (words_left (option_copied left.entry))) }
+{
+    let (word, left) = next_word(left)?;
+    let number = number_of(word).ok_or(LineFault::Cause(Cause::Shape))?;
+    Ok((number, left))
+}
+
+/// The next word of a line as a number, which is to be the last.
+#[tactic(auto, unfolding(crate::specs::Reading::last_number))]
+pub(crate) fn last_number(left: Option<&[u8]>) -> Result<u32, LineFault>
+    ensures { GivesLine (λ number. number) result (last_number (words_left (option_copied left.entry))) }
+{
+    let word = last_word(left)?;
+    number_of(word).ok_or(LineFault::Cause(Cause::Shape))
+}
