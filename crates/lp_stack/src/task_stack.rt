@@ -79,10 +79,11 @@ impl TaskStack {
         let mut frames = ArrayVec::new();
         // As many frames as fit one stack fit another.
         let _ = frames.try_extend_from_slice(self.frames.as_slice());
+        let mode = self.mode;
         TaskStack {
             task: self.task,
             class: self.class,
-            mode: self.mode,
+            mode,
             frames,
         }
     }
