@@ -1,6 +1,8 @@
 pub mod Words
 pub mod Traces
 pub mod Reading
+pub mod Outcome
+pub mod Report
 pub mod Faults
 pub mod Left
 pub mod Drafts

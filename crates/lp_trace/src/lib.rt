@@ -5,8 +5,10 @@ mod draft;
 mod fault;
 mod form;
 pub mod laws;
+mod leg_end;
 mod line;
 mod number;
+mod outcome;
 mod read;
 mod trace;
 mod word;
@@ -15,6 +17,8 @@ mod write;
 
 pub use fault::{Cause, ReadFault, TraceFault};
 pub use form::TraceForm;
+pub use leg_end::{LegEnd, LegList};
+pub use outcome::{Outcome, ReplyList};
 pub use trace::Trace;
 pub use write::WriteFault;
 

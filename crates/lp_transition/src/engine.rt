@@ -3,7 +3,8 @@ ghost use Rattle.std.specs.Prelude.{◌≡◌, ◌≤◌, not};
 ghost use Rattle.std.specs.Option.{option_map};
 ghost use Rattle.lp_patch.specs.Aimed.{aimed};
 ghost use Rattle.lp_transition.specs.Table.{slot, state_in};
-ghost use Rattle.lp_transition.specs.Machine.{at_rest};
+ghost use Rattle.lp_stack.specs.TaskView.{seen};
+ghost use Rattle.lp_transition.specs.Machine.{at_rest, view_of};
 
 mod alone;
 mod boot;
@@ -23,7 +24,7 @@ pub use boot::BootFault;
 use lp_model::Consistency;
 use lp_numbers::NumberSet;
 use lp_patch::{Aim, PatchStack};
-use lp_stack::{GroupId, Level, TaskId};
+use lp_stack::{GroupId, Level, TaskId, View};
 pub use opening::Opening;
 use std::marker::Model;
 pub use step::{Halt, Step};
@@ -107,6 +108,14 @@ impl<M: Consistency> Core<M> {
     {
         let live = self.tasks.get(task)?;
         Some(live.level())
+    }
+
+    /// A live task as it stands, lent; None for any other.
+    pub fn task(&self, task: TaskId) -> Option<View<'_>>
+        ensures { option_map seen result ≡ option_map (view_of task.0) (slot self.now.table task.0) }
+    {
+        let live = self.tasks.get(task)?;
+        Some(live.view(task))
     }
 
     /// The group of a live task; None for any other.
