@@ -1,0 +1,8 @@
+//! Certificates: why a group still waits.
+#![tactic(auto)]
+
+mod cert;
+mod line;
+
+pub use cert::{Cert, Claim};
+pub use line::{Line, LineList};
