@@ -5,9 +5,10 @@ ghost use Rattle.lp_patch.specs.Aimed.{aimed};
 ghost use Rattle.lp_transition.specs.Table.{slot, state_in};
 ghost use Rattle.lp_transition.specs.Machine.{at_rest};
 
-mod alone;
 mod boot;
 mod control;
+mod exit;
+mod idle;
 mod live_task;
 mod opening;
 mod parts;

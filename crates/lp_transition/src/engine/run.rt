@@ -120,36 +120,6 @@ impl<M: Consistency> Core<M> {
             Event::Walk | Event::Stop => unreachable!(),
         }
     }
-
-    /// An accepted exit.
-    fn leave(&mut self, task: TaskId, over: bool)
-        requires room { self.old.number < 1000000 }
-        requires accepted { refusal_of M.rules (state_in self.old) (Event.Exit task) ≡ None }
-        requires over { over ≡ is_switched (answer M.rules (state_in self.old) (Event.Exit task)).what }
-        ensures { state_in self.new ≡ next M.rules (state_in self.old) (Event.Exit task) }
-    {
-        let _ = &self.tasks;
-        if over {
-            self.take_exit_over(task);
-        } else {
-            self.take_exit(task);
-        }
-    }
-
-    /// An accepted idle point.
-    fn pause(&mut self, task: TaskId, over: bool)
-        requires room { self.old.number < 1000000 }
-        requires accepted { refusal_of M.rules (state_in self.old) (Event.Idle task) ≡ None }
-        requires over { over ≡ is_switched (answer M.rules (state_in self.old) (Event.Idle task)).what }
-        ensures { state_in self.new ≡ next M.rules (state_in self.old) (Event.Idle task) }
-    {
-        let _ = &self.tasks;
-        if over {
-            self.take_idle_over(task);
-        } else {
-            self.take_idle(task);
-        }
-    }
 }
 
 /// What a check of a kind finds of each task.

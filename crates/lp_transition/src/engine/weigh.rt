@@ -86,41 +86,6 @@ impl<M: Consistency> Core<M> {
         done()
     }
 
-    /// The answer to an accepted exit; AllocError where a growth was refused, which there is only
-    /// where the task's group goes over.
-    fn answer_exit(&self, alloc: Global, task: TaskId) -> Result<Reply, AllocError>
-        requires room { self.now.number < 1000000 }
-        requires accepted { refusal_of M.rules (state_in self.now) (Event.Exit task) ≡ None }
-        ensures { IfOk result (λ reply. reply ≡ answer M.rules (state_in self.now) (Event.Exit task)) }
-    {
-        let waits_alone = is_only(&self.waiting, task.0);
-        if !self.exit_goes(task) {
-            return Ok(done());
-        }
-        let groups = one_group(alloc, group_of(&self.tasks, task))?;
-        Ok(Reply {
-            what: What::Switched(groups),
-            completed: waits_alone,
-        })
-    }
-
-    /// The answer to an accepted idle point, likewise.
-    fn answer_idle(&self, alloc: Global, task: TaskId) -> Result<Reply, AllocError>
-        requires room { self.now.number < 1000000 }
-        requires accepted { refusal_of M.rules (state_in self.now) (Event.Idle task) ≡ None }
-        ensures { IfOk result (λ reply. reply ≡ answer M.rules (state_in self.now) (Event.Idle task)) }
-    {
-        let waits_alone = is_only(&self.waiting, task.0);
-        if !self.idle_goes(task) {
-            return Ok(done());
-        }
-        let groups = one_group(alloc, group_of(&self.tasks, task))?;
-        Ok(Reply {
-            what: What::Switched(groups),
-            completed: waits_alone,
-        })
-    }
-
     /// The answer to an accepted end of a task.
     fn answer_die(&self, task: TaskId) -> Reply
         requires room { self.now.number < 1000000 }
@@ -147,7 +112,7 @@ impl<M: Consistency> Core<M> {
 }
 
 /// The answer to an event that was accepted and took no group over.
-fn done() -> Reply
+pub(super) fn done() -> Reply
     ensures { result ≡ record { what = What.Done; completed = false } }
 {
     Reply {
@@ -167,7 +132,7 @@ fn refused(why: Refusal) -> Reply
 }
 
 /// A list of one group.
-fn one_group(alloc: Global, group: GroupId) -> Result<GroupList, AllocError>
+pub(super) fn one_group(alloc: Global, group: GroupId) -> Result<GroupList, AllocError>
     ensures { IfOk result (λ list. list ≡ group.0 ∷ []) }
 {
     let mut groups = Vec::with_capacity(alloc, 1)?;
