@@ -5,7 +5,7 @@ ghost use Rattle.lp_stack.specs.TaskView.{seen};
 ghost use Rattle.lp_patch.specs.Aimed.{aimed};
 ghost use Rattle.lp_transition.specs.declared.engine.step.Halt.TheVariants.{JournalFull};
 ghost use Rattle.lp_transition.specs.Events.{is_scan};
-ghost use Rattle.lp_transition.specs.Scan.{is_scan_kind, scan_event, verdict_of};
+ghost use Rattle.lp_transition.specs.Scan.{is_scan_kind, scan_event, verdict_of, verdicts_of};
 ghost use Rattle.lp_transition.specs.Steps.{IsStep};
 ghost use Rattle.lp_transition.specs.Table.{state_in};
 ghost use Rattle.lp_transition.specs.Weigh.{IsWeighed, born_of, is_switched, refused_by};
@@ -34,6 +34,25 @@ impl<M: Consistency> Core<M> {
     {
         let step = self.weigh_any(alloc, event)?;
         Ok(self.take(step))
+    }
+
+    /// A walk or a stop by what its checks found of the waiting tasks: answers and takes it. Where it
+    /// fails the engine is as it was: NoMemory where a growth was refused, JournalFull where no event
+    /// is left.
+    pub fn commit_scan(
+        &mut self,
+        alloc: Global,
+        kind: CheckKind,
+        verdicts: &[Verdict],
+    ) -> Result<Reply, Halt>
+        requires scan { is_scan_kind kind ≡ true }
+        requires found { verdicts.now ≡ verdicts_of M.rules kind (state_in self.old) }
+        ensures full { (result ≡ Err JournalFull) ↔ (1000000 ≤ self.old.number) }
+        ensures step { IfOk result (λ reply. IsStep M.rules (state_in self.old) (scan_event kind) reply (state_in self.new)) }
+        ensures unchanged { OnErr result (self.new ≡ self.old) }
+    {
+        let scan = self.weigh_scan(alloc, kind, verdicts)?;
+        Ok(self.take(scan))
     }
 
     /// Takes an event that was weighed on this engine, and answers it. Takes no memory.
