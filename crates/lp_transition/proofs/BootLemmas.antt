@@ -26,8 +26,9 @@ use Rattle.lp_transition.specs.Table.{Table, Engine, state_in, bounds_of, slot, 
 use Rattle.lp_transition.proofs.Positions.{count_zero-from}
 use Rattle.lp_transition.proofs.Runs.{started}
 use Rattle.lp_transition.proofs.WholeRun.{start_sound}
-use Rattle.lp_transition.proofs.TableLemmas.{standings-with_task, IsWide-with_task}
+use Rattle.lp_transition.proofs.TableLemmas.{standings-blank, standings-with_task, IsWide-with_task}
 use Rattle.lp_transition.proofs.CountLemmas.{count-with_task}
+use Rattle.lp_transition.proofs.MemberLemmas.{count-blank}
 
 -- a boot task has the number
 abbrev pub has_number : ℕ → List (TaskId × Class) → Bool
@@ -139,14 +140,6 @@ module _ (model : Rules) where
       by None used e = refl
       by (Some x) used e = absurd (cc)
 
-  -- in a blank table no task was ever put
-  pub booted-blank : (table : Table) → IsBlank table → standings table ≡ booted model []
-  booted-blank table blank = fun_ext (λ t. ap₂ fate_at (blank.no_task t) (blank.none_used t))
-
--- in a blank table no group has a member
-pub count-blank : (table : Table) (group : ℕ) → IsBlank table → count_by (is_in group) table.slots ≡ 0
-count-blank table group blank = count_zero-from (is_in group) table.slots None (λ t lt. ap (is_in group) (blank.no_task t))
-
 -- ---- The tasks that are put, one after another
 
 -- the tasks of the list are live, and counted as members of their groups
@@ -161,7 +154,7 @@ pub record ArePut (model : Rules) (boots : List (TaskId × Class)) (table : Tabl
 pub none_put : (model : Rules) (table : Table) (members : List ℕ) → IsBlank table → length members ≡ 65536 → ((group : ℕ) → get_or members group 0 ≡ 0) → ArePut model [] table members
 none_put model table members blank groups uncounted = record {
   wide = blank.wide;
-  live = booted-blank model table blank;
+  live = standings-blank table blank;
   groups = groups;
   counted = λ group h. uncounted group ∙ sym (count-blank table group blank);
   in_range = All-nil (λ (boot : TaskId × Class). (0 < boot.0.0) × (boot.0.0 ≤ 65535));

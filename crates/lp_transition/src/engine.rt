@@ -106,15 +106,13 @@ impl<M: Consistency> Core<M> {
     pub fn side_of(&self, task: TaskId) -> Option<Level>
         ensures { option_map (λ level. level.0) result ≡ option_map (λ x. x.level) (slot self.now.table task.0) }
     {
-        let live = self.tasks.get(task)?;
-        Some(live.level())
+        self.tasks.level_of(task)
     }
 
     /// The group of a live task; None for any other.
     pub fn group_of(&self, task: TaskId) -> Option<GroupId>
         ensures { option_map (λ group. group.0) result ≡ option_map (λ x. x.group) (slot self.now.table task.0) }
     {
-        let live = self.tasks.get(task)?;
-        Some(live.group())
+        self.tasks.group_of(task)
     }
 }

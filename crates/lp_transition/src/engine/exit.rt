@@ -1,5 +1,5 @@
 //! Exits: a task that leaves the kernel is checked alone.
-ghost use Rattle.std.specs.Prelude.{◌≡◌, ◌<◌, None, true, false, IfOk};
+ghost use Rattle.std.specs.Prelude.{◌≡◌, ◌<◌, None, true, false, IfOk, IsErr, IsTrue};
 ghost use Rattle.std.specs.Option.{ForSome};
 ghost use Rattle.lp_transition.specs.Weigh.{is_switched};
 ghost use Rattle.lp_transition.specs.Table.{slot, state_in};
@@ -19,7 +19,8 @@ impl<M: Consistency> Core<M> {
     pub(super) fn answer_exit(&self, alloc: Global, task: TaskId) -> Result<Reply, AllocError>
         requires room { self.now.number < 1000000 }
         requires accepted { refusal_of M.rules (state_in self.now) (Event.Exit task) ≡ None }
-        ensures { IfOk result (λ reply. reply ≡ answer M.rules (state_in self.now) (Event.Exit task)) }
+        ensures memory { IsErr result → IsTrue (is_switched (answer M.rules (state_in self.now) (Event.Exit task)).what) }
+        ensures answer { IfOk result (λ reply. reply ≡ answer M.rules (state_in self.now) (Event.Exit task)) }
     {
         let waits_alone = is_only(&self.waiting, task.0);
         if !self.exit_goes(task) {

@@ -1,9 +1,10 @@
 //! The answers to events of one task.
-ghost use Rattle.std.specs.Prelude.{◌≡◌, ◌≤◌, ◌<◌, ◌↔◌, [], ◌∷◌, true, false, None, Some, Err, IfOk};
-ghost use Rattle.lp_transition.specs.declared.engine.step.Halt.TheVariants.{JournalFull};
+ghost use Rattle.std.specs.Prelude.{◌≡◌, ◌≤◌, ◌<◌, ◌↔◌, [], ◌∷◌, true, false, None, Some, Err, IfOk, IsErr, IsTrue};
+ghost use Rattle.lp_transition.specs.declared.engine.step.Halt.TheVariants.{NoMemory, JournalFull};
 ghost use Rattle.lp_transition.specs.Events.{is_scan};
 ghost use Rattle.lp_transition.specs.Table.{state_in};
-ghost use Rattle.lp_transition.specs.Weigh.{IsWeighed, born_of, moves, task_of, is_fork};
+ghost use Rattle.lp_transition.specs.Weigh.{IsWeighed, born_of, may_want_memory, moves, task_of, is_fork};
+ghost use Rattle.lp_transition.specs.Steps.{IsReply};
 ghost use Rattle.lp_transition.specs.Machine.{refusal_of, answer};
 
 use super::live_task::LiveTask;
@@ -22,6 +23,8 @@ impl<M: Consistency> Core<M> {
     pub fn weigh(&self, alloc: Global, event: Event) -> Result<Step, Halt>
         requires { is_scan event ≡ false }
         ensures full { (result ≡ Err JournalFull) ↔ (1000000 ≤ self.now.number) }
+        ensures memory { result ≡ Err NoMemory → IsTrue (may_want_memory event (answer M.rules (state_in self.now) event).what) }
+        ensures reply { IfOk result (λ step. IsReply M.rules (state_in self.now) event step.reply) }
         ensures weighed { IfOk result (λ step. IsWeighed M.rules self.now step) }
         ensures event { IfOk result (λ step. step.event ≡ event) }
         ensures verdicts { IfOk result (λ step. step.verdicts ≡ []) }
@@ -46,7 +49,8 @@ impl<M: Consistency> Core<M> {
         requires accepted { refusal_of M.rules (state_in self.now) event ≡ None }
         requires scan { is_scan event ≡ false }
         requires fork { is_fork event ≡ false }
-        ensures { IfOk result (λ reply. reply ≡ answer M.rules (state_in self.now) event) }
+        ensures memory { IsErr result → IsTrue (may_want_memory event (answer M.rules (state_in self.now) event).what) }
+        ensures answer { IfOk result (λ reply. reply ≡ answer M.rules (state_in self.now) event) }
     {
         match event {
             Event::Call(task, func) => Ok(self.answer_call(task, func)),
