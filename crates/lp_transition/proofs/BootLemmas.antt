@@ -1,5 +1,5 @@
 -- The boot tasks, one after another.
-use Rattle.std.proofs.Common.{◌≡◌, ℕ, zero, suc, ◌+◌, ◌<◌, ◌≤◌, Bool, true, false, ◌||◌, List, [], ◌∷◌, ◌++◌, length, get_or, set, take, drop, replicate, count_by, All, if◌then◌else◌, nat_eq, Option, None, Some, refl, sym, ap, ap₂, subst, ◌∙◌, ⊎_elim, append_assoc, append-nil, add-one, drop-cons, arith}
+use Rattle.std.proofs.Common.{◌≡◌, ℕ, zero, suc, ◌+◌, ◌<◌, ◌≤◌, Bool, true, false, ◌||◌, List, [], ◌∷◌, ◌++◌, length, get_or, set, take, drop, replicate, count_by, All, if◌then◌else◌, nat_eq, Option, None, Some, refl, sym, ap, subst, ◌∙◌, ⊎_elim, append_assoc, append-nil, add-one, drop-cons, arith}
 use Rattle.std.proofs.Math.Seq.{take-suc}
 use Rattle.std.specs.List.{list_any}
 use Rattle.std.proofs.lemmas.Grind.{common_steps, elements}
@@ -23,7 +23,6 @@ use Rattle.lp_transition.specs.Steps.{StandsIn}
 use Rattle.lp_transition.specs.Kept.{IsKept}
 use Rattle.lp_transition.specs.Boot.{boot_fault, boot_refusal}
 use Rattle.lp_transition.specs.Table.{Table, Engine, state_in, bounds_of, slot, fate_at, standings, IsWide, IsBlank, with_task, is_off, is_in}
-use Rattle.lp_transition.proofs.Positions.{count_zero-from}
 use Rattle.lp_transition.proofs.Runs.{started}
 use Rattle.lp_transition.proofs.WholeRun.{start_sound}
 use Rattle.lp_transition.proofs.TableLemmas.{standings-blank, standings-with_task, IsWide-with_task}

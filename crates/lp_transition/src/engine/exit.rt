@@ -60,42 +60,19 @@ impl<M: Consistency> Core<M> {
         self.model.admits(CheckKind::KernelExit, &outside, &aim)
     }
 
-    /// An accepted exit.
+    /// An accepted exit; over says whether the task's group goes over.
     pub(super) fn leave(&mut self, task: TaskId, over: bool)
         requires room { self.old.number < 1000000 }
         requires accepted { refusal_of M.rules (state_in self.old) (Event.Exit task) ≡ None }
         requires over { over ≡ is_switched (answer M.rules (state_in self.old) (Event.Exit task)).what }
         ensures { state_in self.new ≡ next M.rules (state_in self.old) (Event.Exit task) }
     {
-        let _ = &self.tasks;
-        if over {
-            self.take_exit_over(task);
-        } else {
-            self.take_exit(task);
+        self.events += 1;
+        self.tasks.set_mode(task, Mode::User);
+        if !over {
+            return;
         }
-    }
-
-    /// An accepted exit at which the task's group stays.
-    fn take_exit(&mut self, task: TaskId)
-        requires room { self.old.number < 1000000 }
-        requires accepted { refusal_of M.rules (state_in self.old) (Event.Exit task) ≡ None }
-        requires goes { ForSome (slot self.old.table task.0) (λ x. goes_over M.rules (affected M.rules (state_in self.old) (Event.Exit task)) (Event.Exit task) x.group ≡ false) }
-        ensures { state_in self.new ≡ next M.rules (state_in self.old) (Event.Exit task) }
-    {
-        self.events += 1;
-        self.tasks.set_mode(task, Mode::User);
-    }
-
-    /// An accepted exit at which the task's group, the task alone, goes over.
-    fn take_exit_over(&mut self, task: TaskId)
-        requires room { self.old.number < 1000000 }
-        requires accepted { refusal_of M.rules (state_in self.old) (Event.Exit task) ≡ None }
-        requires goes { ForSome (slot self.old.table task.0) (λ x. goes_over M.rules (affected M.rules (state_in self.old) (Event.Exit task)) (Event.Exit task) x.group ≡ true) }
-        ensures { state_in self.new ≡ next M.rules (state_in self.old) (Event.Exit task) }
-    {
-        self.events += 1;
         self.waiting.remove(task.0);
-        self.tasks.set_mode(task, Mode::User);
         self.tasks.set_level(task, self.target);
     }
 }

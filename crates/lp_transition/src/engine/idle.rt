@@ -54,39 +54,17 @@ impl<M: Consistency> Core<M> {
         self.model.admits(CheckKind::IdlePoint, &view, &aim)
     }
 
-    /// An accepted idle point.
+    /// An accepted idle point; over says whether the task's group goes over.
     pub(super) fn pause(&mut self, task: TaskId, over: bool)
         requires room { self.old.number < 1000000 }
         requires accepted { refusal_of M.rules (state_in self.old) (Event.Idle task) ≡ None }
         requires over { over ≡ is_switched (answer M.rules (state_in self.old) (Event.Idle task)).what }
         ensures { state_in self.new ≡ next M.rules (state_in self.old) (Event.Idle task) }
     {
-        let _ = &self.tasks;
-        if over {
-            self.take_idle_over(task);
-        } else {
-            self.take_idle(task);
+        self.events += 1;
+        if !over {
+            return;
         }
-    }
-
-    /// An accepted idle point at which the task's group stays.
-    fn take_idle(&mut self, task: TaskId)
-        requires room { self.old.number < 1000000 }
-        requires accepted { refusal_of M.rules (state_in self.old) (Event.Idle task) ≡ None }
-        requires goes { ForSome (slot self.old.table task.0) (λ x. goes_over M.rules (affected M.rules (state_in self.old) (Event.Idle task)) (Event.Idle task) x.group ≡ false) }
-        ensures { state_in self.new ≡ next M.rules (state_in self.old) (Event.Idle task) }
-    {
-        self.events += 1;
-    }
-
-    /// An accepted idle point at which the task's group, the task alone, goes over.
-    fn take_idle_over(&mut self, task: TaskId)
-        requires room { self.old.number < 1000000 }
-        requires accepted { refusal_of M.rules (state_in self.old) (Event.Idle task) ≡ None }
-        requires goes { ForSome (slot self.old.table task.0) (λ x. goes_over M.rules (affected M.rules (state_in self.old) (Event.Idle task)) (Event.Idle task) x.group ≡ true) }
-        ensures { state_in self.new ≡ next M.rules (state_in self.old) (Event.Idle task) }
-    {
-        self.events += 1;
         self.waiting.remove(task.0);
         self.tasks.set_level(task, self.target);
     }

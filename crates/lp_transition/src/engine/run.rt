@@ -26,7 +26,8 @@ impl<M: Consistency> Core<M> {
     ghost use Rattle.lp_transition.specs.Leg.{Standing};
 
     /// One event: answers and takes it. Where it fails the engine is as it was: NoMemory where a
-    /// growth was refused, JournalFull where no event is left.
+    /// growth was refused, which may be at scans, at accepted forks, and at exits and idle points that
+    /// take a group over, and JournalFull where no event is left.
     pub fn step(&mut self, alloc: Global, event: Event) -> Result<Reply, Halt>
         ensures full { (result ≡ Err JournalFull) ↔ (1000000 ≤ self.old.number) }
         ensures memory { result ≡ Err NoMemory → IsTrue (may_want_memory event (answer M.rules (state_in self.old) event).what) }

@@ -19,7 +19,8 @@ use std::alloc::{AllocError, Global};
 
 impl<M: Consistency> Core<M> {
     /// The answer to an event that is no scan, and what the engine needs to take it. Changes
-    /// nothing. NoMemory where a growth was refused, JournalFull where no event is left.
+    /// nothing. NoMemory where a growth was refused, at the events that `step` names, JournalFull
+    /// where no event is left.
     pub fn weigh(&self, alloc: Global, event: Event) -> Result<Step, Halt>
         requires { is_scan event ≡ false }
         ensures full { (result ≡ Err JournalFull) ↔ (1000000 ≤ self.now.number) }

@@ -5,10 +5,9 @@ use Rattle.lp_transition.specs.declared.event.Event.TheVariants.{Exit}
 use Rattle.lp_transition.specs.declared.reply.What.TheVariants.{Switched}
 use Rattle.lp_transition.specs.declared.reply.Reply.{Reply}
 use Rattle.lp_transition.specs.Machine.{put_in}
-use Rattle.lp_transition.specs.Weigh.{is_switched}
 use Rattle.lp_transition.specs.Table.{slot}
 use Rattle.lp_transition.proofs.Accept.{exit-live}
-use Rattle.lp_transition.proofs.Weighing.{answer-stays, answer-goes}
+use Rattle.lp_transition.proofs.Weighing.{answer-stays, answer-goes, switched-where_goes}
 use Rattle.lp_transition.proofs.engine.Core.answer_exit.Goals as goal
 
 pub returns-then-not-exit_goes-clause-answer : goal.returns-then-not-exit_goes-clause-answer
@@ -31,8 +30,7 @@ returns-in_err-groups-clause-memory g c =
     let goes = rw (← c.self.view_is) at (sym (c.if-not-exit_goes.ensures live.task at)) in
     let group = c.group_of.ensures live.task live.there in
     let within : live.task.group < 65536 = omega (arith, group) in
-    let answered = answer-goes g.M.Consistency.rules g.met.M.Consistency.lawful (record { number = i.events; from = i.from.0; target = i.target.0; patches = i.patches; table = i.tasks }) i.waiting i.members.items c.self.invariant (rw (← c.self.view_is) at c.requires.room) (Exit c.args.task) KernelExit c.args.task.0 h (put_in User) (λ y. refl) (λ y. refl) live.task live.there (λ k. refl) refl accepted refl refl within c.is_only-waits_alone.result c.is_only-waits_alone.ensures goes in
-    λ _. rw (← c.self.view_is) (ap (λ (r : Reply). is_switched r.what) answered)
+    λ _. rw (← c.self.view_is) (switched-where_goes g.M.Consistency.rules g.met.M.Consistency.lawful (record { number = i.events; from = i.from.0; target = i.target.0; patches = i.patches; table = i.tasks }) i.waiting i.members.items c.self.invariant (rw (← c.self.view_is) at c.requires.room) (Exit c.args.task) KernelExit c.args.task.0 h (put_in User) (λ y. refl) (λ y. refl) live.task live.there (λ k. refl) refl accepted refl refl within goes)
 
 pub returns-clause-answer : goal.returns-clause-answer
 returns-clause-answer g c =

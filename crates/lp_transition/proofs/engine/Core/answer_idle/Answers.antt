@@ -3,11 +3,10 @@ use Rattle.lp_model.specs.declared.check.CheckKind.TheVariants.{IdlePoint}
 use Rattle.lp_transition.specs.declared.event.Event.TheVariants.{Idle}
 use Rattle.lp_transition.specs.declared.reply.What.TheVariants.{Switched}
 use Rattle.lp_transition.specs.declared.reply.Reply.{Reply}
-use Rattle.lp_transition.specs.Weigh.{is_switched}
 use Rattle.lp_transition.specs.Table.{slot, standings}
 use Rattle.lp_transition.proofs.Accept.{idle-live}
 use Rattle.lp_transition.proofs.Leaving.{same-after_nothing}
-use Rattle.lp_transition.proofs.Weighing.{answer-stays, answer-goes}
+use Rattle.lp_transition.proofs.Weighing.{answer-stays, answer-goes, switched-where_goes}
 use Rattle.lp_transition.proofs.engine.Core.answer_idle.Goals as goal
 
 pub returns-then-not-idle_goes-clause-answer : goal.returns-then-not-idle_goes-clause-answer
@@ -30,8 +29,7 @@ returns-in_err-groups-clause-memory g c =
     let goes = rw (← c.self.view_is) at (sym (c.if-not-idle_goes.ensures live.task at)) in
     let group = c.group_of.ensures live.task live.there in
     let within : live.task.group < 65536 = omega (arith, group) in
-    let answered = answer-goes g.M.Consistency.rules g.met.M.Consistency.lawful (record { number = i.events; from = i.from.0; target = i.target.0; patches = i.patches; table = i.tasks }) i.waiting i.members.items c.self.invariant (rw (← c.self.view_is) at c.requires.room) (Idle c.args.task) IdlePoint c.args.task.0 h (λ y. y) (λ y. refl) (λ y. refl) live.task live.there (λ k. refl) refl accepted (same-after_nothing c.args.task.0 (standings i.tasks)) refl within c.is_only-waits_alone.result c.is_only-waits_alone.ensures goes in
-    λ _. rw (← c.self.view_is) (ap (λ (r : Reply). is_switched r.what) answered)
+    λ _. rw (← c.self.view_is) (switched-where_goes g.M.Consistency.rules g.met.M.Consistency.lawful (record { number = i.events; from = i.from.0; target = i.target.0; patches = i.patches; table = i.tasks }) i.waiting i.members.items c.self.invariant (rw (← c.self.view_is) at c.requires.room) (Idle c.args.task) IdlePoint c.args.task.0 h (λ y. y) (λ y. refl) (λ y. refl) live.task live.there (λ k. refl) refl accepted (same-after_nothing c.args.task.0 (standings i.tasks)) refl within goes)
 
 pub returns-clause-answer : goal.returns-clause-answer
 returns-clause-answer g c =
