@@ -26,6 +26,7 @@ use lp_numbers::NumberSet;
 use lp_patch::{Aim, PatchStack};
 use lp_stack::{GroupId, Level, TaskId};
 pub use opening::Opening;
+pub use run::verdicts;
 use std::marker::Model;
 pub use step::{Halt, Step};
 use task_table::TaskTable;

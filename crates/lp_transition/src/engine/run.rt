@@ -144,8 +144,9 @@ impl<M: Consistency> Core<M> {
     }
 }
 
-/// What a check of a kind finds of each task.
-fn verdicts<M: Consistency>(
+/// What a check of a kind finds of each of these tasks, in their order; AllocError where a growth was
+/// refused.
+pub fn verdicts<M: Consistency>(
     alloc: Global,
     model: &M,
     kind: CheckKind,
