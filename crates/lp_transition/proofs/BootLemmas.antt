@@ -1,5 +1,5 @@
 -- The boot tasks, one after another.
-use Rattle.std.proofs.Common.{◌≡◌, ℕ, zero, suc, ◌+◌, ◌<◌, ◌≤◌, Bool, true, false, ◌||◌, List, [], ◌∷◌, ◌++◌, length, get_or, set, take, drop, replicate, count_by, All, if◌then◌else◌, nat_eq, Option, None, Some, refl, sym, ap, ap₂, subst, ◌∙◌, ⊎_elim, append_assoc, append-nil, add-one, drop-cons, arith}
+use Rattle.std.proofs.Common.{◌≡◌, ℕ, zero, suc, ◌+◌, ◌<◌, ◌≤◌, Bool, true, false, ◌||◌, List, [], ◌∷◌, ◌++◌, length, get_or, set, take, drop, replicate, count_by, All, if◌then◌else◌, nat_eq, Option, None, Some, refl, sym, ap, subst, ◌∙◌, ⊎_elim, append_assoc, append-nil, add-one, drop-cons, arith}
 use Rattle.std.proofs.Math.Seq.{take-suc}
 use Rattle.std.specs.List.{list_any}
 use Rattle.std.proofs.lemmas.Grind.{common_steps, elements}
@@ -23,11 +23,11 @@ use Rattle.lp_transition.specs.Steps.{StandsIn}
 use Rattle.lp_transition.specs.Kept.{IsKept}
 use Rattle.lp_transition.specs.Boot.{boot_fault, boot_refusal}
 use Rattle.lp_transition.specs.Table.{Table, Engine, state_in, bounds_of, slot, fate_at, standings, IsWide, IsBlank, with_task, is_off, is_in}
-use Rattle.lp_transition.proofs.Positions.{count_zero-from}
 use Rattle.lp_transition.proofs.Runs.{started}
 use Rattle.lp_transition.proofs.WholeRun.{start_sound}
-use Rattle.lp_transition.proofs.TableLemmas.{standings-with_task, IsWide-with_task}
+use Rattle.lp_transition.proofs.TableLemmas.{standings-blank, standings-with_task, IsWide-with_task}
 use Rattle.lp_transition.proofs.CountLemmas.{count-with_task}
+use Rattle.lp_transition.proofs.MemberLemmas.{count-blank}
 
 -- a boot task has the number
 abbrev pub has_number : ℕ → List (TaskId × Class) → Bool
@@ -139,14 +139,6 @@ module _ (model : Rules) where
       by None used e = refl
       by (Some x) used e = absurd (cc)
 
-  -- in a blank table no task was ever put
-  pub booted-blank : (table : Table) → IsBlank table → standings table ≡ booted model []
-  booted-blank table blank = fun_ext (λ t. ap₂ fate_at (blank.no_task t) (blank.none_used t))
-
--- in a blank table no group has a member
-pub count-blank : (table : Table) (group : ℕ) → IsBlank table → count_by (is_in group) table.slots ≡ 0
-count-blank table group blank = count_zero-from (is_in group) table.slots None (λ t lt. ap (is_in group) (blank.no_task t))
-
 -- ---- The tasks that are put, one after another
 
 -- the tasks of the list are live, and counted as members of their groups
@@ -161,7 +153,7 @@ pub record ArePut (model : Rules) (boots : List (TaskId × Class)) (table : Tabl
 pub none_put : (model : Rules) (table : Table) (members : List ℕ) → IsBlank table → length members ≡ 65536 → ((group : ℕ) → get_or members group 0 ≡ 0) → ArePut model [] table members
 none_put model table members blank groups uncounted = record {
   wide = blank.wide;
-  live = booted-blank model table blank;
+  live = standings-blank table blank;
   groups = groups;
   counted = λ group h. uncounted group ∙ sym (count-blank table group blank);
   in_range = All-nil (λ (boot : TaskId × Class). (0 < boot.0.0) × (boot.0.0 ≤ 65535));

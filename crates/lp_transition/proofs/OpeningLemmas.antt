@@ -7,9 +7,9 @@ use Rattle.lp_model.specs.Rules.{Rules}
 use Rattle.lp_transition.specs.declared.event.Event.{Event}
 use Rattle.lp_transition.specs.Tasks.{Fate}
 use Rattle.lp_transition.specs.Leg.{Standing, State, Leg}
-use Rattle.lp_transition.specs.Run.{Run, plus, first_leg, leg_of, next_leg, opens, opened, and_then}
+use Rattle.lp_transition.specs.Run.{plus, first_leg, leg_of, next_leg, opens, opened, and_then}
 use Rattle.lp_transition.specs.Machine.{state_of}
-use Rattle.lp_transition.specs.Steps.{StandsIn}
+use Rattle.lp_transition.specs.Steps.{OpensLegs}
 use Rattle.lp_transition.specs.Slots.{slots_of}
 use Rattle.lp_transition.proofs.SlotLemmas.{boxed}
 use Rattle.lp_transition.proofs.Steps.{open_shown}
@@ -33,7 +33,7 @@ module _ (model : Rules) where
   opened_next leg event is = cond-true (opens model leg event) (opened model leg event) (and_then leg event) is
 
   -- after an accepted control event a run stands at the opening of the leg that the event opens
-  pub stands_at_opening : (run : Run) (event : Event) (now : State) → opens model (leg_of model run) event ≡ true → StandsIn model (plus run event) now → now ≡ (leg_of model (plus run event)).opening
-  stands_at_opening run event now is stands =
+  pub opens_legs : (now : State) → OpensLegs model now
+  opens_legs now run event is stands =
       let leg : leg_of model (plus run event) ≡ opened model (leg_of model run) event = leg_after-plus model (first_leg model run) run.events event ∙ opened_next (leg_of model run) event is in
       stands.there ∙ ap (state_of model) leg ∙ open_state (opened model (leg_of model run) event).opening ∙ ap (λ l. l.opening) (sym leg)

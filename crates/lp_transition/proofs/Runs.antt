@@ -7,7 +7,9 @@ use Rattle.lp_transition.specs.Leg.{Leg, State}
 use Rattle.lp_transition.specs.Sound.{IsSound}
 use Rattle.lp_transition.specs.Run.{Run, AreInRange, plus, first_leg, leg_of, next_leg, replies, leg_after}
 use Rattle.lp_transition.specs.Machine.{answer, next, answers, state_of}
-use Rattle.lp_transition.specs.Steps.{StandsIn, IsStep}
+use Rattle.lp_transition.specs.Table.{Engine, state_in}
+use Rattle.lp_transition.specs.Weigh.{Weighed, IsWeighed}
+use Rattle.lp_transition.specs.Steps.{StandsIn, IsReply, IsStep}
 use Rattle.lp_transition.specs.Laws.{StepsAsDefined}
 use Rattle.lp_transition.proofs.WholeRun.{next_sound, run_sound, start_sound}
 use Rattle.lp_transition.proofs.Steps.{open_shown, does}
@@ -43,6 +45,14 @@ module _ (model : Rules) where
             there = ap (λ s. next model s event) stands.there ∙ ((does model (leg_of model run) event lawful (sound_of run stands.in_range)).goes_on ∙ ap (state_of model) (sym (leg_after-plus (first_leg model run) run.events event)));
           };
         }
+
+    -- the machine's answer is the definitions' reply
+    pub is_reply : (before : State) (event : Event) (given : Reply) → given ≡ answer model before event → IsReply model before event given
+    is_reply before event given answered run stands = answered ∙ (steps before event).replies run stands
+
+    -- so is the reply of what was weighed
+    pub weighed_reply : (e : Engine) (step : Weighed) (event : Event) → IsWeighed model e step → step.event ≡ event → IsReply model (state_in e) event step.reply
+    weighed_reply e step event weighed is = is_reply (state_in e) event step.reply (weighed.reply ∙ ap (answer model (state_in e)) is)
 
     -- what code has to show of its step
     pub is_step : (before after : State) (event : Event) (given : Reply) → given ≡ answer model before event → after ≡ next model before event → IsStep model before event given after

@@ -157,15 +157,19 @@ module _ (model : Rules) (lawful : IsLawful model) (e : Engine) (waiting : Numbe
         ∙ ap₂ {A = What} {B = Bool} {C = Reply} (λ what b. record { what = what; completed = b }) (reports ∙ ap switched one)
         (sym (completed e new waiting (set waiting t false) members members t last kept taken.kept small refl lone))
 
-    -- and it does where the answer says that groups went over
+    -- and the answer says so
+    pub switched-where_goes : (f x).group < 65536 → goes_over model (affected model (state_in e) event) event (f x).group ≡ true → is_switched (answer model (state_in e) event).what ≡ true
+    switched-where_goes within goes =
+        let one = going-one model (affected model (state_in e) event) event (f x).group (omega (arith, within)) goes (λ n ne. others-stay_now model lawful e waiting members kept event kind t small f levels groups x there checks e refl own n (λ same. ne (sym same))) in
+        ap (λ (r : Reply). is_switched r.what) (answer-accepted model (state_in e) event accepted ∙ cond-false _ _ _ plain) ∙ ap is_switched (reports ∙ ap switched one)
+
+    -- it goes over where the answer says that groups went over
     pub goes-reported : (over : Bool) → (f x).group < 65536 → over ≡ is_switched (answer model (state_in e) event).what → goes_over model (affected model (state_in e) event) event (f x).group ≡ over
     goes-reported over within is = by (goes_over model (affected model (state_in e) event) event (f x).group) refl
       where
         by : (b : Bool) → goes_over model (affected model (state_in e) event) event (f x).group ≡ b → goes_over model (affected model (state_in e) event) event (f x).group ≡ over
         by false stays = stays ∙ sym (is ∙ ap (λ (r : Reply). is_switched r.what) (answer-stays stays))
-        by true goes =
-            let one = going-one model (affected model (state_in e) event) event (f x).group (omega (arith, within)) goes (λ n ne. others-stay_now model lawful e waiting members kept event kind t small f levels groups x there checks e refl own n (λ same. ne (sym same))) in
-            goes ∙ sym (is ∙ ap (λ (r : Reply). is_switched r.what) (answer-accepted model (state_in e) event accepted ∙ cond-false _ _ _ plain) ∙ ap is_switched (reports ∙ ap switched one))
+        by true goes = goes ∙ sym (is ∙ switched-where_goes within goes)
 
 -- an answer refuses where the event is refused
 pub refused-as : (model : Rules) (s : State) (event : Event) → refused_by (answer model s event).what ≡ refusal_of model s event

@@ -1,9 +1,9 @@
 -- An event that was weighed: its answer, and what the engine needs to take it without memory.
-use Rattle.std.specs.Prelude.{◌≡◌, ℕ, ◌<◌, Bool, true, false, List, Option, Some, None}
+use Rattle.std.specs.Prelude.{◌≡◌, ℕ, ◌<◌, Bool, true, false, List, Option, Some, None, is_none}
 use Rattle.lp_model.specs.Rules.{Rules}
 use Rattle.lp_model.specs.declared.verdict.Verdict.{Verdict}
 use Rattle.lp_transition.specs.declared.event.Event.{Event}
-use Rattle.lp_transition.specs.declared.event.Event.TheVariants.{Ret, Sleep, Wake, Enter, Fork}
+use Rattle.lp_transition.specs.declared.event.Event.TheVariants.{Ret, Sleep, Wake, Enter, Exit, Idle, Fork, Walk, Stop}
 use Rattle.lp_transition.specs.declared.refusal.Refusal.{Refusal}
 use Rattle.lp_transition.specs.declared.reply.What.{What}
 use Rattle.lp_transition.specs.declared.reply.What.TheVariants.{Switched, Refused}
@@ -69,3 +69,13 @@ is_switched _ = false
 abbrev pub refused_by : What → Option Refusal
 refused_by (Refused why) = Some why
 refused_by _ = None
+
+-- memory may be wanted for the event, which did this: at a scan, for a child, and where an exit or an idle point
+-- takes a group over
+abbrev pub may_want_memory : Event → What → Bool
+may_want_memory Walk what = true
+may_want_memory Stop what = true
+may_want_memory (Fork p c how) what = is_none (refused_by what)
+may_want_memory (Exit t) what = is_switched what
+may_want_memory (Idle t) what = is_switched what
+may_want_memory _ what = false

@@ -6,9 +6,10 @@ ghost use Rattle.lp_transition.specs.Table.{slot, state_in};
 ghost use Rattle.lp_stack.specs.TaskView.{seen};
 ghost use Rattle.lp_transition.specs.Machine.{at_rest, view_of};
 
-mod alone;
 mod boot;
 mod control;
+mod exit;
+mod idle;
 mod live_task;
 mod opening;
 mod parts;
@@ -26,6 +27,7 @@ use lp_numbers::NumberSet;
 use lp_patch::{Aim, PatchStack};
 use lp_stack::{GroupId, Level, TaskId, View};
 pub use opening::Opening;
+pub use run::verdicts;
 use std::marker::Model;
 pub use step::{Halt, Step};
 use task_table::TaskTable;
@@ -106,8 +108,7 @@ impl<M: Consistency> Core<M> {
     pub fn side_of(&self, task: TaskId) -> Option<Level>
         ensures { option_map (λ level. level.0) result ≡ option_map (λ x. x.level) (slot self.now.table task.0) }
     {
-        let live = self.tasks.get(task)?;
-        Some(live.level())
+        self.tasks.level_of(task)
     }
 
     /// A live task as it stands, lent; None for any other.
@@ -122,7 +123,6 @@ impl<M: Consistency> Core<M> {
     pub fn group_of(&self, task: TaskId) -> Option<GroupId>
         ensures { option_map (λ group. group.0) result ≡ option_map (λ x. x.group) (slot self.now.table task.0) }
     {
-        let live = self.tasks.get(task)?;
-        Some(live.group())
+        self.tasks.group_of(task)
     }
 }

@@ -10,7 +10,7 @@ mod reply;
 #[cfg(test)]
 mod tests;
 
-pub use engine::{BootFault, Core, Halt, MOST_EVENTS, Opening, Step};
+pub use engine::{BootFault, Core, Halt, MOST_EVENTS, Opening, Step, verdicts};
 pub use event::Event;
 pub use refusal::Refusal;
 pub use reply::{GroupList, Reply, What};

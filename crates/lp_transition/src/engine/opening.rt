@@ -5,7 +5,9 @@ ghost use Rattle.lp_numbers.specs.Numbers.{IsNextFrom};
 ghost use Rattle.lp_stack.specs.TaskView.{seen};
 ghost use Rattle.lp_transition.specs.Tasks.{is_unused};
 ghost use Rattle.lp_transition.specs.Machine.{view_of};
-ghost use Rattle.lp_transition.specs.Table.{slot, standings};
+ghost use Rattle.lp_transition.specs.Table.{slot, standings, state_in};
+ghost use Rattle.lp_transition.specs.Sound.{IsSound};
+ghost use Rattle.lp_transition.specs.Steps.{OpensLegs};
 
 use super::Core;
 use super::task_table::TaskTable;
@@ -40,9 +42,12 @@ impl Model for Opening {
 }
 
 impl<M: Consistency> Core<M> {
-    /// A copy of the engine as it stands; an `Err` only where a growth was refused.
+    /// A copy of the engine as it stands, which just after an accepted control event is the opening of that
+    /// event's leg; an `Err` only where a growth was refused.
     pub fn standing(&self, alloc: Global) -> Result<Opening, AllocError>
-        ensures { IfOk result (λ opening. opening ≡ self.now) }
+        ensures same { IfOk result (λ opening. opening ≡ self.now) }
+        ensures sound { IfOk result (λ opening. IsSound (state_in opening)) }
+        ensures opens { IfOk result (λ opening. OpensLegs M.rules (state_in opening)) }
     {
         Ok(Opening {
             number: self.events,
@@ -112,15 +117,13 @@ impl Opening {
     pub fn level_of(&self, task: TaskId) -> Option<Level>
         ensures { option_map (λ level. level.0) result ≡ option_map (λ x. x.level) (slot self.now.table task.0) }
     {
-        let live = self.tasks.get(task)?;
-        Some(live.level())
+        self.tasks.level_of(task)
     }
 
     /// The group of a live task; None for any other.
     pub fn group_of(&self, task: TaskId) -> Option<GroupId>
         ensures { option_map (λ group. group.0) result ≡ option_map (λ x. x.group) (slot self.now.table task.0) }
     {
-        let live = self.tasks.get(task)?;
-        Some(live.group())
+        self.tasks.group_of(task)
     }
 }

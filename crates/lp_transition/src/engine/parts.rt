@@ -25,8 +25,8 @@ pub(super) fn put_number(set: &mut NumberSet, number: u16, is_member: bool)
 pub(super) fn group_of(tasks: &TaskTable, task: TaskId) -> GroupId
     ensures { ForSome (slot tasks.now task.0) (λ x. result.0 ≡ x.group) }
 {
-    match tasks.get(task) {
-        Some(live) => live.group(),
+    match tasks.group_of(task) {
+        Some(group) => group,
         None => GroupId(0),
     }
 }
@@ -35,8 +35,8 @@ pub(super) fn group_of(tasks: &TaskTable, task: TaskId) -> GroupId
 pub(super) fn level_of(tasks: &TaskTable, task: TaskId) -> Level
     ensures { result.0 ≡ on_live 0 (λ x. x.level) (standings tasks.now task.0) }
 {
-    match tasks.get(task) {
-        Some(live) => live.level(),
+    match tasks.level_of(task) {
+        Some(level) => level,
         None => Level(0),
     }
 }

@@ -1,14 +1,14 @@
 //! The events of a run: each is weighed, and taken as it was answered.
-ghost use Rattle.std.specs.Prelude.{◌≡◌, ◌≤◌, ◌<◌, ◌↔◌, map, true, false, None, Some, Err, IfOk, OnErr};
+ghost use Rattle.std.specs.Prelude.{◌≡◌, ◌≤◌, ◌<◌, ◌↔◌, map, true, false, None, Some, Err, IfOk, OnErr, IsTrue};
 ghost use Rattle.std.specs.Option.{option_map};
 ghost use Rattle.lp_stack.specs.TaskView.{seen};
 ghost use Rattle.lp_patch.specs.Aimed.{aimed};
-ghost use Rattle.lp_transition.specs.declared.engine.step.Halt.TheVariants.{JournalFull};
+ghost use Rattle.lp_transition.specs.declared.engine.step.Halt.TheVariants.{NoMemory, JournalFull};
 ghost use Rattle.lp_transition.specs.Events.{is_scan};
-ghost use Rattle.lp_transition.specs.Scan.{is_scan_kind, scan_event, verdict_of};
+ghost use Rattle.lp_transition.specs.Scan.{is_scan_kind, scan_event, verdict_of, verdicts_of};
 ghost use Rattle.lp_transition.specs.Steps.{IsStep};
 ghost use Rattle.lp_transition.specs.Table.{state_in};
-ghost use Rattle.lp_transition.specs.Weigh.{IsWeighed, born_of, is_switched, refused_by};
+ghost use Rattle.lp_transition.specs.Weigh.{IsWeighed, born_of, is_switched, may_want_memory, refused_by};
 ghost use Rattle.lp_transition.specs.Machine.{refusal_of, answer, next};
 
 use super::live_task::LiveTask;
@@ -26,14 +26,35 @@ impl<M: Consistency> Core<M> {
     ghost use Rattle.lp_transition.specs.Leg.{Standing};
 
     /// One event: answers and takes it. Where it fails the engine is as it was: NoMemory where a
-    /// growth was refused, JournalFull where no event is left.
+    /// growth was refused, which may be at scans, at accepted forks, and at exits and idle points that
+    /// take a group over, and JournalFull where no event is left.
     pub fn step(&mut self, alloc: Global, event: Event) -> Result<Reply, Halt>
         ensures full { (result ≡ Err JournalFull) ↔ (1000000 ≤ self.old.number) }
+        ensures memory { result ≡ Err NoMemory → IsTrue (may_want_memory event (answer M.rules (state_in self.old) event).what) }
         ensures step { IfOk result (λ reply. IsStep M.rules (state_in self.old) event reply (state_in self.new)) }
         ensures unchanged { OnErr result (self.new ≡ self.old) }
     {
         let step = self.weigh_any(alloc, event)?;
         Ok(self.take(step))
+    }
+
+    /// A walk or a stop by what its checks found of the waiting tasks: answers and takes it. Where it
+    /// fails the engine is as it was: NoMemory where a growth was refused, JournalFull where no event
+    /// is left.
+    pub fn commit_scan(
+        &mut self,
+        alloc: Global,
+        kind: CheckKind,
+        verdicts: &[Verdict],
+    ) -> Result<Reply, Halt>
+        requires scan { is_scan_kind kind ≡ true }
+        requires found { verdicts.now ≡ verdicts_of M.rules kind (state_in self.old) }
+        ensures full { (result ≡ Err JournalFull) ↔ (1000000 ≤ self.old.number) }
+        ensures step { IfOk result (λ reply. IsStep M.rules (state_in self.old) (scan_event kind) reply (state_in self.new)) }
+        ensures unchanged { OnErr result (self.new ≡ self.old) }
+    {
+        let scan = self.weigh_scan(alloc, kind, verdicts)?;
+        Ok(self.take(scan))
     }
 
     /// Takes an event that was weighed on this engine, and answers it. Takes no memory.
@@ -58,6 +79,7 @@ impl<M: Consistency> Core<M> {
     /// Any event, weighed.
     fn weigh_any(&self, alloc: Global, event: Event) -> Result<Step, Halt>
         ensures full { (result ≡ Err JournalFull) ↔ (1000000 ≤ self.now.number) }
+        ensures memory { result ≡ Err NoMemory → IsTrue (may_want_memory event (answer M.rules (state_in self.now) event).what) }
         ensures weighed { IfOk result (λ step. IsWeighed M.rules self.now step) }
         ensures event { IfOk result (λ step. step.event ≡ event) }
     {
@@ -120,40 +142,11 @@ impl<M: Consistency> Core<M> {
             Event::Walk | Event::Stop => unreachable!(),
         }
     }
-
-    /// An accepted exit.
-    fn leave(&mut self, task: TaskId, over: bool)
-        requires room { self.old.number < 1000000 }
-        requires accepted { refusal_of M.rules (state_in self.old) (Event.Exit task) ≡ None }
-        requires over { over ≡ is_switched (answer M.rules (state_in self.old) (Event.Exit task)).what }
-        ensures { state_in self.new ≡ next M.rules (state_in self.old) (Event.Exit task) }
-    {
-        let _ = &self.tasks;
-        if over {
-            self.take_exit_over(task);
-        } else {
-            self.take_exit(task);
-        }
-    }
-
-    /// An accepted idle point.
-    fn pause(&mut self, task: TaskId, over: bool)
-        requires room { self.old.number < 1000000 }
-        requires accepted { refusal_of M.rules (state_in self.old) (Event.Idle task) ≡ None }
-        requires over { over ≡ is_switched (answer M.rules (state_in self.old) (Event.Idle task)).what }
-        ensures { state_in self.new ≡ next M.rules (state_in self.old) (Event.Idle task) }
-    {
-        let _ = &self.tasks;
-        if over {
-            self.take_idle_over(task);
-        } else {
-            self.take_idle(task);
-        }
-    }
 }
 
-/// What a check of a kind finds of each task.
-fn verdicts<M: Consistency>(
+/// What a check of a kind finds of each of these tasks, in their order; AllocError where a growth was
+/// refused.
+pub fn verdicts<M: Consistency>(
     alloc: Global,
     model: &M,
     kind: CheckKind,

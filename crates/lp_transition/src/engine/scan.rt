@@ -9,6 +9,7 @@ ghost use Rattle.lp_transition.specs.Machine.{view_of, is_behind, next};
 ghost use Rattle.lp_transition.specs.Events.{is_scan};
 ghost use Rattle.lp_transition.specs.Run.{switched};
 ghost use Rattle.lp_transition.specs.Weigh.{IsWeighed};
+ghost use Rattle.lp_transition.specs.Steps.{IsReply};
 ghost use Rattle.lp_transition.specs.Scan.{is_scan_kind, scan_event, views_of, verdicts_of, passing};
 ghost use Rattle.lp_transition.specs.ScanSteps.{IsNextBelow, is_found, goes_by, all_admit, groups_of, is_over, IsTaskMoved, IsMoved};
 ghost use Rattle.lp_transition.specs.declared.engine.step.Halt.TheVariants.{JournalFull};
@@ -52,6 +53,7 @@ impl<M: Consistency> Core<M> {
         requires scan { is_scan_kind kind ≡ true }
         requires found { verdicts.now ≡ verdicts_of M.rules kind (state_in self.now) }
         ensures full { (result ≡ Err JournalFull) ↔ (1000000 ≤ self.now.number) }
+        ensures reply { IfOk result (λ step. IsReply M.rules (state_in self.now) (scan_event kind) step.reply) }
         ensures weighed { IfOk result (λ step. IsWeighed M.rules self.now step) }
         ensures event { IfOk result (λ step. step.event ≡ scan_event kind) }
         ensures verdicts { IfOk result (λ step. step.verdicts ≡ verdicts.now) }

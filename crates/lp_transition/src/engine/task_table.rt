@@ -1,6 +1,6 @@
 //! The live tasks by their numbers.
 ghost use Rattle.std.specs.Prelude.{◌≡◌, ℕ, ◌<◌, ◌≤◌, not, length, is_some, option_copied, IfOk};
-ghost use Rattle.std.specs.Option.{ForSome};
+ghost use Rattle.std.specs.Option.{ForSome, option_map};
 ghost use Rattle.lp_numbers.specs.Numbers.{has, IsNextFrom};
 ghost use Rattle.lp_transition.specs.Slots.{slots_of};
 ghost use Rattle.lp_transition.specs.Tasks.{is_unused};
@@ -8,7 +8,7 @@ ghost use Rattle.lp_transition.specs.Machine.{put_in, calling, returning};
 
 use super::live_task::LiveTask;
 use lp_numbers::{NUMBERS, NumberSet};
-use lp_stack::{Level, Mode, TaskId};
+use lp_stack::{GroupId, Level, Mode, TaskId};
 use lp_symbols::SymId;
 use std::alloc::{AllocError, Global};
 use std::marker::Model;
@@ -62,6 +62,22 @@ impl TaskTable {
         ensures known { IsKnown self.now task.0 }
     {
         self.slots[usize::from(task.0)].as_deref()
+    }
+
+    /// The group of a live task; None for any other.
+    pub(crate) fn group_of(&self, task: TaskId) -> Option<GroupId>
+        ensures { option_map (λ group. group.0) result ≡ option_map (λ x. x.group) (slot self.now task.0) }
+    {
+        let live = self.get(task)?;
+        Some(live.group())
+    }
+
+    /// The level of a live task; None for any other.
+    pub(crate) fn level_of(&self, task: TaskId) -> Option<Level>
+        ensures { option_map (λ level. level.0) result ≡ option_map (λ x. x.level) (slot self.now task.0) }
+    {
+        let live = self.get(task)?;
+        Some(live.level())
     }
 
     /// Whether a number was ever used.

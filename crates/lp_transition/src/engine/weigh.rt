@@ -1,9 +1,10 @@
 //! The answers to events of one task.
-ghost use Rattle.std.specs.Prelude.{◌≡◌, ◌≤◌, ◌<◌, ◌↔◌, [], ◌∷◌, true, false, None, Some, Err, IfOk};
-ghost use Rattle.lp_transition.specs.declared.engine.step.Halt.TheVariants.{JournalFull};
+ghost use Rattle.std.specs.Prelude.{◌≡◌, ◌≤◌, ◌<◌, ◌↔◌, [], ◌∷◌, true, false, None, Some, Err, IfOk, IsErr, IsTrue};
+ghost use Rattle.lp_transition.specs.declared.engine.step.Halt.TheVariants.{NoMemory, JournalFull};
 ghost use Rattle.lp_transition.specs.Events.{is_scan};
 ghost use Rattle.lp_transition.specs.Table.{state_in};
-ghost use Rattle.lp_transition.specs.Weigh.{IsWeighed, born_of, moves, task_of, is_fork};
+ghost use Rattle.lp_transition.specs.Weigh.{IsWeighed, born_of, may_want_memory, moves, task_of, is_fork};
+ghost use Rattle.lp_transition.specs.Steps.{IsReply};
 ghost use Rattle.lp_transition.specs.Machine.{refusal_of, answer};
 
 use super::live_task::LiveTask;
@@ -18,10 +19,13 @@ use std::alloc::{AllocError, Global};
 
 impl<M: Consistency> Core<M> {
     /// The answer to an event that is no scan, and what the engine needs to take it. Changes
-    /// nothing. NoMemory where a growth was refused, JournalFull where no event is left.
+    /// nothing. NoMemory where a growth was refused, at the events that `step` names, JournalFull
+    /// where no event is left.
     pub fn weigh(&self, alloc: Global, event: Event) -> Result<Step, Halt>
         requires { is_scan event ≡ false }
         ensures full { (result ≡ Err JournalFull) ↔ (1000000 ≤ self.now.number) }
+        ensures memory { result ≡ Err NoMemory → IsTrue (may_want_memory event (answer M.rules (state_in self.now) event).what) }
+        ensures reply { IfOk result (λ step. IsReply M.rules (state_in self.now) event step.reply) }
         ensures weighed { IfOk result (λ step. IsWeighed M.rules self.now step) }
         ensures event { IfOk result (λ step. step.event ≡ event) }
         ensures verdicts { IfOk result (λ step. step.verdicts ≡ []) }
@@ -46,7 +50,8 @@ impl<M: Consistency> Core<M> {
         requires accepted { refusal_of M.rules (state_in self.now) event ≡ None }
         requires scan { is_scan event ≡ false }
         requires fork { is_fork event ≡ false }
-        ensures { IfOk result (λ reply. reply ≡ answer M.rules (state_in self.now) event) }
+        ensures memory { IsErr result → IsTrue (may_want_memory event (answer M.rules (state_in self.now) event).what) }
+        ensures answer { IfOk result (λ reply. reply ≡ answer M.rules (state_in self.now) event) }
     {
         match event {
             Event::Call(task, func) => Ok(self.answer_call(task, func)),
@@ -86,41 +91,6 @@ impl<M: Consistency> Core<M> {
         done()
     }
 
-    /// The answer to an accepted exit; AllocError where a growth was refused, which there is only
-    /// where the task's group goes over.
-    fn answer_exit(&self, alloc: Global, task: TaskId) -> Result<Reply, AllocError>
-        requires room { self.now.number < 1000000 }
-        requires accepted { refusal_of M.rules (state_in self.now) (Event.Exit task) ≡ None }
-        ensures { IfOk result (λ reply. reply ≡ answer M.rules (state_in self.now) (Event.Exit task)) }
-    {
-        let waits_alone = is_only(&self.waiting, task.0);
-        if !self.exit_goes(task) {
-            return Ok(done());
-        }
-        let groups = one_group(alloc, group_of(&self.tasks, task))?;
-        Ok(Reply {
-            what: What::Switched(groups),
-            completed: waits_alone,
-        })
-    }
-
-    /// The answer to an accepted idle point, likewise.
-    fn answer_idle(&self, alloc: Global, task: TaskId) -> Result<Reply, AllocError>
-        requires room { self.now.number < 1000000 }
-        requires accepted { refusal_of M.rules (state_in self.now) (Event.Idle task) ≡ None }
-        ensures { IfOk result (λ reply. reply ≡ answer M.rules (state_in self.now) (Event.Idle task)) }
-    {
-        let waits_alone = is_only(&self.waiting, task.0);
-        if !self.idle_goes(task) {
-            return Ok(done());
-        }
-        let groups = one_group(alloc, group_of(&self.tasks, task))?;
-        Ok(Reply {
-            what: What::Switched(groups),
-            completed: waits_alone,
-        })
-    }
-
     /// The answer to an accepted end of a task.
     fn answer_die(&self, task: TaskId) -> Reply
         requires room { self.now.number < 1000000 }
@@ -147,7 +117,7 @@ impl<M: Consistency> Core<M> {
 }
 
 /// The answer to an event that was accepted and took no group over.
-fn done() -> Reply
+pub(super) fn done() -> Reply
     ensures { result ≡ record { what = What.Done; completed = false } }
 {
     Reply {
@@ -167,7 +137,7 @@ fn refused(why: Refusal) -> Reply
 }
 
 /// A list of one group.
-fn one_group(alloc: Global, group: GroupId) -> Result<GroupList, AllocError>
+pub(super) fn one_group(alloc: Global, group: GroupId) -> Result<GroupList, AllocError>
     ensures { IfOk result (λ list. list ≡ group.0 ∷ []) }
 {
     let mut groups = Vec::with_capacity(alloc, 1)?;

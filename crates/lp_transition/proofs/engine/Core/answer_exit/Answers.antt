@@ -7,11 +7,11 @@ use Rattle.lp_transition.specs.declared.reply.Reply.{Reply}
 use Rattle.lp_transition.specs.Machine.{put_in}
 use Rattle.lp_transition.specs.Table.{slot}
 use Rattle.lp_transition.proofs.Accept.{exit-live}
-use Rattle.lp_transition.proofs.Weighing.{answer-stays, answer-goes}
+use Rattle.lp_transition.proofs.Weighing.{answer-stays, answer-goes, switched-where_goes}
 use Rattle.lp_transition.proofs.engine.Core.answer_exit.Goals as goal
 
-pub returns-then-not-exit_goes : goal.returns-then-not-exit_goes
-returns-then-not-exit_goes g c =
+pub returns-then-not-exit_goes-clause-answer : goal.returns-then-not-exit_goes-clause-answer
+returns-then-not-exit_goes-clause-answer g c =
     let i = c.self.inside in
     let h : c.args.task.0 < 65536 = omega arith in
     let accepted = rw (← c.self.view_is) at c.requires.accepted in
@@ -20,8 +20,20 @@ returns-then-not-exit_goes g c =
     let stays = rw (← c.self.view_is) at (sym (c.if-not-exit_goes.ensures live.task at)) in
     rw (← c.self.view_is) (c.done.ensures ∙ sym (answer-stays g.M.Consistency.rules g.met.M.Consistency.lawful (record { number = i.events; from = i.from.0; target = i.target.0; patches = i.patches; table = i.tasks }) i.waiting i.members.items c.self.invariant (rw (← c.self.view_is) at c.requires.room) (Exit c.args.task) KernelExit c.args.task.0 h (put_in User) (λ y. refl) (λ y. refl) live.task live.there (λ k. refl) refl accepted refl refl stays))
 
-pub returns : goal.returns
-returns g c =
+pub returns-in_err-groups-clause-memory : goal.returns-in_err-groups-clause-memory
+returns-in_err-groups-clause-memory g c =
+    let i = c.self.inside in
+    let h : c.args.task.0 < 65536 = omega arith in
+    let accepted = rw (← c.self.view_is) at c.requires.accepted in
+    let live = exit-live g.M.Consistency.rules (record { number = i.events; from = i.from.0; target = i.target.0; patches = i.patches; table = i.tasks }) c.args.task accepted in
+    let at : slot c.args.self.now.table c.args.task.0 ≡ Some live.task = ap (λ e. slot e.table c.args.task.0) (sym c.self.view_is) ∙ live.there in
+    let goes = rw (← c.self.view_is) at (sym (c.if-not-exit_goes.ensures live.task at)) in
+    let group = c.group_of.ensures live.task live.there in
+    let within : live.task.group < 65536 = omega (arith, group) in
+    λ _. rw (← c.self.view_is) (switched-where_goes g.M.Consistency.rules g.met.M.Consistency.lawful (record { number = i.events; from = i.from.0; target = i.target.0; patches = i.patches; table = i.tasks }) i.waiting i.members.items c.self.invariant (rw (← c.self.view_is) at c.requires.room) (Exit c.args.task) KernelExit c.args.task.0 h (put_in User) (λ y. refl) (λ y. refl) live.task live.there (λ k. refl) refl accepted refl refl within goes)
+
+pub returns-clause-answer : goal.returns-clause-answer
+returns-clause-answer g c =
     let i = c.self.inside in
     let h : c.args.task.0 < 65536 = omega arith in
     let accepted = rw (← c.self.view_is) at c.requires.accepted in

@@ -1,10 +1,13 @@
-use Rattle.std.proofs.Common.{◌<◌, Option, None, Some, sym, ap, ◌∙◌, arith}
+use Rattle.std.proofs.Common.{◌<◌, Option, None, Some, is_none, sym, ap, ◌∙◌, arith}
+use Rattle.lp_transition.specs.declared.event.Event.{Event}
 use Rattle.lp_transition.specs.declared.event.Event.TheVariants.{Fork}
 use Rattle.lp_transition.specs.Leg.{Standing}
-use Rattle.lp_transition.specs.Machine.{refusal_of}
+use Rattle.lp_transition.specs.Machine.{refusal_of, answer}
+use Rattle.lp_transition.specs.Weigh.{Weighed, may_want_memory}
 use Rattle.lp_transition.specs.Table.{Engine, state_in}
 use Rattle.lp_transition.proofs.EngineLemmas.{answer-refused}
-use Rattle.lp_transition.proofs.Weighing.{answer-fork, born-refused, weighed-as}
+use Rattle.lp_transition.proofs.Weighing.{answer-fork, born-refused, refused-as, weighed-as}
+use Rattle.lp_transition.proofs.Runs.{weighed_reply, is_reply}
 use Rattle.lp_transition.proofs.engine.Core.weigh.Goals as goal
 
 pub returns-in-Some-clause-weighed : goal.returns-in-Some-clause-weighed
@@ -26,3 +29,19 @@ returns-in-Fork-clause-weighed g c =
     let born = rw (← c.self.view_is) at (ap {A = Standing} {B = Option Standing} Some c.in_ok-born.ensures.ok ∙ c.child.ensures) in
     rw (← c.self.view_is)
     (weighed-as g.M.Consistency.rules e c.birth.result (Fork c.in-Fork.parent c.in-Fork.child c.in-Fork.how) c.done.result (Some c.in_ok-born.born.value) room c.birth.ensures answered born)
+
+pub returns-in-Some-clause-reply : goal.returns-in-Some-clause-reply
+returns-in-Some-clause-reply g c = weighed_reply g.M.Consistency.rules g.met.M.Consistency.lawful c.args.self.now c.plain.result c.args.event (returns-in-Some-clause-weighed g c) (ap (λ (w : Weighed). w.event) c.plain.ensures)
+
+pub returns-in-Fork-clause-reply : goal.returns-in-Fork-clause-reply
+returns-in-Fork-clause-reply g c = weighed_reply g.M.Consistency.rules g.met.M.Consistency.lawful c.args.self.now c.birth.result c.args.event (returns-in-Fork-clause-weighed g c) (ap (λ (w : Weighed). w.event) c.birth.ensures ∙ sym c.in-Fork.is)
+
+pub returns-in_err-born-clause-memory : goal.returns-in_err-born-clause-memory
+returns-in_err-born-clause-memory g c =
+    let s = state_in c.args.self.now in
+    let accepted = sym (c.in_default.ensures ∙ ap (refusal_of g.M.Consistency.rules s) c.in-Fork.is) in
+    λ _. ap (λ (event : Event). may_want_memory event (answer g.M.Consistency.rules s event).what) c.in-Fork.is
+    ∙ ap is_none (refused-as g.M.Consistency.rules s (Fork c.in-Fork.parent c.in-Fork.child c.in-Fork.how) ∙ accepted)
+
+pub returns-clause-reply : goal.returns-clause-reply
+returns-clause-reply g c = is_reply g.M.Consistency.rules g.met.M.Consistency.lawful (state_in c.args.self.now) c.args.event c.plain-2.result.reply (ap (λ (w : Weighed). w.reply) c.plain-2.ensures ∙ c.in_ok-reply.ensures.answer)
