@@ -1,10 +1,28 @@
 -- What calls and returns do to what is kept, patch by patch.
-use Rattle.std.proofs.Common.{◌≡◌, ◌≢◌, ℕ, zero, suc, pred, ◌+◌, ◌*◌, ◌<◌, ◌≤◌, Bool, true, false, length, if◌then◌else◌, nat_le, get_or, set, refl, sym, ap, ◌∙◌, subst, ⊎_elim, arith, length-set, get_or-set_same, get_or-set_other}
-use Rattle.std.proofs.lemmas.Bool.{cases_Bool, cases_eq, cond-true, cond-false}
+use Rattle.std.proofs.Common.{◌≡◌, ◌≢◌, ℕ, zero, suc, pred, ◌+◌, ◌*◌, ◌<◌, ◌≤◌, Bool, true, false, not, ◌&&◌, length, Option, Some, None, if◌then◌else◌, nat_le, nat_lt, get_or, set, refl, sym, ap, ap₂, ◌∙◌, subst, ⊎_elim, arith, length-set, get_or-set_same, get_or-set_other}
+use Rattle.std.proofs.lemmas.Bool.{cases_Bool, cases_eq, cases_lt, lt-ltb, le-ltb, le-leb, lt-leb, cond-true, cond-false}
 use Rattle.lp_patch.specs.Patches.{patch_has}
+use Rattle.lp_symbols.specs.declared.sym_id.SymId.{SymId}
+use Rattle.lp_transition.specs.declared.event.Event.{Event}
+use Rattle.lp_transition.specs.declared.event.Event.TheVariants.{Call, Ret}
+use Rattle.lp_transition.specs.declared.reply.What.{What}
+use Rattle.lp_transition.specs.declared.reply.What.TheVariants.{Ran, Refused}
 use Rattle.lp_stays.specs.declared.present.Present.{Present}
-use Rattle.lp_stays.specs.Kept.{Counted, outside, called, returned, begins, mixes, place, kept, after_call, after_return, calls, returns}
+use Rattle.lp_stays.specs.Kept.{Counted, outside, is_outside, is_both, called, returned, one_if, begins, mixes, place, kept, after_call, after_return, calls, returns, one_more, by_call, by_return, after_event}
 use Rattle.lp_stays.proofs.Sums.{sum_from, sum_last}
+
+-- ---- Numbers
+
+pub below_is : (below level : ℕ) → nat_lt below level ≡ nat_le (suc below) level
+below_is below level =
+    ⊎_elim
+    (λ (lt : below < level). lt-ltb below level lt ∙ sym (le-leb (suc below) level (omega arith)))
+    (λ (le : level ≤ below). le-ltb below level le ∙ sym (lt-leb (suc below) level (omega arith)))
+    (cases_lt below level)
+
+at_most_one : (b : Bool) → one_if b ≤ 1
+at_most_one true = omega arith
+at_most_one false = omega arith
 
 -- ---- Places
 
@@ -82,11 +100,11 @@ module _ (t func level : ℕ) (count : Counted) where
   abbrev pub call_change : ℕ → Present → Present
   call_change below x = if has below then called (nat_le (suc below) level) x else x
 
-  call_yes : (below : ℕ) → has below ≡ true → call_run (suc below) ≡ after_call below t (nat_le (suc below) level) (call_run below)
+  pub call_yes : (below : ℕ) → has below ≡ true → call_run (suc below) ≡ after_call below t (nat_le (suc below) level) (call_run below)
   unfolding calls
   call_yes below e = cond-true _ _ _ e
 
-  call_no : (below : ℕ) → has below ≡ false → call_run (suc below) ≡ call_run below
+  pub call_no : (below : ℕ) → has below ≡ false → call_run (suc below) ≡ call_run below
   unfolding calls
   call_no below e = cond-false _ _ _ e
 
@@ -166,6 +184,40 @@ module _ (t func level : ℕ) (count : Counted) where
         let same : mixed_in (1 + below) ≡ mixed_in (suc below) = let at : 1 + below ≡ suc below = omega arith in ap mixed_in at in
         omega arith
 
+  -- ---- As code goes from patch to patch
+
+  pub call_then : (below : ℕ) (self after : Counted) (side : Bool) → self ≡ call_run below → patch_has self.patches (below + 1) func ≡ true → side ≡ nat_le (suc below) level → after ≡ after_call below t side self → after ≡ call_run (below + 1)
+  call_then below self after side e found is made =
+      let next : below + 1 ≡ suc below = omega arith in
+      let yes_here : has below ≡ true = ap₂ (λ patches patch. patch_has patches patch func) (sym (ap (λ c. c.patches) e ∙ (call_same below).patches)) (sym next) ∙ found in
+      made ∙ ap₂ (λ b c. after_call below t b c) is e ∙ sym (call_yes below yes_here) ∙ ap call_run (sym next)
+
+  pub call_else : (below : ℕ) (self after : Counted) → self ≡ call_run below → patch_has self.patches (below + 1) func ≡ false → after ≡ self → after ≡ call_run (below + 1)
+  call_else below self after e found made =
+      let next : below + 1 ≡ suc below = omega arith in
+      let no_here : has below ≡ false = ap₂ (λ patches patch. patch_has patches patch func) (sym (ap (λ c. c.patches) e ∙ (call_same below).patches)) (sym next) ∙ found in
+      made ∙ e ∙ sym (call_no below no_here) ∙ ap call_run (sym next)
+
+  -- a call counts at most one stay a patch
+  pub record HasFew (k : ℕ) (now : Counted) : Type 0 where
+    pub stays : now.stays ≤ count.stays + k
+    pub mixed : now.mixed ≤ count.mixed + k
+
+  pub call_few : (k : ℕ) → HasFew k (call_run k)
+  call_few zero = subst (HasFew 0) (sym call_start) (record { stays = omega arith; mixed = omega arith })
+  call_few (suc below) =
+      let before = call_few below in
+      let x = kept (call_run below) below t in
+      let side = nat_le (suc below) level in
+      ⊎_elim
+      (λ (yes : has below ≡ true).
+      subst (HasFew (suc below)) (sym (call_yes below yes)) (record {
+        stays = let one = at_most_one (is_outside x) in omega (arith, one, before.stays);
+        mixed = let one = at_most_one (is_both (called side x) && not (is_both x)) in omega (arith, one, before.mixed);
+      }))
+      (λ (no : has below ≡ false). subst (HasFew (suc below)) (sym (call_no below no)) (record { stays = omega (arith, before.stays); mixed = omega (arith, before.mixed) }))
+      (cases_Bool (has below))
+
 -- ---- A return
 
 module _ (t func : ℕ) (count : Counted) where
@@ -178,11 +230,11 @@ module _ (t func : ℕ) (count : Counted) where
   abbrev pub return_change : ℕ → Present → Present
   return_change below x = if had below then returned x else x
 
-  return_yes : (below : ℕ) → had below ≡ true → return_run (suc below) ≡ after_return below t (return_run below)
+  pub return_yes : (below : ℕ) → had below ≡ true → return_run (suc below) ≡ after_return below t (return_run below)
   unfolding returns
   return_yes below e = cond-true _ _ _ e
 
-  return_no : (below : ℕ) → had below ≡ false → return_run (suc below) ≡ return_run below
+  pub return_no : (below : ℕ) → had below ≡ false → return_run (suc below) ≡ return_run below
   unfolding returns
   return_no below e = cond-false _ _ _ e
 
@@ -224,3 +276,35 @@ module _ (t func : ℕ) (count : Counted) where
       })
       (λ (no : had below ≡ false). subst IsKeptElse (sym (return_no below no)) before)
       (cases_Bool (had below))
+
+  -- ---- As code goes from patch to patch
+
+  pub return_then : (below : ℕ) (self after : Counted) → self ≡ return_run below → patch_has self.patches (below + 1) func ≡ true → after ≡ after_return below t self → after ≡ return_run (below + 1)
+  return_then below self after e found made =
+      let next : below + 1 ≡ suc below = omega arith in
+      let yes_here : had below ≡ true = ap₂ (λ patches patch. patch_has patches patch func) (sym (ap (λ c. c.patches) e ∙ (return_same below).patches)) (sym next) ∙ found in
+      made ∙ ap (after_return below t) e ∙ sym (return_yes below yes_here) ∙ ap return_run (sym next)
+
+  pub return_else : (below : ℕ) (self after : Counted) → self ≡ return_run below → patch_has self.patches (below + 1) func ≡ false → after ≡ self → after ≡ return_run (below + 1)
+  return_else below self after e found made =
+      let next : below + 1 ≡ suc below = omega arith in
+      let no_here : had below ≡ false = ap₂ (λ patches patch. patch_has patches patch func) (sym (ap (λ c. c.patches) e ∙ (return_same below).patches)) (sym next) ∙ found in
+      made ∙ e ∙ sym (return_no below no_here) ∙ ap return_run (sym next)
+
+-- ---- An event
+
+module _ (count : Counted) (top : Option SymId) where
+  called_once : (t : ℕ) (func : SymId) (what : What) → (by_call t func what (one_more count)).noted ≡ count.noted + 1
+  called_once t func (Ran level) = (call_same t func.0 level.0 (one_more count) (length count.patches)).noted
+  called_once t func _ = refl
+
+  returned_once : (t : ℕ) (what : What) (o : Option SymId) → (by_return t what o (one_more count)).noted ≡ count.noted + 1
+  returned_once t (Refused why) o = refl
+  returned_once t _ None = refl
+  returned_once t _ (Some func) = (return_same t func.0 (one_more count) (length count.patches)).noted
+
+  -- each event is noted
+  pub noted_once : (event : Event) (what : What) → (after_event event what top count).noted ≡ count.noted + 1
+  noted_once (Call t func) what = called_once t.0 func what
+  noted_once (Ret t) what = returned_once t.0 what top
+  noted_once _ what = refl

@@ -3,3 +3,6 @@ pub mod Cells
 pub mod Sums
 pub mod Keeping
 pub mod Stacks
+pub mod Versions
+pub mod Moments
+pub mod Counting
