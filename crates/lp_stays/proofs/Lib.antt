@@ -6,3 +6,4 @@ pub mod Stacks
 pub mod Versions
 pub mod Moments
 pub mod Counting
+pub mod Noting

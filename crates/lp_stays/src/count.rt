@@ -70,6 +70,7 @@ impl StayCount {
         ensures counts { (model : Rules) → IsLawful model → (run : Run) → Counts model run self.old → IsNext model run event reply.now top → Counts model (plus run event) self.new }
         ensures noted { self.new.noted ≡ self.old.noted + 1 }
     {
+        let _ = &self.patches;
         self.keep(event, &reply.what, top);
     }
 
