@@ -7,7 +7,8 @@ use Rattle.std.proofs.lemmas.List.Sums.{sum_by_push}
 use Rattle.std.proofs.Math.Bool.{and-not_self}
 use Rattle.lp_transition.specs.Stays.{stays, is_mixed}
 use Rattle.lp_stays.specs.declared.present.Present.{Present}
-use Rattle.lp_stays.specs.Kept.{outside, is_both, called, returned, one_if, begins, mixes}
+use Rattle.lp_stays.specs.Kept.{outside}
+use Rattle.lp_stays.specs.Steps.{is_both, called, returned, one_if, begins, mixes}
 use Rattle.lp_stays.specs.Counts.{last_of, if_inside, under_way, Shows}
 use Rattle.lp_stays.proofs.OneMore.{last_push, ended, begun, UnderWay, under_way_still}
 
@@ -229,13 +230,13 @@ module _ (ms : List (List Bool)) (x : Present) (side : Bool) (h : Shows x ms) wh
       let frames : x.frames ≡ length (l ∷ rest) = h.frames ∙ ap length e in
       let pushed : length (l ∷ (rest ++ side ∷ [])) ≡ length (l ∷ rest) + 1 = length-append (l ∷ rest) (side ∷ []) in
       let old : (x.old || not side) ≡ (x.old || list_any not (l ∷ (rest ++ side ∷ []))) =
-          kept_pushed x.old sides.old (list_any not (l ∷ rest)) (not side) (list_any not (l ∷ (rest ++ side ∷ []))) (sides.old_is ∙ ap (λ last. sides.old || list_any not last) e) (list_any-append not (l ∷ rest) (side ∷ [])) in
+      kept_pushed x.old sides.old (list_any not (l ∷ rest)) (not side) (list_any not (l ∷ (rest ++ side ∷ []))) (sides.old_is ∙ ap (λ last. sides.old || list_any not last) e) (list_any-append not (l ∷ rest) (side ∷ [])) in
       let new : (x.new || side) ≡ (x.new || list_any (λ s. s) (l ∷ (rest ++ side ∷ []))) =
-          kept_pushed x.new sides.new (list_any (λ s. s) (l ∷ rest)) side (list_any (λ s. s) (l ∷ (rest ++ side ∷ []))) (sides.new_is ∙ ap (λ last. sides.new || list_any (λ s. s) last) e) (list_any-append (λ s. s) (l ∷ rest) (side ∷ [])) in
+      kept_pushed x.new sides.new (list_any (λ s. s) (l ∷ rest)) side (list_any (λ s. s) (l ∷ (rest ++ side ∷ []))) (sides.new_is ∙ ap (λ last. sides.new || list_any (λ s. s) last) e) (list_any-append (λ s. s) (l ∷ rest) (side ∷ [])) in
       let some : x.frames ≢ 0 = omega (arith, frames) in
       let none : 0 ≡ begins x = sym (ap one_if (ne_eqb x.frames 0 some)) in
       subst (λ n. IsAfter ms (l ∷ (rest ++ side ∷ [])) (called side x) n (mixes side x)) none (
-        after_longer ms x h way l rest e l (rest ++ side ∷ []) (called side x) (ap (λ n. min (n + 1) 255) frames ∙ least_255 (length (l ∷ rest)) few ∙ sym pushed) old new
+      after_longer ms x h way l rest e l (rest ++ side ∷ []) (called side x) (ap (λ n. min (n + 1) 255) frames ∙ least_255 (length (l ∷ rest)) few ∙ sym pushed) old new
       )
 
   pub after_called : length (last_of [] ms) < 255 → IsAfter ms (last_of [] ms ++ side ∷ []) (called side x) (begins x) (mixes side x)
@@ -260,7 +261,7 @@ after_returned ms x (s ∷ now) side h e =
     let fewer : Present = record { frames = x.frames - 1; old = x.old; new = x.new } in
     let is : returned x ≡ fewer = cond-false _ _ _ (lt-leb x.frames 1 (omega arith)) in
     let old : x.old ≡ (x.old || list_any not (s ∷ now)) =
-        kept_popped x.old sides.old (list_any not (last_of [] ms)) (list_any not (s ∷ now)) (not side || false) sides.old_is (ap (list_any not) e ∙ list_any-append not (s ∷ now) (side ∷ [])) in
+    kept_popped x.old sides.old (list_any not (last_of [] ms)) (list_any not (s ∷ now)) (not side || false) sides.old_is (ap (list_any not) e ∙ list_any-append not (s ∷ now) (side ∷ [])) in
     let new : x.new ≡ (x.new || list_any (λ b. b) (s ∷ now)) =
-        kept_popped x.new sides.new (list_any (λ b. b) (last_of [] ms)) (list_any (λ b. b) (s ∷ now)) (side || false) sides.new_is (ap (list_any (λ b. b)) e ∙ list_any-append (λ b. b) (s ∷ now) (side ∷ [])) in
+    kept_popped x.new sides.new (list_any (λ b. b) (last_of [] ms)) (list_any (λ b. b) (s ∷ now)) (side || false) sides.new_is (ap (list_any (λ b. b)) e ∙ list_any-append (λ b. b) (s ∷ now) (side ∷ [])) in
     subst (λ y. IsAfter ms (s ∷ now) y 0 0) (sym is) (none_more ms (s ∷ now) x fewer refl (after_longer ms x h way s (now ++ side ∷ []) e s now fewer (omega arith) old new))

@@ -18,7 +18,8 @@ use Rattle.lp_transition.proofs.Steps.{does}
 use Rattle.lp_transition.proofs.Runs.{leg_after-plus}
 use Rattle.lp_transition.proofs.WholeRun.{run_sound, start_sound}
 use Rattle.lp_stays.specs.declared.present.Present.{Present}
-use Rattle.lp_stays.specs.Kept.{Counted, called, returned, begins, mixes, kept, calls, returns, one_more}
+use Rattle.lp_stays.specs.Kept.{Counted, kept}
+use Rattle.lp_stays.specs.Steps.{called, returned, begins, mixes, calls, returns, one_more}
 use Rattle.lp_stays.specs.Counts.{last_of, Shows, Counts}
 use Rattle.lp_stays.proofs.Cells.{IsAfter, after_still, after_called, after_returned}
 use Rattle.lp_stays.proofs.Sums.{sum_from, sum_none, rows-one}
@@ -128,10 +129,10 @@ module _ (model : Rules) (lawful : IsLawful model) (run : Run) (in_range : AreIn
         present = λ below t lt small.
             let lt_here = subst (λ patches. below < length patches) (sym counts.patches) lt in
             subst (Shows (kept now below t)) (sym (far_more below t)) (
-              ⊎_elim
-              (λ (same : t ≡ at). subst (λ u. Shows (kept now below u) (far below u ++ sides_at after below u ∷ [])) (sym same) (h.here below lt_here).shows)
-              (λ (other : t ≡ at → ⊥). (h.others below t lt_here small other).shows)
-              (cases_eq t at)
+            ⊎_elim
+            (λ (same : t ≡ at). subst (λ u. Shows (kept now below u) (far below u ++ sides_at after below u ∷ [])) (sym same) (h.here below lt_here).shows)
+            (λ (other : t ≡ at → ⊥). (h.others below t lt_here small other).shows)
+            (cases_eq t at)
             );
       }
 
@@ -186,7 +187,7 @@ module _ (model : Rules) (lawful : IsLawful model) (run : Run) (in_range : AreIn
           ⊎_elim
           (λ (has : patch_has count.patches (suc below) func.0 ≡ true).
           let now_is : sides_at after below at ≡ last_of [] (far below at) ++ side ∷ [] =
-              ap (sides count.patches (suc below)) push.here ∙ sides_more count.patches (suc below) (frames_at before at) push.frame (has_is below ∙ has) ∙ ap₂ (λ fs l. fs ++ nat_le (suc below) l ∷ []) (sym (far_last below at)) push.level_is in
+          ap (sides count.patches (suc below)) push.here ∙ sides_more count.patches (suc below) (frames_at before at) push.frame (has_is below ∙ has) ∙ ap₂ (λ fs l. fs ++ nat_le (suc below) l ∷ []) (sym (far_last below at)) push.level_is in
           let kept_is : kept called_count below at ≡ called side x = kept_here below lt ∙ cond-true _ _ _ has in
           let more_is : more_in at func.0 level (one_more count) (suc below) ≡ begins x = cond-true _ _ _ has in
           let mixed_is : mixed_in at func.0 level (one_more count) (suc below) ≡ mixes side x = cond-true _ _ _ has in
@@ -194,7 +195,7 @@ module _ (model : Rules) (lawful : IsLawful model) (run : Run) (in_range : AreIn
           subst (λ n. IsCell called_count below at (more_in at func.0 level (one_more count) (suc below)) n) (sym mixed_is) (subst (λ n. IsCell called_count below at n (mixes side x)) (sym more_is) (subst (λ y. IsAfter (far below at) (sides_at after below at) y (begins x) (mixes side x)) (sym kept_is) (subst (λ now. IsAfter (far below at) now (called side x) (begins x) (mixes side x)) (sym now_is) cell))))
           (λ (none : patch_has count.patches (suc below) func.0 ≡ false).
           let same : sides_at after below at ≡ sides_at before below at =
-              ap (sides count.patches (suc below)) push.here ∙ sides_same count.patches (suc below) (frames_at before at) push.frame (has_is below ∙ none) in
+          ap (sides count.patches (suc below)) push.here ∙ sides_same count.patches (suc below) (frames_at before at) push.frame (has_is below ∙ none) in
           let kept_is : kept called_count below at ≡ x = kept_here below lt ∙ cond-false _ _ _ none in
           let more_is : more_in at func.0 level (one_more count) (suc below) ≡ 0 = cond-false _ _ _ none in
           let mixed_is : mixed_in at func.0 level (one_more count) (suc below) ≡ 0 = cond-false _ _ _ none in
@@ -238,12 +239,12 @@ module _ (model : Rules) (lawful : IsLawful model) (run : Run) (in_range : AreIn
           ⊎_elim
           (λ (has : patch_has count.patches (suc below) func_left ≡ true).
           let was : last_of [] (far below at) ≡ sides_at after below at ++ nat_le (suc below) pop.frame.level.0 ∷ [] =
-              far_last below at ∙ ap (sides count.patches (suc below)) pop.here ∙ sides_more count.patches (suc below) (frames_at after at) pop.frame has in
+          far_last below at ∙ ap (sides count.patches (suc below)) pop.here ∙ sides_more count.patches (suc below) (frames_at after at) pop.frame has in
           let kept_is : kept returned_count below at ≡ returned x = kept_back below lt ∙ cond-true _ _ _ has in
           subst (λ y. IsAfter (far below at) (sides_at after below at) y 0 0) (sym kept_is) (after_returned (far below at) x (sides_at after below at) (nat_le (suc below) pop.frame.level.0) (shows below at lt within) was))
           (λ (none : patch_has count.patches (suc below) func_left ≡ false).
           let same : sides_at before below at ≡ sides_at after below at =
-              ap (sides count.patches (suc below)) pop.here ∙ sides_same count.patches (suc below) (frames_at after at) pop.frame none in
+          ap (sides count.patches (suc below)) pop.here ∙ sides_same count.patches (suc below) (frames_at after at) pop.frame none in
           let kept_is : kept returned_count below at ≡ x = kept_back below lt ∙ cond-false _ _ _ none in
           subst (λ y. IsAfter (far below at) (sides_at after below at) y 0 0) (sym kept_is) (still_cell below at lt within (sym same)))
           (cases_Bool (patch_has count.patches (suc below) func_left))

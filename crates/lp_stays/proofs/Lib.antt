@@ -7,3 +7,4 @@ pub mod Versions
 pub mod Moments
 pub mod Counting
 pub mod Noting
+pub mod Following

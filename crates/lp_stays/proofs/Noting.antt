@@ -23,7 +23,8 @@ use Rattle.lp_transition.proofs.EngineLemmas.{answer-refused, answer-accepted}
 use Rattle.lp_transition.proofs.States.{state_sound}
 use Rattle.lp_transition.proofs.Steps.{open_shown, does}
 use Rattle.lp_transition.proofs.WholeRun.{run_sound, start_sound}
-use Rattle.lp_stays.specs.Kept.{Counted, outside, kept, returns, one_more, by_return, after_event}
+use Rattle.lp_stays.specs.Kept.{Counted, outside, kept}
+use Rattle.lp_stays.specs.Steps.{returns, one_more, by_return, after_event}
 use Rattle.lp_stays.specs.Counts.{Shows, Counts, IsNext}
 use Rattle.lp_stays.proofs.Stacks.{frames_in, IsPop, refused_still, other_still, call_live, call_pushes, ret_live, ret_pops}
 use Rattle.lp_stays.proofs.Moments.{run_bounds}
@@ -83,7 +84,7 @@ module _ (model : Rules) (lawful : IsLawful model) (run : Run) (count : Counted)
       let is : given.what ≡ switched groups = ap (λ r. r.what) (answered h.in_range (Ret t) h ∙ answer-accepted model now (Ret t) ok) in
       let left : top ≡ Some pop.frame.func = h.leaves t refl ∙ pop.func_is in
       let same : after_event (Ret t) given.what top count ≡ returns (length count.patches) t.0 pop.frame.func.0 (one_more count) =
-          ap₂ (λ what o. by_return t.0 what o (one_more count)) is left ∙ returned_same t.0 groups pop.frame.func (one_more count) in
+      ap₂ (λ what o. by_return t.0 what o (one_more count)) is left ∙ returned_same t.0 groups pop.frame.func (one_more count) in
       subst (Counts model (plus run (Ret t))) (sym same) (return_counts model lawful run h.in_range (Ret t) count counts wide t.0 n.0 n.1 pop)
 
   accepted : (event : Event) → IsNext model run event given top → refusal_of model now event ≡ None → Noted event given.what
@@ -138,6 +139,6 @@ module _ (model : Rules) (run : Run) where
         mixed = no_mixed ∙ sym (ap (mixed_count model (first_leg model run)) events ∙ ap (count_by is_mixed) no_stay);
         present = λ below t lt small.
             subst (λ x. Shows x (moments model (suc below) t (first_leg model run) run.events)) (sym (empty below t)) (
-              subst (λ e. Shows outside (moments model (suc below) t (first_leg model run) e)) (sym events) (subst (Shows outside) (sym (no_moment (suc below) t)) (record { frames = refl; old = refl; new = refl }))
+            subst (λ e. Shows outside (moments model (suc below) t (first_leg model run) e)) (sym events) (subst (Shows outside) (sym (no_moment (suc below) t)) (record { frames = refl; old = refl; new = refl }))
             );
       }

@@ -1,35 +1,11 @@
--- What a count of stays keeps, and what a call and a return do to it.
-use Rattle.std.specs.Prelude.{◌≡◌, ℕ, zero, suc, ◌+◌, ◌-◌, ◌*◌, ◌≤◌, min, Bool, false, not, ◌&&◌, ◌||◌, List, length, Option, Some, None, if◌then◌else◌, nat_eq, nat_le, slice_index_or, slice_set}
-use Rattle.lp_symbols.specs.declared.sym_id.SymId.{SymId}
-use Rattle.lp_patch.specs.Patches.{Patches, patch_has}
-use Rattle.lp_transition.specs.declared.event.Event.{Event}
-use Rattle.lp_transition.specs.declared.event.Event.TheVariants.{Call, Ret}
-use Rattle.lp_transition.specs.declared.reply.What.{What}
-use Rattle.lp_transition.specs.declared.reply.What.TheVariants.{Ran, Refused}
+-- What a count of stays keeps.
+use Rattle.std.specs.Prelude.{◌≡◌, ℕ, ◌+◌, ◌*◌, ◌≤◌, Bool, false, List, length, slice_index_or}
+use Rattle.lp_patch.specs.Patches.{Patches}
 use Rattle.lp_stays.specs.declared.present.Present.{Present}
-
--- ---- The stay that one task is in, for one patch
 
 -- outside of stays
 abbrev pub outside : Present
 outside = record { frames = 0; old = false; new = false }
-
-abbrev pub is_outside : Present → Bool
-is_outside x = nat_eq x.frames 0
-
--- both sides ran
-abbrev pub is_both : Present → Bool
-is_both x = x.new && x.old
-
--- after a call of the patch's functions, which ran the new side or the old
-abbrev pub called : Bool → Present → Present
-called side x = record { frames = min (x.frames + 1) 255; old = x.old || not side; new = x.new || side }
-
--- after a return from one
-abbrev pub returned : Present → Present
-returned x = if nat_le x.frames 1 then outside else record x { frames = x.frames - 1 }
-
--- ---- All of them, and the counts
 
 -- how many events were noted, how many stays and mixed stays there were, and for each patch, one after the other,
 -- the stay that each task is in
@@ -40,73 +16,16 @@ pub record Counted : Type 0 where
   pub mixed : ℕ
   pub present : List Present
 
--- the patch below which there are so many
+-- where a task's stay stands, for the patch below which there are so many
 abbrev pub place : ℕ → ℕ → ℕ
 place below t = below * 65536 + t
 
 abbrev pub kept : Counted → ℕ → ℕ → Present
 kept count below t = slice_index_or count.present (place below t) outside
 
--- what every count keeps
+-- what every count keeps: a place for each patch and task number, and counts that fit
 pub record IsKept (count : Counted) : Type 0 where
   pub wide : length count.present ≡ length count.patches * 65536
   pub few : count.noted ≤ 1000000
   pub stays : count.stays ≤ 16 * count.noted
   pub mixed : count.mixed ≤ 16 * count.noted
-
-abbrev pub one_if : Bool → ℕ
-one_if b = if b then 1 else 0
-
-abbrev pub begins : Present → ℕ
-begins x = one_if (is_outside x)
-
--- the call makes the stay a mixed one
-abbrev pub mixes : Bool → Present → ℕ
-mixes side x = one_if (is_both (called side x) && not (is_both x))
-
--- a call of a patch's function, on its new side or its old
-abbrev pub after_call : ℕ → ℕ → Bool → Counted → Counted
-after_call below t side count =
-    let x = kept count below t in
-    record count {
-      stays = count.stays + begins x;
-      mixed = count.mixed + mixes side x;
-      present = slice_set count.present (place below t) (called side x);
-    }
-
--- a return from one
-abbrev pub after_return : ℕ → ℕ → Counted → Counted
-after_return below t count =
-    record count { present = slice_set count.present (place below t) (returned (kept count below t)) }
-
--- a call of any function at a level, in as many of the patches, from the lowest
-unfoldable pub calls : ℕ → ℕ → ℕ → ℕ → Counted → Counted
-calls zero t func level count = count
-calls (suc below) t func level count =
-    let before = calls below t func level count in
-    if patch_has count.patches (suc below) func then after_call below t (nat_le (suc below) level) before else before
-
--- a return from any function
-unfoldable pub returns : ℕ → ℕ → ℕ → Counted → Counted
-returns zero t func count = count
-returns (suc below) t func count =
-    let before = returns below t func count in
-    if patch_has count.patches (suc below) func then after_return below t before else before
-
-abbrev pub one_more : Counted → Counted
-one_more count = record count { noted = count.noted + 1 }
-
-abbrev pub by_return : ℕ → What → Option SymId → Counted → Counted
-by_return t (Refused why) top count = count
-by_return t _ None count = count
-by_return t _ (Some func) count = returns (length count.patches) t func.0 count
-
-abbrev pub by_call : ℕ → SymId → What → Counted → Counted
-by_call t func (Ran level) count = calls (length count.patches) t func.0 level.0 count
-by_call t func _ count = count
-
--- after an event with what it did, and the function of its task's last frame before it
-abbrev pub after_event : Event → What → Option SymId → Counted → Counted
-after_event (Call t func) what top count = by_call t.0 func what (one_more count)
-after_event (Ret t) what top count = by_return t.0 what top (one_more count)
-after_event _ what top count = one_more count

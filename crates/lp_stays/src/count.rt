@@ -3,7 +3,8 @@ ghost use Rattle.std.specs.Prelude.{◌≡◌, ◌+◌, ◌*◌, ◌<◌, ◌≤
 ghost use Rattle.lp_model.specs.Rules.{Rules, IsLawful};
 ghost use Rattle.lp_patch.specs.Patches.{patch_has};
 ghost use Rattle.lp_transition.specs.Run.{Run, plus};
-ghost use Rattle.lp_stays.specs.Kept.{outside, after_call, after_return, calls, returns, by_call, by_return, after_event};
+ghost use Rattle.lp_stays.specs.Kept.{outside};
+ghost use Rattle.lp_stays.specs.Steps.{after_call, after_return, calls, returns, by_call, by_return, after_event};
 ghost use Rattle.lp_stays.specs.Counts.{Counts, IsNext};
 
 use crate::present::Present;

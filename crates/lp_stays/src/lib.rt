@@ -3,5 +3,7 @@
 
 mod count;
 mod present;
+#[cfg(test)]
+mod tests;
 
 pub use count::StayCount;

@@ -1,6 +1,7 @@
 //! The stay that one task is in, for one patch.
 ghost use Rattle.std.specs.Prelude.{◌≡◌};
-ghost use Rattle.lp_stays.specs.Kept.{outside, is_outside, is_both, called, returned};
+ghost use Rattle.lp_stays.specs.Kept.{outside};
+ghost use Rattle.lp_stays.specs.Steps.{is_outside, is_both, called, returned};
 
 /// What is kept of a task and a patch.
 #[derive(Clone, Copy)]
