@@ -1,23 +1,19 @@
 -- A count of stays goes on with its run.
-use Rattle.std.proofs.Common.{◌≡◌, ◌≢◌, ℕ, zero, suc, pred, ◌+◌, ◌*◌, ◌<◌, ◌≤◌, Bool, true, false, List, [], ◌∷◌, ◌++◌, length, count_by, Option, Some, None, if◌then◌else◌, nat_le, refl, sym, ap, ap₂, ◌∙◌, subst, ⊎_elim, arith, length-append}
-use Rattle.std.specs.List.{range_with_len}
+use Rattle.std.proofs.Common.{◌≡◌, ◌≢◌, ℕ, zero, suc, ◌+◌, ◌*◌, ◌<◌, ◌≤◌, Bool, true, false, List, [], ◌∷◌, ◌++◌, length, count_by, nat_le, refl, sym, ap, ap₂, ◌∙◌, subst, ⊎_elim, arith, length-append}
 use Rattle.std.proofs.lemmas.Bool.{cases_Bool, cases_eq, cond-true, cond-false}
 use Rattle.std.proofs.lemmas.List.Sums.{sum_by-append}
 use Rattle.lp_symbols.specs.declared.sym_id.SymId.{SymId}
-use Rattle.lp_stack.specs.declared.number.TaskId.{TaskId}
-use Rattle.lp_stack.specs.declared.frame.Frame.{Frame}
-use Rattle.lp_patch.specs.Patches.{Patches, patch_has}
+use Rattle.lp_patch.specs.Patches.{patch_has}
 use Rattle.lp_model.specs.Rules.{Rules, IsLawful}
 use Rattle.lp_transition.specs.declared.event.Event.{Event}
 use Rattle.lp_transition.specs.Leg.{Leg, State}
-use Rattle.lp_transition.specs.Run.{Run, AreInRange, plus, first_leg, leg_of, next_leg, leg_after}
+use Rattle.lp_transition.specs.Run.{Run, AreInRange, plus, first_leg, leg_of, leg_after}
 use Rattle.lp_transition.specs.Sound.{IsSound}
 use Rattle.lp_transition.specs.Machine.{next, state_of}
 use Rattle.lp_transition.specs.Stays.{sides, moments, stays, is_mixed, all_stays}
 use Rattle.lp_transition.proofs.Steps.{does}
 use Rattle.lp_transition.proofs.Runs.{leg_after-plus}
 use Rattle.lp_transition.proofs.WholeRun.{run_sound, start_sound}
-use Rattle.lp_stays.specs.declared.present.Present.{Present}
 use Rattle.lp_stays.specs.Kept.{Counted, kept}
 use Rattle.lp_stays.specs.Steps.{called, returned, begins, mixes, calls, returns, one_more}
 use Rattle.lp_stays.specs.Counts.{last_of, Shows, Counts}

@@ -1,5 +1,5 @@
 -- What calls and returns do to what is kept, patch by patch.
-use Rattle.std.proofs.Common.{◌≡◌, ◌≢◌, ℕ, zero, suc, pred, ◌+◌, ◌*◌, ◌<◌, ◌≤◌, Bool, true, false, not, ◌&&◌, length, Option, Some, None, if◌then◌else◌, nat_le, nat_lt, get_or, set, refl, sym, ap, ap₂, ◌∙◌, subst, ⊎_elim, arith, length-set, get_or-set_same, get_or-set_other}
+use Rattle.std.proofs.Common.{◌≡◌, ◌≢◌, ℕ, zero, suc, pred, ◌+◌, ◌<◌, ◌≤◌, Bool, true, false, not, ◌&&◌, length, Option, Some, None, if◌then◌else◌, nat_le, nat_lt, get_or, set, refl, sym, ap, ap₂, ◌∙◌, subst, ⊎_elim, arith, length-set, get_or-set_same, get_or-set_other}
 use Rattle.std.proofs.lemmas.Bool.{cases_Bool, cases_eq, cases_lt, lt-ltb, le-ltb, le-leb, lt-leb, cond-true, cond-false}
 use Rattle.lp_patch.specs.Patches.{patch_has}
 use Rattle.lp_symbols.specs.declared.sym_id.SymId.{SymId}

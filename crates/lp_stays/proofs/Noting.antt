@@ -1,5 +1,5 @@
 -- Each event, as it is answered, keeps a count that of its run. And where no event is there yet.
-use Rattle.std.proofs.Common.{◌≡◌, ℕ, zero, suc, ◌+◌, ◌*◌, ◌<◌, ◌≤◌, Bool, List, [], ◌∷◌, ◌++◌, length, flat_map, count_by, replicate, get_or, Option, Some, None, nat_eq, refl, sym, ap, ap₂, ◌∙◌, subst, arith}
+use Rattle.std.proofs.Common.{◌≡◌, ℕ, zero, suc, ◌*◌, ◌<◌, ◌≤◌, List, [], ◌∷◌, ◌++◌, length, flat_map, count_by, replicate, get_or, Option, Some, None, nat_eq, refl, sym, ap, ap₂, ◌∙◌, subst, arith}
 use Rattle.std.specs.List.{range_with_len}
 use Rattle.std.proofs.lemmas.Bool.{cond_both}
 use Rattle.std.proofs.lemmas.List.Concat.{flat_map-cons}
@@ -14,9 +14,9 @@ use Rattle.lp_transition.specs.declared.reply.Reply.{Reply}
 use Rattle.lp_transition.specs.declared.reply.What.{What}
 use Rattle.lp_transition.specs.declared.reply.What.TheVariants.{Ran, Refused}
 use Rattle.lp_transition.specs.Tasks.{Fate, Live}
-use Rattle.lp_transition.specs.Leg.{Standing, Leg, State}
+use Rattle.lp_transition.specs.Leg.{Standing, State}
 use Rattle.lp_transition.specs.Sound.{IsSound}
-use Rattle.lp_transition.specs.Run.{Run, AreInRange, plus, first_leg, leg_of, switched, at_boot, booted, shown}
+use Rattle.lp_transition.specs.Run.{Run, AreInRange, plus, first_leg, leg_of, switched, at_boot, booted}
 use Rattle.lp_transition.specs.Machine.{affected, going, refusal_of, level_of, answer, state_of}
 use Rattle.lp_transition.specs.Stays.{sides, stack, moments, stays, is_mixed, all_stays, stay_count, mixed_count}
 use Rattle.lp_transition.proofs.EngineLemmas.{answer-refused, answer-accepted}
@@ -26,7 +26,7 @@ use Rattle.lp_transition.proofs.WholeRun.{run_sound, start_sound}
 use Rattle.lp_stays.specs.Kept.{Counted, outside, kept}
 use Rattle.lp_stays.specs.Steps.{returns, one_more, by_return, after_event}
 use Rattle.lp_stays.specs.Counts.{Shows, Counts, IsNext}
-use Rattle.lp_stays.proofs.Stacks.{frames_in, IsPop, refused_still, other_still, call_live, call_pushes, ret_live, ret_pops}
+use Rattle.lp_stays.proofs.Stacks.{frames_in, refused_still, other_still, call_live, call_pushes, ret_live, ret_pops}
 use Rattle.lp_stays.proofs.Moments.{run_bounds}
 use Rattle.lp_stays.proofs.Counting.{still_counts, call_counts, return_counts}
 

@@ -1,5 +1,5 @@
 -- What an event does to the stacks: a call puts a frame on one, a return takes the last off one, no other event changes any.
-use Rattle.std.proofs.Common.{◌≡◌, ◌≢◌, ℕ, zero, suc, pred, ◌+◌, ◌-◌, ◌<◌, ◌≤◌, Bool, true, false, not, List, [], ◌∷◌, ◌++◌, length, take, Option, Some, None, if◌then◌else◌, nat_eq, nat_le, slice_get, slice_index_or, refl, sym, ap, ap₂, ◌∙◌, subst, ⊎_elim, arith}
+use Rattle.std.proofs.Common.{◌≡◌, ◌≢◌, ℕ, zero, suc, pred, ◌-◌, ◌<◌, Bool, true, false, not, List, [], ◌∷◌, ◌++◌, length, take, Option, Some, None, if◌then◌else◌, nat_eq, nat_le, slice_get, slice_index_or, refl, sym, ap, ◌∙◌, subst, ⊎_elim, arith}
 use Rattle.std.specs.Option.{option_map}
 use Rattle.std.proofs.lemmas.Bool.{cases_Bool, eqb-true, eqb-false, leb-false, cond-true, cond-false, cond_both, eq-eqb, ne_eqb}
 use Rattle.std.proofs.lemmas.List.{nil_from_length}
@@ -15,7 +15,7 @@ use Rattle.lp_transition.specs.Run.{control_tests}
 use Rattle.lp_transition.specs.Events.{is_control}
 use Rattle.lp_transition.specs.Tasks.{Fate, Unused, Live, Dead, on_live, map_live, is_unused, fits, first_of, depth, tests, change}
 use Rattle.lp_transition.specs.Leg.{Standing, State}
-use Rattle.lp_transition.specs.Machine.{Standings, outline_of, outlines_of, at_rest, own_effect, moved_task, refusal_of, switched_over, affected, next, level_of}
+use Rattle.lp_transition.specs.Machine.{Standings, outline_of, outlines_of, at_rest, own_effect, moved_task, refusal_of, affected, next, level_of}
 use Rattle.lp_transition.proofs.EngineLemmas.{next-refused, next-accepted, next-turned}
 use Rattle.lp_stays.specs.Counts.{top_of}
 

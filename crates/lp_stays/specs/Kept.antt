@@ -1,5 +1,5 @@
 -- What a count of stays keeps.
-use Rattle.std.specs.Prelude.{◌≡◌, ℕ, ◌+◌, ◌*◌, ◌≤◌, Bool, false, List, length, slice_index_or}
+use Rattle.std.specs.Prelude.{◌≡◌, ℕ, ◌+◌, ◌*◌, ◌≤◌, false, List, length, slice_index_or}
 use Rattle.lp_patch.specs.Patches.{Patches}
 use Rattle.lp_stays.specs.declared.present.Present.{Present}
 

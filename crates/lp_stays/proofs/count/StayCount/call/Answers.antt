@@ -1,4 +1,4 @@
-use Rattle.std.proofs.Common.{◌≡◌, ◌+◌, ◌≤◌, ap, sym, ◌∙◌, subst, arith}
+use Rattle.std.proofs.Common.{◌+◌, ◌≤◌, ap, sym, ◌∙◌, subst, arith}
 use Rattle.lp_stays.proofs.Keeping.{below_is, call_start, call_same, call_few, call_then, call_else}
 use Rattle.lp_stays.proofs.count.StayCount.call.Goals.{then-has, else-has}
 use Rattle.lp_stays.proofs.count.StayCount.call.Goals as goal

@@ -1,4 +1,4 @@
-use Rattle.std.proofs.Common.{◌≡◌, suc, ◌+◌, ap, sym, ◌∙◌, nat_eq, arith, subst}
+use Rattle.std.proofs.Common.{◌≡◌, suc, ◌+◌, ap, ◌∙◌, nat_eq, arith, subst}
 use Rattle.lp_patch.specs.Patches.{version, patch_has}
 use Rattle.lp_stays.proofs.Versions.{version_own}
 use Rattle.lp_stays.proofs.count.StayCount.has.Goals as goal

@@ -1,8 +1,7 @@
 use Rattle.std.proofs.Common.{◌≡◌, ◌*◌, length, ap, sym, ◌∙◌, subst}
-use Rattle.lp_model.specs.Rules.{Rules, IsLawful}
-use Rattle.lp_transition.specs.Run.{Run, plus}
+use Rattle.lp_transition.specs.Run.{plus}
 use Rattle.lp_stays.specs.Kept.{IsKept}
-use Rattle.lp_stays.specs.Counts.{Counts, IsNext}
+use Rattle.lp_stays.specs.Counts.{Counts}
 use Rattle.lp_stays.proofs.Keeping.{noted_once}
 use Rattle.lp_stays.proofs.Noting.{noted}
 use Rattle.lp_stays.proofs.count.StayCount.note.Goals as goal
