@@ -1,6 +1,6 @@
 -- What calls and returns do to what is kept, patch by patch.
-use Rattle.std.proofs.Common.{◌≡◌, ◌≢◌, ℕ, zero, suc, pred, ◌+◌, ◌<◌, ◌≤◌, Bool, true, false, not, ◌&&◌, length, Option, Some, None, if◌then◌else◌, nat_le, nat_lt, get_or, set, refl, sym, ap, ap₂, ◌∙◌, subst, ⊎_elim, arith, length-set, get_or-set_same, get_or-set_other}
-use Rattle.std.proofs.lemmas.Bool.{cases_Bool, cases_eq, cases_lt, lt-ltb, le-ltb, le-leb, lt-leb, cond-true, cond-false}
+use Rattle.std.proofs.Common.{◌≡◌, ◌≢◌, ℕ, zero, suc, pred, ◌+◌, ◌<◌, ◌≤◌, Bool, true, false, not, ◌&&◌, length, Option, Some, None, if◌then◌else◌, nat_le, get_or, set, refl, sym, ap, ap₂, ◌∙◌, subst, ⊎_elim, arith, length-set, get_or-set_same, get_or-set_other}
+use Rattle.std.proofs.lemmas.Bool.{cases_Bool, cases_eq, cond-true, cond-false}
 use Rattle.lp_patch.specs.Patches.{patch_has}
 use Rattle.lp_symbols.specs.declared.sym_id.SymId.{SymId}
 use Rattle.lp_transition.specs.declared.event.Event.{Event}
@@ -13,13 +13,6 @@ use Rattle.lp_stays.specs.Steps.{is_outside, is_both, called, returned, one_if, 
 use Rattle.lp_stays.proofs.Sums.{sum_from, sum_last}
 
 -- ---- Numbers
-
-pub below_is : (below level : ℕ) → nat_lt below level ≡ nat_le (suc below) level
-below_is below level =
-    ⊎_elim
-    (λ (lt : below < level). lt-ltb below level lt ∙ sym (le-leb (suc below) level (omega arith)))
-    (λ (le : level ≤ below). le-ltb below level le ∙ sym (lt-leb (suc below) level (omega arith)))
-    (cases_lt below level)
 
 at_most_one : (b : Bool) → one_if b ≤ 1
 at_most_one true = omega arith
@@ -187,11 +180,11 @@ module _ (t func level : ℕ) (count : Counted) where
 
   -- ---- As code goes from patch to patch
 
-  pub call_then : (below : ℕ) (self after : Counted) (side : Bool) → self ≡ call_run below → patch_has self.patches (below + 1) func ≡ true → side ≡ nat_le (suc below) level → after ≡ after_call below t side self → after ≡ call_run (below + 1)
+  pub call_then : (below : ℕ) (self after : Counted) (side : Bool) → self ≡ call_run below → patch_has self.patches (below + 1) func ≡ true → side ≡ nat_le (below + 1) level → after ≡ after_call below t side self → after ≡ call_run (below + 1)
   call_then below self after side e found is made =
       let next : below + 1 ≡ suc below = omega arith in
       let yes_here : has below ≡ true = ap₂ (λ patches patch. patch_has patches patch func) (sym (ap (λ c. c.patches) e ∙ (call_same below).patches)) (sym next) ∙ found in
-      made ∙ ap₂ (λ b c. after_call below t b c) is e ∙ sym (call_yes below yes_here) ∙ ap call_run (sym next)
+      made ∙ ap₂ (λ b c. after_call below t b c) (is ∙ ap (λ patch. nat_le patch level) next) e ∙ sym (call_yes below yes_here) ∙ ap call_run (sym next)
 
   pub call_else : (below : ℕ) (self after : Counted) → self ≡ call_run below → patch_has self.patches (below + 1) func ≡ false → after ≡ self → after ≡ call_run (below + 1)
   call_else below self after e found made =

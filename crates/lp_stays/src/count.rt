@@ -1,5 +1,5 @@
 //! The count of stays.
-ghost use Rattle.std.specs.Prelude.{◌≡◌, ◌+◌, ◌*◌, ◌<◌, ◌≤◌, [], length, replicate, IfOk};
+ghost use Rattle.std.specs.Prelude.{◌≡◌, ◌+◌, ◌*◌, ◌<◌, ◌≤◌, [], nat_le, length, replicate, IfOk};
 ghost use Rattle.lp_model.specs.Rules.{Rules, IsLawful};
 ghost use Rattle.lp_patch.specs.Patches.{patch_has};
 ghost use Rattle.lp_transition.specs.Run.{Run, plus};
@@ -140,7 +140,7 @@ impl StayCount {
     {
         for below in 0..self.patches.patches().0 {
             if self.has(below, func) {
-                self.call_in(below, task, below < level.0);
+                self.call_in(below, task, has_patch(level, below));
             }
         }
     }
@@ -189,6 +189,13 @@ impl StayCount {
         let now = self.present[place].returned();
         self.present[place] = now;
     }
+}
+
+/// Whether a level has the patch above so many.
+fn has_patch(level: Level, below: u8) -> bool
+    ensures { result ≡ nat_le (below + 1) level.0 }
+{
+    below < level.0
 }
 
 /// Where the stay of a task in the functions of the patch above so many is kept.

@@ -1,5 +1,5 @@
 use Rattle.std.proofs.Common.{◌+◌, ◌≤◌, ap, sym, ◌∙◌, subst, arith}
-use Rattle.lp_stays.proofs.Keeping.{below_is, call_start, call_same, call_few, call_then, call_else}
+use Rattle.lp_stays.proofs.Keeping.{call_start, call_same, call_few, call_then, call_else}
 use Rattle.lp_stays.proofs.count.StayCount.call.Goals.{then-has, else-has}
 use Rattle.lp_stays.proofs.count.StayCount.call.Goals as goal
 
@@ -23,6 +23,6 @@ call_in-requires-clause-mixed c =
 pub loop-below-preserved : goal.loop-below-preserved
 loop-below-preserved c =
     elim c.if-has.branch [
-      | then-has w ↦ call_then c.args.task.0 c.args.func.0 c.args.level.0 c.args.self.now c.loop-below.below c.loop-below.self c.if-has.self _ c.loop-below.invariant (sym c.has.ensures ∙ w.if-has.true) (below_is c.loop-below.below c.args.level.0) (w.self-is ∙ w.call_in.ensures)
+      | then-has w ↦ call_then c.args.task.0 c.args.func.0 c.args.level.0 c.args.self.now c.loop-below.below c.loop-below.self c.if-has.self _ c.loop-below.invariant (sym c.has.ensures ∙ w.if-has.true) w.has_patch.ensures (w.self-is ∙ w.call_in.ensures)
       | else-has w ↦ call_else c.args.task.0 c.args.func.0 c.args.level.0 c.args.self.now c.loop-below.below c.loop-below.self c.if-has.self c.loop-below.invariant (sym c.has.ensures ∙ w.if-has.false) w.self-is
     ]
