@@ -1,7 +1,8 @@
 //! An event that is weighed, and then taken; and what can be asked of an engine.
 use super::*;
+use lp_model::CheckKind;
 use lp_models::Hybrid;
-use lp_transition::Halt;
+use lp_transition::{Halt, verdicts};
 
 const ONE: TaskId = TaskId(1);
 
@@ -17,6 +18,29 @@ fn an_event_is_weighed_and_then_taken(rt: HostRuntime) -> Result<(), Fail> {
     assert_eq!(rt; (core.events(), core.in_transition()), (0, false));
     assert_eq!(rt; in_short(&core.take(step)), Said::Done);
     assert_eq!(rt; (core.events(), core.in_transition()), (1, true));
+    Ok(())
+}
+
+#[test]
+fn a_walk_is_taken_by_its_verdicts(rt: HostRuntime) -> Result<(), Fail> {
+    let boots = [normal(1), normal(2)];
+    let mut core = Core::boot(rt.alloc(), Hybrid, patches(rt.alloc(), &[A])?, &boots)?;
+    for event in [Event::Enable, Event::Enter(ONE), Event::Sleep(ONE)] {
+        core.step(rt.alloc(), event)?;
+    }
+    let views = core.views(rt.alloc())?;
+    let found = verdicts(
+        rt.alloc(),
+        &Hybrid,
+        CheckKind::Walk,
+        views.as_slice(),
+        &core.aim(),
+    )?;
+    drop(views);
+    assert_eq!(rt; found.len(), 2);
+    let reply = core.commit_scan(rt.alloc(), CheckKind::Walk, found.as_slice())?;
+    assert_eq!(rt; in_short(&reply), Said::Over(1));
+    assert_eq!(rt; (core.events(), core.in_transition()), (4, true));
     Ok(())
 }
 
