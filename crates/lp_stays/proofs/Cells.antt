@@ -6,14 +6,13 @@ use Rattle.std.proofs.lemmas.List.Folds.{list_any-append}
 use Rattle.std.proofs.lemmas.List.Sums.{sum_by_push}
 use Rattle.std.proofs.Math.Bool.{and-not_self}
 use Rattle.lp_transition.specs.Stays.{stays, is_mixed}
-use Rattle.lp_stays.specs.declared.present.Present.{Present}
-use Rattle.lp_stays.specs.Kept.{outside}
+use Rattle.lp_stays.specs.Kept.{Ongoing, outside}
 use Rattle.lp_stays.specs.Steps.{is_both, called, returned, one_if, begins, mixes}
 use Rattle.lp_stays.specs.Counts.{last_of, if_inside, under_way, Shows}
 use Rattle.lp_stays.proofs.OneMore.{last_push, ended, begun, UnderWay, under_way_still}
 
 -- what is kept after one more moment, and how many stays and mixed stays there are more
-pub record IsAfter (ms : List (List Bool)) (now : List Bool) (after : Present) (more mixed_more : ℕ) : Type 0 where
+pub record IsAfter (ms : List (List Bool)) (now : List Bool) (after : Ongoing) (more mixed_more : ℕ) : Type 0 where
   pub shows : Shows after (ms ++ now ∷ [])
   pub total : length (stays (ms ++ now ∷ [])) ≡ length (stays ms) + more
   pub total_mixed : count_by is_mixed (stays (ms ++ now ∷ [])) ≡ count_by is_mixed (stays ms) + mixed_more
@@ -82,7 +81,7 @@ module _ (ms : List (List Bool)) where
   none_before : last_of [] ms ≡ [] → under_way ms ≡ []
   none_before e = ap (λ last. if_inside last (stays ms)) e
 
-  still_outside : (x : Present) → Shows x ms → last_of [] ms ≡ [] → IsAfter ms [] x 0 0
+  still_outside : (x : Ongoing) → Shows x ms → last_of [] ms ≡ [] → IsAfter ms [] x 0 0
   still_outside x h e =
       record {
         shows = record {
@@ -97,13 +96,13 @@ module _ (ms : List (List Bool)) where
 -- ---- A moment with calls
 
 -- the sides that ran in the stay before the last moment, with those of the last moment
-record Sides (ms : List (List Bool)) (x : Present) : Type 0 where
+record Sides (ms : List (List Bool)) (x : Ongoing) : Type 0 where
   old : Bool
   new : Bool
   old_is : x.old ≡ (old || list_any not (last_of [] ms))
   new_is : x.new ≡ (new || list_any (λ side. side) (last_of [] ms))
 
-module _ (ms : List (List Bool)) (x : Present) (h : Shows x ms) (way : UnderWay ms) (l : Bool) (rest : List Bool) (e : last_of [] ms ≡ l ∷ rest) where
+module _ (ms : List (List Bool)) (x : Ongoing) (h : Shows x ms) (way : UnderWay ms) (l : Bool) (rest : List Bool) (e : last_of [] ms ≡ l ∷ rest) where
   abbrev stay : List Bool
   stay = way.early ++ last_of [] ms
 
@@ -122,7 +121,7 @@ module _ (ms : List (List Bool)) (x : Present) (h : Shows x ms) (way : UnderWay 
   mixed_was : is_mixed stay ≡ is_both x
   mixed_was = ap is_mixed (sym was_in) ∙ ap₂ (λ a b. a && b) (sym h.new) (sym h.old)
 
-  module _ (s : Bool) (now : List Bool) (y : Present) (frames : y.frames ≡ length (s ∷ now)) (old : y.old ≡ (x.old || list_any not (s ∷ now))) (new : y.new ≡ (x.new || list_any (λ side. side) (s ∷ now))) where
+  module _ (s : Bool) (now : List Bool) (y : Ongoing) (frames : y.frames ≡ length (s ∷ now)) (old : y.old ≡ (x.old || list_any not (s ∷ now))) (new : y.new ≡ (x.new || list_any (λ side. side) (s ∷ now))) where
     abbrev after : List (List Bool)
     after = ms ++ (s ∷ now) ∷ []
 
@@ -162,13 +161,13 @@ module _ (ms : List (List Bool)) (x : Present) (h : Shows x ms) (way : UnderWay 
               omega (arith, a, b, c, d, more_is);
         }
 
-none_more : (ms : List (List Bool)) (now : List Bool) (x y : Present) → is_both y ≡ is_both x → IsAfter ms now y 0 (one_if (is_both y && not (is_both x))) → IsAfter ms now y 0 0
+none_more : (ms : List (List Bool)) (now : List Bool) (x y : Ongoing) → is_both y ≡ is_both x → IsAfter ms now y 0 (one_if (is_both y && not (is_both x))) → IsAfter ms now y 0 0
 none_more ms now x y same h =
     subst (IsAfter ms now y 0) (ap (λ b. one_if (b && not (is_both x))) same ∙ ap one_if (and-not_self (is_both x))) h
 
 -- ---- The stack stays as it is
 
-pub after_still : (ms : List (List Bool)) (x : Present) → Shows x ms → IsAfter ms (last_of [] ms) x 0 0
+pub after_still : (ms : List (List Bool)) (x : Ongoing) → Shows x ms → IsAfter ms (last_of [] ms) x 0 0
 after_still ms x h = by_last (last_of [] ms) refl
   where
     by_last : (last : List Bool) → last_of [] ms ≡ last → IsAfter ms last x 0 0
@@ -197,7 +196,7 @@ unmixed : (side : Bool) → one_if (((false || side) && (false || not side)) && 
 unmixed true = refl
 unmixed false = refl
 
-module _ (ms : List (List Bool)) (x : Present) (side : Bool) (h : Shows x ms) where
+module _ (ms : List (List Bool)) (x : Ongoing) (side : Bool) (h : Shows x ms) where
   begun_call : last_of [] ms ≡ [] → IsAfter ms (side ∷ []) (called side x) (begins x) (mixes side x)
   begun_call e =
       let none : under_way ms ≡ [] = ap (λ last. if_inside last (stays ms)) e in
@@ -248,7 +247,7 @@ module _ (ms : List (List Bool)) (x : Present) (side : Bool) (h : Shows x ms) wh
 
 -- ---- A return from the patch
 
-pub after_returned : (ms : List (List Bool)) (x : Present) (now : List Bool) (side : Bool) → Shows x ms → last_of [] ms ≡ now ++ side ∷ [] → IsAfter ms now (returned x) 0 0
+pub after_returned : (ms : List (List Bool)) (x : Ongoing) (now : List Bool) (side : Bool) → Shows x ms → last_of [] ms ≡ now ++ side ∷ [] → IsAfter ms now (returned x) 0 0
 after_returned ms x [] side h e =
     let frames : x.frames ≡ 1 = h.frames ∙ ap length e in
     let is : returned x ≡ outside = cond-true _ _ _ (le-leb x.frames 1 (omega arith)) in
@@ -258,7 +257,7 @@ after_returned ms x (s ∷ now) side h e =
     let sides = sides_of ms x h way s (now ++ side ∷ []) e in
     let popped : length ((s ∷ now) ++ side ∷ []) ≡ length (s ∷ now) + 1 = length-append (s ∷ now) (side ∷ []) in
     let frames : x.frames ≡ length (s ∷ now) + 1 = h.frames ∙ ap length e ∙ popped in
-    let fewer : Present = record { frames = x.frames - 1; old = x.old; new = x.new } in
+    let fewer : Ongoing = record { frames = x.frames - 1; old = x.old; new = x.new } in
     let is : returned x ≡ fewer = cond-false _ _ _ (lt-leb x.frames 1 (omega arith)) in
     let old : x.old ≡ (x.old || list_any not (s ∷ now)) =
     kept_popped x.old sides.old (list_any not (last_of [] ms)) (list_any not (s ∷ now)) (not side || false) sides.old_is (ap (list_any not) e ∙ list_any-append not (s ∷ now) (side ∷ [])) in

@@ -7,8 +7,7 @@ use Rattle.lp_transition.specs.declared.event.Event.{Event}
 use Rattle.lp_transition.specs.declared.event.Event.TheVariants.{Call, Ret}
 use Rattle.lp_transition.specs.declared.reply.What.{What}
 use Rattle.lp_transition.specs.declared.reply.What.TheVariants.{Ran, Refused}
-use Rattle.lp_stays.specs.declared.present.Present.{Present}
-use Rattle.lp_stays.specs.Kept.{Counted, outside, place, kept}
+use Rattle.lp_stays.specs.Kept.{Ongoing, Counted, outside, place, kept}
 use Rattle.lp_stays.specs.Steps.{is_outside, is_both, called, returned, one_if, begins, mixes, after_call, after_return, calls, returns, one_more, by_call, by_return, after_event}
 use Rattle.lp_stays.proofs.Sums.{sum_from, sum_last}
 
@@ -29,12 +28,12 @@ place_task i j t u lt lt' e = let same = place_same i j t u lt lt' e in omega ar
 -- ---- What a step from one patch to the next keeps
 
 -- a change of one place
-pub record IsChange (now before : Counted) (below t : ℕ) (x : Present) : Type 0 where
+pub record IsChange (now before : Counted) (below t : ℕ) (x : Ongoing) : Type 0 where
   pub here : place below t < length before.present → kept now below t ≡ x
   pub others : (i u : ℕ) → place i u ≢ place below t → kept now i u ≡ kept before i u
   pub wide : length now.present ≡ length before.present
 
-set_change : (now before : Counted) (below t : ℕ) (x : Present) → now.present ≡ set before.present (place below t) x → IsChange now before below t x
+set_change : (now before : Counted) (below t : ℕ) (x : Ongoing) → now.present ≡ set before.present (place below t) x → IsChange now before below t x
 set_change now before below t x e =
     record {
       here = λ lt. ap (λ xs. get_or xs (place below t) outside) e ∙ get_or-set_same before.present (place below t) x outside lt;
@@ -51,10 +50,10 @@ no_change now before below t e =
     }
 
 -- a count that goes on from patch to patch, by a change of each present stay
-pub record Goes (run : ℕ → Counted) (t : ℕ) (change : ℕ → Present → Present) : Type 0 where
+pub record Goes (run : ℕ → Counted) (t : ℕ) (change : ℕ → Ongoing → Ongoing) : Type 0 where
   pub step : (below : ℕ) → IsChange (run (suc below)) (run below) below t (change below (kept (run below) below t))
 
-module _ (run : ℕ → Counted) (t : ℕ) (small : t < 65536) (change : ℕ → Present → Present) (goes : Goes run t change) where
+module _ (run : ℕ → Counted) (t : ℕ) (small : t < 65536) (change : ℕ → Ongoing → Ongoing) (goes : Goes run t change) where
   pub wide : (k : ℕ) → length (run k).present ≡ length (run 0).present
   wide zero = refl
   wide (suc k) = (goes.step k).wide ∙ wide k
@@ -91,7 +90,7 @@ module _ (t func level : ℕ) (count : Counted) where
   abbrev pub call_run : ℕ → Counted
   call_run k = calls k t func level count
 
-  abbrev pub call_change : ℕ → Present → Present
+  abbrev pub call_change : ℕ → Ongoing → Ongoing
   call_change below x = if has below then called (nat_le (suc below) level) x else x
 
   pub call_yes : (below : ℕ) → has below ≡ true → call_run (suc below) ≡ after_call below t (nat_le (suc below) level) (call_run below)
@@ -221,7 +220,7 @@ module _ (t func : ℕ) (count : Counted) where
   abbrev pub return_run : ℕ → Counted
   return_run k = returns k t func count
 
-  abbrev pub return_change : ℕ → Present → Present
+  abbrev pub return_change : ℕ → Ongoing → Ongoing
   return_change below x = if had below then returned x else x
 
   pub return_yes : (below : ℕ) → had below ≡ true → return_run (suc below) ≡ after_return below t (return_run below)

@@ -5,14 +5,14 @@ use Rattle.std.specs.Option.{option_map}
 use Rattle.lp_symbols.specs.declared.sym_id.SymId.{SymId}
 use Rattle.lp_stack.specs.declared.number.TaskId.{TaskId}
 use Rattle.lp_stack.specs.declared.frame.Frame.{Frame}
-use Rattle.lp_model.specs.Rules.{Rules}
+use Rattle.lp_patch.specs.Patches.{Patches}
+use Rattle.lp_model.specs.Rules.{Rules, IsLawful}
 use Rattle.lp_transition.specs.declared.event.Event.{Event}
 use Rattle.lp_transition.specs.declared.event.Event.TheVariants.{Ret}
 use Rattle.lp_transition.specs.declared.reply.Reply.{Reply}
-use Rattle.lp_transition.specs.Run.{Run, AreInRange, first_leg, leg_of, reply}
+use Rattle.lp_transition.specs.Run.{Run, AreInRange, plus, first_leg, leg_of, reply}
 use Rattle.lp_transition.specs.Stays.{stack, moments, stays, stay_count, mixed_count}
-use Rattle.lp_stays.specs.declared.present.Present.{Present}
-use Rattle.lp_stays.specs.Kept.{Counted, kept}
+use Rattle.lp_stays.specs.Kept.{Ongoing, Counted, kept}
 
 -- ---- The stay under way
 
@@ -30,7 +30,7 @@ abbrev pub under_way : List (List Bool) → List Bool
 under_way moments = if_inside (last_of [] moments) (stays moments)
 
 -- what is kept of a task and a patch is so after these moments
-pub record Shows (x : Present) (moments : List (List Bool)) : Type 0 where
+pub record Shows (x : Ongoing) (moments : List (List Bool)) : Type 0 where
   pub frames : x.frames ≡ length (last_of [] moments)
   pub old : x.old ≡ list_any not (under_way moments)
   pub new : x.new ≡ list_any (λ side. side) (under_way moments)
@@ -48,6 +48,11 @@ pub record Counts (model : Rules) (run : Run) (count : Counted) : Type 0 where
       (below t : ℕ) → below < length run.patches → t < 65536 →
       Shows (kept count below t) (moments model (suc below) t (first_leg model run) run.events)
 
+-- the count is that of every run of these patches over all task numbers that has no event yet
+abbrev pub IsFirst : Patches → Counted → Type 0
+IsFirst patches count =
+    (model : Rules) (run : Run) → run.patches ≡ patches → run.bounds.tasks ≡ 65535 → run.events ≡ [] → Counts model run count
+
 -- ---- An event
 
 -- the function of the last frame
@@ -59,3 +64,9 @@ pub record IsNext (model : Rules) (run : Run) (event : Event) (given : Reply) (t
   pub in_range : AreInRange run.bounds run.boots
   pub replied : given ≡ reply model (leg_of model run) event
   pub leaves : (t : TaskId) → event ≡ Ret t → top ≡ top_of (stack model (leg_of model run) t.0)
+
+-- of whichever run the one was the count, the other is that of the run with the event
+abbrev pub GoesOn : Event → Reply → Option SymId → Counted → Counted → Type 0
+GoesOn event given top before after =
+    (model : Rules) → IsLawful model → (run : Run) →
+    Counts model run before → IsNext model run event given top → Counts model (plus run event) after

@@ -1,10 +1,16 @@
 -- What a count of stays keeps.
-use Rattle.std.specs.Prelude.{◌≡◌, ℕ, ◌+◌, ◌*◌, ◌≤◌, false, List, length, slice_index_or}
+use Rattle.std.specs.Prelude.{◌≡◌, ℕ, ◌+◌, ◌*◌, ◌≤◌, Bool, false, List, length, slice_index_or}
 use Rattle.lp_patch.specs.Patches.{Patches}
-use Rattle.lp_stays.specs.declared.present.Present.{Present}
+
+-- the stay that a task is in: how many calls of the patch's functions are on its stack, none outside of stays, and whether
+-- one of the stay's calls ran the old side, and one the new
+pub record Ongoing : Type 0 where
+  pub frames : ℕ
+  pub old : Bool
+  pub new : Bool
 
 -- outside of stays
-abbrev pub outside : Present
+abbrev pub outside : Ongoing
 outside = record { frames = 0; old = false; new = false }
 
 -- how many events were noted, how many stays and mixed stays there were, and for each patch, one after the other,
@@ -14,13 +20,13 @@ pub record Counted : Type 0 where
   pub noted : ℕ
   pub stays : ℕ
   pub mixed : ℕ
-  pub present : List Present
+  pub present : List Ongoing
 
 -- where a task's stay stands, for the patch below which there are so many
 abbrev pub place : ℕ → ℕ → ℕ
 place below t = below * 65536 + t
 
-abbrev pub kept : Counted → ℕ → ℕ → Present
+abbrev pub kept : Counted → ℕ → ℕ → Ongoing
 kept count below t = slice_index_or count.present (place below t) outside
 
 -- what every count keeps: a place for each patch and task number, and counts that fit

@@ -7,24 +7,23 @@ use Rattle.lp_transition.specs.declared.event.Event.{Event}
 use Rattle.lp_transition.specs.declared.event.Event.TheVariants.{Call, Ret}
 use Rattle.lp_transition.specs.declared.reply.What.{What}
 use Rattle.lp_transition.specs.declared.reply.What.TheVariants.{Ran, Refused}
-use Rattle.lp_stays.specs.declared.present.Present.{Present}
-use Rattle.lp_stays.specs.Kept.{Counted, outside, place, kept}
+use Rattle.lp_stays.specs.Kept.{Ongoing, Counted, outside, place, kept}
 
 -- ---- The stay that one task is in, for one patch
 
-abbrev pub is_outside : Present → Bool
+abbrev pub is_outside : Ongoing → Bool
 is_outside x = nat_eq x.frames 0
 
 -- both sides ran
-abbrev pub is_both : Present → Bool
+abbrev pub is_both : Ongoing → Bool
 is_both x = x.new && x.old
 
 -- after a call of the patch's functions, which ran the new side or the old
-abbrev pub called : Bool → Present → Present
+abbrev pub called : Bool → Ongoing → Ongoing
 called side x = record { frames = min (x.frames + 1) 255; old = x.old || not side; new = x.new || side }
 
 -- after a return from one
-abbrev pub returned : Present → Present
+abbrev pub returned : Ongoing → Ongoing
 returned x = if nat_le x.frames 1 then outside else record x { frames = x.frames - 1 }
 
 -- ---- All of them, and the counts
@@ -32,11 +31,11 @@ returned x = if nat_le x.frames 1 then outside else record x { frames = x.frames
 abbrev pub one_if : Bool → ℕ
 one_if b = if b then 1 else 0
 
-abbrev pub begins : Present → ℕ
+abbrev pub begins : Ongoing → ℕ
 begins x = one_if (is_outside x)
 
 -- the call makes the stay a mixed one
-abbrev pub mixes : Bool → Present → ℕ
+abbrev pub mixes : Bool → Ongoing → ℕ
 mixes side x = one_if (is_both (called side x) && not (is_both x))
 
 -- a call of a patch's function, on its new side or its old

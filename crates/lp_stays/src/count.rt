@@ -1,11 +1,9 @@
 //! The count of stays.
-ghost use Rattle.std.specs.Prelude.{◌≡◌, ◌+◌, ◌*◌, ◌<◌, ◌≤◌, [], nat_le, length, replicate, IfOk};
-ghost use Rattle.lp_model.specs.Rules.{Rules, IsLawful};
+ghost use Rattle.std.specs.Prelude.{◌≡◌, ◌+◌, ◌*◌, ◌<◌, ◌≤◌, nat_le, length, replicate, IfOk};
 ghost use Rattle.lp_patch.specs.Patches.{patch_has};
-ghost use Rattle.lp_transition.specs.Run.{Run, plus};
 ghost use Rattle.lp_stays.specs.Kept.{outside};
 ghost use Rattle.lp_stays.specs.Steps.{after_call, after_return, calls, returns, by_call, by_return, after_event};
-ghost use Rattle.lp_stays.specs.Counts.{Counts, IsNext};
+ghost use Rattle.lp_stays.specs.Counts.{IsFirst, GoesOn};
 
 use crate::present::Present;
 use lp_patch::PatchStack;
@@ -49,7 +47,7 @@ impl StayCount {
     /// The count before any event, for a run with these patches; an `Err` only where a growth was
     /// refused.
     pub fn new(alloc: Global, patches: &PatchStack) -> Result<StayCount, AllocError>
-        ensures none { IfOk result (λ count. (model : Rules) (run : Run) → run.patches ≡ patches.now → run.bounds.tasks ≡ 65535 → run.events ≡ [] → Counts model run count) }
+        ensures first { IfOk result (λ count. IsFirst patches.now count) }
         ensures noted { IfOk result (λ count. count.noted ≡ 0) }
     {
         let patches = patches.copy(alloc)?;
@@ -68,7 +66,7 @@ impl StayCount {
     /// at it. At most 1,000,000 events are noted.
     pub fn note(&mut self, event: Event, reply: &Reply, top: Option<SymId>)
         requires { self.old.noted < 1000000 }
-        ensures counts { (model : Rules) → IsLawful model → (run : Run) → Counts model run self.old → IsNext model run event reply.now top → Counts model (plus run event) self.new }
+        ensures goes_on { GoesOn event reply.now top self.old self.new }
         ensures noted { self.new.noted ≡ self.old.noted + 1 }
     {
         let _ = &self.patches;

@@ -3,15 +3,27 @@ ghost use Rattle.std.specs.Prelude.{◌≡◌};
 ghost use Rattle.lp_stays.specs.Kept.{outside};
 ghost use Rattle.lp_stays.specs.Steps.{is_outside, is_both, called, returned};
 
+use std::marker::Model;
+
 /// What is kept of a task and a patch.
 #[derive(Clone, Copy)]
 pub(crate) struct Present {
     /// How many calls of the patch's functions are on the task's stack, 0 outside of stays.
-    pub(crate) frames: u8,
+    frames: u8,
     /// Whether one of the stay's calls ran the old side.
-    pub(crate) old: bool,
+    old: bool,
     /// Whether one of the stay's calls ran the new side.
-    pub(crate) new: bool,
+    new: bool,
+}
+
+impl Model for Present {
+    ghost use Rattle.lp_stays.specs.Kept.{Ongoing};
+
+    ghost Value = { Ongoing };
+
+    ghost view = { λ x. record { frames = x.frames; old = x.old; new = x.new } };
+
+    ghost inverse = { λ x. record { frames = x.frames; old = x.old; new = x.new } };
 }
 
 impl Present {
