@@ -7,3 +7,5 @@ pub mod Drafts
 pub mod Rows
 pub mod Writing
 pub mod Laws
+pub mod Of
+pub mod Fronts

@@ -4,9 +4,12 @@
 mod draft;
 mod fault;
 mod form;
+mod front;
 pub mod laws;
+mod length;
 mod line;
 mod number;
+mod of;
 mod read;
 mod trace;
 mod word;
@@ -15,6 +18,7 @@ mod write;
 
 pub use fault::{Cause, ReadFault, TraceFault};
 pub use form::TraceForm;
+pub use of::OfFault;
 pub use trace::Trace;
 pub use write::WriteFault;
 
