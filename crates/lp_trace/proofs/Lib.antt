@@ -17,3 +17,4 @@ pub mod Fronts
 pub mod Parts
 pub mod Goes
 pub mod Making
+pub mod OfRows

@@ -9,3 +9,4 @@ pub mod Writing
 pub mod Laws
 pub mod Of
 pub mod Fronts
+pub mod OfRows

@@ -12,15 +12,13 @@ use crate::fault::LineFault;
 use crate::form::TraceForm;
 use crate::length::{boot_bytes, event_bytes, function_bytes, symbol_bytes};
 use crate::of::OfFault;
+use crate::read::MOST_BYTES;
 use crate::trace::Trace;
 use crate::write::name_of;
 use lp_stack::{Class, TaskId};
 use lp_symbols::{SymId, Symbols};
 use lp_transition::Event;
 use std::alloc::Global;
-
-/// The most bytes of a text.
-const MOST_BYTES: usize = 134_217_728;
 
 /// What the lines so far give, where the next one stands, and how long they are.
 #[derive(Drop)]
