@@ -248,7 +248,7 @@ boot_line_again task c h =
     rw (next_number_again task.0 (class_word c ∷ []) (small task h), last_word_again (class_word c) (class_word_some c), class_again c) refl
 
 -- the words after the first of a patch line
-pub patch_given : TraceForm → ℕ → List ℕ → List (List ℕ)
+unfoldable pub patch_given : TraceForm → ℕ → List ℕ → List (List ℕ)
 patch_given Single number func = func ∷ []
 patch_given Stacked number func = decimal number ∷ func ∷ []
 

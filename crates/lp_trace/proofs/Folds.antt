@@ -5,7 +5,7 @@ use Rattle.std.specs.List.{AllByRecursion, IsDistinct, list_any}
 use Rattle.std.specs.Str.{bytes_eq}
 use Rattle.std.proofs.lemmas.Bool.{ltb-true, ltb-false}
 use Rattle.std.proofs.lemmas.Bool.Decides.{Decides-eqb}
-use Rattle.std.proofs.lemmas.List.{append-nil, length-append, take_all}
+use Rattle.std.proofs.lemmas.List.{append-nil, get_or_past, length-append, take_all}
 use Rattle.lp_symbols.specs.declared.sym_id.SymId.{SymId}
 use Rattle.lp_symbols.specs.Names.{is_name}
 use Rattle.lp_stack.specs.declared.number.TaskId.{TaskId}
@@ -45,7 +45,7 @@ fold_append t u (words ∷ xs) ys h =
 
 -- ---- First words
 
-at_most_either : (b : Bool) (x y n : ℕ) → x ≤ n → y ≤ n → cond b x y ≤ n
+pub at_most_either : (b : Bool) (x y n : ℕ) → x ≤ n → y ≤ n → cond b x y ≤ n
 at_most_either true x y n h k = h
 at_most_either false x y n h k = k
 
@@ -154,16 +154,30 @@ at_end_of : (front : List (List SymId)) (had : List SymId) → slice_index_or (f
 at_end_of [] had = refl
 at_end_of (p ∷ ps) had = at_end_of ps had
 
-front_of : (front : List (List SymId)) (had : List SymId) → take (length front) (standing front had) ≡ front
+pub front_of : (front : List (List SymId)) (had : List SymId) → take (length front) (standing front had) ≡ front
 unfolding standing
 front_of front [] = take_all (length front) front (omega arith)
 front_of [] (id ∷ ids) = refl
 front_of (p ∷ ps) (id ∷ ids) = ap (λ r. p ∷ r) (front_of ps (id ∷ ids))
 
-more_standing : (front : List (List SymId)) (had : List SymId) (func : SymId) → front ++ (had ++ func ∷ []) ∷ [] ≡ standing front (had ++ func ∷ [])
+pub more_standing : (front : List (List SymId)) (had : List SymId) (func : SymId) → front ++ (had ++ func ∷ []) ∷ [] ≡ standing front (had ++ func ∷ [])
 unfolding standing
 more_standing front [] func = refl
 more_standing front (id ∷ ids) func = refl
+
+pub stands : (front : List (List SymId)) (ids : List SymId) → 0 < length ids → standing front ids ≡ front ++ ids ∷ []
+unfolding standing
+stands front [] h = absurd (omega arith)
+stands front (id ∷ ids) h = refl
+
+pub none_stands : (front : List (List SymId)) → standing front [] ≡ front
+unfolding standing
+none_stands front = refl
+
+pub standing_last : (front : List (List SymId)) (had : List SymId) → slice_index_or (standing front had) (length front) [] ≡ had
+unfolding standing
+standing_last front [] = get_or_past front (length front) [] (omega arith)
+standing_last front (id ∷ ids) = at_end_of front (id ∷ ids)
 
 same_number : (n : ℕ) → (n == n) ≡ true
 same_number n = (Decides-eqb n n).1 refl
@@ -243,19 +257,10 @@ module _ (f : TraceForm) (s : List (List ℕ)) (names : AreNames s) (differ : Is
       let after = functions_fold (had ++ func ∷ []) rest (subst G (sym same) good) in
       fold_step (trace f s (standing front had) [] []) (trace f s (standing front (had ++ func ∷ [])) [] []) (trace f s (standing front (had ++ func ∷ rest)) [] []) (words func) (map words rest) here (subst R same after)
 
-  stands : (ids : List SymId) → 0 < length ids → standing front ids ≡ front ++ ids ∷ []
-  unfolding standing
-  stands [] h = absurd (omega arith)
-  stands (id ∷ ids) h = refl
-
-  none_stands : standing front [] ≡ front
-  unfolding standing
-  none_stands = refl
-
   pub patch_fold : (ids : List SymId) → Good (length s) ids → fold_lines (trace f s front [] []) (map (λ func. patch_words f (length front + 1) (name s func)) ids) ≡ Ok (trace f s (front ++ ids ∷ []) [] [])
   patch_fold ids good =
       let lines : List (List (List ℕ)) = map (λ func. patch_words f (length front + 1) (name s func)) ids in
-      ap (λ p. fold_lines (trace f s p [] []) lines) (sym none_stands) ∙ functions_fold [] ids good ∙ ap (λ p. Ok (trace f s p [] [])) (stands ids good.some)
+      ap (λ p. fold_lines (trace f s p [] []) lines) (sym (none_stands front)) ∙ functions_fold [] ids good ∙ ap (λ p. Ok (trace f s p [] [])) (stands front ids good.some)
 
 pub patches_fold : (f : TraceForm) (s : List (List ℕ)) → AreNames s → IsDistinct bytes_eq s → (front rest : List (List SymId)) → length (front ++ rest) ≤ most_patches f → AllByRecursion (λ patch. patch_refusal (length s) patch ≡ None) rest → fold_lines (trace f s front [] []) (patch_lines f s (length front + 1) rest) ≡ Ok (trace f s (front ++ rest) [] [])
 unfolding patch_lines

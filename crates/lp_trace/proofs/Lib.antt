@@ -13,3 +13,8 @@ pub mod Again
 pub mod Folds
 pub mod Complete
 pub mod Rows
+pub mod Fronts
+pub mod Parts
+pub mod Goes
+pub mod Making
+pub mod OfRows

@@ -155,7 +155,7 @@ module _ (patches : List (List SymId)) (number : ℕ) (had : List SymId) (place 
         | inr more ↦ absurd (omega (arith, ap length more.1))
       ]
 
-most_sixteen : (form : TraceForm) → most_patches form ≤ 16
+pub most_sixteen : (form : TraceForm) → most_patches form ≤ 16
 most_sixteen Single = omega arith
 most_sixteen Stacked = omega arith
 

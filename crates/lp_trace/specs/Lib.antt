@@ -9,3 +9,6 @@ pub mod Drafts
 pub mod Rows
 pub mod Writing
 pub mod Laws
+pub mod Of
+pub mod Fronts
+pub mod OfRows

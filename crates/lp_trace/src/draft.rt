@@ -72,6 +72,13 @@ impl Draft {
         })
     }
 
+    /// Which of the two texts it is.
+    pub(crate) fn form(&self) -> TraceForm
+        ensures { result ≡ self.now.form }
+    {
+        self.form
+    }
+
     /// One line more, without its end.
     #[tactic(auto, unfolding(crate::specs::Reading::with_line, crate::specs::Reading::line_by_word))]
     pub(crate) fn add_line(&mut self, alloc: Global, line: &[u8]) -> Result<(), LineFault>
@@ -160,7 +167,7 @@ impl Draft {
 
     /// One symbol more.
     #[tactic(auto, using(crate::proofs::Symbols::odd_symbol), unfolding(crate::specs::Reading::add_symbol))]
-    fn add_symbol(&mut self, name: &[u8]) -> Result<(), LineFault>
+    pub(crate) fn add_symbol(&mut self, name: &[u8]) -> Result<(), LineFault>
         ensures { GivesLine (λ _. self.new) result (add_symbol self.old name.now) }
     {
         let Ok(text) = str::from_utf8(name) else {
@@ -177,7 +184,12 @@ impl Draft {
 
     /// One function more of the patch of a number.
     #[tactic(auto, unfolding(crate::specs::Reading::add_function))]
-    fn add_function(&mut self, alloc: Global, number: u32, name: &[u8]) -> Result<(), LineFault>
+    pub(crate) fn add_function(
+        &mut self,
+        alloc: Global,
+        number: u32,
+        name: &[u8],
+    ) -> Result<(), LineFault>
         ensures { GivesLine (λ _. self.new) result (add_function self.old (number, name.now)) }
     {
         let func = symbol_of(&self.symbols, name)?;
@@ -188,7 +200,7 @@ impl Draft {
 
     /// One boot task more.
     #[tactic(auto, unfolding(crate::specs::Reading::add_boot))]
-    fn add_boot(&mut self, number: u32, class: Class) -> Result<(), LineFault>
+    pub(crate) fn add_boot(&mut self, number: u32, class: Class) -> Result<(), LineFault>
         ensures { GivesLine (λ _. self.new) result (add_boot self.old (number, class)) }
     {
         let task = task_of(number)?;
@@ -203,7 +215,7 @@ impl Draft {
 
     /// One event more.
     #[tactic(auto, unfolding(crate::specs::Reading::add_event))]
-    fn add_event(&mut self, event: Event) -> Result<(), LineFault>
+    pub(crate) fn add_event(&mut self, event: Event) -> Result<(), LineFault>
         ensures { GivesLine (λ _. self.new) result (add_event self.old event) }
     {
         if self.events.len() == MOST_EVENTS {

@@ -1,5 +1,6 @@
 //! The laws of the trace text. The functions do nothing: each has a law as its contract.
 ghost use Rattle.lp_trace.specs.Laws.{ReadsWhatIsSpelled, SpellsOne};
+ghost use Rattle.lp_trace.specs.OfRows.{PartsCompute};
 ghost use Rattle.lp_trace.specs.Rows.{TextsCompute};
 
 /// What the definitions make of short texts: one of each fault, and a text of each form.
@@ -15,4 +16,9 @@ pub fn what_is_spelled_is_read()
 /// A text spells at most one trace.
 pub fn one_trace_a_text()
     ensures { SpellsOne }
+{}
+
+/// What the definitions make of short lists of parts: the trace, or the first place without a spelling.
+pub fn worked_parts()
+    ensures { PartsCompute }
 {}

@@ -1,3 +1,7 @@
+mod places;
+mod rows;
+mod texts;
+
 use super::*;
 use lp_model::ForkKind;
 use lp_stack::{Class, TaskId};
@@ -5,12 +9,17 @@ use lp_transition::Event;
 use std::alloc::Global;
 use std::test::*;
 
-/// Whether a text's first fault is the cause of this number, at this line.
-fn is_fault(alloc: Global, text: &str, line: u64, number: u8) -> bool {
-    match Trace::read(alloc, text.as_bytes()) {
+/// Whether what was read is at fault by the cause of this number, at this line.
+fn has_fault(read: Result<Trace, ReadFault>, line: u64, number: u8) -> bool {
+    match read {
         Err(ReadFault::Trace(fault)) => fault.line == line && fault.cause.number() == number,
         _ => false,
     }
+}
+
+/// Whether a text's first fault is the cause of this number, at this line.
+fn is_fault(alloc: Global, text: &str, line: u64, number: u8) -> bool {
+    has_fault(Trace::read(alloc, text.as_bytes()), line, number)
 }
 
 #[test]

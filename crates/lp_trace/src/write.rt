@@ -68,7 +68,7 @@ fn number<'a>(buffer: &'a mut Buffer, number: u16) -> &'a [u8]
 }
 
 /// The name of a symbol.
-fn name_of(symbols: &Symbols, id: SymId) -> &[u8]
+pub(crate) fn name_of(symbols: &Symbols, id: SymId) -> &[u8]
     requires { id.0 < length symbols.now }
     ensures { result.now ≡ name symbols.now id }
 {
