@@ -9,6 +9,7 @@ pub mod Pushes
 pub mod Steps
 pub mod Sound
 pub mod Writing
+pub mod Pages
 pub mod Again
 pub mod Folds
 pub mod Complete
