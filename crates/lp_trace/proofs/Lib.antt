@@ -10,6 +10,8 @@ pub mod Steps
 pub mod Sound
 pub mod Writing
 pub mod Pages
+pub mod Inputs
+pub mod Reports
 pub mod Again
 pub mod Folds
 pub mod Complete

@@ -76,3 +76,7 @@ spaced word = ap (λ l. 32 ∷ l) (sym (append-nil word))
 -- the word at a place, behind its space, and the words after it
 pub words_at : (words : List (Bor (List ℕ))) (i : ℕ) (d : Bor (List ℕ)) → i < length words → line_rest (map (λ word. word.now) (drop i words)) ≡ concat ((32 ∷ []) ∷ (get_or words i d).now ∷ []) ++ line_rest (map (λ word. word.now) (drop (i + 1) words))
 words_at words i d below = rest_at words i d below ∙ ap (λ l. l ++ line_rest (map (λ word. word.now) (drop (i + 1) words))) (spaced (get_or words i d).now)
+
+-- the same by another name of the text
+pub puts_along : {E : Type 0} (a b : Option (List ℕ)) (h k text other : List ℕ) (r : Result (Unit {0}) E) → text ≡ other → Puts a b h k r text → Puts a b h k r other
+puts_along a b h k text other r e puts = let P : List ℕ → Type 0 = λ l. Puts a b h k r l in subst P e puts

@@ -9,3 +9,4 @@ pub mod Drafts
 pub mod Rows
 pub mod Writing
 pub mod Laws
+pub mod Input

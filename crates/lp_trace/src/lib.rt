@@ -4,6 +4,7 @@
 mod draft;
 mod fault;
 mod form;
+mod input;
 pub mod laws;
 mod leg_end;
 mod line;

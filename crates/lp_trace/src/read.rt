@@ -13,7 +13,7 @@ use crate::words::cut;
 use std::alloc::Global;
 
 /// The most bytes of a text.
-const MOST_BYTES: usize = 134_217_728;
+pub(crate) const MOST_BYTES: usize = 134_217_728;
 
 impl Trace {
     /// The trace that a text spells, or the text's first fault; NoMemory where a growth was refused.

@@ -42,10 +42,12 @@ fn put_report<W: Write>(
 ) -> Result<(), WriteFault>
     ensures { Puts (W.contents writer.old) (W.contents writer.new) page.old.held.items page.new.held.items result (report form name.now outcome.now) }
 {
-    page.put_line(writer, header(form), &[])?;
-    page.put_line(writer, b"model", &[name.as_bytes()])?;
-    put_events(page, writer, form, outcome.replies.as_slice())?;
-    put_legs(page, writer, form, outcome.legs.as_slice())?;
+    let replies = outcome.replies.as_slice();
+    let legs = outcome.legs.as_slice();
+    put_header(page, writer, form)?;
+    put_model(page, writer, name)?;
+    put_events(page, writer, form, replies)?;
+    put_legs(page, writer, form, legs)?;
     put_stays(page, writer, outcome)
 }
 
@@ -57,6 +59,24 @@ fn header(form: TraceForm) -> &'static [u8]
         TraceForm::Single => b"lpreport 1",
         TraceForm::Stacked => b"lpreport 2",
     }
+}
+
+/// Puts the first line.
+fn put_header<W: Write>(
+    page: &mut Page,
+    writer: &mut W,
+    form: TraceForm,
+) -> Result<(), WriteFault>
+    ensures { Puts (W.contents writer.old) (W.contents writer.new) page.old.held.items page.new.held.items result (line_of (report_header form ∷ [])) }
+{
+    page.put_line(writer, header(form), &[])
+}
+
+/// Puts the line of the model's name.
+fn put_model<W: Write>(page: &mut Page, writer: &mut W, name: &str) -> Result<(), WriteFault>
+    ensures { Puts (W.contents writer.old) (W.contents writer.new) page.old.held.items page.new.held.items result (line_of (codes "model" ∷ name.now ∷ [])) }
+{
+    page.put_line(writer, b"model", &[name.as_bytes()])
 }
 
 /// A number, in a buffer of its own.
@@ -139,10 +159,21 @@ fn put_over<W: Write>(
 {
     page.put_all(writer, &[event, b" over"])?;
     for group in groups {
-        let mut buffer = Buffer::new();
-        page.put_all(writer, &[b" ", number(&mut buffer, u64::from(group.0))])?;
+        put_group(page, writer, *group)?;
     }
     page.put(writer, end)
+}
+
+/// Puts a group behind a space.
+fn put_group<W: Write>(
+    page: &mut Page,
+    writer: &mut W,
+    group: GroupId,
+) -> Result<(), WriteFault>
+    ensures { Puts (W.contents writer.old) (W.contents writer.new) page.old.held.items page.new.held.items result (32 ∷ decimal group.0) }
+{
+    let mut buffer = Buffer::new();
+    page.put_all(writer, &[b" ", number(&mut buffer, u64::from(group.0))])
 }
 
 /// Puts the lines of the ends of legs.
