@@ -11,6 +11,7 @@ pub mod Sound
 pub mod Writing
 pub mod Pages
 pub mod Inputs
+pub mod RunFaults
 pub mod Reports
 pub mod Again
 pub mod Folds

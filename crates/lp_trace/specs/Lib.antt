@@ -10,3 +10,4 @@ pub mod Rows
 pub mod Writing
 pub mod Laws
 pub mod Input
+pub mod Runs

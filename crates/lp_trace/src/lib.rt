@@ -12,7 +12,9 @@ mod number;
 mod outcome;
 mod page;
 mod read;
+pub mod replay;
 mod report;
+mod runs;
 mod trace;
 mod word;
 mod words;
@@ -22,6 +24,7 @@ pub use fault::{Cause, ReadFault, TraceFault};
 pub use form::TraceForm;
 pub use leg_end::{LegEnd, LegList};
 pub use outcome::{Outcome, ReplyList};
+pub use runs::{RunFault, run};
 pub use trace::Trace;
 pub use write::WriteFault;
 

@@ -1,3 +1,7 @@
+mod input;
+mod report;
+mod streams;
+
 use super::*;
 use lp_model::ForkKind;
 use lp_stack::{Class, TaskId};
