@@ -10,6 +10,7 @@ mod line;
 mod number;
 mod outcome;
 mod read;
+pub mod replay;
 mod trace;
 mod word;
 mod words;
