@@ -25,6 +25,8 @@ use Rattle.lp_transition.proofs.Quantifiers.{some_live-map, each_live-map}
 use Rattle.lp_transition.proofs.Runs.{leg_after-plus}
 use Rattle.lp_transition.proofs.Waiting.{waits-is, complete-is}
 use Rattle.lp_transition.proofs.WholeRun.{run_sound, start_sound}
+use Rattle.lp_stays.specs.Kept.{Counted}
+use Rattle.lp_stays.specs.Counts.{Counts}
 use Rattle.lp_trace.specs.declared.leg_end.LegEnd.{LegEnd}
 use Rattle.lp_trace.specs.declared.replay.open_leg.OpenLeg.{OpenLeg}
 use Rattle.lp_trace.specs.Outcome.{completion, waiting_count, end_of, ends, leg_ends}
@@ -246,10 +248,10 @@ module _ (model : Rules) (lawful : IsLawful model) (leg : Leg) (sound : IsSound 
 
 module _ (model : Rules) (lawful : IsLawful model) where
   -- what is kept after an event is that of the longer run
-  pub recorded : (run : Run) (event : Event) (kept : Recorded) (given : Reply) (core : Engine) (waiting : ℕ)
-      → IsRecorded model run kept → IsStep model (state_in kept.core) event given (state_in core) → (opens model (leg_of model run) event ≡ true → waiting ≡ waiting_count model (leg_of model run))
-      → IsRecorded model (plus run event) (record { core = core; replies = kept.replies ++ given ∷ []; legs = legs_after event given waiting core kept.legs })
-  recorded run event kept given core waiting is step counted =
+  pub recorded : (run : Run) (event : Event) (kept : Recorded) (given : Reply) (core : Engine) (waiting : ℕ) (count : Counted)
+      → IsRecorded model run kept → Counts model (plus run event) count → IsStep model (state_in kept.core) event given (state_in core) → (opens model (leg_of model run) event ≡ true → waiting ≡ waiting_count model (leg_of model run))
+      → IsRecorded model (plus run event) (record { core = core; replies = kept.replies ++ given ∷ []; legs = legs_after event given waiting core kept.legs; stays = count })
+  recorded run event kept given core waiting count is counts step counted =
       let first = first_leg model run in
       let leg = leg_of model run in
       let sound : IsSound leg.opening = run_sound model lawful first run.events (start_sound model lawful run.bounds run.patches run.boots is.stands.in_range) in
@@ -269,6 +271,7 @@ module _ (model : Rules) (lawful : IsLawful model) where
         replied = ap₂ (λ rs r. rs ++ r ∷ []) is.replied replied ∙ sym (replies-plus model first run.events event);
         ends = ap (λ (l : LegsSoFar). l.ended) legs;
         under_way = ap (λ (l : LegsSoFar). l.present) legs;
+        counts = counts;
       }
 
 module _ (model : Rules) where
@@ -279,12 +282,13 @@ module _ (model : Rules) where
       ∙ (last_end model (ended model (first_leg model run) run.events) (leg_of model run) waiting e ∙ ap (drop 1) (sym (ends-split model (first_leg model run) run.events)))
 
   -- a run before its first event
-  pub none_recorded : (run : Run) (core : Engine) → run.events ≡ [] → StandsIn model run (state_in core) → IsRecorded model run (record { core = core; replies = []; legs = record { ended = []; present = None } })
+  pub none_recorded : (run : Run) (core : Engine) (count : Counted) → run.events ≡ [] → StandsIn model run (state_in core) → Counts model run count → IsRecorded model run (record { core = core; replies = []; legs = record { ended = []; present = None }; stays = count })
   unfolding replies ended
-  none_recorded run core none stands =
+  none_recorded run core count none stands counts =
       record {
         stands = stands;
         replied = sym (ap (replies model (first_leg model run)) none);
         ends = sym (ap (λ events. drop 1 (ended model (first_leg model run) events)) none);
         under_way = sym (ap (λ events. open_after model (ended model (first_leg model run) events) (leg_of model run)) none);
+        counts = counts;
       }

@@ -9,8 +9,11 @@ use Rattle.lp_transition.specs.declared.reply.Reply.{Reply}
 use Rattle.lp_transition.specs.Events.{is_control}
 use Rattle.lp_transition.specs.Leg.{Leg}
 use Rattle.lp_transition.specs.Run.{Run, first_leg, leg_of, opens, next_leg, replies}
+use Rattle.lp_transition.specs.Stays.{mixed_count, stay_count}
 use Rattle.lp_transition.specs.Steps.{StandsIn}
 use Rattle.lp_transition.specs.Table.{Engine, state_in}
+use Rattle.lp_stays.specs.Kept.{Counted}
+use Rattle.lp_stays.specs.Counts.{Counts}
 use Rattle.lp_trace.specs.declared.leg_end.LegEnd.{LegEnd}
 use Rattle.lp_trace.specs.declared.outcome.Outcome.{Outcome}
 use Rattle.lp_trace.specs.declared.replay.open_leg.OpenLeg.{OpenLeg}
@@ -43,6 +46,7 @@ pub record Recorded : Type 0 where
   pub core : Engine
   pub replies : List Reply
   pub legs : LegsSoFar
+  pub stays : Counted
 
 abbrev pub is_refused : What → Bool
 is_refused (Refused why) = true
@@ -92,8 +96,11 @@ module _ (model : Rules) where
     pub replied : kept.replies ≡ replies model (first_leg model run) run.events
     pub ends : kept.legs.ended ≡ drop 1 (ended (first_leg model run) run.events)
     pub under_way : kept.legs.present ≡ open_after (ended (first_leg model run) run.events) (leg_of model run)
+    pub counts : Counts model run kept.stays
 
   -- what a run came to
   pub record IsOutcome (run : Run) (found : Outcome) : Type 0 where
     pub replied : found.replies ≡ replies model (first_leg model run) run.events
     pub legs : found.legs ≡ leg_ends model (first_leg model run) run.events
+    pub stays : found.stays ≡ stay_count model (first_leg model run) run.events
+    pub mixed : found.mixed ≡ mixed_count model (first_leg model run) run.events

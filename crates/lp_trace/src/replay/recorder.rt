@@ -1,6 +1,9 @@
 //! What a run comes to, event by event.
 ghost use Rattle.std.specs.Prelude.{◌≡◌, ◌<◌, [], true, None, IfOk, OnOk};
 ghost use Rattle.lp_transition.specs.Run.{Run, leg_of, opens, plus};
+ghost use Rattle.lp_stack.specs.declared.number.TaskId.{TaskId};
+ghost use Rattle.lp_stays.specs.Counts.{top_of};
+ghost use Rattle.lp_transition.specs.Stays.{stack};
 ghost use Rattle.lp_transition.specs.Steps.{IsStep, StandsIn};
 ghost use Rattle.lp_transition.specs.Table.{state_in};
 ghost use Rattle.lp_trace.specs.Outcome.{waiting_count};
@@ -11,6 +14,8 @@ use super::legs::Legs;
 use super::open_leg::OpenLeg;
 use crate::outcome::{Outcome, ReplyList};
 use lp_model::Consistency;
+use lp_stays::StayCount;
+use lp_symbols::SymId;
 use lp_transition::{Core, Event, Halt, Reply, What};
 use std::alloc::Global;
 use std::marker::Model;
@@ -21,6 +26,7 @@ pub(super) struct Recorder<M: Consistency> {
     core: Core<M>,
     replies: Vec<Reply>,
     legs: Legs,
+    stays: StayCount,
 }
 
 impl<M: Consistency> Model for Recorder<M> {
@@ -28,7 +34,7 @@ impl<M: Consistency> Model for Recorder<M> {
 
     ghost Value = { Recorded };
 
-    ghost view = { λ r. record { core = r.core; replies = r.replies.items; legs = r.legs } };
+    ghost view = { λ r. record { core = r.core; replies = r.replies.items; legs = r.legs; stays = r.stays } };
 }
 
 impl<M: Consistency> Recorder<M> {
@@ -36,31 +42,36 @@ impl<M: Consistency> Recorder<M> {
     pub(super) fn new(
         alloc: Global,
         core: Core<M>,
+        stays: StayCount,
         events: usize,
     ) -> Result<Recorder<M>, ReplayFault>
-        ensures { IfOk result (λ recorder. recorder ≡ record { core = core; replies = []; legs = record { ended = []; present = None } }) }
+        ensures { IfOk result (λ recorder. recorder ≡ record { core = core; replies = []; legs = record { ended = []; present = None }; stays = stays }) }
     {
         Ok(Recorder {
             core,
             replies: Vec::with_capacity(alloc, events)?,
             legs: Legs::new(alloc),
+            stays,
         })
     }
 
     /// The next event.
     pub(super) fn event(&mut self, alloc: Global, event: Event) -> Result<(), ReplayFault>
-        requires { self.old.core.number < 1000000 }
+        requires numbered { self.old.core.number < 1000000 }
+        requires noted { self.old.stays.noted < 1000000 }
         ensures { OnOk result ((run : Run) → IsRecorded M.rules run self.old → IsRecorded M.rules (plus run event) self.new) }
     {
+        let top = last_function(&self.core, event);
         let waiting = waiting_before(alloc, &self.core, event)?;
         let reply = step(alloc, &mut self.core, event)?;
-        self.note(event, &reply, waiting)?;
+        self.stays.note(event, &reply, top);
+        self.note_legs(event, &reply, waiting)?;
         self.replies.push(reply)?;
         Ok(())
     }
 
     /// Notes what the event that came last did to the legs.
-    fn note(&mut self, event: Event, reply: &Reply, waiting: u64) -> Result<(), ReplayFault>
+    fn note_legs(&mut self, event: Event, reply: &Reply, waiting: u64) -> Result<(), ReplayFault>
         ensures { OnOk result (self.new ≡ record self.old { legs = legs_after event reply.now waiting self.old.core self.old.legs }) }
     {
         let number = self.core.events();
@@ -85,13 +96,14 @@ impl<M: Consistency> Recorder<M> {
             core,
             replies,
             legs,
+            stays,
         } = self;
         let waiting = waiting(alloc, &core)?;
         Ok(Outcome {
             replies: ReplyList::from_vec(replies),
             legs: legs.finish(waiting)?,
-            stays: 0,
-            mixed: 0,
+            stays: stays.stays(),
+            mixed: stays.mixed(),
         })
     }
 }
@@ -117,6 +129,18 @@ fn step<M: Consistency>(
         Err(Halt::NoMemory) => Err(ReplayFault::NoMemory),
         Err(Halt::JournalFull) => unreachable!(),
     }
+}
+
+/// The function of the last frame of the task that returns at an event; None at any other event.
+fn last_function<M: Consistency>(core: &Core<M>, event: Event) -> Option<SymId>
+    ensures { (run : Run) → StandsIn M.rules run (state_in core.now) → (t : TaskId) → event ≡ Event.Ret t → result ≡ top_of (stack M.rules (leg_of M.rules run) t.0) }
+{
+    let Event::Ret(task) = event else {
+        return None;
+    };
+    let view = core.task(task)?;
+    let frame = view.frames.last()?;
+    Some(frame.func)
 }
 
 /// How many groups wait.

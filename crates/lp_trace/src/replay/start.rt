@@ -15,15 +15,16 @@ use lp_symbols::{SymId, Symbols};
 use lp_transition::{BootFault, Core};
 use std::alloc::Global;
 
-/// The engine with the trace's patches and boot tasks, before the first event.
+/// The engine with the trace's patches and its boot tasks, before the first event.
 pub(super) fn boot<M: Consistency>(
     alloc: Global,
     model: M,
+    patches: PatchStack,
     trace: &Trace,
 ) -> Result<Core<M>, ReplayFault>
+    requires { patches ≡ (run_of trace.now).patches }
     ensures { IfOk result (λ core. StandsIn M.rules (run_of trace.now) (state_in core)) }
 {
-    let patches = stack(alloc, trace)?;
     match Core::boot(alloc, model, patches, trace.boots.as_slice()) {
         Ok(core) => Ok(core),
         Err(BootFault::NoMemory) => Err(ReplayFault::NoMemory),
@@ -33,7 +34,7 @@ pub(super) fn boot<M: Consistency>(
 }
 
 /// The patches of the trace, on one another.
-fn stack(alloc: Global, trace: &Trace) -> Result<PatchStack, ReplayFault>
+pub(super) fn stack(alloc: Global, trace: &Trace) -> Result<PatchStack, ReplayFault>
     ensures { IfOk result (λ patches. patches ≡ (run_of trace.now).patches) }
 {
     let sets = sets(alloc, &trace.symbols, trace.patches.as_slice())?;
