@@ -7,6 +7,7 @@ mod calls;
 mod groups;
 mod laws;
 mod stacks;
+mod stays;
 mod tasks;
 
 use lp_model::Consistency;

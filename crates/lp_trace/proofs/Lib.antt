@@ -17,3 +17,6 @@ pub mod Again
 pub mod Folds
 pub mod Complete
 pub mod Rows
+pub mod Starting
+pub mod Completions
+pub mod Recording

@@ -1,0 +1,10 @@
+pub mod OneMore
+pub mod Cells
+pub mod Sums
+pub mod Keeping
+pub mod Stacks
+pub mod Versions
+pub mod Moments
+pub mod Counting
+pub mod Noting
+pub mod Following

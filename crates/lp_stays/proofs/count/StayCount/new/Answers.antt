@@ -1,0 +1,7 @@
+use Rattle.std.proofs.Common.{ap, sym, ◌∙◌, refl, get_or}
+use Rattle.lp_stays.specs.Kept.{outside, place}
+use Rattle.lp_stays.proofs.Noting.{all_outside, started}
+use Rattle.lp_stays.proofs.count.StayCount.new.Goals as goal
+
+pub returns-clause-none : goal.returns-clause-none
+returns-clause-none c = λ model run patches tasks events. started model run _ (c.in_ok-patches.ensures ∙ sym patches) tasks events refl refl refl (λ below t. ap (λ xs. get_or xs (place below t) outside) c.in_ok-present.ensures ∙ all_outside _ (place below t))

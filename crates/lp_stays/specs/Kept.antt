@@ -1,0 +1,31 @@
+-- What a count of stays keeps.
+use Rattle.std.specs.Prelude.{◌≡◌, ℕ, ◌+◌, ◌*◌, ◌≤◌, false, List, length, slice_index_or}
+use Rattle.lp_patch.specs.Patches.{Patches}
+use Rattle.lp_stays.specs.declared.present.Present.{Present}
+
+-- outside of stays
+abbrev pub outside : Present
+outside = record { frames = 0; old = false; new = false }
+
+-- how many events were noted, how many stays and mixed stays there were, and for each patch, one after the other,
+-- the stay that each task is in
+pub record Counted : Type 0 where
+  pub patches : Patches
+  pub noted : ℕ
+  pub stays : ℕ
+  pub mixed : ℕ
+  pub present : List Present
+
+-- where a task's stay stands, for the patch below which there are so many
+abbrev pub place : ℕ → ℕ → ℕ
+place below t = below * 65536 + t
+
+abbrev pub kept : Counted → ℕ → ℕ → Present
+kept count below t = slice_index_or count.present (place below t) outside
+
+-- what every count keeps: a place for each patch and task number, and counts that fit
+pub record IsKept (count : Counted) : Type 0 where
+  pub wide : length count.present ≡ length count.patches * 65536
+  pub few : count.noted ≤ 1000000
+  pub stays : count.stays ≤ 16 * count.noted
+  pub mixed : count.mixed ≤ 16 * count.noted

@@ -1,0 +1,213 @@
+//! The count of stays.
+ghost use Rattle.std.specs.Prelude.{◌≡◌, ◌+◌, ◌*◌, ◌<◌, ◌≤◌, [], nat_le, length, replicate, IfOk};
+ghost use Rattle.lp_model.specs.Rules.{Rules, IsLawful};
+ghost use Rattle.lp_patch.specs.Patches.{patch_has};
+ghost use Rattle.lp_transition.specs.Run.{Run, plus};
+ghost use Rattle.lp_stays.specs.Kept.{outside};
+ghost use Rattle.lp_stays.specs.Steps.{after_call, after_return, calls, returns, by_call, by_return, after_event};
+ghost use Rattle.lp_stays.specs.Counts.{Counts, IsNext};
+
+use crate::present::Present;
+use lp_patch::PatchStack;
+use lp_stack::{Level, TaskId};
+use lp_symbols::SymId;
+use lp_transition::{Event, Reply, What};
+use std::alloc::{AllocError, Global};
+use std::marker::Model;
+
+/// How many task numbers there are.
+const TASKS: usize = 65_536;
+
+/// How many stays there were in a run so far, and how many of them ran both sides of a patch.
+///
+/// For a patch and a task, a stay goes on while a function of the patch is on the task's stack.
+/// Stays are counted for each patch by itself, those that aren't over too. A count is made before
+/// the first event, and each event is noted with its reply.
+///
+/// Contracts see what it keeps.
+#[derive(Drop)]
+pub struct StayCount {
+    patches: PatchStack,
+    noted: u32,
+    stays: u64,
+    mixed: u64,
+    /// For each patch, one after the other, the stay that each task is in.
+    present: Vec<Present>,
+}
+
+impl Model for StayCount {
+    ghost use Rattle.lp_stays.specs.Kept.{Counted, IsKept};
+
+    ghost Value = { Counted };
+
+    ghost view = { λ c. record { patches = c.patches; noted = c.noted; stays = c.stays; mixed = c.mixed; present = c.present.items } };
+
+    ghost invariant = { λ c. IsKept (record { patches = c.patches; noted = c.noted; stays = c.stays; mixed = c.mixed; present = c.present.items }) };
+}
+
+impl StayCount {
+    /// The count before any event, for a run with these patches; an `Err` only where a growth was
+    /// refused.
+    pub fn new(alloc: Global, patches: &PatchStack) -> Result<StayCount, AllocError>
+        ensures none { IfOk result (λ count. (model : Rules) (run : Run) → run.patches ≡ patches.now → run.bounds.tasks ≡ 65535 → run.events ≡ [] → Counts model run count) }
+        ensures noted { IfOk result (λ count. count.noted ≡ 0) }
+    {
+        let patches = patches.copy(alloc)?;
+        let present = all_outside(alloc, usize::from(patches.patches().0) * TASKS)?;
+        Ok(StayCount {
+            patches,
+            noted: 0,
+            stays: 0,
+            mixed: 0,
+            present,
+        })
+    }
+
+    /// Notes an event with its reply, in constant time. `top` is the function of the last frame
+    /// on the stack of the event's task before the event, `None` without one; only a return looks
+    /// at it. At most 1,000,000 events are noted.
+    pub fn note(&mut self, event: Event, reply: &Reply, top: Option<SymId>)
+        requires { self.old.noted < 1000000 }
+        ensures counts { (model : Rules) → IsLawful model → (run : Run) → Counts model run self.old → IsNext model run event reply.now top → Counts model (plus run event) self.new }
+        ensures noted { self.new.noted ≡ self.old.noted + 1 }
+    {
+        let _ = &self.patches;
+        self.keep(event, &reply.what, top);
+    }
+
+    /// How many events were noted.
+    pub fn noted(&self) -> u64
+        ensures { result ≡ self.now.noted }
+    {
+        u64::from(self.noted)
+    }
+
+    /// How many stays there were.
+    pub fn stays(&self) -> u64
+        ensures { result ≡ self.now.stays }
+    {
+        self.stays
+    }
+
+    /// How many stays ran both sides of their patch.
+    pub fn mixed(&self) -> u64
+        ensures { result ≡ self.now.mixed }
+    {
+        self.mixed
+    }
+
+    /// Keeps what an event did.
+    fn keep(&mut self, event: Event, what: &What, top: Option<SymId>)
+        requires { self.old.noted < 1000000 }
+        ensures { self.new ≡ after_event event what.now top self.old }
+    {
+        self.noted += 1;
+        match event {
+            Event::Call(task, func) => self.keep_call(task, func, what),
+            Event::Ret(task) => self.keep_return(task, what, top),
+            _ => {}
+        }
+    }
+
+    /// A call, where it ran.
+    fn keep_call(&mut self, task: TaskId, func: SymId, what: &What)
+        requires stays { self.old.stays + 16 ≤ 16 * self.old.noted }
+        requires mixed { self.old.mixed + 16 ≤ 16 * self.old.noted }
+        ensures { self.new ≡ by_call task.0 func what.now self.old }
+    {
+        if let What::Ran(level) = what {
+            self.call(task, func, *level);
+        }
+    }
+
+    /// A return, where it was accepted.
+    fn keep_return(&mut self, task: TaskId, what: &What, top: Option<SymId>)
+        ensures { self.new ≡ by_return task.0 what.now top self.old }
+    {
+        if let What::Refused(_) = what {
+            return;
+        }
+        if let Some(func) = top {
+            self.ret(task, func);
+        }
+    }
+
+    /// A call of a function at a level, in each patch that has the function.
+    fn call(&mut self, task: TaskId, func: SymId, level: Level)
+        requires stays { self.old.stays + 16 ≤ 16 * self.old.noted }
+        requires mixed { self.old.mixed + 16 ≤ 16 * self.old.noted }
+        ensures { self.new ≡ calls (length self.old.patches) task.0 func.0 level.0 self.old }
+    {
+        for below in 0..self.patches.patches().0 {
+            if self.has(below, func) {
+                self.call_in(below, task, has_patch(level, below));
+            }
+        }
+    }
+
+    /// A return from a function, in each patch that has the function.
+    fn ret(&mut self, task: TaskId, func: SymId)
+        ensures { self.new ≡ returns (length self.old.patches) task.0 func.0 self.old }
+    {
+        for below in 0..self.patches.patches().0 {
+            if self.has(below, func) {
+                self.return_in(below, task);
+            }
+        }
+    }
+
+    /// Whether the patch above so many has a function.
+    fn has(&self, below: u8, func: SymId) -> bool
+        requires { below < 16 }
+        ensures { result ≡ patch_has self.now.patches (below + 1) func.0 }
+    {
+        let patch = Level(below + 1);
+        self.patches.version(func, patch) == patch
+    }
+
+    /// A call of a function of the patch above so many.
+    fn call_in(&mut self, below: u8, task: TaskId, new_side: bool)
+        requires patch { below < length self.old.patches }
+        requires stays { self.old.stays < 16 * self.old.noted }
+        requires mixed { self.old.mixed < 16 * self.old.noted }
+        ensures { self.new ≡ after_call below task.0 new_side self.old }
+    {
+        let place = place(below, task);
+        let before = self.present[place];
+        let now = before.called(new_side);
+        self.present[place] = now;
+        self.stays += u64::from(before.is_outside());
+        self.mixed += u64::from(now.is_both() & !before.is_both());
+    }
+
+    /// A return from a function of the patch above so many.
+    fn return_in(&mut self, below: u8, task: TaskId)
+        requires { below < length self.old.patches }
+        ensures { self.new ≡ after_return below task.0 self.old }
+    {
+        let place = place(below, task);
+        let now = self.present[place].returned();
+        self.present[place] = now;
+    }
+}
+
+/// Whether a level has the patch above so many.
+fn has_patch(level: Level, below: u8) -> bool
+    ensures { result ≡ nat_le (below + 1) level.0 }
+{
+    below < level.0
+}
+
+/// Where the stay of a task in the functions of the patch above so many is kept.
+fn place(below: u8, task: TaskId) -> usize
+    ensures { result ≡ below * 65536 + task.0 }
+{
+    usize::from(below) * TASKS + usize::from(task.0)
+}
+
+/// As many places as are asked for, each outside of stays.
+fn all_outside(alloc: Global, places: usize) -> Result<Vec<Present>, AllocError>
+    ensures { IfOk result (λ present. present.items ≡ replicate places outside) }
+{
+    vec![in alloc; Present::outside(); places]
+}
