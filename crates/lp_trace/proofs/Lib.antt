@@ -9,6 +9,10 @@ pub mod Pushes
 pub mod Steps
 pub mod Sound
 pub mod Writing
+pub mod Pages
+pub mod Inputs
+pub mod RunFaults
+pub mod Reports
 pub mod Again
 pub mod Folds
 pub mod Complete
@@ -18,3 +22,6 @@ pub mod Parts
 pub mod Goes
 pub mod Making
 pub mod OfRows
+pub mod Starting
+pub mod Completions
+pub mod Recording

@@ -2,6 +2,7 @@ pub mod Words
 pub mod Traces
 pub mod Reading
 pub mod Outcome
+pub mod Replay
 pub mod Report
 pub mod Faults
 pub mod Left
@@ -12,3 +13,5 @@ pub mod Laws
 pub mod Of
 pub mod Fronts
 pub mod OfRows
+pub mod Input
+pub mod Runs

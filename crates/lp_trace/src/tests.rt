@@ -1,5 +1,8 @@
+mod input;
 mod places;
+mod report;
 mod rows;
+mod streams;
 mod texts;
 
 use super::*;

@@ -1,0 +1,121 @@
+-- The parts of a report, one after the other.
+use Rattle.std.proofs.Common.{◌≡◌, ◌<◌, ◌≤◌, ◌+◌, ℕ, suc, Bool, List, [], ◌∷◌, ◌++◌, length, drop, map, get_or, add-one, refl, sym, ap, ◌∙◌, append_assoc, codes, decimal, Option}
+use Rattle.std.specs.List.{concat, flat_map}
+use Rattle.std.proofs.lemmas.List.{append-nil}
+use Rattle.std.proofs.lemmas.Grind.{flat_map-append}
+use Rattle.std.proofs.Math.ListN.{drop_of_length-le}
+use Rattle.std.proofs.Math.Seq.{drop-cons}
+use Rattle.lp_stack.specs.declared.number.GroupId.{GroupId}
+use Rattle.lp_transition.specs.Events.{group_numbers}
+use Rattle.lp_transition.specs.declared.reply.Reply.{Reply}
+use Rattle.lp_trace.specs.declared.leg_end.LegEnd.{LegEnd}
+use Rattle.lp_trace.specs.declared.form.TraceForm.{TraceForm}
+use Rattle.lp_trace.specs.declared.outcome.Outcome.{Outcome}
+use Rattle.lp_trace.specs.Words.{line_of}
+use Rattle.lp_trace.specs.Writing.{Left, line_rest}
+use Rattle.lp_trace.specs.Report.{event_line, event_lines, leg_line, stays_line, report, report_lines, report_header}
+use Rattle.lp_trace.proofs.Writing.{line_split}
+use Rattle.lp_trace.proofs.Pages.{held_start, held_next}
+
+-- ---- The groups of a line
+
+-- the group at a place, behind its space, and the groups and the line's end after it
+pub groups_at : (groups : List GroupId) (i : ℕ) (d : GroupId) (end : List ℕ) → i < length groups → flat_map (λ group. 32 ∷ decimal group) (group_numbers (drop i groups)) ++ end ≡ (32 ∷ decimal (get_or groups i d).0) ++ (flat_map (λ group. 32 ∷ decimal group) (group_numbers (drop (i + 1) groups)) ++ end)
+groups_at groups i d end below =
+    rw (drop-cons groups i d below, add-one) (append_assoc (32 ∷ decimal (get_or groups i d).0) (flat_map (λ group. 32 ∷ decimal group) (group_numbers (drop (suc i) groups))) end)
+
+pub groups_end : (groups : List GroupId) (i : ℕ) (end : List ℕ) → length groups ≤ i → flat_map (λ group. 32 ∷ decimal group) (group_numbers (drop i groups)) ++ end ≡ end
+groups_end groups i end h = rw (drop_of_length-le groups h) refl
+
+pub over_split : (event : List ℕ) (groups : List GroupId) (end : List ℕ) → event ++ (codes " over" ++ (flat_map (λ group. 32 ∷ decimal group) (group_numbers groups) ++ end)) ≡ concat (event ∷ codes " over" ∷ []) ++ (flat_map (λ group. 32 ∷ decimal group) (group_numbers groups) ++ end)
+over_split event groups end = sym (append_assoc event (codes " over") (flat_map (λ group. 32 ∷ decimal group) (group_numbers groups) ++ end))
+
+-- the words behind the first two, each behind its space
+pub groups_rest : (groups : List ℕ) (words : List (List ℕ)) → line_rest (map decimal groups ++ words) ≡ flat_map (λ group. 32 ∷ decimal group) groups ++ line_rest words
+groups_rest [] words = refl
+groups_rest (group ∷ groups) words =
+    ap (λ l. (32 ∷ decimal group) ++ l) (groups_rest groups words) ∙ sym (append_assoc (32 ∷ decimal group) (flat_map (λ group. 32 ∷ decimal group) groups) (line_rest words))
+
+-- the line of an event at which groups went over
+pub over_line : (event : List ℕ) (groups : List ℕ) (words : List (List ℕ)) → line_of (event ∷ (codes "over" ∷ map decimal groups) ++ words) ≡ event ++ (codes " over" ++ (flat_map (λ group. 32 ∷ decimal group) groups ++ line_rest words))
+over_line event groups words =
+    line_split event (codes "over" ∷ (map decimal groups ++ words)) ∙ ap (λ l. event ++ (codes " over" ++ l)) (groups_rest groups words)
+
+-- ---- The lines of the events
+
+module _ (form : TraceForm) where
+  pub events_at : (replies : List Reply) (i : ℕ) (d : Reply) → i < length replies → flat_map line_of (event_lines form (i + 1) (drop i replies)) ≡ line_of (event_line form (i + 1) (get_or replies i d)) ++ flat_map line_of (event_lines form (i + 1 + 1) (drop (i + 1) replies))
+  unfolding event_lines
+  events_at replies i d below =
+      let first : List ℕ = line_of (event_line form (i + 1) (get_or replies i d)) in
+      let rest : ℕ → ℕ → List ℕ = λ number k. first ++ flat_map line_of (event_lines form number (drop k replies)) in
+      let step : flat_map line_of (event_lines form (i + 1) (drop i replies)) ≡ rest (suc (i + 1)) (suc i) = rw (drop-cons replies i d below) refl in
+      step ∙ ap (λ number. rest number (suc i)) (sym (add-one (i + 1))) ∙ ap (rest (i + 1 + 1)) (sym (add-one i))
+
+  -- the same, where the reply was lent
+  pub events_lent : (replies : List Reply) (i : ℕ) (d : Reply) → d ≡ get_or replies i d → i < length replies → flat_map line_of (event_lines form (i + 1) (drop i replies)) ≡ line_of (event_line form (i + 1) d) ++ flat_map line_of (event_lines form (i + 1 + 1) (drop (i + 1) replies))
+  events_lent replies i d e below =
+      events_at replies i d below ∙ ap (λ reply. line_of (event_line form (i + 1) reply) ++ flat_map line_of (event_lines form (i + 1 + 1) (drop (i + 1) replies))) (sym e)
+
+  pub events_end : (replies : List Reply) (i n : ℕ) → length replies ≤ i → flat_map line_of (event_lines form n (drop i replies)) ≡ []
+  unfolding event_lines
+  events_end replies i n h = rw (drop_of_length-le replies h) refl
+
+-- ---- The text
+
+module _ (form : TraceForm) (name : List ℕ) (outcome : Outcome) where
+  abbrev pub header_part : List ℕ
+  header_part = line_of (report_header form ∷ [])
+
+  abbrev pub model_part : List ℕ
+  model_part = line_of (codes "model" ∷ name ∷ [])
+
+  abbrev pub events_part : List ℕ
+  events_part = flat_map line_of (event_lines form 1 outcome.replies)
+
+  abbrev pub legs_part : List ℕ
+  legs_part = flat_map line_of (map (leg_line form) outcome.legs)
+
+  abbrev pub stays_part : List ℕ
+  stays_part = line_of (stays_line outcome)
+
+  pub report_split : report form name outcome ≡ header_part ++ (model_part ++ (events_part ++ (legs_part ++ stays_part)))
+  unfolding report report_lines
+  report_split =
+      let events : List (List (List ℕ)) = event_lines form 1 outcome.replies in
+      let legs : List (List (List ℕ)) = map (leg_line form) outcome.legs in
+      let last : List (List (List ℕ)) = stays_line outcome ∷ [] in
+      let lines : flat_map line_of (events ++ legs ++ last) ≡ events_part ++ (legs_part ++ stays_part) =
+      flat_map-append line_of (events ++ legs) last
+      ∙ ap (λ l. l ++ flat_map line_of last) (flat_map-append line_of events legs)
+      ∙ append_assoc events_part legs_part (flat_map line_of last)
+      ∙ ap (λ l. events_part ++ (legs_part ++ l)) (append-nil stays_part) in
+      ap (λ l. header_part ++ (model_part ++ l)) lines
+
+-- an outcome with other lists
+abbrev pub with_lists : Outcome → List Reply → List LegEnd → Outcome
+with_lists outcome replies legs = record { replies = replies; legs = legs; stays = outcome.stays; mixed = outcome.mixed }
+
+-- the same where the lists are the outcome's, lent
+pub lent : (outcome : Outcome) (replies : List Reply) (legs : List LegEnd) → replies ≡ outcome.replies → legs ≡ outcome.legs → with_lists outcome replies legs ≡ outcome
+lent outcome replies legs e h =
+    ap (λ r. with_lists outcome r legs) e ∙ ap (λ l. with_lists outcome outcome.replies l) h
+
+-- ---- Where a page and a writer stand after each part
+
+module _ (form : TraceForm) (name : List ℕ) (outcome : Outcome) (h h1 h2 h3 h4 : List ℕ) (a b c d e : Option (List ℕ)) where
+  abbrev Stands : Option (List ℕ) → List ℕ → List ℕ → Type 0
+  Stands known held rest = Left a known (h ++ report form name outcome) (held ++ rest)
+
+  pub after_header : Left a b (h ++ header_part form name outcome) h1 → Stands b h1 (model_part form name outcome ++ (events_part form name outcome ++ (legs_part form name outcome ++ stays_part form name outcome)))
+  after_header x =
+      held_next a a b _ h (header_part form name outcome) _ _ h1 (report_split form name outcome) (held_start a (h ++ report form name outcome)) x
+
+  pub after_model : Left a b (h ++ header_part form name outcome) h1 → Left b c (h1 ++ model_part form name outcome) h2 → Stands c h2 (events_part form name outcome ++ (legs_part form name outcome ++ stays_part form name outcome))
+  after_model x y = held_next a b c _ h1 (model_part form name outcome) _ _ h2 refl (after_header x) y
+
+  pub after_events : Left a b (h ++ header_part form name outcome) h1 → Left b c (h1 ++ model_part form name outcome) h2 → Left c d (h2 ++ events_part form name outcome) h3 → Stands d h3 (legs_part form name outcome ++ stays_part form name outcome)
+  after_events x y z = held_next a c d _ h2 (events_part form name outcome) _ _ h3 refl (after_model x y) z
+
+  pub after_legs : Left a b (h ++ header_part form name outcome) h1 → Left b c (h1 ++ model_part form name outcome) h2 → Left c d (h2 ++ events_part form name outcome) h3 → Left d e (h3 ++ legs_part form name outcome) h4 → Stands e h4 (stays_part form name outcome)
+  after_legs x y z w = held_next a d e _ h3 (legs_part form name outcome) _ _ h4 refl (after_events x y z) w

@@ -1,0 +1,72 @@
+-- Faults of a text that a reader has, and outcomes put together.
+use Rattle.std.proofs.Common.{◌≡◌, ◌<◌, ◌+◌, ℕ, true, List, ◌++◌, length, Option, None, Some, IfSome, Result, Ok, Err, refl, sym, ap, ◌∙◌, subst, arith, nat_lt, lt-ltb}
+use Rattle.std.proofs.lemmas.List.{append-nil, length-append}
+use Rattle.std.specs.Prelude.{IfErr, IfOk, IsErrAnd}
+use Rattle.lp_model.specs.Rules.{Rules}
+use Rattle.lp_transition.specs.declared.reply.Reply.{Reply}
+use Rattle.lp_transition.specs.Run.{first_leg, replies}
+use Rattle.lp_transition.specs.Stays.{mixed_count, stay_count}
+use Rattle.lp_trace.specs.declared.leg_end.LegEnd.{LegEnd}
+use Rattle.lp_trace.specs.declared.outcome.Outcome.{Outcome}
+use Rattle.lp_trace.specs.Outcome.{outcome, leg_ends, run_of}
+use Rattle.lp_trace.specs.Traces.{TraceValue}
+use Rattle.lp_trace.specs.declared.fault.Cause.TheVariants as cause
+use Rattle.lp_trace.specs.declared.input.InputFault.{InputFault}
+use Rattle.lp_trace.specs.declared.input.InputFault.TheVariants as input
+use Rattle.lp_trace.specs.declared.runs.RunFault.{RunFault}
+use Rattle.lp_trace.specs.Input.{ReadsAll, ReadsTooMuch, IsInputFault}
+use Rattle.lp_trace.specs.Reading.{reading}
+use Rattle.lp_trace.specs.Runs.{AtTrace, of_input}
+
+pub long_reading : (text : List ℕ) → 134217728 < length text → reading text ≡ Err (record { line = 0; cause = cause.Long })
+unfolding reading
+long_reading text more =
+    let e : nat_lt 134217728 (length text) ≡ true = lt-ltb 134217728 (length text) more in
+    rw e refl
+
+-- the reader has more than it gave
+pub long_known : (old new : Option (List ℕ)) → ReadsTooMuch old new → IfSome old (λ text. reading text ≡ Err (record { line = 0; cause = cause.Long }))
+long_known None new much = tt
+long_known (Some xs) None much = absurd much.1
+long_known (Some xs) (Some ys) much =
+    long_reading xs (omega (arith, much.2, ap length much.1, length-append much.0 ys))
+
+-- what was read is all that the reader had
+pub all_known : (old new : Option (List ℕ)) (text : List ℕ) (P : List ℕ → Type 0) → ReadsAll old new text → P text → IfSome old P
+all_known None new text P all h = tt
+all_known (Some xs) None text P all h = absurd all.0
+all_known (Some xs) (Some ys) text P all h =
+    subst P (sym (all.0 ∙ ap (λ l. text ++ l) all.1 ∙ append-nil text)) h
+
+pub input_fault : (old new : Option (List ℕ)) (fault : InputFault) (e : RunFault) → IsInputFault old new fault → e ≡ of_input fault → AtTrace e (λ why. IfSome old (λ text. reading text ≡ Err why))
+input_fault old new input.Long e much is =
+    let P : RunFault → Type 0 = λ x. AtTrace x (λ why. IfSome old (λ text. reading text ≡ Err why)) in
+    subst P (sym is) (long_known old new much)
+input_fault old new (input.Failed error) e h is =
+    let P : RunFault → Type 0 = λ x. AtTrace x (λ why. IfSome old (λ text. reading text ≡ Err why)) in
+    subst P (sym is) tt
+input_fault old new input.NoMemory e h is =
+    let P : RunFault → Type 0 = λ x. AtTrace x (λ why. IfSome old (λ text. reading text ≡ Err why)) in
+    subst P (sym is) tt
+
+-- the same, as it is returned
+pub input_fault_of : {X : Type 0} (old new : Option (List ℕ)) (fault : InputFault) (r : Result X RunFault) → IsInputFault old new fault → IsErrAnd r (λ e. e ≡ of_input fault) → IfErr r (λ e. AtTrace e (λ why. IfSome old (λ text. reading text ≡ Err why)))
+input_fault_of old new fault (Ok x) h is = tt
+input_fault_of old new fault (Err e) h is = input_fault old new fault e h is
+
+abbrev with_fields : List Reply → List LegEnd → ℕ → ℕ → Outcome
+with_fields replies legs stays mixed = record { replies = replies; legs = legs; stays = stays; mixed = mixed }
+
+-- the fields of an outcome, put together
+pub whole_outcome : (model : Rules) (trace : TraceValue) (found : Outcome) → found.replies ≡ replies model (first_leg model (run_of trace)) trace.events → found.legs ≡ leg_ends model (first_leg model (run_of trace)) trace.events → found.stays ≡ stay_count model (first_leg model (run_of trace)) trace.events → found.mixed ≡ mixed_count model (first_leg model (run_of trace)) trace.events → found ≡ outcome model trace
+unfolding outcome
+whole_outcome model trace found e h k m =
+    ap (λ x. with_fields x found.legs found.stays found.mixed) e
+    ∙ ap (λ x. with_fields (replies model (first_leg model (run_of trace)) trace.events) x found.stays found.mixed) h
+    ∙ ap (λ x. with_fields (replies model (first_leg model (run_of trace)) trace.events) (leg_ends model (first_leg model (run_of trace)) trace.events) x found.mixed) k
+    ∙ ap (λ x. with_fields (replies model (first_leg model (run_of trace)) trace.events) (leg_ends model (first_leg model (run_of trace)) trace.events) (stay_count model (first_leg model (run_of trace)) trace.events) x) m
+
+-- the same of an answer
+pub whole_outcome_of : {E : Type 0} (model : Rules) (trace : TraceValue) (r : Result Outcome E) → IfOk r (λ found. found.replies ≡ replies model (first_leg model (run_of trace)) trace.events) → IfOk r (λ found. found.legs ≡ leg_ends model (first_leg model (run_of trace)) trace.events) → IfOk r (λ found. found.stays ≡ stay_count model (first_leg model (run_of trace)) trace.events) → IfOk r (λ found. found.mixed ≡ mixed_count model (first_leg model (run_of trace)) trace.events) → IfOk r (λ found. found ≡ outcome model trace)
+whole_outcome_of model trace (Ok found) e h k m = whole_outcome model trace found e h k m
+whole_outcome_of model trace (Err x) e h k m = tt

@@ -1,0 +1,47 @@
+-- What a run reads, and where its fault came.
+use Rattle.std.specs.Prelude.{List, ℕ, Option}
+use Rattle.lp_trace.specs.declared.fault.Cause.TheVariants as cause
+use Rattle.lp_trace.specs.declared.fault.TraceFault.{TraceFault}
+use Rattle.lp_trace.specs.declared.fault.ReadFault.{ReadFault}
+use Rattle.lp_trace.specs.declared.fault.ReadFault.TheVariants as read
+use Rattle.lp_trace.specs.declared.input.InputFault.{InputFault}
+use Rattle.lp_trace.specs.declared.input.InputFault.TheVariants as input
+use Rattle.lp_trace.specs.declared.runs.RunFault.{RunFault}
+use Rattle.lp_trace.specs.declared.runs.RunFault.TheVariants as run
+use Rattle.lp_trace.specs.Input.{ReadsAll}
+use Rattle.lp_trace.specs.Traces.{TraceValue, IsTrace, text_of}
+
+-- a reader gave the spelling of a trace of which this holds, and nothing is left
+abbrev pub ReadsTrace : Option (List ℕ) → Option (List ℕ) → (TraceValue → Type 0) → Type 0
+ReadsTrace old new P = (trace : TraceValue) × IsTrace trace × ReadsAll old new (text_of trace) × P trace
+
+-- this holds of the fault of a text
+abbrev pub AtTrace : RunFault → (TraceFault → Type 0) → Type 0
+AtTrace (run.Trace fault) P = P fault
+AtTrace (run.Read error) P = Unit {0}
+AtTrace run.NoMemory P = Unit {0}
+AtTrace (run.Write fault) P = Unit {0}
+
+-- this is so where the writer failed
+abbrev pub AtWrite : RunFault → Type 0 → Type 0
+AtWrite (run.Write fault) P = P
+AtWrite (run.Read error) P = Unit {0}
+AtWrite (run.Trace fault) P = Unit {0}
+AtWrite run.NoMemory P = Unit {0}
+
+-- this is so at every other fault
+abbrev pub BeforeWriting : RunFault → Type 0 → Type 0
+BeforeWriting (run.Write fault) P = Unit {0}
+BeforeWriting (run.Read error) P = P
+BeforeWriting (run.Trace fault) P = P
+BeforeWriting run.NoMemory P = P
+
+-- a fault in reading, as a fault of a run
+abbrev pub of_input : InputFault → RunFault
+of_input (input.Failed error) = run.Read error
+of_input input.Long = run.Trace (record { line = 0; cause = cause.Long })
+of_input input.NoMemory = run.NoMemory
+
+abbrev pub of_read : ReadFault → RunFault
+of_read (read.Trace fault) = run.Trace fault
+of_read read.NoMemory = run.NoMemory

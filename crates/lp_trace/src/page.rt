@@ -1,0 +1,104 @@
+//! Text that is gathered before it is written.
+ghost use Rattle.std.specs.Prelude.{◌≡◌, ◌∷◌, ◌++◌, [], map, IsTrue, IsFalse, IfOk, OnOk};
+ghost use Rattle.std.specs.List.{concat};
+ghost use Rattle.lp_trace.specs.Words.{line_of};
+ghost use Rattle.lp_trace.specs.Writing.{Puts, Writes};
+
+use crate::write::{WriteFault, put};
+use std::alloc::{AllocError, Global};
+use std::io::Write;
+
+/// How many bytes are gathered.
+const PAGE: usize = 65_536;
+
+/// Text that waits to be written. No call but `new` takes memory.
+#[derive(Drop)]
+pub(crate) struct Page {
+    held: Vec<u8>,
+}
+
+impl Page {
+    /// An empty page; AllocError where a growth was refused.
+    pub(crate) fn new(alloc: Global) -> Result<Page, AllocError>
+        ensures { IfOk result (λ page. page.held.items ≡ []) }
+    {
+        let held = Vec::with_capacity(alloc, PAGE)?;
+        Ok(Page { held })
+    }
+
+    /// Takes the bytes if there is room for them, and says whether it did.
+    #[inline(always)]
+    fn hold(&mut self, bytes: &[u8]) -> bool
+        ensures taken { IsTrue result → self.new.held.items ≡ self.old.held.items ++ bytes.now }
+        ensures kept { IsFalse result → self.new.held.items ≡ self.old.held.items }
+    {
+        if bytes.len() > self.held.capacity() - self.held.len() {
+            return false;
+        }
+        self.held.extend_from_slice(bytes).is_ok()
+    }
+
+    /// Writes what is held.
+    pub(crate) fn flush<W: Write>(&mut self, writer: &mut W) -> Result<(), WriteFault>
+        ensures written { Writes (W.contents writer.old) (W.contents writer.new) result self.old.held.items }
+        ensures empty { OnOk result (self.new.held.items ≡ []) }
+    {
+        put(writer, self.held.as_slice())?;
+        self.held.clear();
+        Ok(())
+    }
+
+    /// Puts bytes behind those that are held, and writes where there is no room.
+    #[inline(always)]
+    pub(crate) fn put<W: Write>(&mut self, writer: &mut W, bytes: &[u8]) -> Result<(), WriteFault>
+        ensures { Puts (W.contents writer.old) (W.contents writer.new) self.old.held.items self.new.held.items result bytes.now }
+    {
+        if self.hold(bytes) {
+            return Ok(());
+        }
+        self.put_over(writer, bytes)
+    }
+
+    /// The same, where there is no room.
+    #[inline(never)]
+    fn put_over<W: Write>(&mut self, writer: &mut W, bytes: &[u8]) -> Result<(), WriteFault>
+        ensures { Puts (W.contents writer.old) (W.contents writer.new) self.old.held.items self.new.held.items result bytes.now }
+    {
+        self.flush(writer)?;
+        if self.hold(bytes) {
+            return Ok(());
+        }
+        put(writer, bytes)
+    }
+
+    /// Puts these pieces.
+    #[inline(always)]
+    pub(crate) fn put_all<W: Write>(
+        &mut self,
+        writer: &mut W,
+        pieces: &[&[u8]],
+    ) -> Result<(), WriteFault>
+        ensures { Puts (W.contents writer.old) (W.contents writer.new) self.old.held.items self.new.held.items result (concat (map (λ piece. piece.now) pieces.now)) }
+    {
+        for piece in pieces {
+            self.put(writer, piece)?;
+        }
+        Ok(())
+    }
+
+    /// Puts a line of these words.
+    pub(crate) fn put_line<W: Write>(
+        &mut self,
+        writer: &mut W,
+        first: &[u8],
+        words: &[&[u8]],
+    ) -> Result<(), WriteFault>
+        ensures { Puts (W.contents writer.old) (W.contents writer.new) self.old.held.items self.new.held.items result (line_of (first.now ∷ map (λ word. word.now) words.now)) }
+    {
+        self.put(writer, first)?;
+        for word in words {
+            self.put_all(writer, &[b" ", word])?;
+        }
+        self.put(writer, b"\n")
+    }
+}

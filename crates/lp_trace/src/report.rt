@@ -1,0 +1,238 @@
+//! Writing the report of a run.
+ghost use Rattle.std.specs.Prelude.{◌≡◌, ◌+◌, ◌<◌, ◌∷◌, ◌++◌, [], codes, decimal, map};
+ghost use Rattle.std.specs.List.{flat_map};
+ghost use Rattle.lp_transition.specs.Events.{group_numbers};
+ghost use Rattle.lp_trace.specs.Words.{line_of};
+ghost use Rattle.lp_trace.specs.Report.{complete_words, end_words, event_line, event_lines, leg_line, level_word, report, report_header, stays_line};
+ghost use Rattle.lp_trace.specs.Writing.{Puts, Writes, line_rest};
+
+use crate::form::TraceForm;
+use crate::leg_end::LegEnd;
+use crate::outcome::Outcome;
+use crate::page::Page;
+use crate::write::WriteFault;
+use itoa::Buffer;
+use lp_stack::{GroupId, Level};
+use lp_transition::{Reply, What};
+use std::io::Write;
+
+/// Writes what the page holds, and then the report of an outcome under a model of this name.
+///
+/// Takes no memory. A fault of the writer, an interruption and a write that takes no byte end it.
+pub(crate) fn write_report<W: Write>(
+    page: &mut Page,
+    writer: &mut W,
+    form: TraceForm,
+    name: &str,
+    outcome: &Outcome,
+) -> Result<(), WriteFault>
+    ensures { Writes (W.contents writer.old) (W.contents writer.new) result (page.old.held.items ++ report form name.now outcome.now) }
+{
+    put_report(page, writer, form, name, outcome)?;
+    page.flush(writer)
+}
+
+/// Puts the report.
+fn put_report<W: Write>(
+    page: &mut Page,
+    writer: &mut W,
+    form: TraceForm,
+    name: &str,
+    outcome: &Outcome,
+) -> Result<(), WriteFault>
+    ensures { Puts (W.contents writer.old) (W.contents writer.new) page.old.held.items page.new.held.items result (report form name.now outcome.now) }
+{
+    let replies = outcome.replies.as_slice();
+    let legs = outcome.legs.as_slice();
+    put_header(page, writer, form)?;
+    put_model(page, writer, name)?;
+    put_events(page, writer, form, replies)?;
+    put_legs(page, writer, form, legs)?;
+    put_stays(page, writer, outcome)
+}
+
+/// The first line, without its end.
+fn header(form: TraceForm) -> &'static [u8]
+    ensures { result.now ≡ report_header form }
+{
+    match form {
+        TraceForm::Single => b"lpreport 1",
+        TraceForm::Stacked => b"lpreport 2",
+    }
+}
+
+/// Puts the first line.
+fn put_header<W: Write>(
+    page: &mut Page,
+    writer: &mut W,
+    form: TraceForm,
+) -> Result<(), WriteFault>
+    ensures { Puts (W.contents writer.old) (W.contents writer.new) page.old.held.items page.new.held.items result (line_of (report_header form ∷ [])) }
+{
+    page.put_line(writer, header(form), &[])
+}
+
+/// Puts the line of the model's name.
+fn put_model<W: Write>(page: &mut Page, writer: &mut W, name: &str) -> Result<(), WriteFault>
+    ensures { Puts (W.contents writer.old) (W.contents writer.new) page.old.held.items page.new.held.items result (line_of (codes "model" ∷ name.now ∷ [])) }
+{
+    page.put_line(writer, b"model", &[name.as_bytes()])
+}
+
+/// A number, in a buffer of its own.
+fn number<'a>(buffer: &'a mut Buffer, number: u64) -> &'a [u8]
+    ensures { result.now ≡ decimal number }
+{
+    buffer.format(number).as_bytes()
+}
+
+/// A level, in a buffer of its own where it is a number.
+fn level_word<'a>(buffer: &'a mut Buffer, form: TraceForm, level: Level) -> &'a [u8]
+    ensures { result.now ≡ level_word form level }
+{
+    match form {
+        TraceForm::Single if level.0 == 0 => b"old",
+        TraceForm::Single => b"new",
+        TraceForm::Stacked => number(buffer, u64::from(level.0)),
+    }
+}
+
+/// The end of an event's line.
+fn line_end(completed: bool) -> &'static [u8]
+    ensures { result.now ≡ line_rest (complete_words completed) }
+{
+    if completed { b" complete\n" } else { b"\n" }
+}
+
+/// Puts the lines of the replies, the first of which has the number 1.
+fn put_events<W: Write>(
+    page: &mut Page,
+    writer: &mut W,
+    form: TraceForm,
+    replies: &[Reply],
+) -> Result<(), WriteFault>
+    ensures { Puts (W.contents writer.old) (W.contents writer.new) page.old.held.items page.new.held.items result (flat_map line_of (event_lines form 1 replies.now)) }
+{
+    for (i, reply) in replies.iter().enumerate() {
+        put_event(page, writer, form, i as u64 + 1, reply)?;
+    }
+    Ok(())
+}
+
+/// Puts the line of the reply to the event of a number.
+fn put_event<W: Write>(
+    page: &mut Page,
+    writer: &mut W,
+    form: TraceForm,
+    event: u64,
+    reply: &Reply,
+) -> Result<(), WriteFault>
+    ensures { Puts (W.contents writer.old) (W.contents writer.new) page.old.held.items page.new.held.items result (line_of (event_line form event reply.now)) }
+{
+    let mut first = Buffer::new();
+    let mut second = Buffer::new();
+    let event = number(&mut first, event);
+    let end = line_end(reply.completed);
+    match &reply.what {
+        What::Ran(level) => {
+            let level = level_word(&mut second, form, *level);
+            page.put_all(writer, &[event, b" ran ", level, end])
+        }
+        What::Done => page.put_all(writer, &[event, b" done", end]),
+        What::Switched(groups) => put_over(page, writer, event, groups.as_slice(), end),
+        What::Refused(why) => {
+            let why = number(&mut second, u64::from(why.number()));
+            page.put_all(writer, &[event, b" refused E", why, end])
+        }
+    }
+}
+
+/// Puts the line of an event at which these groups went over.
+fn put_over<W: Write>(
+    page: &mut Page,
+    writer: &mut W,
+    event: &[u8],
+    groups: &[GroupId],
+    end: &[u8],
+) -> Result<(), WriteFault>
+    ensures { Puts (W.contents writer.old) (W.contents writer.new) page.old.held.items page.new.held.items result (event.now ++ (codes " over" ++ (flat_map (λ group. 32 ∷ decimal group) (group_numbers groups.now) ++ end.now))) }
+{
+    page.put_all(writer, &[event, b" over"])?;
+    for group in groups {
+        put_group(page, writer, *group)?;
+    }
+    page.put(writer, end)
+}
+
+/// Puts a group behind a space.
+fn put_group<W: Write>(
+    page: &mut Page,
+    writer: &mut W,
+    group: GroupId,
+) -> Result<(), WriteFault>
+    ensures { Puts (W.contents writer.old) (W.contents writer.new) page.old.held.items page.new.held.items result (32 ∷ decimal group.0) }
+{
+    let mut buffer = Buffer::new();
+    page.put_all(writer, &[b" ", number(&mut buffer, u64::from(group.0))])
+}
+
+/// Puts the lines of the ends of legs.
+fn put_legs<W: Write>(
+    page: &mut Page,
+    writer: &mut W,
+    form: TraceForm,
+    legs: &[LegEnd],
+) -> Result<(), WriteFault>
+    ensures { Puts (W.contents writer.old) (W.contents writer.new) page.old.held.items page.new.held.items result (flat_map line_of (map (leg_line form) legs.now)) }
+{
+    for leg in legs {
+        put_leg(page, writer, form, leg)?;
+    }
+    Ok(())
+}
+
+/// How a leg ended: by which word, and the number that follows it.
+fn end_words<'a>(buffer: &'a mut Buffer, leg: &LegEnd) -> (&'static [u8], &'a [u8])
+    ensures { result.0.now ∷ result.1.now ∷ [] ≡ end_words leg.now.completed leg.now.waiting }
+{
+    match leg.completed {
+        Some(event) => (b"complete", number(buffer, event)),
+        None => (b"waiting", number(buffer, leg.waiting)),
+    }
+}
+
+/// Puts the line of the end of a leg.
+fn put_leg<W: Write>(
+    page: &mut Page,
+    writer: &mut W,
+    form: TraceForm,
+    leg: &LegEnd,
+) -> Result<(), WriteFault>
+    ensures { Puts (W.contents writer.old) (W.contents writer.new) page.old.held.items page.new.held.items result (line_of (leg_line form leg.now)) }
+{
+    let mut first = Buffer::new();
+    let mut second = Buffer::new();
+    let mut third = Buffer::new();
+    let opened = number(&mut first, leg.opened);
+    let target = level_word(&mut second, form, leg.target);
+    let (end, count) = end_words(&mut third, leg);
+    match form {
+        TraceForm::Single => page.put_line(writer, b"leg", &[opened, target, end, count]),
+        TraceForm::Stacked => page.put_line(writer, b"leg", &[opened, b"to", target, end, count]),
+    }
+}
+
+/// Puts the line of the stays.
+fn put_stays<W: Write>(
+    page: &mut Page,
+    writer: &mut W,
+    outcome: &Outcome,
+) -> Result<(), WriteFault>
+    ensures { Puts (W.contents writer.old) (W.contents writer.new) page.old.held.items page.new.held.items result (line_of (stays_line outcome.now)) }
+{
+    let mut first = Buffer::new();
+    let mut second = Buffer::new();
+    let stays = number(&mut first, outcome.stays);
+    let mixed = number(&mut second, outcome.mixed);
+    page.put_line(writer, b"stays", &[stays, b"mixed", mixed])
+}
