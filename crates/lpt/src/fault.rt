@@ -1,6 +1,7 @@
 //! How the program ends where it has not done what it was asked.
 
 use crate::words::WordsFault;
+use lp_trace::{RunFault, TraceFault};
 use std::alloc::AllocError;
 use std::io;
 use std::process::ExitCode;
@@ -16,6 +17,8 @@ pub enum Fault {
     Usage,
     /// There is no such model.
     UnknownModel,
+    /// The input is no trace.
+    Trace(TraceFault),
     /// A growth was refused.
     NoMemory,
 }
@@ -26,6 +29,17 @@ impl From<WordsFault> for Fault {
             WordsFault::Usage => Fault::Usage,
             WordsFault::UnknownModel => Fault::UnknownModel,
             WordsFault::NoMemory => Fault::NoMemory,
+        }
+    }
+}
+
+impl From<RunFault> for Fault {
+    fn from(fault: RunFault) -> Fault {
+        match fault {
+            RunFault::Read(_) => Fault::Read,
+            RunFault::Trace(fault) => Fault::Trace(fault),
+            RunFault::NoMemory => Fault::NoMemory,
+            RunFault::Write(_) => Fault::Write,
         }
     }
 }
@@ -52,6 +66,7 @@ impl Fault {
         match self {
             Fault::Read | Fault::Write => 1,
             Fault::Usage | Fault::UnknownModel => 2,
+            Fault::Trace(_) => 3,
             Fault::NoMemory => 5,
         }
     }
@@ -63,6 +78,10 @@ impl Fault {
             Fault::Write => eprintln!(rt; "lpt: write fault"),
             Fault::Usage => eprintln!(rt; "lpt: usage"),
             Fault::UnknownModel => eprintln!(rt; "lpt: unknown model"),
+            Fault::Trace(fault) => {
+                let number = fault.cause.number();
+                eprintln!(rt; "lpt: line {}: L{number}", fault.line)
+            }
             Fault::NoMemory => eprintln!(rt; "lpt: out of memory"),
         };
         ExitCode::from(self.status())
