@@ -28,7 +28,7 @@ use Rattle.lp_transition.proofs.WholeRun.{run_sound, start_sound}
 use Rattle.lp_stays.specs.Kept.{Counted}
 use Rattle.lp_stays.specs.Counts.{Counts}
 use Rattle.lp_trace.specs.declared.leg_end.LegEnd.{LegEnd}
-use Rattle.lp_trace.specs.declared.replay.open_leg.OpenLeg.{OpenLeg}
+use Rattle.lp_trace.specs.declared.replays.open_leg.OpenLeg.{OpenLeg}
 use Rattle.lp_trace.specs.Outcome.{completion, waiting_count, end_of, ends, leg_ends}
 use Rattle.lp_trace.specs.Replay.{LegsSoFar, Recorded, ends_of, complete_at, is_refused, is_opened, number_if, legs_after, ended, open_after, IsRecorded}
 use Rattle.lp_trace.proofs.Completions.{completion_opened, completion_longer}

@@ -16,7 +16,7 @@ use Rattle.lp_stays.specs.Kept.{Counted}
 use Rattle.lp_stays.specs.Counts.{Counts}
 use Rattle.lp_trace.specs.declared.leg_end.LegEnd.{LegEnd}
 use Rattle.lp_trace.specs.declared.outcome.Outcome.{Outcome}
-use Rattle.lp_trace.specs.declared.replay.open_leg.OpenLeg.{OpenLeg}
+use Rattle.lp_trace.specs.declared.replays.open_leg.OpenLeg.{OpenLeg}
 use Rattle.lp_trace.specs.Outcome.{completion, end_of, leg_ends}
 
 -- ---- Legs

@@ -14,7 +14,7 @@ use crate::fault::{Cause, ReadFault, TraceFault};
 use crate::input::{InputFault, read_input};
 use crate::outcome::Outcome;
 use crate::page::Page;
-use crate::replay::{ReplayFault, replay};
+use crate::replays::{ReplayFault, replay};
 use crate::report::write_report;
 use crate::trace::Trace;
 use crate::write::WriteFault;

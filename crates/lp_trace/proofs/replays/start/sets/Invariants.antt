@@ -1,7 +1,7 @@
 use Rattle.std.proofs.Common.{◌≡◌, length, map, take}
 use Rattle.lp_trace.specs.Drafts.{functions}
 use Rattle.lp_trace.specs.Outcome.{patch_of}
-use Rattle.lp_trace.proofs.replay.start.sets.Given as goal
+use Rattle.lp_trace.proofs.replays.start.sets.Given as goal
 
 -- the patches so far
 abbrev pub invariant-loop-functions : goal.invariant-loop-functions

@@ -5,7 +5,7 @@ use Rattle.lp_transition.specs.Table.{Engine}
 use Rattle.lp_transition.specs.declared.reply.Reply.{Reply}
 use Rattle.lp_trace.specs.Replay.{IsRecorded, Recorded, legs_after}
 use Rattle.lp_trace.proofs.Recording.{recorded}
-use Rattle.lp_trace.proofs.replay.recorder.Recorder.event.Goals as goal
+use Rattle.lp_trace.proofs.replays.recorder.Recorder.event.Goals as goal
 
 pub returns : goal.returns
 returns g c = λ run is.
@@ -16,7 +16,7 @@ returns g c = λ run is.
     let waiting = c.in_ok-waiting.waiting in
     let is_kept : IsRecorded model run before = subst (IsRecorded model run) (sym c.self.view_is) is in
     let next : IsNext model run c.args.event given c.last_function-top.result = record { in_range = is_kept.stands.in_range; replied = c.in_ok-reply.ensures.replies run is_kept.stands; leaves = λ t e. c.last_function-top.ensures run is_kept.stands t e } in
-    let counts : Counts model (plus run c.args.event) c.note.new.self = c.note.ensures.counts model g.met.M.Consistency.lawful run is_kept.counts next in
+    let counts : Counts model (plus run c.args.event) c.note.new.self = c.note.ensures.goes_on model g.met.M.Consistency.lawful run is_kept.counts next in
     let more = recorded model g.met.M.Consistency.lawful run c.args.event before given core waiting c.note.new.self is_kept counts c.in_ok-reply.ensures (λ opened. c.in_ok-waiting.ensures run is_kept.stands opened) in
     let noted : ◌≡◌ {A = Recorded} (record { core = c.self-2.inside.core; replies = c.self-2.inside.replies.items; legs = c.self-2.inside.legs; stays = c.self-2.inside.stays }) (record { core = core; replies = c.self.inside.replies.items; legs = legs_after c.args.event given waiting core c.self.inside.legs; stays = c.note.new.self }) = c.self-2.view_is ∙ c.in_ok-note_legs.ensures in
     let all : ◌≡◌ {A = Recorded} (record { core = c.self-2.inside.core; replies = c.push.new.self.items; legs = c.self-2.inside.legs; stays = c.self-2.inside.stays }) (record { core = core; replies = c.self.inside.replies.items ++ given ∷ []; legs = legs_after c.args.event given waiting core c.self.inside.legs; stays = c.note.new.self }) =

@@ -1,7 +1,7 @@
 use Rattle.std.proofs.Common.{◌∙◌, subst, sym}
 use Rattle.lp_trace.specs.Replay.{IsRecorded, Recorded}
 use Rattle.lp_trace.proofs.Recording.{all_ends}
-use Rattle.lp_trace.proofs.replay.recorder.Recorder.finish.Goals as goal
+use Rattle.lp_trace.proofs.replays.recorder.Recorder.finish.Goals as goal
 
 pub returns : goal.returns
 returns g c = λ run is.

@@ -9,13 +9,13 @@ use Rattle.lp_trace.specs.Outcome.{leg_ends, run_of}
 use Rattle.lp_trace.specs.Replay.{IsOutcome, IsRecorded}
 use Rattle.lp_trace.proofs.Recording.{none_recorded, number_is, ok_weaker}
 use Rattle.lp_trace.proofs.Starting.{run_more}
-use Rattle.lp_trace.proofs.replay.replay.Goals as goal
+use Rattle.lp_trace.proofs.replays.replay.Goals as goal
 
 pub loop-event-init : goal.loop-event-init
 loop-event-init g c =
     let model = g.M.Consistency.rules in
     let run = run_of c.args.trace.now in
-    subst (IsRecorded model run) (sym c.in_ok-recorder.ensures) (none_recorded model run c.in_ok-core.core c.in_ok-stays.stays refl c.in_ok-core.ensures (c.in_ok-stays.ensures.none model run (sym c.in_ok-patches.ensures) refl refl))
+    subst (IsRecorded model run) (sym c.in_ok-recorder.ensures) (none_recorded model run c.in_ok-core.core c.in_ok-stays.stays refl c.in_ok-core.ensures (c.in_ok-stays.ensures.first model run (sym c.in_ok-patches.ensures) refl refl))
 
 pub event-requires : goal.event-requires
 event-requires g c =

@@ -1,7 +1,7 @@
 use Rattle.std.proofs.Common.{take}
 use Rattle.lp_trace.specs.Outcome.{run_of}
 use Rattle.lp_trace.specs.Replay.{IsRecorded}
-use Rattle.lp_trace.proofs.replay.replay.Given as goal
+use Rattle.lp_trace.proofs.replays.replay.Given as goal
 
 -- what is kept is that of the run with the events so far
 abbrev pub invariant-loop-event : goal.invariant-loop-event

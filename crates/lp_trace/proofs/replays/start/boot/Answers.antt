@@ -5,7 +5,7 @@ use Rattle.lp_transition.specs.Table.{state_in}
 use Rattle.lp_trace.specs.Drafts.{functions}
 use Rattle.lp_trace.specs.Outcome.{run_of}
 use Rattle.lp_trace.proofs.Starting.{boots_well, starts}
-use Rattle.lp_trace.proofs.replay.start.boot.Goals as goal
+use Rattle.lp_trace.proofs.replays.start.boot.Goals as goal
 
 pub unreachable-requires : goal.unreachable-requires
 unreachable-requires g c =

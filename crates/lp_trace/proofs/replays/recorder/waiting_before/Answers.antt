@@ -4,7 +4,7 @@ use Rattle.lp_transition.specs.Steps.{StandsIn}
 use Rattle.lp_transition.specs.Table.{state_in}
 use Rattle.lp_trace.specs.Outcome.{waiting_count}
 use Rattle.lp_trace.proofs.Recording.{ok_weaker, none_wait, settled_before}
-use Rattle.lp_trace.proofs.replay.recorder.waiting_before.Goals as goal
+use Rattle.lp_trace.proofs.replays.recorder.waiting_before.Goals as goal
 
 pub returns-in-Reverse : goal.returns-in-Reverse
 returns-in-Reverse g c =

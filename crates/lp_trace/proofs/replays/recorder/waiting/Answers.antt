@@ -1,6 +1,6 @@
 use Rattle.std.proofs.Common.{ap, length, ◌∙◌}
 use Rattle.lp_trace.proofs.Recording.{none_counted, counted_is}
-use Rattle.lp_trace.proofs.replay.recorder.waiting.Goals as goal
+use Rattle.lp_trace.proofs.replays.recorder.waiting.Goals as goal
 
 pub returns-then-not-in_transition : goal.returns-then-not-in_transition
 returns-then-not-in_transition g c = λ run stands. none_counted g.M.Consistency.rules run c.args.core.now stands c.in_transition.result c.in_transition.ensures (cc)

@@ -1,6 +1,6 @@
 //! Why a trace was not replayed.
 ghost use Rattle.std.specs.Prelude.{◌≡◌};
-ghost use Rattle.lp_trace.specs.declared.replay.fault.ReplayFault.TheVariants.{NoMemory};
+ghost use Rattle.lp_trace.specs.declared.replays.fault.ReplayFault.TheVariants.{NoMemory};
 
 use std::alloc::{AllocError, AllocFailed};
 

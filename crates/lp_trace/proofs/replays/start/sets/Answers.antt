@@ -6,7 +6,7 @@ use Rattle.lp_trace.specs.Drafts.{functions}
 use Rattle.lp_trace.specs.Outcome.{patch_of}
 use Rattle.lp_trace.proofs.Starting.{sets_more}
 use Rattle.lp_trace.proofs.Writing.{good_at}
-use Rattle.lp_trace.proofs.replay.start.sets.Goals as goal
+use Rattle.lp_trace.proofs.replays.start.sets.Goals as goal
 
 pub set-requires : goal.set-requires
 set-requires c =
