@@ -1,5 +1,5 @@
 -- Parts of one kind, one after another.
-use Rattle.std.proofs.Common.{Bor, ◌≡◌, ◌<◌, ◌≤◌, ◌+◌, ◌-◌, ℕ, Bool, true, false, List, [], ◌∷◌, ◌++◌, length, map, take, drop, get_or, Result, Ok, Err, add-one, refl, sym, ap, ◌∙◌, arith, subst, append_assoc}
+use Rattle.std.proofs.Common.{Bor, ◌≡◌, ◌<◌, ◌≤◌, ◌+◌, ◌-◌, ℕ, true, false, List, [], ◌∷◌, ◌++◌, length, map, take, drop, get_or, Result, Ok, Err, add-one, refl, sym, ap, ◌∙◌, arith, subst, append_assoc}
 use Rattle.std.proofs.lemmas.List.{append-nil, length-map, length-take-le, map-append, take_all}
 use Rattle.std.proofs.Math.ListN.{drop_of_length-le}
 use Rattle.std.proofs.Math.Seq.{drop-cons, take-suc}
@@ -16,7 +16,6 @@ use Rattle.std.proofs.lemmas.Bool.{eqb-true}
 use Rattle.lp_symbols.specs.declared.sym_id.SymId.{SymId}
 use Rattle.lp_trace.specs.Of.{spelling_from, asked_patch, asked_patches, IsOfFault, GivesPart}
 use Rattle.lp_trace.specs.Fronts.{IsFront}
-use Rattle.lp_trace.proofs.Choices.{ok_is}
 use Rattle.lp_trace.proofs.Folds.{standing, front_of, more_standing, standing_last}
 use Rattle.lp_trace.proofs.Fronts.{front_append, front_limits, line_refused, spelling_stops}
 use Rattle.lp_trace.proofs.Steps.{most_sixteen}

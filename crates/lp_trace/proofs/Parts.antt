@@ -1,13 +1,10 @@
 -- The line of a part, as a reader takes it.
-use Rattle.std.proofs.Common.{◌≡◌, ◌<◌, ◌≤◌, ◌+◌, ◌-◌, ℕ, Bool, true, false, List, [], ◌∷◌, ◌++◌, length, take, None, Result, Ok, Err, refl, sym, ap, ◌∙◌, arith, subst, ◌⊎◌, inl, inr}
+use Rattle.std.proofs.Common.{◌≡◌, ◌<◌, ◌≤◌, ◌-◌, ℕ, List, [], ◌∷◌, ◌++◌, length, take, Result, Ok, Err, refl, sym, ap, ◌∙◌, arith, ◌⊎◌, inl, inr}
 use Rattle.std.specs.Prelude.{nat_lt, nat_le, ◌==◌, ◌&&◌, decimal, slice_index_or, IsErr}
 use Rattle.std.specs.List.{list_any}
 use Rattle.std.specs.Str.{bytes_eq}
-use Rattle.std.proofs.lemmas.Bool.{and_parts, leb-true}
-use Rattle.std.proofs.lemmas.Bool.Decides.{Decides-ltb}
 use Rattle.std.proofs.lemmas.List.{get_or_past}
 use Rattle.lp_symbols.specs.declared.sym_id.SymId.{SymId}
-use Rattle.lp_symbols.specs.Names.{is_name}
 use Rattle.lp_stack.specs.declared.number.TaskId.{TaskId}
 use Rattle.lp_stack.specs.declared.view.Class.{Class}
 use Rattle.lp_model.specs.declared.check.ForkKind.{ForkKind}
@@ -22,12 +19,12 @@ use Rattle.lp_trace.specs.declared.word.EventWord.{EventWord}
 use Rattle.lp_trace.specs.declared.word.EventWord.TheVariants as event
 use Rattle.lp_trace.specs.Fronts.{IsOut}
 use Rattle.lp_trace.specs.Words.{class_word, event_word, fork_kind_of, fork_word}
-use Rattle.lp_trace.specs.Traces.{TraceValue, IsTask, IsEvent, name, sym_words, patch_words, boot_words, event_words}
+use Rattle.lp_trace.specs.Traces.{TraceValue, IsEvent, name, sym_words, patch_words, boot_words, event_words}
 use Rattle.lp_trace.specs.Reading.{◌>>=◌, needs, next_number, last_number, last_word, symbol_of, task_of, task_line, call_line, fork_line, patch_line, boot_line, event_line, add_symbol, add_function, add_boot, add_event, grown, part_reached, line_by_word, with_line}
 use Rattle.lp_trace.proofs.Choices.{guard_ok, pass_ok, bind_ok, ok_is}
 use Rattle.lp_trace.proofs.Spelled.{next_number_spelled, task_spelled}
 use Rattle.lp_trace.proofs.Steps.{SoFar, grown_parts}
-use Rattle.lp_trace.proofs.Again.{last_word_again, next_number_again, last_number_again, class_word_some, class_again, patch_given, patch_given_words, symbol_again, name_some, name_at_some, event_again, word_of}
+use Rattle.lp_trace.proofs.Again.{last_word_again, next_number_again, last_number_again, class_word_some, class_again, patch_given, patch_given_words, symbol_again, event_again, word_of}
 use Rattle.lp_trace.proofs.Folds.{line_again, at_most_either}
 
 -- ---- Parts that have not begun

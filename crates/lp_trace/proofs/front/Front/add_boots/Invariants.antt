@@ -1,5 +1,5 @@
 use Rattle.std.proofs.Common.{◌≡◌, ◌++◌, take}
-use Rattle.lp_trace.specs.Traces.{TraceValue, boot_words}
+use Rattle.lp_trace.specs.Traces.{boot_words}
 use Rattle.lp_trace.proofs.Goes.{Goes}
 use Rattle.lp_trace.proofs.front.Front.add_boots.Given as goal
 

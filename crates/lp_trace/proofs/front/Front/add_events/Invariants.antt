@@ -1,5 +1,5 @@
 use Rattle.std.proofs.Common.{◌≡◌, ◌++◌, take}
-use Rattle.lp_trace.specs.Traces.{TraceValue, event_words}
+use Rattle.lp_trace.specs.Traces.{event_words}
 use Rattle.lp_trace.proofs.Goes.{Goes}
 use Rattle.lp_trace.proofs.front.Front.add_events.Given as goal
 

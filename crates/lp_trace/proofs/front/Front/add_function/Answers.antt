@@ -1,6 +1,5 @@
-use Rattle.std.proofs.Common.{◌≡◌, ◌∙◌, ◌<◌, ◌≤◌, ◌-◌, ◌++◌, ◌∷◌, [], take, Ok, Err, refl, ap, sym, arith, ℕ, List, length}
+use Rattle.std.proofs.Common.{◌≡◌, ◌∙◌, ◌<◌, ◌≤◌, ◌-◌, ◌++◌, ◌∷◌, [], take, Ok, refl, ap, sym, arith, ℕ, List, length}
 use Rattle.std.specs.Prelude.{IsErr, slice_index_or}
-use Rattle.lp_trace.specs.declared.fault.Cause.{Cause}
 use Rattle.lp_trace.specs.Words.{line_of}
 use Rattle.lp_trace.specs.Traces.{TraceValue, patch_words, name}
 use Rattle.lp_trace.specs.Reading.{add_function, with_line}

@@ -1,8 +1,6 @@
-use Rattle.std.proofs.Common.{◌≡◌, ◌∷◌, ◌∙◌, [], Ok, ap, arith, refl, sym, subst, take}
-use Rattle.lp_symbols.specs.declared.sym_id.SymId.{SymId}
+use Rattle.std.proofs.Common.{◌∙◌, ap, arith, sym}
 use Rattle.std.proofs.lemmas.List.{take_all}
-use Rattle.lp_trace.specs.Traces.{TraceValue, name, patch_words}
-use Rattle.lp_trace.specs.Of.{spelling_from, IsOfFault}
+use Rattle.lp_trace.specs.Traces.{name, patch_words}
 use Rattle.lp_trace.proofs.Folds.{standing, stands, none_stands}
 use Rattle.lp_trace.proofs.Goes.{passed_on, goes_first, goes_on, goes_err, goes_end, functions_next, asked_some, none_asked, some_there, err_in_form, ok_in_form}
 use Rattle.lp_trace.proofs.front.Front.add_patch.Goals as goal

@@ -1,5 +1,5 @@
 use Rattle.std.proofs.Common.{◌+◌, arith, refl, sym}
-use Rattle.lp_trace.proofs.Goes.{passed_on, asked_each, no_patch_asked, patches_first, patches_count, patches_few, patches_on, patches_err, patches_end, patches_all}
+use Rattle.lp_trace.proofs.Goes.{passed_on, asked_each, no_patch_asked, patches_first, patches_count, patches_few, patches_on, patches_err, patches_end}
 use Rattle.lp_trace.proofs.front.Front.add_patches.Goals as goal
 
 pub returns-then-is_empty-clause-gives : goal.returns-then-is_empty-clause-gives

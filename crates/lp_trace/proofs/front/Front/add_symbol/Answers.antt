@@ -1,4 +1,4 @@
-use Rattle.std.proofs.Common.{◌≡◌, ◌∙◌, Ok, ap, sym, subst, arith, List, ℕ}
+use Rattle.std.proofs.Common.{◌≡◌, ◌∙◌, Ok}
 use Rattle.lp_trace.specs.Traces.{TraceValue, sym_words}
 use Rattle.lp_trace.specs.Reading.{add_symbol, with_line}
 use Rattle.lp_trace.proofs.Fronts.{fault_of_line, ended_gives, ended_front, place_few, on_ok}

@@ -1,5 +1,5 @@
 use Rattle.std.proofs.Common.{◌≡◌, ◌++◌, take}
-use Rattle.lp_trace.specs.Traces.{TraceValue, sym_words}
+use Rattle.lp_trace.specs.Traces.{sym_words}
 use Rattle.lp_trace.proofs.Goes.{Goes}
 use Rattle.lp_trace.proofs.front.Front.add_symbols.Given as goal
 
