@@ -1,4 +1,6 @@
 //! Readers and writers that fail, or give and take little at a time.
+ghost use Rattle.std.specs.Prelude.{◌≡◌, IfOk};
+
 use std::alloc::Global;
 use std::io::{self, ErrorKind, Read, Write};
 
@@ -14,7 +16,9 @@ pub(super) enum End {
 }
 
 impl End {
-    fn answer(self) -> io::Result<usize> {
+    fn answer(self) -> io::Result<usize>
+        ensures { IfOk result (λ count. count ≡ 0) }
+    {
         match self {
             End::Fails => Err(io::Error::from(ErrorKind::BrokenPipe)),
             End::Interrupted => Err(io::Error::from(ErrorKind::Interrupted)),
