@@ -2,6 +2,7 @@
 #![tactic(auto)]
 
 mod cert;
+pub mod laws;
 mod line;
 
 pub use cert::{Cert, Claim};
