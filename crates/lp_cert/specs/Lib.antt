@@ -1,3 +1,4 @@
 pub mod Made
 pub mod Text
 pub mod Rows
+pub mod Chains
