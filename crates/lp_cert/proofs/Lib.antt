@@ -1,2 +1,3 @@
 mod Rows
 pub mod ChainLemmas
+pub mod HeadLemmas

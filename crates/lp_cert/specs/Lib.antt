@@ -2,3 +2,4 @@ pub mod Made
 pub mod Text
 pub mod Rows
 pub mod Chains
+pub mod Heads

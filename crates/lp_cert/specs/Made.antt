@@ -11,7 +11,7 @@ use Rattle.lp_model.specs.declared.check.Blame.TheVariants as blame
 use Rattle.lp_model.specs.Rules.{Rules}
 use Rattle.lp_transition.specs.declared.event.Event.{Event}
 use Rattle.lp_transition.specs.declared.event.Event.TheVariants.{Fork}
-use Rattle.lp_transition.specs.Tasks.{on_live, fits, first_of}
+use Rattle.lp_transition.specs.Tasks.{on_live, first_of}
 use Rattle.lp_transition.specs.Leg.{Leg, after, accepted, check}
 use Rattle.lp_transition.specs.Schedule.{view, waits, complete, first_check}
 use Rattle.lp_transition.specs.Run.{opens, next_leg}
@@ -33,10 +33,14 @@ refusal_line group at (t, blame.Frame serial) = Hold (group_id group) (task_id t
 refusal_line group at (t, blame.Busy) = Busy (group_id group) (task_id t) at ∷ []
 refusal_line group at (t, blame.Unused) = []
 
--- the newest line in its longer form, or else with a new one before it
-abbrev pub longer_or : Option Line → List Line → List Line → List Line
-longer_or (Some longer) new older = longer ∷ older
-longer_or None new older = new
+-- these lines, the newest in front, after a refusal at an event: a hold in front whose frame is still on its task's stack
+-- goes up to there, else there is a new line
+abbrev pub after_refusal : (has_frame : (task serial : ℕ) → Bool) → (group at : ℕ) → ℕ × Blame → List Line → List Line
+after_refusal has_frame group at blamed (Hold g task serial from to ∷ older) =
+    if has_frame task.0 serial
+    then Hold g task serial from at ∷ older
+    else refusal_line group at blamed ++ Hold g task serial from to ∷ older
+after_refusal has_frame group at blamed lines = refusal_line group at blamed ++ lines
 
 module _ (model : Rules) (leg : Leg) where
   -- ---- Refusals
@@ -61,20 +65,12 @@ module _ (model : Rules) (leg : Leg) where
   first_blamed (Some kind) k group =
       first_of (map (λ t. option_map (λ why. (t, why)) (member_blame kind k group t)) (range_with_len 1 leg.bounds.tasks))
 
-  -- a hold whose frame is still there after the first k events goes up to the last of them
-  abbrev pub prolonged : ℕ → Line → Option Line
-  prolonged k (Hold group task serial from to) =
-      fits (has_frame k task.0 serial) (Hold group task serial from (leg.number + k))
-  prolonged k line = None
-
   -- ---- The lines of each group
 
-  -- these lines, the newest in front, after a check at event k: a refusal prolongs the newest, or brings a new one
-  abbrev pub with_refusal : (k group : ℕ) → Option (ℕ × Blame) → List Line → List Line
-  with_refusal k group None lines = lines
-  with_refusal k group (Some blamed) [] = refusal_line group (leg.number + k) blamed
-  with_refusal k group (Some blamed) (line ∷ older) =
-      longer_or (prolonged k line) (refusal_line group (leg.number + k) blamed ++ line ∷ older) older
+  -- the lines after a check at event k, where one comes and refuses a member
+  abbrev pub with_check : (k group : ℕ) → Option (ℕ × Blame) → List Line → List Line
+  with_check k group None lines = lines
+  with_check k group (Some blamed) lines = after_refusal (has_frame k) group (leg.number + k) blamed lines
 
   -- after event k + 1, if it is a fork into a group of the child's own: the lines of the parent's group, then the birth
   abbrev pub with_birth : (k group : ℕ) → Option Event → (ℕ → List Line) → List Line
@@ -89,7 +85,7 @@ module _ (model : Rules) (leg : Leg) where
   unfoldable pub lines : (k group : ℕ) → List Line
   lines zero group = []
   lines (suc k) group =
-      with_refusal (suc k) group (first_blamed (check model leg k group) (suc k) group)
+      with_check (suc k) group (first_blamed (check model leg k group) (suc k) group)
       (with_birth k group (accepted model leg k) (lines k))
 
   -- ---- Certificates

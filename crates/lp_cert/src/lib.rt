@@ -3,8 +3,10 @@
 
 mod cert;
 mod chains;
+mod head;
 pub mod laws;
 mod line;
+mod ongoing;
 mod reason;
 
 pub use cert::{Cert, Claim};
