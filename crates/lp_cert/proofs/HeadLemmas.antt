@@ -30,7 +30,7 @@ length-more scans at = length-append scans (at ∷ [])
 
 reason_more : (scans : List ℕ) (at : ℕ) (r : Reason) → FitsIn (length scans) r → reason_lines (more scans at) r ≡ reason_lines scans r
 reason_more scans at (reason.One l) h = refl
-reason_more scans at (reason.Busy g t first end) h = ap (λ xs. busy_lines g t (drop first xs)) (take-append-le end scans (at ∷ []) h)
+reason_more scans at (reason.Busy g t first end) h = ap (λ xs. busy_lines g t (drop first xs)) (take-append-le end scans (at ∷ []) h.1)
 
 -- reasons that fit the scans say the same with one more
 pub lines_more : (scans : List ℕ) (at : ℕ) (rs : List Reason) → AllByRecursion (FitsIn (length scans)) rs → lines_of (more scans at) rs ≡ lines_of scans rs
@@ -44,7 +44,7 @@ lines_of-cons scans r rs = refl
 
 fit_further : (n : ℕ) (r : Reason) → FitsIn n r → FitsIn (n + 1) r
 fit_further n (reason.One l) h = tt
-fit_further n (reason.Busy g t first end) h = omega arith
+fit_further n (reason.Busy g t first end) h = (h.0, omega (arith, h.1))
 
 pub all_fit_further : (n : ℕ) (rs : List Reason) → AllByRecursion (FitsIn n) rs → AllByRecursion (FitsIn (n + 1)) rs
 all_fit_further n [] fits = tt
@@ -110,10 +110,10 @@ begun_something n t at blame.Unused used e = used
 
 -- ---- A refusal
 
-ongoing_fits : (scans : List ℕ) (g : GroupId) (o : Ongoing) (rs : List Reason) → AllByRecursion (FitsIn (length scans)) rs → AllByRecursion (FitsIn (length scans)) (ongoing_reasons scans g o ++ rs)
-ongoing_fits scans g Nothing rs fits = fits
-ongoing_fits scans g (Hold t serial from) rs fits = (tt, fits)
-ongoing_fits scans g (Busy t first) rs fits = (omega arith, fits)
+pub ongoing_fits : (scans : List ℕ) (g : GroupId) (o : Ongoing) (rs : List Reason) → GoesOnIn (length scans) o → AllByRecursion (FitsIn (length scans)) rs → AllByRecursion (FitsIn (length scans)) (ongoing_reasons scans g o ++ rs)
+ongoing_fits scans g Nothing rs goes fits = fits
+ongoing_fits scans g (Hold t serial from) rs goes fits = (tt, fits)
+ongoing_fits scans g (Busy t first) rs goes fits = ((omega arith, omega arith), fits)
 
 busy_some : (scans : List ℕ) (first : ℕ) → first < length scans → 0 < length (reverse (drop first (take (length scans) scans)))
 busy_some scans first h =
@@ -196,7 +196,7 @@ module _ (scans : List ℕ) (group : GroupId) (refused : Refused) (head : Head) 
       → IsRefusedBy refused group scans head next old new
   refused_new next new used not_on begins list known kept =
       let closed : List Reason = ongoing_reasons scans group head.ongoing ++ get_or old head.older.0 [] in
-      let fits : AllByRecursion (FitsIn (length scans)) closed = ongoing_fits scans group head.ongoing (get_or old head.older.0 []) is_head.fits in
+      let fits : AllByRecursion (FitsIn (length scans)) closed = ongoing_fits scans group head.ongoing (get_or old head.older.0 []) is_head.goes_on is_head.fits in
       record {
         lines = λ has_frame held.
             ap₂ (λ o rs. lines_of (more scans refused.at) (ongoing_reasons (more scans refused.at) group o ++ rs)) begins list

@@ -1,3 +1,4 @@
 mod Rows
 pub mod ChainLemmas
 pub mod HeadLemmas
+pub mod WrittenLemmas

@@ -1,13 +1,15 @@
 //! The reasons of a group as it waits.
-ghost use Rattle.std.specs.Prelude.{◌≡◌, ◌<◌, [], ◌++◌, length, slice_index_or, option_to_list};
-ghost use Rattle.lp_cert.specs.Heads.{ongoing_reasons, stays, begun_by, IsHead, IsUsed, IsRefusedBy, Keeps};
+ghost use Rattle.std.specs.Prelude.{◌≡◌, ◌<◌, [], ◌++◌, length, reverse, slice_index_or, option_to_list, IfOk};
+ghost use Rattle.lp_cert.specs.Heads.{ongoing_reasons, head_lines, stays, begun_by, IsHead, IsUsed, IsRefusedBy, Keeps};
 
 use crate::chains::{ChainId, Chains};
-use crate::line::Line;
+use crate::line::{Line, LineList};
 use crate::ongoing::Ongoing;
 use crate::reason::Reason;
+use crate::written::{add_lines, lines_of};
 use lp_model::Blame;
 use lp_stack::{GroupId, TaskId};
+use std::alloc::{AllocError, Global};
 
 /// The reasons of a group: the one that still goes on, in front of a list.
 #[derive(Clone, Copy)]
@@ -35,6 +37,26 @@ impl Head {
         ongoing: Ongoing::Nothing,
         older: ChainId(0),
     };
+
+    /// The lines of the reasons as they stand, the oldest first; AllocError where a growth was
+    /// refused.
+    pub(crate) fn lines(
+        self,
+        alloc: Global,
+        chains: &Chains,
+        scans: &[u64],
+        group: GroupId,
+    ) -> Result<LineList, AllocError>
+        requires { IsHead chains.now.lists (length scans.now) self }
+        ensures { IfOk result (λ lines. lines ≡ reverse (head_lines chains.now.lists scans.now group self)) }
+    {
+        let older = chains.reasons(alloc, self.older)?;
+        let mut lines = lines_of(alloc, older.as_slice(), scans)?;
+        if let Some(reason) = ongoing_reason(scans, group, self.ongoing) {
+            add_lines(&mut lines, &reason, scans)?;
+        }
+        Ok(LineList::from_vec(lines))
+    }
 
     /// The reasons as they stand, as a list. Takes no memory.
     pub(crate) fn close(self, chains: &mut Chains, scans: &[u64], group: GroupId) -> ChainId

@@ -8,6 +8,7 @@ pub mod laws;
 mod line;
 mod ongoing;
 mod reason;
+mod written;
 
 pub use cert::{Cert, Claim};
 pub use line::{Line, LineList};
