@@ -2,3 +2,5 @@ mod Rows
 pub mod ChainLemmas
 pub mod HeadLemmas
 pub mod WrittenLemmas
+pub mod Past
+pub mod NextLines

@@ -3,3 +3,5 @@ pub mod Text
 pub mod Rows
 pub mod Chains
 pub mod Heads
+pub mod Steps
+pub mod Laws

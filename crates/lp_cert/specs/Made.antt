@@ -42,6 +42,15 @@ after_refusal has_frame group at blamed (Hold g task serial from to ∷ older) =
     else refusal_line group at blamed ++ Hold g task serial from to ∷ older
 after_refusal has_frame group at blamed lines = refusal_line group at blamed ++ lines
 
+-- these lines after a check at an event, where one comes and refuses a member
+abbrev pub after_check : (has_frame : (task serial : ℕ) → Bool) → (group at : ℕ) → Option (ℕ × Blame) → List Line → List Line
+after_check has_frame group at None lines = lines
+after_check has_frame group at (Some blamed) lines = after_refusal has_frame group at blamed lines
+
+-- the line of a birth
+abbrev pub birth_line : (group : ℕ) → TaskId → (at : ℕ) → Line
+birth_line group parent at = Born (group_id group) parent at
+
 module _ (model : Rules) (leg : Leg) where
   -- ---- Refusals
 
@@ -67,17 +76,12 @@ module _ (model : Rules) (leg : Leg) where
 
   -- ---- The lines of each group
 
-  -- the lines after a check at event k, where one comes and refuses a member
-  abbrev pub with_check : (k group : ℕ) → Option (ℕ × Blame) → List Line → List Line
-  with_check k group None lines = lines
-  with_check k group (Some blamed) lines = after_refusal (has_frame k) group (leg.number + k) blamed lines
-
   -- after event k + 1, if it is a fork into a group of the child's own: the lines of the parent's group, then the birth
   abbrev pub with_birth : (k group : ℕ) → Option Event → (ℕ → List Line) → List Line
   with_birth k group (Some (Fork p c how)) lines =
       let parents = on_live 0 (λ x. x.group) (after model leg k p.0) in
       if nat_eq group c.0 && nat_eq group (model.child_group parents c.0 how)
-      then Born (group_id group) p (leg.number + suc k) ∷ lines parents
+      then birth_line group p (leg.number + suc k) ∷ lines parents
       else lines group
   with_birth k group _ lines = lines group
 
@@ -85,7 +89,7 @@ module _ (model : Rules) (leg : Leg) where
   unfoldable pub lines : (k group : ℕ) → List Line
   lines zero group = []
   lines (suc k) group =
-      with_check (suc k) group (first_blamed (check model leg k group) (suc k) group)
+      after_check (has_frame (suc k)) group (leg.number + suc k) (first_blamed (check model leg k group) (suc k) group)
       (with_birth k group (accepted model leg k) (lines k))
 
   -- ---- Certificates
