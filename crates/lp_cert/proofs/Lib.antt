@@ -4,3 +4,4 @@ pub mod HeadLemmas
 pub mod WrittenLemmas
 pub mod Past
 pub mod NextLines
+pub mod OtherEvents

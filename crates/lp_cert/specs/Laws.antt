@@ -1,11 +1,15 @@
 -- The laws of certificates, for one model.
-use Rattle.std.specs.Prelude.{◌≡◌, ℕ, suc, ◌≤◌, true, length, None, IsTrue, IsFalse}
+use Rattle.std.specs.Prelude.{◌≡◌, ℕ, suc, ◌≤◌, true, false, length, Some, None, IsTrue, IsFalse}
 use Rattle.lp_stack.specs.declared.number.TaskId.{TaskId}
 use Rattle.lp_model.specs.declared.check.CheckKind.{CheckKind}
 use Rattle.lp_model.specs.declared.check.ForkKind.{ForkKind}
 use Rattle.lp_model.specs.Rules.{Rules}
 use Rattle.lp_transition.specs.declared.event.Event.{Event}
 use Rattle.lp_transition.specs.declared.event.Event.TheVariants.{Fork}
+use Rattle.lp_transition.specs.declared.refusal.Refusal.{Refusal}
+use Rattle.lp_transition.specs.Events.{is_scan}
+use Rattle.lp_transition.specs.Weigh.{is_fork}
+use Rattle.lp_transition.specs.Sound.{IsSound}
 use Rattle.lp_transition.specs.Leg.{Leg}
 use Rattle.lp_transition.specs.Run.{and_then, refused_by}
 use Rattle.lp_transition.specs.Scan.{is_scan_kind, scan_event}
@@ -36,3 +40,12 @@ pub record LinesComeWithEvents (model : Rules) : Type 0 where
       (leg : Leg) (p c : TaskId) (how : ForkKind) (group : ℕ) → refused_by model leg (Fork p c how) ≡ None →
       lines model (and_then leg (Fork p c how)) (suc (length leg.events)) group
       ≡ lines_after_fork model (state_of model leg) p c how (lines model leg (length leg.events)) group
+  -- a fork that is refused
+  pub refused_fork :
+      (leg : Leg) → IsSound leg.opening → (p c : TaskId) (how : ForkKind) (why : Refusal) (group : ℕ) →
+      refused_by model leg (Fork p c how) ≡ Some why →
+      lines model (and_then leg (Fork p c how)) (suc (length leg.events)) group ≡ lines model leg (length leg.events) group
+  -- any other event: a task that returns to user space or is at its idle point has an empty stack, so that check goes well
+  pub others :
+      (leg : Leg) → IsSound leg.opening → (event : Event) (group : ℕ) → is_scan event ≡ false → is_fork event ≡ false →
+      lines model (and_then leg event) (suc (length leg.events)) group ≡ lines model leg (length leg.events) group
