@@ -32,12 +32,6 @@ pub(crate) struct Refused {
 }
 
 impl Head {
-    /// No reason.
-    pub(crate) const EMPTY: Head = Head {
-        ongoing: Ongoing::Nothing,
-        older: ChainId(0),
-    };
-
     /// The lines of the reasons as they stand, the oldest first; AllocError where a growth was
     /// refused.
     pub(crate) fn lines(

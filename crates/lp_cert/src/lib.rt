@@ -8,6 +8,8 @@ pub mod laws;
 mod line;
 mod ongoing;
 mod reason;
+#[cfg(test)]
+mod tests;
 mod written;
 
 pub use cert::{Cert, Claim};
