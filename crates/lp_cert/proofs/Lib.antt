@@ -5,3 +5,4 @@ pub mod WrittenLemmas
 pub mod Past
 pub mod NextLines
 pub mod OtherEvents
+pub mod VerdictLines

@@ -10,12 +10,12 @@ use Rattle.lp_transition.specs.declared.refusal.Refusal.{Refusal}
 use Rattle.lp_transition.specs.Events.{is_scan}
 use Rattle.lp_transition.specs.Weigh.{is_fork}
 use Rattle.lp_transition.specs.Sound.{IsSound}
-use Rattle.lp_transition.specs.Leg.{Leg}
+use Rattle.lp_transition.specs.Leg.{State, Leg}
 use Rattle.lp_transition.specs.Run.{and_then, refused_by}
-use Rattle.lp_transition.specs.Scan.{is_scan_kind, scan_event}
+use Rattle.lp_transition.specs.Scan.{is_scan_kind, scan_event, verdicts_of}
 use Rattle.lp_transition.specs.Machine.{is_behind, state_of}
 use Rattle.lp_cert.specs.Made.{lines}
-use Rattle.lp_cert.specs.Steps.{lines_after_scan, lines_after_fork}
+use Rattle.lp_cert.specs.Steps.{first_refused, first_blamed_in, lines_after_scan, lines_after_fork}
 
 -- the lines of a group come with the events of its leg: each leaves those before it as they are, or goes by the state
 -- in which an engine is before it
@@ -30,6 +30,10 @@ pub record LinesComeWithEvents (model : Rules) : Type 0 where
       IsTrue (is_behind (state_of model leg) group) →
       lines model (and_then leg (scan_event kind)) (suc (length leg.events)) group
       ≡ lines_after_scan model (state_of model leg) kind group (lines model leg (length leg.events) group)
+  -- the verdicts of a scan tell whom it refuses first
+  pub verdicts :
+      (s : State) → IsSound s → (kind : CheckKind) (group : ℕ) → IsTrue (is_behind s group) →
+      first_refused s group (verdicts_of model kind s) ≡ first_blamed_in model s kind group
   -- a scan of any other kind
   pub unused_scan :
       (leg : Leg) (kind : CheckKind) (group : ℕ) → is_scan_kind kind ≡ true → IsFalse (model.uses kind) →

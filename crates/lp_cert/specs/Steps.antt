@@ -6,6 +6,7 @@ use Rattle.lp_stack.specs.declared.number.TaskId.{TaskId}
 use Rattle.lp_model.specs.declared.check.CheckKind.{CheckKind}
 use Rattle.lp_model.specs.declared.check.ForkKind.{ForkKind}
 use Rattle.lp_model.specs.declared.check.Blame.{Blame}
+use Rattle.lp_model.specs.declared.verdict.Verdict.{Verdict}
 use Rattle.lp_model.specs.Rules.{Rules}
 use Rattle.lp_transition.specs.Tasks.{on_live, first_of}
 use Rattle.lp_transition.specs.Leg.{State}
@@ -26,6 +27,17 @@ blame_in model s kind group t =
 abbrev pub first_blamed_in : Rules → State → CheckKind → (group : ℕ) → Option (ℕ × Blame)
 first_blamed_in model s kind group =
     first_of (map (λ t. option_map (λ why. (t, why)) (blame_in model s kind group t)) (range_with_len 1 s.bounds.tasks))
+
+-- the verdict's task and blame, if it refuses a member of the group
+abbrev pub member_verdict : State → (group : ℕ) → Verdict → Option (ℕ × Blame)
+member_verdict s group verdict =
+    if on_live false (λ x. nat_eq x.group group) (s.tasks verdict.task.0)
+    then option_map (λ why. (verdict.task.0, why)) verdict.blame
+    else None
+
+-- the first of these verdicts that refuses a member of the group
+abbrev pub first_refused : State → (group : ℕ) → List Verdict → Option (ℕ × Blame)
+first_refused s group verdicts = first_of (map (member_verdict s group) verdicts)
 
 -- the lines of a group after a scan of a kind that the model uses, which is the next event
 abbrev pub lines_after_scan : Rules → State → CheckKind → (group : ℕ) → List Line → List Line
