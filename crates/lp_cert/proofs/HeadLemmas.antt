@@ -1,5 +1,6 @@
 -- The lines of a group's reasons, and what a refusal at a further scan makes of them.
 use Rattle.std.proofs.Common.{◌≡◌, ℕ, ◌+◌, ◌-◌, ◌<◌, Bool, true, false, ◌&&◌, List, [], ◌∷◌, ◌++◌, length, map, reverse, take, drop, nat_eq, get_or, refl, sym, ap, ap₂, subst, ◌∙◌, arith}
+use Rattle.std.proofs.Math.ListN.{get_or-append}
 use Rattle.std.proofs.Math.Seq.{get_or-append_seam, drop-append_seam}
 use Rattle.std.proofs.lemmas.Bool.{eqb-true, cond-true, cond-false}
 use Rattle.std.proofs.lemmas.List.{length-append, length-drop, take_all, take-append-le, drop-append-le, reverse-append, length-reverse}
@@ -16,8 +17,9 @@ use Rattle.lp_cert.specs.declared.ongoing.Ongoing.{Ongoing}
 use Rattle.lp_cert.specs.declared.ongoing.Ongoing.TheVariants.{Nothing, Hold, Busy}
 use Rattle.lp_cert.specs.declared.head.Head.{Head}
 use Rattle.lp_cert.specs.declared.head.Refused.{Refused}
+use Rattle.lp_cert.specs.declared.head.Birth.{Birth}
 use Rattle.lp_cert.specs.Made.{refusal_line, after_refusal}
-use Rattle.lp_cert.specs.Heads.{busy_lines, reason_lines, lines_of, ongoing_reasons, FitsIn, GoesOnIn, IsUnchecked, IsHead, Keeps, IsUsed, HasFrameAs, is_busy, stays, begun_by, IsRefusedBy}
+use Rattle.lp_cert.specs.Heads.{busy_lines, reason_lines, lines_of, ongoing_reasons, FitsIn, GoesOnIn, IsUnchecked, IsHead, Keeps, IsUsed, HasFrameAs, is_busy, stays, begun_by, IsRefusedBy, IsBornBy}
 
 -- ---- A further scan
 
@@ -210,4 +212,40 @@ module _ (scans : List ℕ) (group : GroupId) (refused : Refused) (head : Head) 
           unchecked = λ e. absurd (begun_something (length scans) refused.task refused.at refused.blame used (sym begins ∙ e));
         };
         kept = kept;
+      }
+
+-- ---- A birth
+
+-- a list more leaves those that are there
+keeps_push : (old mid : List (List Reason)) (list : List Reason) → Keeps old mid → Keeps old (mid ++ list ∷ [])
+keeps_push old mid list kept = record {
+  no_less = omega (arith, kept.no_less, length-append mid (list ∷ []));
+  same = λ i h. get_or-append mid (list ∷ []) [] i (omega (arith, kept.no_less)) ∙ kept.same i h;
+}
+
+module _ (scans : List ℕ) (group : GroupId) (birth : Birth) (head : Head) (old : List (List Reason)) (is_head : IsHead old (length scans) head) where
+  pub born_by : (next : Head) (mid new : List (List Reason)) (before : ℕ) → next.ongoing ≡ Nothing
+      → get_or mid before [] ≡ ongoing_reasons scans group head.ongoing ++ get_or old head.older.0 []
+      → Keeps old mid
+      → new ≡ mid ++ (reason.One (line.Born birth.child birth.parent birth.at) ∷ get_or mid before []) ∷ []
+      → next.older.0 ≡ length mid
+      → IsBornBy birth group scans head next old new
+  unfolding lines_of
+  born_by next mid new before calm closed kept is at =
+      let parents : List Reason = ongoing_reasons scans group head.ongoing ++ get_or old head.older.0 [] in
+      let own : List Reason = reason.One (line.Born birth.child birth.parent birth.at) ∷ parents in
+      let list : get_or new next.older.0 [] ≡ own =
+      ap₂ (λ lists i. get_or lists i []) is at
+      ∙ (get_or-append_seam mid (reason.One (line.Born birth.child birth.parent birth.at) ∷ get_or mid before []) [] []
+      ∙ ap (λ rs. reason.One (line.Born birth.child birth.parent birth.at) ∷ rs) closed) in
+      let longer : length new ≡ length mid + 1 = ap length is ∙ length-append mid _ in
+      record {
+        lines = ap₂ (λ o rs. lines_of scans (ongoing_reasons scans birth.child o ++ rs)) calm list;
+        stands = record {
+          known = omega (arith, at, longer);
+          fits = subst (AllByRecursion (FitsIn (length scans))) (sym list) (tt, ongoing_fits scans group head.ongoing (get_or old head.older.0 []) is_head.goes_on is_head.fits);
+          goes_on = subst (GoesOnIn (length scans)) (sym calm) tt;
+          unchecked = λ e. subst IsUnchecked (sym list) tt;
+        };
+        kept = subst (Keeps old) (sym is) (keeps_push old mid (reason.One (line.Born birth.child birth.parent birth.at) ∷ get_or mid before []) kept);
       }

@@ -13,7 +13,8 @@ use Rattle.lp_cert.specs.declared.ongoing.Ongoing.{Ongoing}
 use Rattle.lp_cert.specs.declared.ongoing.Ongoing.TheVariants.{Nothing, Hold, Busy}
 use Rattle.lp_cert.specs.declared.head.Head.{Head}
 use Rattle.lp_cert.specs.declared.head.Refused.{Refused}
-use Rattle.lp_cert.specs.Made.{after_refusal}
+use Rattle.lp_cert.specs.declared.head.Birth.{Birth}
+use Rattle.lp_cert.specs.Made.{after_refusal, birth_line}
 
 -- ---- Lines, the newest in front. Scans are those of the leg, by their events in order
 
@@ -101,4 +102,14 @@ pub record IsRefusedBy (refused : Refused) (group : GroupId) (scans : List ℕ) 
       head_lines new (scans ++ refused.at ∷ []) group next
       ≡ after_refusal has_frame group.0 refused.at (refused.task.0, refused.blame) (head_lines old scans group head)
   pub stands : IsHead new (length scans + 1) next
+  pub kept : Keeps old new
+
+-- ---- Births
+
+-- the lines of a group as it is born: those of its parent's group, and the birth
+pub record IsBornBy (birth : Birth) (group : GroupId) (scans : List ℕ) (head next : Head) (old new : List (List Reason)) : Type 0 where
+  pub lines :
+      head_lines new scans birth.child next
+      ≡ birth_line birth.child.0 birth.parent birth.at ∷ head_lines old scans group head
+  pub stands : IsHead new (length scans) next
   pub kept : Keeps old new

@@ -1,6 +1,6 @@
 //! The reasons of a group as it waits.
-ghost use Rattle.std.specs.Prelude.{◌≡◌, ◌<◌, [], ◌++◌, length, reverse, slice_index_or, option_to_list, IfOk};
-ghost use Rattle.lp_cert.specs.Heads.{ongoing_reasons, head_lines, stays, begun_by, IsHead, IsUsed, IsRefusedBy, Keeps};
+ghost use Rattle.std.specs.Prelude.{◌≡◌, ◌+◌, ◌<◌, ◌≤◌, [], ◌++◌, length, reverse, slice_index_or, option_to_list, IfOk};
+ghost use Rattle.lp_cert.specs.Heads.{ongoing_reasons, head_lines, stays, begun_by, IsHead, IsUsed, IsRefusedBy, IsBornBy, Keeps};
 
 use crate::chains::{ChainId, Chains};
 use crate::line::{Line, LineList};
@@ -31,6 +31,17 @@ pub(crate) struct Refused {
     pub(crate) held: bool,
 }
 
+/// A fork of a task into a group of its own.
+#[derive(Clone, Copy)]
+pub(crate) struct Birth {
+    /// The child's group.
+    pub(crate) child: GroupId,
+    /// The task that forked.
+    pub(crate) parent: TaskId,
+    /// The event of the fork.
+    pub(crate) at: u64,
+}
+
 impl Head {
     /// The lines of the reasons as they stand, the oldest first; AllocError where a growth was
     /// refused.
@@ -59,10 +70,36 @@ impl Head {
         ensures list { slice_index_or chains.new.lists result.0 [] ≡ ongoing_reasons scans.now group self.ongoing ++ slice_index_or chains.old.lists self.older.0 [] }
         ensures known { result.0 < length chains.new.lists }
         ensures kept { Keeps chains.old.lists chains.new.lists }
+        ensures room { chains.old.room ≤ chains.new.room + 1 }
     {
         match ongoing_reason(scans, group, self.ongoing) {
             Some(reason) => chains.push(reason, self.older),
             None => self.older,
+        }
+    }
+
+    /// The reasons of a group of its own that a member of this one gives birth to, as they begin:
+    /// this one's as they stand, and the birth. Takes no memory.
+    pub(crate) fn bear(
+        self,
+        chains: &mut Chains,
+        scans: &[u64],
+        group: GroupId,
+        birth: &Birth,
+    ) -> Head
+        requires head { IsHead chains.old.lists (length scans.now) self }
+        requires room { 1 < chains.old.room }
+        ensures { IsBornBy birth.now group scans.now self result chains.old.lists chains.new.lists }
+    {
+        let before = self.close(chains, scans, group);
+        let born = Reason::One(Line::Born {
+            group: birth.child,
+            parent: birth.parent,
+            at: birth.at,
+        });
+        Head {
+            ongoing: Ongoing::Nothing,
+            older: chains.push(born, before),
         }
     }
 
