@@ -4,7 +4,7 @@ use mathlib.Core.Path.{fun_ext}
 use Rattle.lp_model.specs.Rules.{Rules}
 use Rattle.lp_transition.specs.declared.event.Event.{Event}
 use Rattle.lp_transition.specs.Tasks.{outlines}
-use Rattle.lp_transition.specs.Leg.{Leg, accept, take_effect, tasks_after, each_live, some_live, check_by, if_used, after, check}
+use Rattle.lp_transition.specs.Leg.{Leg, accept, take_effect, tasks_after, each_live, some_live, check_by, if_used, after, accepted, check}
 use Rattle.lp_transition.specs.Schedule.{Schedule, has_come, first_check, level, waits, admits_each, allowed, complete, first_checks}
 use Rattle.lp_transition.specs.Run.{and_then}
 use Rattle.lp_transition.proofs.First.{Agree, agree_next}
@@ -27,10 +27,13 @@ module _ (model : Rules) (leg : Leg) (event : Event) where
   after_same (suc k) le =
       ap₂ (λ now o. take_effect model.child_group k (accept leg.bounds now o) now) (after_same k (omega arith)) (event_same k (omega arith))
 
-  check_same : (k group : ℕ) → k < length leg.events → check model longer k group ≡ check model leg k group
+  pub accepted_same : (k : ℕ) → k < length leg.events → accepted model longer k ≡ accepted model leg k
+  accepted_same k lt = ap₂ (λ now o. accept leg.bounds now o) (after_same k (omega arith)) (event_same k lt)
+
+  pub check_same : (k group : ℕ) → k < length leg.events → check model longer k group ≡ check model leg k group
   unfolding check
   check_same k group lt =
-      ap₂ (λ now o. if_used model.uses (check_by leg.bounds (outlines now) o group)) (after_same (suc k) (omega arith)) (ap₂ (λ now o. accept leg.bounds now o) (after_same k (omega arith)) (event_same k lt))
+      ap₂ (λ now o. if_used model.uses (check_by leg.bounds (outlines now) o group)) (after_same (suc k) (omega arith)) (accepted_same k lt)
 
   module _ (s : Schedule) where
     pub waits_same : (k group : ℕ) → k ≤ length leg.events → waits model longer s k group ≡ waits model leg s k group

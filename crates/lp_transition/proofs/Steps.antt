@@ -150,14 +150,14 @@ module _ (model : Rules) (leg : Leg) (event : Event) where
   long : length longer.events ≡ suc k
   long = omega (arith, length-append leg.events (event ∷ []))
 
-  accepted_is : accepted model longer k ≡ told_event
+  pub accepted_is : accepted model longer k ≡ told_event
   accepted_is = ap₂ (λ ts o. accept leg.bounds ts o) (after_same model leg event k (omega arith)) (end_get leg.events event)
 
-  after_is : after model longer (suc k) ≡ take_effect model.child_group k told_event now
+  pub after_is : after model longer (suc k) ≡ take_effect model.child_group k told_event now
   unfolding tasks_after
   after_is = ap₂ (λ o ts. take_effect model.child_group k o ts) accepted_is (after_same model leg event k (omega arith))
 
-  check_is : (group : ℕ) → check model longer k group ≡ if_used model.uses (check_by leg.bounds (outlines (after model longer (suc k))) told_event group)
+  pub check_is : (group : ℕ) → check model longer k group ≡ if_used model.uses (check_by leg.bounds (outlines (after model longer (suc k))) told_event group)
   unfolding check
   check_is group = ap (λ o. if_used model.uses (check_by leg.bounds (outlines (after model longer (suc k))) o group)) accepted_is
 
@@ -191,7 +191,7 @@ module _ (model : Rules) (leg : Leg) (event : Event) where
   refusal_is =
       ap₂ (λ seen tests_of_control. first_of (tests leg.bounds seen event ++ tests_of_control)) (outlines_same leg s k now) (ap (λ b. control_tests (state_of model leg) b event) rest_is ∙ control_tests_same (state_of model leg) leg.opening (is_settled model leg) event refl)
 
-  plain_refusal : is_control event ≡ false → refused_by model leg event ≡ refusal leg.bounds now event
+  pub plain_refusal : is_control event ≡ false → refused_by model leg event ≡ refusal leg.bounds now event
   unfolding refused_by refusal
   plain_refusal e =
       ap (λ more. first_of (tests leg.bounds (outlines now) event ++ more)) (no_control_tests leg.opening (is_settled model leg) event e) ∙ ap first_of (append-nil (tests leg.bounds (outlines now) event))

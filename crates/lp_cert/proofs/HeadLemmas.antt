@@ -1,0 +1,251 @@
+-- The lines of a group's reasons, and what a refusal at a further scan makes of them.
+use Rattle.std.proofs.Common.{◌≡◌, ℕ, ◌+◌, ◌-◌, ◌<◌, Bool, true, false, ◌&&◌, List, [], ◌∷◌, ◌++◌, length, map, reverse, take, drop, nat_eq, get_or, refl, sym, ap, ap₂, subst, ◌∙◌, arith}
+use Rattle.std.proofs.Math.ListN.{get_or-append}
+use Rattle.std.proofs.Math.Seq.{get_or-append_seam, drop-append_seam}
+use Rattle.std.proofs.lemmas.Bool.{eqb-true, cond-true, cond-false}
+use Rattle.std.proofs.lemmas.List.{length-append, length-drop, take_all, take-append-le, drop-append-le, reverse-append, length-reverse}
+use Rattle.std.specs.List.{AllByRecursion}
+use Rattle.lp_stack.specs.declared.number.GroupId.{GroupId}
+use Rattle.lp_stack.specs.declared.number.TaskId.{TaskId}
+use Rattle.lp_model.specs.declared.check.Blame.{Blame}
+use Rattle.lp_model.specs.declared.check.Blame.TheVariants as blame
+use Rattle.lp_cert.specs.declared.line.Line.{Line}
+use Rattle.lp_cert.specs.declared.line.Line.TheVariants as line
+use Rattle.lp_cert.specs.declared.reason.Reason.{Reason}
+use Rattle.lp_cert.specs.declared.reason.Reason.TheVariants as reason
+use Rattle.lp_cert.specs.declared.ongoing.Ongoing.{Ongoing}
+use Rattle.lp_cert.specs.declared.ongoing.Ongoing.TheVariants.{Nothing, Hold, Busy}
+use Rattle.lp_cert.specs.declared.head.Head.{Head}
+use Rattle.lp_cert.specs.declared.head.Refused.{Refused}
+use Rattle.lp_cert.specs.declared.head.Birth.{Birth}
+use Rattle.lp_cert.specs.Made.{refusal_line, after_refusal}
+use Rattle.lp_cert.specs.Heads.{busy_lines, reason_lines, lines_of, ongoing_reasons, FitsIn, GoesOnIn, IsUnchecked, IsHead, Keeps, IsUsed, HasFrameAs, is_busy, stays, begun_by, IsRefusedBy, IsBornBy}
+
+-- ---- A further scan
+
+-- the scans with one more
+abbrev more : List ℕ → ℕ → List ℕ
+more scans at = scans ++ at ∷ []
+
+length-more : (scans : List ℕ) (at : ℕ) → length (more scans at) ≡ length scans + 1
+length-more scans at = length-append scans (at ∷ [])
+
+reason_more : (scans : List ℕ) (at : ℕ) (r : Reason) → FitsIn (length scans) r → reason_lines (more scans at) r ≡ reason_lines scans r
+reason_more scans at (reason.One l) h = refl
+reason_more scans at (reason.Busy g t first end) h = ap (λ xs. busy_lines g t (drop first xs)) (take-append-le end scans (at ∷ []) h.1)
+
+-- reasons that fit the scans say the same with one more
+pub lines_more : (scans : List ℕ) (at : ℕ) (rs : List Reason) → AllByRecursion (FitsIn (length scans)) rs → lines_of (more scans at) rs ≡ lines_of scans rs
+unfolding lines_of
+lines_more scans at [] fits = refl
+lines_more scans at (r ∷ rs) fits = ap₂ (λ xs ys. xs ++ ys) (reason_more scans at r fits.0) (lines_more scans at rs fits.1)
+
+lines_of-cons : (scans : List ℕ) (r : Reason) (rs : List Reason) → lines_of scans (r ∷ rs) ≡ reason_lines scans r ++ lines_of scans rs
+unfolding lines_of
+lines_of-cons scans r rs = refl
+
+fit_further : (n : ℕ) (r : Reason) → FitsIn n r → FitsIn (n + 1) r
+fit_further n (reason.One l) h = tt
+fit_further n (reason.Busy g t first end) h = (h.0, omega (arith, h.1))
+
+pub all_fit_further : (n : ℕ) (rs : List Reason) → AllByRecursion (FitsIn n) rs → AllByRecursion (FitsIn (n + 1)) rs
+all_fit_further n [] fits = tt
+all_fit_further n (r ∷ rs) fits = (fit_further n r fits.0, all_fit_further n rs fits.1)
+
+goes_on_further : (n : ℕ) (o : Ongoing) → GoesOnIn n o → GoesOnIn (n + 1) o
+goes_on_further n Nothing h = tt
+goes_on_further n (Hold t serial from) h = tt
+goes_on_further n (Busy t first) h = omega arith
+
+last-more : (scans : List ℕ) (at : ℕ) → get_or (more scans at) (length (more scans at) - 1) 0 ≡ at
+last-more scans at =
+    let e : length (more scans at) - 1 ≡ length scans = omega (arith, length-more scans at) in
+    ap (λ i. get_or (more scans at) i 0) e ∙ get_or-append_seam scans at [] 0
+
+all_scans : (scans : List ℕ) → take (length scans) scans ≡ scans
+all_scans scans = take_all (length scans) scans (omega arith)
+
+-- ---- A new line
+
+-- no hold stands in front
+abbrev NoHold : List Line → Type 0
+NoHold (line.Hold g t serial from to ∷ older) = ⊥
+NoHold _ = Unit {0}
+
+new_line : (has_frame : (task serial : ℕ) → Bool) (g at : ℕ) (blamed : ℕ × Blame) (lines : List Line) → NoHold lines → after_refusal has_frame g at blamed lines ≡ refusal_line g at blamed ++ lines
+new_line has_frame g at blamed [] h = refl
+new_line has_frame g at blamed (line.Hold h t serial from to ∷ older) calm = absurd calm
+new_line has_frame g at blamed (line.Busy h t on ∷ older) calm = refl
+new_line has_frame g at blamed (line.Born h p on ∷ older) calm = refl
+
+mapped_busy : (g : GroupId) (t : TaskId) (ys : List ℕ) (rest : List Line) → 0 < length ys → NoHold (map (λ on. line.Busy g t on) ys ++ rest)
+mapped_busy g t [] rest h = absurd (omega arith)
+mapped_busy g t (y ∷ ys) rest h = tt
+
+no_hold_unchecked : (scans : List ℕ) (rs : List Reason) → IsUnchecked rs → NoHold (lines_of scans rs)
+unfolding lines_of
+no_hold_unchecked scans [] h = tt
+no_hold_unchecked scans (reason.One (line.Born g p on) ∷ rs) h = tt
+no_hold_unchecked scans (reason.One (line.Hold g t serial from to) ∷ rs) h = absurd h
+no_hold_unchecked scans (reason.One (line.Busy g t on) ∷ rs) h = absurd h
+no_hold_unchecked scans (reason.Busy g t first end ∷ rs) h = absurd h
+
+-- ---- What begins with a refusal
+
+begun_lines : (scans : List ℕ) (g : GroupId) (t : TaskId) (at : ℕ) (b : Blame) (rs : List Reason) → IsUsed b
+    → lines_of (more scans at) (ongoing_reasons (more scans at) g (begun_by (length scans) t at b) ++ rs) ≡ refusal_line g.0 at (t.0, b) ++ lines_of (more scans at) rs
+unfolding lines_of
+begun_lines scans g t at (blame.Frame serial) rs used = ap (λ to. line.Hold g t serial at to ∷ lines_of (more scans at) rs) (last-more scans at)
+begun_lines scans g t at blame.Busy rs used =
+    ap (λ xs. busy_lines g t xs ++ lines_of (more scans at) rs) (ap (drop (length scans)) (all_scans (more scans at)) ∙ drop-append_seam scans (at ∷ []))
+begun_lines scans g t at blame.Unused rs used = absurd used
+
+begun_goes_on : (n : ℕ) (t : TaskId) (at : ℕ) (b : Blame) → IsUsed b → GoesOnIn (n + 1) (begun_by n t at b)
+begun_goes_on n t at (blame.Frame serial) used = tt
+begun_goes_on n t at blame.Busy used = omega arith
+begun_goes_on n t at blame.Unused used = absurd used
+
+begun_something : (n : ℕ) (t : TaskId) (at : ℕ) (b : Blame) → IsUsed b → begun_by n t at b ≡ Nothing → ⊥
+begun_something n t at (blame.Frame serial) used e = absurd (cc)
+begun_something n t at blame.Busy used e = absurd (cc)
+begun_something n t at blame.Unused used e = used
+
+-- ---- A refusal
+
+pub ongoing_fits : (scans : List ℕ) (g : GroupId) (o : Ongoing) (rs : List Reason) → GoesOnIn (length scans) o → AllByRecursion (FitsIn (length scans)) rs → AllByRecursion (FitsIn (length scans)) (ongoing_reasons scans g o ++ rs)
+ongoing_fits scans g Nothing rs goes fits = fits
+ongoing_fits scans g (Hold t serial from) rs goes fits = (tt, fits)
+ongoing_fits scans g (Busy t first) rs goes fits = ((omega arith, omega arith), fits)
+
+busy_some : (scans : List ℕ) (first : ℕ) → first < length scans → 0 < length (reverse (drop first (take (length scans) scans)))
+busy_some scans first h =
+    let e = length-reverse (drop first (take (length scans) scans)) in
+    let d = length-drop first (take (length scans) scans) in
+    let t = ap length (all_scans scans) in
+    omega arith
+
+-- a refusal that nothing goes on with brings a new line
+new_in_front : (has_frame : (task serial : ℕ) → Bool) (scans : List ℕ) (g : GroupId) (o : Ongoing) (rs : List Reason) (refused : Refused)
+    → GoesOnIn (length scans) o → (o ≡ Nothing → IsUnchecked rs) → HasFrameAs has_frame o refused.held → stays o refused ≡ false
+    → after_refusal has_frame g.0 refused.at (refused.task.0, refused.blame) (lines_of scans (ongoing_reasons scans g o ++ rs))
+    ≡ refusal_line g.0 refused.at (refused.task.0, refused.blame) ++ lines_of scans (ongoing_reasons scans g o ++ rs)
+unfolding lines_of
+new_in_front has_frame scans g Nothing rs refused goes unchecked held not_on =
+    new_line has_frame g.0 refused.at (refused.task.0, refused.blame) (lines_of scans rs) (no_hold_unchecked scans rs (unchecked refl))
+new_in_front has_frame scans g (Hold t serial from) rs refused goes unchecked held not_on =
+    cond-false (has_frame t.0 serial) _ _ (held ∙ not_on)
+new_in_front has_frame scans g (Busy t first) rs refused goes unchecked held not_on =
+    new_line has_frame g.0 refused.at (refused.task.0, refused.blame) _
+    (mapped_busy g t (reverse (drop first (take (length scans) scans))) (lines_of scans rs) (busy_some scans first goes))
+
+busy_blame : (b : Blame) → is_busy b ≡ true → b ≡ blame.Busy
+busy_blame (blame.Frame serial) e = absurd (cc)
+busy_blame blame.Busy e = refl
+busy_blame blame.Unused e = absurd (cc)
+
+both_true : (a b : Bool) → (a && b) ≡ true → (a ≡ true) × (b ≡ true)
+both_true true true e = (refl, refl)
+both_true true false e = absurd (cc)
+both_true false b e = absurd (cc)
+
+-- a busy member's lines with one scan more
+busy_more : (g : GroupId) (t : TaskId) (scans : List ℕ) (first at : ℕ) → first < length scans
+    → busy_lines g t (drop first (take (length (more scans at)) (more scans at))) ≡ line.Busy g t at ∷ busy_lines g t (drop first (take (length scans) scans))
+busy_more g t scans first at h =
+    let further : drop first (take (length (more scans at)) (more scans at)) ≡ drop first scans ++ at ∷ [] =
+    ap (drop first) (all_scans (more scans at)) ∙ drop-append-le first scans (at ∷ []) (omega arith) in
+    ap (map (λ on. line.Busy g t on)) (ap reverse further ∙ reverse-append (drop first scans) (at ∷ []))
+    ∙ ap (λ xs. line.Busy g t at ∷ busy_lines g t (drop first xs)) (sym (all_scans scans))
+
+-- a refusal that the newest reason goes on with makes it longer
+longer_in_front : (has_frame : (task serial : ℕ) → Bool) (scans : List ℕ) (g : GroupId) (o : Ongoing) (rs : List Reason) (refused : Refused)
+    → GoesOnIn (length scans) o → AllByRecursion (FitsIn (length scans)) rs → HasFrameAs has_frame o refused.held → stays o refused ≡ true
+    → lines_of (more scans refused.at) (ongoing_reasons (more scans refused.at) g o ++ rs)
+    ≡ after_refusal has_frame g.0 refused.at (refused.task.0, refused.blame) (lines_of scans (ongoing_reasons scans g o ++ rs))
+unfolding lines_of
+longer_in_front has_frame scans g Nothing rs refused goes fits held on = absurd (cc)
+longer_in_front has_frame scans g (Hold t serial from) rs refused goes fits held on =
+    ap₂ (λ to older. line.Hold g t serial from to ∷ older) (last-more scans refused.at) (lines_more scans refused.at rs fits)
+    ∙ sym (cond-true (has_frame t.0 serial) _ _ (held ∙ on))
+longer_in_front has_frame scans g (Busy t first) rs refused goes fits held on =
+    let parts = both_true (is_busy refused.blame) (nat_eq refused.task.0 t.0) on in
+    let same : refused.task.0 ≡ t.0 = eqb-true refused.task.0 t.0 parts.1 in
+    let calm = mapped_busy g t (reverse (drop first (take (length scans) scans))) (lines_of scans rs) (busy_some scans first goes) in
+    ap₂ (λ xs ys. xs ++ ys) (busy_more g t scans first refused.at goes) (lines_more scans refused.at rs fits)
+    ∙ (ap (λ b. refusal_line g.0 refused.at (t.0, b) ++ (busy_lines g t (drop first (take (length scans) scans)) ++ lines_of scans rs)) (sym (busy_blame refused.blame parts.0))
+    ∙ (ap (λ n. refusal_line g.0 refused.at (n, refused.blame) ++ (busy_lines g t (drop first (take (length scans) scans)) ++ lines_of scans rs)) (sym same)
+    ∙ sym (new_line has_frame g.0 refused.at (refused.task.0, refused.blame) _ calm)))
+
+module _ (scans : List ℕ) (group : GroupId) (refused : Refused) (head : Head) (old : List (List Reason)) (is_head : IsHead old (length scans) head) where
+  -- the newest reason goes on
+  pub refused_on : stays head.ongoing refused ≡ true → IsRefusedBy refused group scans head head old old
+  refused_on on = record {
+    lines = λ has_frame held. longer_in_front has_frame scans group head.ongoing (get_or old head.older.0 []) refused is_head.goes_on is_head.fits held on;
+    stands = record {
+      known = is_head.known;
+      fits = all_fit_further (length scans) (get_or old head.older.0 []) is_head.fits;
+      goes_on = goes_on_further (length scans) head.ongoing is_head.goes_on;
+      unchecked = is_head.unchecked;
+    };
+    kept = record { no_less = omega arith; same = λ i h. refl };
+  }
+
+  -- it is closed, and another begins
+  pub refused_new : (next : Head) (new : List (List Reason)) → IsUsed refused.blame → stays head.ongoing refused ≡ false
+      → next.ongoing ≡ begun_by (length scans) refused.task refused.at refused.blame
+      → get_or new next.older.0 [] ≡ ongoing_reasons scans group head.ongoing ++ get_or old head.older.0 []
+      → next.older.0 < length new → Keeps old new
+      → IsRefusedBy refused group scans head next old new
+  refused_new next new used not_on begins list known kept =
+      let closed : List Reason = ongoing_reasons scans group head.ongoing ++ get_or old head.older.0 [] in
+      let fits : AllByRecursion (FitsIn (length scans)) closed = ongoing_fits scans group head.ongoing (get_or old head.older.0 []) is_head.goes_on is_head.fits in
+      record {
+        lines = λ has_frame held.
+            ap₂ (λ o rs. lines_of (more scans refused.at) (ongoing_reasons (more scans refused.at) group o ++ rs)) begins list
+            ∙ (begun_lines scans group refused.task refused.at refused.blame closed used
+            ∙ (ap (λ ls. refusal_line group.0 refused.at (refused.task.0, refused.blame) ++ ls) (lines_more scans refused.at closed fits)
+            ∙ sym (new_in_front has_frame scans group head.ongoing (get_or old head.older.0 []) refused is_head.goes_on is_head.unchecked held not_on)));
+        stands = record {
+          known = known;
+          fits = subst (AllByRecursion (FitsIn (length scans + 1))) (sym list) (all_fit_further (length scans) closed fits);
+          goes_on = subst (GoesOnIn (length scans + 1)) (sym begins) (begun_goes_on (length scans) refused.task refused.at refused.blame used);
+          unchecked = λ e. absurd (begun_something (length scans) refused.task refused.at refused.blame used (sym begins ∙ e));
+        };
+        kept = kept;
+      }
+
+-- ---- A birth
+
+-- a list more leaves those that are there
+keeps_push : (old mid : List (List Reason)) (list : List Reason) → Keeps old mid → Keeps old (mid ++ list ∷ [])
+keeps_push old mid list kept = record {
+  no_less = omega (arith, kept.no_less, length-append mid (list ∷ []));
+  same = λ i h. get_or-append mid (list ∷ []) [] i (omega (arith, kept.no_less)) ∙ kept.same i h;
+}
+
+module _ (scans : List ℕ) (group : GroupId) (birth : Birth) (head : Head) (old : List (List Reason)) (is_head : IsHead old (length scans) head) where
+  pub born_by : (next : Head) (mid new : List (List Reason)) (before : ℕ) → next.ongoing ≡ Nothing
+      → get_or mid before [] ≡ ongoing_reasons scans group head.ongoing ++ get_or old head.older.0 []
+      → Keeps old mid
+      → new ≡ mid ++ (reason.One (line.Born birth.child birth.parent birth.at) ∷ get_or mid before []) ∷ []
+      → next.older.0 ≡ length mid
+      → IsBornBy birth group scans head next old new
+  unfolding lines_of
+  born_by next mid new before calm closed kept is at =
+      let parents : List Reason = ongoing_reasons scans group head.ongoing ++ get_or old head.older.0 [] in
+      let own : List Reason = reason.One (line.Born birth.child birth.parent birth.at) ∷ parents in
+      let list : get_or new next.older.0 [] ≡ own =
+      ap₂ (λ lists i. get_or lists i []) is at
+      ∙ (get_or-append_seam mid (reason.One (line.Born birth.child birth.parent birth.at) ∷ get_or mid before []) [] []
+      ∙ ap (λ rs. reason.One (line.Born birth.child birth.parent birth.at) ∷ rs) closed) in
+      let longer : length new ≡ length mid + 1 = ap length is ∙ length-append mid _ in
+      record {
+        lines = ap₂ (λ o rs. lines_of scans (ongoing_reasons scans birth.child o ++ rs)) calm list;
+        stands = record {
+          known = omega (arith, at, longer);
+          fits = subst (AllByRecursion (FitsIn (length scans))) (sym list) (tt, ongoing_fits scans group head.ongoing (get_or old head.older.0 []) is_head.goes_on is_head.fits);
+          goes_on = subst (GoesOnIn (length scans)) (sym calm) tt;
+          unchecked = λ e. subst IsUnchecked (sym list) tt;
+        };
+        kept = subst (Keeps old) (sym is) (keeps_push old mid (reason.One (line.Born birth.child birth.parent birth.at) ∷ get_or mid before []) kept);
+      }

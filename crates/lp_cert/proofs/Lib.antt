@@ -1,0 +1,8 @@
+mod Rows
+pub mod ChainLemmas
+pub mod HeadLemmas
+pub mod WrittenLemmas
+pub mod Past
+pub mod NextLines
+pub mod OtherEvents
+pub mod VerdictLines

@@ -1,0 +1,25 @@
+use Rattle.std.proofs.Common.{◌≡◌, ◌+◌, ◌<◌, suc, length, arith}
+use Rattle.lp_cert.specs.declared.chains.Entry.{Entry}
+use Rattle.lp_cert.proofs.ChainLemmas.{lists_of-length, lists_of-push, AreLinked-push}
+use Rattle.lp_cert.proofs.chains.Chains.push.Goals as goal
+
+count : (c : goal.After-len) → length c.args.self.now.lists ≡ suc (length c.self.inside.entries.items)
+count c = rw (← c.self.view_is) (lists_of-length c.self.inside.entries.items)
+
+pub invariant_of-self : goal.invariant_of-self
+invariant_of-self c =
+    let entries = c.self.inside.entries.items in
+    let entry : Entry = record { reason = c.args.reason; older = c.args.older } in
+    let older : c.args.older.0 < 1 + length entries = omega (arith, count c) in
+    rw c.push_reserved.ensures.items (AreLinked-push 1 entries entry c.self.invariant older)
+
+pub returns-clause-lists : goal.returns-clause-lists
+returns-clause-lists c =
+    let entry : Entry = record { reason = c.args.reason; older = c.args.older } in
+    rw (c.push_reserved.ensures.items, ← c.self.view_is) (lists_of-push c.self.inside.entries.items entry)
+
+pub returns-clause-id : goal.returns-clause-id
+returns-clause-id c = omega (arith, count c, c.self.inside.entries.ok)
+
+pub returns-clause-room : goal.returns-clause-room
+returns-clause-room c = rw (← c.self.view_is) (omega arith)

@@ -1,0 +1,55 @@
+-- The laws of certificates, for one model.
+use Rattle.std.specs.Prelude.{◌≡◌, ℕ, suc, ◌≤◌, true, false, length, Some, None, IsTrue, IsFalse}
+use Rattle.lp_stack.specs.declared.number.TaskId.{TaskId}
+use Rattle.lp_model.specs.declared.check.CheckKind.{CheckKind}
+use Rattle.lp_model.specs.declared.check.ForkKind.{ForkKind}
+use Rattle.lp_model.specs.Rules.{Rules}
+use Rattle.lp_transition.specs.declared.event.Event.{Event}
+use Rattle.lp_transition.specs.declared.event.Event.TheVariants.{Fork}
+use Rattle.lp_transition.specs.declared.refusal.Refusal.{Refusal}
+use Rattle.lp_transition.specs.Events.{is_scan}
+use Rattle.lp_transition.specs.Weigh.{is_fork}
+use Rattle.lp_transition.specs.Sound.{IsSound}
+use Rattle.lp_transition.specs.Leg.{State, Leg}
+use Rattle.lp_transition.specs.Run.{and_then, refused_by}
+use Rattle.lp_transition.specs.Scan.{is_scan_kind, scan_event, verdicts_of}
+use Rattle.lp_transition.specs.Machine.{is_behind, state_of}
+use Rattle.lp_cert.specs.Made.{lines}
+use Rattle.lp_cert.specs.Steps.{first_refused, first_blamed_in, lines_after_scan, lines_after_fork}
+
+-- the lines of a group come with the events of its leg: each leaves those before it as they are, or goes by the state
+-- in which an engine is before it
+pub record LinesComeWithEvents (model : Rules) : Type 0 where
+  -- an event changes no line of the events before it
+  pub past :
+      (leg : Leg) (event : Event) (k group : ℕ) → k ≤ length leg.events →
+      lines model (and_then leg event) k group ≡ lines model leg k group
+  -- a scan of a kind that the model uses, for a group that waits
+  pub scan :
+      (leg : Leg) (kind : CheckKind) (group : ℕ) → is_scan_kind kind ≡ true → IsTrue (model.uses kind) →
+      IsTrue (is_behind (state_of model leg) group) →
+      lines model (and_then leg (scan_event kind)) (suc (length leg.events)) group
+      ≡ lines_after_scan model (state_of model leg) kind group (lines model leg (length leg.events) group)
+  -- the verdicts of a scan tell whom it refuses first
+  pub verdicts :
+      (s : State) → IsSound s → (kind : CheckKind) (group : ℕ) → IsTrue (is_behind s group) →
+      first_refused s group (verdicts_of model kind s) ≡ first_blamed_in model s kind group
+  -- a scan of any other kind
+  pub unused_scan :
+      (leg : Leg) (kind : CheckKind) (group : ℕ) → is_scan_kind kind ≡ true → IsFalse (model.uses kind) →
+      lines model (and_then leg (scan_event kind)) (suc (length leg.events)) group
+      ≡ lines model leg (length leg.events) group
+  -- a fork that is accepted
+  pub fork :
+      (leg : Leg) (p c : TaskId) (how : ForkKind) (group : ℕ) → refused_by model leg (Fork p c how) ≡ None →
+      lines model (and_then leg (Fork p c how)) (suc (length leg.events)) group
+      ≡ lines_after_fork model (state_of model leg) p c how (lines model leg (length leg.events)) group
+  -- a fork that is refused
+  pub refused_fork :
+      (leg : Leg) → IsSound leg.opening → (p c : TaskId) (how : ForkKind) (why : Refusal) (group : ℕ) →
+      refused_by model leg (Fork p c how) ≡ Some why →
+      lines model (and_then leg (Fork p c how)) (suc (length leg.events)) group ≡ lines model leg (length leg.events) group
+  -- any other event: a task that returns to user space or is at its idle point has an empty stack, so that check goes well
+  pub others :
+      (leg : Leg) → IsSound leg.opening → (event : Event) (group : ℕ) → is_scan event ≡ false → is_fork event ≡ false →
+      lines model (and_then leg event) (suc (length leg.events)) group ≡ lines model leg (length leg.events) group

@@ -1,0 +1,84 @@
+//! Lists of reasons that share their older parts.
+ghost use Rattle.std.specs.Prelude.{◌≡◌, ◌+◌, ◌<◌, ◌≤◌, [], ◌∷◌, ◌++◌, length, slice_index_or, IfOk, OnOk};
+
+use crate::reason::Reason;
+use std::alloc::{AllocError, Global};
+use std::marker::Model;
+
+/// One of the lists.
+#[derive(Clone, Copy)]
+pub(crate) struct ChainId(pub(crate) usize);
+
+/// A reason in front of a list.
+#[derive(Clone, Copy)]
+pub(crate) struct Entry {
+    pub(crate) reason: Reason,
+    pub(crate) older: ChainId,
+}
+
+/// Lists of reasons, the newest in front: the empty one, and others that are each an earlier one
+/// with a reason more in front. A list takes the memory of that one reason.
+///
+/// Contracts see the lists, and how many more there is room for.
+#[derive(Drop)]
+pub(crate) struct Chains {
+    entries: Vec<Entry>,
+}
+
+impl Model for Chains {
+    ghost use Rattle.std.specs.Prelude.{◌-◌, vec_len, vec_capacity};
+    ghost use Rattle.lp_cert.specs.Chains.{Lists, lists_of, AreLinked};
+
+    ghost Value = { Lists };
+
+    ghost view = { λ c. record { lists = lists_of c.entries.items; room = vec_capacity c.entries - vec_len c.entries } };
+
+    ghost invariant = { λ c. AreLinked 1 c.entries.items };
+}
+
+impl Chains {
+    /// The empty list alone. Takes no memory.
+    pub(crate) fn new(alloc: Global) -> Chains
+        ensures { result.lists ≡ [] ∷ [] }
+    {
+        Chains {
+            entries: Vec::new(alloc),
+        }
+    }
+
+    /// Makes room for so many more lists; AllocError where a growth was refused.
+    pub(crate) fn reserve(&mut self, more: usize) -> Result<(), AllocError>
+        ensures lists { self.new.lists ≡ self.old.lists }
+        ensures room { OnOk result (more ≤ self.new.room) }
+        ensures kept { self.old.room ≤ self.new.room }
+    {
+        self.entries.reserve(more)
+    }
+
+    /// A list with one reason more in front, for which there is room. Takes no memory.
+    pub(crate) fn push(&mut self, reason: Reason, older: ChainId) -> ChainId
+        requires known { older.0 < length self.old.lists }
+        requires room { 0 < self.old.room }
+        ensures lists { self.new.lists ≡ self.old.lists ++ (reason ∷ slice_index_or self.old.lists older.0 []) ∷ [] }
+        ensures id { result.0 ≡ length self.old.lists }
+        ensures room { self.new.room + 1 ≡ self.old.room }
+    {
+        self.entries.push_reserved(Entry { reason, older });
+        ChainId(self.entries.len())
+    }
+
+    /// The reasons of a list, the newest in front; AllocError where a growth was refused.
+    pub(crate) fn reasons(&self, alloc: Global, id: ChainId) -> Result<Vec<Reason>, AllocError>
+        requires { id.0 < length self.now.lists }
+        ensures { IfOk result (λ reasons. reasons.items ≡ slice_index_or self.now.lists id.0 []) }
+    {
+        let mut reasons = Vec::new(alloc);
+        let mut at = id.0;
+        while at > 0 {
+            let entry = self.entries[at - 1];
+            reasons.push(entry.reason)?;
+            at = entry.older.0;
+        }
+        Ok(reasons)
+    }
+}

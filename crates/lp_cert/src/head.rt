@@ -1,0 +1,182 @@
+//! The reasons of a group as it waits.
+ghost use Rattle.std.specs.Prelude.{◌≡◌, ◌+◌, ◌<◌, ◌≤◌, [], ◌++◌, length, reverse, slice_index_or, option_to_list, IfOk};
+ghost use Rattle.lp_cert.specs.Heads.{ongoing_reasons, head_lines, stays, begun_by, IsHead, IsUsed, IsRefusedBy, IsBornBy, Keeps};
+
+use crate::chains::{ChainId, Chains};
+use crate::line::{Line, LineList};
+use crate::ongoing::Ongoing;
+use crate::reason::Reason;
+use crate::written::{add_lines, lines_of};
+use lp_model::Blame;
+use lp_stack::{GroupId, TaskId};
+use std::alloc::{AllocError, Global};
+
+/// The reasons of a group: the one that still goes on, in front of a list.
+#[derive(Clone, Copy)]
+pub(crate) struct Head {
+    pub(crate) ongoing: Ongoing,
+    pub(crate) older: ChainId,
+}
+
+/// A scan that refuses a group.
+#[derive(Clone, Copy)]
+pub(crate) struct Refused {
+    /// The event of the scan.
+    pub(crate) at: u64,
+    /// The refused member of the least number.
+    pub(crate) task: TaskId,
+    /// Why it isn't admitted.
+    pub(crate) blame: Blame,
+    /// Whether the frame of a hold that goes on is still on its task's stack.
+    pub(crate) held: bool,
+}
+
+/// A fork of a task into a group of its own.
+#[derive(Clone, Copy)]
+pub(crate) struct Birth {
+    /// The child's group.
+    pub(crate) child: GroupId,
+    /// The task that forked.
+    pub(crate) parent: TaskId,
+    /// The event of the fork.
+    pub(crate) at: u64,
+}
+
+impl Head {
+    /// The lines of the reasons as they stand, the oldest first; AllocError where a growth was
+    /// refused.
+    pub(crate) fn lines(
+        self,
+        alloc: Global,
+        chains: &Chains,
+        scans: &[u64],
+        group: GroupId,
+    ) -> Result<LineList, AllocError>
+        requires { IsHead chains.now.lists (length scans.now) self }
+        ensures { IfOk result (λ lines. lines ≡ reverse (head_lines chains.now.lists scans.now group self)) }
+    {
+        let older = chains.reasons(alloc, self.older)?;
+        let mut lines = lines_of(alloc, older.as_slice(), scans)?;
+        if let Some(reason) = ongoing_reason(scans, group, self.ongoing) {
+            add_lines(&mut lines, &reason, scans)?;
+        }
+        Ok(LineList::from_vec(lines))
+    }
+
+    /// The reasons as they stand, as a list. Takes no memory.
+    pub(crate) fn close(self, chains: &mut Chains, scans: &[u64], group: GroupId) -> ChainId
+        requires known { self.older.0 < length chains.old.lists }
+        requires room { 0 < chains.old.room }
+        ensures list { slice_index_or chains.new.lists result.0 [] ≡ ongoing_reasons scans.now group self.ongoing ++ slice_index_or chains.old.lists self.older.0 [] }
+        ensures known { result.0 < length chains.new.lists }
+        ensures kept { Keeps chains.old.lists chains.new.lists }
+        ensures room { chains.old.room ≤ chains.new.room + 1 }
+    {
+        match ongoing_reason(scans, group, self.ongoing) {
+            Some(reason) => chains.push(reason, self.older),
+            None => self.older,
+        }
+    }
+
+    /// The reasons of a group of its own that a member of this one gives birth to, as they begin:
+    /// this one's as they stand, and the birth. Takes no memory.
+    pub(crate) fn bear(
+        self,
+        chains: &mut Chains,
+        scans: &[u64],
+        group: GroupId,
+        birth: &Birth,
+    ) -> Head
+        requires head { IsHead chains.old.lists (length scans.now) self }
+        requires room { 1 < chains.old.room }
+        ensures { IsBornBy birth.now group scans.now self result chains.old.lists chains.new.lists }
+    {
+        let before = self.close(chains, scans, group);
+        let born = Reason::One(Line::Born {
+            group: birth.child,
+            parent: birth.parent,
+            at: birth.at,
+        });
+        Head {
+            ongoing: Ongoing::Nothing,
+            older: chains.push(born, before),
+        }
+    }
+
+    /// The reasons once a scan, which isn't among `scans` yet, has refused the group. Takes no
+    /// memory.
+    pub(crate) fn refuse(
+        self,
+        chains: &mut Chains,
+        scans: &[u64],
+        group: GroupId,
+        refused: &Refused,
+    ) -> Head
+        requires head { IsHead chains.old.lists (length scans.now) self }
+        requires room { 0 < chains.old.room }
+        requires used { IsUsed refused.now.blame }
+        ensures { IsRefusedBy refused.now group scans.now self result chains.old.lists chains.new.lists }
+    {
+        if goes_on(self.ongoing, refused) {
+            return self;
+        }
+        Head {
+            ongoing: begun(scans, refused),
+            older: self.close(chains, scans, group),
+        }
+    }
+}
+
+/// Whether the newest reason goes on with a refusal.
+fn goes_on(ongoing: Ongoing, refused: &Refused) -> bool
+    ensures { result ≡ stays ongoing refused.now }
+{
+    match ongoing {
+        Ongoing::Nothing => false,
+        Ongoing::Hold { .. } => refused.held,
+        Ongoing::Busy { task, .. } => refused.blame == Blame::Busy && refused.task == task,
+    }
+}
+
+/// The reason that begins with a refusal.
+fn begun(scans: &[u64], refused: &Refused) -> Ongoing
+    ensures { result ≡ begun_by (length scans.now) refused.now.task refused.now.at refused.now.blame }
+{
+    match refused.blame {
+        Blame::Frame(serial) => Ongoing::Hold {
+            task: refused.task,
+            serial,
+            from: refused.at,
+        },
+        Blame::Busy => Ongoing::Busy {
+            task: refused.task,
+            first: scans.len(),
+        },
+        Blame::Unused => Ongoing::Nothing,
+    }
+}
+
+/// The reason that goes on, as it stands.
+fn ongoing_reason(scans: &[u64], group: GroupId, ongoing: Ongoing) -> Option<Reason>
+    ensures { option_to_list result ≡ ongoing_reasons scans.now group ongoing }
+{
+    match ongoing {
+        Ongoing::Nothing => None,
+        Ongoing::Hold { task, serial, from } => {
+            let to = scans.last().copied().unwrap_or(0);
+            Some(Reason::One(Line::Hold {
+                group,
+                task,
+                serial,
+                from,
+                to,
+            }))
+        }
+        Ongoing::Busy { task, first } => Some(Reason::Busy {
+            group,
+            task,
+            first,
+            end: scans.len(),
+        }),
+    }
+}

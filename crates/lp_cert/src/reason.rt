@@ -1,0 +1,22 @@
+//! The reasons why a group still waits, as they are kept.
+
+use crate::line::Line;
+use lp_stack::{GroupId, TaskId};
+
+/// What keeps a group back: one line, or one line for each of several scans.
+#[derive(Clone, Copy)]
+pub(crate) enum Reason {
+    /// One line.
+    One(Line),
+    /// The member is busy at the scans of a leg from a place on and before another.
+    Busy {
+        /// The group that waits.
+        group: GroupId,
+        /// The member that is on a CPU.
+        task: TaskId,
+        /// The place of the first such scan among those of the leg.
+        first: usize,
+        /// The place after the last one.
+        end: usize,
+    },
+}
