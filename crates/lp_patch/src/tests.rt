@@ -4,7 +4,7 @@ ghost use Rattle.lp_patch.specs.Patches.{ShareSymbols};
 
 use super::*;
 use lp_stack::{Frame, Level};
-use lp_symbols::{SymId, Symbols};
+use lp_symbols::{SymFault, SymId, Symbols};
 use std::alloc::Global;
 use std::test::Fail;
 
@@ -15,7 +15,7 @@ const B: SymId = SymId(1);
 const C: SymId = SymId(2);
 
 /// The symbols `a`, `b` and `c`.
-fn three(alloc: Global) -> Result<Symbols, Fail> {
+fn three(alloc: Global) -> Result<Symbols, SymFault> {
     let mut symbols = Symbols::new(alloc)?;
     for name in ["a", "b", "c"] {
         symbols.add(name)?;
@@ -24,7 +24,7 @@ fn three(alloc: Global) -> Result<Symbols, Fail> {
 }
 
 /// A patch of each of these symbols.
-fn single(alloc: Global, symbols: &Symbols, ids: &[SymId]) -> Result<Vec<PatchSet>, Fail>
+fn single(alloc: Global, symbols: &Symbols, ids: &[SymId]) -> Result<Vec<PatchSet>, PatchFault>
     ensures { IfOk result (λ sets. ShareSymbols sets.items) }
 {
     let mut sets = Vec::new(alloc);
@@ -121,5 +121,40 @@ fn a_stack_has_1_to_16_patches(rt: HostRuntime) -> Result<(), Fail> {
         let stack = PatchStack::new(rt.alloc(), sets);
         assert_eq!(rt; stack.map(|stack| stack.patches()), want);
     }
+    Ok(())
+}
+
+/// For `scripts/refuse-memory`: after a refused growth no patch is there, and the same call makes it.
+#[test]
+fn builds_again_after_a_refused_growth(rt: HostRuntime) -> Result<(), Fail> {
+    let symbols = three(rt.alloc()).or_else(|_| three(rt.alloc()))?;
+    let ids = [C, A];
+    let set = match PatchSet::build(rt.alloc(), &symbols, &ids) {
+        Err(PatchFault::NoMemory) => PatchSet::build(rt.alloc(), &symbols, &ids)?,
+        answer => answer?,
+    };
+    assert_eq!(rt; (set.has(A), set.has(B), set.has(C)), (true, false, true));
+    let copy = set.copy(rt.alloc()).or_else(|_| set.copy(rt.alloc()))?;
+    assert!(rt; copy.same(&set));
+    Ok(())
+}
+
+/// The stack of `a`, then `b`.
+fn a_then_b(alloc: Global, symbols: &Symbols) -> Result<PatchStack, PatchFault> {
+    PatchStack::new(alloc, single(alloc, symbols, &[A, B])?)
+}
+
+/// Likewise for a stack. The refused call has taken the patches, so they are built anew.
+#[test]
+fn stacks_again_after_a_refused_growth(rt: HostRuntime) -> Result<(), Fail> {
+    let symbols = three(rt.alloc()).or_else(|_| three(rt.alloc()))?;
+    let stack = match a_then_b(rt.alloc(), &symbols) {
+        Err(PatchFault::NoMemory) => a_then_b(rt.alloc(), &symbols)?,
+        answer => answer?,
+    };
+    let versions = [A, B, C].map(|func| stack.version(func, Level(2)));
+    assert_eq!(rt; versions, [Level(1), Level(2), Level(0)]);
+    let copy = stack.copy(rt.alloc()).or_else(|_| stack.copy(rt.alloc()))?;
+    assert!(rt; copy.same(&stack));
     Ok(())
 }

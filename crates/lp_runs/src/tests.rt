@@ -6,6 +6,8 @@ ghost use Rattle.lp_patch.specs.Patches.{ShareSymbols};
 mod calls;
 mod groups;
 mod laws;
+mod limits;
+mod refusals;
 mod reports;
 mod stacks;
 mod stays;

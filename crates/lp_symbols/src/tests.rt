@@ -56,7 +56,7 @@ fn refuses_in_order_where_4096_names_are_there(rt: HostRuntime) -> Result<(), Fa
     Ok(())
 }
 
-/// For `rt try --test --fail-alloc N`, with N from 1 on: a refused growth changes nothing, and the same call succeeds after it.
+/// For `scripts/refuse-memory`: a refused growth changes nothing, and the same call succeeds after it.
 #[test]
 fn adds_again_after_a_refused_growth(rt: HostRuntime) -> Result<(), Fail> {
     let mut symbols = Symbols::new(rt.alloc())?;

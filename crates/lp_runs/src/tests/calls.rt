@@ -2,7 +2,7 @@
 use super::*;
 use lp_model::CheckKind;
 use lp_models::Hybrid;
-use lp_transition::{Halt, verdicts};
+use lp_transition::verdicts;
 
 const ONE: TaskId = TaskId(1);
 
@@ -64,18 +64,5 @@ fn an_engine_can_be_asked(rt: HostRuntime) -> Result<(), Fail> {
     let views = core.views(rt.alloc())?;
     assert_eq!(rt; views.as_slice().first().map(|view| view.task), Some(TWO));
     assert_eq!(rt; views.len(), 1);
-    Ok(())
-}
-
-#[test]
-fn a_million_events_are_numbered(rt: HostRuntime) -> Result<(), Fail> {
-    let mut core = Core::boot(rt.alloc(), Hybrid, patches(rt.alloc(), &[A])?, &[normal(1)])?;
-    for _ in 0..500_000 {
-        core.step(rt.alloc(), Event::Enter(ONE))?;
-        core.step(rt.alloc(), Event::Exit(ONE))?;
-    }
-    let full = core.step(rt.alloc(), Event::Enter(ONE));
-    assert_eq!(rt; full.err(), Some(Halt::JournalFull));
-    assert_eq!(rt; core.events(), 1_000_000);
     Ok(())
 }

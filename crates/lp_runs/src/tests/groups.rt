@@ -8,6 +8,8 @@ const ONE: TaskId = TaskId(1);
 
 const TWO: TaskId = TaskId(2);
 
+const THREE: TaskId = TaskId(3);
+
 #[test]
 fn one_stack_holds_all_back_at_a_stop(rt: HostRuntime) -> Result<(), Fail> {
     let events = [
@@ -26,6 +28,39 @@ fn one_stack_holds_all_back_at_a_stop(rt: HostRuntime) -> Result<(), Fail> {
         &events,
     )?;
     let worked = [
+        Said::Done,
+        Said::Ran(0),
+        Said::Done,
+        Said::Done,
+        Said::Done,
+        Said::OverLast(0),
+    ];
+    assert_eq!(rt; replies.as_slice(), worked.as_slice());
+    Ok(())
+}
+
+#[test]
+fn a_child_holds_all_back_at_a_stop(rt: HostRuntime) -> Result<(), Fail> {
+    let events = [
+        Event::Enable,
+        Event::Enter(ONE),
+        Event::Fork(ONE, THREE, ForkKind::Own),
+        Event::Call(THREE, A),
+        Event::Stop,
+        Event::Ret(THREE),
+        Event::Exit(THREE),
+        Event::Stop,
+    ];
+    let replies = run(
+        rt.alloc(),
+        AllAtOnce,
+        patches(rt.alloc(), &[A])?,
+        &[normal(1), normal(2)],
+        &events,
+    )?;
+    let worked = [
+        Said::Done,
+        Said::Done,
         Said::Done,
         Said::Ran(0),
         Said::Done,

@@ -82,6 +82,109 @@ fn a_walk_switches_sleepers_outside_changed_functions(rt: HostRuntime) -> Result
     Ok(())
 }
 
+/// Task 1 sleeps in `a` during a walk, wakes up, returns from `a` and leaves the kernel.
+const SLEEPS_AND_RETURNS: [Event; 8] = [
+    Event::Enter(ONE),
+    Event::Call(ONE, A),
+    Event::Sleep(ONE),
+    Event::Enable,
+    Event::Walk,
+    Event::Wake(ONE),
+    Event::Ret(ONE),
+    Event::Exit(ONE),
+];
+
+#[test]
+fn a_sleeper_in_a_changed_function_goes_over_at_its_exit(rt: HostRuntime) -> Result<(), Fail> {
+    let worked = [
+        Said::Done,
+        Said::Ran(0),
+        Said::Done,
+        Said::Done,
+        Said::Done,
+        Said::Done,
+        Said::Done,
+        Said::OverLast(1),
+    ];
+    let walks = run(
+        rt.alloc(),
+        Hybrid,
+        patches(rt.alloc(), &[A])?,
+        &[normal(1)],
+        &SLEEPS_AND_RETURNS,
+    )?;
+    assert_eq!(rt; walks.as_slice(), worked.as_slice());
+    let leaves = run(
+        rt.alloc(),
+        LeaveKernel,
+        patches(rt.alloc(), &[A])?,
+        &[normal(1)],
+        &SLEEPS_AND_RETURNS,
+    )?;
+    assert_eq!(rt; leaves.as_slice(), worked.as_slice());
+    Ok(())
+}
+
+#[test]
+fn each_walk_refuses_who_sleeps_in_a_changed_function(rt: HostRuntime) -> Result<(), Fail> {
+    let events = [
+        Event::Enter(ONE),
+        Event::Call(ONE, A),
+        Event::Sleep(ONE),
+        Event::Enable,
+        Event::Walk,
+        Event::Walk,
+    ];
+    let replies = run(
+        rt.alloc(),
+        Hybrid,
+        patches(rt.alloc(), &[A])?,
+        &[normal(1)],
+        &events,
+    )?;
+    let worked = [
+        Said::Done,
+        Said::Ran(0),
+        Said::Done,
+        Said::Done,
+        Said::Done,
+        Said::Done,
+    ];
+    assert_eq!(rt; replies.as_slice(), worked.as_slice());
+    Ok(())
+}
+
+#[test]
+fn a_walk_switches_nobody_on_a_cpu(rt: HostRuntime) -> Result<(), Fail> {
+    let events = [
+        Event::Enter(ONE),
+        Event::Call(ONE, C),
+        Event::Enable,
+        Event::Walk,
+        Event::Walk,
+        Event::Sleep(ONE),
+        Event::Walk,
+    ];
+    let replies = run(
+        rt.alloc(),
+        Hybrid,
+        patches(rt.alloc(), &[A])?,
+        &[normal(1)],
+        &events,
+    )?;
+    let worked = [
+        Said::Done,
+        Said::Ran(0),
+        Said::Done,
+        Said::Done,
+        Said::Done,
+        Said::Done,
+        Said::OverLast(1),
+    ];
+    assert_eq!(rt; replies.as_slice(), worked.as_slice());
+    Ok(())
+}
+
 #[test]
 fn children_start_on_the_level_of_the_parent(rt: HostRuntime) -> Result<(), Fail> {
     let boots = [normal(1), normal(2)];

@@ -1,0 +1,2 @@
+mod Order
+mod Rows

@@ -1,0 +1,28 @@
+-- The laws of a transition at one model, and at two.
+use Rattle.std.specs.Prelude.{ℕ, ◌≤◌}
+use Rattle.lp_model.specs.Rules.{Rules}
+use Rattle.lp_transition.specs.Laws.{HasOneFirstCheck, KeepsThePast, MovesNoneLater, CompletesNoneLater, WaitsForAReason, TrustsChains, OpensSoundly, KeepsOneVersion, MixesNoStay, StepsAsDefined, StatesAreSound}
+use Rattle.lp_transition.specs.Leg.{Leg}
+use Rattle.lp_transition.specs.Schedule.{Schedule, CompletesAt, IsFirstCheck}
+use Rattle.lp_transition.specs.Sound.{IsSound}
+
+-- all laws that are about one model
+pub record KeepsAllLaws (model : Rules) : Type 0 where
+  pub one_first_check : HasOneFirstCheck model
+  pub the_past_stays : KeepsThePast model
+  pub no_earlier_move : MovesNoneLater model
+  pub no_earlier_completion : CompletesNoneLater model
+  pub no_wait_without_a_reason : WaitsForAReason model
+  pub chains_are_sound : TrustsChains model
+  pub legs_open_soundly : OpensSoundly model
+  pub one_version : KeepsOneVersion model
+  pub no_stay_is_mixed : MixesNoStay model
+  pub the_machine_steps_as_defined : StepsAsDefined model
+  pub a_leg_may_be_cut : StatesAreSound model
+
+-- under the first model each leg is complete at the same event as under the second, or before
+pub record IsNeverLaterThan (a b : Rules) : Type 0 where
+  pub completes :
+      (leg : Leg) → IsSound leg.opening →
+      (s r : Schedule) → IsFirstCheck a leg s → IsFirstCheck b leg r →
+      (k : ℕ) → CompletesAt b leg r k → (j : ℕ) × (j ≤ k) × CompletesAt a leg s j
