@@ -6,6 +6,7 @@ ghost use Rattle.lp_patch.specs.Patches.{ShareSymbols};
 mod calls;
 mod groups;
 mod laws;
+mod replays;
 mod stacks;
 mod stays;
 mod tasks;
