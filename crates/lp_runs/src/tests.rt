@@ -8,6 +8,7 @@ mod groups;
 mod laws;
 mod limits;
 mod refusals;
+mod replays;
 mod reports;
 mod stacks;
 mod stays;
