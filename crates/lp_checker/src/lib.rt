@@ -1,0 +1,8 @@
+//! The checker of certificates: whoever made one, its acceptance implies that no legal schedule
+//! could have moved the group.
+#![tactic(auto)]
+
+mod fault;
+pub mod laws;
+
+pub use fault::CertFault;
