@@ -1,3 +1,4 @@
 pub mod Stacks
 pub mod Accepted
 pub mod LawProofs
+pub mod Rows

@@ -1,3 +1,4 @@
 pub mod Faults
 pub mod Verdict
 pub mod Laws
+pub mod Rows
