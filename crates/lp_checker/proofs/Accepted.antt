@@ -262,8 +262,9 @@ module _ (model : Rules) (leg : Leg) (lawful : IsLawful model) (sound : IsSound 
       let four = none_append lined gapped three.1 in
       let early = nat_lt cert.upto leg.number in
       let late = nat_lt (leg.number + length leg.events) cert.upto in
+      let over = nat_lt 1000000 cert.upto in
       let other = not (nat_eq cert.leg leg.number) in
-      let ends = or_parts early late (or_parts other (early || late) (or_parts (not (same_claim cert.claim claim)) (other || (early || late)) (unfit (no_leg model leg claim cert) NoLeg one.0)).1).1 in
+      let ends = or_parts early (late || over) (or_parts other (early || (late || over)) (or_parts (not (same_claim cert.claim claim)) (other || (early || (late || over))) (unfit (no_leg model leg claim cert) NoLeg one.0)).1).1 in
       let strays = list_any (has_stray model leg) parts in
       let peopled = has_member leg.bounds (outlines (after model leg last)) cert.group.0 in
       let claimed = nat_eq (last_group first rest) cert.group.0 in
@@ -275,7 +276,7 @@ module _ (model : Rules) (leg : Leg) (lawful : IsLawful model) (sound : IsSound 
       let chain = chain_of last first zero (first_lines cert.lines) rest (λ k le r. FromOpening first k (not-false opens b.0) r) (omega arith) two.0 four.0 four.1 in
       record {
         begun = ltb-false _ _ ends.0;
-        there = ltb-false _ _ ends.1;
+        there = ltb-false _ _ (or_parts late over ends.1).0;
         chain = subst (λ g. Chain model leg nobody g last) same chain;
         someone = one_there leg.bounds (after model leg last) cert.group.0 (not-false peopled c.1);
       }

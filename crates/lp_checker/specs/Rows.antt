@@ -176,8 +176,15 @@ pub record CertificatesCompute : Type 0 where
   pub not_there_at_the_opening : says hybrid one forks (waiting 2 2 8 (hold 2 2 6 8 8 ∷ [])) ≡ Some NoSuchGroup
   pub dead_at_the_end :
       says hybrid one (enter 1 ∷ Enable ∷ exit 1 ∷ enter 1 ∷ die 1 ∷ []) (waiting 2 1 5 []) ≡ Some NoSuchGroup
+  -- before a line that is no blame
+  pub stray_and_no_blame :
+      says hybrid one forks (waiting 2 2 8 (busy 2 1 8 ∷ born 2 1 4 ∷ hold 2 2 6 8 8 ∷ [])) ≡ Some NoSuchGroup
   -- C2
   pub frame_left : says hybrid one sleeps_twice (waiting 4 1 10 (hold 1 1 2 5 10 ∷ [])) ≡ Some (NotOnStack 7)
+  pub frame_left_at_last : says hybrid one sleeps_twice (waiting 4 1 10 (hold 1 1 2 5 7 ∷ [])) ≡ Some (NotOnStack 7)
+  -- before a later line that is no blame
+  pub left_and_no_blame :
+      says hybrid one sleeps_twice (waiting 4 1 10 (hold 1 1 2 5 10 ∷ busy 1 1 8 ∷ [])) ≡ Some (NotOnStack 7)
   -- C3
   pub on_no_cpu : says hybrid one sleeps (waiting 4 1 7 (busy 1 1 5 ∷ [])) ≡ Some (NoBlame 5)
   pub asleep_at_last :
@@ -185,12 +192,18 @@ pub record CertificatesCompute : Type 0 where
   pub turned_round : says hybrid one sleeps_on (waiting 4 1 6 (hold 1 1 2 6 5 ∷ [])) ≡ Some (NoBlame 6)
   pub at_no_check : says hybrid one sleeps_on (waiting 4 1 6 (hold 1 1 2 4 6 ∷ [])) ≡ Some (NoBlame 4)
   pub past_its_time : says hybrid one sleeps_on (waiting 4 1 5 (hold 1 1 2 5 6 ∷ [])) ≡ Some (NoBlame 5)
+  pub busy_past_its_time : says hybrid one is_walked (waiting 3 1 4 (busy 1 1 4 ∷ busy 1 1 5 ∷ [])) ≡ Some (NoBlame 5)
   pub another_frame : says hybrid one sleeps_on (waiting 4 1 6 (hold 1 1 3 5 6 ∷ [])) ≡ Some (NoBlame 5)
+  -- before a gap
+  pub no_blame_and_gap :
+      says hybrid one sleeps_twice (waiting 4 1 10 (hold 1 1 2 5 5 ∷ busy 1 1 8 ∷ [])) ≡ Some (NoBlame 8)
   -- C4
   pub first_frame_alone : says hybrid one sleeps_twice (waiting 4 1 10 (hold 1 1 2 5 5 ∷ [])) ≡ Some (Gap 10)
   pub no_line : says hybrid one sleeps_twice (waiting 4 1 10 []) ≡ Some (Gap 5)
   pub parents_check_left_out :
       says hybrid one forks (waiting 2 2 8 (born 2 1 4 ∷ hold 2 2 6 8 8 ∷ [])) ≡ Some (Gap 3)
+  pub childs_check_left_out :
+      says hybrid one forks (waiting 2 2 8 (busy 1 1 3 ∷ born 2 1 4 ∷ [])) ≡ Some (Gap 8)
   pub went_over : says hybrid one sleeps (floor 4 1 8 (hold 1 1 2 5 5 ∷ [])) ≡ Some (Gap 8)
   -- C5
   pub no_fork : says hybrid one forks (waiting 2 2 8 (busy 1 1 3 ∷ born 2 1 3 ∷ [])) ≡ Some (BadBirth 3)
@@ -200,8 +213,12 @@ pub record CertificatesCompute : Type 0 where
       says hybrid one forks (waiting 2 2 8 (busy 1 1 3 ∷ born 2 1 4 ∷ born 2 1 4 ∷ [])) ≡ Some (BadBirth 4)
   pub thread_is_no_birth :
       says process_group one (enter 1 ∷ Enable ∷ fork 1 2 Share ∷ []) (waiting 2 2 3 (born 2 1 3 ∷ [])) ≡ Some (BadBirth 3)
+  -- before another group
+  pub no_fork_and_parent_claimed : says hybrid one forks (waiting 2 1 8 (born 2 1 5 ∷ [])) ≡ Some (BadBirth 5)
   -- C6
   pub wrong_leg : says hybrid one forks (waiting 3 2 8 []) ≡ Some NoLeg
+  -- before no fork
+  pub wrong_leg_and_no_fork : says hybrid one forks (waiting 3 2 8 (born 2 1 3 ∷ [])) ≡ Some NoLeg
   pub ends_too_late : says hybrid one forks (waiting 2 2 9 []) ≡ Some NoLeg
   pub ends_too_early : says hybrid one forks (waiting 2 2 1 []) ≡ Some NoLeg
   pub other_claim :

@@ -94,12 +94,12 @@ module _ (model : Rules) (leg : Leg) where
 
   -- ---- The leg: C6
 
-  -- another claim, another leg, or an end that lies outside of the leg
+  -- another claim, another leg, or an end that lies outside of the leg, or past the 1,000,000 events that a run can have
   abbrev pub no_leg : Claim → Cert → Bool
   no_leg claim cert =
       not (same_claim cert.claim claim)
       || (not (nat_eq cert.leg leg.number)
-          || (nat_lt cert.upto leg.number || nat_lt (leg.number + length leg.events) cert.upto))
+          || (nat_lt cert.upto leg.number || (nat_lt (leg.number + length leg.events) cert.upto || nat_lt 1000000 cert.upto)))
 
   -- ---- Births: C5
 
