@@ -1,4 +1,9 @@
 pub mod Stacks
+pub mod Tables
+pub mod Accepting
+pub mod Members
+pub mod OpeningTasks
+pub mod Folding
 pub mod Accepted
 pub mod LawProofs
 pub mod Rows

@@ -1,4 +1,5 @@
 pub mod Faults
 pub mod Verdict
+pub mod Tables
 pub mod Laws
 pub mod Rows

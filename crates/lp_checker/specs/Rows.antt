@@ -194,12 +194,15 @@ pub record CertificatesCompute : Type 0 where
   pub past_its_time : says hybrid one sleeps_on (waiting 4 1 5 (hold 1 1 2 5 6 ∷ [])) ≡ Some (NoBlame 5)
   pub busy_past_its_time : says hybrid one is_walked (waiting 3 1 4 (busy 1 1 4 ∷ busy 1 1 5 ∷ [])) ≡ Some (NoBlame 5)
   pub another_frame : says hybrid one sleeps_on (waiting 4 1 6 (hold 1 1 3 5 6 ∷ [])) ≡ Some (NoBlame 5)
+  pub another_groups_task :
+      says hybrid two (enter 1 ∷ enter 2 ∷ call 2 a ∷ sleep 2 ∷ Enable ∷ Walk ∷ []) (waiting 5 1 6 (hold 1 2 3 6 6 ∷ [])) ≡ Some (NoBlame 6)
   -- before a gap
   pub no_blame_and_gap :
       says hybrid one sleeps_twice (waiting 4 1 10 (hold 1 1 2 5 5 ∷ busy 1 1 8 ∷ [])) ≡ Some (NoBlame 8)
   -- C4
   pub first_frame_alone : says hybrid one sleeps_twice (waiting 4 1 10 (hold 1 1 2 5 5 ∷ [])) ≡ Some (Gap 10)
   pub no_line : says hybrid one sleeps_twice (waiting 4 1 10 []) ≡ Some (Gap 5)
+  pub busy_once : says hybrid one is_walked (waiting 3 1 6 (busy 1 1 4 ∷ [])) ≡ Some (Gap 5)
   pub parents_check_left_out :
       says hybrid one forks (waiting 2 2 8 (born 2 1 4 ∷ hold 2 2 6 8 8 ∷ [])) ≡ Some (Gap 3)
   pub childs_check_left_out :
@@ -211,6 +214,10 @@ pub record CertificatesCompute : Type 0 where
   pub past_the_end : says hybrid one forks (waiting 2 2 3 (born 2 1 4 ∷ [])) ≡ Some (BadBirth 4)
   pub born_twice :
       says hybrid one forks (waiting 2 2 8 (busy 1 1 3 ∷ born 2 1 4 ∷ born 2 1 4 ∷ [])) ≡ Some (BadBirth 4)
+  pub other_parent :
+      says hybrid two (enter 1 ∷ Enable ∷ fork 1 3 Own ∷ []) (waiting 2 3 3 (born 3 2 3 ∷ [])) ≡ Some (BadBirth 3)
+  pub parent_of_other_group :
+      says hybrid one (enter 1 ∷ Enable ∷ fork 1 2 Own ∷ fork 1 3 Own ∷ []) (waiting 2 3 4 (born 2 1 3 ∷ born 3 1 4 ∷ [])) ≡ Some (BadBirth 4)
   pub thread_is_no_birth :
       says process_group one (enter 1 ∷ Enable ∷ fork 1 2 Share ∷ []) (waiting 2 2 3 (born 2 1 3 ∷ [])) ≡ Some (BadBirth 3)
   -- before another group

@@ -3,6 +3,7 @@
 #![tactic(auto)]
 
 mod fault;
+mod fold;
 pub mod laws;
 
 pub use fault::CertFault;
