@@ -1,19 +1,19 @@
 -- The fold of a leg gives its tasks with nobody going over.
-use Rattle.std.proofs.Common.{◌≡◌, ℕ, zero, suc, ◌+◌, Option, Some, None, if◌then◌else◌, nat_eq, slice_get, refl, sym, ap, ◌∙◌}
-use Rattle.lp_stack.specs.TaskView.{TaskView}
+use Rattle.std.proofs.Common.{◌≡◌, ℕ, zero, suc, ◌+◌, false, Option, Some, None, if◌then◌else◌, nat_eq, slice_get, refl, sym, ap, ◌∙◌}
+use Rattle.std.specs.List.{list_any}
 use Rattle.lp_model.specs.declared.check.CheckKind.{CheckKind}
 use Rattle.lp_model.specs.declared.check.Blame.{Blame}
 use Rattle.lp_model.specs.Rules.{Rules, IsLawful}
 use Rattle.lp_transition.specs.declared.event.Event.{Event}
 use Rattle.lp_transition.specs.Tasks.{Life, Fate, Unused, Live, Dead, Tasks, on_live, map_live, outlines, first_of, tests, refusal}
 use Rattle.lp_transition.specs.Leg.{Standing, Leg, unless_refused, accept, accepted, after, check_by, if_used, check}
-use Rattle.lp_transition.specs.Schedule.{standing}
+use Rattle.lp_transition.specs.Schedule.{standing, view}
 use Rattle.lp_transition.specs.Sound.{IsSound}
 use Rattle.lp_transition.specs.Chain.{nobody}
 use Rattle.lp_transition.specs.Machine.{Standings, outlines_of, view_of, accept_standing, take_own_effect, unmoved}
 use Rattle.lp_transition.proofs.Cut.{outlines_same}
 use Rattle.lp_transition.proofs.Unmoved.{unmoved_is}
-use Rattle.lp_checker.specs.Verdict.{blame_by}
+use Rattle.lp_checker.specs.Verdict.{blame_by, is_on_stack}
 
 module _ (model : Rules) (leg : Leg) (lawful : IsLawful model) (sound : IsSound leg.opening) where
   abbrev pub now : ℕ → Standings
@@ -54,3 +54,13 @@ module _ (model : Rules) (leg : Leg) (lawful : IsLawful model) (sound : IsSound 
 
   pub blame_is : (kind : CheckKind) (group k t : ℕ) → blame_of kind group t (now k t) ≡ blame_by model leg (Some kind) group t (after model leg k t)
   blame_is kind group k t = ap (λ (tasks : Standings). blame_of kind group t (tasks t)) (unmoved_is model leg lawful sound k) ∙ blame_same kind group k t (after model leg k t)
+
+  frame_same : (k t serial : ℕ) (fate : Fate Life) → on_live false (λ x. list_any (λ frame. nat_eq frame.serial serial) x.frames) (map_live (standing leg nobody k) fate) ≡ on_live false (λ x. list_any (λ frame. nat_eq frame.serial serial) (view leg nobody t x).frames) fate
+  frame_same k t serial Unused = refl
+  frame_same k t serial (Live x) = refl
+  frame_same k t serial Dead = refl
+
+  pub frame_is : (k t serial : ℕ) → on_live false (λ x. list_any (λ frame. nat_eq frame.serial serial) x.frames) (now k t) ≡ is_on_stack model leg t serial k
+  frame_is k t serial =
+      ap (λ (tasks : Standings). on_live false (λ x. list_any (λ frame. nat_eq frame.serial serial) x.frames) (tasks t)) (unmoved_is model leg lawful sound k)
+      ∙ frame_same k t serial (after model leg k t)

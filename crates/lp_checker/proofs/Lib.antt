@@ -4,6 +4,7 @@ pub mod Accepting
 pub mod Members
 pub mod OpeningTasks
 pub mod Folding
+pub mod Advancing
 pub mod Accepted
 pub mod LawProofs
 pub mod Rows

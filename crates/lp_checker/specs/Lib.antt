@@ -1,5 +1,6 @@
 pub mod Faults
 pub mod Verdict
 pub mod Tables
+pub mod Folds
 pub mod Laws
 pub mod Rows

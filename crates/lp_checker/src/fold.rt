@@ -1,9 +1,10 @@
 //! The events of a leg, taken with nobody going over: a call has its task's level, a child its
 //! parent's.
-ghost use Rattle.std.specs.Prelude.{◌≡◌, ℕ, suc, ◌<◌, ◌≤◌, Some, None, if◌then◌else◌, nat_eq, IfOk, OnOk};
-ghost use Rattle.lp_transition.specs.Tasks.{first_of, tests, Unused, Dead};
+ghost use Rattle.std.specs.Prelude.{◌≡◌, ℕ, suc, ◌<◌, ◌≤◌, false, Some, None, if◌then◌else◌, nat_eq, IfOk, OnOk};
+ghost use Rattle.std.specs.List.{list_any};
+ghost use Rattle.lp_transition.specs.Tasks.{first_of, tests, on_live, Unused, Dead};
 ghost use Rattle.lp_transition.specs.Leg.{check_by, if_used, is_alone, has_member};
-ghost use Rattle.lp_transition.specs.Machine.{outlines_of, own_effect, accept_standing, take_own_effect};
+ghost use Rattle.lp_transition.specs.Machine.{view_of, outlines_of, own_effect, accept_standing, take_own_effect};
 ghost use Rattle.lp_transition.specs.Openings.{IsOpening};
 ghost use Rattle.lp_transition.specs.Table.{slot, standings, bounds_of};
 
@@ -12,10 +13,10 @@ mod table;
 mod task;
 
 use accept::accepts;
-use lp_model::{CheckKind, Consistency, ForkKind};
+use lp_model::{Blame, CheckKind, Consistency, ForkKind};
 use lp_numbers::NUMBERS;
-use lp_patch::PatchStack;
-use lp_stack::{Class, GroupId, Level, Mode, TaskId};
+use lp_patch::{Aim, PatchStack};
+use lp_stack::{Class, Frame, GroupId, Level, Mode, TaskId};
 use lp_transition::{Event, Opening};
 use std::alloc::{AllocError, Global};
 use table::FoldedTable;
@@ -164,6 +165,37 @@ impl Fold {
         if model.uses(kind) { Some(kind) } else { None }
     }
 
+    /// Why a check of a group doesn't admit a live member; None for any other task.
+    pub(crate) fn blame<M: Consistency>(
+        &self,
+        model: M,
+        kind: CheckKind,
+        group: GroupId,
+        task: TaskId,
+    ) -> Option<Blame>
+        ensures { result ≡ on_live None (λ x. if nat_eq x.group group.0 then M.rules.blame kind (view_of task.0 x) (record { patches = self.now.patches; target = self.now.target.0 }) else None) (standings self.now.tasks task.0) }
+    {
+        let live = self.tasks.get(task)?;
+        if live.group().0 != group.0 {
+            return None;
+        }
+        let aim = Aim {
+            patches: &self.patches,
+            target: self.target,
+        };
+        model.blame(kind, &live.view(task), &aim)
+    }
+
+    /// Whether a frame of a serial is on the stack of a live task.
+    pub(crate) fn has_frame(&self, task: TaskId, serial: u64) -> bool
+        ensures { result ≡ on_live false (λ x. list_any (λ frame. nat_eq frame.serial serial) x.frames) (standings self.now.tasks task.0) }
+    {
+        let Some(live) = self.tasks.get(task) else {
+            return false;
+        };
+        has_serial(live.view(task).frames, serial)
+    }
+
     /// Whether a task is the only live member of a group.
     fn is_alone(&self, task: TaskId, group: GroupId) -> bool
         ensures { result ≡ is_alone (bounds_of self.now.patches) (outlines_of (standings self.now.tasks)) group.0 task.0 }
@@ -183,6 +215,13 @@ impl Fold {
     {
         self.tasks.members(group) > 0
     }
+}
+
+/// Whether one of the frames has a serial.
+fn has_serial(frames: &[Frame], serial: u64) -> bool
+    ensures { result ≡ list_any (λ frame. nat_eq frame.serial serial) frames.now }
+{
+    frames.iter().any(|frame| u64::from(frame.serial) == serial)
 }
 
 /// The live task that an opening has under a number.

@@ -5,5 +5,6 @@
 mod fault;
 mod fold;
 pub mod laws;
+mod leg;
 
 pub use fault::CertFault;
