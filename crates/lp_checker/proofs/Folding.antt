@@ -13,6 +13,7 @@ use Rattle.lp_transition.specs.Chain.{nobody}
 use Rattle.lp_transition.specs.Machine.{Standings, outlines_of, view_of, accept_standing, take_own_effect, unmoved}
 use Rattle.lp_transition.proofs.Cut.{outlines_same}
 use Rattle.lp_transition.proofs.Unmoved.{unmoved_is}
+use Rattle.lp_checker.specs.Births.{group_in}
 use Rattle.lp_checker.specs.Verdict.{blame_by, is_on_stack}
 
 module _ (model : Rules) (leg : Leg) (lawful : IsLawful model) (sound : IsSound leg.opening) where
@@ -64,3 +65,13 @@ module _ (model : Rules) (leg : Leg) (lawful : IsLawful model) (sound : IsSound 
   frame_is k t serial =
       ap (λ (tasks : Standings). on_live false (λ x. list_any (λ frame. nat_eq frame.serial serial) x.frames) (tasks t)) (unmoved_is model leg lawful sound k)
       ∙ frame_same k t serial (after model leg k t)
+
+  group_same : (k : ℕ) (fate : Fate Life) → on_live None (λ x. Some x.group) (map_live (standing leg nobody k) fate) ≡ group_in fate
+  group_same k Unused = refl
+  group_same k (Live x) = refl
+  group_same k Dead = refl
+
+  pub group_is : (k t : ℕ) → on_live None (λ x. Some x.group) (now k t) ≡ group_in (after model leg k t)
+  group_is k t =
+      ap (λ (tasks : Standings). on_live None (λ x. Some x.group) (tasks t)) (unmoved_is model leg lawful sound k)
+      ∙ group_same k (after model leg k t)

@@ -5,6 +5,7 @@ pub mod Members
 pub mod OpeningTasks
 pub mod Folding
 pub mod Advancing
+pub mod BirthLines
 pub mod Accepted
 pub mod LawProofs
 pub mod Rows

@@ -2,6 +2,7 @@
 //! parent's.
 ghost use Rattle.std.specs.Prelude.{◌≡◌, ℕ, suc, ◌<◌, ◌≤◌, false, Some, None, if◌then◌else◌, nat_eq, IfOk, OnOk};
 ghost use Rattle.std.specs.List.{list_any};
+ghost use Rattle.std.specs.Option.{option_map};
 ghost use Rattle.lp_transition.specs.Tasks.{first_of, tests, on_live, Unused, Dead};
 ghost use Rattle.lp_transition.specs.Leg.{check_by, if_used, is_alone, has_member};
 ghost use Rattle.lp_transition.specs.Machine.{view_of, outlines_of, own_effect, accept_standing, take_own_effect};
@@ -163,6 +164,14 @@ impl Fold {
             _ => return None,
         };
         if model.uses(kind) { Some(kind) } else { None }
+    }
+
+    /// The group of a live task; None for any other.
+    pub(crate) fn group_of(&self, task: TaskId) -> Option<GroupId>
+        ensures { option_map (λ group. group.0) result ≡ on_live None (λ x. Some x.group) (standings self.now.tasks task.0) }
+    {
+        let live = self.tasks.get(task)?;
+        Some(live.group())
     }
 
     /// Why a check of a group doesn't admit a live member; None for any other task.

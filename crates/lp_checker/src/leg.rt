@@ -1,6 +1,9 @@
 //! A leg, and the fold that goes through it.
-ghost use Rattle.std.specs.Prelude.{◌≡◌, ℕ, suc, ◌+◌, ◌<◌, ◌≤◌, length, false, Some, IfOk, OnOk};
+ghost use Rattle.std.specs.Prelude.{◌≡◌, ℕ, suc, ◌+◌, ◌-◌, ◌<◌, ◌≤◌, ◌&&◌, length, nat_lt, nat_le, Some, IfOk, OnOk};
+ghost use Rattle.std.specs.Option.{option_map};
+ghost use Rattle.lp_transition.specs.Tasks.{fits};
 ghost use Rattle.lp_transition.specs.Leg.{accepted, after, check};
+ghost use Rattle.lp_checker.specs.Births.{group_in};
 ghost use Rattle.lp_checker.specs.Verdict.{blame_by, is_on_stack};
 ghost use Rattle.lp_checker.specs.Folds.{leg_with, IsAt};
 
@@ -78,6 +81,35 @@ impl Leg<'_> {
         ensures { result ≡ check M.rules (leg_with self.now.opening.now self.now.events.now) place group.0 }
     {
         fold.check(model, event, group)
+    }
+
+    /// The group of a live task just after so many events.
+    pub(crate) fn group_at<M: Consistency>(
+        &self,
+        _model: M,
+        fold: &Fold,
+        moment: usize,
+        task: TaskId,
+    ) -> Option<GroupId>
+        requires { IsAt M.rules self.now.opening.now self.now.events.now moment fold.now }
+        ensures { option_map (λ group. group.0) result ≡ group_in (after M.rules (leg_with self.now.opening.now self.now.events.now) moment task.0) }
+    {
+        fold.group_of(task)
+    }
+
+    /// The place of an event in the leg, from 1, where it is after one place and no later than
+    /// another.
+    pub(crate) fn moment_within(&self, at: u64, begin: usize, last: usize) -> Option<usize>
+        ensures { result ≡ fits (nat_lt begin (at - self.now.opening.now.number) && nat_le (at - self.now.opening.now.number) last) (at - self.now.opening.now.number) }
+    {
+        let moment = at.saturating_sub(self.opening.number());
+        if moment <= begin as u64 {
+            return None;
+        }
+        if moment > last as u64 {
+            return None;
+        }
+        Some(moment as usize)
     }
 
     /// Why a check of a group just after so many events doesn't admit a live member.

@@ -2,6 +2,7 @@
 //! could have moved the group.
 #![tactic(auto)]
 
+mod births;
 mod fault;
 mod fold;
 pub mod laws;
