@@ -1,13 +1,9 @@
 -- A certificate without a fault tells a chain of refusals and births to its group.
-use Rattle.std.proofs.Common.{◌≡◌, ℕ, zero, suc, pred, ◌+◌, ◌-◌, ◌<◌, ◌≤◌, Bool, true, false, not, ◌&&◌, ◌||◌, List, [], ◌∷◌, ◌++◌, length, map, Contains, Option, Some, None, is_none, IsTrue, IsFalse, nat_eq, nat_le, nat_lt, refl, sym, ap, ap₂, ◌∙◌, subst, ⊎_elim, arith}
+use Rattle.std.proofs.Common.{◌≡◌, ℕ, zero, suc, pred, ◌+◌, ◌-◌, ◌<◌, ◌≤◌, Bool, true, false, not, ◌&&◌, ◌||◌, List, [], ◌∷◌, ◌++◌, length, map, Contains, Option, Some, None, is_none, IsFalse, nat_eq, nat_le, nat_lt, refl, sym, ap, ap₂, ◌∙◌, subst, ⊎_elim, arith}
 use Rattle.std.specs.List.{list_any, flat_map}
 use Rattle.std.specs.Option.{option_map}
 use Rattle.std.proofs.lemmas.Bool.{cases_Bool, cases_eq, and_parts, or_cases, or_parts, eqb-true, leb-true, ltb-true, ltb-false, not-false, false_from_ne_true, cond-true, cond-false}
-use Rattle.lp_stack.specs.declared.number.GroupId.{GroupId}
-use Rattle.lp_stack.specs.declared.number.TaskId.{TaskId}
-use Rattle.lp_stack.specs.declared.frame.Frame.{Frame}
 use Rattle.lp_model.specs.declared.check.CheckKind.{CheckKind}
-use Rattle.lp_model.specs.declared.check.ForkKind.{ForkKind}
 use Rattle.lp_model.specs.declared.check.Blame.{Blame}
 use Rattle.lp_model.specs.declared.check.Blame.TheVariants.{Frame as Held, Busy}
 use Rattle.lp_model.specs.Rules.{Rules, IsLawful}

@@ -1,5 +1,5 @@
 -- What an accepted event finds.
-use Rattle.std.proofs.Common.{◌≡◌, ℕ, ◌<◌, length, Some, None}
+use Rattle.std.proofs.Common.{◌≡◌, ◌<◌, length, Some, None}
 use Rattle.lp_symbols.specs.declared.sym_id.SymId.{SymId}
 use Rattle.lp_stack.specs.declared.number.TaskId.{TaskId}
 use Rattle.lp_patch.specs.Patches.{Patches}

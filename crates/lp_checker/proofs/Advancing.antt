@@ -1,5 +1,5 @@
 -- The fold goes on by an event of the leg.
-use Rattle.std.proofs.Common.{◌≡◌, ℕ, zero, suc, ◌+◌, ◌<◌, List, Option, Some, Result, Ok, Err, OnOk, IfOk, slice_get, refl, sym, ap, ◌∙◌, arith}
+use Rattle.std.proofs.Common.{◌≡◌, ℕ, suc, ◌+◌, List, Option, Some, Result, Ok, Err, OnOk, IfOk, slice_get, sym, ap, ◌∙◌, arith}
 use Rattle.std.proofs.lemmas.Result.{IfOk-weaker}
 use Rattle.lp_patch.specs.Patches.{Patches}
 use Rattle.lp_model.specs.Rules.{Rules, IsLawful}

@@ -1,5 +1,5 @@
 -- The fold of a leg gives its tasks with nobody going over.
-use Rattle.std.proofs.Common.{◌≡◌, ℕ, zero, suc, ◌+◌, false, Option, Some, None, if◌then◌else◌, nat_eq, slice_get, refl, sym, ap, ◌∙◌}
+use Rattle.std.proofs.Common.{◌≡◌, ℕ, suc, ◌+◌, false, Option, Some, None, if◌then◌else◌, nat_eq, slice_get, refl, ap, ◌∙◌}
 use Rattle.std.specs.List.{list_any}
 use Rattle.lp_model.specs.declared.check.CheckKind.{CheckKind}
 use Rattle.lp_model.specs.declared.check.Blame.{Blame}

@@ -1,5 +1,5 @@
 -- What the counts of members say of checks.
-use Rattle.std.proofs.Common.{◌≡◌, ℕ, ◌<◌, Bool, true, false, count_by, Some, None, nat_eq, nat_lt, refl, sym, ap, ◌∙◌, arith}
+use Rattle.std.proofs.Common.{◌≡◌, ℕ, Bool, true, false, count_by, Some, None, nat_eq, nat_lt, refl, sym, ◌∙◌, arith}
 use Rattle.std.proofs.lemmas.Bool.{eqb-true, eq-eqb, ltb-true, lt-ltb}
 use Rattle.lp_patch.specs.Patches.{Patches}
 use Rattle.lp_transition.specs.Leg.{Standing, has_member, is_alone}

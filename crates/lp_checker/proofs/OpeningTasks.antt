@@ -1,10 +1,10 @@
 -- The fold's table as it is made from an opening.
-use Rattle.std.proofs.Common.{◌≡◌, ℕ, suc, ◌+◌, ◌<◌, ◌≤◌, Bool, true, false, not, Option, Some, None, if◌then◌else◌, nat_eq, nat_lt, get_or, refl, sym, ap, ap₂, ◌∙◌, subst, ⊎_elim, arith}
-use Rattle.std.proofs.lemmas.Bool.{cases_eq, cases_lt, eq-eqb, ne_eqb, lt-ltb, cond-true, cond-false}
+use Rattle.std.proofs.Common.{◌≡◌, ℕ, ◌+◌, ◌<◌, ◌≤◌, Bool, true, false, not, Option, Some, None, if◌then◌else◌, nat_eq, refl, sym, ap, ◌∙◌, ⊎_elim, arith}
+use Rattle.std.proofs.lemmas.Bool.{cases_eq, cases_lt, eq-eqb, ne_eqb, cond-true, cond-false}
 use Rattle.std.proofs.lemmas.List.{get_or_past}
 use mathlib.Core.Path.{fun_ext}
 use Rattle.lp_numbers.specs.Numbers.{has}
-use Rattle.lp_transition.specs.Tasks.{Fate, Unused, Live, Dead, is_unused}
+use Rattle.lp_transition.specs.Tasks.{Fate, Unused, Dead, is_unused}
 use Rattle.lp_transition.specs.Leg.{Standing}
 use Rattle.lp_transition.specs.Sound.{IsSound}
 use Rattle.lp_transition.specs.Table.{Engine, Table, slot, fate_at, standings, state_in, IsWide}
@@ -37,15 +37,16 @@ abbrev pub IsPutBelow : ℕ → (now there : ℕ → Fate Standing) → Type 0
 IsPutBelow n now there = (t : ℕ) → (t < n → now t ≡ there t) × (n ≤ t → now t ≡ Unused)
 
 pub put_more : (n : ℕ) (now new there : ℕ → Fate Standing) → IsPutBelow n now there → new ≡ (λ u. if nat_eq u n then there u else now u) → IsPutBelow (n + 1) new there
-put_more n now new there below same t =
-    (λ lt.
-    ⊎_elim
-    (λ (e : t ≡ n). ap (λ f. f t) same ∙ cond-true (nat_eq t n) (there t) (now t) (eq-eqb t n e))
-    (λ (ne : t ≡ n → ⊥). ap (λ f. f t) same ∙ cond-false (nat_eq t n) (there t) (now t) (ne_eqb t n ne) ∙ (below t).0 (omega (arith, lt, ne)))
-    (cases_eq t n),
-    λ le.
-    let ne : t ≡ n → ⊥ = λ e. omega (arith, le, e) in
-    ap (λ f. f t) same ∙ cond-false (nat_eq t n) (there t) (now t) (ne_eqb t n ne) ∙ (below t).1 (omega arith))
+put_more n now new there below same t = (
+  λ lt.
+      ⊎_elim
+      (λ (e : t ≡ n). ap (λ f. f t) same ∙ cond-true (nat_eq t n) (there t) (now t) (eq-eqb t n e))
+      (λ (ne : t ≡ n → ⊥). ap (λ f. f t) same ∙ cond-false (nat_eq t n) (there t) (now t) (ne_eqb t n ne) ∙ (below t).0 (omega (arith, lt, ne)))
+      (cases_eq t n),
+  λ le.
+      let ne : t ≡ n → ⊥ = λ e. omega (arith, le, e) in
+      ap (λ f. f t) same ∙ cond-false (nat_eq t n) (there t) (now t) (ne_eqb t n ne) ∙ (below t).1 (omega arith),
+)
 
 -- past the last number nothing is used
 past : (table : Table) → IsWide table → (t : ℕ) → 65536 ≤ t → standings table t ≡ Unused

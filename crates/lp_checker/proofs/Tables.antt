@@ -1,7 +1,7 @@
 -- What holds of the fold's table lasts.
-use Rattle.std.proofs.Common.{◌≡◌, ◌≢◌, ℕ, ◌+◌, ◌<◌, ◌≤◌, true, false, List, length, count_by, get_or, set, Option, Some, None, is_some, if◌then◌else◌, nat_eq, refl, sym, ap, ap₂, subst, ◌∙◌, ⊎_elim, arith}
-use Rattle.std.proofs.lemmas.Bool.{cases_eq, cases_lt, eq-eqb, ne_eqb, cond-true, cond-false}
-use Rattle.std.proofs.lemmas.List.{length-set, get_or-set_same, get_or-set_other, get_or_default}
+use Rattle.std.proofs.Common.{◌≡◌, ℕ, ◌+◌, ◌<◌, ◌≤◌, true, false, List, length, count_by, get_or, set, Option, Some, None, is_some, if◌then◌else◌, nat_eq, refl, sym, ap, ap₂, subst, ◌∙◌, ⊎_elim, arith}
+use Rattle.std.proofs.lemmas.Bool.{cases_eq, eq-eqb, ne_eqb, cond-true, cond-false}
+use Rattle.std.proofs.lemmas.List.{length-set, get_or-set_same, get_or-set_other}
 use Rattle.std.proofs.lemmas.List.{length-map}
 use Rattle.std.proofs.lemmas.List.Sums.{count_by-le-length}
 use mathlib.Core.Path.{fun_ext}
@@ -10,8 +10,8 @@ use Rattle.std.specs.Option.{option_map}
 use Rattle.lp_numbers.specs.Numbers.{Numbers, has}
 use Rattle.lp_transition.specs.Tasks.{Dead, change}
 use Rattle.lp_transition.specs.Leg.{Standing}
-use Rattle.lp_transition.specs.Table.{Table, slot, fate_at, standings, IsWide, IsBlank, is_in, changed, with_task, without_task}
-use Rattle.lp_transition.proofs.TableLemmas.{standings-changed, slot-changed, slot-changed_other, slot-with_task, slot-with_task_other, used-with_task, used-with_task_other, slot-without_task, slot-without_task_other, IsWide-changed, IsWide-with_task, IsWide-without_task}
+use Rattle.lp_transition.specs.Table.{Table, slot, fate_at, standings, is_in, changed, with_task, without_task}
+use Rattle.lp_transition.proofs.TableLemmas.{standings-changed, slot-changed, slot-changed_other, slot-with_task_other, used-with_task, used-with_task_other, slot-without_task, slot-without_task_other, IsWide-changed, IsWide-with_task, IsWide-without_task}
 use Rattle.lp_transition.specs.Slots.{slots_of}
 use Rattle.lp_transition.proofs.SlotLemmas.{boxed, slots_of-change}
 use Rattle.lp_transition.proofs.CountLemmas.{count-changed, count-with_task, count-without_task}

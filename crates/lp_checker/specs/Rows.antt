@@ -42,37 +42,37 @@ is_stop _ = false
 abbrev pub hybrid : Rules
 hybrid =
     rules_of (record {
-        uses = is_no_stop;
-        keeps = is_stale;
-        busy = at_walk is_awake;
-        first_group = alone;
-        child_group = child_alone;
-        whole_call = true;
-      })
+      uses = is_no_stop;
+      keeps = is_stale;
+      busy = at_walk is_awake;
+      first_group = alone;
+      child_group = child_alone;
+      whole_call = true;
+    })
 
 -- Ksplice: all tasks go over together while all CPUs are stopped
 abbrev pub all_at_once : Rules
 all_at_once =
     rules_of (record {
-        uses = is_stop;
-        keeps = is_stale;
-        busy = λ kind mode. false;
-        first_group = all_in_one;
-        child_group = with_parent;
-        whole_call = true;
-      })
+      uses = is_stop;
+      keeps = is_stale;
+      busy = λ kind mode. false;
+      first_group = all_in_one;
+      child_group = with_parent;
+      whole_call = true;
+    })
 
 -- the threads of a process go over together
 abbrev pub process_group : Rules
 process_group =
     rules_of (record {
-        uses = is_no_stop;
-        keeps = is_stale;
-        busy = at_walk is_in_kernel;
-        first_group = alone;
-        child_group = as_forked;
-        whole_call = true;
-      })
+      uses = is_no_stop;
+      keeps = is_stale;
+      busy = at_walk is_in_kernel;
+      first_group = alone;
+      child_group = as_forked;
+      whole_call = true;
+    })
 
 -- ---- Words of the rows
 

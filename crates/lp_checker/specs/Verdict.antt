@@ -99,7 +99,7 @@ module _ (model : Rules) (leg : Leg) where
   no_leg claim cert =
       not (same_claim cert.claim claim)
       || (not (nat_eq cert.leg leg.number)
-          || (nat_lt cert.upto leg.number || (nat_lt (leg.number + length leg.events) cert.upto || nat_lt 1000000 cert.upto)))
+      || (nat_lt cert.upto leg.number || (nat_lt (leg.number + length leg.events) cert.upto || nat_lt 1000000 cert.upto)))
 
   -- ---- Births: C5
 
@@ -149,7 +149,7 @@ module _ (model : Rules) (leg : Leg) where
   no_such_group last claimed first rest parts =
       not (nat_eq (last_group first rest) claimed)
       || (not (waits model leg nobody zero first)
-          || (list_any has_stray parts || not (has_member leg.bounds (outlines (after model leg last)) claimed)))
+      || (list_any has_stray parts || not (has_member leg.bounds (outlines (after model leg last)) claimed)))
 
   -- ---- Lines: C3 and C2
 
@@ -174,9 +174,9 @@ module _ (model : Rules) (leg : Leg) where
       let end = moment_of to in
       let is_placed = nat_le from to && (lies_in section begin && lies_in section end) in
       first_of (
-          fits (not (is_placed && is_held_by serial (blame_at section.group begin t.0))) (NoBlame from)
-          ∷ option_map (λ moment. NotOnStack (leg.number + moment)) (first_bad (suc end - begin) begin (is_on_stack t.0 serial))
-          ∷ [])
+      fits (not (is_placed && is_held_by serial (blame_at section.group begin t.0))) (NoBlame from)
+      ∷ option_map (λ moment. NotOnStack (leg.number + moment)) (first_bad (suc end - begin) begin (is_on_stack t.0 serial))
+      ∷ [])
   line_test section (OnCpu group t at) =
       fits (not (lies_in section (moment_of at) && is_busy (blame_at section.group (moment_of at) t.0))) (NoBlame at)
   line_test section (Born group parent at) = None
@@ -211,8 +211,8 @@ module _ (model : Rules) (leg : Leg) where
       let first = first_group cert.group.0 rest in
       let parts = sections last first zero (first_lines cert.lines) rest in
       first_of (
-          fits (no_leg claim cert) NoLeg
-          ∷ birth_tests last first zero rest
-          ++ (fits (no_such_group last cert.group.0 first rest parts) NoSuchGroup
-              ∷ flat_map line_tests parts
-              ++ map gap_test parts))
+      fits (no_leg claim cert) NoLeg
+      ∷ birth_tests last first zero rest
+      ++ (fits (no_such_group last cert.group.0 first rest parts) NoSuchGroup
+      ∷ flat_map line_tests parts
+      ++ map gap_test parts))

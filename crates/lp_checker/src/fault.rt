@@ -21,7 +21,6 @@ pub enum CertFault {
 }
 
 impl CertFault {
-
     ghost use Rattle.std.specs.Prelude.{◌≡◌};
     ghost use Rattle.lp_checker.specs.Faults.{fault_number};
 

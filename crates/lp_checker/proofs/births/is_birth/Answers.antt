@@ -1,4 +1,4 @@
-use Rattle.std.proofs.Common.{◌≡◌, ℕ, ◌-◌, Bool, Option, ap, ◌∙◌}
+use Rattle.std.proofs.Common.{ℕ, ◌-◌, Option, ap, ◌∙◌}
 use Rattle.std.specs.Option.{option_map}
 use Rattle.lp_transition.specs.declared.event.Event.{Event}
 use Rattle.lp_transition.specs.Leg.{accepted, after}

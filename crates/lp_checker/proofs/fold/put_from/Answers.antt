@@ -1,4 +1,4 @@
-use Rattle.std.proofs.Common.{◌≡◌, Some, sym, ap, ◌∙◌}
+use Rattle.std.proofs.Common.{Some, sym, ap, ◌∙◌}
 use Rattle.lp_transition.specs.Tasks.{Live, Dead}
 use Rattle.lp_transition.specs.Table.{standings}
 use Rattle.lp_transition.proofs.TableLemmas.{live_from_slot}

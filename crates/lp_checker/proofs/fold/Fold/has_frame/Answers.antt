@@ -1,4 +1,4 @@
-use Rattle.std.proofs.Common.{◌≡◌, false, nat_eq, sym, ap, ◌∙◌}
+use Rattle.std.proofs.Common.{false, nat_eq, sym, ap, ◌∙◌}
 use Rattle.std.specs.List.{list_any}
 use Rattle.lp_stack.specs.TaskView.{TaskView}
 use Rattle.lp_transition.specs.Tasks.{Fate, on_live}

@@ -1,4 +1,4 @@
-use Rattle.std.proofs.Common.{◌≡◌, sym, ◌∙◌}
+use Rattle.std.proofs.Common.{sym, ◌∙◌}
 use Rattle.lp_checker.proofs.Members.{alone-counts}
 use Rattle.lp_checker.proofs.fold.Fold.is_alone.Goals as goal
 

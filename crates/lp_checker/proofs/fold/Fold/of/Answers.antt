@@ -1,4 +1,4 @@
-use Rattle.std.proofs.Common.{◌≡◌, ◌≤◌, subst, arith}
+use Rattle.std.proofs.Common.{◌≡◌, subst, arith}
 use Rattle.lp_transition.specs.Table.{standings}
 use Rattle.lp_checker.proofs.OpeningTasks.{IsPutBelow, put_more, put_all}
 use Rattle.lp_checker.proofs.fold.Fold.of.Goals as goal

@@ -4,7 +4,7 @@ use Rattle.lp_transition.specs.Tasks.{on_live}
 use Rattle.lp_transition.specs.Machine.{Standings, view_of}
 use Rattle.lp_transition.specs.Table.{standings}
 use Rattle.lp_checker.specs.Folds.{leg_with}
-use Rattle.lp_checker.proofs.Folding.{now, blame_is}
+use Rattle.lp_checker.proofs.Folding.{blame_is}
 use Rattle.lp_checker.proofs.leg.Leg.blame.Goals as goal
 
 pub returns : goal.returns

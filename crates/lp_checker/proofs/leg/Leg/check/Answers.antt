@@ -1,4 +1,4 @@
-use Rattle.std.proofs.Common.{◌≡◌, suc, ap, ◌∙◌}
+use Rattle.std.proofs.Common.{suc, ap, ◌∙◌}
 use Rattle.lp_patch.specs.Patches.{Patches}
 use Rattle.lp_transition.specs.Leg.{check_by, if_used}
 use Rattle.lp_transition.specs.Machine.{Standings, outlines_of}

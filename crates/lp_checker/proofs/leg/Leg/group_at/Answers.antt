@@ -1,4 +1,4 @@
-use Rattle.std.proofs.Common.{◌≡◌, Some, None, ap, ◌∙◌}
+use Rattle.std.proofs.Common.{Some, None, ap, ◌∙◌}
 use Rattle.lp_transition.specs.Tasks.{on_live}
 use Rattle.lp_transition.specs.Machine.{Standings}
 use Rattle.lp_checker.specs.Folds.{leg_with}

@@ -1,4 +1,4 @@
-use Rattle.std.proofs.Common.{◌≡◌, false, nat_eq, ap, ◌∙◌}
+use Rattle.std.proofs.Common.{false, nat_eq, ap, ◌∙◌}
 use Rattle.std.specs.List.{list_any}
 use Rattle.lp_transition.specs.Tasks.{on_live}
 use Rattle.lp_transition.specs.Machine.{Standings}

@@ -9,8 +9,8 @@ pub invariant_of-self : goal.invariant_of-self
 invariant_of-self c =
     let h : c.from.result < 65536 = omega arith in
     elim c.match-index_mut.branch [
-      | in-Some w ↦ rw w.self-inside-is (counted-boxed c.self.inside.slots.items _ _ c.self.invariant c.from.result c.index_mut.result.now _ (calling c.args.serial c.args.func) h c.index_mut.ensures.value (rw w.in-Some.is (rw (w.call.ensures, w.deref_mut.ensures.value) refl))(λ x. refl))
-      | in_default w ↦ rw w.self-inside-is (counted-boxed c.self.inside.slots.items _ _ c.self.invariant c.from.result c.index_mut.result.now _ (calling c.args.serial c.args.func) h c.index_mut.ensures.value (rw w.in_default.is refl)(λ x. refl))
+      | in-Some w ↦ rw w.self-inside-is (counted-boxed c.self.inside.slots.items _ _ c.self.invariant c.from.result c.index_mut.result.now _ (calling c.args.serial c.args.func) h c.index_mut.ensures.value (rw w.in-Some.is (rw (w.call.ensures, w.deref_mut.ensures.value) refl)) (λ x. refl))
+      | in_default w ↦ rw w.self-inside-is (counted-boxed c.self.inside.slots.items _ _ c.self.invariant c.from.result c.index_mut.result.now _ (calling c.args.serial c.args.func) h c.index_mut.ensures.value (rw w.in_default.is refl) (λ x. refl))
     ]
 
 pub returns : goal.returns

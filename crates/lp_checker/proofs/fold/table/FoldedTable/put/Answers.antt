@@ -1,5 +1,4 @@
-use Rattle.std.proofs.Common.{◌≡◌, ◌<◌, ◌+◌, ℕ, length, get_or, set, refl, sym, ap, ◌∙◌, subst, arith}
-use Rattle.std.proofs.lemmas.List.{get_or_default}
+use Rattle.std.proofs.Common.{◌≡◌, ◌<◌, ◌+◌, length, get_or, set, sym, ap, ◌∙◌, subst, arith}
 use Rattle.lp_transition.specs.Leg.{Standing}
 use Rattle.lp_transition.specs.Slots.{slots_of}
 use Rattle.lp_transition.specs.Table.{Table, with_task}
@@ -32,8 +31,8 @@ invariant_of-self c =
     let here = value_at i.members.items c.from-group.result c.index_mut.result.now wide c.index_mut.ensures.value in
     let kept = counted-with_task table i.members.items c.self.invariant c.args.task.0 x c.requires.positive h small (rw (← c.self.view_is) at c.requires.free) in
     let members : IsCounted (with_task c.args.task.0 x table) (set i.members.items c.from-group.result (c.index_mut.result.now + 1)) =
-        subst (λ m. IsCounted (with_task c.args.task.0 x table) (set i.members.items c.from-group.result (m + 1))) (sym here)
-        (subst (λ n. IsCounted (with_task c.args.task.0 x table) (set i.members.items n (get_or i.members.items n 0 + 1))) same kept) in
+    subst (λ m. IsCounted (with_task c.args.task.0 x table) (set i.members.items c.from-group.result (m + 1))) (sym here)
+    (subst (λ n. IsCounted (with_task c.args.task.0 x table) (set i.members.items n (get_or i.members.items n 0 + 1))) same kept) in
     rw (slots_of-set, c.insert.ensures.after, c.from.ensures) members
 
 pub returns : goal.returns

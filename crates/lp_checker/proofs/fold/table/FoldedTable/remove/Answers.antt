@@ -1,5 +1,4 @@
-use Rattle.std.proofs.Common.{◌≡◌, ◌<◌, ◌+◌, ◌-◌, ◌≤◌, ℕ, length, is_some, get_or, set, refl, sym, ap, ◌∙◌, subst, arith}
-use Rattle.lp_transition.specs.Leg.{Standing}
+use Rattle.std.proofs.Common.{◌≡◌, ◌<◌, ◌+◌, ◌-◌, ◌≤◌, length, is_some, get_or, set, sym, ap, ◌∙◌, subst, arith}
 use Rattle.lp_transition.specs.Slots.{slots_of}
 use Rattle.lp_transition.specs.Table.{Table, without_task}
 use Rattle.lp_transition.proofs.SlotLemmas.{slots_of-set}
@@ -39,7 +38,7 @@ invariant_of-self c =
     let less : (c.index_mut.result.now - 1) + 1 ≡ get_or i.members.items there.0.group 0 = subst (λ n. (c.index_mut.result.now - 1) + 1 ≡ get_or i.members.items n 0) (sym same) (omega (arith, some_here, here)) in
     let kept = counted-without_task table i.members.items c.self.invariant c.args.task.0 there.0 h small there.1 (c.index_mut.result.now - 1) less in
     let members : IsCounted (without_task c.args.task.0 table) (set i.members.items c.from.result (c.index_mut.result.now - 1)) =
-        subst (λ n. IsCounted (without_task c.args.task.0 table) (set i.members.items n (c.index_mut.result.now - 1))) same kept in
+    subst (λ n. IsCounted (without_task c.args.task.0 table) (set i.members.items n (c.index_mut.result.now - 1))) same kept in
     rw (slots_of-set, c.from-2.ensures) members
 
 pub returns : goal.returns
