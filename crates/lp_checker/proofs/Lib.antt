@@ -9,3 +9,4 @@ pub mod BirthLines
 pub mod Accepted
 pub mod LawProofs
 pub mod Rows
+pub mod Strays

@@ -5,6 +5,7 @@
 mod births;
 mod fault;
 mod fold;
+mod groups;
 pub mod laws;
 mod leg;
 
