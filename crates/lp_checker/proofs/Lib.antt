@@ -1,0 +1,12 @@
+pub mod Stacks
+pub mod Tables
+pub mod Accepting
+pub mod Members
+pub mod OpeningTasks
+pub mod Folding
+pub mod Advancing
+pub mod BirthLines
+pub mod Accepted
+pub mod LawProofs
+pub mod Rows
+pub mod Strays

@@ -1,0 +1,21 @@
+use Rattle.std.proofs.Common.{◌≡◌, ℕ, [], if◌then◌else◌, nat_eq, sym, ap, ap₂, ◌∙◌}
+use Rattle.lp_stack.specs.declared.view.Class.TheVariants.{Normal}
+use Rattle.lp_stack.specs.declared.view.Mode.TheVariants.{Kernel}
+use Rattle.lp_transition.specs.Tasks.{Fate, Live, map_live}
+use Rattle.lp_transition.specs.Leg.{Standing}
+use Rattle.lp_transition.specs.Machine.{bearing}
+use Rattle.lp_transition.specs.Table.{standings}
+use Rattle.lp_transition.proofs.TableLemmas.{live_from_slot}
+use Rattle.lp_checker.proofs.fold.Fold.bear.Goals as goal
+
+pub returns-clause-tasks : goal.returns-clause-tasks
+returns-clause-tasks g c =
+    let grouping = g.M.Consistency.rules.child_group in
+    let old = c.args.self.now.tasks in
+    let x = c.in-Some.live.now in
+    let live = live_from_slot old c.args.parent.0 x (sym c.in-Some.ensures.value) in
+    let group : c.child_group-group.result.0 ≡ grouping x.group c.args.child.0 c.args.how = c.child_group-group.ensures ∙ ap (λ k. grouping k c.args.child.0 c.args.how) c.group.ensures in
+    let born : c.in_ok-new.field-0.value ≡ bearing grouping c.args.child.0 c.args.how x =
+    c.in_ok-new.ensures.ok ∙ c.new-born.ensures ∙ ap₂ {A = ℕ} {B = ℕ} {C = Standing} (λ k l. record { class = Normal; mode = Kernel; group = k; level = l; frames = [] }) group c.level.ensures in
+    let fate : Live c.in_ok-new.field-0.value ≡ map_live (bearing grouping c.args.child.0 c.args.how) (standings old c.args.parent.0) = ap Live born ∙ sym (ap (map_live (bearing grouping c.args.child.0 c.args.how)) live) in
+    c.put.ensures ∙ ap (λ (f : Fate Standing). λ (t : ℕ). if nat_eq t c.args.child.0 then f else standings old t) fate

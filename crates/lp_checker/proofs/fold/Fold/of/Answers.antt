@@ -1,0 +1,15 @@
+use Rattle.std.proofs.Common.{◌≡◌, subst, arith}
+use Rattle.lp_transition.specs.Table.{standings}
+use Rattle.lp_checker.proofs.OpeningTasks.{IsPutBelow, put_more, put_all}
+use Rattle.lp_checker.proofs.fold.Fold.of.Goals as goal
+
+pub loop-number-preserved : goal.loop-number-preserved
+loop-number-preserved c = record {
+  opening = c.loop-number.invariant.opening;
+  below = put_more c.loop-number.number (standings c.loop-number.tasks) (standings c.put_from.new.tasks) (standings c.args.opening.now.table) c.loop-number.invariant.below c.in_ok-put_from.ensures;
+}
+
+pub returns-clause-tasks : goal.returns-clause-tasks
+returns-clause-tasks c =
+    let done : c.loop-number.number ≡ 65536 = omega (arith, c.loop-number-test.false, c.loop-number.auto.number-end) in
+    put_all c.args.opening.now.table (standings c.loop-number.tasks) c.loop-number.invariant.opening.wide (subst (λ n. IsPutBelow n (standings c.loop-number.tasks) (standings c.args.opening.now.table)) done c.loop-number.invariant.below)

@@ -1,0 +1,11 @@
+use Rattle.lp_transition.specs.Openings.{IsOpening}
+use Rattle.lp_transition.specs.Table.{standings}
+use Rattle.lp_checker.proofs.OpeningTasks.{IsPutBelow}
+use Rattle.lp_checker.proofs.fold.Fold.of.Given as goal
+
+-- the numbers so far are as in the opening
+abbrev pub invariant-loop-number : goal.invariant-loop-number
+invariant-loop-number l = record {
+  opening : IsOpening l.fn.opening;
+  below : IsPutBelow l.number (standings l.tasks) (standings l.fn.opening.table);
+}

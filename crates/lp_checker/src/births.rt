@@ -1,0 +1,125 @@
+//! The births of a certificate.
+ghost use Rattle.std.specs.Prelude.{◌≡◌, ℕ, ◌+◌, ◌<◌, ◌≤◌, pred, length, nat_eq, IfOk, OnOk};
+ghost use Rattle.std.specs.Option.{option_map};
+ghost use Rattle.lp_transition.specs.Tasks.{first_of};
+ghost use Rattle.lp_transition.specs.Leg.{accepted, after};
+ghost use Rattle.lp_checker.specs.Births.{group_in, group_or_0, is_own_fork, group_now};
+ghost use Rattle.lp_checker.specs.Folds.{leg_with, IsAt};
+ghost use Rattle.lp_checker.specs.Verdict.{births, birth_tests, first_group};
+
+use crate::CertFault;
+use crate::fold::Fold;
+use crate::leg::Leg;
+use lp_cert::Line;
+use lp_model::Consistency;
+use lp_stack::{GroupId, TaskId};
+use lp_transition::Event;
+use std::alloc::{AllocError, Global};
+
+/// A `born` line, with the place of its event in the leg, from 1.
+#[derive(Clone, Copy)]
+struct Birth {
+    group: GroupId,
+    parent: TaskId,
+    moment: usize,
+}
+
+/// The fault of the first `born` line that is no birth, of those up to a moment.
+pub(crate) fn birth_fault<M: Consistency>(
+    alloc: Global,
+    model: M,
+    leg: &Leg<'_>,
+    lines: &[Line],
+    last: usize,
+) -> Result<Option<CertFault>, AllocError>
+    requires within { last ≤ length leg.now.events.now }
+    requires room { leg.now.opening.now.number + last ≤ 1000000 }
+    ensures { IfOk result (λ fault. (claimed : ℕ) → fault ≡ first_of (birth_tests M.rules (leg_with leg.now.opening.now leg.now.events.now) last (first_group M.rules (leg_with leg.now.opening.now leg.now.events.now) claimed (births lines.now)) 0 (births lines.now))) }
+{
+    let mut fold = leg.open(alloc, model)?;
+    let mut begin = 0;
+    let mut from = None;
+    for line in lines {
+        let Line::Born { group, parent, at } = *line else {
+            continue;
+        };
+        let Some(moment) = leg.moment_within(at, begin, last) else {
+            return Ok(Some(CertFault::BadBirth(at)));
+        };
+        let birth = Birth {
+            group,
+            parent,
+            moment,
+        };
+        if !is_birth(alloc, model, leg, &mut fold, begin, from, birth)? {
+            return Ok(Some(CertFault::BadBirth(at)));
+        }
+        begin = moment;
+        from = Some(group);
+    }
+    Ok(None)
+}
+
+/// Whether a birth is one, by a parent of the group of the birth before, if there was one. Takes
+/// the events up to it.
+fn is_birth<M: Consistency>(
+    alloc: Global,
+    model: M,
+    leg: &Leg<'_>,
+    fold: &mut Fold,
+    begin: usize,
+    from: Option<GroupId>,
+    birth: Birth,
+) -> Result<bool, AllocError>
+    requires at { IsAt M.rules leg.now.opening.now leg.now.events.now begin fold.old }
+    requires order { begin < birth.moment }
+    requires within { birth.moment ≤ length leg.now.events.now }
+    requires room { leg.now.opening.now.number + birth.moment ≤ 1000000 }
+    ensures at { OnOk result (IsAt M.rules leg.now.opening.now leg.now.events.now birth.moment fold.new) }
+    ensures birth { IfOk result (λ b. b ≡ is_own_fork M.rules (accepted M.rules (leg_with leg.now.opening.now leg.now.events.now) (pred birth.moment)) (group_in (after M.rules (leg_with leg.now.opening.now leg.now.events.now) (pred birth.moment) birth.parent.0)) (group_now from (group_or_0 (after M.rules (leg_with leg.now.opening.now leg.now.events.now) (pred birth.moment) birth.parent.0))) birth.group.0 birth.parent.0) }
+{
+    let place = birth.moment - 1;
+    leg.advance_to(alloc, model, fold, begin, place)?;
+    let own = leg.group_at(model, fold, place, birth.parent);
+    let event = leg.advance(alloc, model, fold, place)?;
+    Ok(is_own_fork(model, event, own, from, birth))
+}
+
+/// Whether an event is a fork by the birth's parent, which is in its own group and in the one given, if one is,
+/// of a child with the birth's number and group.
+fn is_own_fork<M: Consistency>(
+    model: M,
+    event: Option<Event>,
+    own: Option<GroupId>,
+    from: Option<GroupId>,
+    birth: Birth,
+) -> bool
+    ensures { result ≡ is_own_fork M.rules event (option_map (λ g. g.0) own) (group_now from (group_now own 0)) birth.group.0 birth.parent.0 }
+{
+    let Some(Event::Fork(parent, child, how)) = event else {
+        return false;
+    };
+    let Some(home) = own else {
+        return false;
+    };
+    if parent.0 != birth.parent.0 {
+        return false;
+    }
+    if child.0 != birth.group.0 {
+        return false;
+    }
+    if !is_same_group(home, from) {
+        return false;
+    }
+    model.child_group(home, child, how).0 == birth.group.0
+}
+
+/// Whether a group is the one given, if one is.
+fn is_same_group(group: GroupId, given: Option<GroupId>) -> bool
+    ensures { result ≡ nat_eq group.0 (group_now given group.0) }
+{
+    match given {
+        Some(other) => group.0 == other.0,
+        None => true,
+    }
+}

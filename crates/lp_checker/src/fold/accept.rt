@@ -1,0 +1,214 @@
+//! Which events are accepted. Control events are: in a leg they change nothing.
+ghost use Rattle.std.specs.Prelude.{◌≡◌, is_none};
+ghost use Rattle.lp_transition.specs.Table.{task_numbers, standings};
+ghost use Rattle.lp_transition.specs.Tasks.{first_of, tests, same_mode, same_class};
+ghost use Rattle.lp_transition.specs.Machine.{outlines_of};
+
+use super::table::FoldedTable;
+use lp_model::ForkKind;
+use lp_stack::{Class, MOST_FRAMES, Mode, TaskId};
+use lp_symbols::SymId;
+use lp_transition::Event;
+
+/// Whether an event is accepted, with this many symbols.
+pub(crate) fn accepts(tasks: &FoldedTable, symbols: usize, event: Event) -> bool
+    ensures { result ≡ is_none (first_of (tests (task_numbers symbols) (outlines_of (standings tasks.now)) event)) }
+{
+    match event {
+        Event::Call(task, func) => accepts_call(tasks, symbols, task, func),
+        Event::Ret(task) => accepts_ret(tasks, symbols, task),
+        Event::Sleep(task) => accepts_sleep(tasks, symbols, task),
+        Event::Wake(task) => accepts_wake(tasks, symbols, task),
+        Event::Enter(task) => accepts_enter(tasks, symbols, task),
+        Event::Exit(task) => accepts_exit(tasks, symbols, task),
+        Event::Idle(task) => accepts_idle(tasks, symbols, task),
+        Event::Fork(parent, child, how) => accepts_fork(tasks, symbols, parent, child, how),
+        Event::Die(task) => accepts_die(tasks, symbols, task),
+        Event::Walk | Event::Stop | Event::Enable | Event::Disable | Event::Reverse => true,
+    }
+}
+
+/// Whether a call is accepted.
+fn accepts_call(tasks: &FoldedTable, symbols: usize, task: TaskId, func: SymId) -> bool
+    ensures { result ≡ is_none (first_of (tests (task_numbers symbols) (outlines_of (standings tasks.now)) (Event.Call task func))) }
+{
+    let Some(live) = tasks.get(task) else {
+        return false;
+    };
+    if func.index() >= symbols {
+        return false;
+    }
+    if !same_mode(live.mode(), Mode::Kernel) {
+        return false;
+    }
+    if live.depth() >= MOST_FRAMES {
+        return false;
+    }
+    true
+}
+
+/// Whether a return is accepted.
+fn accepts_ret(tasks: &FoldedTable, symbols: usize, task: TaskId) -> bool
+    ensures { result ≡ is_none (first_of (tests (task_numbers symbols) (outlines_of (standings tasks.now)) (Event.Ret task))) }
+{
+    let Some(live) = tasks.get(task) else {
+        return false;
+    };
+    if !same_mode(live.mode(), Mode::Kernel) {
+        return false;
+    }
+    if live.depth() == 0 {
+        return false;
+    }
+    true
+}
+
+/// Whether going to sleep is accepted.
+fn accepts_sleep(tasks: &FoldedTable, symbols: usize, task: TaskId) -> bool
+    ensures { result ≡ is_none (first_of (tests (task_numbers symbols) (outlines_of (standings tasks.now)) (Event.Sleep task))) }
+{
+    let Some(live) = tasks.get(task) else {
+        return false;
+    };
+    if !same_mode(live.mode(), Mode::Kernel) {
+        return false;
+    }
+    true
+}
+
+/// Whether waking up is accepted.
+fn accepts_wake(tasks: &FoldedTable, symbols: usize, task: TaskId) -> bool
+    ensures { result ≡ is_none (first_of (tests (task_numbers symbols) (outlines_of (standings tasks.now)) (Event.Wake task))) }
+{
+    let Some(live) = tasks.get(task) else {
+        return false;
+    };
+    if !same_mode(live.mode(), Mode::Asleep) {
+        return false;
+    }
+    true
+}
+
+/// Whether entering the kernel is accepted.
+fn accepts_enter(tasks: &FoldedTable, symbols: usize, task: TaskId) -> bool
+    ensures { result ≡ is_none (first_of (tests (task_numbers symbols) (outlines_of (standings tasks.now)) (Event.Enter task))) }
+{
+    let Some(live) = tasks.get(task) else {
+        return false;
+    };
+    if !same_class(live.class(), Class::Normal) {
+        return false;
+    }
+    if !same_mode(live.mode(), Mode::User) {
+        return false;
+    }
+    true
+}
+
+/// Whether leaving the kernel is accepted.
+fn accepts_exit(tasks: &FoldedTable, symbols: usize, task: TaskId) -> bool
+    ensures { result ≡ is_none (first_of (tests (task_numbers symbols) (outlines_of (standings tasks.now)) (Event.Exit task))) }
+{
+    let Some(live) = tasks.get(task) else {
+        return false;
+    };
+    if !same_class(live.class(), Class::Normal) {
+        return false;
+    }
+    if !same_mode(live.mode(), Mode::Kernel) {
+        return false;
+    }
+    if live.depth() != 0 {
+        return false;
+    }
+    true
+}
+
+/// Whether an idle point is accepted.
+fn accepts_idle(tasks: &FoldedTable, symbols: usize, task: TaskId) -> bool
+    ensures { result ≡ is_none (first_of (tests (task_numbers symbols) (outlines_of (standings tasks.now)) (Event.Idle task))) }
+{
+    let Some(live) = tasks.get(task) else {
+        return false;
+    };
+    if !same_class(live.class(), Class::Idle) {
+        return false;
+    }
+    if !same_mode(live.mode(), Mode::Kernel) {
+        return false;
+    }
+    if live.depth() != 0 {
+        return false;
+    }
+    true
+}
+
+/// Whether a task's end is accepted.
+fn accepts_die(tasks: &FoldedTable, symbols: usize, task: TaskId) -> bool
+    ensures { result ≡ is_none (first_of (tests (task_numbers symbols) (outlines_of (standings tasks.now)) (Event.Die task))) }
+{
+    let Some(live) = tasks.get(task) else {
+        return false;
+    };
+    if !same_class(live.class(), Class::Normal) {
+        return false;
+    }
+    if !same_mode(live.mode(), Mode::Kernel) {
+        return false;
+    }
+    if live.depth() != 0 {
+        return false;
+    }
+    true
+}
+
+/// Whether a fork is accepted.
+fn accepts_fork(
+    tasks: &FoldedTable,
+    symbols: usize,
+    parent: TaskId,
+    child: TaskId,
+    how: ForkKind,
+) -> bool
+    ensures { result ≡ is_none (first_of (tests (task_numbers symbols) (outlines_of (standings tasks.now)) (Event.Fork parent child how))) }
+{
+    let Some(live) = tasks.get(parent) else {
+        return false;
+    };
+    if child.0 == 0 {
+        return false;
+    }
+    if tasks.is_used(child) {
+        return false;
+    }
+    if !same_class(live.class(), Class::Normal) {
+        return false;
+    }
+    if !same_mode(live.mode(), Mode::Kernel) {
+        return false;
+    }
+    true
+}
+
+/// Whether two modes are the same.
+fn same_mode(mode: Mode, other: Mode) -> bool
+    ensures { result ≡ same_mode mode other }
+{
+    match (mode, other) {
+        (Mode::User, Mode::User) => true,
+        (Mode::Kernel, Mode::Kernel) => true,
+        (Mode::Asleep, Mode::Asleep) => true,
+        _ => false,
+    }
+}
+
+/// Whether two classes are the same.
+fn same_class(class: Class, other: Class) -> bool
+    ensures { result ≡ same_class class other }
+{
+    match (class, other) {
+        (Class::Normal, Class::Normal) => true,
+        (Class::Idle, Class::Idle) => true,
+        _ => false,
+    }
+}

@@ -1,0 +1,147 @@
+//! The live tasks by their numbers.
+ghost use Rattle.std.specs.Prelude.{◌≡◌, ℕ, ◌<◌, ◌≤◌, None, not, length, count_by, is_some, option_copied, slice_index, nat_eq, if◌then◌else◌, Some, IfOk};
+ghost use Rattle.std.specs.Option.{ForSome, option_map};
+ghost use Rattle.lp_numbers.specs.Numbers.{has};
+ghost use Rattle.lp_transition.specs.Slots.{slots_of};
+ghost use Rattle.lp_transition.specs.Tasks.{is_unused, change, Live, Dead};
+ghost use Rattle.lp_transition.specs.Machine.{put_in, calling, returning};
+
+use super::task::FoldedTask;
+use lp_numbers::{NUMBERS, NumberSet};
+use lp_stack::{GroupId, Mode, TaskId};
+use lp_symbols::SymId;
+use std::alloc::{AllocError, Global};
+use std::marker::Model;
+
+/// The live tasks, the numbers that were ever used, and how many live members each group has. Only
+/// `new` takes memory.
+#[derive(Drop)]
+pub(crate) struct FoldedTable {
+    slots: Vec<Option<Box<FoldedTask>>>,
+    used: NumberSet,
+    members: Vec<u32>,
+}
+
+impl Model for FoldedTable {
+    ghost use Rattle.lp_transition.specs.Table.{Table};
+    ghost use Rattle.lp_transition.specs.Slots.{slots_of};
+    ghost use Rattle.lp_checker.specs.Tables.{IsCounted};
+
+    ghost Value = { Table };
+
+    ghost view = { λ t. record { slots = slots_of t.slots.items; used = t.used } };
+
+    ghost invariant = { λ t. IsCounted (record { slots = slots_of t.slots.items; used = t.used }) t.members.items };
+}
+
+impl FoldedTable {
+    ghost use Rattle.lp_transition.specs.Leg.{Standing};
+    ghost use Rattle.lp_transition.specs.Table.{slot, standings, is_in, IsWide, IsKnown, IsBlank};
+
+    /// A table without tasks.
+    pub(crate) fn new(alloc: Global) -> Result<Self, AllocError>
+        ensures { IfOk result (λ table. IsBlank table) }
+    {
+        let mut slots = Vec::with_capacity(alloc, NUMBERS)?;
+        while slots.len() < NUMBERS {
+            slots.push(None)?;
+        }
+        Ok(FoldedTable {
+            slots,
+            used: NumberSet::new(alloc)?,
+            members: zeros(alloc, NUMBERS)?,
+        })
+    }
+
+    /// The live task of a number.
+    pub(crate) fn get(&self, task: TaskId) -> Option<&FoldedTask>
+        ensures value { option_copied result ≡ slot self.now task.0 }
+        ensures wide { IsWide self.now }
+        ensures known { IsKnown self.now task.0 }
+    {
+        self.slots[usize::from(task.0)].as_deref()
+    }
+
+    /// Whether a number was ever used.
+    pub(crate) fn is_used(&self, task: TaskId) -> bool
+        ensures value { result ≡ has self.now.used task.0 }
+        ensures known { IsKnown self.now task.0 }
+        ensures fate { result ≡ not (is_unused (standings self.now task.0)) }
+    {
+        self.used.contains(task.0)
+    }
+
+    /// How many live members a group has.
+    pub(crate) fn members(&self, group: GroupId) -> u32
+        ensures value { result ≡ count_by (is_in group.0) self.now.slots }
+        ensures wide { IsWide self.now }
+        ensures nobody { slot self.now 0 ≡ None }
+    {
+        self.members[usize::from(group.0)]
+    }
+
+    /// Says that a number was used, if no live task has it.
+    pub(crate) fn bury(&mut self, task: TaskId)
+        requires { slot self.old task.0 ≡ None }
+        ensures { standings self.new ≡ (λ t. if nat_eq t task.0 then Dead else standings self.old t) }
+    {
+        self.used.insert(task.0);
+    }
+
+    /// Makes a task live, under a number above 0 that no live task has.
+    pub(crate) fn put(&mut self, task: TaskId, live: Box<FoldedTask>)
+        requires positive { 0 < task.0 }
+        requires free { slot self.old task.0 ≡ None }
+        ensures { standings self.new ≡ (λ t. if nat_eq t task.0 then Live live.value else standings self.old t) }
+    {
+        let group = usize::from(live.group().0);
+        self.members[group] += 1;
+        self.slots[usize::from(task.0)] = Some(live);
+        self.used.insert(task.0);
+    }
+
+    /// Ends a live task of a group.
+    pub(crate) fn remove(&mut self, task: TaskId, group: GroupId)
+        requires { option_map (λ x. x.group) (slot self.old task.0) ≡ Some group.0 }
+        ensures { standings self.new ≡ (λ t. if nat_eq t task.0 then Dead else standings self.old t) }
+    {
+        self.members[usize::from(group.0)] -= 1;
+        self.slots[usize::from(task.0)] = None;
+    }
+
+    /// The task calls a function, if it is live; it has room for one more frame.
+    pub(crate) fn call(&mut self, task: TaskId, func: SymId, serial: u32)
+        requires { ForSome (slot self.old task.0) (λ x. length x.frames < 100) }
+        ensures { standings self.new ≡ change task.0 (calling serial func) (standings self.old) }
+    {
+        if let Some(live) = &mut self.slots[usize::from(task.0)] {
+            live.call(func, serial);
+        }
+    }
+
+    /// The task returns from the function that it called last, if it is live.
+    pub(crate) fn ret(&mut self, task: TaskId)
+        ensures { standings self.new ≡ change task.0 returning (standings self.old) }
+    {
+        if let Some(live) = &mut self.slots[usize::from(task.0)] {
+            live.ret();
+        }
+    }
+
+    /// Puts the task in a mode, if it is live.
+    pub(crate) fn set_mode(&mut self, task: TaskId, mode: Mode)
+        ensures { standings self.new ≡ change task.0 (put_in mode) (standings self.old) }
+    {
+        if let Some(live) = &mut self.slots[usize::from(task.0)] {
+            live.set_mode(mode);
+        }
+    }
+}
+
+/// As many zeros as are asked for.
+fn zeros(alloc: Global, count: usize) -> Result<Vec<u32>, AllocError>
+    ensures zero { IfOk result (λ numbers. (n : ℕ) → slice_index numbers.items n ≡ 0) }
+    ensures count { IfOk result (λ numbers. length numbers.items ≡ count) }
+{
+    vec![in alloc; 0; count]
+}

@@ -1,0 +1,19 @@
+//! The laws of a certificate's verdict.
+//!
+//! The functions do nothing: each has a law as its contract, so a call of one at a model gives
+//! the law there.
+ghost use Rattle.lp_checker.specs.Laws.{TrustsCertificates};
+ghost use Rattle.lp_checker.specs.Rows.{CertificatesCompute};
+
+use lp_model::Consistency;
+
+/// Where a certificate has no fault its group waits under every legal schedule of the leg, and no
+/// legal schedule has completed the leg by then, whoever made it.
+pub fn accepted_certificates_hold<M: Consistency>()
+    ensures { TrustsCertificates M.rules }
+{}
+
+/// Certificates whose verdicts are known, computed from the definitions.
+pub fn worked_certificates()
+    ensures { CertificatesCompute }
+{}
