@@ -1,7 +1,6 @@
-use Rattle.std.proofs.Common.{◌≡◌, ℕ, List, [], drop, length, ◌≤◌, sym, ap, ◌∙◌, arith}
+use Rattle.std.proofs.Common.{sym, ap, ◌∙◌, arith}
 use Rattle.std.proofs.lemmas.List.{drop_all}
 use Rattle.std.proofs.Math.Seq.{drop-cons}
-use Rattle.lp_cert.specs.declared.line.Line.{Line}
 use Rattle.lp_checker.proofs.Strays.{strays, strays_are, stray_here}
 use Rattle.lp_checker.proofs.groups.has_stray.Goals as goal
 
