@@ -35,8 +35,8 @@ module _ (a b c : Option (List ℕ)) (text h piece now next : List ℕ) where
   held_next k e left more = (
     left.0 ++ more.0,
     left.1
-    ∙ ap (λ l. left.0 ++ l) (ap (λ l. h ++ l) e ∙ sym (append_assoc h piece next) ∙ ap (λ l. l ++ next) more.1 ∙ append_assoc more.0 k next)
-    ∙ sym (append_assoc left.0 more.0 (k ++ next)),
+        ∙ ap (λ l. left.0 ++ l) (ap (λ l. h ++ l) e ∙ sym (append_assoc h piece next) ∙ ap (λ l. l ++ next) more.1 ∙ append_assoc more.0 k next)
+        ∙ sym (append_assoc left.0 more.0 (k ++ next)),
     appends_more a b c left.0 more.0 left.2 more.2,
   )
 

@@ -62,11 +62,7 @@ fn header(form: TraceForm) -> &'static [u8]
 }
 
 /// Puts the first line.
-fn put_header<W: Write>(
-    page: &mut Page,
-    writer: &mut W,
-    form: TraceForm,
-) -> Result<(), WriteFault>
+fn put_header<W: Write>(page: &mut Page, writer: &mut W, form: TraceForm) -> Result<(), WriteFault>
     ensures { Puts (W.contents writer.old) (W.contents writer.new) page.old.held.items page.new.held.items result (line_of (report_header form ∷ [])) }
 {
     page.put_line(writer, header(form), &[])
@@ -165,11 +161,7 @@ fn put_over<W: Write>(
 }
 
 /// Puts a group behind a space.
-fn put_group<W: Write>(
-    page: &mut Page,
-    writer: &mut W,
-    group: GroupId,
-) -> Result<(), WriteFault>
+fn put_group<W: Write>(page: &mut Page, writer: &mut W, group: GroupId) -> Result<(), WriteFault>
     ensures { Puts (W.contents writer.old) (W.contents writer.new) page.old.held.items page.new.held.items result (32 ∷ decimal group.0) }
 {
     let mut buffer = Buffer::new();
@@ -223,11 +215,7 @@ fn put_leg<W: Write>(
 }
 
 /// Puts the line of the stays.
-fn put_stays<W: Write>(
-    page: &mut Page,
-    writer: &mut W,
-    outcome: &Outcome,
-) -> Result<(), WriteFault>
+fn put_stays<W: Write>(page: &mut Page, writer: &mut W, outcome: &Outcome) -> Result<(), WriteFault>
     ensures { Puts (W.contents writer.old) (W.contents writer.new) page.old.held.items page.new.held.items result (line_of (stays_line outcome.now)) }
 {
     let mut first = Buffer::new();

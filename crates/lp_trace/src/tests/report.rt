@@ -127,7 +127,15 @@ fn levels_are_numbers_in_the_second_form(rt: HostRuntime) -> Result<(), Fail> {
     };
     let wanted =
         "lpreport 2\nmodel immediate\n1 ran 1\n2 over 1 2 3\n3 ran 16\nleg 7 to 2 complete 8\nleg 11 to 0 waiting 1\nstays 1 mixed 1\n";
-    assert!(rt; is_report(rt.alloc(), TraceForm::Stacked, "immediate", &outcome, wanted)?);
+    assert!(rt;
+        is_report(
+            rt.alloc(),
+            TraceForm::Stacked,
+            "immediate",
+            &outcome,
+            wanted
+        )?
+    );
     Ok(())
 }
 
@@ -179,6 +187,14 @@ fn long_lines_are_whole(rt: HostRuntime) -> Result<(), Fail> {
         stays: 0,
         mixed: 0,
     };
-    assert!(rt; is_report(rt.alloc(), TraceForm::Single, name.as_str(), &outcome, wanted.as_str())?);
+    assert!(rt;
+        is_report(
+            rt.alloc(),
+            TraceForm::Single,
+            name.as_str(),
+            &outcome,
+            wanted.as_str()
+        )?
+    );
     Ok(())
 }
