@@ -1,5 +1,5 @@
 -- Bytes that were read one piece after another.
-use Rattle.std.proofs.Common.{◌≡◌, ◌<◌, ◌≤◌, ◌+◌, ◌-◌, ℕ, List, ◌++◌, length, take, Option, None, Some, sym, ap, ◌∙◌, append_assoc, arith}
+use Rattle.std.proofs.Common.{◌<◌, ◌≤◌, ◌-◌, ℕ, List, ◌++◌, length, take, Option, None, Some, sym, ap, ◌∙◌, append_assoc, arith}
 use Rattle.std.proofs.lemmas.List.{length-append, length-take-le}
 use Rattle.std.specs.Io.KnownBytes.{Consumes}
 use Rattle.lp_trace.specs.Input.{ReadsTooMuch}

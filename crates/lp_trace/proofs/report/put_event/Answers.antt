@@ -4,7 +4,7 @@ use Rattle.lp_transition.specs.declared.reply.What.{What}
 use Rattle.lp_transition.specs.Events.{group_numbers}
 use Rattle.lp_trace.specs.Words.{line_of}
 use Rattle.lp_trace.specs.Report.{what_words, complete_words}
-use Rattle.lp_trace.specs.Writing.{Puts, line_rest}
+use Rattle.lp_trace.specs.Writing.{Puts}
 use Rattle.lp_trace.proofs.Reports.{over_line}
 use Rattle.lp_trace.proofs.report.put_event.Goals as goal
 

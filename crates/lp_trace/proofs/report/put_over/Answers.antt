@@ -1,7 +1,3 @@
-use Rattle.std.proofs.Common.{◌++◌, ◌∷◌, [], ap, ◌∙◌, sym, append_assoc, codes, decimal, List, ℕ}
-use Rattle.std.proofs.lemmas.List.{append-nil}
-use Rattle.std.specs.List.{flat_map}
-use Rattle.lp_transition.specs.Events.{group_numbers}
 use Rattle.lp_trace.proofs.Pages.{puts_err, held_front, held_start, held_err, held_next, held_last}
 use Rattle.lp_trace.proofs.Reports.{groups_at, groups_end, over_split}
 use Rattle.lp_trace.proofs.report.put_over.Goals as goal

@@ -1,5 +1,4 @@
-use Rattle.std.proofs.Common.{◌∷◌, ◌++◌, [], map, ap, ◌∙◌, sym, append_assoc, List, ℕ, Bor}
-use Rattle.std.proofs.lemmas.List.{append-nil}
+use Rattle.std.proofs.Common.{◌∷◌, [], map, List, ℕ, Bor}
 use Rattle.lp_trace.specs.Words.{line_of}
 use Rattle.lp_trace.specs.Writing.{line_rest}
 use Rattle.lp_trace.proofs.Writing.{line_split, rest_end}

@@ -1,4 +1,4 @@
-use Rattle.std.proofs.Common.{[], ◌++◌, ◌∙◌, refl, sym}
+use Rattle.std.proofs.Common.{◌++◌, ◌∙◌, refl}
 use Rattle.lp_trace.proofs.Writing.{front_more}
 use Rattle.lp_trace.proofs.Pages.{puts_err, written_over}
 use Rattle.lp_trace.proofs.page.Page.put_over.Goals as goal
