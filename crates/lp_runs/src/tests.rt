@@ -7,6 +7,7 @@ mod calls;
 mod groups;
 mod laws;
 mod limits;
+mod memory;
 mod refusals;
 mod replays;
 mod reports;

@@ -54,112 +54,132 @@ fn reports<M: Consistency>(
 
 #[test]
 fn a_task_goes_over_as_it_leaves_the_kernel(rt: HostRuntime) -> Result<(), Fail> {
-    assert!(rt; reports(
-        rt.alloc(),
-        "hybrid",
-        Hybrid,
-        "boot 1 normal / enter 1 / call 1 a / enable / ret 1 / exit 1 / enter 1 / call 1 a",
-        "1 done / 2 ran old / 3 done / 4 done / 5 over 1 complete / 6 done / 7 ran new / leg 3 new complete 5 / stays 2 mixed 0",
-    )?);
+    assert!(rt;
+        reports(
+            rt.alloc(),
+            "hybrid",
+            Hybrid,
+            "boot 1 normal / enter 1 / call 1 a / enable / ret 1 / exit 1 / enter 1 / call 1 a",
+            "1 done / 2 ran old / 3 done / 4 done / 5 over 1 complete / 6 done / 7 ran new / leg 3 new complete 5 / stays 2 mixed 0",
+        )?
+    );
     Ok(())
 }
 
 #[test]
 fn a_sleeper_goes_over_under_one_model(rt: HostRuntime) -> Result<(), Fail> {
     let lines = "boot 1 normal / enter 1 / call 1 c / sleep 1 / enable / walk";
-    assert!(rt; reports(
-        rt.alloc(),
-        "hybrid",
-        Hybrid,
-        lines,
-        "1 done / 2 ran old / 3 done / 4 done / 5 over 1 complete / leg 4 new complete 5 / stays 0 mixed 0",
-    )?);
-    assert!(rt; reports(
-        rt.alloc(),
-        "leave-kernel",
-        LeaveKernel,
-        lines,
-        "1 done / 2 ran old / 3 done / 4 done / 5 done / leg 4 new waiting 1 / stays 0 mixed 0",
-    )?);
+    assert!(rt;
+        reports(
+            rt.alloc(),
+            "hybrid",
+            Hybrid,
+            lines,
+            "1 done / 2 ran old / 3 done / 4 done / 5 over 1 complete / leg 4 new complete 5 / stays 0 mixed 0",
+        )?
+    );
+    assert!(rt;
+        reports(
+            rt.alloc(),
+            "leave-kernel",
+            LeaveKernel,
+            lines,
+            "1 done / 2 ran old / 3 done / 4 done / 5 done / leg 4 new waiting 1 / stays 0 mixed 0",
+        )?
+    );
     Ok(())
 }
 
 #[test]
 fn all_go_over_at_a_stop(rt: HostRuntime) -> Result<(), Fail> {
-    assert!(rt; reports(
-        rt.alloc(),
-        "all-at-once",
-        AllAtOnce,
-        "boot 1 normal / boot 2 normal / enter 2 / call 2 a / enable / stop / ret 2 / stop",
-        "1 done / 2 ran old / 3 done / 4 done / 5 done / 6 over 0 complete / leg 3 new complete 6 / stays 1 mixed 0",
-    )?);
+    assert!(rt;
+        reports(
+            rt.alloc(),
+            "all-at-once",
+            AllAtOnce,
+            "boot 1 normal / boot 2 normal / enter 2 / call 2 a / enable / stop / ret 2 / stop",
+            "1 done / 2 ran old / 3 done / 4 done / 5 done / 6 over 0 complete / leg 3 new complete 6 / stays 1 mixed 0",
+        )?
+    );
     Ok(())
 }
 
 #[test]
 fn a_reversal_opens_a_leg(rt: HostRuntime) -> Result<(), Fail> {
-    assert!(rt; reports(
-        rt.alloc(),
-        "hybrid",
-        Hybrid,
-        "boot 1 normal / enable / reverse",
-        "1 done / 2 done complete / leg 1 new waiting 1 / leg 2 old complete 2 / stays 0 mixed 0",
-    )?);
+    assert!(rt;
+        reports(
+            rt.alloc(),
+            "hybrid",
+            Hybrid,
+            "boot 1 normal / enable / reverse",
+            "1 done / 2 done complete / leg 1 new waiting 1 / leg 2 old complete 2 / stays 0 mixed 0",
+        )?
+    );
     Ok(())
 }
 
 #[test]
 fn a_call_mixes_versions(rt: HostRuntime) -> Result<(), Fail> {
-    assert!(rt; reports(
-        rt.alloc(),
-        "immediate",
-        Immediate,
-        "boot 1 normal / enter 1 / call 1 a / enable / walk / call 1 a",
-        "1 done / 2 ran old / 3 done / 4 over 1 complete / 5 ran new / leg 3 new complete 4 / stays 1 mixed 1",
-    )?);
+    assert!(rt;
+        reports(
+            rt.alloc(),
+            "immediate",
+            Immediate,
+            "boot 1 normal / enter 1 / call 1 a / enable / walk / call 1 a",
+            "1 done / 2 ran old / 3 done / 4 over 1 complete / 5 ran new / leg 3 new complete 4 / stays 1 mixed 1",
+        )?
+    );
     Ok(())
 }
 
 #[test]
 fn events_are_refused(rt: HostRuntime) -> Result<(), Fail> {
-    assert!(rt; reports(
-        rt.alloc(),
-        "hybrid",
-        Hybrid,
-        "boot 1 normal / reverse / disable / enable / enable / walk",
-        "1 refused E11 / 2 refused E12 / 3 done / 4 refused E10 / 5 done / leg 3 new waiting 1 / stays 0 mixed 0",
-    )?);
-    assert!(rt; reports(
-        rt.alloc(),
-        "hybrid",
-        Hybrid,
-        "boot 1 normal / boot 9 idle / enter 1 / fork 1 9 own / fork 9 2 own / fork 1 2 own / fork 1 2 own / die 2 / fork 1 2 own / ret 2",
-        "1 done / 2 refused E4 / 3 refused E5 / 4 done / 5 refused E4 / 6 done / 7 refused E4 / 8 refused E1 / stays 0 mixed 0",
-    )?);
+    assert!(rt;
+        reports(
+            rt.alloc(),
+            "hybrid",
+            Hybrid,
+            "boot 1 normal / reverse / disable / enable / enable / walk",
+            "1 refused E11 / 2 refused E12 / 3 done / 4 refused E10 / 5 done / leg 3 new waiting 1 / stays 0 mixed 0",
+        )?
+    );
+    assert!(rt;
+        reports(
+            rt.alloc(),
+            "hybrid",
+            Hybrid,
+            "boot 1 normal / boot 9 idle / enter 1 / fork 1 9 own / fork 9 2 own / fork 1 2 own / fork 1 2 own / die 2 / fork 1 2 own / ret 2",
+            "1 done / 2 refused E4 / 3 refused E5 / 4 done / 5 refused E4 / 6 done / 7 refused E4 / 8 refused E1 / stays 0 mixed 0",
+        )?
+    );
     Ok(())
 }
 
 #[test]
 fn a_transition_of_nobody_is_complete(rt: HostRuntime) -> Result<(), Fail> {
-    assert!(rt; reports(
-        rt.alloc(),
-        "hybrid",
-        Hybrid,
-        "enable",
-        "1 done complete / leg 1 new complete 1 / stays 0 mixed 0",
-    )?);
+    assert!(rt;
+        reports(
+            rt.alloc(),
+            "hybrid",
+            Hybrid,
+            "enable",
+            "1 done complete / leg 1 new complete 1 / stays 0 mixed 0",
+        )?
+    );
     Ok(())
 }
 
 #[test]
 fn threads_go_over_together(rt: HostRuntime) -> Result<(), Fail> {
-    assert!(rt; reports(
-        rt.alloc(),
-        "process-group",
-        ProcessGroup,
-        "boot 1 normal / enter 1 / fork 1 2 share / exit 1 / enable / call 2 a / walk / ret 2 / exit 2 / walk",
-        "1 done / 2 done / 3 done / 4 done / 5 ran old / 6 done / 7 done / 8 done / 9 over 1 complete / leg 4 new complete 9 / stays 1 mixed 0",
-    )?);
+    assert!(rt;
+        reports(
+            rt.alloc(),
+            "process-group",
+            ProcessGroup,
+            "boot 1 normal / enter 1 / fork 1 2 share / exit 1 / enable / call 2 a / walk / ret 2 / exit 2 / walk",
+            "1 done / 2 done / 3 done / 4 done / 5 ran old / 6 done / 7 done / 8 done / 9 over 1 complete / leg 4 new complete 9 / stays 1 mixed 0",
+        )?
+    );
     Ok(())
 }
 
