@@ -6,10 +6,9 @@ use lp_models::Hybrid;
 use lp_trace::{Outcome, ReadFault, ReplayFault, Trace, replay};
 use lp_transition::What;
 use std::alloc::{AllocError, Global};
-use std::fs;
-use std::io;
 use std::process::ExitCode;
 use std::rt::Files;
+use std::{fs, io};
 
 /// The recordings, each with the name of its trace and of the list of what the kernel did.
 const RECORDINGS: [(&str, &str); 3] = [
@@ -75,7 +74,11 @@ fn is_same<R: Files + AllocGlobal>(rt: &R, trace: &str, over: &str) -> Result<bo
 
 fn main(rt: HostRuntime) -> Result<(), Fault> {
     for (trace, over) in RECORDINGS {
-        let word = if is_same(&rt, trace, over)? { "same" } else { "differs" };
+        let word = if is_same(&rt, trace, over)? {
+            "same"
+        } else {
+            "differs"
+        };
         println!(rt; "{trace} {word}")?;
     }
     Ok(())

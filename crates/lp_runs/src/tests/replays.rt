@@ -3,8 +3,7 @@ mod legs;
 
 use super::*;
 use lp_models::{Hybrid, Immediate, LeaveKernel};
-use lp_trace::replay;
-use lp_trace::{LegEnd, Outcome, Trace};
+use lp_trace::{LegEnd, Outcome, Trace, replay};
 
 /// What comes of a trace of the functions `a`, `b` and `c` with a patch of `a`, and of these boot
 /// and event lines.
