@@ -6,6 +6,7 @@ ghost use Rattle.lp_transition.specs.Table.{slot, state_in};
 ghost use Rattle.lp_stack.specs.TaskView.{seen};
 ghost use Rattle.lp_transition.specs.Machine.{at_rest, view_of};
 
+mod at_once;
 mod boot;
 mod control;
 mod exit;

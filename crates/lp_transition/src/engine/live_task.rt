@@ -39,6 +39,7 @@ impl LiveTask {
     }
 
     /// The task as a check sees it, under the number that it has.
+    #[inline(always)]
     pub(crate) fn view(&self, task: TaskId) -> View<'_>
         ensures { seen result ≡ view_of task.0 self.now }
     {
@@ -63,6 +64,7 @@ impl LiveTask {
     }
 
     /// The level of the task.
+    #[inline(always)]
     pub(crate) fn level(&self) -> Level
         ensures { result.0 ≡ self.now.level }
     {
@@ -77,6 +79,7 @@ impl LiveTask {
     }
 
     /// The class of the task.
+    #[inline(always)]
     pub(crate) fn class(&self) -> Class
         ensures { result ≡ self.now.class }
     {
@@ -84,6 +87,7 @@ impl LiveTask {
     }
 
     /// The mode of the task.
+    #[inline(always)]
     pub(crate) fn mode(&self) -> Mode
         ensures { result ≡ self.now.mode }
     {
@@ -91,6 +95,7 @@ impl LiveTask {
     }
 
     /// How many frames are on the stack.
+    #[inline(always)]
     pub(crate) fn depth(&self) -> usize
         ensures value { result ≡ length self.now.frames }
         ensures few { result ≤ 100 }
@@ -99,6 +104,7 @@ impl LiveTask {
     }
 
     /// Pushes a frame of a function, on the task's level.
+    #[inline(always)]
     pub(crate) fn call(&mut self, func: SymId, serial: u32)
         requires { length self.old.frames < 100 }
         ensures { self.new ≡ calling serial func self.old }
@@ -112,6 +118,7 @@ impl LiveTask {
     }
 
     /// Pops the frame that was pushed last, if there is one.
+    #[inline(always)]
     pub(crate) fn ret(&mut self)
         ensures { self.new ≡ returning self.old }
     {
@@ -119,6 +126,7 @@ impl LiveTask {
     }
 
     /// Puts the task in a mode.
+    #[inline(always)]
     pub(crate) fn set_mode(&mut self, mode: Mode)
         ensures { self.new ≡ put_in mode self.old }
     {

@@ -32,6 +32,7 @@ pub(super) fn group_of(tasks: &TaskTable, task: TaskId) -> GroupId
 }
 
 /// The level of a live task; 0 for any other.
+#[inline(always)]
 pub(super) fn level_of(tasks: &TaskTable, task: TaskId) -> Level
     ensures { result.0 ≡ on_live 0 (λ x. x.level) (standings tasks.now task.0) }
 {

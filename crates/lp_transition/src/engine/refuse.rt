@@ -14,6 +14,7 @@ use lp_symbols::SymId;
 impl<M: Consistency> Core<M> {
     /// Why an event is refused: the first refusal that fits; None where it is accepted.
     #[tactic(auto, unfolding(crate::specs::Machine::refusal_of))]
+    #[inline(always)]
     pub(super) fn refusal(&self, event: Event) -> Option<Refusal>
         ensures { result ≡ refusal_of M.rules (state_in self.now) event }
     {
@@ -39,6 +40,7 @@ impl<M: Consistency> Core<M> {
 }
 
 /// Why a call is refused.
+#[inline(always)]
 fn call_refusal(tasks: &TaskTable, symbols: usize, task: TaskId, func: SymId) -> Option<Refusal>
     ensures { result ≡ first_of (tests (task_numbers symbols) (outlines_of (standings tasks.now)) (Event.Call task func)) }
 {
@@ -58,6 +60,7 @@ fn call_refusal(tasks: &TaskTable, symbols: usize, task: TaskId, func: SymId) ->
 }
 
 /// Why a return is refused.
+#[inline(always)]
 fn ret_refusal(tasks: &TaskTable, symbols: usize, task: TaskId) -> Option<Refusal>
     ensures { result ≡ first_of (tests (task_numbers symbols) (outlines_of (standings tasks.now)) (Event.Ret task)) }
 {
@@ -74,6 +77,7 @@ fn ret_refusal(tasks: &TaskTable, symbols: usize, task: TaskId) -> Option<Refusa
 }
 
 /// Why going to sleep is refused.
+#[inline(always)]
 fn sleep_refusal(tasks: &TaskTable, symbols: usize, task: TaskId) -> Option<Refusal>
     ensures { result ≡ first_of (tests (task_numbers symbols) (outlines_of (standings tasks.now)) (Event.Sleep task)) }
 {
@@ -87,6 +91,7 @@ fn sleep_refusal(tasks: &TaskTable, symbols: usize, task: TaskId) -> Option<Refu
 }
 
 /// Why waking up is refused.
+#[inline(always)]
 fn wake_refusal(tasks: &TaskTable, symbols: usize, task: TaskId) -> Option<Refusal>
     ensures { result ≡ first_of (tests (task_numbers symbols) (outlines_of (standings tasks.now)) (Event.Wake task)) }
 {
@@ -100,6 +105,7 @@ fn wake_refusal(tasks: &TaskTable, symbols: usize, task: TaskId) -> Option<Refus
 }
 
 /// Why entering the kernel is refused.
+#[inline(always)]
 fn enter_refusal(tasks: &TaskTable, symbols: usize, task: TaskId) -> Option<Refusal>
     ensures { result ≡ first_of (tests (task_numbers symbols) (outlines_of (standings tasks.now)) (Event.Enter task)) }
 {
@@ -201,6 +207,7 @@ fn fork_refusal(
 }
 
 /// Whether two modes are the same.
+#[inline(always)]
 fn same_mode(mode: Mode, other: Mode) -> bool
     ensures { result ≡ same_mode mode other }
 {
@@ -213,6 +220,7 @@ fn same_mode(mode: Mode, other: Mode) -> bool
 }
 
 /// Whether two classes are the same.
+#[inline(always)]
 fn same_class(class: Class, other: Class) -> bool
     ensures { result ≡ same_class class other }
 {

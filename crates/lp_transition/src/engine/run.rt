@@ -34,8 +34,17 @@ impl<M: Consistency> Core<M> {
         ensures step { IfOk result (λ reply. IsStep M.rules (state_in self.old) event reply (state_in self.new)) }
         ensures unchanged { OnErr result (self.new ≡ self.old) }
     {
-        let step = self.weigh_any(alloc, event)?;
-        Ok(self.take(step))
+        match event {
+            Event::Call(task, func) if self.has_room() => Ok(self.step_call(task, func)),
+            Event::Ret(task) if self.has_room() => Ok(self.step_ret(task)),
+            Event::Sleep(task) if self.has_room() => Ok(self.step_sleep(task)),
+            Event::Wake(task) if self.has_room() => Ok(self.step_wake(task)),
+            Event::Enter(task) if self.has_room() => Ok(self.step_enter(task)),
+            _ => {
+                let step = self.weigh_any(alloc, event)?;
+                Ok(self.take(step))
+            }
+        }
     }
 
     /// A walk or a stop by what its checks found of the waiting tasks: answers and takes it. Where it
@@ -76,6 +85,14 @@ impl<M: Consistency> Core<M> {
         reply
     }
 
+    /// Whether a number is left for one more event.
+    #[inline(always)]
+    fn has_room(&self) -> bool
+        ensures { IsTrue result ↔ (self.now.number < 1000000) }
+    {
+        self.events < MOST_EVENTS
+    }
+
     /// Any event, weighed.
     fn weigh_any(&self, alloc: Global, event: Event) -> Result<Step, Halt>
         ensures full { (result ≡ Err JournalFull) ↔ (1000000 ≤ self.now.number) }
@@ -107,7 +124,8 @@ impl<M: Consistency> Core<M> {
     }
 
     /// A refused event: it is numbered, and changes nothing else.
-    fn take_refused(&mut self, event: Event, why: Refusal)
+    #[inline(always)]
+    pub(super) fn take_refused(&mut self, event: Event, why: Refusal)
         requires room { self.old.number < 1000000 }
         requires refused { refusal_of M.rules (state_in self.old) event ≡ Some why }
         ensures { state_in self.new ≡ next M.rules (state_in self.old) event }

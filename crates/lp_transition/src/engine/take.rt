@@ -14,6 +14,7 @@ use lp_symbols::SymId;
 
 impl<M: Consistency> Core<M> {
     /// An accepted call.
+    #[inline(always)]
     pub(super) fn take_call(&mut self, task: TaskId, func: SymId)
         requires room { self.old.number < 1000000 }
         requires accepted { refusal_of M.rules (state_in self.old) (Event.Call task func) ≡ None }
@@ -24,6 +25,7 @@ impl<M: Consistency> Core<M> {
     }
 
     /// An accepted return.
+    #[inline(always)]
     pub(super) fn take_ret(&mut self, task: TaskId)
         requires room { self.old.number < 1000000 }
         requires accepted { refusal_of M.rules (state_in self.old) (Event.Ret task) ≡ None }
@@ -34,6 +36,7 @@ impl<M: Consistency> Core<M> {
     }
 
     /// An accepted sleep.
+    #[inline(always)]
     pub(super) fn take_sleep(&mut self, task: TaskId)
         requires room { self.old.number < 1000000 }
         requires accepted { refusal_of M.rules (state_in self.old) (Event.Sleep task) ≡ None }
@@ -44,6 +47,7 @@ impl<M: Consistency> Core<M> {
     }
 
     /// An accepted wake-up.
+    #[inline(always)]
     pub(super) fn take_wake(&mut self, task: TaskId)
         requires room { self.old.number < 1000000 }
         requires accepted { refusal_of M.rules (state_in self.old) (Event.Wake task) ≡ None }
@@ -54,6 +58,7 @@ impl<M: Consistency> Core<M> {
     }
 
     /// An accepted entry into the kernel.
+    #[inline(always)]
     pub(super) fn take_enter(&mut self, task: TaskId)
         requires room { self.old.number < 1000000 }
         requires accepted { refusal_of M.rules (state_in self.old) (Event.Enter task) ≡ None }

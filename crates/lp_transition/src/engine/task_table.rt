@@ -56,6 +56,7 @@ impl TaskTable {
     }
 
     /// The live task of a number.
+    #[inline(always)]
     pub(crate) fn get(&self, task: TaskId) -> Option<&LiveTask>
         ensures value { option_copied result ≡ slot self.now task.0 }
         ensures wide { IsWide self.now }
@@ -73,6 +74,7 @@ impl TaskTable {
     }
 
     /// The level of a live task; None for any other.
+    #[inline(always)]
     pub(crate) fn level_of(&self, task: TaskId) -> Option<Level>
         ensures { option_map (λ level. level.0) result ≡ option_map (λ x. x.level) (slot self.now task.0) }
     {
@@ -126,6 +128,7 @@ impl TaskTable {
     }
 
     /// The task calls a function, if it is live; it has room for one more frame.
+    #[inline(always)]
     pub(crate) fn call(&mut self, task: TaskId, func: SymId, serial: u32)
         requires { ForSome (slot self.old task.0) (λ x. length x.frames < 100) }
         ensures { self.new ≡ changed task.0 (calling serial func) self.old }
@@ -136,6 +139,7 @@ impl TaskTable {
     }
 
     /// The task returns from the function that it called last, if it is live.
+    #[inline(always)]
     pub(crate) fn ret(&mut self, task: TaskId)
         ensures { self.new ≡ changed task.0 returning self.old }
     {
@@ -145,6 +149,7 @@ impl TaskTable {
     }
 
     /// Puts the task in a mode, if it is live.
+    #[inline(always)]
     pub(crate) fn set_mode(&mut self, task: TaskId, mode: Mode)
         ensures { self.new ≡ changed task.0 (put_in mode) self.old }
     {

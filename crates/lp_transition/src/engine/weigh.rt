@@ -68,7 +68,8 @@ impl<M: Consistency> Core<M> {
     }
 
     /// The answer to an accepted call.
-    fn answer_call(&self, task: TaskId, func: SymId) -> Reply
+    #[inline(always)]
+    pub(super) fn answer_call(&self, task: TaskId, func: SymId) -> Reply
         requires room { self.now.number < 1000000 }
         requires accepted { refusal_of M.rules (state_in self.now) (Event.Call task func) ≡ None }
         ensures { result ≡ answer M.rules (state_in self.now) (Event.Call task func) }
@@ -80,7 +81,8 @@ impl<M: Consistency> Core<M> {
     }
 
     /// The answer to an accepted return, sleep, wake-up or entry into the kernel.
-    fn answer_moves(&self, event: Event, task: TaskId) -> Reply
+    #[inline(always)]
+    pub(super) fn answer_moves(&self, event: Event, task: TaskId) -> Reply
         requires room { self.now.number < 1000000 }
         requires accepted { refusal_of M.rules (state_in self.now) event ≡ None }
         requires moves { moves event ≡ true }
@@ -117,6 +119,7 @@ impl<M: Consistency> Core<M> {
 }
 
 /// The answer to an event that was accepted and took no group over.
+#[inline(always)]
 pub(super) fn done() -> Reply
     ensures { result ≡ record { what = What.Done; completed = false } }
 {
@@ -127,7 +130,8 @@ pub(super) fn done() -> Reply
 }
 
 /// The answer to a refused event.
-fn refused(why: Refusal) -> Reply
+#[inline(always)]
+pub(super) fn refused(why: Refusal) -> Reply
     ensures { result ≡ record { what = What.Refused why; completed = false } }
 {
     Reply {

@@ -1,0 +1,15 @@
+use Rattle.std.proofs.Common.{sym, ◌∙◌}
+use Rattle.lp_transition.specs.declared.event.Event.TheVariants.{Enter}
+use Rattle.lp_transition.specs.Table.{state_in}
+use Rattle.lp_transition.proofs.Runs.{is_step}
+use Rattle.lp_transition.proofs.EngineLemmas.{answer-refused}
+use Rattle.lp_transition.proofs.engine.Core.step_enter.Goals as goal
+
+pub returns-in-Some : goal.returns-in-Some
+returns-in-Some g c =
+    let s = state_in c.args.self.now in
+    let event = (Enter c.args.task) in
+    is_step g.M.Consistency.rules g.met.M.Consistency.lawful s (state_in c.take_refused.new.self) event c.refused.result (c.refused.ensures ∙ sym (answer-refused g.M.Consistency.rules s event c.in-Some.why (sym c.refusal.ensures ∙ c.in-Some.is))) c.take_refused.ensures
+
+pub returns : goal.returns
+returns g c = is_step g.M.Consistency.rules g.met.M.Consistency.lawful (state_in c.args.self.now) (state_in c.take_enter.new.self) (Enter c.args.task) c.answer_moves-reply.result c.answer_moves-reply.ensures c.take_enter.ensures
