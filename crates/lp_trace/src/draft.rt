@@ -80,6 +80,7 @@ impl Draft {
     }
 
     /// One line more, without its end.
+    #[inline(always)]
     #[tactic(auto, unfolding(crate::specs::Reading::with_line, crate::specs::Reading::line_by_word))]
     pub(crate) fn add_line(&mut self, alloc: Global, line: &[u8]) -> Result<(), LineFault>
         ensures { GivesLine (λ _. self.new) result (with_line self.old (words line.now)) }
@@ -136,6 +137,7 @@ impl Draft {
     }
 
     /// The first word of the next line.
+    #[inline(always)]
     #[tactic(auto, unfolding(crate::specs::Reading::first_word))]
     fn first_word(&self, word: &[u8]) -> Result<LineWord, LineFault>
         ensures { GivesLine (λ first. first) result (first_word self.now word.now) }
@@ -151,6 +153,7 @@ impl Draft {
     }
 
     /// The last part that has a line.
+    #[inline(always)]
     fn part_reached(&self) -> u8
         ensures { result ≡ part_reached self.now }
     {
@@ -214,6 +217,7 @@ impl Draft {
     }
 
     /// One event more.
+    #[inline(always)]
     #[tactic(auto, unfolding(crate::specs::Reading::add_event))]
     pub(crate) fn add_event(&mut self, event: Event) -> Result<(), LineFault>
         ensures { GivesLine (λ _. self.new) result (add_event self.old event) }
@@ -235,6 +239,7 @@ fn all_false(alloc: Global, size: usize) -> Result<Vec<bool>, AllocError>
 }
 
 /// The part of a text that a line of this word belongs to, from 1.
+#[inline(always)]
 fn part_of(word: LineWord) -> u8
     ensures { result ≡ part_of word }
 {

@@ -15,6 +15,7 @@ use lp_transition::Event;
 use std::str;
 
 /// The symbol of a name.
+#[inline(always)]
 #[tactic(auto, using(crate::proofs::Symbols::found), unfolding(crate::specs::Reading::symbol_of))]
 pub(crate) fn symbol_of(symbols: &Symbols, name: &[u8]) -> Result<SymId, LineFault>
     requires names { AreNames symbols.now }
@@ -30,6 +31,7 @@ pub(crate) fn symbol_of(symbols: &Symbols, name: &[u8]) -> Result<SymId, LineFau
 }
 
 /// The task of a number.
+#[inline(always)]
 #[tactic(auto, unfolding(crate::specs::Reading::task_of))]
 pub(crate) fn task_of(number: u32) -> Result<TaskId, LineFault>
     ensures { GivesLine (λ task. task) result (task_of number) }
@@ -41,6 +43,7 @@ pub(crate) fn task_of(number: u32) -> Result<TaskId, LineFault>
 }
 
 /// An event's line that has no further word.
+#[inline(always)]
 #[tactic(auto, using(crate::proofs::Cuts::no_word_more), unfolding(crate::specs::Reading::no_word))]
 fn no_word(event: Event, left: Option<&[u8]>) -> Result<Event, LineFault>
     ensures { GivesLine (λ event. event) result (no_word event (words_left (option_copied left.entry))) }
@@ -52,6 +55,7 @@ fn no_word(event: Event, left: Option<&[u8]>) -> Result<Event, LineFault>
 }
 
 /// `call T NAME`; the name comes before the number.
+#[inline(always)]
 #[tactic(auto, unfolding(crate::specs::Reading::call_line))]
 fn call_line(symbols: &Symbols, left: Option<&[u8]>) -> Result<Event, LineFault>
     requires names { AreNames symbols.now }
@@ -79,6 +83,7 @@ fn fork_line(left: Option<&[u8]>) -> Result<Event, LineFault>
 }
 
 /// The task of an event of one task, as `ret T`.
+#[inline(always)]
 #[tactic(auto, unfolding(crate::specs::Reading::task_line))]
 fn task_line(left: Option<&[u8]>) -> Result<TaskId, LineFault>
     ensures { GivesLine (λ task. task) result (task_line (words_left (option_copied left.entry))) }
@@ -88,6 +93,7 @@ fn task_line(left: Option<&[u8]>) -> Result<TaskId, LineFault>
 }
 
 /// The event of a line, by its first word and the words after it.
+#[inline(always)]
 #[tactic(auto, unfolding(crate::specs::Reading::event_line))]
 pub(crate) fn event_line(
     symbols: &Symbols,

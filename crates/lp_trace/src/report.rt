@@ -1,9 +1,9 @@
 //! Writing the report of a run.
-ghost use Rattle.std.specs.Prelude.{◌≡◌, ◌+◌, ◌<◌, ◌∷◌, ◌++◌, [], codes, decimal, map};
+ghost use Rattle.std.specs.Prelude.{◌≡◌, ◌+◌, ◌<◌, ◌∷◌, ◌++◌, [], codes, decimal, map, IfSome};
 ghost use Rattle.std.specs.List.{flat_map};
 ghost use Rattle.lp_transition.specs.Events.{group_numbers};
 ghost use Rattle.lp_trace.specs.Words.{line_of};
-ghost use Rattle.lp_trace.specs.Report.{complete_words, end_words, event_line, event_lines, leg_line, level_word, report, report_header, stays_line};
+ghost use Rattle.lp_trace.specs.Report.{what_words, complete_words, end_words, event_line, event_lines, leg_line, level_word, report, report_header, stays_line};
 ghost use Rattle.lp_trace.specs.Writing.{Puts, Writes, line_rest};
 
 use crate::form::TraceForm;
@@ -100,6 +100,25 @@ fn line_end(completed: bool) -> &'static [u8]
     if completed { b" complete\n" } else { b"\n" }
 }
 
+/// What follows the event's number, where it is one of the few commonest ends of a line.
+#[inline(always)]
+fn short_rest(form: TraceForm, reply: &Reply) -> Option<&'static [u8]>
+    ensures { IfSome result (λ rest. rest.now ≡ line_rest (what_words form reply.now.what ++ complete_words reply.now.completed)) }
+{
+    if reply.completed {
+        return None;
+    }
+    match &reply.what {
+        What::Done => Some(b" done\n"),
+        What::Ran(level) => match form {
+            TraceForm::Single if level.0 == 0 => Some(b" ran old\n"),
+            TraceForm::Single => Some(b" ran new\n"),
+            TraceForm::Stacked => None,
+        },
+        _ => None,
+    }
+}
+
 /// Puts the lines of the replies, the first of which has the number 1.
 fn put_events<W: Write>(
     page: &mut Page,
@@ -117,6 +136,24 @@ fn put_events<W: Write>(
 
 /// Puts the line of the reply to the event of a number.
 fn put_event<W: Write>(
+    page: &mut Page,
+    writer: &mut W,
+    form: TraceForm,
+    event: u64,
+    reply: &Reply,
+) -> Result<(), WriteFault>
+    ensures { Puts (W.contents writer.old) (W.contents writer.new) page.old.held.items page.new.held.items result (line_of (event_line form event reply.now)) }
+{
+    let Some(rest) = short_rest(form, reply) else {
+        return put_long_event(page, writer, form, event, reply);
+    };
+    let mut buffer = Buffer::new();
+    page.put_all(writer, &[number(&mut buffer, event), rest])
+}
+
+/// The same, whatever the reply.
+#[inline(never)]
+fn put_long_event<W: Write>(
     page: &mut Page,
     writer: &mut W,
     form: TraceForm,

@@ -36,6 +36,7 @@ pub enum LineWord {
 
 impl EventWord {
     /// The event's word that these bytes are.
+    #[inline(always)]
     #[tactic(auto, unfolding(crate::specs::Words::event_word_of))]
     pub(crate) fn of(word: &[u8]) -> Option<EventWord>
         ensures { result ≡ event_word_of word.now }
@@ -98,6 +99,7 @@ impl EventWord {
 
 impl LineWord {
     /// The first word that these bytes are.
+    #[inline(always)]
     #[tactic(auto, unfolding(crate::specs::Words::line_word_of))]
     pub(crate) fn of(word: &[u8]) -> Option<LineWord>
         ensures { result ≡ line_word_of word.now }
@@ -127,6 +129,7 @@ impl LineWord {
 }
 
 /// Whether a word is this one.
+#[inline(always)]
 pub(crate) fn is(word: &[u8], text: &str) -> bool
     ensures { result ≡ bytes_eq word.now text.now }
 {

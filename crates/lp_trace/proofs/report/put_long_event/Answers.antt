@@ -1,0 +1,21 @@
+use Rattle.std.proofs.Common.{◌≡◌, ◌++◌, ◌∷◌, ◌∙◌, ap, sym, subst, codes, decimal, List, ℕ}
+use Rattle.std.specs.List.{flat_map}
+use Rattle.lp_transition.specs.declared.reply.What.{What}
+use Rattle.lp_transition.specs.Events.{group_numbers}
+use Rattle.lp_trace.specs.Words.{line_of}
+use Rattle.lp_trace.specs.Report.{what_words, complete_words}
+use Rattle.lp_trace.specs.Writing.{Puts}
+use Rattle.lp_trace.proofs.Reports.{over_line}
+use Rattle.lp_trace.proofs.report.put_long_event.Goals as goal
+
+pub returns-in-Switched : goal.returns-in-Switched
+returns-in-Switched g c =
+    let line : List ℕ = c.number-event.result.now ++ (codes " over" ++ (flat_map (λ group. 32 ∷ decimal group) (group_numbers c.as_slice.result.now) ++ c.line_end-end.result.now)) in
+    let same : line ≡ line_of (decimal c.args.event ∷ (what_words c.args.form c.args.reply.now.what ++ complete_words c.args.reply.now.completed)) =
+    ap (λ l. l ++ (codes " over" ++ (flat_map (λ group. 32 ∷ decimal group) (group_numbers c.as_slice.result.now) ++ c.line_end-end.result.now))) c.number-event.ensures
+    ∙ ap (λ l. decimal c.args.event ++ (codes " over" ++ (flat_map (λ group. 32 ∷ decimal group) l ++ c.line_end-end.result.now))) c.as_slice.ensures
+    ∙ ap (λ l. decimal c.args.event ++ (codes " over" ++ (flat_map (λ group. 32 ∷ decimal group) c.in-Switched.groups ++ l))) c.line_end-end.ensures
+    ∙ sym (over_line (decimal c.args.event) c.in-Switched.groups (complete_words c.args.reply.now.completed))
+    ∙ ap (λ (what : What). line_of (decimal c.args.event ∷ (what_words c.args.form what ++ complete_words c.args.reply.now.completed))) (sym c.in-Switched.is) in
+    let P : List ℕ → Type 0 = λ l. Puts (g.W.Write.contents c.args.writer.now) (g.W.Write.contents c.put_over.new.writer) c.args.page.now.held.items c.put_over.new.page.held.items c.put_over.result l in
+    subst P same c.put_over.ensures
