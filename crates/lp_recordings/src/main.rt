@@ -52,7 +52,7 @@ impl From<AllocError> for Fault {
 /// Who went over, a line each: the number of the event, and the group's, which is the task's.
 fn moves(alloc: Global, outcome: &Outcome) -> Result<String, AllocError> {
     let mut text = String::new(alloc);
-    for (index, reply) in outcome.replies.as_slice().iter().enumerate() {
+    for (index, reply) in outcome.replies.to_vec(alloc)?.iter().enumerate() {
         if let What::Switched(groups) = &reply.what {
             for group in groups.as_slice() {
                 text.push_str(format!(in alloc; "{} {}\n", index + 1, group.0)?.as_str())?;

@@ -12,6 +12,7 @@ pub mod Writing
 pub mod Pages
 pub mod Inputs
 pub mod RunFaults
+pub mod ReplyLists
 pub mod Reports
 pub mod Again
 pub mod Folds

@@ -40,6 +40,14 @@ module _ (a b c : Option (List ℕ)) (text h piece now next : List ℕ) where
     appends_more a b c left.0 more.0 left.2 more.2,
   )
 
+-- a piece was held
+pub held_taken : (a b : Option (List ℕ)) (text h k piece now next : List ℕ) → k ≡ h ++ piece → now ≡ piece ++ next → Left a b text (h ++ now) → Left a b text (k ++ next)
+held_taken a b text h k piece now next taken e left = (
+    left.0,
+    left.1 ∙ ap (λ l. left.0 ++ l) (ap (λ l. h ++ l) e ∙ sym (append_assoc h piece next) ∙ ap (λ l. l ++ next) (sym taken)),
+    left.2,
+)
+
 -- the last piece
 pub held_last : {E : Type 0} (a b c : Option (List ℕ)) (text h k now last : List ℕ) (r : Result (Unit {0}) E) → now ≡ last → Left a b (h ++ text) (k ++ now) → (m : List ℕ) → Puts b c k m r last → Puts a c h m r text
 held_last a b c text h k now last (Ok x) e left m puts =

@@ -14,6 +14,9 @@ use Rattle.lp_trace.specs.declared.outcome.Outcome.{Outcome}
 use Rattle.lp_trace.specs.Words.{line_of}
 use Rattle.lp_trace.specs.Writing.{Left, line_rest}
 use Rattle.lp_trace.specs.Report.{event_line, event_lines, leg_line, stays_line, report, report_lines, report_header}
+use Rattle.lp_trace.specs.declared.replies.ShortReply.{ShortReply}
+use Rattle.lp_trace.specs.Replies.{first_groups, lists_in, replies_of, reply_of}
+use Rattle.lp_trace.proofs.ReplyLists.{replies-next, replies-end}
 use Rattle.lp_trace.proofs.Writing.{line_split}
 use Rattle.lp_trace.proofs.Pages.{held_start, held_next}
 
@@ -44,22 +47,20 @@ over_line event groups words =
 -- ---- The lines of the events
 
 module _ (form : TraceForm) where
-  pub events_at : (replies : List Reply) (i : ℕ) (d : Reply) → i < length replies → flat_map line_of (event_lines form (i + 1) (drop i replies)) ≡ line_of (event_line form (i + 1) (get_or replies i d)) ++ flat_map line_of (event_lines form (i + 1 + 1) (drop (i + 1) replies))
+  -- the reply at a place, which takes so many lists, the first of which is this one, and those after it
+  pub events_next : (replies : List ShortReply) (lists : List (List ℕ)) (i next : ℕ) (d : ShortReply) (step : ℕ) (groups : List ℕ) → i < length replies → step ≡ lists_in (get_or replies i d).what → groups ≡ first_groups (drop next lists)
+      → flat_map line_of (event_lines form (i + 1) (replies_of (drop i replies) (drop next lists)))
+      ≡ line_of (event_line form (i + 1) (reply_of (get_or replies i d) (groups ∷ []))) ++ flat_map line_of (event_lines form (i + 1 + 1) (replies_of (drop (i + 1) replies) (drop (next + step) lists)))
   unfolding event_lines
-  events_at replies i d below =
-      let first : List ℕ = line_of (event_line form (i + 1) (get_or replies i d)) in
-      let rest : ℕ → ℕ → List ℕ = λ number k. first ++ flat_map line_of (event_lines form number (drop k replies)) in
-      let step : flat_map line_of (event_lines form (i + 1) (drop i replies)) ≡ rest (suc (i + 1)) (suc i) = rw (drop-cons replies i d below) refl in
-      step ∙ ap (λ number. rest number (suc i)) (sym (add-one (i + 1))) ∙ ap (rest (i + 1 + 1)) (sym (add-one i))
+  events_next replies lists i next d step groups below steps first_is =
+      let first : List ℕ = line_of (event_line form (i + 1) (reply_of (get_or replies i d) (groups ∷ []))) in
+      let rest : List Reply = replies_of (drop (i + 1) replies) (drop (next + step) lists) in
+      ap (λ r. flat_map line_of (event_lines form (i + 1) r)) (replies-next replies lists i next d step groups below steps first_is)
+      ∙ ap (λ number. first ++ flat_map line_of (event_lines form number rest)) (sym (add-one (i + 1)))
 
-  -- the same, where the reply was lent
-  pub events_lent : (replies : List Reply) (i : ℕ) (d : Reply) → d ≡ get_or replies i d → i < length replies → flat_map line_of (event_lines form (i + 1) (drop i replies)) ≡ line_of (event_line form (i + 1) d) ++ flat_map line_of (event_lines form (i + 1 + 1) (drop (i + 1) replies))
-  events_lent replies i d e below =
-      events_at replies i d below ∙ ap (λ reply. line_of (event_line form (i + 1) reply) ++ flat_map line_of (event_lines form (i + 1 + 1) (drop (i + 1) replies))) (sym e)
-
-  pub events_end : (replies : List Reply) (i n : ℕ) → length replies ≤ i → flat_map line_of (event_lines form n (drop i replies)) ≡ []
+  pub events_end : (replies : List ShortReply) (lists : List (List ℕ)) (i n : ℕ) → length replies ≤ i → flat_map line_of (event_lines form n (replies_of (drop i replies) lists)) ≡ []
   unfolding event_lines
-  events_end replies i n h = rw (drop_of_length-le replies h) refl
+  events_end replies lists i n h = ap (λ r. flat_map line_of (event_lines form n r)) (replies-end replies lists i h)
 
 -- ---- The text
 

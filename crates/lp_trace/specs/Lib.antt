@@ -2,6 +2,7 @@ pub mod Words
 pub mod Traces
 pub mod Reading
 pub mod Outcome
+pub mod Replies
 pub mod Replay
 pub mod Report
 pub mod Faults

@@ -11,7 +11,7 @@ use crate::form::TraceForm;
 use crate::line::{boot_line, event_line, patch_line, symbol_of, task_of};
 use crate::trace::Trace;
 use crate::word::LineWord;
-use crate::words::{cut, last_word};
+use crate::words::{cut_word, last_word};
 use lp_stack::{Class, TaskId};
 use lp_symbols::{SymFault, SymId, Symbols};
 use lp_transition::Event;
@@ -85,7 +85,7 @@ impl Draft {
     pub(crate) fn add_line(&mut self, alloc: Global, line: &[u8]) -> Result<(), LineFault>
         ensures { GivesLine (λ _. self.new) result (with_line self.old (words line.now)) }
     {
-        let (word, left) = cut(b' ', line);
+        let (word, left) = cut_word(line);
         match self.first_word(word)? {
             LineWord::Sym => {
                 let name = last_word(left)?;

@@ -38,6 +38,22 @@ impl Page {
         self.held.extend_from_slice(bytes).is_ok()
     }
 
+    /// Takes both pieces if there is room for them, and says whether it did.
+    #[inline(always)]
+    pub(crate) fn hold_both(&mut self, first: &[u8], second: &[u8]) -> bool
+        ensures taken { IsTrue result → self.new.held.items ≡ self.old.held.items ++ (first.now ++ second.now) }
+        ensures kept { IsFalse result → self.new.held.items ≡ self.old.held.items }
+    {
+        let room = self.held.capacity() - self.held.len();
+        if first.len() > room || second.len() > room - first.len() {
+            return false;
+        }
+        if self.held.extend_from_slice(first).is_err() {
+            return false;
+        }
+        self.held.extend_from_slice(second).is_ok()
+    }
+
     /// Writes what is held.
     pub(crate) fn flush<W: Write>(&mut self, writer: &mut W) -> Result<(), WriteFault>
         ensures written { Writes (W.contents writer.old) (W.contents writer.new) result self.old.held.items }

@@ -1,19 +1,21 @@
 //! Writing the report of a run.
-ghost use Rattle.std.specs.Prelude.{◌≡◌, ◌+◌, ◌<◌, ◌∷◌, ◌++◌, [], codes, decimal, map, IfSome};
+ghost use Rattle.std.specs.Prelude.{◌≡◌, ℕ, ◌+◌, ◌<◌, ◌∷◌, ◌++◌, [], List, codes, decimal, map, IfSome, IsTrue, IsFalse};
 ghost use Rattle.std.specs.List.{flat_map};
 ghost use Rattle.lp_transition.specs.Events.{group_numbers};
 ghost use Rattle.lp_trace.specs.Words.{line_of};
 ghost use Rattle.lp_trace.specs.Report.{what_words, complete_words, end_words, event_line, event_lines, leg_line, level_word, report, report_header, stays_line};
+ghost use Rattle.lp_trace.specs.Replies.{replies_of, reply_of, what_of};
 ghost use Rattle.lp_trace.specs.Writing.{Puts, Writes, line_rest};
 
 use crate::form::TraceForm;
 use crate::leg_end::LegEnd;
 use crate::outcome::Outcome;
 use crate::page::Page;
+use crate::replies::{ReplyList, ShortReply, ShortWhat, groups_at};
 use crate::write::WriteFault;
 use itoa::Buffer;
 use lp_stack::{GroupId, Level};
-use lp_transition::{Reply, What};
+use lp_transition::GroupList;
 use std::io::Write;
 
 /// Writes what the page holds, and then the report of an outcome under a model of this name.
@@ -42,11 +44,10 @@ fn put_report<W: Write>(
 ) -> Result<(), WriteFault>
     ensures { Puts (W.contents writer.old) (W.contents writer.new) page.old.held.items page.new.held.items result (report form name.now outcome.now) }
 {
-    let replies = outcome.replies.as_slice();
     let legs = outcome.legs.as_slice();
     put_header(page, writer, form)?;
     put_model(page, writer, name)?;
-    put_events(page, writer, form, replies)?;
+    put_events(page, writer, form, &outcome.replies)?;
     put_legs(page, writer, form, legs)?;
     put_stays(page, writer, outcome)
 }
@@ -102,15 +103,15 @@ fn line_end(completed: bool) -> &'static [u8]
 
 /// What follows the event's number, where it is one of the few commonest ends of a line.
 #[inline(always)]
-fn short_rest(form: TraceForm, reply: &Reply) -> Option<&'static [u8]>
-    ensures { IfSome result (λ rest. rest.now ≡ line_rest (what_words form reply.now.what ++ complete_words reply.now.completed)) }
+fn short_rest(form: TraceForm, reply: &ShortReply) -> Option<&'static [u8]>
+    ensures { IfSome result (λ rest. (lists : List (List ℕ)) → rest.now ≡ line_rest (what_words form (what_of reply.now.what lists) ++ complete_words reply.now.completed)) }
 {
     if reply.completed {
         return None;
     }
-    match &reply.what {
-        What::Done => Some(b" done\n"),
-        What::Ran(level) => match form {
+    match reply.what {
+        ShortWhat::Done => Some(b" done\n"),
+        ShortWhat::Ran(level) => match form {
             TraceForm::Single if level.0 == 0 => Some(b" ran old\n"),
             TraceForm::Single => Some(b" ran new\n"),
             TraceForm::Stacked => None,
@@ -119,61 +120,78 @@ fn short_rest(form: TraceForm, reply: &Reply) -> Option<&'static [u8]>
     }
 }
 
+/// Holds the line of the reply to the event of a number, where it is short and there is room, and
+/// says whether it did.
+#[inline(always)]
+fn hold_event(page: &mut Page, form: TraceForm, event: u64, reply: &ShortReply) -> bool
+    ensures taken { IsTrue result → (lists : List (List ℕ)) → page.new.held.items ≡ page.old.held.items ++ line_of (event_line form event (reply_of reply.now lists)) }
+    ensures kept { IsFalse result → page.new.held.items ≡ page.old.held.items }
+{
+    let Some(rest) = short_rest(form, reply) else {
+        return false;
+    };
+    let mut buffer = Buffer::new();
+    page.hold_both(number(&mut buffer, event), rest)
+}
+
 /// Puts the lines of the replies, the first of which has the number 1.
 fn put_events<W: Write>(
     page: &mut Page,
     writer: &mut W,
     form: TraceForm,
-    replies: &[Reply],
+    replies: &ReplyList,
 ) -> Result<(), WriteFault>
     ensures { Puts (W.contents writer.old) (W.contents writer.new) page.old.held.items page.new.held.items result (flat_map line_of (event_lines form 1 replies.now)) }
 {
+    let (short, lists) = replies.parts();
+    put_replies(page, writer, form, short, lists)
+}
+
+/// Puts the lines of these replies, to which these lists of groups belong.
+fn put_replies<W: Write>(
+    page: &mut Page,
+    writer: &mut W,
+    form: TraceForm,
+    replies: &[ShortReply],
+    lists: &[GroupList],
+) -> Result<(), WriteFault>
+    ensures { Puts (W.contents writer.old) (W.contents writer.new) page.old.held.items page.new.held.items result (flat_map line_of (event_lines form 1 (replies_of replies.now lists.now))) }
+{
+    let mut next = 0;
     for (i, reply) in replies.iter().enumerate() {
-        put_event(page, writer, form, i as u64 + 1, reply)?;
+        let event = i as u64 + 1;
+        if !hold_event(page, form, event, reply) {
+            put_event(page, writer, form, event, reply, groups_at(lists, next))?;
+        }
+        next += reply.lists();
     }
     Ok(())
 }
 
-/// Puts the line of the reply to the event of a number.
+/// Puts the line of the reply to the event of a number, which took these groups over if any.
+#[inline(never)]
 fn put_event<W: Write>(
     page: &mut Page,
     writer: &mut W,
     form: TraceForm,
     event: u64,
-    reply: &Reply,
+    reply: &ShortReply,
+    groups: &[GroupId],
 ) -> Result<(), WriteFault>
-    ensures { Puts (W.contents writer.old) (W.contents writer.new) page.old.held.items page.new.held.items result (line_of (event_line form event reply.now)) }
-{
-    let Some(rest) = short_rest(form, reply) else {
-        return put_long_event(page, writer, form, event, reply);
-    };
-    let mut buffer = Buffer::new();
-    page.put_all(writer, &[number(&mut buffer, event), rest])
-}
-
-/// The same, whatever the reply.
-#[inline(never)]
-fn put_long_event<W: Write>(
-    page: &mut Page,
-    writer: &mut W,
-    form: TraceForm,
-    event: u64,
-    reply: &Reply,
-) -> Result<(), WriteFault>
-    ensures { Puts (W.contents writer.old) (W.contents writer.new) page.old.held.items page.new.held.items result (line_of (event_line form event reply.now)) }
+    ensures { Puts (W.contents writer.old) (W.contents writer.new) page.old.held.items page.new.held.items result (line_of (event_line form event (reply_of reply.now (group_numbers groups.now ∷ [])))) }
 {
     let mut first = Buffer::new();
     let mut second = Buffer::new();
     let event = number(&mut first, event);
     let end = line_end(reply.completed);
-    match &reply.what {
-        What::Ran(level) => {
-            let level = level_word(&mut second, form, *level);
+    match reply.what {
+        ShortWhat::Ran(level) => {
+            let level = level_word(&mut second, form, level);
             page.put_all(writer, &[event, b" ran ", level, end])
         }
-        What::Done => page.put_all(writer, &[event, b" done", end]),
-        What::Switched(groups) => put_over(page, writer, event, groups.as_slice(), end),
-        What::Refused(why) => {
+        ShortWhat::Done => page.put_all(writer, &[event, b" done", end]),
+        ShortWhat::Switched => put_over(page, writer, event, groups, end),
+        ShortWhat::Refused(why) => {
             let why = number(&mut second, u64::from(why.number()));
             page.put_all(writer, &[event, b" refused E", why, end])
         }

@@ -24,7 +24,7 @@ pub(crate) fn cut(byte: u8, text: &[u8]) -> (&[u8], Option<&[u8]>)
 /// What stands before the first space, and what stands after it, if there is one. The same as `cut`
 /// for words, which are short.
 #[inline(always)]
-fn cut_word(line: &[u8]) -> (&[u8], Option<&[u8]>)
+pub(crate) fn cut_word(line: &[u8]) -> (&[u8], Option<&[u8]>)
     ensures parts { parts 32 line.now ≡ result.0.now ∷ parts_left 32 (option_copied result.1) }
     ensures shorter { IfSome result.1 (λ rest. length rest.now < length line.now) }
 {

@@ -24,7 +24,7 @@ fn replayed<M: Consistency>(
 /// What the replies say.
 fn said(alloc: Global, outcome: &Outcome) -> Result<Vec<Said>, Fail> {
     let mut said = Vec::new(alloc);
-    for reply in outcome.replies.as_slice() {
+    for reply in outcome.replies.to_vec(alloc)?.as_slice() {
         said.push(in_short(reply))?;
     }
     Ok(said)

@@ -12,7 +12,8 @@ ghost use Rattle.lp_trace.specs.Replay.{IsRecorded, IsOutcome, is_opened, legs_a
 use super::fault::ReplayFault;
 use super::legs::Legs;
 use super::open_leg::OpenLeg;
-use crate::outcome::{Outcome, ReplyList};
+use crate::outcome::Outcome;
+use crate::replies::ReplyList;
 use lp_model::Consistency;
 use lp_stays::StayCount;
 use lp_symbols::SymId;
@@ -24,7 +25,7 @@ use std::marker::Model;
 #[derive(Drop)]
 pub(super) struct Recorder<M: Consistency> {
     core: Core<M>,
-    replies: Vec<Reply>,
+    replies: ReplyList,
     legs: Legs,
     stays: StayCount,
 }
@@ -34,7 +35,7 @@ impl<M: Consistency> Model for Recorder<M> {
 
     ghost Value = { Recorded };
 
-    ghost view = { λ r. record { core = r.core; replies = r.replies.items; legs = r.legs; stays = r.stays } };
+    ghost view = { λ r. record { core = r.core; replies = r.replies; legs = r.legs; stays = r.stays } };
 }
 
 impl<M: Consistency> Recorder<M> {
@@ -49,7 +50,7 @@ impl<M: Consistency> Recorder<M> {
     {
         Ok(Recorder {
             core,
-            replies: Vec::with_capacity(alloc, events)?,
+            replies: ReplyList::with_capacity(alloc, events)?,
             legs: Legs::new(alloc),
             stays,
         })
@@ -100,7 +101,7 @@ impl<M: Consistency> Recorder<M> {
         } = self;
         let waiting = waiting(alloc, &core)?;
         Ok(Outcome {
-            replies: ReplyList::from_vec(replies),
+            replies,
             legs: legs.finish(waiting)?,
             stays: stays.stays(),
             mixed: stays.mixed(),

@@ -57,7 +57,7 @@ fn is_report(
 
 /// Task 1 calls `a`, goes over when it leaves the kernel, and calls `a` again.
 fn one_leg(alloc: Global) -> Result<Outcome, Fail> {
-    let mut replies = Vec::new(alloc);
+    let mut replies = ReplyList::with_capacity(alloc, 8)?;
     replies.push(plain(What::Done))?;
     replies.push(plain(What::Ran(Level(0))))?;
     replies.push(plain(What::Done))?;
@@ -68,7 +68,7 @@ fn one_leg(alloc: Global) -> Result<Outcome, Fail> {
     let mut legs = Vec::new(alloc);
     legs.push(leg(3, 1, Some(5), 0))?;
     Ok(Outcome {
-        replies: ReplyList::from_vec(replies),
+        replies,
         legs: LegList::from_vec(legs),
         stays: 2,
         mixed: 0,
@@ -87,7 +87,7 @@ fn a_leg_is_reported(rt: HostRuntime) -> Result<(), Fail> {
 
 #[test]
 fn a_reversal_is_reported(rt: HostRuntime) -> Result<(), Fail> {
-    let mut replies = Vec::new(rt.alloc());
+    let mut replies = ReplyList::with_capacity(rt.alloc(), 0)?;
     replies.push(plain(What::Done))?;
     replies.push(Reply {
         what: What::Done,
@@ -99,7 +99,7 @@ fn a_reversal_is_reported(rt: HostRuntime) -> Result<(), Fail> {
     legs.push(leg(1, 1, None, 1))?;
     legs.push(leg(2, 0, Some(2), 0))?;
     let outcome = Outcome {
-        replies: ReplyList::from_vec(replies),
+        replies,
         legs: LegList::from_vec(legs),
         stays: 0,
         mixed: 0,
@@ -112,7 +112,7 @@ fn a_reversal_is_reported(rt: HostRuntime) -> Result<(), Fail> {
 
 #[test]
 fn levels_are_numbers_in_the_second_form(rt: HostRuntime) -> Result<(), Fail> {
-    let mut replies = Vec::new(rt.alloc());
+    let mut replies = ReplyList::with_capacity(rt.alloc(), 0)?;
     replies.push(plain(What::Ran(Level(1))))?;
     replies.push(over(rt.alloc(), 3, false)?)?;
     replies.push(plain(What::Ran(Level(16))))?;
@@ -120,7 +120,7 @@ fn levels_are_numbers_in_the_second_form(rt: HostRuntime) -> Result<(), Fail> {
     legs.push(leg(7, 2, Some(8), 0))?;
     legs.push(leg(11, 0, None, 1))?;
     let outcome = Outcome {
-        replies: ReplyList::from_vec(replies),
+        replies,
         legs: LegList::from_vec(legs),
         stays: 1,
         mixed: 1,
@@ -179,10 +179,10 @@ fn long_lines_are_whole(rt: HostRuntime) -> Result<(), Fail> {
         wanted.push_str(format!(in rt.alloc(); " {group}")?.as_str())?;
     }
     wanted.push_str(" complete\nstays 0 mixed 0\n")?;
-    let mut replies = Vec::new(rt.alloc());
+    let mut replies = ReplyList::with_capacity(rt.alloc(), 0)?;
     replies.push(over(rt.alloc(), 65_535, true)?)?;
     let outcome = Outcome {
-        replies: ReplyList::from_vec(replies),
+        replies,
         legs: LegList::from_vec(Vec::new(rt.alloc())),
         stays: 0,
         mixed: 0,

@@ -1,17 +1,22 @@
-use Rattle.std.proofs.Common.{◌≡◌, ◌++◌, ◌∷◌, [], ◌∙◌, ap, sym, subst, decimal, List, ℕ}
-use Rattle.std.proofs.lemmas.List.{append-nil}
+use Rattle.std.proofs.Common.{◌≡◌, ◌++◌, ◌∷◌, [], ◌∙◌, ap, sym, subst, codes, decimal, List, ℕ}
+use Rattle.std.specs.List.{flat_map}
+use Rattle.lp_transition.specs.Events.{group_numbers}
+use Rattle.lp_trace.specs.declared.replies.ShortWhat.{ShortWhat}
+use Rattle.lp_trace.specs.Replies.{what_of}
 use Rattle.lp_trace.specs.Words.{line_of}
 use Rattle.lp_trace.specs.Report.{what_words, complete_words}
 use Rattle.lp_trace.specs.Writing.{Puts}
-use Rattle.lp_trace.proofs.Writing.{line_split}
+use Rattle.lp_trace.proofs.Reports.{over_line}
 use Rattle.lp_trace.proofs.report.put_event.Goals as goal
 
-pub returns : goal.returns
-returns g c =
-    let words : List (List ℕ) = what_words c.args.form c.args.reply.now.what ++ complete_words c.args.reply.now.completed in
-    let same : c.number.result.now ++ (c.in-Some.rest.now ++ []) ≡ line_of (decimal c.args.event ∷ words) =
-    ap (λ l. l ++ (c.in-Some.rest.now ++ [])) c.number.ensures
-    ∙ ap (λ l. decimal c.args.event ++ l) (append-nil c.in-Some.rest.now ∙ c.in-Some.ensures)
-    ∙ sym (line_split (decimal c.args.event) words) in
-    let P : List ℕ → Type 0 = λ l. Puts (g.W.Write.contents c.args.writer.now) (g.W.Write.contents c.put_all.new.writer) c.args.page.now.held.items c.put_all.new.self.held.items c.put_all.result l in
-    subst P same c.put_all.ensures
+pub returns-in-Switched : goal.returns-in-Switched
+returns-in-Switched g c =
+    let groups : List ℕ = group_numbers c.args.groups.now in
+    let line : List ℕ = c.number-event.result.now ++ (codes " over" ++ (flat_map (λ group. 32 ∷ decimal group) groups ++ c.line_end-end.result.now)) in
+    let same : line ≡ line_of (decimal c.args.event ∷ (what_words c.args.form (what_of c.args.reply.now.what (groups ∷ [])) ++ complete_words c.args.reply.now.completed)) =
+    ap (λ l. l ++ (codes " over" ++ (flat_map (λ group. 32 ∷ decimal group) groups ++ c.line_end-end.result.now))) c.number-event.ensures
+    ∙ ap (λ l. decimal c.args.event ++ (codes " over" ++ (flat_map (λ group. 32 ∷ decimal group) groups ++ l))) c.line_end-end.ensures
+    ∙ sym (over_line (decimal c.args.event) groups (complete_words c.args.reply.now.completed))
+    ∙ ap (λ (what : ShortWhat). line_of (decimal c.args.event ∷ (what_words c.args.form (what_of what (groups ∷ [])) ++ complete_words c.args.reply.now.completed))) (sym c.in-Switched.is) in
+    let P : List ℕ → Type 0 = λ l. Puts (g.W.Write.contents c.args.writer.now) (g.W.Write.contents c.put_over.new.writer) c.args.page.now.held.items c.put_over.new.page.held.items c.put_over.result l in
+    subst P same c.put_over.ensures
