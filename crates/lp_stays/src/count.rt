@@ -64,6 +64,7 @@ impl StayCount {
     /// Notes an event with its reply, in constant time. `top` is the function of the last frame
     /// on the stack of the event's task before the event, `None` without one; only a return looks
     /// at it. At most 1,000,000 events are noted.
+    #[inline(always)]
     pub fn note(&mut self, event: Event, reply: &Reply, top: Option<SymId>)
         requires { self.old.noted < 1000000 }
         ensures goes_on { GoesOn event reply.now top self.old self.new }
@@ -95,6 +96,7 @@ impl StayCount {
     }
 
     /// Keeps what an event did.
+    #[inline(always)]
     fn keep(&mut self, event: Event, what: &What, top: Option<SymId>)
         requires { self.old.noted < 1000000 }
         ensures { self.new ≡ after_event event what.now top self.old }
@@ -108,6 +110,7 @@ impl StayCount {
     }
 
     /// A call, where it ran.
+    #[inline(always)]
     fn keep_call(&mut self, task: TaskId, func: SymId, what: &What)
         requires stays { self.old.stays + 16 ≤ 16 * self.old.noted }
         requires mixed { self.old.mixed + 16 ≤ 16 * self.old.noted }
@@ -119,6 +122,7 @@ impl StayCount {
     }
 
     /// A return, where it was accepted.
+    #[inline(always)]
     fn keep_return(&mut self, task: TaskId, what: &What, top: Option<SymId>)
         ensures { self.new ≡ by_return task.0 what.now top self.old }
     {
@@ -131,6 +135,7 @@ impl StayCount {
     }
 
     /// A call of a function at a level, in each patch that has the function.
+    #[inline(always)]
     fn call(&mut self, task: TaskId, func: SymId, level: Level)
         requires stays { self.old.stays + 16 ≤ 16 * self.old.noted }
         requires mixed { self.old.mixed + 16 ≤ 16 * self.old.noted }
@@ -144,6 +149,7 @@ impl StayCount {
     }
 
     /// A return from a function, in each patch that has the function.
+    #[inline(always)]
     fn ret(&mut self, task: TaskId, func: SymId)
         ensures { self.new ≡ returns (length self.old.patches) task.0 func.0 self.old }
     {
@@ -155,6 +161,7 @@ impl StayCount {
     }
 
     /// Whether the patch above so many has a function.
+    #[inline(always)]
     fn has(&self, below: u8, func: SymId) -> bool
         requires { below < 16 }
         ensures { result ≡ patch_has self.now.patches (below + 1) func.0 }
@@ -164,6 +171,7 @@ impl StayCount {
     }
 
     /// A call of a function of the patch above so many.
+    #[inline(always)]
     fn call_in(&mut self, below: u8, task: TaskId, new_side: bool)
         requires patch { below < length self.old.patches }
         requires stays { self.old.stays < 16 * self.old.noted }
@@ -179,6 +187,7 @@ impl StayCount {
     }
 
     /// A return from a function of the patch above so many.
+    #[inline(always)]
     fn return_in(&mut self, below: u8, task: TaskId)
         requires { below < length self.old.patches }
         ensures { self.new ≡ after_return below task.0 self.old }
@@ -190,6 +199,7 @@ impl StayCount {
 }
 
 /// Whether a level has the patch above so many.
+#[inline(always)]
 fn has_patch(level: Level, below: u8) -> bool
     ensures { result ≡ nat_le (below + 1) level.0 }
 {
@@ -197,6 +207,7 @@ fn has_patch(level: Level, below: u8) -> bool
 }
 
 /// Where the stay of a task in the functions of the patch above so many is kept.
+#[inline(always)]
 fn place(below: u8, task: TaskId) -> usize
     ensures { result ≡ below * 65536 + task.0 }
 {

@@ -43,9 +43,9 @@ module _ (a b c : Option (List ℕ)) (text h piece now next : List ℕ) where
 -- a piece was held
 pub held_taken : (a b : Option (List ℕ)) (text h k piece now next : List ℕ) → k ≡ h ++ piece → now ≡ piece ++ next → Left a b text (h ++ now) → Left a b text (k ++ next)
 held_taken a b text h k piece now next taken e left = (
-    left.0,
-    left.1 ∙ ap (λ l. left.0 ++ l) (ap (λ l. h ++ l) e ∙ sym (append_assoc h piece next) ∙ ap (λ l. l ++ next) (sym taken)),
-    left.2,
+  left.0,
+  left.1 ∙ ap (λ l. left.0 ++ l) (ap (λ l. h ++ l) e ∙ sym (append_assoc h piece next) ∙ ap (λ l. l ++ next) (sym taken)),
+  left.2,
 )
 
 -- the last piece

@@ -34,6 +34,7 @@ impl Legs {
     }
 
     /// The leg under way ends, where so many groups wait, and another opens.
+    #[inline(never)]
     pub(super) fn turn(&mut self, waiting: u64, next: OpenLeg) -> Result<(), AllocFailed<LegEnd>>
         ensures { OnOk result (self.new ≡ record { ended = self.old.ended ++ ends_of self.old.present waiting; present = Some next }) }
     {
@@ -45,6 +46,7 @@ impl Legs {
     }
 
     /// The leg under way is complete from the event of this number on.
+    #[inline(never)]
     pub(super) fn complete(&mut self, number: u64)
         ensures { self.new ≡ record { ended = self.old.ended; present = complete_at number self.old.present } }
     {

@@ -57,6 +57,7 @@ impl<M: Consistency> Recorder<M> {
     }
 
     /// The next event.
+    #[inline(always)]
     pub(super) fn event(&mut self, alloc: Global, event: Event) -> Result<(), ReplayFault>
         requires numbered { self.old.core.number < 1000000 }
         requires noted { self.old.stays.noted < 1000000 }
@@ -64,14 +65,20 @@ impl<M: Consistency> Recorder<M> {
     {
         let top = last_function(&self.core, event);
         let waiting = waiting_before(alloc, &self.core, event)?;
-        let reply = step(alloc, &mut self.core, event)?;
-        self.stays.note(event, &reply, top);
-        self.note_legs(event, &reply, waiting)?;
-        self.replies.push(reply)?;
-        Ok(())
+        match self.core.step(alloc, event) {
+            Ok(reply) => {
+                self.stays.note(event, &reply, top);
+                self.note_legs(event, &reply, waiting)?;
+                self.replies.push(reply)?;
+                Ok(())
+            }
+            Err(Halt::NoMemory) => Err(ReplayFault::NoMemory),
+            Err(Halt::JournalFull) => unreachable!(),
+        }
     }
 
     /// Notes what the event that came last did to the legs.
+    #[inline(always)]
     fn note_legs(&mut self, event: Event, reply: &Reply, waiting: u64) -> Result<(), ReplayFault>
         ensures { OnOk result (self.new ≡ record self.old { legs = legs_after event reply.now waiting self.old.core self.old.legs }) }
     {
@@ -110,29 +117,15 @@ impl<M: Consistency> Recorder<M> {
 }
 
 /// Whether an event opened a leg: it is a control event, and was accepted.
+#[inline(always)]
 fn opens(event: Event, what: &What) -> bool
     ensures { result ≡ is_opened event what.now }
 {
     event.is_control() && !matches!(what, What::Refused(_))
 }
 
-/// One event of the engine.
-fn step<M: Consistency>(
-    alloc: Global,
-    core: &mut Core<M>,
-    event: Event,
-) -> Result<Reply, ReplayFault>
-    requires { core.old.number < 1000000 }
-    ensures { IfOk result (λ reply. IsStep M.rules (state_in core.old) event reply (state_in core.new)) }
-{
-    match core.step(alloc, event) {
-        Ok(reply) => Ok(reply),
-        Err(Halt::NoMemory) => Err(ReplayFault::NoMemory),
-        Err(Halt::JournalFull) => unreachable!(),
-    }
-}
-
 /// The function of the last frame of the task that returns at an event; None at any other event.
+#[inline(always)]
 fn last_function<M: Consistency>(core: &Core<M>, event: Event) -> Option<SymId>
     ensures { (run : Run) → StandsIn M.rules run (state_in core.now) → (t : TaskId) → event ≡ Event.Ret t → result ≡ top_of (stack M.rules (leg_of M.rules run) t.0) }
 {
@@ -145,6 +138,7 @@ fn last_function<M: Consistency>(core: &Core<M>, event: Event) -> Option<SymId>
 }
 
 /// How many groups wait.
+#[inline(never)]
 fn waiting<M: Consistency>(alloc: Global, core: &Core<M>) -> Result<u64, ReplayFault>
     ensures { IfOk result (λ count. (run : Run) → StandsIn M.rules run (state_in core.now) → count ≡ waiting_count M.rules (leg_of M.rules run)) }
 {

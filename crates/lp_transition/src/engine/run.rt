@@ -28,6 +28,7 @@ impl<M: Consistency> Core<M> {
     /// One event: answers and takes it. Where it fails the engine is as it was: NoMemory where a
     /// growth was refused, which may be at scans, at accepted forks, and at exits and idle points that
     /// take a group over, and JournalFull where no event is left.
+    #[inline(always)]
     pub fn step(&mut self, alloc: Global, event: Event) -> Result<Reply, Halt>
         ensures full { (result ≡ Err JournalFull) ↔ (1000000 ≤ self.old.number) }
         ensures memory { result ≡ Err NoMemory → IsTrue (may_want_memory event (answer M.rules (state_in self.old) event).what) }
@@ -40,11 +41,20 @@ impl<M: Consistency> Core<M> {
             Event::Sleep(task) if self.has_room() => Ok(self.step_sleep(task)),
             Event::Wake(task) if self.has_room() => Ok(self.step_wake(task)),
             Event::Enter(task) if self.has_room() => Ok(self.step_enter(task)),
-            _ => {
-                let step = self.weigh_any(alloc, event)?;
-                Ok(self.take(step))
-            }
+            _ => self.step_weighed(alloc, event),
         }
+    }
+
+    /// Any event: it is weighed, and then taken.
+    #[inline(never)]
+    fn step_weighed(&mut self, alloc: Global, event: Event) -> Result<Reply, Halt>
+        ensures full { (result ≡ Err JournalFull) ↔ (1000000 ≤ self.old.number) }
+        ensures memory { result ≡ Err NoMemory → IsTrue (may_want_memory event (answer M.rules (state_in self.old) event).what) }
+        ensures step { IfOk result (λ reply. IsStep M.rules (state_in self.old) event reply (state_in self.new)) }
+        ensures unchanged { OnErr result (self.new ≡ self.old) }
+    {
+        let step = self.weigh_any(alloc, event)?;
+        Ok(self.take(step))
     }
 
     /// A walk or a stop by what its checks found of the waiting tasks: answers and takes it. Where it

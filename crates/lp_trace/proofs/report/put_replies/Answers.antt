@@ -16,12 +16,13 @@ returns-in_err-put_event g c =
 
 pub loop-i-preserved : goal.loop-i-preserved
 loop-i-preserved g c =
-    let P : List ℕ → Type 0 = λ h. Left (g.W.Write.contents c.args.writer.now) (g.W.Write.contents c.loop-i.writer) (c.args.page.now.held.items ++ flat_map line_of (event_lines c.args.form 1 (replies_of c.args.replies.now c.args.lists.now))) (h ++ flat_map line_of (event_lines c.args.form (c.loop-i.i + 1) (replies_of (drop c.loop-i.i c.args.replies.now) (drop c.loop-i.next c.args.lists.now)))) in
-    (omega (arith, c.loop-i.invariant.0, c.lists-next.ensures.few),
-    elim c.if-not-hold_event.branch [
-      | then-not-hold_event+in_ok-put_event w ↦ rw (w.page-is, w.writer-is) (held_next _ (g.W.Write.contents c.loop-i.writer) _ _ c.hold_event.new.page.held.items _ _ _ w.put_event.new.page.held.items (events_next c.args.form c.args.replies.now c.args.lists.now c.loop-i.i c.loop-i.next _ c.lists-next.result _ c.loop-i-test.true c.lists-next.ensures.value w.groups_at.ensures) (subst P (sym (w.if-not-hold_event.ensures.kept refl)) c.loop-i.invariant.1) w.in_ok-put_event.ensures)
-      | else-not-hold_event w ↦ rw (w.page-is, w.writer-is) (held_taken _ _ _ c.loop-i.page.held.items _ _ _ _ (w.if-not-hold_event.ensures.taken refl (first_groups (drop c.loop-i.next c.args.lists.now) ∷ [])) (events_next c.args.form c.args.replies.now c.args.lists.now c.loop-i.i c.loop-i.next _ c.lists-next.result _ c.loop-i-test.true c.lists-next.ensures.value refl) c.loop-i.invariant.1)
-    ])
+    let P : List ℕ → Type 0 = λ h. Left (g.W.Write.contents c.args.writer.now) (g.W.Write.contents c.loop-i.writer) (c.args.page.now.held.items ++ flat_map line_of (event_lines c.args.form 1 (replies_of c.args.replies.now c.args.lists.now))) (h ++ flat_map line_of (event_lines c.args.form (c.loop-i.i + 1) (replies_of (drop c.loop-i.i c.args.replies.now) (drop c.loop-i.next c.args.lists.now)))) in (
+      omega (arith, c.loop-i.invariant.0, c.lists-next.ensures.few),
+      elim c.if-not-hold_event.branch [
+        | then-not-hold_event+in_ok-put_event w ↦ rw (w.page-is, w.writer-is) (held_next _ (g.W.Write.contents c.loop-i.writer) _ _ c.hold_event.new.page.held.items _ _ _ w.put_event.new.page.held.items (events_next c.args.form c.args.replies.now c.args.lists.now c.loop-i.i c.loop-i.next _ c.lists-next.result _ c.loop-i-test.true c.lists-next.ensures.value w.groups_at.ensures) (subst P (sym (w.if-not-hold_event.ensures.kept refl)) c.loop-i.invariant.1) w.in_ok-put_event.ensures)
+        | else-not-hold_event w ↦ rw (w.page-is, w.writer-is) (held_taken _ _ _ c.loop-i.page.held.items _ _ _ _ (w.if-not-hold_event.ensures.taken refl (first_groups (drop c.loop-i.next c.args.lists.now) ∷ [])) (events_next c.args.form c.args.replies.now c.args.lists.now c.loop-i.i c.loop-i.next _ c.lists-next.result _ c.loop-i-test.true c.lists-next.ensures.value refl) c.loop-i.invariant.1)
+      ],
+    )
 
 pub returns : goal.returns
 returns g c =

@@ -9,11 +9,12 @@ use Rattle.lp_trace.proofs.replies.ReplyList.to_vec.Goals as goal
 pub loop-reply-preserved : goal.loop-reply-preserved
 loop-reply-preserved c =
     let i = c.self.inside in
-    let l = c.loop-reply in
-    (omega (arith, l.invariant.0, c.lists-next.ensures.few),
-    told-next c.as_slice-reply-items.result.now i.groups.items l.reply-index l.next _ c.lists-next.result _ c.in_ok-what.what l.replies.items c.push.new.self.items c.loop-reply-test.true c.lists-next.ensures.value
-        (c.groups_at.ensures ∙ ap (λ (lists : List (List ℕ)). first_groups (drop l.next lists)) c.as_slice.ensures.value) c.in_ok-what.ensures c.in_ok-push.ensures.items
-    ∙ l.invariant.1)
+    let l = c.loop-reply in (
+      omega (arith, l.invariant.0, c.lists-next.ensures.few),
+      told-next c.as_slice-reply-items.result.now i.groups.items l.reply-index l.next _ c.lists-next.result _ c.in_ok-what.what l.replies.items c.push.new.self.items c.loop-reply-test.true c.lists-next.ensures.value
+          (c.groups_at.ensures ∙ ap (λ (lists : List (List ℕ)). first_groups (drop l.next lists)) c.as_slice.ensures.value) c.in_ok-what.ensures c.in_ok-push.ensures.items
+          ∙ l.invariant.1,
+    )
 
 pub returns : goal.returns
 returns c =
