@@ -150,7 +150,7 @@ fn what_of(alloc: Global, what: ShortWhat, groups: &[GroupId]) -> Result<What, A
         ShortWhat::Refused(why) => Ok(What::Refused(why)),
         ShortWhat::Switched => {
             let groups = Vec::from_slice(alloc, groups)?;
-            Ok(What::Switched(GroupList::from_vec(groups)))
+            Ok(What::Switched(GroupList::from_vec(alloc, groups)?))
         }
     }
 }

@@ -8,9 +8,11 @@ use std::alloc::{AllocError, Global};
 use std::marker::Model;
 
 /// A list of groups. Contracts see the list of their numbers.
+///
+/// The list stands behind a pointer, so that replies stay small.
 #[derive(Drop)]
 pub struct GroupList {
-    groups: Vec<GroupId>,
+    groups: Box<Vec<GroupId>>,
 }
 
 impl Model for GroupList {
@@ -19,15 +21,16 @@ impl Model for GroupList {
 
     ghost Value = { List ℕ };
 
-    ghost view = { λ l. group_numbers l.groups.items };
+    ghost view = { λ l. group_numbers l.groups.value.items };
 }
 
 impl GroupList {
-    /// The list of these groups. Takes no memory.
-    pub fn from_vec(groups: Vec<GroupId>) -> GroupList
-        ensures { result ≡ group_numbers groups.items }
+    /// The list of these groups; AllocError where a growth was refused.
+    pub fn from_vec(alloc: Global, groups: Vec<GroupId>) -> Result<GroupList, AllocError>
+        ensures { IfOk result (λ list. list ≡ group_numbers groups.items) }
     {
-        GroupList { groups }
+        let groups = Box::new(alloc, groups)?;
+        Ok(GroupList { groups })
     }
 
     /// The groups, given back. Takes no memory.
@@ -35,7 +38,7 @@ impl GroupList {
         ensures { group_numbers result.items ≡ self }
     {
         let Self { groups } = self;
-        groups
+        Box::into_inner(groups)
     }
 
     /// The groups, lent.
@@ -65,7 +68,7 @@ impl GroupList {
     {
         let mut groups = Vec::with_capacity(alloc, self.len())?;
         groups.extend_from_slice(self.as_slice())?;
-        Ok(GroupList::from_vec(groups))
+        GroupList::from_vec(alloc, groups)
     }
 }
 

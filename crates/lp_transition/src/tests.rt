@@ -39,7 +39,7 @@ fn refusals_have_numbers(rt: HostRuntime) {
 fn replies_are_copied(rt: HostRuntime) -> Result<(), Fail> {
     let groups = vec![in rt.alloc(); GroupId(3), GroupId(7)]?;
     let switched = Reply {
-        what: What::Switched(GroupList::from_vec(groups)),
+        what: What::Switched(GroupList::from_vec(rt.alloc(), groups)?),
         completed: true,
     };
     let again = switched.copy(rt.alloc())?;

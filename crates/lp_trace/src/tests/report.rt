@@ -21,7 +21,7 @@ fn over(alloc: Global, groups: u16, completed: bool) -> Result<Reply, Fail> {
     for group in 0..groups {
         list.push(GroupId(group.wrapping_add(1)))?;
     }
-    let what = What::Switched(GroupList::from_vec(list));
+    let what = What::Switched(GroupList::from_vec(alloc, list)?);
     Ok(Reply { what, completed })
 }
 

@@ -112,7 +112,7 @@ fn group_list(alloc: Global, set: &NumberSet) -> Result<GroupList, AllocError>
         groups.push(GroupId(number))?;
         next = member_from(set, usize::from(number) + 1);
     }
-    Ok(GroupList::from_vec(groups))
+    GroupList::from_vec(alloc, groups)
 }
 
 /// The least member of a set that is at or above a number, which may be past all members.

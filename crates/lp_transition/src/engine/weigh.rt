@@ -146,5 +146,5 @@ pub(super) fn one_group(alloc: Global, group: GroupId) -> Result<GroupList, Allo
 {
     let mut groups = Vec::with_capacity(alloc, 1)?;
     groups.push(group)?;
-    Ok(GroupList::from_vec(groups))
+    GroupList::from_vec(alloc, groups)
 }

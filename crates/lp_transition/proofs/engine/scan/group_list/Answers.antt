@@ -1,4 +1,4 @@
-use Rattle.std.proofs.Common.{ℕ, ◌+◌, ◌<◌, map, sym, ap, ◌∙◌, arith}
+use Rattle.std.proofs.Common.{◌≡◌, ℕ, ◌+◌, ◌<◌, List, map, sym, ap, subst, IfOk, arith}
 use Rattle.std.proofs.lemmas.List.{map-append, map-id, append-nil}
 use Rattle.lp_numbers.specs.Numbers.{has}
 use Rattle.lp_transition.proofs.Passing.{passing-next, passing-less, passing-more, next_passes}
@@ -30,4 +30,4 @@ loop-next-preserved c =
 pub returns : goal.returns
 returns c =
     let whole = rw (c.in_default.is, append-nil, map-id) at c.loop-next.invariant.all in
-    c.from_vec.ensures ∙ whole
+    subst (λ (groups : List ℕ). IfOk c.from_vec.result (λ list. list ≡ groups)) whole c.from_vec.ensures
