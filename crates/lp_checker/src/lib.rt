@@ -12,6 +12,8 @@ pub mod laws;
 mod leg;
 mod lines;
 mod sections;
+#[cfg(test)]
+mod tests;
 
 pub use check::{check_floor, check_waiting};
 pub use fault::CertFault;
