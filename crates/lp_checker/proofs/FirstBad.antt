@@ -22,6 +22,10 @@ pub good_here : (n m start next : ℕ) (passes : ℕ → Bool) → n ≡ suc m �
 good_here n m start next passes more after e =
     ap (λ k. first_bad k start passes) more ∙ one_good m start passes e ∙ ap (λ k. first_bad m k passes) (sym after)
 
+pub all_good : (n start : ℕ) (passes : ℕ → Bool) → ((i : ℕ) → start ≤ i → i < start + n → passes i ≡ true) → first_bad n start passes ≡ None
+all_good zero start passes h = none_bad 0 start passes refl
+all_good (suc n) start passes h = one_good n start passes (h start (omega arith) (omega arith)) ∙ all_good n (suc start) passes (λ i low high. h i (omega (arith, low)) (omega (arith, high)))
+
 -- it is one of them
 pub bad_within : (n start : ℕ) (passes : ℕ → Bool) (bad : ℕ) → first_bad n start passes ≡ Some bad → (start ≤ bad) × (bad < start + n)
 unfolding first_bad

@@ -13,6 +13,8 @@ pub mod Strays
 pub mod FirstBad
 pub mod GapLines
 pub mod Stages
+pub mod Held
+pub mod MarkLines
 pub mod SpanLines
 pub mod SectionLines
 pub mod PartLines

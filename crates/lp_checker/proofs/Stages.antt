@@ -15,7 +15,7 @@ use Rattle.lp_checker.specs.Verdict.{Birth, Section, births, birth_tests, first_
 use Rattle.lp_checker.specs.Sections.{AreInOrder}
 use Rattle.lp_checker.proofs.FirstBad.{first_of_append, first_of_found, first_none, first_some}
 
-fit_none : {A : Type 0} (b : Bool) (x : A) → b ≡ false → fits b x ≡ None
+pub fit_none : {A : Type 0} (b : Bool) (x : A) → b ≡ false → fits b x ≡ None
 fit_none false x e = refl
 fit_none true x e = absurd (cc)
 

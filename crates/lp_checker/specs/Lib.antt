@@ -5,5 +5,7 @@ pub mod Births
 pub mod Folds
 pub mod Sections
 pub mod Spans
+pub mod Walks
+pub mod Marks
 pub mod Laws
 pub mod Rows

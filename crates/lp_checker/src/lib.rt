@@ -11,9 +11,11 @@ mod groups;
 pub mod laws;
 mod leg;
 mod lines;
+mod marks;
 mod sections;
 #[cfg(test)]
 mod tests;
+mod walk;
 
 pub use check::{check_floor, check_waiting};
 pub use fault::CertFault;

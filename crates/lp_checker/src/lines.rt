@@ -1,16 +1,20 @@
 //! The lines of a certificate that tell of blames.
-ghost use Rattle.std.specs.Prelude.{◌≡◌, ℕ, suc, ◌+◌, ◌-◌, ◌≤◌, length, map, IfOk};
+ghost use Rattle.std.specs.Prelude.{◌≡◌, ℕ, true, suc, ◌+◌, ◌-◌, ◌≤◌, length, map, IfOk};
 ghost use Rattle.std.specs.List.{flat_map};
 ghost use Rattle.lp_transition.specs.Tasks.{first_of};
 ghost use Rattle.lp_checker.specs.Folds.{leg_with, IsAt};
 ghost use Rattle.lp_cert.specs.declared.line.Line.{Line};
 ghost use Rattle.lp_checker.specs.Verdict.{first_bad, is_busy, is_held_by, is_on_stack, line_test, line_tests};
+ghost use Rattle.lp_checker.specs.Marks.{AreMarked};
+ghost use Rattle.lp_checker.specs.Walks.{IsWalk};
 ghost use Rattle.lp_checker.specs.Sections.{section_of, timed, FollowOn};
 
 use crate::CertFault;
 use crate::fold::Fold;
 use crate::leg::Leg;
+use crate::marks::{Mark, marks_of};
 use crate::sections::Section;
+use crate::walk::Walk;
 use lp_cert::Line;
 use lp_model::{Blame, Consistency};
 use lp_stack::{GroupId, TaskId};
@@ -30,14 +34,11 @@ pub(crate) fn line_fault<M: Consistency>(
     requires room { leg.now.opening.now.number + last ≤ 1000000 }
     ensures { IfOk result (λ fault. fault ≡ first_of (flat_map (line_tests M.rules (leg_with leg.now.opening.now leg.now.events.now)) (map (section_of lines.now) sections.now))) }
 {
+    let mut walk = Walk::open(alloc, model, leg)?;
     for section in sections {
-        let fault = fault_in(
-            alloc,
-            model,
-            leg,
-            *section,
-            &lines[section.start..section.end],
-        )?;
+        let own = &lines[section.start..section.end];
+        let marks = marks_of(alloc, model, leg, &mut walk, *section, own)?;
+        let fault = fault_in(alloc, model, leg, *section, own, marks.as_slice())?;
         if fault.is_some() {
             return Ok(fault);
         }
@@ -45,25 +46,38 @@ pub(crate) fn line_fault<M: Consistency>(
     Ok(None)
 }
 
-/// The fault of the first line at fault among those of a section.
+/// The fault of the first line at fault among those of a section. Lines that are marked as sound
+/// have none.
 fn fault_in<M: Consistency>(
     alloc: Global,
     model: M,
     leg: &Leg<'_>,
     section: Section,
     lines: &[Line],
+    marks: &[Mark],
 ) -> Result<Option<CertFault>, AllocError>
     requires within { section.until ≤ length leg.now.events.now }
     requires room { leg.now.opening.now.number + section.until ≤ 1000000 }
+    requires marks { AreMarked M.rules (leg_with leg.now.opening.now leg.now.events.now) (timed section) lines.now marks.now }
     ensures { IfOk result (λ fault. fault ≡ first_of (map (line_test M.rules (leg_with leg.now.opening.now leg.now.events.now) (timed section)) lines.now)) }
 {
-    for line in lines {
+    for (i, line) in lines.iter().enumerate() {
+        if is_sound(marks[i]) {
+            continue;
+        }
         let fault = fault_of(alloc, model, leg, section, *line)?;
         if fault.is_some() {
             return Ok(fault);
         }
     }
     Ok(None)
+}
+
+/// Whether a mark says that its line has no fault.
+fn is_sound(mark: Mark) -> bool
+    ensures { result ≡ true → mark ≡ Mark.Sound }
+{
+    matches!(mark, Mark::Sound)
 }
 
 /// The fault of a line of a section.
@@ -101,11 +115,11 @@ fn fault_of<M: Consistency>(
 
 /// A `hold` line, without its group.
 #[derive(Clone, Copy)]
-struct Hold {
-    task: TaskId,
-    serial: u64,
-    from: u64,
-    to: u64,
+pub(crate) struct Hold {
+    pub(crate) task: TaskId,
+    pub(crate) serial: u64,
+    pub(crate) from: u64,
+    pub(crate) to: u64,
 }
 
 /// The fault of a `hold` line of a section.
@@ -167,7 +181,7 @@ fn busy_fault<M: Consistency>(
 }
 
 /// Whether a blame is that of the frame with a serial.
-fn is_held_by(blame: Option<Blame>, serial: u64) -> bool
+pub(crate) fn is_held_by(blame: Option<Blame>, serial: u64) -> bool
     ensures { result ≡ is_held_by serial blame }
 {
     match blame {
@@ -177,7 +191,7 @@ fn is_held_by(blame: Option<Blame>, serial: u64) -> bool
 }
 
 /// Whether a blame is that of a task on a CPU.
-fn is_busy(blame: Option<Blame>) -> bool
+pub(crate) fn is_busy(blame: Option<Blame>) -> bool
     ensures { result ≡ is_busy blame }
 {
     matches!(blame, Some(Blame::Busy))

@@ -6,5 +6,5 @@ use Rattle.lp_checker.specs.Sections.{timed}
 use Rattle.lp_checker.proofs.lines.fault_in.Given as goal
 
 -- no fault so far
-abbrev pub invariant-loop-line : goal.invariant-loop-line
-invariant-loop-line g l = let test = line_test g.M.Consistency.rules (leg_with l.fn.leg.opening.now l.fn.leg.events.now) (timed l.fn.section) in first_of (map test l.fn.lines) ≡ first_of (map test (drop l.line-index l.fn.lines))
+abbrev pub invariant-loop-i : goal.invariant-loop-i
+invariant-loop-i g l = let test = line_test g.M.Consistency.rules (leg_with l.fn.leg.opening.now l.fn.leg.events.now) (timed l.fn.section) in first_of (map test l.fn.lines) ≡ first_of (map test (drop l.i l.fn.lines))
