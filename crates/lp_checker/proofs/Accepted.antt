@@ -46,7 +46,7 @@ map_none : {A B : Type 0} (f : A → B) (o : Option A) → option_map f o ≡ No
 map_none f None e = refl
 map_none f (Some x) e = absurd (cc)
 
-held-is : (serial : ℕ) (o : Option Blame) → is_held_by serial o ≡ true → o ≡ Some (Held serial)
+pub held-is : (serial : ℕ) (o : Option Blame) → is_held_by serial o ≡ true → o ≡ Some (Held serial)
 held-is serial (Some (Held by)) e = ap (λ n. Some (Held n)) (eqb-true _ _ e)
 held-is serial _ e = absurd (cc)
 
@@ -75,13 +75,13 @@ module _ (model : Rules) (leg : Leg) where
       (cases_eq j (suc k))
 
   -- at this event of the leg, a check of the group, a live member has this blame
-  record BlamedAt (moment group t : ℕ) (blame : Blame) : Type 0 where
-    kind : CheckKind
-    is_check : check model leg (pred moment) group ≡ Some kind
-    life : Life
-    live : after model leg moment t ≡ Live life
-    member : life.group ≡ group
-    blamed : model.blame kind (view leg nobody t life) leg.aim ≡ Some blame
+  pub record BlamedAt (moment group t : ℕ) (blame : Blame) : Type 0 where
+    pub kind : CheckKind
+    pub is_check : check model leg (pred moment) group ≡ Some kind
+    pub life : Life
+    pub live : after model leg moment t ≡ Live life
+    pub member : life.group ≡ group
+    pub blamed : model.blame kind (view leg nobody t life) leg.aim ≡ Some blame
 
   blamed_by : (moment group t : ℕ) (blame : Blame) (o : Option CheckKind) (fate : Fate Life) → check model leg (pred moment) group ≡ o → after model leg moment t ≡ fate → blame_by model leg o group t fate ≡ Some blame → BlamedAt moment group t blame
   blamed_by moment group t blame (Some kind) (Live x) c live e =
@@ -93,7 +93,7 @@ module _ (model : Rules) (leg : Leg) where
   blamed_by moment group t blame (Some kind) Dead c live e = absurd (cc)
   blamed_by moment group t blame None fate c live e = absurd (cc)
 
-  blamed-is : (moment group t : ℕ) (blame : Blame) → blame_at model leg group moment t ≡ Some blame → BlamedAt moment group t blame
+  pub blamed-is : (moment group t : ℕ) (blame : Blame) → blame_at model leg group moment t ≡ Some blame → BlamedAt moment group t blame
   blamed-is moment group t blame e = blamed_by moment group t blame (check model leg (pred moment) group) (after model leg moment t) refl refl e
 
 module _ (model : Rules) (leg : Leg) (lawful : IsLawful model) (sound : IsSound leg.opening) where

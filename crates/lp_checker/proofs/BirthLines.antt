@@ -1,6 +1,7 @@
 -- The births are gone through line by line.
-use Rattle.std.proofs.Common.{◌≡◌, ℕ, zero, suc, pred, ◌-◌, Bool, true, false, not, ◌&&◌, List, [], ◌∷◌, drop, Option, Some, None, nat_lt, nat_le, refl, sym, ap, ◌∙◌, arith}
+use Rattle.std.proofs.Common.{◌≡◌, ℕ, zero, suc, pred, ◌-◌, ◌<◌, ◌≤◌, Bool, true, false, not, ◌&&◌, List, [], ◌∷◌, drop, Option, Some, None, nat_lt, nat_le, refl, sym, ap, ◌∙◌, arith}
 use Rattle.std.specs.Option.{option_map}
+use Rattle.std.proofs.lemmas.Bool.{and_parts, ltb-true, leb-true}
 use Rattle.lp_stack.specs.declared.number.GroupId.{GroupId}
 use Rattle.lp_stack.specs.declared.number.TaskId.{TaskId}
 use Rattle.lp_model.specs.Rules.{Rules}
@@ -116,3 +117,12 @@ fits_some false x m e = absurd (cc)
 pub fits_none : {A : Type 0} (b : Bool) (x : A) → None ≡ fits b x → b ≡ false
 fits_none true x e = absurd (cc)
 fits_none false x e = refl
+
+-- a moment that fits lies between the two places
+pub moment_between : (begin last moment m : ℕ) → Some m ≡ fits (nat_lt begin moment && nat_le moment last) moment → (begin < m) × (m ≤ last)
+moment_between begin last moment m e =
+    let timely = fits_some (nat_lt begin moment && nat_le moment last) moment m e in
+    let both = and_parts (nat_lt begin moment) (nat_le moment last) timely.0 in
+    let low = ltb-true begin moment both.0 in
+    let high = leb-true moment last both.1 in
+    (omega (arith, low, timely.1), omega (arith, high, timely.1))

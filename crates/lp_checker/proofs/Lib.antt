@@ -10,3 +10,12 @@ pub mod Accepted
 pub mod LawProofs
 pub mod Rows
 pub mod Strays
+pub mod FirstBad
+pub mod GapLines
+pub mod Stages
+pub mod Held
+pub mod MarkLines
+pub mod SpanLines
+pub mod SectionLines
+pub mod PartLines
+pub mod AtOpening

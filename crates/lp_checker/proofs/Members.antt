@@ -8,7 +8,7 @@ use Rattle.lp_transition.specs.Table.{Table, slot, standings, bounds_of, IsWide,
 use Rattle.lp_transition.proofs.MemberLemmas.{Member, has_member-is, has_member-from, alone-is, alone-from}
 
 -- two answers that come to the same
-same_answer : (a b : Bool) → (a ≡ true → b ≡ true) → (b ≡ true → a ≡ true) → a ≡ b
+pub same_answer : (a b : Bool) → (a ≡ true → b ≡ true) → (b ≡ true → a ≡ true) → a ≡ b
 same_answer true b there back = sym (there refl)
 same_answer false true there back = back refl
 same_answer false false there back = refl

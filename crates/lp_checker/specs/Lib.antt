@@ -3,5 +3,9 @@ pub mod Verdict
 pub mod Tables
 pub mod Births
 pub mod Folds
+pub mod Sections
+pub mod Spans
+pub mod Walks
+pub mod Marks
 pub mod Laws
 pub mod Rows

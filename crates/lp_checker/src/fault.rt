@@ -1,4 +1,7 @@
 //! Why a certificate is refused.
+ghost use Rattle.lp_checker.specs.declared.fault.CertFault.TheVariants.{NoMemory};
+
+use std::alloc::AllocError;
 
 /// Why a certificate is refused. Events have their numbers in the run.
 #[derive(Clone, Copy, Debug, PartialEq, Eq)]
@@ -37,5 +40,15 @@ impl CertFault {
             CertFault::NoLeg => 6,
             CertFault::NoMemory => 7,
         }
+    }
+}
+
+impl From<AllocError> for CertFault {
+    ghost use Rattle.std.specs.Prelude.{◌≡◌};
+
+    ghost from_gives = { λ _ e. e ≡ NoMemory };
+
+    fn from(_e: AllocError) -> CertFault {
+        CertFault::NoMemory
     }
 }

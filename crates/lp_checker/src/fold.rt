@@ -219,7 +219,7 @@ impl Fold {
     }
 
     /// Whether a group has a live member.
-    fn has_member(&self, group: GroupId) -> bool
+    pub(crate) fn has_member(&self, group: GroupId) -> bool
         ensures { result ≡ has_member (bounds_of self.now.patches) (outlines_of (standings self.now.tasks)) group.0 }
     {
         self.tasks.members(group) > 0

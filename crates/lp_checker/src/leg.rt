@@ -1,10 +1,10 @@
 //! A leg, and the fold that goes through it.
 ghost use Rattle.std.specs.Prelude.{◌≡◌, ℕ, suc, ◌+◌, ◌-◌, ◌<◌, ◌≤◌, ◌&&◌, length, nat_lt, nat_le, Some, IfOk, OnOk};
 ghost use Rattle.std.specs.Option.{option_map};
-ghost use Rattle.lp_transition.specs.Tasks.{fits};
-ghost use Rattle.lp_transition.specs.Leg.{accepted, after, check};
+ghost use Rattle.lp_transition.specs.Tasks.{fits, outlines};
+ghost use Rattle.lp_transition.specs.Leg.{accepted, after, check, has_member};
 ghost use Rattle.lp_checker.specs.Births.{group_in};
-ghost use Rattle.lp_checker.specs.Verdict.{blame_by, is_on_stack};
+ghost use Rattle.lp_checker.specs.Verdict.{blame_at, blame_by, is_on_stack};
 ghost use Rattle.lp_checker.specs.Folds.{leg_with, IsAt};
 
 use crate::fold::Fold;
@@ -110,6 +110,55 @@ impl Leg<'_> {
             return None;
         }
         Some(moment as usize)
+    }
+
+    /// The place of an event in the leg, from 1; 0 for the opening and all before it.
+    pub(crate) fn moment(&self, at: u64) -> u64
+        ensures { result ≡ at - self.now.opening.now.number }
+    {
+        at.saturating_sub(self.opening.number())
+    }
+
+    /// Whether a group has a live member just after so many events.
+    pub(crate) fn has_member<M: Consistency>(
+        &self,
+        _model: M,
+        fold: &Fold,
+        moment: usize,
+        group: GroupId,
+    ) -> bool
+        requires { IsAt M.rules self.now.opening.now self.now.events.now moment fold.now }
+        ensures { let leg = leg_with self.now.opening.now self.now.events.now in result ≡ has_member leg.bounds (outlines (after M.rules leg moment)) group.0 }
+    {
+        fold.has_member(group)
+    }
+
+    /// Takes the events up to one, and answers why that one, a check of a group, doesn't admit a
+    /// live member.
+    pub(crate) fn blame_at<M: Consistency>(
+        &self,
+        alloc: Global,
+        model: M,
+        fold: &mut Fold,
+        from: usize,
+        moment: usize,
+        group: GroupId,
+        task: TaskId,
+    ) -> Result<Option<Blame>, AllocError>
+        requires at { IsAt M.rules self.now.opening.now self.now.events.now from fold.old }
+        requires order { from < moment }
+        requires within { moment ≤ length self.now.events.now }
+        requires room { self.now.opening.now.number + moment ≤ 1000000 }
+        ensures at { OnOk result (IsAt M.rules self.now.opening.now self.now.events.now moment fold.new) }
+        ensures blame { IfOk result (λ blame. blame ≡ blame_at M.rules (leg_with self.now.opening.now self.now.events.now) group.0 moment task.0) }
+    {
+        let place = moment - 1;
+        self.advance_to(alloc, model, fold, from, place)?;
+        let event = self.advance(alloc, model, fold, place)?;
+        let Some(kind) = self.check(model, fold, place, event, group) else {
+            return Ok(None);
+        };
+        Ok(self.blame(model, fold, moment, kind, group, task))
     }
 
     /// Why a check of a group just after so many events doesn't admit a live member.

@@ -3,10 +3,19 @@
 #![tactic(auto)]
 
 mod births;
+mod check;
 mod fault;
 mod fold;
+mod gaps;
 mod groups;
 pub mod laws;
 mod leg;
+mod lines;
+mod marks;
+mod sections;
+#[cfg(test)]
+mod tests;
+mod walk;
 
+pub use check::{check_floor, check_waiting};
 pub use fault::CertFault;

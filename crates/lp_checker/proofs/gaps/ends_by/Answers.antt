@@ -1,0 +1,26 @@
+use Rattle.std.proofs.Common.{◌≡◌, ℕ, suc, ◌-◌, ◌<◌, ◌++◌, List, length, take, drop, nat_le, slice_index, take_all, ap, ◌∙◌, arith}
+use Rattle.std.proofs.lemmas.List.{take-append-le}
+use Rattle.std.specs.List.{list_any}
+use Rattle.lp_checker.specs.Folds.{leg_with}
+use Rattle.lp_checker.proofs.SpanLines.{ends_so_far, lines_cover}
+use Rattle.lp_checker.proofs.gaps.ends_by.Goals as goal
+
+pub returns-clause-covers : goal.returns-clause-covers
+returns-clause-covers c = λ model moment low high.
+    let leg = leg_with c.args.leg.now.opening.now c.args.leg.now.events.now in
+    let begin = c.args.section.begin in
+    let last : ℕ = c.args.section.until - begin in
+    let place : ℕ = moment - begin in
+    let own = c.in_ok-ends.ends.items in
+    let new = c.keep_greatest.new.numbers in
+    let lent = c.deref_mut.ensures.len in
+    let n : length new ≡ c.in_ok-ends.ends.len = c.keep_greatest.auto.numbers ∙ lent in
+    let written : take c.in_ok-ends.ends.len (new ++ drop (length new) own) ≡ new = take-append-le c.in_ok-ends.ends.len new (drop (length new) own) (omega (arith, n)) ∙ take_all c.in_ok-ends.ends.len new (omega (arith, n)) in
+    let all = c.in_ok-ends.ensures.all in
+    let there : place < length c.deref_mut.result.now = let len = ap length c.deref_mut.ensures.value in omega (arith, len, all, low, high) in
+    let positive : 0 < moment = omega (arith, low) in
+    ap (λ (xs : List ℕ). nat_le moment (slice_index xs place)) written
+    ∙ c.keep_greatest.ensures place moment there positive
+    ∙ ap (λ (xs : List ℕ). list_any (nat_le moment) (take (suc place) xs)) c.deref_mut.ensures.value
+    ∙ ends_so_far leg.number begin last c.args.lines.now own all c.in_ok-ends.ensures.ends moment positive (suc place) (omega (arith, low, high))
+    ∙ lines_cover model leg begin moment low c.args.lines.now

@@ -1,0 +1,7 @@
+use Rattle.std.proofs.Common.{◌≡◌, drop}
+use Rattle.lp_checker.specs.Verdict.{births}
+use Rattle.lp_checker.proofs.groups.first_group.Given as goal
+
+-- no birth so far
+abbrev pub invariant-loop-line : goal.invariant-loop-line
+invariant-loop-line g l = births l.fn.lines ≡ births (drop l.line-index l.fn.lines)

@@ -1,0 +1,10 @@
+use Rattle.std.proofs.Common.{◌≡◌, map, drop}
+use Rattle.lp_transition.specs.Tasks.{first_of}
+use Rattle.lp_checker.specs.Folds.{leg_with}
+use Rattle.lp_checker.specs.Verdict.{line_test}
+use Rattle.lp_checker.specs.Sections.{timed}
+use Rattle.lp_checker.proofs.lines.fault_in.Given as goal
+
+-- no fault so far
+abbrev pub invariant-loop-i : goal.invariant-loop-i
+invariant-loop-i g l = let test = line_test g.M.Consistency.rules (leg_with l.fn.leg.opening.now l.fn.leg.events.now) (timed l.fn.section) in first_of (map test l.fn.lines) ≡ first_of (map test (drop l.i l.fn.lines))
