@@ -404,3 +404,38 @@ fn laws_are_called(_rt: HostRuntime) {
     laws::worked_certificates();
     laws::accepted_certificates_hold::<Hybrid>();
 }
+
+/// The answer to a certificate that waits, asked again where memory is refused.
+fn answer(alloc: Global, opening: &Opening, cert: &Cert) -> Result<(), CertFault> {
+    match check_waiting(alloc, Hybrid, opening, &FORKS[2..], cert) {
+        Err(CertFault::NoMemory) => check_waiting(alloc, Hybrid, opening, &FORKS[2..], cert),
+        answer => answer,
+    }
+}
+
+#[test]
+fn certificates_are_judged_after_a_refused_growth(rt: HostRuntime) -> Result<(), Fail> {
+    let alloc = rt.alloc();
+    let before = &FORKS[..2];
+    let opening = opened(alloc, Hybrid, &TASK_1, before).or_else(|_| opened(
+        alloc, Hybrid, &TASK_1, before,
+    ))?;
+    for (lines, want) in [
+        ([busy(1, 1, 3), born(2, 1, 4), hold(2, 2, 6, 8, 8)], Ok(())),
+        (
+            [busy(1, 1, 3), born(2, 1, 4), busy(2, 2, 8)],
+            Err(CertFault::NoBlame(8)),
+        ),
+    ] {
+        let cert = cert(alloc, Claim::Waiting, 2, 2, 8, &lines).or_else(|_| cert(
+            alloc,
+            Claim::Waiting,
+            2,
+            2,
+            8,
+            &lines,
+        ))?;
+        assert_eq!(rt; answer(alloc, &opening, &cert), want);
+    }
+    Ok(())
+}
