@@ -17,14 +17,14 @@ loop-look-preserved g c =
     let at_lines = subst (λ (xs : List Look). All (λ look. look.line < length c.args.lines.now) xs) (sym c.deref-look-items.ensures.value) c.in_ok-looks_at.ensures in
     let lt = at_lines c.loop-look.look-index _ c.loop-look-test.true in
     elim c.if-look.branch [
-      then-look+in_ok-mark w ↦
-        record {
-          walk = rw w.walk-is w.in_ok-mark.ensures.walk;
-          marks = rw w.mark-is (marks_with g.M.Consistency.rules leg (timed c.args.section) c.args.lines.now c.loop-look.marks.items _ _ _ lt w.in_ok-mark.ensures.marked c.loop-look.invariant.marks);
-        }
-    | else-look+in_ok-mark-2 w ↦
-        record {
-          walk = rw w.walk-is w.in_ok-mark-2.ensures.walk;
-          marks = rw w.mark-is (marks_with g.M.Consistency.rules leg (timed c.args.section) c.args.lines.now c.loop-look.marks.items _ _ _ lt w.in_ok-mark-2.ensures.marked c.loop-look.invariant.marks);
-        }
+      | then-look+in_ok-mark w ↦
+          record {
+            walk = rw w.walk-is w.in_ok-mark.ensures.walk;
+            marks = rw w.mark-is (marks_with g.M.Consistency.rules leg (timed c.args.section) c.args.lines.now c.loop-look.marks.items _ _ _ lt w.in_ok-mark.ensures.marked c.loop-look.invariant.marks);
+          }
+      | else-look+in_ok-mark-2 w ↦
+          record {
+            walk = rw w.walk-is w.in_ok-mark-2.ensures.walk;
+            marks = rw w.mark-is (marks_with g.M.Consistency.rules leg (timed c.args.section) c.args.lines.now c.loop-look.marks.items _ _ _ lt w.in_ok-mark-2.ensures.marked c.loop-look.invariant.marks);
+          }
     ]
