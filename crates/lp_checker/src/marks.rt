@@ -1,5 +1,5 @@
 //! Which lines of a section have no fault, found in one walk through its time.
-ghost use Rattle.std.specs.Prelude.{◌≡◌, ℕ, ◌+◌, ◌<◌, ◌≤◌, true, length, IfOk, OnOk};
+ghost use Rattle.std.specs.Prelude.{◌≡◌, ℕ, All, ◌+◌, ◌<◌, ◌≤◌, true, length, IfOk, OnOk};
 ghost use Rattle.lp_stack.specs.declared.number.GroupId.{GroupId};
 ghost use Rattle.lp_cert.specs.declared.line.Line.{Line};
 ghost use Rattle.lp_checker.specs.Folds.{leg_with};
@@ -54,17 +54,20 @@ pub(crate) fn marks_of<M: Consistency>(
     let mut marks = vec![in alloc; Mark::Open; lines.len()]?;
     for look in &looks_at(alloc, leg, lines)? {
         let i = look.line;
-        if i < lines.len() {
-            marks[i] = marked(
-                alloc, model, leg, walk, section, lines[i], look.ends, marks[i],
-            )?;
-        }
+        let mark = if look.ends {
+            at_end(alloc, model, leg, walk, section, lines[i], marks[i])?
+        } else {
+            at_begin(alloc, model, leg, walk, section, lines[i])?
+        };
+        marks[i] = mark;
     }
     Ok(marks)
 }
 
 /// The looks at lines, in the order of the events.
-fn looks_at(alloc: Global, leg: &Leg<'_>, lines: &[Line]) -> Result<Vec<Look>, AllocError> {
+fn looks_at(alloc: Global, leg: &Leg<'_>, lines: &[Line]) -> Result<Vec<Look>, AllocError>
+    ensures { IfOk result (λ looks. All (λ look. look.line < length lines.now) looks.items) }
+{
     let mut looks = Vec::new(alloc);
     for (line, what) in lines.iter().enumerate() {
         match *what {
@@ -92,21 +95,18 @@ fn looks_at(alloc: Global, leg: &Leg<'_>, lines: &[Line]) -> Result<Vec<Look>, A
     Ok(looks)
 }
 
-/// The mark of a line after one look more.
-fn marked<M: Consistency>(
+/// The mark of a line by the event at which it begins.
+fn at_begin<M: Consistency>(
     alloc: Global,
     model: M,
     leg: &Leg<'_>,
     walk: &mut Walk,
     section: Section,
     line: Line,
-    ends: bool,
-    mark: Mark,
 ) -> Result<Mark, AllocError>
     requires walk { IsWalk M.rules leg.now.opening.now leg.now.events.now walk.old }
     requires within { section.until ≤ length leg.now.events.now }
     requires room { leg.now.opening.now.number + section.until ≤ 1000000 }
-    requires marked { IsMarked M.rules (leg_with leg.now.opening.now leg.now.events.now) (timed section) line mark }
     ensures walk { OnOk result (IsWalk M.rules leg.now.opening.now leg.now.events.now walk.new) }
     ensures marked { IfOk result (λ mark. IsMarked M.rules (leg_with leg.now.opening.now leg.now.events.now) (timed section) line mark) }
 {
@@ -124,15 +124,50 @@ fn marked<M: Consistency>(
                 from,
                 to,
             };
-            match mark {
-                Mark::Blamed if ends => held_to_end(alloc, model, leg, walk, section, hold),
-                _ if ends => Ok(mark),
-                _ => held_at_first(alloc, model, leg, walk, section, hold),
-            }
+            held_at_first(alloc, model, leg, walk, section, hold)
         }
         Line::Busy { task, at, .. } => was_busy(alloc, model, leg, walk, section, task, at),
         Line::Born { .. } => Ok(Mark::Sound),
     }
+}
+
+/// The mark of a line that had one by the event at which it ends.
+fn at_end<M: Consistency>(
+    alloc: Global,
+    model: M,
+    leg: &Leg<'_>,
+    walk: &mut Walk,
+    section: Section,
+    line: Line,
+    mark: Mark,
+) -> Result<Mark, AllocError>
+    requires walk { IsWalk M.rules leg.now.opening.now leg.now.events.now walk.old }
+    requires within { section.until ≤ length leg.now.events.now }
+    requires room { leg.now.opening.now.number + section.until ≤ 1000000 }
+    requires marked { IsMarked M.rules (leg_with leg.now.opening.now leg.now.events.now) (timed section) line mark }
+    ensures walk { OnOk result (IsWalk M.rules leg.now.opening.now leg.now.events.now walk.new) }
+    ensures marked { IfOk result (λ mark. IsMarked M.rules (leg_with leg.now.opening.now leg.now.events.now) (timed section) line mark) }
+{
+    let Line::Hold {
+        task,
+        serial,
+        from,
+        to,
+        ..
+    } = line
+    else {
+        return Ok(mark);
+    };
+    let Mark::Blamed = mark else {
+        return Ok(mark);
+    };
+    let hold = Hold {
+        task,
+        serial,
+        from,
+        to,
+    };
+    held_to_end(alloc, model, leg, walk, section, hold)
 }
 
 /// The mark of a `hold` line by its first event.

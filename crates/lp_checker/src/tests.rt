@@ -4,11 +4,11 @@ use super::*;
 use lp_cert::{Cert, Claim, Line, LineList};
 use lp_model::{Consistency, ForkKind};
 use lp_models::{AllAtOnce, Hybrid};
-use lp_patch::{PatchSet, PatchStack};
+use lp_patch::{PatchFault, PatchSet, PatchStack};
 use lp_process::ProcessGroup;
 use lp_stack::{Class, GroupId, TaskId};
-use lp_symbols::{SymId, Symbols};
-use lp_transition::{Core, Event, Opening};
+use lp_symbols::{SymFault, SymId, Symbols};
+use lp_transition::{BootFault, Core, Event, Halt, Opening};
 use std::alloc::Global;
 use std::test::Fail;
 
@@ -403,4 +403,67 @@ fn faults_have_numbers(rt: HostRuntime) {
 fn laws_are_called(_rt: HostRuntime) {
     laws::worked_certificates();
     laws::accepted_certificates_hold::<Hybrid>();
+}
+
+/// A patch of function `a`. The fault is NoMemory also where the name wants for memory.
+fn patch_of_a(alloc: Global) -> Result<PatchStack, PatchFault> {
+    let symbols = name_a(alloc).map_err(|_| PatchFault::NoMemory)?;
+    let mut sets = Vec::new(alloc);
+    sets.push(PatchSet::build(alloc, &symbols, &[A])?)?;
+    PatchStack::new(alloc, sets)
+}
+
+/// The name `a`.
+fn name_a(alloc: Global) -> Result<Symbols, SymFault> {
+    let mut symbols = Symbols::new(alloc)?;
+    symbols.add("a")?;
+    Ok(symbols)
+}
+
+/// The opening of the leg in which a task forks, each call made again where memory is refused.
+fn opened_again(alloc: Global) -> Result<Opening, Fail> {
+    let patches = patch_of_a(alloc).or_else(|_| patch_of_a(alloc))?;
+    let mut core = match Core::boot(alloc, Hybrid, patches, &TASK_1) {
+        Err(BootFault::NoMemory) => Core::boot(alloc, Hybrid, patch_of_a(alloc)?, &TASK_1)?,
+        answer => answer?,
+    };
+    for event in &FORKS[..2] {
+        match core.step(alloc, *event) {
+            Err(Halt::NoMemory) => core.step(alloc, *event)?,
+            answer => answer?,
+        };
+    }
+    Ok(core.standing(alloc).or_else(|_| core.standing(alloc))?)
+}
+
+/// The answer to a certificate, asked again where memory is refused.
+fn answer(alloc: Global, opening: &Opening, cert: &Cert) -> Result<(), CertFault> {
+    match check_waiting(alloc, Hybrid, opening, &FORKS[2..], cert) {
+        Err(CertFault::NoMemory) => check_waiting(alloc, Hybrid, opening, &FORKS[2..], cert),
+        answer => answer,
+    }
+}
+
+#[test]
+fn certificates_are_judged_after_a_refused_growth(rt: HostRuntime) -> Result<(), Fail> {
+    let alloc = rt.alloc();
+    let opening = opened_again(alloc)?;
+    for (lines, want) in [
+        ([busy(1, 1, 3), born(2, 1, 4), hold(2, 2, 6, 8, 8)], Ok(())),
+        (
+            [busy(1, 1, 3), born(2, 1, 4), busy(2, 2, 8)],
+            Err(CertFault::NoBlame(8)),
+        ),
+    ] {
+        let kept = Vec::from_slice(alloc, &lines).or_else(|_| Vec::from_slice(alloc, &lines))?;
+        let cert = Cert {
+            claim: Claim::Waiting,
+            leg: 2,
+            group: GroupId(2),
+            upto: 8,
+            lines: LineList::from_vec(kept),
+        };
+        assert_eq!(rt; answer(alloc, &opening, &cert), want);
+    }
+    Ok(())
 }
