@@ -1,7 +1,8 @@
 -- Names among symbols.
-use Rattle.std.proofs.Common.{◌≡◌, ◌<◌, ◌≤◌, ℕ, Bool, true, false, not, List, [], ◌∷◌, length, None, refl, sym, arith, subst, leb-true}
+use Rattle.std.proofs.Common.{◌≡◌, ◌<◌, ◌≤◌, ℕ, zero, suc, Bool, true, false, not, List, [], ◌∷◌, length, Option, None, Some, Ok, ap, refl, sym, arith, subst, leb-true}
 use Rattle.std.specs.Prelude.{position, ◌&&◌, nat_lt, nat_le, ◌==◌}
-use Rattle.std.specs.List.{list_all, prefix_len}
+use Rattle.std.specs.List.{list_all, prefix_len, IsDistinct, AllByRecursion, slice_get}
+use Rattle.std.proofs.lemmas.Option.{slice_get_within}
 use Rattle.std.specs.Char.{is_ascii_graphic}
 use Rattle.std.specs.Str.{bytes_eq, IsUtf8, IsAscii}
 use Rattle.std.proofs.lemmas.Bool.{and_parts}
@@ -13,7 +14,7 @@ use Rattle.lp_symbols.specs.Names.{is_name}
 use Rattle.std.specs.Prelude.{Err}
 use Rattle.lp_trace.specs.declared.fault.Cause.TheVariants as cause
 use Rattle.lp_trace.specs.Traces.{AreNames, TraceValue}
-use Rattle.lp_trace.specs.Reading.{add_symbol}
+use Rattle.lp_trace.specs.Reading.{add_symbol, symbol_of}
 
 no_byte : IsAscii []
 no_byte i = omega arith
@@ -63,3 +64,42 @@ no_name name odd true e = absurd (odd (name_utf8 name e))
 pub odd_symbol : (so_far : TraceValue) (name : List ℕ) → ¬ (IsUtf8 name) → add_symbol so_far name ≡ Err cause.Name
 unfolding add_symbol
 odd_symbol so_far name odd = rw (no_name name odd (is_name name) refl) refl
+
+-- ---- A name at a place
+
+injective : {X : Type 0} (a b : X) → Some a ≡ Some b → a ≡ b
+injective a b e = cc
+
+holds_at : {X : Type 0} (P : X → Type 0) (xs : List X) (i : ℕ) (x : X) → AllByRecursion P xs → slice_get xs i ≡ Some x → P x
+holds_at P [] i x all get = absurd (cc)
+holds_at P (y ∷ xs) zero x all get = subst P (injective y x get) all.0
+holds_at P (y ∷ xs) (suc i) x all get = holds_at P xs i x all.1 get
+
+-- no other symbol has the name
+apart : (name symbol : List ℕ) → bytes_eq symbol name ≡ false → (b : Bool) → bytes_eq name symbol ≡ b → b ≡ false
+apart name symbol other false e = refl
+apart name symbol other true e =
+    let same : name ≡ symbol = (bytes_eq-Decides name symbol).0 e in
+    let back : bytes_eq symbol name ≡ true = (bytes_eq-Decides symbol name).1 (sym same) in
+    cc
+
+none_before_at : (symbols : List (List ℕ)) (name : List ℕ) (i : ℕ) → IsDistinct bytes_eq symbols → slice_get symbols i ≡ Some name → prefix_len (λ x. not (bytes_eq name x)) symbols ≡ i
+unfolding IsDistinct
+none_before_at [] name i distinct get = absurd (cc)
+none_before_at (symbol ∷ symbols) name zero distinct get =
+    let same : symbol ≡ name = injective symbol name get in
+    let here : bytes_eq name symbol ≡ true = (bytes_eq-Decides name symbol).1 (sym same) in
+    rw here refl
+none_before_at (symbol ∷ symbols) name (suc i) distinct get =
+    let other : bytes_eq symbol name ≡ false = holds_at (λ y. bytes_eq symbol y ≡ false) symbols i name distinct.0 get in
+    let here : bytes_eq name symbol ≡ false = apart name symbol other (bytes_eq name symbol) refl in
+    let there : prefix_len (λ x. not (bytes_eq name x)) symbols ≡ i = none_before_at symbols name i distinct.1 get in
+    rw here (omega (arith, there))
+
+-- the symbol of a name that stands at a place
+pub symbol_at : (symbols : List (List ℕ)) (name : List ℕ) (i : ℕ) → IsDistinct bytes_eq symbols → slice_get symbols i ≡ Some name → symbol_of symbols name ≡ Ok (record { 0 = i })
+unfolding symbol_of
+symbol_at symbols name i distinct get =
+    let there : prefix_len (λ x. not (bytes_eq name x)) symbols ≡ i = none_before_at symbols name i distinct get in
+    let below : nat_lt i (length symbols) ≡ true = (Decides-ltb i (length symbols)).1 (slice_get_within symbols i name get) in
+    rw (there, below) refl

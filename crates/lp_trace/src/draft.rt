@@ -8,6 +8,7 @@ ghost use Rattle.lp_trace.specs.Words.{words};
 
 use crate::fault::{Cause, LineFault};
 use crate::form::TraceForm;
+use crate::guesses::Guesses;
 use crate::line::{boot_line, event_line, patch_line, symbol_of, task_of};
 use crate::trace::Trace;
 use crate::word::LineWord;
@@ -36,6 +37,7 @@ const TASK_NUMBERS: usize = 65_536;
 pub(crate) struct Draft {
     form: TraceForm,
     symbols: Symbols,
+    guesses: Guesses,
     patches: Vec<Vec<SymId>>,
     boots: Vec<(TaskId, Class)>,
     /// For each task number, whether a boot line has it.
@@ -65,6 +67,7 @@ impl Draft {
         Ok(Draft {
             form,
             symbols,
+            guesses: Guesses::new(),
             patches: Vec::new(alloc),
             boots: Vec::new(alloc),
             booted: all_false(alloc, TASK_NUMBERS)?,
@@ -100,7 +103,7 @@ impl Draft {
                 self.add_boot(number, class)
             }
             LineWord::Event(word) => {
-                let event = event_line(&self.symbols, word, left)?;
+                let event = event_line(&self.symbols, &mut self.guesses, word, left)?;
                 self.add_event(event)
             }
         }
@@ -128,6 +131,7 @@ impl Draft {
         let Self {
             form,
             symbols,
+            guesses: _,
             patches,
             boots,
             booted: _,

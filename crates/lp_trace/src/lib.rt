@@ -5,6 +5,7 @@ mod draft;
 mod fault;
 mod form;
 mod front;
+mod guesses;
 mod input;
 pub mod laws;
 mod leg_end;

@@ -7,6 +7,7 @@ ghost use Rattle.lp_trace.specs.Traces.{AreNames};
 
 use crate::fault::{Cause, LineFault};
 use crate::form::TraceForm;
+use crate::guesses::Guesses;
 use crate::word::{EventWord, class_of, fork_kind_of};
 use crate::words::{last_number, last_word, next_number};
 use lp_stack::{Class, TaskId};
@@ -57,13 +58,17 @@ fn no_word(event: Event, left: Option<&[u8]>) -> Result<Event, LineFault>
 /// `call T NAME`; the name comes before the number.
 #[inline(always)]
 #[tactic(auto, unfolding(crate::specs::Reading::call_line))]
-fn call_line(symbols: &Symbols, left: Option<&[u8]>) -> Result<Event, LineFault>
+fn call_line(
+    symbols: &Symbols,
+    guesses: &mut Guesses,
+    left: Option<&[u8]>,
+) -> Result<Event, LineFault>
     requires names { AreNames symbols.now }
     ensures { GivesLine (λ event. event) result (call_line symbols.now (words_left (option_copied left.entry))) }
 {
     let (number, left) = next_number(left)?;
     let name = last_word(left)?;
-    let func = symbol_of(symbols, name)?;
+    let func = guesses.symbol_of(symbols, name)?;
     let task = task_of(number)?;
     Ok(Event::Call(task, func))
 }
@@ -97,6 +102,7 @@ fn task_line(left: Option<&[u8]>) -> Result<TaskId, LineFault>
 #[tactic(auto, unfolding(crate::specs::Reading::event_line))]
 pub(crate) fn event_line(
     symbols: &Symbols,
+    guesses: &mut Guesses,
     word: EventWord,
     left: Option<&[u8]>,
 ) -> Result<Event, LineFault>
@@ -104,7 +110,7 @@ pub(crate) fn event_line(
     ensures { GivesLine (λ event. event) result (event_line symbols.now word (words_left (option_copied left.entry))) }
 {
     match word {
-        EventWord::Call => call_line(symbols, left),
+        EventWord::Call => call_line(symbols, guesses, left),
         EventWord::Ret => Ok(Event::Ret(task_line(left)?)),
         EventWord::Sleep => Ok(Event::Sleep(task_line(left)?)),
         EventWord::Wake => Ok(Event::Wake(task_line(left)?)),

@@ -1,0 +1,70 @@
+//! Symbols that were looked up last: most names of a trace come again and again.
+ghost use Rattle.std.specs.Prelude.{◌≡◌, Ok, IsTrue};
+ghost use Rattle.lp_trace.specs.Faults.{GivesLine};
+ghost use Rattle.lp_trace.specs.Reading.{symbol_of};
+ghost use Rattle.lp_trace.specs.Traces.{AreNames};
+
+use crate::fault::LineFault;
+use crate::line::symbol_of;
+use lp_symbols::{SymId, Symbols};
+
+/// At each place the symbol that was found last of the names that belong there. A name is compared
+/// with it before it is looked up.
+#[derive(Drop)]
+pub(crate) struct Guesses {
+    ids: [SymId; 256],
+}
+
+impl Guesses {
+    /// The first symbol at each place.
+    pub(crate) fn new() -> Guesses {
+        Guesses {
+            ids: [SymId(0); 256],
+        }
+    }
+
+    /// The symbol of a name.
+    #[inline(always)]
+    pub(crate) fn symbol_of(&mut self, symbols: &Symbols, name: &[u8]) -> Result<SymId, LineFault>
+        requires names { AreNames symbols.now }
+        ensures { GivesLine (λ id. id) result (symbol_of symbols.now name.now) }
+    {
+        let place = usize::from(place_of(name));
+        let guess = self.ids[place];
+        if is_name_of(symbols, guess, name) {
+            return Ok(guess);
+        }
+        let id = symbol_of(symbols, name)?;
+        self.ids[place] = id;
+        Ok(id)
+    }
+}
+
+/// The place of a name, by its length and its first, middle and last byte.
+#[inline(always)]
+fn place_of(name: &[u8]) -> u8 {
+    let [first, .., last] = name else {
+        return 0;
+    };
+    let middle = name[name.len() / 2];
+    let length = (name.len() % 256) as u8;
+    first
+        .wrapping_mul(53)
+        .wrapping_add(middle.wrapping_mul(113))
+        .wrapping_add(length.wrapping_mul(89))
+        .wrapping_add(*last)
+}
+
+/// Whether a symbol has this name.
+#[inline(always)]
+fn is_name_of(symbols: &Symbols, id: SymId, name: &[u8]) -> bool
+    ensures { IsTrue result → symbol_of symbols.now name.now ≡ Ok id }
+{
+    if id.index() >= symbols.len() {
+        return false;
+    }
+    match symbols.name(id) {
+        Some(text) => text.as_bytes() == name,
+        None => false,
+    }
+}
