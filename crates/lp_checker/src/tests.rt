@@ -1,5 +1,7 @@
 //! Worked certificates through the public calls.
 
+mod order;
+
 use super::*;
 use lp_cert::{Cert, Claim, Line, LineList};
 use lp_model::{Consistency, ForkKind};
