@@ -1,8 +1,9 @@
 //! The engine: the tasks, and the transition that takes them from one level to another.
-ghost use Rattle.std.specs.Prelude.{◌≡◌, ◌≤◌, not};
+ghost use Rattle.std.specs.Prelude.{◌≡◌, ◌≤◌, not, is_some, count_by};
 ghost use Rattle.std.specs.Option.{option_map};
 ghost use Rattle.lp_patch.specs.Aimed.{aimed};
-ghost use Rattle.lp_transition.specs.Table.{slot, state_in};
+ghost use Rattle.lp_numbers.specs.Numbers.{IsNextFrom};
+ghost use Rattle.lp_transition.specs.Table.{slot, state_in, is_in};
 ghost use Rattle.lp_stack.specs.TaskView.{seen};
 ghost use Rattle.lp_transition.specs.Machine.{at_rest, view_of};
 
@@ -124,5 +125,19 @@ impl<M: Consistency> Core<M> {
         ensures { option_map (λ group. group.0) result ≡ option_map (λ x. x.group) (slot self.now.table task.0) }
     {
         self.tasks.group_of(task)
+    }
+
+    /// How many live members a group has.
+    pub fn members(&self, group: GroupId) -> u32
+        ensures { result ≡ count_by (is_in group.0) self.now.table.slots }
+    {
+        self.members[usize::from(group.0)]
+    }
+
+    /// The least number of a live task that is at or above a number.
+    pub fn next_live(&self, from: u16) -> Option<u16>
+        ensures { IsNextFrom (λ t. is_some (slot self.now.table t)) from result }
+    {
+        self.tasks.next_live(from)
     }
 }

@@ -90,6 +90,14 @@ fn the_first_task_at_fault_is_named(rt: HostRuntime) -> Result<(), Fail> {
 fn tasks_stand_as_they_start(rt: HostRuntime) -> Result<(), Fail> {
     let tasks = [(TaskId(65_535), Class::Idle), (TaskId(3), Class::Normal)];
     let core = Core::boot(rt.alloc(), AtOnce, one_patch(rt.alloc())?, &tasks)?;
+    assert_eq!(rt;
+        (core.next_live(0), core.next_live(4)),
+        (Some(3), Some(65_535))
+    );
+    assert_eq!(rt;
+        (core.members(GroupId(3)), core.members(GroupId(4))),
+        (1, 0)
+    );
     let opening: Opening = core.standing(rt.alloc())?;
     assert_eq!(rt;
         (opening.number(), opening.from(), opening.target()),
