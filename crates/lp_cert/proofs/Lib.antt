@@ -6,3 +6,4 @@ pub mod Past
 pub mod NextLines
 pub mod OtherEvents
 pub mod VerdictLines
+pub mod WaiterLemmas

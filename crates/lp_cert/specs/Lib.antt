@@ -5,3 +5,4 @@ pub mod Chains
 pub mod Heads
 pub mod Steps
 pub mod Laws
+pub mod Waiters

@@ -5,12 +5,16 @@ mod cert;
 mod chains;
 mod head;
 pub mod laws;
+mod leg_end;
 mod line;
 mod ongoing;
 mod reason;
+mod reasons;
 #[cfg(test)]
 mod tests;
+mod waiters;
 mod written;
 
 pub use cert::{Cert, Claim};
+pub use leg_end::{CertList, LegEnd};
 pub use line::{Line, LineList};

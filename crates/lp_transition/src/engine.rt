@@ -134,10 +134,10 @@ impl<M: Consistency> Core<M> {
         self.members[usize::from(group.0)]
     }
 
-    /// The least number of a live task that is at or above a number.
-    pub fn next_live(&self, from: u16) -> Option<u16>
+    /// The least number of a live task that is at or above a number, which may be past all of them.
+    pub fn next_live(&self, from: u32) -> Option<u16>
         ensures { IsNextFrom (λ t. is_some (slot self.now.table t)) from result }
     {
-        self.tasks.next_live(from)
+        self.tasks.next_live_from(from)
     }
 }

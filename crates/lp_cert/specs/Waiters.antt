@@ -1,0 +1,141 @@
+-- The groups that wait in a leg as they are kept, each with its reasons.
+use Rattle.std.specs.Prelude.{◌≡◌, ℕ, ◌+◌, ◌≤◌, Bool, true, false, List, [], ◌++◌, ◌∷◌, length, map, reverse, nat_eq, Option, Some, None, IfSome, if◌then◌else◌, slice_index_or}
+use Rattle.std.specs.List.{AllByRecursion}
+use Rattle.std.specs.Option.{option_map}
+use Rattle.lp_numbers.specs.Numbers.{Numbers, has, IsEmpty}
+use Rattle.lp_model.specs.declared.check.Blame.{Blame}
+use Rattle.lp_model.specs.declared.verdict.Verdict.{Verdict}
+use Rattle.lp_transition.specs.Leg.{State}
+use Rattle.lp_transition.specs.Scan.{passing}
+use Rattle.lp_cert.specs.declared.cert.Claim.{Claim}
+use Rattle.lp_cert.specs.declared.cert.Cert.{Cert}
+use Rattle.lp_cert.specs.declared.line.Line.{Line}
+use Rattle.lp_cert.specs.declared.reason.Reason.{Reason}
+use Rattle.lp_cert.specs.declared.head.Head.{Head}
+use Rattle.lp_cert.specs.declared.head.Birth.{Birth}
+use Rattle.lp_cert.specs.declared.head.Waiter.{Waiter}
+use Rattle.lp_cert.specs.declared.ongoing.Ongoing.TheVariants.{Nothing}
+use Rattle.lp_cert.specs.Made.{after_refusal, birth_line, group_id}
+use Rattle.lp_cert.specs.Heads.{head_lines, IsHead, IsUsed, Keeps}
+use Rattle.lp_cert.specs.Steps.{has_frame_in, member_verdict, first_refused}
+
+-- ---- Each group's reasons
+
+-- no reason yet
+abbrev pub no_head : Head
+no_head = record { ongoing = Nothing; older = record { 0 = 0 } }
+
+-- how each group stands by its number, over lists of older reasons and the scans that refused a group, and how many
+-- more reasons and scans there is room for
+pub record LegReasons : Type 0 where
+  pub heads : List Head
+  pub lists : List (List Reason)
+  pub scans : List ℕ
+  pub room : ℕ
+  pub scan_room : ℕ
+
+abbrev pub head_of : LegReasons → ℕ → Head
+head_of reasons group = slice_index_or reasons.heads group no_head
+
+-- the lines of a group, the newest in front
+abbrev pub lines_in : LegReasons → ℕ → List Line
+lines_in reasons group = head_lines reasons.lists reasons.scans (group_id group) (head_of reasons group)
+
+-- the group's reasons speak of so many scans
+abbrev pub StandsAt : ℕ → LegReasons → ℕ → Type 0
+StandsAt scans reasons group = IsHead reasons.lists scans (head_of reasons group)
+
+-- ---- A scan
+
+-- a scan refused the group, blaming this member
+pub record IsRefusedOnce (s : State) (at group : ℕ) (blamed : ℕ × Blame) (old new : LegReasons) : Type 0 where
+  pub lines :
+      head_lines new.lists (old.scans ++ at ∷ []) (group_id group) (head_of new group)
+      ≡ after_refusal (has_frame_in s) group at blamed (lines_in old group)
+  pub stands : StandsAt (length old.scans + 1) new group
+
+-- a verdict of a scan is noted: of a group that waits and wasn't refused before by this scan, which the verdict refuses, the
+-- reasons go on as after one scan more; of any other nothing changes
+pub record IsJudged (s : State) (at : ℕ) (verdict : Verdict) (groups left : Numbers) (refused now : Numbers) (old new : LegReasons) : Type 0 where
+  pub judged :
+      (group : ℕ) (blamed : ℕ × Blame) → has groups group ≡ true → member_verdict s group verdict ≡ Some blamed →
+      (has left group ≡ false) × (has now group ≡ true) × IsRefusedOnce s at group blamed old new
+  pub others :
+      (group : ℕ) → (if has groups group then member_verdict s group verdict else None) ≡ None →
+      (has left group ≡ has groups group) × (has now group ≡ has refused group) × (head_of new group ≡ head_of old group)
+  pub kept : Keeps old.lists new.lists
+  pub scans : new.scans ≡ old.scans
+  pub room : old.room ≤ new.room + 1
+  pub scan_room : new.scan_room ≡ old.scan_room
+
+-- verdicts of a scan are noted: each group that waits and is refused has its reasons as after one scan more
+pub record AreJudged (s : State) (at : ℕ) (verdicts : List Verdict) (groups left : Numbers) (refused : Numbers) (old new : LegReasons) : Type 0 where
+  pub judged :
+      (group : ℕ) (blamed : ℕ × Blame) → has groups group ≡ true → first_refused s group verdicts ≡ Some blamed →
+      (has left group ≡ false) × (has refused group ≡ true) × IsRefusedOnce s at group blamed old new
+  pub others :
+      (group : ℕ) → (if has groups group then first_refused s group verdicts else None) ≡ None →
+      (has left group ≡ has groups group) × (has refused group ≡ false) × (head_of new group ≡ head_of old group)
+  pub kept : Keeps old.lists new.lists
+  pub scans : new.scans ≡ old.scans
+  pub room : old.room ≤ new.room + length verdicts
+  pub scan_room : new.scan_room ≡ old.scan_room
+
+-- ---- The groups that wait
+
+-- the groups that wait, over the reasons of all
+pub record WaitingGroups : Type 0 where
+  pub groups : Numbers
+  pub reasons : LegReasons
+
+-- the lines of a group, the newest in front, if it waits
+abbrev pub lines_at : WaitingGroups → ℕ → Option (List Line)
+lines_at waiters group = if has waiters.groups group then Some (lines_in waiters.reasons group) else None
+
+-- a group that waits, as it stands
+abbrev pub waiter_in : LegReasons → ℕ → Waiter
+waiter_in reasons group = record { group = group_id group; head = head_of reasons group }
+
+-- the groups that wait, in increasing order
+abbrev pub waiters_of : WaitingGroups → List Waiter
+waiters_of waiters = map (waiter_in waiters.reasons) (passing 0 65536 (has waiters.groups))
+
+-- the groups that wait have reasons
+pub record AreStanding (waiters : WaitingGroups) (refused : Numbers) : Type 0 where
+  pub stand : (group : ℕ) → has waiters.groups group ≡ true → StandsAt (length waiters.reasons.scans) waiters.reasons group
+  pub none_refused : IsEmpty refused
+
+-- the lines of a group after a scan, if it still waits: it does where the scan refuses it
+abbrev pub after_scan : (has_frame : (task serial : ℕ) → Bool) → (group at : ℕ) → Option (ℕ × Blame) → Option (List Line) → Option (List Line)
+after_scan has_frame group at None lines = None
+after_scan has_frame group at (Some blamed) lines = option_map (after_refusal has_frame group at blamed) lines
+
+-- who is blamed is blamed for a check that the model uses
+abbrev pub IsUsedVerdict : Verdict → Type 0
+IsUsedVerdict verdict = IfSome verdict.blame IsUsed
+
+-- ---- Births
+
+-- the lines of a group after a birth into a group of the child's own
+abbrev pub after_birth : Birth → (parent : ℕ) → (ℕ → Option (List Line)) → (group : ℕ) → Option (List Line)
+after_birth birth parent lines group =
+    if nat_eq group birth.child.0
+    then option_map (λ ls. birth_line birth.child.0 birth.parent birth.at ∷ ls) (lines parent)
+    else lines group
+
+-- ---- Certificates
+
+-- the certificate of a group as it is kept
+abbrev pub kept_cert : Claim → (leg upto : ℕ) → List (List Reason) → List ℕ → Waiter → Cert
+kept_cert claim leg upto lists scans waiter =
+    record {
+      claim = claim;
+      leg = leg;
+      group = waiter.group;
+      upto = upto;
+      lines = reverse (head_lines lists scans waiter.group waiter.head);
+    }
+
+-- their reasons speak of so many scans
+abbrev pub AreHeads : List (List Reason) → ℕ → List Waiter → Type 0
+AreHeads lists scans waiters = AllByRecursion (λ waiter. IsHead lists scans waiter.head) waiters
