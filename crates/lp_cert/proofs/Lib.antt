@@ -7,3 +7,4 @@ pub mod NextLines
 pub mod OtherEvents
 pub mod VerdictLines
 pub mod WaiterLemmas
+pub mod MoreWaiters

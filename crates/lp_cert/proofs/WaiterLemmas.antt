@@ -17,12 +17,11 @@ use Rattle.lp_transition.specs.Table.{Table, slot, fate_at, standings}
 use Rattle.lp_cert.specs.declared.line.Line.{Line}
 use Rattle.lp_cert.specs.declared.reason.Reason.{Reason}
 use Rattle.lp_cert.specs.declared.head.Head.{Head}
-use Rattle.lp_cert.specs.declared.head.Birth.{Birth}
 use Rattle.lp_cert.specs.declared.ongoing.Ongoing.TheVariants.{Nothing}
-use Rattle.lp_cert.specs.Made.{group_id, after_refusal, birth_line}
-use Rattle.lp_cert.specs.Heads.{ongoing_reasons, head_lines, lines_of, FitsIn, IsUnchecked, IsHead, Keeps, HasFrameAs, IsRefusedBy, IsBornBy}
+use Rattle.lp_cert.specs.Made.{group_id, after_refusal}
+use Rattle.lp_cert.specs.Heads.{ongoing_reasons, head_lines, lines_of, FitsIn, IsUnchecked, IsHead, Keeps, HasFrameAs, IsRefusedBy}
 use Rattle.lp_cert.specs.Steps.{has_frame_in, member_verdict, first_refused}
-use Rattle.lp_cert.specs.Waiters.{LegReasons, head_of, lines_in, StandsAt, IsRefusedOnce, IsJudged, AreJudged, lines_at, after_birth, after_scan}
+use Rattle.lp_cert.specs.Waiters.{LegReasons, head_of, lines_in, StandsAt, IsRefusedOnce, IsJudged, AreJudged, lines_at, after_scan}
 
 -- ---- Lists that stay
 
@@ -298,57 +297,3 @@ module _ (s : State) (at : ℕ) (vs : List Verdict) (groups left refused : Numbe
       by true e (Some b) is = new_stands g (all.judged g b e is).2.stands
       by true e None is = absurd (false≢true (sym (all.others g (cond-true (has groups g) _ None e ∙ is)).1 ∙ there))
       by false e first is = absurd (false≢true (sym (all.others g (cond-false (has groups g) _ None e)).1 ∙ there))
-
--- ---- A birth
-
-module _ (birth : Birth) (parent : GroupId) (groups left : Numbers) (old new : LegReasons)
-    (stand : (g : ℕ) → has groups g ≡ true → StandsAt (length old.scans) old g)
-    (waits : has groups parent.0 ≡ true)
-    (born : IsBornBy birth parent old.scans (head_of old parent.0) (head_of new birth.child.0) old.lists new.lists)
-    (rest : (other : ℕ) → other ≢ birth.child.0 → head_of new other ≡ head_of old other)
-    (scans : new.scans ≡ old.scans) (left_is : left ≡ set groups birth.child.0 true) (wide : length left ≡ 65536) (few : birth.child.0 < 65536) where
-  child_in : has left birth.child.0 ≡ true
-  child_in =
-      let h : birth.child.0 < length groups = omega (arith, length-set groups birth.child.0 true, ap length left_is) in
-      ap (λ (l : Numbers). has l birth.child.0) left_is ∙ get_or-set_same groups birth.child.0 true false h
-
-  child_lines : (g : ℕ) → g ≡ birth.child.0 → lines_in new g ≡ birth_line birth.child.0 birth.parent birth.at ∷ lines_in old parent.0
-  child_lines g e = ap (lines_in new) e ∙ (ap (λ xs. head_lines new.lists xs birth.child (head_of new birth.child.0)) scans ∙ born.lines)
-
-  other_in : (g : ℕ) → g ≢ birth.child.0 → has left g ≡ has groups g
-  other_in g ne = ap (λ (l : Numbers). has l g) left_is ∙ get_or-set_other groups birth.child.0 g true false ne
-
-  other_lines : (g : ℕ) → g ≢ birth.child.0 → has groups g ≡ true → lines_in new g ≡ lines_in old g
-  other_lines g ne there =
-      ap₂ (λ xs (h : Head). head_lines new.lists xs (group_id g) h) scans (rest g ne)
-      ∙ lines_kept old.lists new.lists old.scans (group_id g) (head_of old g) born.kept (stand g there).known
-
-  by_birth : (g : ℕ) (b : Bool) → nat_eq g birth.child.0 ≡ b → (waits_now : Bool) → has groups g ≡ waits_now
-      → lines_at (record { groups = left; reasons = new }) g
-      ≡ (if b then option_map (λ ls. birth_line birth.child.0 birth.parent birth.at ∷ ls) (lines_at (record { groups = groups; reasons = old }) parent.0) else (if waits_now then Some (lines_in old g) else None))
-  by_birth g true e w there =
-      let same : g ≡ birth.child.0 = eqb-true g birth.child.0 e in
-      cond-true (has left g) (Some (lines_in new g)) None (ap (has left) same ∙ child_in)
-      ∙ (ap {A = List Line} {B = Option (List Line)} Some (child_lines g same)
-      ∙ ap (option_map (λ ls. birth_line birth.child.0 birth.parent birth.at ∷ ls)) (sym (cond-true (has groups parent.0) (Some (lines_in old parent.0)) None waits)))
-  by_birth g false e true there =
-      let ne : g ≢ birth.child.0 = eqb-false g birth.child.0 e in
-      cond-true (has left g) (Some (lines_in new g)) None (other_in g ne ∙ there)
-      ∙ ap {A = List Line} {B = Option (List Line)} Some (other_lines g ne there)
-  by_birth g false e false there = cond-false (has left g) (Some (lines_in new g)) None (other_in g (eqb-false g birth.child.0 e) ∙ there)
-
-  pub birth_lines : (g : ℕ) → lines_at (record { groups = left; reasons = new }) g ≡ after_birth birth parent.0 (lines_at (record { groups = groups; reasons = old })) g
-  birth_lines g = by_birth g (nat_eq g birth.child.0) refl (has groups g) refl
-
-  pub birth_stand : (g : ℕ) → has left g ≡ true → StandsAt (length new.scans) new g
-  birth_stand g there = by (nat_eq g birth.child.0) refl
-    where
-      by : (b : Bool) → nat_eq g birth.child.0 ≡ b → StandsAt (length new.scans) new g
-      by true e =
-          subst (λ (xs : List ℕ). StandsAt (length xs) new g) (sym scans)
-          (subst (λ k. StandsAt (length old.scans) new k) (sym (eqb-true g birth.child.0 e)) born.stands)
-      by false e =
-          let ne : g ≢ birth.child.0 = eqb-false g birth.child.0 e in
-          let before = stand g (sym (other_in g ne) ∙ there) in
-          subst (λ (xs : List ℕ). StandsAt (length xs) new g) (sym scans)
-          (subst (λ (h : Head). IsHead new.lists (length old.scans) h) (sym (rest g ne)) (head_kept old.lists new.lists (length old.scans) (head_of old g) born.kept before))

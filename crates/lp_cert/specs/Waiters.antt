@@ -1,11 +1,15 @@
 -- The groups that wait in a leg as they are kept, each with its reasons.
-use Rattle.std.specs.Prelude.{◌≡◌, ℕ, ◌+◌, ◌≤◌, Bool, true, false, List, [], ◌++◌, ◌∷◌, length, map, reverse, nat_eq, Option, Some, None, IfSome, if◌then◌else◌, slice_index_or}
-use Rattle.std.specs.List.{AllByRecursion}
+use Rattle.std.specs.Prelude.{◌≡◌, ℕ, ◌+◌, ◌<◌, ◌≤◌, Bool, true, false, not, ◌&&◌, List, [], ◌++◌, ◌∷◌, length, map, reverse, nat_eq, Option, Some, None, is_some, IfSome, if◌then◌else◌, slice_index_or}
+use Rattle.std.specs.List.{AllByRecursion, list_any}
 use Rattle.std.specs.Option.{option_map}
 use Rattle.lp_numbers.specs.Numbers.{Numbers, has, IsEmpty}
+use Rattle.lp_stack.specs.declared.number.TaskId.{TaskId}
+use Rattle.lp_model.specs.Rules.{Rules}
+use Rattle.lp_model.specs.declared.check.ForkKind.{ForkKind}
 use Rattle.lp_model.specs.declared.check.Blame.{Blame}
 use Rattle.lp_model.specs.declared.verdict.Verdict.{Verdict}
-use Rattle.lp_transition.specs.Leg.{State}
+use Rattle.lp_transition.specs.Leg.{State, some_live}
+use Rattle.lp_transition.specs.Table.{Table, slot, is_in, is_off}
 use Rattle.lp_transition.specs.Scan.{passing}
 use Rattle.lp_cert.specs.declared.cert.Claim.{Claim}
 use Rattle.lp_cert.specs.declared.cert.Cert.{Cert}
@@ -139,3 +143,47 @@ kept_cert claim leg upto lists scans waiter =
 -- their reasons speak of so many scans
 abbrev pub AreHeads : List (List Reason) → ℕ → List Waiter → Type 0
 AreHeads lists scans waiters = AllByRecursion (λ waiter. IsHead lists scans waiter.head) waiters
+
+-- ---- An opening
+
+-- the group has a live task off the level, under this number
+abbrev pub is_off_here : Table → (level group task : ℕ) → Bool
+is_off_here table level group t = is_in group (slot table t) && is_off level (slot table t)
+
+-- the task's group begins to wait, if the task is off the level
+pub record IsTakenIn (table : Table) (level task : ℕ) (groups left : Numbers) (old new : LegReasons) : Type 0 where
+  pub taken : (group : ℕ) → is_off_here table level group task ≡ true → (has left group ≡ true) × (head_of new group ≡ no_head)
+  pub others :
+      (group : ℕ) → is_off_here table level group task ≡ false →
+      (has left group ≡ has groups group) × (head_of new group ≡ head_of old group)
+  pub lists : new.lists ≡ old.lists
+  pub scans : new.scans ≡ old.scans
+
+-- the groups of the tasks below a number that are off the level wait
+pub record AreTakenIn (table : Table) (level bound : ℕ) (groups : Numbers) (old new : LegReasons) : Type 0 where
+  pub all : (group task : ℕ) → task < bound → is_off_here table level group task ≡ true → has groups group ≡ true
+  pub only : (group : ℕ) → has groups group ≡ true → (task : ℕ) × (is_off_here table level group task ≡ true)
+  pub calm : (group : ℕ) → has groups group ≡ true → head_of new group ≡ no_head
+  pub lists : new.lists ≡ old.lists
+  pub scans : new.scans ≡ old.scans
+
+-- the group has a live member off the level
+abbrev pub has_off : State → (level group : ℕ) → Bool
+has_off s level group = some_live s.bounds s.tasks (λ t x. nat_eq x.group group && not (nat_eq x.level level))
+
+-- ---- Other events
+
+-- the lines of a group after an accepted fork of a member of another
+abbrev pub after_fork : Rules → TaskId → TaskId → ForkKind → (at parents : ℕ) → (ℕ → Option (List Line)) → (group : ℕ) → Option (List Line)
+after_fork model p c how at parents lines group =
+    if is_some (lines parents) && (nat_eq group c.0 && nat_eq group (model.child_group parents c.0 how))
+    then option_map (λ ls. birth_line group p at ∷ ls) (lines parents)
+    else lines group
+
+-- the lines of a group after the death of a member of one with so many live members
+abbrev pub after_death : (mine members : ℕ) → (ℕ → Option (List Line)) → (group : ℕ) → Option (List Line)
+after_death mine members lines group = if nat_eq group mine && nat_eq members 1 then None else lines group
+
+-- the lines of a group after these groups went over
+abbrev pub after_switch : List ℕ → (ℕ → Option (List Line)) → (group : ℕ) → Option (List Line)
+after_switch gone lines group = if list_any (nat_eq group) gone then None else lines group

@@ -1,6 +1,7 @@
 //! Certificates: why a group still waits.
 #![tactic(auto)]
 
+mod advance;
 mod cert;
 mod chains;
 mod head;

@@ -1,22 +1,24 @@
 //! The groups that wait in a leg, each with its reasons.
-ghost use Rattle.std.specs.Prelude.{◌≡◌, ◌≢◌, ◌+◌, ◌<◌, ◌≤◌, ℕ, [], ◌∷◌, ◌++◌, true, false, Some, None, length, map, reverse, slice_set, IfOk, OnOk, nat_eq};
+ghost use Rattle.std.specs.Prelude.{◌≡◌, ◌≢◌, ◌+◌, ◌<◌, ◌≤◌, ℕ, [], ◌∷◌, ◌++◌, true, false, Some, None, length, map, reverse, slice_set, IfOk, OnOk, if◌then◌else◌, nat_eq};
 ghost use Rattle.std.specs.List.{AllByRecursion, list_any};
 ghost use Rattle.std.specs.Option.{option_map};
 ghost use Rattle.lp_numbers.specs.Numbers.{has, IsEmpty, IsNextFrom};
+ghost use Rattle.lp_transition.specs.Sound.{IsSound};
 ghost use Rattle.lp_transition.specs.Scan.{passing};
 ghost use Rattle.lp_transition.specs.ScanSteps.{IsNextBelow};
 ghost use Rattle.lp_transition.specs.Table.{state_in};
 ghost use Rattle.lp_cert.specs.Heads.{HasFrameAs};
 ghost use Rattle.lp_cert.specs.Steps.{has_frame_in, first_refused};
-ghost use Rattle.lp_cert.specs.Waiters.{StandsAt, IsJudged, AreJudged, IsUsedVerdict, after_birth, after_scan, lines_at, waiter_in, waiters_of};
+ghost use Rattle.lp_cert.specs.Waiters.{StandsAt, IsJudged, AreJudged, IsUsedVerdict, after_birth, after_scan, has_off, lines_at, waiter_in, waiters_of, AreTakenIn, IsTakenIn};
 
+use crate::chains::Chains;
 use crate::head::{Birth, Refused, Waiter};
 use crate::line::LineList;
 use crate::ongoing::Ongoing;
 use crate::reasons::Reasons;
 use lp_model::{Consistency, Verdict};
 use lp_numbers::{NUMBERS, NumberSet};
-use lp_stack::{Frame, GroupId};
+use lp_stack::{Frame, GroupId, Level, TaskId};
 use lp_transition::Core;
 use std::alloc::{AllocError, Global};
 use std::marker::Model;
@@ -137,6 +139,28 @@ impl Waiters {
     {
         self.reasons.bear(parent, birth);
         self.groups.insert(birth.child.0);
+    }
+
+    /// A leg opens that takes the tasks to a level: the groups of the live tasks off it wait,
+    /// without any reason. The older reasons and the scans of the leg before are given back. Takes
+    /// no memory.
+    pub(crate) fn open<M: Consistency>(
+        &mut self,
+        core: &Core<M>,
+        level: Level,
+        chains: Chains,
+        scans: Vec<u64>,
+    ) -> (Chains, Vec<u64>)
+        requires chains { chains.lists ≡ [] ∷ [] }
+        requires scans { scans.items ≡ [] }
+        ensures lines { IsSound (state_in core.now) → (group : ℕ) → lines_at self.new group ≡ (if has_off (state_in core.now) level.0 group then Some [] else None) }
+        ensures past_lists { result.0.lists ≡ self.old.reasons.lists }
+        ensures past_scans { result.1.items ≡ self.old.reasons.scans }
+    {
+        let past = self.reasons.replace_past(chains, scans);
+        empty(&mut self.groups);
+        take_in_all(core, level, &mut self.groups, &mut self.reasons);
+        past
     }
 
     /// A scan, with what it found of the waiting tasks by increasing number: the groups that it
@@ -269,4 +293,42 @@ fn member_from(set: &NumberSet, first: usize) -> Option<u16>
         return None;
     }
     set.next(first as u16)
+}
+
+/// The groups of the live tasks off a level begin to wait, without any reason.
+fn take_in_all<M: Consistency>(
+    core: &Core<M>,
+    level: Level,
+    groups: &mut NumberSet,
+    reasons: &mut Reasons,
+)
+    requires { IsEmpty groups.old }
+    ensures taken { AreTakenIn core.now.table level.0 65536 groups.new reasons.old reasons.new }
+    ensures groups { IsSound (state_in core.now) → (group : ℕ) → has groups.new group ≡ has_off (state_in core.now) level.0 group }
+{
+    let mut from = 0u32;
+    while let Some(number) = core.next_live(from) {
+        take_in(core, level, TaskId(number), groups, reasons);
+        from = u32::from(number) + 1;
+    }
+}
+
+/// The group of a live task begins to wait, if the task is off a level.
+fn take_in<M: Consistency>(
+    core: &Core<M>,
+    level: Level,
+    task: TaskId,
+    groups: &mut NumberSet,
+    reasons: &mut Reasons,
+)
+    ensures { IsTakenIn core.now.table level.0 task.0 groups.old groups.new reasons.old reasons.new }
+{
+    let Some(group) = core.group_of(task) else {
+        return;
+    };
+    if core.side_of(task) == Some(level) {
+        return;
+    }
+    reasons.begin(group);
+    groups.insert(group.0);
 }

@@ -1,5 +1,5 @@
 use Rattle.std.proofs.Common.{arith}
-use Rattle.lp_cert.proofs.WaiterLemmas.{birth_lines, birth_stand}
+use Rattle.lp_cert.proofs.MoreWaiters.{birth_lines, birth_stand}
 use Rattle.lp_cert.proofs.waiters.Waiters.bear.Goals as goal
 
 pub invariant_of-self : goal.invariant_of-self
