@@ -1,11 +1,12 @@
 //! The engine: the tasks, and the transition that takes them from one level to another.
-ghost use Rattle.std.specs.Prelude.{◌≡◌, ◌≤◌, not, is_some, count_by};
-ghost use Rattle.std.specs.Option.{option_map};
+ghost use Rattle.std.specs.Prelude.{◌≡◌, ◌≤◌, not, is_some};
+ghost use Rattle.std.specs.Option.{ForSome, option_map};
 ghost use Rattle.lp_patch.specs.Aimed.{aimed};
 ghost use Rattle.lp_numbers.specs.Numbers.{IsNextFrom};
-ghost use Rattle.lp_transition.specs.Table.{slot, state_in, is_in};
+ghost use Rattle.lp_transition.specs.Table.{slot, standings, bounds_of, state_in};
+ghost use Rattle.lp_transition.specs.Leg.{is_alone};
 ghost use Rattle.lp_stack.specs.TaskView.{seen};
-ghost use Rattle.lp_transition.specs.Machine.{at_rest, view_of};
+ghost use Rattle.lp_transition.specs.Machine.{at_rest, outlines_of, view_of};
 
 mod boot;
 mod control;
@@ -127,11 +128,14 @@ impl<M: Consistency> Core<M> {
         self.tasks.group_of(task)
     }
 
-    /// How many live members a group has.
-    pub fn members(&self, group: GroupId) -> u32
-        ensures { result ≡ count_by (is_in group.0) self.now.table.slots }
+    /// Whether a task is live, and the only live member of its group.
+    pub fn is_alone(&self, task: TaskId) -> bool
+        ensures { ForSome (slot self.now.table task.0) (λ x. result ≡ is_alone (bounds_of self.now.patches) (outlines_of (standings self.now.table)) x.group task.0) }
     {
-        self.members[usize::from(group.0)]
+        match self.tasks.get(task) {
+            Some(live) => self.members[usize::from(live.group().0)] == 1,
+            None => false,
+        }
     }
 
     /// The least number of a live task that is at or above a number, which may be past all of them.

@@ -94,10 +94,7 @@ fn tasks_stand_as_they_start(rt: HostRuntime) -> Result<(), Fail> {
         (core.next_live(0), core.next_live(4)),
         (Some(3), Some(65_535))
     );
-    assert_eq!(rt;
-        (core.members(GroupId(3)), core.members(GroupId(4))),
-        (1, 0)
-    );
+    assert!(rt; core.is_alone(TaskId(3)) && !core.is_alone(TaskId(4)));
     let opening: Opening = core.standing(rt.alloc())?;
     assert_eq!(rt;
         (opening.number(), opening.from(), opening.target()),
