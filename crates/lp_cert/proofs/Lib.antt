@@ -8,3 +8,4 @@ pub mod OtherEvents
 pub mod VerdictLines
 pub mod WaiterLemmas
 pub mod MoreWaiters
+pub mod Behind

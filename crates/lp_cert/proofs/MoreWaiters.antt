@@ -1,6 +1,6 @@
 -- The groups that wait, as births, openings and switches come.
 use Rattle.std.proofs.Common.{◌≡◌, ◌≢◌, ℕ, ◌+◌, ◌<◌, ◌≤◌, Bool, true, false, List, [], ◌∷◌, ◌++◌, length, set, Option, Some, None, if◌then◌else◌, nat_eq, refl, sym, ap, ap₂, subst, ◌∙◌, arith, ◌⊎◌, inl, inr, not, ◌&&◌, ◌||◌, is_some}
-use Rattle.std.specs.List.{list_any}
+use Rattle.std.specs.List.{AllByRecursion, list_any}
 use Rattle.std.specs.Option.{option_map}
 use Rattle.std.proofs.lemmas.Bool.{false≢true, cases_lt, cond-true, cond-false, eqb-true, eqb-false}
 use Rattle.std.proofs.lemmas.List.{get_or-set_same, get_or-set_other, length-set, get_or_past}
@@ -18,6 +18,17 @@ use Rattle.lp_cert.specs.declared.head.Birth.{Birth}
 use Rattle.lp_cert.specs.Made.{group_id, birth_line}
 use Rattle.lp_cert.specs.Heads.{head_lines, lines_of, IsHead, IsBornBy}
 use Rattle.lp_cert.specs.Waiters.{WaitingGroups, LegReasons, no_head, head_of, is_off_here, has_off, IsTakenIn, AreTakenIn, lines_in, StandsAt, lines_at, after_birth, after_switch}
+use Rattle.lp_patch.specs.Patches.{Goal}
+use Rattle.lp_model.specs.Rules.{Rules, IsLawful}
+use Rattle.lp_model.specs.declared.check.CheckKind.{CheckKind}
+use Rattle.lp_model.specs.declared.check.Blame.{Blame}
+use Rattle.lp_model.specs.declared.check.Blame.TheVariants as blame
+use Rattle.lp_stack.specs.TaskView.{TaskView}
+use Rattle.lp_transition.specs.Leg.{State}
+use Rattle.lp_transition.specs.Scan.{verdict_of, verdicts_of, views_of}
+use Rattle.lp_cert.specs.Heads.{IsUsed}
+use Rattle.lp_cert.specs.Waiters.{IsUsedVerdict}
+use Rattle.std.proofs.Common.{IfSome, IsTrue, map}
 use Rattle.lp_cert.proofs.WaiterLemmas.{head_kept, lines_kept}
 
 -- ---- A birth
@@ -228,3 +239,19 @@ one_left first old new gone n so_far groups reasons g =
     both true false = refl
     both false true = refl
     both false false = refl
+
+-- ---- Blames of a kind that the model uses
+
+used_blame : (o : Option Blame) → (o ≡ Some blame.Unused → ⊥) → IfSome o IsUsed
+used_blame None never = tt
+used_blame (Some (blame.Frame serial)) never = tt
+used_blame (Some blame.Busy) never = tt
+used_blame (Some blame.Unused) never = absurd (never refl)
+
+used_found : (model : Rules) → IsLawful model → (kind : CheckKind) (aim : Goal) → IsTrue (model.uses kind) → (views : List TaskView) → AllByRecursion IsUsedVerdict (map (verdict_of model kind aim) views)
+used_found model lawful kind aim used [] = tt
+used_found model lawful kind aim used (view ∷ views) =
+    (used_blame (model.blame kind view aim) (λ e. let unused = lawful.blames_used kind view aim e in absurd (cc)), used_found model lawful kind aim used views)
+
+pub used_verdicts : (model : Rules) → IsLawful model → (kind : CheckKind) (s : State) → IsTrue (model.uses kind) → AllByRecursion IsUsedVerdict (verdicts_of model kind s)
+used_verdicts model lawful kind s used = used_found model lawful kind s.aim used (views_of s)

@@ -1,5 +1,5 @@
 -- The groups that wait in a leg as they are kept, each with its reasons.
-use Rattle.std.specs.Prelude.{◌≡◌, ℕ, ◌+◌, ◌<◌, ◌≤◌, Bool, true, false, not, ◌&&◌, List, [], ◌++◌, ◌∷◌, length, map, reverse, nat_eq, Option, Some, None, is_some, IfSome, if◌then◌else◌, slice_index_or}
+use Rattle.std.specs.Prelude.{◌≡◌, ℕ, suc, ◌+◌, ◌<◌, ◌≤◌, Bool, true, false, not, ◌&&◌, List, [], ◌++◌, ◌∷◌, length, map, reverse, nat_eq, Option, Some, None, is_some, is_none, IfSome, if◌then◌else◌, slice_index_or}
 use Rattle.std.specs.List.{AllByRecursion, list_any}
 use Rattle.std.specs.Option.{option_map}
 use Rattle.lp_numbers.specs.Numbers.{Numbers, has, IsEmpty}
@@ -8,8 +8,16 @@ use Rattle.lp_model.specs.Rules.{Rules}
 use Rattle.lp_model.specs.declared.check.ForkKind.{ForkKind}
 use Rattle.lp_model.specs.declared.check.Blame.{Blame}
 use Rattle.lp_model.specs.declared.verdict.Verdict.{Verdict}
-use Rattle.lp_transition.specs.Leg.{State, some_live}
-use Rattle.lp_transition.specs.Table.{Table, slot, is_in, is_off}
+use Rattle.lp_model.specs.declared.check.CheckKind.{CheckKind}
+use Rattle.lp_model.specs.declared.check.CheckKind.TheVariants as check
+use Rattle.lp_transition.specs.declared.event.Event.{Event}
+use Rattle.lp_transition.specs.declared.event.Event.TheVariants.{Walk, Stop, Fork, Die}
+use Rattle.lp_transition.specs.Tasks.{on_live}
+use Rattle.lp_transition.specs.Leg.{State, some_live, is_alone}
+use Rattle.lp_transition.specs.Machine.{outlines_of}
+use Rattle.lp_transition.specs.Weigh.{Weighed, refused_by}
+use Rattle.lp_transition.specs.ScanSteps.{groups_of}
+use Rattle.lp_transition.specs.Table.{Table, Engine, slot, standings, bounds_of, state_in, is_in, is_off}
 use Rattle.lp_transition.specs.Scan.{passing}
 use Rattle.lp_cert.specs.declared.cert.Claim.{Claim}
 use Rattle.lp_cert.specs.declared.cert.Cert.{Cert}
@@ -180,10 +188,36 @@ after_fork model p c how at parents lines group =
     then option_map (λ ls. birth_line group p at ∷ ls) (lines parents)
     else lines group
 
--- the lines of a group after the death of a member of one with so many live members
-abbrev pub after_death : (mine members : ℕ) → (ℕ → Option (List Line)) → (group : ℕ) → Option (List Line)
-after_death mine members lines group = if nat_eq group mine && nat_eq members 1 then None else lines group
+-- the lines of a group after the death of a member of one, which may have been alone in it
+abbrev pub after_death : (mine : ℕ) → (alone : Bool) → (ℕ → Option (List Line)) → (group : ℕ) → Option (List Line)
+after_death mine alone lines group = if nat_eq group mine && alone then None else lines group
 
 -- the lines of a group after these groups went over
 abbrev pub after_switch : List ℕ → (ℕ → Option (List Line)) → (group : ℕ) → Option (List Line)
 after_switch gone lines group = if list_any (nat_eq group) gone then None else lines group
+
+-- a task is the only live member of a group
+abbrev pub is_lone : Engine → (task group : ℕ) → Bool
+is_lone e t group = is_alone (bounds_of e.patches) (outlines_of (standings e.table)) group t
+
+-- what the verdicts of a scan make of the lines of a group, where the model uses its kind
+abbrev pub after_scan_of : Rules → State → CheckKind → List Verdict → (ℕ → Option (List Line)) → (group : ℕ) → Option (List Line)
+after_scan_of model s kind verdicts lines group =
+    if model.uses kind then after_scan (has_frame_in s) group (suc s.number) (first_refused s group verdicts) (lines group) else lines group
+
+-- the lines of a group after an accepted event's own effect
+abbrev pub own_lines : Rules → Engine → Event → List Verdict → (ℕ → Option (List Line)) → (group : ℕ) → Option (List Line)
+own_lines model e Walk verdicts lines group = after_scan_of model (state_in e) check.Walk verdicts lines group
+own_lines model e Stop verdicts lines group = after_scan_of model (state_in e) check.Stop verdicts lines group
+own_lines model e (Fork p c how) verdicts lines group =
+    on_live (lines group) (λ x. after_fork model p c how (suc e.number) x.group lines group) (standings e.table p.0)
+own_lines model e (Die t) verdicts lines group =
+    on_live (lines group) (λ x. after_death x.group (is_lone e t.0 x.group) lines group) (standings e.table t.0)
+own_lines model e _ verdicts lines group = lines group
+
+-- the lines of a group after an event that was answered so
+abbrev pub next_lines : Rules → Engine → Weighed → (ℕ → Option (List Line)) → (group : ℕ) → Option (List Line)
+next_lines model e step lines group =
+    if is_none (refused_by step.reply.what)
+    then after_switch (groups_of step.reply.what) (own_lines model e step.event step.verdicts lines) group
+    else lines group

@@ -1,22 +1,54 @@
 //! The groups that wait, as events come.
-ghost use Rattle.std.specs.Prelude.{◌≡◌, ◌<◌, ◌≤◌, ℕ, Some, length, count_by, if◌then◌else◌, IsTrue};
+ghost use Rattle.std.specs.Prelude.{◌≡◌, ◌+◌, ◌<◌, ◌≤◌, ℕ, suc, [], length, IsTrue};
 ghost use Rattle.std.specs.List.{AllByRecursion};
 ghost use Rattle.lp_transition.specs.Events.{group_numbers};
-ghost use Rattle.lp_transition.specs.Leg.{Standing};
 ghost use Rattle.lp_transition.specs.ScanSteps.{groups_of};
-ghost use Rattle.lp_transition.specs.Table.{state_in, slot, is_in};
-ghost use Rattle.lp_cert.specs.Steps.{has_frame_in, first_refused};
-ghost use Rattle.lp_cert.specs.Waiters.{IsUsedVerdict, after_death, after_fork, after_scan, after_switch, lines_at};
+ghost use Rattle.lp_transition.specs.Table.{state_in};
+ghost use Rattle.lp_transition.specs.Weigh.{IsWeighed};
+ghost use Rattle.lp_cert.specs.Waiters.{IsUsedVerdict, after_scan_of, after_switch, lines_at, next_lines, own_lines};
 
 use crate::head::Birth;
 use crate::waiters::Waiters;
 use lp_model::{CheckKind, Consistency, ForkKind, Verdict};
 use lp_stack::{GroupId, TaskId};
-use lp_transition::{Core, What};
+use lp_transition::{Core, Event, Step, What};
 
 impl Waiters {
+    /// An event that was weighed and opens no leg. Takes no memory.
+    pub(crate) fn advance<M: Consistency>(&mut self, core: &Core<M>, step: &Step)
+        requires weighed { IsWeighed M.rules core.now step.now }
+        requires room { length step.now.verdicts + 1 < self.old.reasons.room }
+        requires scan_room { 0 < self.old.reasons.scan_room }
+        ensures { (group : ℕ) → lines_at self.new group ≡ next_lines M.rules core.now step.now (lines_at self.old) group }
+    {
+        let what = &step.reply().what;
+        if matches!(what, What::Refused(_)) {
+            return;
+        }
+        self.affect(core, step);
+        self.switch(what);
+    }
+
+    /// The own effect of an accepted event. Takes no memory.
+    fn affect<M: Consistency>(&mut self, core: &Core<M>, step: &Step)
+        requires weighed { IsWeighed M.rules core.now step.now }
+        requires room { length step.now.verdicts + 1 < self.old.reasons.room }
+        requires scan_room { 0 < self.old.reasons.scan_room }
+        ensures { (group : ℕ) → lines_at self.new group ≡ own_lines M.rules core.now step.now.event step.now.verdicts (lines_at self.old) group }
+    {
+        let _ = &self;
+        let at = core.events() + 1;
+        match step.event() {
+            Event::Walk => self.scan_of(core, CheckKind::Walk, at, step.verdicts()),
+            Event::Stop => self.scan_of(core, CheckKind::Stop, at, step.verdicts()),
+            Event::Fork(parent, child, how) => self.fork(core, parent, child, how, at),
+            Event::Die(task) => self.die(core, task),
+            _ => {}
+        }
+    }
+
     /// A scan of this kind. Takes no memory.
-    pub(crate) fn scan_of<M: Consistency>(
+    fn scan_of<M: Consistency>(
         &mut self,
         core: &Core<M>,
         kind: CheckKind,
@@ -26,7 +58,8 @@ impl Waiters {
         requires used { IsTrue (M.rules.uses kind) → AllByRecursion IsUsedVerdict verdicts.now }
         requires room { length verdicts.now ≤ self.old.reasons.room }
         requires scan_room { 0 < self.old.reasons.scan_room }
-        ensures { (group : ℕ) → lines_at self.new group ≡ (if M.rules.uses kind then after_scan (has_frame_in (state_in core.now)) group at (first_refused (state_in core.now) group verdicts.now) (lines_at self.old group) else lines_at self.old group) }
+        requires at { at ≡ suc (state_in core.now).number }
+        ensures { (group : ℕ) → lines_at self.new group ≡ after_scan_of M.rules (state_in core.now) kind verdicts.now (lines_at self.old) group }
     {
         if core.model().uses(kind) {
             self.scan(core, at, verdicts);
@@ -35,7 +68,7 @@ impl Waiters {
 
     /// An accepted fork: a child in a group of its own waits with its parent's reasons. Takes no
     /// memory.
-    pub(crate) fn fork<M: Consistency>(
+    fn fork<M: Consistency>(
         &mut self,
         core: &Core<M>,
         parent: TaskId,
@@ -44,7 +77,8 @@ impl Waiters {
         at: u64,
     )
         requires room { 1 < self.old.reasons.room }
-        ensures { (x : Standing) → slot core.now.table parent.0 ≡ Some x → (group : ℕ) → lines_at self.new group ≡ after_fork M.rules parent child how at x.group (lines_at self.old) group }
+        requires at { at ≡ suc core.now.number }
+        ensures { (group : ℕ) → lines_at self.new group ≡ own_lines M.rules core.now (Event.Fork parent child how) [] (lines_at self.old) group }
     {
         let Some(group) = core.group_of(parent) else {
             return;
@@ -63,19 +97,19 @@ impl Waiters {
 
     /// An accepted end of a task: its group waits no longer where it was the only member. Takes no
     /// memory.
-    pub(crate) fn die<M: Consistency>(&mut self, core: &Core<M>, task: TaskId)
-        ensures { (x : Standing) → slot core.now.table task.0 ≡ Some x → (group : ℕ) → lines_at self.new group ≡ after_death x.group (count_by (is_in x.group) core.now.table.slots) (lines_at self.old) group }
+    fn die<M: Consistency>(&mut self, core: &Core<M>, task: TaskId)
+        ensures { (group : ℕ) → lines_at self.new group ≡ own_lines M.rules core.now (Event.Die task) [] (lines_at self.old) group }
     {
         let Some(group) = core.group_of(task) else {
             return;
         };
-        if core.members(group) == 1 {
+        if core.is_alone(task) {
             self.leave(group);
         }
     }
 
     /// The groups that an event took over wait no longer. Takes no memory.
-    pub(crate) fn switch(&mut self, what: &What)
+    fn switch(&mut self, what: &What)
         ensures { (group : ℕ) → lines_at self.new group ≡ after_switch (groups_of what.now) (lines_at self.old) group }
     {
         if let What::Switched(groups) = what {
