@@ -35,7 +35,7 @@ use Rattle.lp_cert.proofs.NextLines.{lines_at_scan, lines_at_unused_scan}
 use Rattle.lp_cert.proofs.OtherEvents.{lines_at_others}
 use Rattle.lp_cert.proofs.VerdictLines.{verdicts_tell}
 
-and_true : (b : Bool) → (b && true) ≡ b
+pub and_true : (b : Bool) → (b && true) ≡ b
 and_true true = refl
 and_true false = refl
 
@@ -179,14 +179,14 @@ module _ (model : Rules) (lawful : IsLawful model) (e : Engine) (sound : IsSound
   abbrev pub Own : Event → Option (List Line) → Type 0
   Own event new = new ≡ (if is_behind (affected model (state_in e) event) g then Some (lines model (and_then leg event) (suc n) g) else None)
 
-  same_own : (event : Event) → is_behind (affected model (state_in e) event) g ≡ is_behind (state_in e) g → lines model (and_then leg event) (suc n) g ≡ lines model leg n g → Own event old
+  pub same_own : (event : Event) → is_behind (affected model (state_in e) event) g ≡ is_behind (state_in e) g → lines model (and_then leg event) (suc n) g ≡ lines model leg n g → Own event old
   same_own event waits same =
       is ∙ ap₂ (λ (b : Bool) (ls : List Line). if b then Some ls else None) (sym waits) (sym same)
 
-  others : (event : Event) → is_scan event ≡ false → is_fork event ≡ false → lines model (and_then leg event) (suc n) g ≡ lines model leg n g
+  pub others : (event : Event) → is_scan event ≡ false → is_fork event ≡ false → lines model (and_then leg event) (suc n) g ≡ lines model leg n g
   others event scan fork = lines_at_others model lawful leg leg_sound event g scan fork
 
-  changed_own : (event : Event) (t : ℕ) (f : Standing → Standing) → ((x : Standing) → (f x).level ≡ x.level) → ((x : Standing) → (f x).group ≡ x.group)
+  pub changed_own : (event : Event) (t : ℕ) (f : Standing → Standing) → ((x : Standing) → (f x).level ≡ x.level) → ((x : Standing) → (f x).group ≡ x.group)
       → is_behind (affected model (state_in e) event) g ≡ some_live (state_in e).bounds (change t f (state_in e).tasks) (λ u x. nat_eq x.group g && not (nat_eq x.level (state_in e).target))
       → is_scan event ≡ false → is_fork event ≡ false → Own event old
   changed_own event t f levels groups change_is scan fork =
@@ -230,7 +230,7 @@ module _ (model : Rules) (lawful : IsLawful model) (e : Engine) (sound : IsSound
           ∙ (ap {A = List Line} {B = Option (List Line)} Some (sym line)
           ∙ sym (cond-true (is_behind (affected model (state_in e) (scan_event on)) g) (Some (lines model (and_then leg (scan_event on)) (suc n) g)) None (waits ∙ busy)))
 
-  scan_own : (on : CheckKind) → is_scan_kind on ≡ true → goes_over model (affected model (state_in e) (scan_event on)) (scan_event on) g ≡ false
+  pub scan_own : (on : CheckKind) → is_scan_kind on ≡ true → goes_over model (affected model (state_in e) (scan_event on)) (scan_event on) g ≡ false
       → goes_over model (affected model (state_in e) (scan_event on)) (scan_event on) g ≡ goes_by e.table (verdicts_of model on (state_in e)) g
       → is_behind (affected model (state_in e) (scan_event on)) g ≡ is_behind (state_in e) g
       → (b : Bool) → model.uses on ≡ b

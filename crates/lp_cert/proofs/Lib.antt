@@ -9,3 +9,5 @@ pub mod VerdictLines
 pub mod WaiterLemmas
 pub mod MoreWaiters
 pub mod Behind
+pub mod BehindTasks
+pub mod StepLines
