@@ -11,3 +11,4 @@ pub mod MoreWaiters
 pub mod Behind
 pub mod BehindTasks
 pub mod StepLines
+pub mod Completions

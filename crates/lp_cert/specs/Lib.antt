@@ -6,3 +6,4 @@ pub mod Heads
 pub mod Steps
 pub mod Laws
 pub mod Waiters
+pub mod Ends

@@ -13,7 +13,7 @@ use Rattle.lp_model.specs.declared.check.CheckKind.TheVariants as check
 use Rattle.lp_transition.specs.declared.event.Event.{Event}
 use Rattle.lp_transition.specs.declared.event.Event.TheVariants.{Walk, Stop, Fork, Die}
 use Rattle.lp_transition.specs.Tasks.{on_live}
-use Rattle.lp_transition.specs.Leg.{State, some_live, is_alone}
+use Rattle.lp_transition.specs.Leg.{Standing, State, some_live, is_alone}
 use Rattle.lp_transition.specs.Machine.{outlines_of}
 use Rattle.lp_transition.specs.Weigh.{Weighed, refused_by}
 use Rattle.lp_transition.specs.ScanSteps.{groups_of}
@@ -221,3 +221,8 @@ next_lines model e step lines group =
     if is_none (refused_by step.reply.what)
     then after_switch (groups_of step.reply.what) (own_lines model e step.event step.verdicts lines) group
     else lines group
+
+-- the group of a task that forks is a number below 65,536
+abbrev pub HasFewGroups : Engine → Event → Type 0
+HasFewGroups e (Fork p c how) = (x : Standing) → slot e.table p.0 ≡ Some x → x.group < 65536
+HasFewGroups e _ = Unit {0}

@@ -1,11 +1,11 @@
 //! The groups that wait, as events come.
-ghost use Rattle.std.specs.Prelude.{◌≡◌, ◌+◌, ◌<◌, ◌≤◌, ℕ, suc, [], length, IsTrue};
+ghost use Rattle.std.specs.Prelude.{◌≡◌, ◌+◌, ◌<◌, ◌≤◌, ℕ, suc, [], length, IsTrue, IsNone};
 ghost use Rattle.std.specs.List.{AllByRecursion};
 ghost use Rattle.lp_transition.specs.Events.{group_numbers};
 ghost use Rattle.lp_transition.specs.ScanSteps.{groups_of};
 ghost use Rattle.lp_transition.specs.Table.{state_in};
-ghost use Rattle.lp_transition.specs.Weigh.{IsWeighed};
-ghost use Rattle.lp_cert.specs.Waiters.{IsUsedVerdict, after_scan_of, after_switch, lines_at, next_lines, own_lines};
+ghost use Rattle.lp_transition.specs.Weigh.{IsWeighed, refused_by};
+ghost use Rattle.lp_cert.specs.Waiters.{HasFewGroups, IsUsedVerdict, after_scan_of, after_switch, lines_at, next_lines, own_lines};
 
 use crate::head::Birth;
 use crate::waiters::Waiters;
@@ -19,7 +19,8 @@ impl Waiters {
         requires weighed { IsWeighed M.rules core.now step.now }
         requires room { length step.now.verdicts + 1 < self.old.reasons.room }
         requires scan_room { 0 < self.old.reasons.scan_room }
-        ensures { (group : ℕ) → lines_at self.new group ≡ next_lines M.rules core.now step.now (lines_at self.old) group }
+        ensures lines { (group : ℕ) → lines_at self.new group ≡ next_lines M.rules core.now step.now (lines_at self.old) group }
+        ensures few { IsNone (refused_by step.now.reply.what) → HasFewGroups core.now step.now.event }
     {
         let what = &step.reply().what;
         if matches!(what, What::Refused(_)) {
@@ -34,7 +35,8 @@ impl Waiters {
         requires weighed { IsWeighed M.rules core.now step.now }
         requires room { length step.now.verdicts + 1 < self.old.reasons.room }
         requires scan_room { 0 < self.old.reasons.scan_room }
-        ensures { (group : ℕ) → lines_at self.new group ≡ own_lines M.rules core.now step.now.event step.now.verdicts (lines_at self.old) group }
+        ensures lines { (group : ℕ) → lines_at self.new group ≡ own_lines M.rules core.now step.now.event step.now.verdicts (lines_at self.old) group }
+        ensures few { HasFewGroups core.now step.now.event }
     {
         let _ = &self;
         let at = core.events() + 1;
@@ -78,7 +80,8 @@ impl Waiters {
     )
         requires room { 1 < self.old.reasons.room }
         requires at { at ≡ suc core.now.number }
-        ensures { (group : ℕ) → lines_at self.new group ≡ own_lines M.rules core.now (Event.Fork parent child how) [] (lines_at self.old) group }
+        ensures lines { (group : ℕ) → lines_at self.new group ≡ own_lines M.rules core.now (Event.Fork parent child how) [] (lines_at self.old) group }
+        ensures few { HasFewGroups core.now (Event.Fork parent child how) }
     {
         let Some(group) = core.group_of(parent) else {
             return;
