@@ -1,5 +1,5 @@
 -- When a leg is complete, and what its certificates are then, as the events come.
-use Rattle.std.proofs.Common.{◌≡◌, ◌+◌, ◌<◌, ◌≤◌, ℕ, zero, suc, Bool, true, false, not, ◌&&◌, List, [], ◌∷◌, ◌++◌, length, map, filter, take, reverse, Option, Some, None, IsTrue, cond, if◌then◌else◌, refl, sym, ap, ap₂, ◌∙◌, ⊎_elim, arith, length-append}
+use Rattle.std.proofs.Common.{◌≡◌, ◌+◌, ◌<◌, ◌≤◌, ℕ, zero, suc, Bool, true, false, List, [], ◌∷◌, ◌++◌, length, map, filter, take, reverse, Option, Some, None, IsTrue, cond, if◌then◌else◌, refl, sym, ap, ap₂, ◌∙◌, ⊎_elim, arith, length-append}
 use mathlib.Core.Path.{fun_ext}
 use Rattle.std.specs.List.{range_with_len, find}
 use Rattle.std.specs.Option.{option_or}
@@ -17,10 +17,10 @@ use Rattle.lp_transition.proofs.Prefix.{complete_same, waits_same, past_same}
 use Rattle.lp_transition.proofs.ScanGroups.{same_bool}
 use Rattle.lp_transition.proofs.Waiting.{complete-is, complete-from, complete_later}
 use Rattle.lp_cert.specs.declared.cert.Claim.{Claim}
-use Rattle.lp_cert.specs.declared.cert.Claim.TheVariants.{Waiting, Floor}
+use Rattle.lp_cert.specs.declared.cert.Claim.TheVariants.{Floor}
 use Rattle.lp_cert.specs.declared.cert.Cert.{Cert}
 use Rattle.lp_cert.specs.declared.line.Line.{Line}
-use Rattle.lp_cert.specs.Made.{group_id, lines, cert, waiting_groups, waiting_certs, floor_certs, completion, certs_by, certs_of}
+use Rattle.lp_cert.specs.Made.{group_id, cert, waiting_groups, floor_certs, completion, certs_by}
 use Rattle.lp_cert.proofs.Past.{lines_past}
 
 -- ---- The first number that passes

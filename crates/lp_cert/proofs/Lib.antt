@@ -12,3 +12,6 @@ pub mod Behind
 pub mod BehindTasks
 pub mod StepLines
 pub mod Completions
+pub mod Keeping
+pub mod Making
+pub mod Noted

@@ -155,7 +155,7 @@ module _ (model : Rules) (lawful : IsLawful model) (e : Engine) (sound : IsSound
       some_none a e = absurd (cc)
 
   -- the lines that a group has after the event, if it waits then
-  pub step_lines : (step : Weighed) → IsWeighed model e step → (refusal_of model s step.event ≡ None → is_control step.event ≡ false) → IsFew step.event → (g : ℕ) → g < 65536
+  pub step_lines : (step : Weighed) → IsWeighed model e step → (refusal_of model s step.event ≡ None → is_control step.event ≡ false) → (refusal_of model s step.event ≡ None → IsFew step.event) → (g : ℕ) → g < 65536
       → next_lines model e step old g ≡ (if is_behind (next model s step.event) g then Some (lines model (and_then leg step.event) (suc n) g) else None)
   step_lines step weighed plain few g below = by (refusal_of model s step.event) refl
     where
@@ -176,7 +176,7 @@ module _ (model : Rules) (lawful : IsLawful model) (e : Engine) (sound : IsSound
       gone ok false goes told =
           cond-false (list_any (nat_eq g) (groups_of step.reply.what)) None (own_lines model e event step.verdicts old g) told
           ∙ (ap (λ vs. own_lines model e event vs old g) weighed.verdicts
-          ∙ (own_step event g below few ok (plain ok) goes
+          ∙ (own_step event g below (few ok) ok (plain ok) goes
           ∙ ap (λ b. if b then Some (new g) else None) (sym (ap (λ (st : State). is_behind st g) (next-accepted model s event ok (plain ok)) ∙ (behind_after model s event g ∙ (ap (λ b. is_behind (affected model s event) g && not b) goes ∙ and_true (is_behind (affected model s event) g)))))))
 
       by : (why : Option Refusal) → refusal_of model s event ≡ why → next_lines model e step old g ≡ (if is_behind (next model s event) g then Some (new g) else None)

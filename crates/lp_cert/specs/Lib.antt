@@ -7,3 +7,4 @@ pub mod Steps
 pub mod Laws
 pub mod Waiters
 pub mod Ends
+pub mod Kept

@@ -8,7 +8,9 @@ mod head;
 pub mod laws;
 mod leg_end;
 mod line;
+mod maker;
 mod ongoing;
+mod open_leg;
 mod reason;
 mod reasons;
 #[cfg(test)]
@@ -19,3 +21,4 @@ mod written;
 pub use cert::{Cert, Claim};
 pub use leg_end::{CertList, LegEnd};
 pub use line::{Line, LineList};
+pub use maker::Maker;

@@ -1,5 +1,5 @@
 //! The groups that wait in a leg, each with its reasons.
-ghost use Rattle.std.specs.Prelude.{◌≡◌, ◌≢◌, ◌+◌, ◌<◌, ◌≤◌, ℕ, [], ◌∷◌, ◌++◌, true, false, Some, None, length, map, reverse, slice_set, IfOk, OnOk, if◌then◌else◌, nat_eq};
+ghost use Rattle.std.specs.Prelude.{◌≡◌, ◌≢◌, ◌+◌, ◌<◌, ◌≤◌, ℕ, [], ◌∷◌, ◌++◌, true, false, Some, None, length, map, reverse, slice_set, IfOk, IfSome, OnOk, if◌then◌else◌, nat_eq};
 ghost use Rattle.std.specs.List.{AllByRecursion, list_any};
 ghost use Rattle.std.specs.Option.{option_map};
 ghost use Rattle.lp_numbers.specs.Numbers.{has, IsEmpty, IsNextFrom};
@@ -9,7 +9,8 @@ ghost use Rattle.lp_transition.specs.ScanSteps.{IsNextBelow};
 ghost use Rattle.lp_transition.specs.Table.{state_in};
 ghost use Rattle.lp_cert.specs.Heads.{HasFrameAs};
 ghost use Rattle.lp_cert.specs.Steps.{has_frame_in, first_refused};
-ghost use Rattle.lp_cert.specs.Waiters.{StandsAt, IsJudged, AreJudged, IsUsedVerdict, after_birth, after_scan, has_off, lines_at, waiter_in, waiters_of, AreTakenIn, IsTakenIn};
+ghost use Rattle.lp_cert.specs.Kept.{floor_waiters};
+ghost use Rattle.lp_cert.specs.Waiters.{AreHeads, StandsAt, IsJudged, AreJudged, IsUsedVerdict, after_birth, after_scan, has_off, lines_at, waiter_in, waiters_of, AreTakenIn, IsTakenIn};
 
 use crate::chains::Chains;
 use crate::head::{Birth, Refused, Waiter};
@@ -78,7 +79,9 @@ impl Waiters {
 
     /// The least group that waits.
     pub(crate) fn least(&self) -> Option<GroupId>
-        ensures { IsNextFrom (has self.now.groups) 0 (option_map (λ group. group.0) result) }
+        ensures least { IsNextFrom (has self.now.groups) 0 (option_map (λ group. group.0) result) }
+        ensures few { IfSome result (λ group. group.0 < 65536) }
+        ensures stands { AreHeads self.now.reasons.lists (length self.now.reasons.scans) (floor_waiters self.now.reasons result) }
     {
         let number = self.groups.next(0)?;
         Some(GroupId(number))
@@ -100,9 +103,18 @@ impl Waiters {
 
     /// The groups that wait, in increasing order; AllocError where a growth was refused.
     pub(crate) fn list(&self, alloc: Global) -> Result<Vec<Waiter>, AllocError>
-        ensures { IfOk result (λ list. list.items ≡ waiters_of self.now) }
+        ensures list { IfOk result (λ list. list.items ≡ waiters_of self.now) }
+        ensures stands { IfOk result (λ list. AreHeads self.now.reasons.lists (length self.now.reasons.scans) list.items) }
     {
         listed(alloc, &self.groups, &self.reasons)
+    }
+
+    /// A copy of the older reasons, and of the scans; AllocError where a growth was refused.
+    pub(crate) fn copy_past(&self, alloc: Global) -> Result<(Chains, Vec<u64>), AllocError>
+        ensures lists { IfOk result (λ past. past.0.lists ≡ self.now.reasons.lists) }
+        ensures scans { IfOk result (λ past. past.1.items ≡ self.now.reasons.scans) }
+    {
+        self.reasons.copy_past(alloc)
     }
 
     /// A group as it stands, which may wait or not.
@@ -121,14 +133,6 @@ impl Waiters {
         ensures reasons { self.new.reasons ≡ self.old.reasons }
     {
         self.groups.remove(group.0);
-    }
-
-    /// No group waits any longer. Takes no memory.
-    pub(crate) fn settle(&mut self)
-        ensures groups { IsEmpty self.new.groups }
-        ensures reasons { self.new.reasons ≡ self.old.reasons }
-    {
-        empty(&mut self.groups);
     }
 
     /// A group that waits gives birth to another, which waits too. Takes no memory.
