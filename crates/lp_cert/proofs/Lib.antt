@@ -15,3 +15,5 @@ pub mod Completions
 pub mod Keeping
 pub mod Making
 pub mod Noted
+pub mod Asked
+pub mod Tellings

@@ -155,10 +155,10 @@ abbrev pub cert_for : Claim → (opened upto : ℕ) → (ℕ → List Line) → 
 cert_for claim opened upto ls group = record { claim = claim; leg = opened; group = group_id group; upto = upto; lines = reverse (ls group) }
 
 module _ (claim : Claim) (opened upto : ℕ) (w : WaitingGroups) where
-  abbrev kept : ℕ → Cert
+  abbrev pub kept : ℕ → Cert
   kept g = kept_cert claim opened upto w.reasons.lists w.reasons.scans (waiter_in w.reasons g)
 
-  kept_map : map (kept_cert claim opened upto w.reasons.lists w.reasons.scans) (waiters_of w) ≡ map kept (filter (has w.groups) (range_with_len 0 65536))
+  pub kept_map : map (kept_cert claim opened upto w.reasons.lists w.reasons.scans) (waiters_of w) ≡ map kept (filter (has w.groups) (range_with_len 0 65536))
   unfolding passing
   kept_map = map_twice (kept_cert claim opened upto w.reasons.lists w.reasons.scans) (waiter_in w.reasons) (filter (has w.groups) (range_with_len 0 65536))
 

@@ -1,10 +1,13 @@
 -- How the legs of a run ended, with their certificates, and what is made of a run so far.
-use Rattle.std.specs.Prelude.{◌≡◌, ℕ, ◌+◌, List, [], ◌∷◌, ◌++◌, map, drop, Option, Some, None, if◌then◌else◌}
+use Rattle.std.specs.Prelude.{◌≡◌, ℕ, ◌+◌, List, [], ◌∷◌, ◌++◌, map, drop, Option, Some, None, is_none, if◌then◌else◌, nat_eq, slice_get}
+use Rattle.std.specs.List.{find}
 use Rattle.std.specs.Option.{option_map}
 use Rattle.lp_model.specs.Rules.{Rules}
 use Rattle.lp_transition.specs.declared.event.Event.{Event}
 use Rattle.lp_transition.specs.Leg.{Leg}
 use Rattle.lp_transition.specs.Run.{Run, first_leg, leg_of, opens, next_leg}
+use Rattle.lp_cert.specs.declared.cert.Claim.TheVariants.{Floor}
+use Rattle.lp_cert.specs.declared.cert.Cert.{Cert}
 use Rattle.lp_cert.specs.declared.leg_end.LegEnd.{LegEnd}
 use Rattle.lp_cert.specs.Made.{completion, certs_of}
 
@@ -14,6 +17,20 @@ pub record Made : Type 0 where
   pub ended : List LegEnd
   pub current : Option LegEnd
   pub ready : Option (Event × ℕ)
+
+-- ---- The certificates of the leg under way, while it isn't complete
+
+-- that a group waits
+abbrev pub waiting_in : Option LegEnd → (group : ℕ) → Option Cert
+waiting_in None group = None
+waiting_in (Some leg) group = if is_none leg.completed then find (λ cert. nat_eq cert.group.0 group) leg.certs else None
+
+-- that the leg isn't complete, as the least group waits
+abbrev pub floor_in : Option LegEnd → Option Cert
+floor_in None = None
+floor_in (Some leg) = if is_none leg.completed then option_map (λ (cert : Cert). record cert { claim = Floor }) (slice_get leg.certs 0) else None
+
+-- ---- The legs of a run
 
 module _ (model : Rules) where
   -- how a leg ended

@@ -1,5 +1,5 @@
 -- The leg under way as it is kept.
-use Rattle.std.specs.Prelude.{◌≡◌, ℕ, ◌+◌, ◌-◌, ◌<◌, Bool, true, false, ◌&&◌, List, [], ◌∷◌, length, map, Option, Some, None, IfSome, is_none, if◌then◌else◌}
+use Rattle.std.specs.Prelude.{◌≡◌, ℕ, ◌+◌, ◌-◌, ◌<◌, Bool, true, false, ◌&&◌, List, [], ◌∷◌, length, map, reverse, Option, Some, None, IfSome, is_none, if◌then◌else◌}
 use Rattle.std.specs.Option.{option_map}
 use Rattle.lp_stack.specs.declared.number.GroupId.{GroupId}
 use Rattle.lp_numbers.specs.Numbers.{has, IsNextFrom}
@@ -9,6 +9,8 @@ use Rattle.lp_transition.specs.Table.{Engine}
 use Rattle.lp_transition.specs.Weigh.{Weighed, refused_by}
 use Rattle.lp_cert.specs.declared.cert.Claim.{Claim}
 use Rattle.lp_cert.specs.declared.cert.Claim.TheVariants.{Waiting, Floor}
+use Rattle.lp_cert.specs.declared.cert.Cert.{Cert}
+use Rattle.lp_cert.specs.declared.line.Line.{Line}
 use Rattle.lp_cert.specs.declared.reason.Reason.{Reason}
 use Rattle.lp_cert.specs.declared.head.Waiter.{Waiter}
 use Rattle.lp_cert.specs.declared.leg_end.LegEnd.{LegEnd}
@@ -31,6 +33,10 @@ upto_of noted (Some done) = done.at - 1
 abbrev pub floor_waiters : LegReasons → Option GroupId → List Waiter
 floor_waiters reasons None = []
 floor_waiters reasons (Some group) = waiter_in reasons group.0 ∷ []
+
+-- the certificate of a group with these lines, the newest in front
+abbrev pub waiting_cert : Claim → (leg upto : ℕ) → GroupId → List Line → Cert
+waiting_cert claim leg upto group lines = record { claim = claim; leg = leg; group = group; upto = upto; lines = reverse lines }
 
 -- the groups that have a certificate
 abbrev pub end_waiters : Option Completion → WaitingGroups → List Waiter

@@ -5,16 +5,19 @@ ghost use Rattle.lp_transition.specs.Run.{Run, new_target, plus};
 ghost use Rattle.lp_transition.specs.Steps.{StandsIn};
 ghost use Rattle.lp_transition.specs.Table.{state_in};
 ghost use Rattle.lp_transition.specs.Weigh.{IsWeighed};
-ghost use Rattle.lp_cert.specs.Ends.{IsMadeOf};
-ghost use Rattle.lp_cert.specs.Kept.{HasFloor, HasFloors, IsGoneOn, current_waiters, end_waiters, ends_with, is_opening, leg_at};
-ghost use Rattle.lp_cert.specs.Waiters.{AreHeads};
+ghost use Rattle.lp_cert.specs.Ends.{IsMadeOf, floor_in, waiting_in};
+ghost use Rattle.lp_cert.specs.Kept.{HasFloor, HasFloors, IsGoneOn, current_waiters, end_waiters, ends_with, is_opening, leg_at, waiting_cert};
+ghost use Rattle.lp_cert.specs.Waiters.{AreHeads, lines_at};
+ghost use Rattle.std.specs.Option.{option_map};
 
+use crate::cert::{Cert, Claim};
 use crate::chains::Chains;
 use crate::head::Waiter;
 use crate::leg_end::LegEnd;
 use crate::open_leg::{Completion, OpenLeg};
 use crate::waiters::Waiters;
 use lp_model::Consistency;
+use lp_stack::GroupId;
 use lp_transition::{Core, Event, Step, What};
 use std::alloc::{AllocError, Global};
 use std::marker::Model;
@@ -136,6 +139,37 @@ impl Maker {
         let (chains, scans) = self.waiters.open(core, next.target, chains, scans);
         end_leg(&mut self.ended, noted, self.current, waiters, chains, scans);
         self.current = Some(next);
+    }
+
+    /// The certificate that a group waits in the leg under way, if it does; AllocError where a growth
+    /// was refused.
+    pub fn waiting(&self, alloc: Global, group: GroupId) -> Result<Option<Cert>, AllocError>
+        ensures { IfOk result (λ found. found ≡ waiting_in self.now.current group.0) }
+    {
+        let Some(leg) = self.current else {
+            return Ok(None);
+        };
+        if leg.completed.is_some() {
+            return Ok(None);
+        }
+        cert_of(alloc, Claim::Waiting, leg, self.noted, &self.waiters, group)
+    }
+
+    /// The certificate that the leg under way isn't complete, if there is one that isn't: the least
+    /// group that waits. AllocError where a growth was refused.
+    pub fn floor(&self, alloc: Global) -> Result<Option<Cert>, AllocError>
+        ensures { IfOk result (λ found. found ≡ floor_in self.now.current) }
+    {
+        let Some(leg) = self.current else {
+            return Ok(None);
+        };
+        if leg.completed.is_some() {
+            return Ok(None);
+        }
+        let Some(group) = self.waiters.least() else {
+            return Ok(None);
+        };
+        cert_of(alloc, Claim::Floor, leg, self.noted, &self.waiters, group)
     }
 
     /// The end of the leg under way as it stands, if there is one; AllocError where a growth was
@@ -276,4 +310,28 @@ fn end_waiters(
         list.push(waiters.waiter(group))?;
     }
     Ok(list)
+}
+
+/// The certificate of a group after so many events, if it waits; AllocError where a growth was
+/// refused.
+fn cert_of(
+    alloc: Global,
+    claim: Claim,
+    leg: OpenLeg,
+    noted: u64,
+    waiters: &Waiters,
+    group: GroupId,
+) -> Result<Option<Cert>, AllocError>
+    ensures { IfOk result (λ found. found ≡ option_map (waiting_cert claim leg.opened noted group) (lines_at waiters.now group.0)) }
+{
+    let Some(lines) = waiters.lines(alloc, group)? else {
+        return Ok(None);
+    };
+    Ok(Some(Cert {
+        claim,
+        leg: leg.opened,
+        group,
+        upto: noted,
+        lines,
+    }))
 }
