@@ -1,5 +1,5 @@
 -- The laws of certificates, for one model.
-use Rattle.std.specs.Prelude.{◌≡◌, ℕ, suc, ◌≤◌, true, false, length, Some, None, IsTrue, IsFalse}
+use Rattle.std.specs.Prelude.{◌≡◌, ℕ, suc, ◌≤◌, true, false, [], ◌++◌, length, map, Some, None, option_to_list, slice_get, if◌then◌else◌, IsTrue, IsFalse}
 use Rattle.lp_stack.specs.declared.number.TaskId.{TaskId}
 use Rattle.lp_model.specs.declared.check.CheckKind.{CheckKind}
 use Rattle.lp_model.specs.declared.check.ForkKind.{ForkKind}
@@ -11,10 +11,13 @@ use Rattle.lp_transition.specs.Events.{is_scan}
 use Rattle.lp_transition.specs.Weigh.{is_fork}
 use Rattle.lp_transition.specs.Sound.{IsSound}
 use Rattle.lp_transition.specs.Leg.{State, Leg}
-use Rattle.lp_transition.specs.Run.{and_then, refused_by}
+use Rattle.lp_transition.specs.Run.{Run, and_then, first_leg, refused_by}
+use Rattle.lp_transition.specs.Schedule.{waits, first_check}
 use Rattle.lp_transition.specs.Scan.{is_scan_kind, scan_event, verdicts_of}
 use Rattle.lp_transition.specs.Machine.{is_behind, state_of}
-use Rattle.lp_cert.specs.Made.{lines}
+use Rattle.lp_cert.specs.declared.cert.Claim.TheVariants.{Waiting}
+use Rattle.lp_cert.specs.Made.{lines, cert, completion, floor_certs, opened_legs}
+use Rattle.lp_cert.specs.Ends.{Made, IsMadeOf, end_of, waiting_in, floor_in}
 use Rattle.lp_cert.specs.Steps.{first_refused, first_blamed_in, lines_after_scan, lines_after_fork}
 
 -- the lines of a group come with the events of its leg: each leaves those before it as they are, or goes by the state
@@ -53,3 +56,25 @@ pub record LinesComeWithEvents (model : Rules) : Type 0 where
   pub others :
       (leg : Leg) → IsSound leg.opening → (event : Event) (group : ℕ) → is_scan event ≡ false → is_fork event ≡ false →
       lines model (and_then leg event) (suc (length leg.events)) group ≡ lines model leg (length leg.events) group
+
+-- what a maker holds
+pub record MakersTell (model : Rules) : Type 0 where
+  -- a run begins without a leg
+  pub begins : (run : Run) → run.events ≡ [] → IsMadeOf model run (record { ended = []; current = None; ready = None })
+  -- what is made of a run is the ends of its legs, with their certificates
+  pub legs :
+      (run : Run) (made : Made) → IsMadeOf model run made →
+      made.ended ++ option_to_list made.current ≡ map (end_of model) (opened_legs model (first_leg model run) run.events)
+  -- in a leg that isn't complete there is a certificate for each group that waits, and for no other
+  pub waiting :
+      (leg : Leg) (group : ℕ) → completion model leg ≡ None → group ≤ leg.bounds.tasks →
+      waiting_in (Some (end_of model leg)) group
+      ≡ (if waits model leg (first_check model leg) (length leg.events) group then Some (cert model leg Waiting (length leg.events) group) else None)
+  -- and a floor for the least of them
+  pub floor :
+      (leg : Leg) → completion model leg ≡ None →
+      floor_in (Some (end_of model leg)) ≡ slice_get (floor_certs model leg (length leg.events)) 0
+  -- in a leg that is complete nobody waits
+  pub complete :
+      (leg : Leg) (k group : ℕ) → completion model leg ≡ Some k →
+      (waiting_in (Some (end_of model leg)) group ≡ None) × (floor_in (Some (end_of model leg)) ≡ None)

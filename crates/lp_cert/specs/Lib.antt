@@ -5,3 +5,6 @@ pub mod Chains
 pub mod Heads
 pub mod Steps
 pub mod Laws
+pub mod Waiters
+pub mod Ends
+pub mod Kept

@@ -55,6 +55,15 @@ impl Chains {
         self.entries.reserve(more)
     }
 
+    /// A copy of the lists; AllocError where a growth was refused.
+    pub(crate) fn copy(&self, alloc: Global) -> Result<Chains, AllocError>
+        ensures { IfOk result (λ copied. copied.lists ≡ self.now.lists) }
+    {
+        Ok(Chains {
+            entries: Vec::from_slice(alloc, self.entries.as_slice())?,
+        })
+    }
+
     /// A list with one reason more in front, for which there is room. Takes no memory.
     pub(crate) fn push(&mut self, reason: Reason, older: ChainId) -> ChainId
         requires known { older.0 < length self.old.lists }

@@ -42,6 +42,15 @@ pub(crate) struct Birth {
     pub(crate) at: u64,
 }
 
+/// A group that waits, as it stands.
+#[derive(Clone, Copy)]
+pub(crate) struct Waiter {
+    /// The group.
+    pub(crate) group: GroupId,
+    /// Its reasons.
+    pub(crate) head: Head,
+}
+
 impl Head {
     /// The lines of the reasons as they stand, the oldest first; AllocError where a growth was
     /// refused.
@@ -115,7 +124,8 @@ impl Head {
         requires head { IsHead chains.old.lists (length scans.now) self }
         requires room { 0 < chains.old.room }
         requires used { IsUsed refused.now.blame }
-        ensures { IsRefusedBy refused.now group scans.now self result chains.old.lists chains.new.lists }
+        ensures lines { IsRefusedBy refused.now group scans.now self result chains.old.lists chains.new.lists }
+        ensures room { chains.old.room ≤ chains.new.room + 1 }
     {
         if goes_on(self.ongoing, refused) {
             return self;

@@ -3,7 +3,7 @@ ghost use Rattle.lp_model.specs.Table.{rules_of};
 ghost use Rattle.lp_models.specs.Models.{hybrid, leave_kernel, all_at_once, immediate};
 ghost use Rattle.lp_process.specs.Models.{process_group};
 ghost use Rattle.lp_cert.specs.Rows.{CertificatesCompute};
-ghost use Rattle.lp_cert.specs.Laws.{LinesComeWithEvents};
+ghost use Rattle.lp_cert.specs.Laws.{LinesComeWithEvents, MakersTell};
 
 use lp_model::Consistency;
 
@@ -15,4 +15,9 @@ pub fn worked_certificates()
 /// The lines of a group come with the events of its leg.
 pub fn lines_come_with_events<M: Consistency>()
     ensures { LinesComeWithEvents M.rules }
+{}
+
+/// What a maker holds of a run is the ends of its legs, and tells who waits.
+pub fn makers_tell<M: Consistency>()
+    ensures { MakersTell M.rules }
 {}

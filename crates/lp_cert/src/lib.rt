@@ -1,16 +1,24 @@
 //! Certificates: why a group still waits.
 #![tactic(auto)]
 
+mod advance;
 mod cert;
 mod chains;
 mod head;
 pub mod laws;
+mod leg_end;
 mod line;
+mod maker;
 mod ongoing;
+mod open_leg;
 mod reason;
+mod reasons;
 #[cfg(test)]
 mod tests;
+mod waiters;
 mod written;
 
 pub use cert::{Cert, Claim};
+pub use leg_end::{CertList, LegEnd};
 pub use line::{Line, LineList};
+pub use maker::Maker;

@@ -1,5 +1,5 @@
 -- What an accepted event finds.
-use Rattle.std.proofs.Common.{◌≡◌, ◌≢◌, ℕ, ◌<◌, Bool, true, false, not, List, [], ◌∷◌, length, Option, Some, None, nat_le, nat_lt, nat_eq, ◌||◌, refl, subst, arith}
+use Rattle.std.proofs.Common.{◌≡◌, ◌≢◌, ℕ, ◌<◌, ◌≤◌, Bool, true, false, not, List, [], ◌∷◌, length, Option, Some, None, nat_le, nat_lt, nat_eq, ◌||◌, refl, subst, arith}
 use Rattle.std.proofs.lemmas.Bool.{eq-eqb}
 use Rattle.std.proofs.lemmas.Bool.Decides.{nat_tests}
 use Rattle.lp_symbols.specs.declared.sym_id.SymId.{SymId}
@@ -100,6 +100,17 @@ module _ (model : Rules) (e : Engine) where
   pub fork-positive : (p c : TaskId) (how : ForkKind) → refusal_of model (state_in e) (Fork p c how) ≡ None → 0 < c.0
   unfolding refusal_of
   fork-positive p c how h =
+      let live = outlines_of (standings e.table) in
+      let a = unknown_task live p.0 in
+      let b = out_of_range (bounds_of e.patches) c.0 in
+      let rest = used live c.0 ∷ not_of Normal live p.0 ∷ not_in Kernel live p.0 ∷ [] in
+      let free = fits-free (nat_eq c.0 0 || nat_lt 65535 c.0) TaskRange (first_free b rest (others_free a (b ∷ rest) h)) in
+      grind (arith, nat_tests, free)
+
+  -- and not past the last
+  pub fork-within : (p c : TaskId) (how : ForkKind) → refusal_of model (state_in e) (Fork p c how) ≡ None → c.0 ≤ 65535
+  unfolding refusal_of
+  fork-within p c how h =
       let live = outlines_of (standings e.table) in
       let a = unknown_task live p.0 in
       let b = out_of_range (bounds_of e.patches) c.0 in

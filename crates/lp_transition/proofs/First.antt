@@ -40,7 +40,7 @@ view_agrees leg k t s r x h from made =
         ap (λ l. record { func = func; level = record { 0 = l }; serial = leg.number + suc place }) (level_agrees leg.target k place x.group s r h (omega arith) x.origin from)
 
 module _ (model : Rules) (leg : Leg) where
-  waits_agrees : (k group : ℕ) (s r : Schedule) → Agree k s r → IsTrue (waits model leg s k group) → IsTrue (waits model leg r k group)
+  pub waits_agrees : (k group : ℕ) (s r : Schedule) → Agree k s r → IsTrue (waits model leg s k group) → IsTrue (waits model leg r k group)
   waits_agrees k group s r h e =
       let w = waits-is model leg s k group e in
       let from = from_later k (suc k) (omega arith) w.life.origin (come_from model.child_group leg k w.task w.life w.live) in

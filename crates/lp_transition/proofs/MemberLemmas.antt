@@ -1,5 +1,5 @@
 -- What the engine keeps beside its tasks answers what is asked of each live task.
-use Rattle.std.proofs.Common.{◌≡◌, ◌≢◌, ◌↔◌, ℕ, ◌+◌, ◌<◌, ◌≤◌, true, false, not, ◌&&◌, ◌||◌, count_by, Option, Some, None, IsTrue, nat_eq, refl, sym, ap, subst, ◌∙◌, ⊎_elim, arith}
+use Rattle.std.proofs.Common.{◌≡◌, ◌≢◌, ◌↔◌, ℕ, ◌+◌, ◌<◌, ◌≤◌, Bool, true, false, not, ◌&&◌, ◌||◌, count_by, Option, Some, None, IsTrue, nat_eq, refl, sym, ap, subst, ◌∙◌, ⊎_elim, arith}
 use Rattle.std.proofs.lemmas.Bool.{cases_eq, cases_lt, and_parts, and_from, or_cases, or_left, or_right, eqb-true, eq-eqb, not-true, not-false, not_from_true, not_from_false, cond-true, false_from_ne_true}
 use Rattle.std.proofs.lemmas.List.{get_or_past}
 use Rattle.lp_numbers.specs.Numbers.{Numbers, has, IsEmpty}
@@ -197,3 +197,13 @@ module _ (table : Table) (patches : Patches) (wide : IsWide table) (empty : slot
     -- a group is behind where a member waits
     pub behind : (group : ℕ) → IsTrue (some_live (bounds_of patches) (standings table) (λ t x. nat_eq x.group group && not (nat_eq x.level target))) ↔ Waiter table waiting group
     behind group = (behind-is group, behind-from group)
+
+  -- whether a member is alone, by how many count
+  pub alone-told : (group t : ℕ) → Member table group t → (n : ℕ) → n ≡ count_by (is_in group) table.slots → nat_eq n 1 ≡ is_alone (bounds_of patches) (outlines_of (standings table)) group t
+  alone-told group t m n counts = by (nat_eq n 1) refl (is_alone (bounds_of patches) (outlines_of (standings table)) group t) refl
+    where
+      by : (a : Bool) → nat_eq n 1 ≡ a → (b : Bool) → is_alone (bounds_of patches) (outlines_of (standings table)) group t ≡ b → nat_eq n 1 ≡ is_alone (bounds_of patches) (outlines_of (standings table)) group t
+      by true one true lone = one ∙ sym lone
+      by false more false beside = more ∙ sym beside
+      by true one false beside = let yes = (alone-counted group t m).0 (sym counts ∙ eqb-true n 1 one) in absurd (cc)
+      by false more true lone = let yes = eq-eqb n 1 (counts ∙ (alone-counted group t m).1 lone) in absurd (cc)

@@ -1,6 +1,6 @@
 -- The answer to a scan, by its verdicts.
 use Rattle.std.proofs.Common.{◌≡◌, ℕ, suc, ◌-◌, ◌<◌, Bool, true, false, not, ◌&&◌, ◌||◌, List, [], ◌∷◌, Some, None, is_none, nat_eq, refl, sym, ap, ap₂, subst, ◌∙◌, arith}
-use Rattle.std.proofs.lemmas.Bool.{or_left, or_right, false_from_ne_true}
+use Rattle.std.proofs.lemmas.Bool.{false≢true, or_left, or_right, false_from_ne_true}
 use Rattle.std.specs.List.{filter, list_any, range_with_len}
 use mathlib.Core.Path.{fun_ext}
 use Rattle.lp_numbers.specs.Numbers.{Numbers, has}
@@ -20,7 +20,7 @@ use Rattle.lp_transition.specs.Sound.{IsSound}
 use Rattle.lp_transition.specs.Machine.{goes_over, going, affected, refusal_of, answer}
 use Rattle.lp_transition.specs.Table.{Table, Engine, slot, state_in, is_in}
 use Rattle.lp_transition.specs.Kept.{IsKept}
-use Rattle.lp_transition.specs.Weigh.{Weighed, IsWeighed, born_of}
+use Rattle.lp_transition.specs.Weigh.{Weighed, IsWeighed, verdicts_for, born_of}
 use Rattle.lp_transition.specs.Scan.{is_scan_kind, scan_event, verdicts_of, passing}
 use Rattle.lp_transition.specs.ScanSteps.{is_found, goes_by, all_admit, groups_of}
 use Rattle.lp_transition.proofs.TableLemmas.{slot_from_live}
@@ -108,6 +108,13 @@ reply_by table vs = record { what = switched (passing 0 65536 (goes_by table vs)
 abbrev pub step_by : CheckKind → Table → List Verdict → Weighed
 step_by kind table vs = record { event = scan_event kind; reply = reply_by table vs; verdicts = vs; born = None }
 
+-- a scan is answered by its verdicts
+verdicts-scan : (model : Rules) (s : State) (kind : CheckKind) → is_scan_kind kind ≡ true → verdicts_of model kind s ≡ verdicts_for model s (scan_event kind)
+verdicts-scan model s KernelExit h = absurd (false≢true h)
+verdicts-scan model s IdlePoint h = absurd (false≢true h)
+verdicts-scan model s Walk h = refl
+verdicts-scan model s Stop h = refl
+
 weighs_here : (model : Rules) → IsLawful model → (e : Engine) (waiting : Numbers) (members : List ℕ) (kind : CheckKind) (vs : List Verdict) → IsKept e waiting members → is_scan_kind kind ≡ true → vs ≡ verdicts_of model kind (state_in e) → e.number < 1000000
     → IsWeighed model e (step_by kind e.table vs)
 weighs_here model lawful e waiting members kind vs kept scan found room =
@@ -116,6 +123,7 @@ weighs_here model lawful e waiting members kind vs kept scan found room =
       room = room;
       reply = ap (reply_by e.table) found ∙ sym there;
       born = born-scan model (state_in e) kind;
+      verdicts = found ∙ verdicts-scan model (state_in e) kind scan;
     }
 
 -- a scan is weighed by what its verdicts tell

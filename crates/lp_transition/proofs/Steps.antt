@@ -186,7 +186,7 @@ module _ (model : Rules) (leg : Leg) (event : Event) where
   unfolding is_settled shown complete
   rest_is = each_live-map leg.bounds (standing leg s k) now (λ t y. nat_eq y.level leg.target)
 
-  refusal_is : refusal_of model (state_of model leg) event ≡ refused_by model leg event
+  pub refusal_is : refusal_of model (state_of model leg) event ≡ refused_by model leg event
   unfolding refusal_of refused_by shown
   refusal_is =
       ap₂ (λ seen tests_of_control. first_of (tests leg.bounds seen event ++ tests_of_control)) (outlines_same leg s k now) (ap (λ b. control_tests (state_of model leg) b event) rest_is ∙ control_tests_same (state_of model leg) leg.opening (is_settled model leg) event refl)

@@ -1,6 +1,6 @@
 -- The answers of an engine to events of one task.
 use Rattle.std.proofs.Common.{◌≡◌, ◌≢◌, ◌<◌, ◌≤◌, ℕ, suc, Bool, true, false, not, ◌&&◌, List, [], ◌∷◌, set, Option, Some, None, IsTrue, nat_eq, if◌then◌else◌, refl, sym, ap, ap₂, ◌∙◌, subst, ⊎_elim, ◌↔◌, arith}
-use Rattle.std.proofs.lemmas.Bool.{not-false, eq-eqb, ne_eqb, cond-true, cond-false, cases_lt}
+use Rattle.std.proofs.lemmas.Bool.{false≢true, not-false, eq-eqb, ne_eqb, cond-true, cond-false, cases_lt}
 use Rattle.std.proofs.lemmas.List.{length-set, get_or_past}
 use Rattle.lp_numbers.specs.Numbers.{Numbers, has}
 use Rattle.lp_stack.specs.declared.number.TaskId.{TaskId}
@@ -15,14 +15,14 @@ use Rattle.lp_transition.specs.declared.refusal.Refusal.{Refusal}
 use Rattle.lp_transition.specs.declared.reply.What.{What}
 use Rattle.lp_transition.specs.declared.reply.What.TheVariants.{Done}
 use Rattle.lp_transition.specs.declared.reply.Reply.{Reply}
-use Rattle.lp_transition.specs.Events.{is_control}
+use Rattle.lp_transition.specs.Events.{is_control, is_scan}
 use Rattle.lp_transition.specs.Tasks.{Unused, Live, Dead, change}
 use Rattle.lp_transition.specs.Leg.{Standing, State}
 use Rattle.lp_transition.specs.Run.{switched}
 use Rattle.lp_transition.specs.Machine.{at_rest, goes_over, going, bearing, refusal_of, affected, own_effect, calling, returning, put_in, told, answer_by, answer}
 use Rattle.lp_transition.specs.Table.{Engine, slot, fate_at, standings, changed, state_in, bounds_of, is_off}
 use Rattle.lp_transition.specs.Kept.{IsKept}
-use Rattle.lp_transition.specs.Weigh.{Weighed, IsWeighed, moves, task_of, is_fork, child_of, born_by, born_of, is_switched, refused_by}
+use Rattle.lp_transition.specs.Weigh.{Weighed, IsWeighed, verdicts_for, moves, task_of, is_fork, child_of, born_by, born_of, is_switched, refused_by}
 use Rattle.lp_transition.proofs.EngineLemmas.{is_quiet, quiet-control, quiet-stays, switched-still, answer-accepted}
 use Rattle.lp_transition.proofs.Quantifiers.{each_live-at, each_live-from}
 use Rattle.lp_transition.proofs.Accept.{fork-new}
@@ -235,12 +235,30 @@ born-none model e event plain = by (refusal_of model (state_in e) event) event p
     by None Disable plain = refl
     by None Reverse plain = refl
 
--- an event with its answer and its child was weighed
-pub weighed-as : (model : Rules) (e : Engine) (step : Weighed) (event : Event) (reply : Reply) (born : Option Standing) → e.number < 1000000 → step ≡ record { event = event; reply = reply; verdicts = []; born = born } → reply ≡ answer model (state_in e) event → born ≡ born_of model (state_in e) event
+-- an event that is no scan is answered by no verdicts
+pub verdicts-none : (model : Rules) (s : State) (event : Event) → is_scan event ≡ false → [] ≡ verdicts_for model s event
+verdicts-none model s (Call t f) h = refl
+verdicts-none model s (Ret t) h = refl
+verdicts-none model s (Sleep t) h = refl
+verdicts-none model s (Wake t) h = refl
+verdicts-none model s (Enter t) h = refl
+verdicts-none model s (Exit t) h = refl
+verdicts-none model s (Idle t) h = refl
+verdicts-none model s (Fork p c how) h = refl
+verdicts-none model s (Die t) h = refl
+verdicts-none model s Walk h = absurd (false≢true (sym h))
+verdicts-none model s Stop h = absurd (false≢true (sym h))
+verdicts-none model s Enable h = refl
+verdicts-none model s Disable h = refl
+verdicts-none model s Reverse h = refl
+
+-- an event that is no scan was weighed with its answer and its child
+pub weighed-as : (model : Rules) (e : Engine) (step : Weighed) (event : Event) (reply : Reply) (born : Option Standing) → is_scan event ≡ false → e.number < 1000000 → step ≡ record { event = event; reply = reply; verdicts = []; born = born } → reply ≡ answer model (state_in e) event → born ≡ born_of model (state_in e) event
     → IsWeighed model e step
-weighed-as model e step event reply born room is answers bears =
+weighed-as model e step event reply born plain room is answers bears =
     let weighed : Weighed = record { event = event; reply = reply; verdicts = []; born = born } in
-    let there : IsWeighed model e weighed = record { room = room; reply = answers; born = bears } in
+    let there : IsWeighed model e weighed =
+    record { room = room; reply = answers; born = bears; verdicts = verdicts-none model (state_in e) event plain } in
     subst (IsWeighed model e) (sym is) there
 
 -- the group of a live task is a number below 65,536

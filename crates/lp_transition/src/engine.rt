@@ -1,10 +1,12 @@
 //! The engine: the tasks, and the transition that takes them from one level to another.
-ghost use Rattle.std.specs.Prelude.{◌≡◌, ◌≤◌, not};
-ghost use Rattle.std.specs.Option.{option_map};
+ghost use Rattle.std.specs.Prelude.{◌≡◌, ◌≤◌, not, is_some};
+ghost use Rattle.std.specs.Option.{ForSome, option_map};
 ghost use Rattle.lp_patch.specs.Aimed.{aimed};
-ghost use Rattle.lp_transition.specs.Table.{slot, state_in};
+ghost use Rattle.lp_numbers.specs.Numbers.{IsNextFrom};
+ghost use Rattle.lp_transition.specs.Table.{slot, standings, bounds_of, state_in};
+ghost use Rattle.lp_transition.specs.Leg.{is_alone};
 ghost use Rattle.lp_stack.specs.TaskView.{seen};
-ghost use Rattle.lp_transition.specs.Machine.{at_rest, view_of};
+ghost use Rattle.lp_transition.specs.Machine.{at_rest, outlines_of, view_of};
 
 mod at_once;
 mod boot;
@@ -125,5 +127,22 @@ impl<M: Consistency> Core<M> {
         ensures { option_map (λ group. group.0) result ≡ option_map (λ x. x.group) (slot self.now.table task.0) }
     {
         self.tasks.group_of(task)
+    }
+
+    /// Whether a task is live, and the only live member of its group.
+    pub fn is_alone(&self, task: TaskId) -> bool
+        ensures { ForSome (slot self.now.table task.0) (λ x. result ≡ is_alone (bounds_of self.now.patches) (outlines_of (standings self.now.table)) x.group task.0) }
+    {
+        match self.tasks.get(task) {
+            Some(live) => self.members[usize::from(live.group().0)] == 1,
+            None => false,
+        }
+    }
+
+    /// The least number of a live task that is at or above a number, which may be past all of them.
+    pub fn next_live(&self, from: u32) -> Option<u16>
+        ensures { IsNextFrom (λ t. is_some (slot self.now.table t)) from result }
+    {
+        self.tasks.next_live_from(from)
     }
 }

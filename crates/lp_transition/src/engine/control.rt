@@ -43,7 +43,7 @@ impl<M: Consistency> Core<M> {
     }
 
     /// The level to which an accepted control event takes the tasks.
-    pub(super) fn new_level(&self, event: Event) -> Level
+    pub fn new_level(&self, event: Event) -> Level
         requires accepted { refusal_of M.rules (state_in self.now) event ≡ None }
         requires control { is_control event ≡ true }
         ensures value { result.0 ≡ new_target (state_in self.now) event }

@@ -90,6 +90,11 @@ fn the_first_task_at_fault_is_named(rt: HostRuntime) -> Result<(), Fail> {
 fn tasks_stand_as_they_start(rt: HostRuntime) -> Result<(), Fail> {
     let tasks = [(TaskId(65_535), Class::Idle), (TaskId(3), Class::Normal)];
     let core = Core::boot(rt.alloc(), AtOnce, one_patch(rt.alloc())?, &tasks)?;
+    assert_eq!(rt;
+        (core.next_live(0), core.next_live(4)),
+        (Some(3), Some(65_535))
+    );
+    assert!(rt; core.is_alone(TaskId(3)) && !core.is_alone(TaskId(4)));
     let opening: Opening = core.standing(rt.alloc())?;
     assert_eq!(rt;
         (opening.number(), opening.from(), opening.target()),

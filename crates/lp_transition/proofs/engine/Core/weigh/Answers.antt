@@ -1,4 +1,4 @@
-use Rattle.std.proofs.Common.{◌<◌, Option, None, Some, is_none, sym, ap, ◌∙◌, arith}
+use Rattle.std.proofs.Common.{◌<◌, Option, None, Some, is_none, refl, sym, ap, ◌∙◌, arith}
 use Rattle.lp_transition.specs.declared.event.Event.{Event}
 use Rattle.lp_transition.specs.declared.event.Event.TheVariants.{Fork}
 use Rattle.lp_transition.specs.Leg.{Standing}
@@ -17,7 +17,7 @@ returns-in-Some-clause-weighed g c =
     let room : e.number < 1000000 = omega (arith, c.if-self-ge-MOST_EVENTS.false) in
     let refused = rw (← c.self.view_is) at (sym c.refusal.ensures ∙ c.in-Some.is) in
     rw (← c.self.view_is)
-    (weighed-as g.M.Consistency.rules e c.plain.result c.args.event c.refused.result None room c.plain.ensures (c.refused.ensures ∙ sym (answer-refused g.M.Consistency.rules (state_in e) c.args.event c.in-Some.why refused)) (born-refused g.M.Consistency.rules e c.args.event c.in-Some.why refused))
+    (weighed-as g.M.Consistency.rules e c.plain.result c.args.event c.refused.result None c.requires room c.plain.ensures (c.refused.ensures ∙ sym (answer-refused g.M.Consistency.rules (state_in e) c.args.event c.in-Some.why refused)) (born-refused g.M.Consistency.rules e c.args.event c.in-Some.why refused))
 
 pub returns-in-Fork-clause-weighed : goal.returns-in-Fork-clause-weighed
 returns-in-Fork-clause-weighed g c =
@@ -28,7 +28,7 @@ returns-in-Fork-clause-weighed g c =
     let answered = c.done.ensures ∙ sym (answer-fork g.M.Consistency.rules g.met.M.Consistency.lawful e i.waiting i.members.items c.self.invariant room c.in-Fork.parent c.in-Fork.child c.in-Fork.how accepted) in
     let born = rw (← c.self.view_is) at (ap {A = Standing} {B = Option Standing} Some c.in_ok-born.ensures.ok ∙ c.child.ensures) in
     rw (← c.self.view_is)
-    (weighed-as g.M.Consistency.rules e c.birth.result (Fork c.in-Fork.parent c.in-Fork.child c.in-Fork.how) c.done.result (Some c.in_ok-born.born.value) room c.birth.ensures answered born)
+    (weighed-as g.M.Consistency.rules e c.birth.result (Fork c.in-Fork.parent c.in-Fork.child c.in-Fork.how) c.done.result (Some c.in_ok-born.born.value) refl room c.birth.ensures answered born)
 
 pub returns-in-Some-clause-reply : goal.returns-in-Some-clause-reply
 returns-in-Some-clause-reply g c = weighed_reply g.M.Consistency.rules g.met.M.Consistency.lawful c.args.self.now c.plain.result c.args.event (returns-in-Some-clause-weighed g c) (ap (λ (w : Weighed). w.event) c.plain.ensures)

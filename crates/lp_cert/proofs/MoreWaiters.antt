@@ -1,0 +1,257 @@
+-- The groups that wait, as births, openings and switches come.
+use Rattle.std.proofs.Common.{◌≡◌, ◌≢◌, ℕ, ◌+◌, ◌<◌, ◌≤◌, Bool, true, false, List, [], ◌∷◌, ◌++◌, length, set, Option, Some, None, if◌then◌else◌, nat_eq, refl, sym, ap, ap₂, subst, ◌∙◌, arith, ◌⊎◌, inl, inr, not, ◌&&◌, ◌||◌, is_some}
+use Rattle.std.specs.List.{AllByRecursion, list_any}
+use Rattle.std.specs.Option.{option_map}
+use Rattle.std.proofs.lemmas.Bool.{false≢true, cases_lt, cond-true, cond-false, eqb-true, eqb-false}
+use Rattle.std.proofs.lemmas.List.{get_or-set_same, get_or-set_other, length-set, get_or_past}
+use Rattle.lp_stack.specs.declared.number.GroupId.{GroupId}
+use Rattle.lp_numbers.specs.Numbers.{Numbers, has, IsEmpty, IsLeastFrom}
+use Rattle.lp_transition.specs.Leg.{Standing}
+use Rattle.lp_transition.specs.Sound.{IsSound}
+use Rattle.lp_transition.specs.Table.{Table, Engine, slot, state_in, is_in, is_off}
+use Rattle.lp_transition.proofs.Quantifiers.{some_live-is, some_live-from}
+use Rattle.lp_transition.proofs.TableLemmas.{slot_from_live, live_from_slot}
+use Rattle.lp_cert.specs.declared.line.Line.{Line}
+use Rattle.lp_cert.specs.declared.reason.Reason.{Reason}
+use Rattle.lp_cert.specs.declared.head.Head.{Head}
+use Rattle.lp_cert.specs.declared.head.Birth.{Birth}
+use Rattle.lp_cert.specs.Made.{group_id, birth_line}
+use Rattle.lp_cert.specs.Heads.{head_lines, lines_of, IsHead, IsBornBy}
+use Rattle.lp_cert.specs.Waiters.{WaitingGroups, LegReasons, no_head, head_of, is_off_here, has_off, IsTakenIn, AreTakenIn, lines_in, StandsAt, lines_at, after_birth, after_switch}
+use Rattle.lp_patch.specs.Patches.{Goal}
+use Rattle.lp_model.specs.Rules.{Rules, IsLawful}
+use Rattle.lp_model.specs.declared.check.CheckKind.{CheckKind}
+use Rattle.lp_model.specs.declared.check.Blame.{Blame}
+use Rattle.lp_model.specs.declared.check.Blame.TheVariants as blame
+use Rattle.lp_stack.specs.TaskView.{TaskView}
+use Rattle.lp_transition.specs.Leg.{State}
+use Rattle.lp_transition.specs.Scan.{verdict_of, verdicts_of, views_of}
+use Rattle.lp_cert.specs.Heads.{IsUsed}
+use Rattle.lp_cert.specs.Waiters.{IsUsedVerdict}
+use Rattle.std.proofs.Common.{IfSome, IsTrue, map}
+use Rattle.lp_cert.proofs.WaiterLemmas.{head_kept, lines_kept}
+
+-- ---- A birth
+
+module _ (birth : Birth) (parent : GroupId) (groups left : Numbers) (old new : LegReasons)
+    (stand : (g : ℕ) → has groups g ≡ true → StandsAt (length old.scans) old g)
+    (waits : has groups parent.0 ≡ true)
+    (born : IsBornBy birth parent old.scans (head_of old parent.0) (head_of new birth.child.0) old.lists new.lists)
+    (rest : (other : ℕ) → other ≢ birth.child.0 → head_of new other ≡ head_of old other)
+    (scans : new.scans ≡ old.scans) (left_is : left ≡ set groups birth.child.0 true) (wide : length left ≡ 65536) (few : birth.child.0 < 65536) where
+  child_in : has left birth.child.0 ≡ true
+  child_in =
+      let h : birth.child.0 < length groups = omega (arith, length-set groups birth.child.0 true, ap length left_is) in
+      ap (λ (l : Numbers). has l birth.child.0) left_is ∙ get_or-set_same groups birth.child.0 true false h
+
+  child_lines : (g : ℕ) → g ≡ birth.child.0 → lines_in new g ≡ birth_line birth.child.0 birth.parent birth.at ∷ lines_in old parent.0
+  child_lines g e = ap (lines_in new) e ∙ (ap (λ xs. head_lines new.lists xs birth.child (head_of new birth.child.0)) scans ∙ born.lines)
+
+  other_in : (g : ℕ) → g ≢ birth.child.0 → has left g ≡ has groups g
+  other_in g ne = ap (λ (l : Numbers). has l g) left_is ∙ get_or-set_other groups birth.child.0 g true false ne
+
+  other_lines : (g : ℕ) → g ≢ birth.child.0 → has groups g ≡ true → lines_in new g ≡ lines_in old g
+  other_lines g ne there =
+      ap₂ (λ xs (h : Head). head_lines new.lists xs (group_id g) h) scans (rest g ne)
+      ∙ lines_kept old.lists new.lists old.scans (group_id g) (head_of old g) born.kept (stand g there).known
+
+  by_birth : (g : ℕ) (b : Bool) → nat_eq g birth.child.0 ≡ b → (waits_now : Bool) → has groups g ≡ waits_now
+      → lines_at (record { groups = left; reasons = new }) g
+      ≡ (if b then option_map (λ ls. birth_line birth.child.0 birth.parent birth.at ∷ ls) (lines_at (record { groups = groups; reasons = old }) parent.0) else (if waits_now then Some (lines_in old g) else None))
+  by_birth g true e w there =
+      let same : g ≡ birth.child.0 = eqb-true g birth.child.0 e in
+      cond-true (has left g) (Some (lines_in new g)) None (ap (has left) same ∙ child_in)
+      ∙ (ap {A = List Line} {B = Option (List Line)} Some (child_lines g same)
+      ∙ ap (option_map (λ ls. birth_line birth.child.0 birth.parent birth.at ∷ ls)) (sym (cond-true (has groups parent.0) (Some (lines_in old parent.0)) None waits)))
+  by_birth g false e true there =
+      let ne : g ≢ birth.child.0 = eqb-false g birth.child.0 e in
+      cond-true (has left g) (Some (lines_in new g)) None (other_in g ne ∙ there)
+      ∙ ap {A = List Line} {B = Option (List Line)} Some (other_lines g ne there)
+  by_birth g false e false there = cond-false (has left g) (Some (lines_in new g)) None (other_in g (eqb-false g birth.child.0 e) ∙ there)
+
+  pub birth_lines : (g : ℕ) → lines_at (record { groups = left; reasons = new }) g ≡ after_birth birth parent.0 (lines_at (record { groups = groups; reasons = old })) g
+  birth_lines g = by_birth g (nat_eq g birth.child.0) refl (has groups g) refl
+
+  pub birth_stand : (g : ℕ) → has left g ≡ true → StandsAt (length new.scans) new g
+  birth_stand g there = by (nat_eq g birth.child.0) refl
+    where
+      by : (b : Bool) → nat_eq g birth.child.0 ≡ b → StandsAt (length new.scans) new g
+      by true e =
+          subst (λ (xs : List ℕ). StandsAt (length xs) new g) (sym scans)
+          (subst (λ k. StandsAt (length old.scans) new k) (sym (eqb-true g birth.child.0 e)) born.stands)
+      by false e =
+          let ne : g ≢ birth.child.0 = eqb-false g birth.child.0 e in
+          let before = stand g (sym (other_in g ne) ∙ there) in
+          subst (λ (xs : List ℕ). StandsAt (length xs) new g) (sym scans)
+          (subst (λ (h : Head). IsHead new.lists (length old.scans) h) (sym (rest g ne)) (head_kept old.lists new.lists (length old.scans) (head_of old g) born.kept before))
+
+-- ---- An opening
+
+off_none : (o : Option Standing) (level g : ℕ) → is_some o ≡ false → (is_in g o && is_off level o) ≡ false
+off_none None level g e = refl
+off_none (Some x) level g e = absurd (false≢true (sym e))
+
+off_some : (o : Option Standing) (level g : ℕ) → (is_in g o && is_off level o) ≡ true → (x : Standing) × (o ≡ Some x) × ((nat_eq x.group g && not (nat_eq x.level level)) ≡ true)
+off_some None level g e = absurd (false≢true e)
+off_some (Some x) level g e = (x, refl, e)
+
+pub none_taken : (table : Table) (level : ℕ) (groups : Numbers) (old : LegReasons) → IsEmpty groups → AreTakenIn table level 0 groups old old
+none_taken table level groups old none = record {
+  all = λ g t below p. absurd (omega arith);
+  only = λ g there. absurd (false≢true (sym (none g) ∙ there));
+  calm = λ g there. absurd (false≢true (sym (none g) ∙ there));
+  lists = refl;
+  scans = refl;
+}
+
+module _ (table : Table) (level from n : ℕ) (groups left : Numbers) (old mid new : LegReasons)
+    (so_far : AreTakenIn table level from groups old mid) (next : IsLeastFrom (λ t. is_some (slot table t)) from n) (one : IsTakenIn table level n groups left mid new) where
+  taken-stays : (g : ℕ) → has groups g ≡ true → (b : Bool) → is_off_here table level g n ≡ b → has left g ≡ true
+  taken-stays g there true e = (one.taken g e).0
+  taken-stays g there false e = (one.others g e).0 ∙ there
+
+  taken-all : (g t : ℕ) → t < n + 1 → is_off_here table level g t ≡ true → (t < from) ⊎ (from ≤ t) → (t < n) ⊎ (n ≤ t) → has left g ≡ true
+  taken-all g t below p (inl early) other = taken-stays g (so_far.all g t early p) (is_off_here table level g n) refl
+  taken-all g t below p (inr late) (inl before) = absurd (false≢true (sym (off_none (slot table t) level g (next.least t late before)) ∙ p))
+  taken-all g t below p (inr late) (inr after) =
+      let same : t ≡ n = omega arith in
+      (one.taken g (ap (is_off_here table level g) (sym same) ∙ p)).0
+
+  taken-only : (g : ℕ) → has left g ≡ true → (b : Bool) → is_off_here table level g n ≡ b → (task : ℕ) × (is_off_here table level g task ≡ true)
+  taken-only g there true e = (n, e)
+  taken-only g there false e = so_far.only g (sym (one.others g e).0 ∙ there)
+
+  taken-calm : (g : ℕ) → has left g ≡ true → (b : Bool) → is_off_here table level g n ≡ b → head_of new g ≡ no_head
+  taken-calm g there true e = (one.taken g e).1
+  taken-calm g there false e = (one.others g e).1 ∙ so_far.calm g (sym (one.others g e).0 ∙ there)
+
+  pub more_taken : AreTakenIn table level (n + 1) left old new
+  more_taken = record {
+    all = λ g t below p. taken-all g t below p (cases_lt t from) (cases_lt t n);
+    only = λ g there. taken-only g there (is_off_here table level g n) refl;
+    calm = λ g there. taken-calm g there (is_off_here table level g n) refl;
+    lists = one.lists ∙ so_far.lists;
+    scans = one.scans ∙ so_far.scans;
+  }
+
+pub all_taken : (table : Table) (level from bound : ℕ) (groups : Numbers) (old new : LegReasons) → AreTakenIn table level from groups old new → ((t : ℕ) → from ≤ t → is_some (slot table t) ≡ false) → AreTakenIn table level bound groups old new
+all_taken table level from bound groups old new so_far none = record {
+  all = λ g t below p. by g t p (cases_lt t from);
+  only = so_far.only;
+  calm = so_far.calm;
+  lists = so_far.lists;
+  scans = so_far.scans;
+}
+  where
+    by : (g t : ℕ) → is_off_here table level g t ≡ true → (t < from) ⊎ (from ≤ t) → has groups g ≡ true
+    by g t p (inl early) = so_far.all g t early p
+    by g t p (inr late) = absurd (false≢true (sym (off_none (slot table t) level g (none t late)) ∙ p))
+
+pub taken_are : (e : Engine) (level : ℕ) (groups : Numbers) (old new : LegReasons) → AreTakenIn e.table level 65536 groups old new → IsSound (state_in e) → (g : ℕ) → has groups g ≡ has_off (state_in e) level g
+taken_are e level groups old new taken sound g = by (has groups g) refl (has_off (state_in e) level g) refl
+  where
+    test : ℕ → Standing → Bool
+    test t x = nat_eq x.group g && not (nat_eq x.level level)
+
+    there_off : has groups g ≡ true → has_off (state_in e) level g ≡ true
+    there_off there =
+        let one = taken.only g there in
+        let live = off_some (slot e.table one.0) level g one.1 in
+        let x = live.0 in
+        let is = live_from_slot e.table one.0 x live.1 in
+        let range = sound.numbered one.0 x is in
+        some_live-from (state_in e).bounds (state_in e).tasks (λ t x. nat_eq x.group g && not (nat_eq x.level level))
+        (record { task = one.0; life = x; positive = range.0; within = range.1; live = is; passed = live.2 })
+
+    off_there : has_off (state_in e) level g ≡ true → has groups g ≡ true
+    off_there off =
+        let w = some_live-is (state_in e).bounds (state_in e).tasks (λ t x. nat_eq x.group g && not (nat_eq x.level level)) off in
+        let there : slot e.table w.task ≡ Some w.life = slot_from_live e.table w.task w.life w.live in
+        let within : w.task < 65536 = omega (arith, w.within) in
+        taken.all g w.task within (ap (λ o. is_in g o && is_off level o) there ∙ w.passed)
+
+    by : (a : Bool) → has groups g ≡ a → (b : Bool) → has_off (state_in e) level g ≡ b → has groups g ≡ has_off (state_in e) level g
+    by true a true b = a ∙ sym b
+    by true a false b = absurd (false≢true (sym b ∙ there_off a))
+    by false a true b = absurd (false≢true (sym a ∙ off_there b))
+    by false a false b = a ∙ sym b
+
+-- a group without any reason
+pub calm_head : (lists : List (List Reason)) (scans : List ℕ) (h : Head) → lists ≡ [] ∷ [] → scans ≡ [] → h ≡ no_head → IsHead lists (length scans) h
+calm_head lists scans h one none calm =
+    subst (λ ls. IsHead ls (length scans) h) (sym one)
+    (subst (λ (xs : List ℕ). IsHead ([] ∷ []) (length xs) h) (sym none)
+    (subst (IsHead ([] ∷ []) 0) (sym calm) (record { known = omega arith; fits = tt; goes_on = tt; unchecked = λ e. tt })))
+
+calm_nothing : (g : GroupId) → head_lines ([] ∷ []) [] g no_head ≡ []
+unfolding lines_of
+calm_nothing g = refl
+
+pub calm_lines : (reasons : LegReasons) (g : ℕ) → reasons.lists ≡ [] ∷ [] → reasons.scans ≡ [] → head_of reasons g ≡ no_head → lines_in reasons g ≡ []
+calm_lines reasons g one none calm =
+    ap (λ ls. head_lines ls reasons.scans (group_id g) (head_of reasons g)) one
+    ∙ (ap (λ xs. head_lines ([] ∷ []) xs (group_id g) (head_of reasons g)) none
+    ∙ (ap (head_lines ([] ∷ []) [] (group_id g)) calm ∙ calm_nothing (group_id g)))
+
+pub opened_lines : (groups : Numbers) (reasons : LegReasons) (g : ℕ) (waits : Bool) → has groups g ≡ waits → (has groups g ≡ true → lines_in reasons g ≡ [])
+    → lines_at (record { groups = groups; reasons = reasons }) g ≡ (if waits then Some [] else None)
+opened_lines groups reasons g true e calm = cond-true (has groups g) (Some (lines_in reasons g)) None e ∙ ap {A = List Line} {B = Option (List Line)} Some (calm e)
+opened_lines groups reasons g false e calm = cond-false (has groups g) (Some (lines_in reasons g)) None e
+
+-- ---- Groups that go over
+
+out_of : (groups : Numbers) (n : ℕ) → has (set groups n false) n ≡ false
+out_of groups n = by (cases_lt n (length groups))
+  where
+    by : (n < length groups) ⊎ (length groups ≤ n) → has (set groups n false) n ≡ false
+    by (inl within) = get_or-set_same groups n false false within
+    by (inr past) = get_or_past (set groups n false) n false (omega (arith, past, length-set groups n false))
+
+left_lines : (old new : WaitingGroups) (n : ℕ) → new.groups ≡ set old.groups n false → new.reasons ≡ old.reasons → (g : ℕ) (b : Bool) → nat_eq g n ≡ b
+    → lines_at new g ≡ (if b then None else lines_at old g)
+left_lines old new n groups reasons g true e =
+    cond-false (has new.groups g) (Some (lines_in new.reasons g)) None (ap₂ (λ (gs : Numbers) k. has gs k) groups (eqb-true g n e) ∙ out_of old.groups n)
+left_lines old new n groups reasons g false e =
+    ap₂ (λ b ls. if b then Some ls else None) (ap (λ (gs : Numbers). has gs g) groups ∙ get_or-set_other old.groups n g false false (eqb-false g n e)) (ap (λ (r : LegReasons). lines_in r g) reasons)
+
+any-push : (g : ℕ) (xs : List ℕ) (x : ℕ) → list_any (nat_eq g) (xs ++ x ∷ []) ≡ (list_any (nat_eq g) xs || nat_eq g x)
+any-push g [] x = or_none (nat_eq g x)
+  where
+    or_none : (b : Bool) → (b || false) ≡ (false || b)
+    or_none true = refl
+    or_none false = refl
+any-push g (y ∷ xs) x = ap (λ b. nat_eq g y || b) (any-push g xs x) ∙ sym (or_assoc (nat_eq g y) (list_any (nat_eq g) xs) (nat_eq g x))
+  where
+    or_assoc : (a b c : Bool) → ((a || b) || c) ≡ (a || (b || c))
+    or_assoc true b c = refl
+    or_assoc false b c = refl
+
+pub one_left : (first old new : WaitingGroups) (gone : List ℕ) (n : ℕ) → ((g : ℕ) → lines_at old g ≡ after_switch gone (lines_at first) g) → new.groups ≡ set old.groups n false → new.reasons ≡ old.reasons
+    → (g : ℕ) → lines_at new g ≡ after_switch (gone ++ n ∷ []) (lines_at first) g
+one_left first old new gone n so_far groups reasons g =
+    left_lines old new n groups reasons g (nat_eq g n) refl
+    ∙ (ap (λ ls. if nat_eq g n then None else ls) (so_far g)
+    ∙ (both (list_any (nat_eq g) gone) (nat_eq g n)
+    ∙ ap (λ b. if b then None else lines_at first g) (sym (any-push g gone n))))
+  where
+    both : (a b : Bool) → (if b then None else (if a then None else lines_at first g)) ≡ (if a || b then None else lines_at first g)
+    both true true = refl
+    both true false = refl
+    both false true = refl
+    both false false = refl
+
+-- ---- Blames of a kind that the model uses
+
+used_blame : (o : Option Blame) → (o ≡ Some blame.Unused → ⊥) → IfSome o IsUsed
+used_blame None never = tt
+used_blame (Some (blame.Frame serial)) never = tt
+used_blame (Some blame.Busy) never = tt
+used_blame (Some blame.Unused) never = absurd (never refl)
+
+used_found : (model : Rules) → IsLawful model → (kind : CheckKind) (aim : Goal) → IsTrue (model.uses kind) → (views : List TaskView) → AllByRecursion IsUsedVerdict (map (verdict_of model kind aim) views)
+used_found model lawful kind aim used [] = tt
+used_found model lawful kind aim used (view ∷ views) =
+    (used_blame (model.blame kind view aim) (λ e. let unused = lawful.blames_used kind view aim e in absurd (cc)), used_found model lawful kind aim used views)
+
+pub used_verdicts : (model : Rules) → IsLawful model → (kind : CheckKind) (s : State) → IsTrue (model.uses kind) → AllByRecursion IsUsedVerdict (verdicts_of model kind s)
+used_verdicts model lawful kind s used = used_found model lawful kind s.aim used (views_of s)

@@ -1,0 +1,22 @@
+use Rattle.std.proofs.Common.{◌∙◌}
+use Rattle.lp_transition.specs.Table.{state_in}
+use Rattle.lp_cert.specs.Waiters.{has_off}
+use Rattle.lp_cert.proofs.MoreWaiters.{calm_head, calm_lines, opened_lines}
+use Rattle.lp_cert.proofs.waiters.Waiters.open.Goals as goal
+
+pub invariant_of-self : goal.invariant_of-self
+invariant_of-self g c =
+    let taken = c.take_in_all.ensures.taken in
+    let reasons = c.take_in_all.new.reasons in
+    record {
+      stand = λ group there. calm_head reasons.lists reasons.scans _ (taken.lists ∙ (c.replace_past-past.ensures.lists ∙ c.requires.chains)) (taken.scans ∙ (c.replace_past-past.ensures.scans ∙ c.requires.scans)) (taken.calm group there);
+      none_refused = c.self.invariant.none_refused;
+    }
+
+pub returns-clause-lines : goal.returns-clause-lines
+returns-clause-lines g c =
+    let taken = c.take_in_all.ensures.taken in
+    let reasons = c.take_in_all.new.reasons in
+    λ sound group.
+    opened_lines c.take_in_all.new.groups reasons group (has_off (state_in c.args.core.now) c.args.level.0 group) (c.take_in_all.ensures.groups sound group)
+    (λ there. calm_lines reasons group (taken.lists ∙ (c.replace_past-past.ensures.lists ∙ c.requires.chains)) (taken.scans ∙ (c.replace_past-past.ensures.scans ∙ c.requires.scans)) (taken.calm group there))

@@ -1,0 +1,59 @@
+-- How the legs of a run ended, with their certificates, and what is made of a run so far.
+use Rattle.std.specs.Prelude.{◌≡◌, ℕ, ◌+◌, List, [], ◌∷◌, ◌++◌, map, drop, Option, Some, None, is_none, if◌then◌else◌, nat_eq, slice_get}
+use Rattle.std.specs.List.{find}
+use Rattle.std.specs.Option.{option_map}
+use Rattle.lp_model.specs.Rules.{Rules}
+use Rattle.lp_transition.specs.declared.event.Event.{Event}
+use Rattle.lp_transition.specs.Leg.{Leg}
+use Rattle.lp_transition.specs.Run.{Run, first_leg, leg_of, opens, next_leg}
+use Rattle.lp_cert.specs.declared.cert.Claim.TheVariants.{Floor}
+use Rattle.lp_cert.specs.declared.cert.Cert.{Cert}
+use Rattle.lp_cert.specs.declared.leg_end.LegEnd.{LegEnd}
+use Rattle.lp_cert.specs.Made.{completion, certs_of}
+
+-- the ends of the legs that ended, the end of the leg under way as it stands, and the event for which there is room,
+-- with the number of its verdicts
+pub record Made : Type 0 where
+  pub ended : List LegEnd
+  pub current : Option LegEnd
+  pub ready : Option (Event × ℕ)
+
+-- ---- The certificates of the leg under way, while it isn't complete
+
+-- that a group waits
+abbrev pub waiting_in : Option LegEnd → (group : ℕ) → Option Cert
+waiting_in None group = None
+waiting_in (Some leg) group = if is_none leg.completed then find (λ cert. nat_eq cert.group.0 group) leg.certs else None
+
+-- that the leg isn't complete, as the least group waits
+abbrev pub floor_in : Option LegEnd → Option Cert
+floor_in None = None
+floor_in (Some leg) = if is_none leg.completed then option_map (λ (cert : Cert). record cert { claim = Floor }) (slice_get leg.certs 0) else None
+
+-- ---- The legs of a run
+
+module _ (model : Rules) where
+  -- how a leg ended
+  abbrev pub end_of : Leg → LegEnd
+  end_of leg =
+      record {
+        opened = leg.number;
+        target = record { 0 = leg.target };
+        completed = option_map (λ k. leg.number + k) (completion model leg);
+        certs = certs_of model leg;
+      }
+
+  -- the legs that ended by these events, what stands before the first control event in front
+  unfoldable pub ended_legs : Leg → List Event → List Leg
+  ended_legs leg [] = []
+  ended_legs leg (event ∷ events) = (if opens model leg event then leg ∷ [] else []) ++ ended_legs (next_leg model leg event) events
+
+  -- the leg under way, once a control event opened one
+  abbrev pub under_way : List Leg → Leg → Option Leg
+  under_way [] leg = None
+  under_way (first ∷ rest) leg = Some leg
+
+  -- what is made is that of the run
+  pub record IsMadeOf (run : Run) (made : Made) : Type 0 where
+    pub ended : made.ended ≡ map end_of (drop 1 (ended_legs (first_leg model run) run.events))
+    pub current : made.current ≡ option_map end_of (under_way (ended_legs (first_leg model run) run.events) (leg_of model run))

@@ -1,0 +1,129 @@
+-- The leg under way as it is kept.
+use Rattle.std.specs.Prelude.{◌≡◌, ℕ, ◌+◌, ◌-◌, ◌<◌, Bool, true, false, ◌&&◌, List, [], ◌∷◌, length, map, reverse, Option, Some, None, IfSome, is_none, if◌then◌else◌}
+use Rattle.std.specs.Option.{option_map}
+use Rattle.lp_stack.specs.declared.number.GroupId.{GroupId}
+use Rattle.lp_numbers.specs.Numbers.{has, IsNextFrom}
+use Rattle.lp_model.specs.Rules.{Rules}
+use Rattle.lp_transition.specs.Events.{is_control}
+use Rattle.lp_transition.specs.Table.{Engine}
+use Rattle.lp_transition.specs.Weigh.{Weighed, refused_by}
+use Rattle.lp_cert.specs.declared.cert.Claim.{Claim}
+use Rattle.lp_cert.specs.declared.cert.Claim.TheVariants.{Waiting, Floor}
+use Rattle.lp_cert.specs.declared.cert.Cert.{Cert}
+use Rattle.lp_cert.specs.declared.line.Line.{Line}
+use Rattle.lp_cert.specs.declared.reason.Reason.{Reason}
+use Rattle.lp_cert.specs.declared.head.Waiter.{Waiter}
+use Rattle.lp_cert.specs.declared.leg_end.LegEnd.{LegEnd}
+use Rattle.lp_cert.specs.declared.open_leg.Completion.{Completion}
+use Rattle.lp_cert.specs.declared.open_leg.OpenLeg.{OpenLeg}
+use Rattle.lp_cert.specs.declared.maker.Ready.{Ready}
+use Rattle.lp_cert.specs.Waiters.{LegReasons, WaitingGroups, AreHeads, HasFewGroups, kept_cert, lines_at, next_lines, waiter_in, waiters_of}
+
+-- ---- The certificates of a leg as it stands
+
+abbrev pub claim_of : Option Completion → Claim
+claim_of None = Waiting
+claim_of (Some done) = Floor
+
+-- up to the last event noted, or the last before the leg was complete
+abbrev pub upto_of : ℕ → Option Completion → ℕ
+upto_of noted None = noted
+upto_of noted (Some done) = done.at - 1
+
+abbrev pub floor_waiters : LegReasons → Option GroupId → List Waiter
+floor_waiters reasons None = []
+floor_waiters reasons (Some group) = waiter_in reasons group.0 ∷ []
+
+-- the certificate of a group with these lines, the newest in front
+abbrev pub waiting_cert : Claim → (leg upto : ℕ) → GroupId → List Line → Cert
+waiting_cert claim leg upto group lines = record { claim = claim; leg = leg; group = group; upto = upto; lines = reverse lines }
+
+-- the groups that have a certificate
+abbrev pub end_waiters : Option Completion → WaitingGroups → List Waiter
+end_waiters None waiters = waiters_of waiters
+end_waiters (Some done) waiters = floor_waiters waiters.reasons done.floor
+
+-- the end of the leg, if it ended after so many events
+abbrev pub open_end : ℕ → WaitingGroups → OpenLeg → LegEnd
+open_end noted waiters leg =
+    record {
+      opened = leg.opened;
+      target = leg.target;
+      completed = option_map (λ done. done.at) leg.completed;
+      certs =
+          map (kept_cert (claim_of leg.completed) leg.opened (upto_of noted leg.completed) waiters.reasons.lists waiters.reasons.scans)
+          (end_waiters leg.completed waiters);
+    }
+
+abbrev pub current_waiters : Option OpenLeg → WaitingGroups → List Waiter
+current_waiters None waiters = []
+current_waiters (Some leg) waiters = end_waiters leg.completed waiters
+
+-- the end of the leg under way after so many events, if there is one, with these groups' certificates
+abbrev pub ends_with : ℕ → Option OpenLeg → List (List Reason) → List ℕ → List Waiter → List LegEnd
+ends_with noted None lists scans waiters = []
+ends_with noted (Some leg) lists scans waiters =
+    record {
+      opened = leg.opened;
+      target = leg.target;
+      completed = option_map (λ done. done.at) leg.completed;
+      certs = map (kept_cert (claim_of leg.completed) leg.opened (upto_of noted leg.completed) lists scans) waiters;
+    } ∷ []
+
+-- ---- What is kept
+
+-- the group of the floor has reasons
+abbrev pub HasFloor : WaitingGroups → Option Completion → Type 0
+HasFloor waiters None = Unit {0}
+HasFloor waiters (Some done) = AreHeads waiters.reasons.lists (length waiters.reasons.scans) (floor_waiters waiters.reasons done.floor)
+
+abbrev pub HasFloors : WaitingGroups → Option OpenLeg → Type 0
+HasFloors waiters None = Unit {0}
+HasFloors waiters (Some leg) = HasFloor waiters leg.completed
+
+-- there is room for the event: for its reasons and its scan and, if it may end the leg, for the end
+pub record IsReady (current : Option OpenLeg) (waiters : WaitingGroups) (ended_room : ℕ) (ready : Ready) : Type 0 where
+  pub room : ready.verdicts + 1 < waiters.reasons.room
+  pub scan_room : 0 < waiters.reasons.scan_room
+  pub end_room : 0 < ended_room
+  pub lists : ready.closing.chains.lists ≡ [] ∷ []
+  pub scans : ready.closing.scans.items ≡ []
+  pub all : is_control ready.event ≡ true → ready.closing.waiters.items ≡ current_waiters current waiters
+  pub heads : is_control ready.event ≡ true → AreHeads waiters.reasons.lists (length waiters.reasons.scans) ready.closing.waiters.items
+
+abbrev pub IfReady : Option OpenLeg → WaitingGroups → ℕ → Option Ready → Type 0
+IfReady current waiters ended_room None = Unit {0}
+IfReady current waiters ended_room (Some ready) = IsReady current waiters ended_room ready
+
+pub record IsMaker (current : Option OpenLeg) (waiters : WaitingGroups) (ended_room : ℕ) (ready : Option Ready) : Type 0 where
+  pub floors : HasFloors waiters current
+  pub for_event : IfReady current waiters ended_room ready
+
+-- ---- An event that opens a leg
+
+-- it is a control event, and was accepted
+abbrev pub is_opening : Weighed → Bool
+is_opening step = is_control step.event && is_none (refused_by step.reply.what)
+
+-- the leg that opens with this event, with the level to which it goes
+abbrev pub leg_at : (number level : ℕ) → Bool → OpenLeg
+leg_at number level completed =
+    record {
+      opened = number;
+      target = record { 0 = level };
+      completed = if completed then Some (record { at = number; floor = None }) else None;
+    }
+
+-- ---- An event that opens no leg
+
+-- the leg after an event: a complete leg stays, one that completes keeps its least group, and any other has the next lines
+pub record IsGoneOn (model : Rules) (e : Engine) (step : Weighed) (number : ℕ) (old new : OpenLeg) (before after : WaitingGroups) : Type 0 where
+  pub complete : (done : Completion) → old.completed ≡ Some done → (new ≡ old) × (after ≡ before)
+  pub completes :
+      old.completed ≡ None → step.reply.completed ≡ true →
+      (floor : Option GroupId) × (new ≡ record old { completed = Some (record { at = number; floor = floor }) }) × (after ≡ before)
+      × IsNextFrom (has before.groups) 0 (option_map (λ group. group.0) floor) × IfSome floor (λ group. group.0 < 65536)
+  pub goes_on :
+      old.completed ≡ None → step.reply.completed ≡ false →
+      (new ≡ old) × ((group : ℕ) → lines_at after group ≡ next_lines model e step (lines_at before) group)
+      × (refused_by step.reply.what ≡ None → HasFewGroups e step.event)

@@ -1,0 +1,131 @@
+//! The groups that wait, as events come.
+ghost use Rattle.std.specs.Prelude.{◌≡◌, ◌+◌, ◌<◌, ◌≤◌, ℕ, suc, [], length, IsTrue, IsNone};
+ghost use Rattle.std.specs.List.{AllByRecursion};
+ghost use Rattle.lp_transition.specs.Events.{group_numbers};
+ghost use Rattle.lp_transition.specs.ScanSteps.{groups_of};
+ghost use Rattle.lp_transition.specs.Table.{state_in};
+ghost use Rattle.lp_transition.specs.Weigh.{IsWeighed, refused_by};
+ghost use Rattle.lp_cert.specs.Waiters.{HasFewGroups, IsUsedVerdict, after_scan_of, after_switch, lines_at, next_lines, own_lines};
+
+use crate::head::Birth;
+use crate::waiters::Waiters;
+use lp_model::{CheckKind, Consistency, ForkKind, Verdict};
+use lp_stack::{GroupId, TaskId};
+use lp_transition::{Core, Event, Step, What};
+
+impl Waiters {
+    /// An event that was weighed and opens no leg. Takes no memory.
+    pub(crate) fn advance<M: Consistency>(&mut self, core: &Core<M>, step: &Step)
+        requires weighed { IsWeighed M.rules core.now step.now }
+        requires room { length step.now.verdicts + 1 < self.old.reasons.room }
+        requires scan_room { 0 < self.old.reasons.scan_room }
+        ensures lines { (group : ℕ) → lines_at self.new group ≡ next_lines M.rules core.now step.now (lines_at self.old) group }
+        ensures few { IsNone (refused_by step.now.reply.what) → HasFewGroups core.now step.now.event }
+    {
+        let what = &step.reply().what;
+        if matches!(what, What::Refused(_)) {
+            return;
+        }
+        self.affect(core, step);
+        self.switch(what);
+    }
+
+    /// The own effect of an accepted event. Takes no memory.
+    fn affect<M: Consistency>(&mut self, core: &Core<M>, step: &Step)
+        requires weighed { IsWeighed M.rules core.now step.now }
+        requires room { length step.now.verdicts + 1 < self.old.reasons.room }
+        requires scan_room { 0 < self.old.reasons.scan_room }
+        ensures lines { (group : ℕ) → lines_at self.new group ≡ own_lines M.rules core.now step.now.event step.now.verdicts (lines_at self.old) group }
+        ensures few { HasFewGroups core.now step.now.event }
+    {
+        let _ = &self;
+        let at = core.events() + 1;
+        match step.event() {
+            Event::Walk => self.scan_of(core, CheckKind::Walk, at, step.verdicts()),
+            Event::Stop => self.scan_of(core, CheckKind::Stop, at, step.verdicts()),
+            Event::Fork(parent, child, how) => self.fork(core, parent, child, how, at),
+            Event::Die(task) => self.die(core, task),
+            _ => {}
+        }
+    }
+
+    /// A scan of this kind. Takes no memory.
+    fn scan_of<M: Consistency>(
+        &mut self,
+        core: &Core<M>,
+        kind: CheckKind,
+        at: u64,
+        verdicts: &[Verdict],
+    )
+        requires used { IsTrue (M.rules.uses kind) → AllByRecursion IsUsedVerdict verdicts.now }
+        requires room { length verdicts.now ≤ self.old.reasons.room }
+        requires scan_room { 0 < self.old.reasons.scan_room }
+        requires at { at ≡ suc (state_in core.now).number }
+        ensures { (group : ℕ) → lines_at self.new group ≡ after_scan_of M.rules (state_in core.now) kind verdicts.now (lines_at self.old) group }
+    {
+        if core.model().uses(kind) {
+            self.scan(core, at, verdicts);
+        }
+    }
+
+    /// An accepted fork: a child in a group of its own waits with its parent's reasons. Takes no
+    /// memory.
+    fn fork<M: Consistency>(
+        &mut self,
+        core: &Core<M>,
+        parent: TaskId,
+        child: TaskId,
+        how: ForkKind,
+        at: u64,
+    )
+        requires room { 1 < self.old.reasons.room }
+        requires at { at ≡ suc core.now.number }
+        ensures lines { (group : ℕ) → lines_at self.new group ≡ own_lines M.rules core.now (Event.Fork parent child how) [] (lines_at self.old) group }
+        ensures few { HasFewGroups core.now (Event.Fork parent child how) }
+    {
+        let Some(group) = core.group_of(parent) else {
+            return;
+        };
+        let born = core.model().child_group(group, child, how);
+        if born.0 != child.0 || !self.waits(group) {
+            return;
+        }
+        let birth = Birth {
+            child: born,
+            parent,
+            at,
+        };
+        self.bear(group, &birth);
+    }
+
+    /// An accepted end of a task: its group waits no longer where it was the only member. Takes no
+    /// memory.
+    fn die<M: Consistency>(&mut self, core: &Core<M>, task: TaskId)
+        ensures { (group : ℕ) → lines_at self.new group ≡ own_lines M.rules core.now (Event.Die task) [] (lines_at self.old) group }
+    {
+        let Some(group) = core.group_of(task) else {
+            return;
+        };
+        if core.is_alone(task) {
+            self.leave(group);
+        }
+    }
+
+    /// The groups that an event took over wait no longer. Takes no memory.
+    fn switch(&mut self, what: &What)
+        ensures { (group : ℕ) → lines_at self.new group ≡ after_switch (groups_of what.now) (lines_at self.old) group }
+    {
+        if let What::Switched(groups) = what {
+            self.leave_all(groups.as_slice());
+        }
+    }
+
+    /// These groups wait no longer. Takes no memory.
+    fn leave_all(&mut self, groups: &[GroupId])
+        ensures { (group : ℕ) → lines_at self.new group ≡ after_switch (group_numbers groups.now) (lines_at self.old) group }
+    {
+        for group in groups {
+            self.leave(*group);
+        }
+    }
+}

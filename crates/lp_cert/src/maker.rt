@@ -1,0 +1,337 @@
+//! The maker of certificates.
+ghost use Rattle.std.specs.Prelude.{◌≡◌, ◌+◌, ◌-◌, ◌<◌, [], ◌∷◌, ◌++◌, true, Some, None, length, vec_len, vec_capacity, IfOk, OnOk};
+ghost use Rattle.lp_transition.specs.Events.{is_control};
+ghost use Rattle.lp_transition.specs.Run.{Run, new_target, plus};
+ghost use Rattle.lp_transition.specs.Steps.{StandsIn};
+ghost use Rattle.lp_transition.specs.Table.{state_in};
+ghost use Rattle.lp_transition.specs.Weigh.{IsWeighed};
+ghost use Rattle.lp_cert.specs.Ends.{IsMadeOf, floor_in, waiting_in};
+ghost use Rattle.lp_cert.specs.Kept.{HasFloor, HasFloors, IsGoneOn, current_waiters, end_waiters, ends_with, is_opening, leg_at, waiting_cert};
+ghost use Rattle.lp_cert.specs.Waiters.{AreHeads, lines_at};
+ghost use Rattle.std.specs.Option.{option_map};
+
+use crate::cert::{Cert, Claim};
+use crate::chains::Chains;
+use crate::head::Waiter;
+use crate::leg_end::LegEnd;
+use crate::open_leg::{Completion, OpenLeg};
+use crate::waiters::Waiters;
+use lp_model::Consistency;
+use lp_stack::GroupId;
+use lp_transition::{Core, Event, Step, What};
+use std::alloc::{AllocError, Global};
+use std::marker::Model;
+
+/// What the end of a leg takes, and the beginning of the next.
+#[derive(Drop)]
+pub(crate) struct Closing {
+    /// The groups that have a certificate.
+    pub(crate) waiters: Vec<Waiter>,
+    /// No list but the empty one.
+    pub(crate) chains: Chains,
+    /// No scan.
+    pub(crate) scans: Vec<u64>,
+}
+
+/// An event for which there is room.
+#[derive(Drop)]
+pub(crate) struct Ready {
+    /// The event.
+    pub(crate) event: Event,
+    /// How many verdicts it has.
+    pub(crate) verdicts: usize,
+    /// What is needed where it ends the leg.
+    pub(crate) closing: Closing,
+}
+
+/// Makes the certificates of a run, event by event: why each group still waits, and why no leg was
+/// complete before it was.
+///
+/// Contracts see the ends of the legs that ended, the end of the leg under way as it stands, and
+/// the event for which there is room, with the number of its verdicts.
+#[derive(Drop)]
+pub struct Maker {
+    ended: Vec<LegEnd>,
+    current: Option<OpenLeg>,
+    waiters: Waiters,
+    /// The number of the last event noted.
+    noted: u64,
+    ready: Option<Ready>,
+}
+
+impl Model for Maker {
+    ghost use Rattle.std.specs.Prelude.{◌-◌, vec_len, vec_capacity};
+    ghost use Rattle.std.specs.Option.{option_map};
+    ghost use Rattle.lp_cert.specs.Ends.{Made};
+    ghost use Rattle.lp_cert.specs.Kept.{IsMaker, open_end};
+
+    ghost Value = { Made };
+
+    ghost view = { λ m. record { ended = m.ended.items; current = option_map (open_end m.noted m.waiters) m.current; ready = option_map (λ r. (r.event, r.verdicts)) m.ready } };
+
+    ghost invariant = { λ m. IsMaker m.current m.waiters (vec_capacity m.ended - vec_len m.ended) m.ready };
+}
+
+impl Maker {
+    /// No leg; AllocError where a growth was refused.
+    pub fn new(alloc: Global) -> Result<Maker, AllocError>
+        ensures { IfOk result (λ maker. maker ≡ record { ended = []; current = None; ready = None }) }
+    {
+        Ok(Maker {
+            ended: Vec::new(alloc),
+            current: None,
+            waiters: Waiters::new(alloc)?,
+            noted: 0,
+            ready: None,
+        })
+    }
+
+    /// Makes room for an event that was weighed on the engine, which takes all the memory that
+    /// `note` needs; AllocError where a growth was refused. The certificates stay the same.
+    pub fn ready<M: Consistency>(
+        &mut self,
+        alloc: Global,
+        _core: &Core<M>,
+        step: &Step,
+    ) -> Result<(), AllocError>
+        ensures ended { self.new.ended ≡ self.old.ended }
+        ensures current { self.new.current ≡ self.old.current }
+        ensures ready { OnOk result (self.new.ready ≡ Some (step.now.event, length step.now.verdicts)) }
+    {
+        self.ready = None;
+        let verdicts = step.verdicts().len();
+        self.waiters.reserve(verdicts + 2)?;
+        self.ended.reserve(1)?;
+        let closing = closing_for(alloc, step.event(), self.current, &self.waiters)?;
+        self.ready = Some(Ready {
+            event: step.event(),
+            verdicts,
+            closing,
+        });
+        Ok(())
+    }
+
+    /// Notes an event that was weighed on the engine, before the engine takes it. Takes no memory.
+    pub fn note<M: Consistency>(&mut self, core: &Core<M>, step: &Step)
+        requires weighed { IsWeighed M.rules core.now step.now }
+        requires ready { self.old.ready ≡ Some (step.now.event, length step.now.verdicts) }
+        ensures made { (run : Run) → StandsIn M.rules run (state_in core.now) → IsMadeOf M.rules run self.old → IsMadeOf M.rules (plus run step.now.event) self.new }
+    {
+        let number = core.events() + 1;
+        let Some(ready) = self.ready.take() else {
+            unreachable!()
+        };
+        let noted = self.noted;
+        self.noted = number;
+        if !opens(step) {
+            let Some(leg) = &mut self.current else {
+                return;
+            };
+            go_on(core, step, number, leg, &mut self.waiters);
+            return;
+        }
+        let Closing {
+            waiters,
+            chains,
+            scans,
+        } = ready.closing;
+        let next = opened(core, step, number);
+        let (chains, scans) = self.waiters.open(core, next.target, chains, scans);
+        end_leg(&mut self.ended, noted, self.current, waiters, chains, scans);
+        self.current = Some(next);
+    }
+
+    /// The certificate that a group waits in the leg under way, if it does; AllocError where a growth
+    /// was refused.
+    pub fn waiting(&self, alloc: Global, group: GroupId) -> Result<Option<Cert>, AllocError>
+        ensures { IfOk result (λ found. found ≡ waiting_in self.now.current group.0) }
+    {
+        let Some(leg) = self.current else {
+            return Ok(None);
+        };
+        if leg.completed.is_some() {
+            return Ok(None);
+        }
+        cert_of(alloc, Claim::Waiting, leg, self.noted, &self.waiters, group)
+    }
+
+    /// The certificate that the leg under way isn't complete, if there is one that isn't: the least
+    /// group that waits. AllocError where a growth was refused.
+    pub fn floor(&self, alloc: Global) -> Result<Option<Cert>, AllocError>
+        ensures { IfOk result (λ found. found ≡ floor_in self.now.current) }
+    {
+        let Some(leg) = self.current else {
+            return Ok(None);
+        };
+        if leg.completed.is_some() {
+            return Ok(None);
+        }
+        let Some(group) = self.waiters.least() else {
+            return Ok(None);
+        };
+        cert_of(alloc, Claim::Floor, leg, self.noted, &self.waiters, group)
+    }
+
+    /// The end of the leg under way as it stands, if there is one; AllocError where a growth was
+    /// refused.
+    pub fn current(&self, alloc: Global) -> Result<Option<LegEnd>, AllocError>
+        ensures { IfOk result (λ found. found ≡ self.now.current) }
+    {
+        let Some(leg) = self.current else {
+            return Ok(None);
+        };
+        let waiters = end_waiters(alloc, leg.completed, &self.waiters)?;
+        let (chains, scans) = self.waiters.copy_past(alloc)?;
+        Ok(Some(leg.end(self.noted, waiters, chains, scans)))
+    }
+
+    /// The ends of the legs that ended, lent.
+    pub fn ended(&self) -> &[LegEnd]
+        ensures { result.now ≡ self.now.ended }
+    {
+        self.ended.as_slice()
+    }
+}
+
+/// The leg under way after an event that opens none. Takes no memory.
+fn go_on<M: Consistency>(
+    core: &Core<M>,
+    step: &Step,
+    number: u64,
+    leg: &mut OpenLeg,
+    waiters: &mut Waiters,
+)
+    requires weighed { IsWeighed M.rules core.now step.now }
+    requires floor { HasFloor waiters.old leg.old.completed }
+    requires room { length step.now.verdicts + 1 < waiters.old.reasons.room }
+    requires scan_room { 0 < waiters.old.reasons.scan_room }
+    ensures gone_on { IsGoneOn M.rules core.now step.now number leg.old leg.new waiters.old waiters.new }
+    ensures floor { HasFloor waiters.new leg.new.completed }
+{
+    if leg.completed.is_some() {
+        return;
+    }
+    if step.reply().completed {
+        leg.completed = Some(Completion {
+            at: number,
+            floor: waiters.least(),
+        });
+        return;
+    }
+    waiters.advance(core, step);
+}
+
+/// Ends the leg under way after so many events, if there is one, with the groups that have a
+/// certificate. Takes no memory.
+fn end_leg(
+    ended: &mut Vec<LegEnd>,
+    noted: u64,
+    current: Option<OpenLeg>,
+    waiters: Vec<Waiter>,
+    chains: Chains,
+    scans: Vec<u64>,
+)
+    requires room { 0 < vec_capacity ended.old - vec_len ended.old }
+    requires heads { AreHeads chains.lists (length scans.items) waiters.items }
+    ensures { ended.new.items ≡ ended.old.items ++ ends_with noted current chains.lists scans.items waiters.items }
+{
+    if let Some(leg) = current {
+        ended.push_reserved(leg.end(noted, waiters, chains, scans));
+    }
+}
+
+/// Whether an event opens a leg: it is a control event, and was accepted.
+fn opens(step: &Step) -> bool
+    ensures { result ≡ is_opening step.now }
+{
+    step.event().is_control() && !matches!(step.reply().what, What::Refused(_))
+}
+
+/// The leg that an event opens.
+fn opened<M: Consistency>(core: &Core<M>, step: &Step, number: u64) -> OpenLeg
+    requires weighed { IsWeighed M.rules core.now step.now }
+    requires opens { is_opening step.now ≡ true }
+    ensures { result ≡ leg_at number (new_target (state_in core.now) step.now.event) step.now.reply.completed }
+{
+    let completed = if step.reply().completed {
+        Some(Completion {
+            at: number,
+            floor: None,
+        })
+    } else {
+        None
+    };
+    OpenLeg {
+        opened: number,
+        target: core.new_level(step.event()),
+        completed,
+    }
+}
+
+/// What an event needs where it ends the leg; AllocError where a growth was refused.
+fn closing_for(
+    alloc: Global,
+    event: Event,
+    current: Option<OpenLeg>,
+    waiters: &Waiters,
+) -> Result<Closing, AllocError>
+    requires { HasFloors waiters.now current }
+    ensures lists { IfOk result (λ closing. closing.chains.lists ≡ [] ∷ []) }
+    ensures scans { IfOk result (λ closing. closing.scans.items ≡ []) }
+    ensures waiters { IfOk result (λ closing. is_control event ≡ true → closing.waiters.items ≡ current_waiters current waiters.now) }
+    ensures heads { IfOk result (λ closing. is_control event ≡ true → AreHeads waiters.now.reasons.lists (length waiters.now.reasons.scans) closing.waiters.items) }
+{
+    let list = match current {
+        Some(leg) if event.is_control() => end_waiters(alloc, leg.completed, waiters)?,
+        _ => Vec::new(alloc),
+    };
+    Ok(Closing {
+        waiters: list,
+        chains: Chains::new(alloc),
+        scans: Vec::new(alloc),
+    })
+}
+
+/// The groups that have a certificate, in increasing order; AllocError where a growth was refused.
+fn end_waiters(
+    alloc: Global,
+    completed: Option<Completion>,
+    waiters: &Waiters,
+) -> Result<Vec<Waiter>, AllocError>
+    requires { HasFloor waiters.now completed }
+    ensures list { IfOk result (λ list. list.items ≡ end_waiters completed waiters.now) }
+    ensures heads { IfOk result (λ list. AreHeads waiters.now.reasons.lists (length waiters.now.reasons.scans) list.items) }
+{
+    let Some(done) = completed else {
+        return waiters.list(alloc);
+    };
+    let mut list = Vec::new(alloc);
+    if let Some(group) = done.floor {
+        list.push(waiters.waiter(group))?;
+    }
+    Ok(list)
+}
+
+/// The certificate of a group after so many events, if it waits; AllocError where a growth was
+/// refused.
+fn cert_of(
+    alloc: Global,
+    claim: Claim,
+    leg: OpenLeg,
+    noted: u64,
+    waiters: &Waiters,
+    group: GroupId,
+) -> Result<Option<Cert>, AllocError>
+    ensures { IfOk result (λ found. found ≡ option_map (waiting_cert claim leg.opened noted group) (lines_at waiters.now group.0)) }
+{
+    let Some(lines) = waiters.lines(alloc, group)? else {
+        return Ok(None);
+    };
+    Ok(Some(Cert {
+        claim,
+        leg: leg.opened,
+        group,
+        upto: noted,
+        lines,
+    }))
+}

@@ -1,0 +1,169 @@
+//! The reasons of each group in a leg.
+ghost use Rattle.std.specs.Prelude.{◌≡◌, ◌≢◌, ◌+◌, ◌<◌, ◌≤◌, ℕ, [], ◌∷◌, ◌++◌, length, reverse, slice_index_or, IfOk, OnOk};
+ghost use Rattle.lp_cert.specs.Heads.{IsUsed, IsRefusedBy, IsBornBy};
+ghost use Rattle.lp_cert.specs.Made.{group_id};
+ghost use Rattle.lp_cert.specs.Waiters.{no_head, head_of, lines_in, StandsAt};
+
+use crate::chains::{ChainId, Chains};
+use crate::head::{Birth, Head, Refused};
+use crate::line::LineList;
+use crate::ongoing::Ongoing;
+use lp_numbers::NUMBERS;
+use lp_stack::GroupId;
+use std::alloc::{AllocError, Global};
+use std::marker::Model;
+use std::mem;
+
+/// Nothing is known of a group yet.
+const NO_REASON: Head = Head {
+    ongoing: Ongoing::Nothing,
+    older: ChainId(0),
+};
+
+/// How each group stands in a leg, over the lists that they share and the scans that refused a
+/// group.
+///
+/// Contracts see the head of each group, the lists and the scans, and how many more reasons and
+/// scans there is room for.
+#[derive(Drop)]
+pub(crate) struct Reasons {
+    heads: Vec<Head>,
+    chains: Chains,
+    scans: Vec<u64>,
+}
+
+impl Model for Reasons {
+    ghost use Rattle.std.specs.Prelude.{◌≡◌, ◌-◌, length, vec_len, vec_capacity};
+    ghost use Rattle.lp_cert.specs.Waiters.{LegReasons};
+
+    ghost Value = { LegReasons };
+
+    ghost view = { λ r. record { heads = r.heads.items; lists = r.chains.lists; scans = r.scans.items; room = r.chains.room; scan_room = vec_capacity r.scans - vec_len r.scans } };
+
+    ghost invariant = { λ r. length r.heads.items ≡ 65536 };
+}
+
+impl Reasons {
+    /// No reason of any group; AllocError where a growth was refused.
+    pub(crate) fn new(alloc: Global) -> Result<Reasons, AllocError>
+        ensures heads { IfOk result (λ reasons. (group : ℕ) → head_of reasons group ≡ no_head) }
+        ensures lists { IfOk result (λ reasons. reasons.lists ≡ [] ∷ []) }
+        ensures scans { IfOk result (λ reasons. reasons.scans ≡ []) }
+    {
+        Ok(Reasons {
+            heads: no_heads(alloc, NUMBERS)?,
+            chains: Chains::new(alloc),
+            scans: Vec::new(alloc),
+        })
+    }
+
+    /// Makes room for so many more reasons, and for one more scan; AllocError where a growth was
+    /// refused.
+    pub(crate) fn reserve(&mut self, more: usize) -> Result<(), AllocError>
+        ensures heads { self.new.heads ≡ self.old.heads }
+        ensures lists { self.new.lists ≡ self.old.lists }
+        ensures scans { self.new.scans ≡ self.old.scans }
+        ensures room { OnOk result (more ≤ self.new.room) }
+        ensures scan_room { OnOk result (0 < self.new.scan_room) }
+    {
+        self.scans.reserve(1)?;
+        self.chains.reserve(more)
+    }
+
+    /// How a group stands.
+    pub(crate) fn head(&self, group: GroupId) -> Head
+        ensures { result ≡ head_of self.now group.0 }
+    {
+        self.heads[usize::from(group.0)]
+    }
+
+    /// The lines of a group, the oldest first; AllocError where a growth was refused.
+    pub(crate) fn lines(&self, alloc: Global, group: GroupId) -> Result<LineList, AllocError>
+        requires { StandsAt (length self.now.scans) self.now group.0 }
+        ensures { IfOk result (λ lines. lines ≡ reverse (lines_in self.now group.0)) }
+    {
+        let head = self.head(group);
+        head.lines(alloc, &self.chains, self.scans.as_slice(), group)
+    }
+
+    /// A group without any reason. Takes no memory.
+    pub(crate) fn begin(&mut self, group: GroupId)
+        ensures head { head_of self.new group.0 ≡ no_head }
+        ensures others { (other : ℕ) → other ≢ group.0 → head_of self.new other ≡ head_of self.old other }
+        ensures lists { self.new.lists ≡ self.old.lists }
+        ensures scans { self.new.scans ≡ self.old.scans }
+    {
+        self.heads[usize::from(group.0)] = NO_REASON;
+    }
+
+    /// A scan, which isn't noted yet, has refused a group. Takes no memory.
+    pub(crate) fn refuse(&mut self, group: GroupId, refused: &Refused)
+        requires head { StandsAt (length self.old.scans) self.old group.0 }
+        requires room { 0 < self.old.room }
+        requires used { IsUsed refused.now.blame }
+        ensures refused { IsRefusedBy refused.now group self.old.scans (head_of self.old group.0) (head_of self.new group.0) self.old.lists self.new.lists }
+        ensures others { (other : ℕ) → other ≢ group.0 → head_of self.new other ≡ head_of self.old other }
+        ensures scans { self.new.scans ≡ self.old.scans }
+        ensures room { self.old.room ≤ self.new.room + 1 }
+        ensures scan_room { self.new.scan_room ≡ self.old.scan_room }
+    {
+        let head = self.head(group);
+        let next = head.refuse(&mut self.chains, self.scans.as_slice(), group, refused);
+        self.heads[usize::from(group.0)] = next;
+    }
+
+    /// A group gives birth to another. Takes no memory.
+    pub(crate) fn bear(&mut self, group: GroupId, birth: &Birth)
+        requires head { StandsAt (length self.old.scans) self.old group.0 }
+        requires room { 1 < self.old.room }
+        ensures born { IsBornBy birth.now group self.old.scans (head_of self.old group.0) (head_of self.new birth.now.child.0) self.old.lists self.new.lists }
+        ensures others { (other : ℕ) → other ≢ birth.now.child.0 → head_of self.new other ≡ head_of self.old other }
+        ensures scans { self.new.scans ≡ self.old.scans }
+    {
+        let head = self.head(group);
+        let next = head.bear(&mut self.chains, self.scans.as_slice(), group, birth);
+        self.heads[usize::from(birth.child.0)] = next;
+    }
+
+    /// A copy of the older reasons, and of the scans; AllocError where a growth was refused.
+    pub(crate) fn copy_past(&self, alloc: Global) -> Result<(Chains, Vec<u64>), AllocError>
+        ensures lists { IfOk result (λ past. past.0.lists ≡ self.now.lists) }
+        ensures scans { IfOk result (λ past. past.1.items ≡ self.now.scans) }
+    {
+        let chains = self.chains.copy(alloc)?;
+        let scans = Vec::from_slice(alloc, self.scans.as_slice())?;
+        Ok((chains, scans))
+    }
+
+    /// Puts others in the place of the older reasons and the scans, which are given back. Takes no
+    /// memory.
+    pub(crate) fn replace_past(&mut self, chains: Chains, scans: Vec<u64>) -> (Chains, Vec<u64>)
+        ensures heads { self.new.heads ≡ self.old.heads }
+        ensures lists { self.new.lists ≡ chains.lists }
+        ensures scans { self.new.scans ≡ scans.items }
+        ensures past_lists { result.0.lists ≡ self.old.lists }
+        ensures past_scans { result.1.items ≡ self.old.scans }
+    {
+        let before = mem::replace(&mut self.chains, chains);
+        let scanned = mem::replace(&mut self.scans, scans);
+        (before, scanned)
+    }
+
+    /// A scan has refused the groups that were noted. Takes no memory.
+    pub(crate) fn scanned(&mut self, at: u64)
+        requires { 0 < self.old.scan_room }
+        ensures heads { self.new.heads ≡ self.old.heads }
+        ensures lists { self.new.lists ≡ self.old.lists }
+        ensures scans { self.new.scans ≡ self.old.scans ++ at ∷ [] }
+    {
+        self.scans.push_reserved(at);
+    }
+}
+
+/// As many heads without any reason as are asked for.
+fn no_heads(alloc: Global, count: usize) -> Result<Vec<Head>, AllocError>
+    ensures none { IfOk result (λ heads. (n : ℕ) → slice_index_or heads.items n no_head ≡ no_head) }
+    ensures count { IfOk result (λ heads. length heads.items ≡ count) }
+{
+    vec![in alloc; NO_REASON; count]
+}

@@ -1,0 +1,338 @@
+//! The groups that wait in a leg, each with its reasons.
+ghost use Rattle.std.specs.Prelude.{◌≡◌, ◌≢◌, ◌+◌, ◌<◌, ◌≤◌, ℕ, [], ◌∷◌, ◌++◌, true, false, Some, None, length, map, reverse, slice_set, IfOk, IfSome, OnOk, if◌then◌else◌, nat_eq};
+ghost use Rattle.std.specs.List.{AllByRecursion, list_any};
+ghost use Rattle.std.specs.Option.{option_map};
+ghost use Rattle.lp_numbers.specs.Numbers.{has, IsEmpty, IsNextFrom};
+ghost use Rattle.lp_transition.specs.Sound.{IsSound};
+ghost use Rattle.lp_transition.specs.Scan.{passing};
+ghost use Rattle.lp_transition.specs.ScanSteps.{IsNextBelow};
+ghost use Rattle.lp_transition.specs.Table.{state_in};
+ghost use Rattle.lp_cert.specs.Heads.{HasFrameAs};
+ghost use Rattle.lp_cert.specs.Steps.{has_frame_in, first_refused};
+ghost use Rattle.lp_cert.specs.Kept.{floor_waiters};
+ghost use Rattle.lp_cert.specs.Waiters.{AreHeads, StandsAt, IsJudged, AreJudged, IsUsedVerdict, after_birth, after_scan, has_off, lines_at, waiter_in, waiters_of, AreTakenIn, IsTakenIn};
+
+use crate::chains::Chains;
+use crate::head::{Birth, Refused, Waiter};
+use crate::line::LineList;
+use crate::ongoing::Ongoing;
+use crate::reasons::Reasons;
+use lp_model::{Consistency, Verdict};
+use lp_numbers::{NUMBERS, NumberSet};
+use lp_stack::{Frame, GroupId, Level, TaskId};
+use lp_transition::Core;
+use std::alloc::{AllocError, Global};
+use std::marker::Model;
+
+/// The groups that wait, each with its reasons.
+///
+/// Contracts see the set of these groups, and the reasons of all.
+#[derive(Drop)]
+pub(crate) struct Waiters {
+    groups: NumberSet,
+    /// Within a scan the groups that it has refused so far; else empty.
+    refused: NumberSet,
+    reasons: Reasons,
+}
+
+impl Model for Waiters {
+    ghost use Rattle.lp_cert.specs.Waiters.{WaitingGroups, AreStanding};
+
+    ghost Value = { WaitingGroups };
+
+    ghost view = { λ w. record { groups = w.groups; reasons = w.reasons } };
+
+    ghost invariant = { λ w. AreStanding (record { groups = w.groups; reasons = w.reasons }) w.refused };
+}
+
+impl Waiters {
+    /// No group; AllocError where a growth was refused.
+    pub(crate) fn new(alloc: Global) -> Result<Waiters, AllocError>
+        ensures none { IfOk result (λ waiters. IsEmpty waiters.groups) }
+    {
+        Ok(Waiters {
+            groups: NumberSet::new(alloc)?,
+            refused: NumberSet::new(alloc)?,
+            reasons: Reasons::new(alloc)?,
+        })
+    }
+
+    /// Makes room for so many more reasons, and for one more scan; AllocError where a growth was
+    /// refused.
+    pub(crate) fn reserve(&mut self, more: usize) -> Result<(), AllocError>
+        ensures groups { self.new.groups ≡ self.old.groups }
+        ensures heads { self.new.reasons.heads ≡ self.old.reasons.heads }
+        ensures lists { self.new.reasons.lists ≡ self.old.reasons.lists }
+        ensures scans { self.new.reasons.scans ≡ self.old.reasons.scans }
+        ensures room { OnOk result (more ≤ self.new.reasons.room) }
+        ensures scan_room { OnOk result (0 < self.new.reasons.scan_room) }
+    {
+        self.reasons.reserve(more)
+    }
+
+    /// Whether a group waits.
+    pub(crate) fn waits(&self, group: GroupId) -> bool
+        ensures { result ≡ has self.now.groups group.0 }
+    {
+        self.groups.contains(group.0)
+    }
+
+    /// The least group that waits.
+    pub(crate) fn least(&self) -> Option<GroupId>
+        ensures least { IsNextFrom (has self.now.groups) 0 (option_map (λ group. group.0) result) }
+        ensures few { IfSome result (λ group. group.0 < 65536) }
+        ensures stands { AreHeads self.now.reasons.lists (length self.now.reasons.scans) (floor_waiters self.now.reasons result) }
+    {
+        let number = self.groups.next(0)?;
+        Some(GroupId(number))
+    }
+
+    /// The lines of a group, the oldest first, if it waits; AllocError where a growth was refused.
+    pub(crate) fn lines(
+        &self,
+        alloc: Global,
+        group: GroupId,
+    ) -> Result<Option<LineList>, AllocError>
+        ensures { IfOk result (λ found. found ≡ option_map reverse (lines_at self.now group.0)) }
+    {
+        if !self.waits(group) {
+            return Ok(None);
+        }
+        Ok(Some(self.reasons.lines(alloc, group)?))
+    }
+
+    /// The groups that wait, in increasing order; AllocError where a growth was refused.
+    pub(crate) fn list(&self, alloc: Global) -> Result<Vec<Waiter>, AllocError>
+        ensures list { IfOk result (λ list. list.items ≡ waiters_of self.now) }
+        ensures stands { IfOk result (λ list. AreHeads self.now.reasons.lists (length self.now.reasons.scans) list.items) }
+    {
+        listed(alloc, &self.groups, &self.reasons)
+    }
+
+    /// A copy of the older reasons, and of the scans; AllocError where a growth was refused.
+    pub(crate) fn copy_past(&self, alloc: Global) -> Result<(Chains, Vec<u64>), AllocError>
+        ensures lists { IfOk result (λ past. past.0.lists ≡ self.now.reasons.lists) }
+        ensures scans { IfOk result (λ past. past.1.items ≡ self.now.reasons.scans) }
+    {
+        self.reasons.copy_past(alloc)
+    }
+
+    /// A group as it stands, which may wait or not.
+    pub(crate) fn waiter(&self, group: GroupId) -> Waiter
+        ensures { result ≡ waiter_in self.now.reasons group.0 }
+    {
+        Waiter {
+            group,
+            head: self.reasons.head(group),
+        }
+    }
+
+    /// A group waits no longer. Takes no memory.
+    pub(crate) fn leave(&mut self, group: GroupId)
+        ensures groups { self.new.groups ≡ slice_set self.old.groups group.0 false }
+        ensures reasons { self.new.reasons ≡ self.old.reasons }
+    {
+        self.groups.remove(group.0);
+    }
+
+    /// A group that waits gives birth to another, which waits too. Takes no memory.
+    pub(crate) fn bear(&mut self, parent: GroupId, birth: &Birth)
+        requires waits { has self.old.groups parent.0 ≡ true }
+        requires room { 1 < self.old.reasons.room }
+        ensures { (group : ℕ) → lines_at self.new group ≡ after_birth birth.now parent.0 (lines_at self.old) group }
+    {
+        self.reasons.bear(parent, birth);
+        self.groups.insert(birth.child.0);
+    }
+
+    /// A leg opens that takes the tasks to a level: the groups of the live tasks off it wait,
+    /// without any reason. The older reasons and the scans of the leg before are given back. Takes
+    /// no memory.
+    pub(crate) fn open<M: Consistency>(
+        &mut self,
+        core: &Core<M>,
+        level: Level,
+        chains: Chains,
+        scans: Vec<u64>,
+    ) -> (Chains, Vec<u64>)
+        requires chains { chains.lists ≡ [] ∷ [] }
+        requires scans { scans.items ≡ [] }
+        ensures lines { IsSound (state_in core.now) → (group : ℕ) → lines_at self.new group ≡ (if has_off (state_in core.now) level.0 group then Some [] else None) }
+        ensures past_lists { result.0.lists ≡ self.old.reasons.lists }
+        ensures past_scans { result.1.items ≡ self.old.reasons.scans }
+    {
+        let past = self.reasons.replace_past(chains, scans);
+        empty(&mut self.groups);
+        take_in_all(core, level, &mut self.groups, &mut self.reasons);
+        past
+    }
+
+    /// A scan, with what it found of the waiting tasks by increasing number: the groups that it
+    /// refuses wait on. Takes no memory.
+    pub(crate) fn scan<M: Consistency>(&mut self, core: &Core<M>, at: u64, verdicts: &[Verdict])
+        requires used { AllByRecursion IsUsedVerdict verdicts.now }
+        requires room { length verdicts.now ≤ self.old.reasons.room }
+        requires scan_room { 0 < self.old.reasons.scan_room }
+        ensures { (group : ℕ) → lines_at self.new group ≡ after_scan (has_frame_in (state_in core.now)) group at (first_refused (state_in core.now) group verdicts.now) (lines_at self.old group) }
+    {
+        judge_all(
+            core,
+            at,
+            verdicts,
+            &mut self.groups,
+            &mut self.refused,
+            &mut self.reasons,
+        );
+        std::mem::swap(&mut self.groups, &mut self.refused);
+        empty(&mut self.refused);
+        self.reasons.scanned(at);
+    }
+}
+
+/// Takes every member out of a set, at no cost where there is none.
+fn empty(set: &mut NumberSet)
+    ensures { IsEmpty set.new }
+{
+    if !set.is_empty() {
+        set.clear();
+    }
+}
+
+/// Notes what a scan found, and moves the groups that it refuses to those that were refused.
+fn judge_all<M: Consistency>(
+    core: &Core<M>,
+    at: u64,
+    verdicts: &[Verdict],
+    groups: &mut NumberSet,
+    refused: &mut NumberSet,
+    reasons: &mut Reasons,
+)
+    requires stand { (group : ℕ) → has groups.old group ≡ true → StandsAt (length reasons.old.scans) reasons.old group }
+    requires none { IsEmpty refused.old }
+    requires used { AllByRecursion IsUsedVerdict verdicts.now }
+    requires room { length verdicts.now ≤ reasons.old.room }
+    ensures { AreJudged (state_in core.now) at verdicts.now groups.old groups.new refused.new reasons.old reasons.new }
+{
+    for verdict in verdicts {
+        judge(core, at, verdict, groups, refused, reasons);
+    }
+}
+
+/// Notes one verdict of a scan, if its group wasn't refused before.
+fn judge<M: Consistency>(
+    core: &Core<M>,
+    at: u64,
+    verdict: &Verdict,
+    groups: &mut NumberSet,
+    refused: &mut NumberSet,
+    reasons: &mut Reasons,
+)
+    requires stand { (group : ℕ) → has groups.old group ≡ true → StandsAt (length reasons.old.scans) reasons.old group }
+    requires used { IsUsedVerdict verdict.now }
+    requires room { 0 < reasons.old.room }
+    ensures { IsJudged (state_in core.now) at verdict.now groups.old groups.new refused.old refused.new reasons.old reasons.new }
+{
+    let Some(blame) = verdict.blame else {
+        return;
+    };
+    let Some(group) = core.group_of(verdict.task) else {
+        return;
+    };
+    if !groups.contains(group.0) {
+        return;
+    }
+    let refusal = Refused {
+        at,
+        task: verdict.task,
+        blame,
+        held: is_held(core, reasons.head(group).ongoing),
+    };
+    reasons.refuse(group, &refusal);
+    groups.remove(group.0);
+    refused.insert(group.0);
+}
+
+/// Of a hold that goes on, whether its frame is still on its task's stack.
+fn is_held<M: Consistency>(core: &Core<M>, ongoing: Ongoing) -> bool
+    ensures { HasFrameAs (has_frame_in (state_in core.now)) ongoing result }
+{
+    let Ongoing::Hold { task, serial, .. } = ongoing else {
+        return false;
+    };
+    match core.task(task) {
+        Some(view) => has_serial(view.frames, serial),
+        None => false,
+    }
+}
+
+/// Whether a frame has this serial.
+fn has_serial(frames: &[Frame], serial: u64) -> bool
+    ensures { result ≡ list_any (λ frame. nat_eq frame.serial serial) frames.now }
+{
+    frames.iter().any(|frame| u64::from(frame.serial) == serial)
+}
+
+/// The groups of a set as they stand, in increasing order.
+fn listed(alloc: Global, groups: &NumberSet, reasons: &Reasons) -> Result<Vec<Waiter>, AllocError>
+    ensures { IfOk result (λ list. list.items ≡ map (waiter_in reasons.now) (passing 0 65536 (has groups.now))) }
+{
+    let mut list = Vec::new(alloc);
+    let mut next = member_from(groups, 0);
+    while let Some(number) = next {
+        let group = GroupId(number);
+        list.push(Waiter {
+            group,
+            head: reasons.head(group),
+        })?;
+        next = member_from(groups, usize::from(number) + 1);
+    }
+    Ok(list)
+}
+
+/// The least member of a set that is at or above a number, which may be past all members.
+fn member_from(set: &NumberSet, first: usize) -> Option<u16>
+    ensures { IsNextBelow 65536 (has set.now) first result }
+{
+    if first >= NUMBERS {
+        return None;
+    }
+    set.next(first as u16)
+}
+
+/// The groups of the live tasks off a level begin to wait, without any reason.
+fn take_in_all<M: Consistency>(
+    core: &Core<M>,
+    level: Level,
+    groups: &mut NumberSet,
+    reasons: &mut Reasons,
+)
+    requires { IsEmpty groups.old }
+    ensures taken { AreTakenIn core.now.table level.0 65536 groups.new reasons.old reasons.new }
+    ensures groups { IsSound (state_in core.now) → (group : ℕ) → has groups.new group ≡ has_off (state_in core.now) level.0 group }
+{
+    let mut from = 0u32;
+    while let Some(number) = core.next_live(from) {
+        take_in(core, level, TaskId(number), groups, reasons);
+        from = u32::from(number) + 1;
+    }
+}
+
+/// The group of a live task begins to wait, if the task is off a level.
+fn take_in<M: Consistency>(
+    core: &Core<M>,
+    level: Level,
+    task: TaskId,
+    groups: &mut NumberSet,
+    reasons: &mut Reasons,
+)
+    ensures { IsTakenIn core.now.table level.0 task.0 groups.old groups.new reasons.old reasons.new }
+{
+    let Some(group) = core.group_of(task) else {
+        return;
+    };
+    if core.side_of(task) == Some(level) {
+        return;
+    }
+    reasons.begin(group);
+    groups.insert(group.0);
+}
