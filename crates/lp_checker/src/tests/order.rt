@@ -49,7 +49,7 @@ const SLEEPS: [Event; 8] = [
 ];
 
 #[test]
-fn the_first_fault_answers(rt: HostRuntime) -> Result<(), Fail> {
+fn the_first_line_answers(rt: HostRuntime) -> Result<(), Fail> {
     let opening = opened(rt.alloc(), Hybrid, &TASK_1, &FORKS_AND_LEAVES[..3])?;
     let leg = &FORKS_AND_LEAVES[3..];
     for (leg_number, group, upto, lines, want) in [
@@ -123,6 +123,21 @@ fn the_first_fault_answers(rt: HostRuntime) -> Result<(), Fail> {
             [hold(1, 1, 2, 4, 8), busy(1, 1, 6)].as_slice(),
             Err(CertFault::NotOnStack(7)),
         ),
+    ] {
+        let cert = cert(rt.alloc(), Claim::Waiting, leg_number, group, upto, lines)?;
+        assert_eq!(rt;
+            check_waiting(rt.alloc(), Hybrid, &opening, leg, &cert),
+            want
+        );
+    }
+    Ok(())
+}
+
+#[test]
+fn the_first_stage_answers(rt: HostRuntime) -> Result<(), Fail> {
+    let opening = opened(rt.alloc(), Hybrid, &TASK_1, &FORKS_AND_LEAVES[..3])?;
+    let leg = &FORKS_AND_LEAVES[3..];
+    for (leg_number, group, upto, lines, want) in [
         (8, 1, 9, [].as_slice(), Err(CertFault::NoLeg)),
         (3, 1, 2, [].as_slice(), Err(CertFault::NoLeg)),
         (3, 1, 10, [born(9, 9, 9)].as_slice(), Err(CertFault::NoLeg)),
