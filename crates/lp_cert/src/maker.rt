@@ -1,5 +1,5 @@
 //! The maker of certificates.
-ghost use Rattle.std.specs.Prelude.{◌≡◌, ◌+◌, ◌-◌, ◌<◌, [], ◌∷◌, ◌++◌, true, Some, None, length, vec_len, vec_capacity, IfOk, OnOk};
+ghost use Rattle.std.specs.Prelude.{◌≡◌, ◌+◌, ◌-◌, ◌<◌, [], ◌∷◌, ◌++◌, true, Some, None, length, vec_len, vec_capacity, option_to_list, IfOk, OnOk};
 ghost use Rattle.lp_transition.specs.Events.{is_control};
 ghost use Rattle.lp_transition.specs.Run.{Run, new_target, plus};
 ghost use Rattle.lp_transition.specs.Steps.{StandsIn};
@@ -9,6 +9,9 @@ ghost use Rattle.lp_cert.specs.Ends.{IsMadeOf, floor_in, waiting_in};
 ghost use Rattle.lp_cert.specs.Kept.{HasFloor, HasFloors, IsGoneOn, current_waiters, end_waiters, ends_with, is_opening, leg_at, waiting_cert};
 ghost use Rattle.lp_cert.specs.Waiters.{AreHeads, lines_at};
 ghost use Rattle.std.specs.Option.{option_map};
+
+#[cfg(test)]
+mod tests;
 
 use crate::cert::{Cert, Claim};
 use crate::chains::Chains;
@@ -183,6 +186,19 @@ impl Maker {
         let waiters = end_waiters(alloc, leg.completed, &self.waiters)?;
         let (chains, scans) = self.waiters.copy_past(alloc)?;
         Ok(Some(leg.end(self.noted, waiters, chains, scans)))
+    }
+
+    /// The ends of all legs, given up, the last one as it stands; AllocError where a growth was
+    /// refused.
+    pub fn into_ends(self, alloc: Global) -> Result<Vec<LegEnd>, AllocError>
+        ensures { IfOk result (λ ends. ends.items ≡ self.ended ++ option_to_list self.current) }
+    {
+        let current = self.current(alloc)?;
+        let Self { mut ended, .. } = self;
+        if let Some(leg) = current {
+            ended.push(leg)?;
+        }
+        Ok(ended)
     }
 
     /// The ends of the legs that ended, lent.
