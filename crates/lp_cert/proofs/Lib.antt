@@ -15,5 +15,6 @@ pub mod Completions
 pub mod Keeping
 pub mod Making
 pub mod Noted
+pub mod Passed
 pub mod Asked
 pub mod Tellings

@@ -1,9 +1,11 @@
 -- How the legs of a run ended, with their certificates, and what is made of a run so far.
-use Rattle.std.specs.Prelude.{◌≡◌, ℕ, ◌+◌, List, [], ◌∷◌, ◌++◌, map, drop, Option, Some, None, is_none, if◌then◌else◌, nat_eq, slice_get}
+use Rattle.std.specs.Prelude.{◌≡◌, ℕ, ◌+◌, Bool, true, List, [], ◌∷◌, ◌++◌, map, drop, Option, Some, None, is_none, if◌then◌else◌, nat_eq, slice_get}
 use Rattle.std.specs.List.{find}
 use Rattle.std.specs.Option.{option_map}
 use Rattle.lp_model.specs.Rules.{Rules}
 use Rattle.lp_transition.specs.declared.event.Event.{Event}
+use Rattle.lp_transition.specs.declared.event.Event.TheVariants.{Call}
+use Rattle.lp_transition.specs.Weigh.{moves}
 use Rattle.lp_transition.specs.Leg.{Leg}
 use Rattle.lp_transition.specs.Run.{Run, first_leg, leg_of, opens, next_leg}
 use Rattle.lp_cert.specs.declared.cert.Claim.TheVariants.{Floor}
@@ -31,6 +33,11 @@ floor_in None = None
 floor_in (Some leg) = if is_none leg.completed then option_map (λ (cert : Cert). record cert { claim = Floor }) (slice_get leg.certs 0) else None
 
 -- ---- The legs of a run
+
+-- an event that changes no certificate but how far it goes: a call, a return, a sleep, a wake-up or an entry into the kernel
+abbrev pub is_plain : Event → Bool
+is_plain (Call t f) = true
+is_plain event = moves event
 
 module _ (model : Rules) where
   -- how a leg ended

@@ -5,7 +5,7 @@ ghost use Rattle.lp_transition.specs.Run.{Run, new_target, plus};
 ghost use Rattle.lp_transition.specs.Steps.{StandsIn};
 ghost use Rattle.lp_transition.specs.Table.{state_in};
 ghost use Rattle.lp_transition.specs.Weigh.{IsWeighed};
-ghost use Rattle.lp_cert.specs.Ends.{IsMadeOf, floor_in, waiting_in};
+ghost use Rattle.lp_cert.specs.Ends.{IsMadeOf, floor_in, is_plain, waiting_in};
 ghost use Rattle.lp_cert.specs.Kept.{HasFloor, HasFloors, IsGoneOn, current_waiters, end_waiters, ends_with, is_opening, leg_at, waiting_cert};
 ghost use Rattle.lp_cert.specs.Waiters.{AreHeads, lines_at};
 ghost use Rattle.std.specs.Option.{option_map};
@@ -173,6 +173,18 @@ impl Maker {
             return Ok(None);
         };
         cert_of(alloc, Claim::Floor, leg, self.noted, &self.waiters, group)
+    }
+
+    /// Notes a call, a return, a sleep, a wake-up or an entry into the kernel, before the engine takes
+    /// it. Such an event takes no group over and is no check, so nothing has to be weighed. Takes no
+    /// memory.
+    pub fn pass<M: Consistency>(&mut self, core: &Core<M>, event: Event)
+        requires plain { is_plain event ≡ true }
+        requires room { core.now.number < 1000000 }
+        ensures made { (run : Run) → StandsIn M.rules run (state_in core.now) → IsMadeOf M.rules run self.old → IsMadeOf M.rules (plus run event) self.new }
+        ensures ready { self.new.ready ≡ self.old.ready }
+    {
+        self.noted = core.events() + 1;
     }
 
     /// The end of the leg under way as it stands, if there is one; AllocError where a growth was

@@ -1,0 +1,154 @@
+-- A call, a return, a sleep, a wake-up and an entry into the kernel change the lines of no group.
+use Rattle.std.proofs.Common.{◌≡◌, ◌<◌, ◌+◌, ℕ, suc, Bool, true, false, not, ◌&&◌, List, [], ◌∷◌, Option, Some, None, is_none, if◌then◌else◌, nat_eq, refl, sym, ap, ap₂, ◌∙◌}
+use mathlib.Core.Path.{fun_ext}
+use Rattle.std.specs.Option.{option_map}
+use Rattle.std.specs.List.{list_any}
+use Rattle.std.proofs.lemmas.Bool.{cond-false, false≢true}
+use Rattle.lp_stack.specs.declared.view.Mode.TheVariants.{Kernel, Asleep}
+use Rattle.lp_model.specs.Rules.{Rules, IsLawful}
+use Rattle.lp_transition.specs.declared.event.Event.{Event}
+use Rattle.lp_transition.specs.declared.event.Event.TheVariants.{Call, Ret, Sleep, Wake, Enter}
+use Rattle.lp_transition.specs.declared.refusal.Refusal.{Refusal}
+use Rattle.lp_transition.specs.declared.reply.Reply.{Reply}
+use Rattle.lp_transition.specs.declared.reply.What.{What}
+use Rattle.lp_transition.specs.declared.reply.What.TheVariants.{Done}
+use Rattle.lp_transition.specs.Events.{is_control}
+use Rattle.lp_transition.specs.Tasks.{Fate, Unused, Live, Dead, on_live, map_live, change}
+use Rattle.lp_transition.specs.Leg.{Standing, State, each_live, each_task}
+use Rattle.lp_transition.specs.Run.{Run, switched, plus}
+use Rattle.lp_transition.specs.Machine.{at_rest, affected, answer, answer_by, calling, going, goes_over, put_in, refusal_of, returning, switched_over, told}
+use Rattle.lp_transition.specs.ScanSteps.{groups_of}
+use Rattle.lp_transition.specs.Steps.{StandsIn}
+use Rattle.lp_transition.specs.Table.{Engine, state_in}
+use Rattle.lp_transition.specs.Weigh.{Weighed, IsWeighed, born_of, refused_by, verdicts_for}
+use Rattle.lp_transition.proofs.EngineLemmas.{answer-refused, answer-accepted, is_quiet, quiet-control, quiet-stays, switched-still}
+use Rattle.lp_transition.proofs.Going.{going-none}
+use Rattle.lp_cert.specs.declared.line.Line.{Line}
+use Rattle.lp_cert.specs.declared.open_leg.OpenLeg.{OpenLeg}
+use Rattle.lp_cert.specs.Ends.{Made, IsMadeOf, is_plain}
+use Rattle.lp_cert.specs.Kept.{IsGoneOn, open_end, is_opening}
+use Rattle.lp_cert.specs.Waiters.{WaitingGroups, lines_at, next_lines, HasFewGroups, own_lines}
+use Rattle.lp_cert.proofs.Noted.{none_made, still_made}
+
+quiet : (event : Event) → is_plain event ≡ true → is_quiet event ≡ true
+quiet (Call t f) h = refl
+quiet (Ret t) h = refl
+quiet (Sleep t) h = refl
+quiet (Wake t) h = refl
+quiet (Enter t) h = refl
+quiet _ h = cc
+
+-- a change that keeps levels keeps who is off the target
+kept-task : (f : Standing → Standing) → ((x : Standing) → (f x).level ≡ x.level) → (test : ℕ → Bool) (fate : Fate Standing) → on_live true (λ x. test x.level) (map_live f fate) ≡ on_live true (λ x. test x.level) fate
+kept-task f keeps test Unused = refl
+kept-task f keeps test (Live x) = ap test (keeps x)
+kept-task f keeps test Dead = refl
+
+changed-task : (t : ℕ) (f : Standing → Standing) → ((x : Standing) → (f x).level ≡ x.level) → (test : ℕ → Bool) (now : ℕ → Fate Standing) (u : ℕ) → on_live true (λ x. test x.level) (change t f now u) ≡ on_live true (λ x. test x.level) (now u)
+changed-task t f keeps test now u = by (nat_eq u t)
+  where
+    by : (b : Bool) → on_live true (λ x. test x.level) (if b then map_live f (now u) else now u) ≡ on_live true (λ x. test x.level) (now u)
+    by true = kept-task f keeps test (now u)
+    by false = refl
+
+and_not : (b : Bool) → (b && not b) ≡ false
+and_not true = refl
+and_not false = refl
+
+module _ (model : Rules) (s : State) where
+  rests : (t : ℕ) (f : Standing → Standing) → ((x : Standing) → (f x).level ≡ x.level) → at_rest (record s { number = suc s.number; tasks = change t f s.tasks }) ≡ at_rest s
+  unfolding each_live
+  rests t f keeps = ap (each_task s.bounds.tasks) (fun_ext (changed-task t f keeps (λ level. nat_eq level s.target) s.tasks))
+
+  stays : (event : Event) → is_plain event ≡ true → (group : ℕ) → goes_over model (affected model s event) event group ≡ false
+  stays event plain group = quiet-stays model (affected model s event) event group (quiet event plain)
+
+  rests_after : (event : Event) → is_plain event ≡ true → at_rest (affected model s event) ≡ at_rest s
+  rests_after (Call t f) plain = rests t.0 (calling (suc s.number) f) (λ x. refl)
+  rests_after (Ret t) plain = rests t.0 returning (λ x. refl)
+  rests_after (Sleep t) plain = rests t.0 (put_in Asleep) (λ x. refl)
+  rests_after (Wake t) plain = rests t.0 (put_in Kernel) (λ x. refl)
+  rests_after (Enter t) plain = rests t.0 (put_in Kernel) (λ x. refl)
+  rests_after _ plain = cc
+
+  no_groups : (event : Event) → is_plain event ≡ true → groups_of (told model s event) ≡ []
+  no_groups (Call t f) plain = refl
+  no_groups (Ret t) plain = ap (λ gs. groups_of (switched gs)) (going-none model (affected model s (Ret t)) (Ret t) (stays (Ret t) plain))
+  no_groups (Sleep t) plain = ap (λ gs. groups_of (switched gs)) (going-none model (affected model s (Sleep t)) (Sleep t) (stays (Sleep t) plain))
+  no_groups (Wake t) plain = ap (λ gs. groups_of (switched gs)) (going-none model (affected model s (Wake t)) (Wake t) (stays (Wake t) plain))
+  no_groups (Enter t) plain = ap (λ gs. groups_of (switched gs)) (going-none model (affected model s (Enter t)) (Enter t) (stays (Enter t) plain))
+  no_groups _ plain = cc
+
+  -- the answer to such an event: nothing completes, and no group goes over
+  abbrev IsStill : Reply → Type 0
+  IsStill given = (given.completed ≡ false) × (groups_of given.what ≡ [])
+
+  still_by : (event : Event) → is_plain event ≡ true → (r : Option Refusal) → refusal_of model s event ≡ r → IsStill (answer model s event)
+  still_by event plain (Some why) e = rw (answer-refused model s event why e) (refl, refl)
+  still_by event plain None e =
+      let control : is_control event ≡ false = quiet-control model event (quiet event plain) in
+      let is : answer model s event ≡ record { what = told model s event; completed = at_rest (switched_over model s event) && not (at_rest s) } = answer-accepted model s event e ∙ cond-false _ _ _ control in
+      let same : at_rest (switched_over model s event) ≡ at_rest s = ap at_rest (switched-still model s event (stays event plain)) ∙ rests_after event plain in
+      rw is (ap (λ b. b && not (at_rest s)) same ∙ and_not (at_rest s), no_groups event plain)
+
+  pub still : (event : Event) → is_plain event ≡ true → IsStill (answer model s event)
+  still event plain = still_by event plain (refusal_of model s event) refl
+
+own_same : (model : Rules) (e : Engine) (event : Event) → is_plain event ≡ true → (lines : ℕ → Option (List Line)) (group : ℕ) → own_lines model e event [] lines group ≡ lines group
+own_same model e (Call t f) plain lines group = refl
+own_same model e (Ret t) plain lines group = refl
+own_same model e (Sleep t) plain lines group = refl
+own_same model e (Wake t) plain lines group = refl
+own_same model e (Enter t) plain lines group = refl
+own_same model e _ plain lines group = cc
+
+few : (e : Engine) (event : Event) → is_plain event ≡ true → HasFewGroups e event
+few e (Call t f) plain = tt
+few e (Ret t) plain = tt
+few e (Sleep t) plain = tt
+few e (Wake t) plain = tt
+few e (Enter t) plain = tt
+few e _ plain = cc
+
+no_verdicts : (model : Rules) (s : State) (event : Event) → is_plain event ≡ true → [] ≡ verdicts_for model s event
+no_verdicts model s (Call t f) plain = refl
+no_verdicts model s (Ret t) plain = refl
+no_verdicts model s (Sleep t) plain = refl
+no_verdicts model s (Wake t) plain = refl
+no_verdicts model s (Enter t) plain = refl
+no_verdicts model s _ plain = cc
+
+module _ (model : Rules) (lawful : IsLawful model) (run : Run) (e : Engine) (stands : StandsIn model run (state_in e)) (event : Event) (plain : is_plain event ≡ true) (room : e.number < 1000000) where
+  abbrev step : Weighed
+  step = record { event = event; reply = answer model (state_in e) event; verdicts = []; born = born_of model (state_in e) event }
+
+  weighed : IsWeighed model e step
+  weighed = record { room = room; reply = refl; born = refl; verdicts = no_verdicts model (state_in e) event plain }
+
+  opens_none : is_opening step ≡ false
+  opens_none = ap (λ b. b && is_none (refused_by step.reply.what)) (quiet-control model event (quiet event plain))
+
+  goes_on : (number : ℕ) (leg : OpenLeg) (waiters : WaitingGroups) → IsGoneOn model e step number leg leg waiters waiters
+  goes_on number leg waiters =
+      let answered = still model (state_in e) event plain in
+      record {
+        complete = λ done is. (refl, refl);
+        completes = λ unfinished completed. absurd (false≢true (sym answered.0 ∙ completed));
+        goes_on = λ unfinished incomplete. (
+          refl,
+          λ group. same (is_none (refused_by step.reply.what)) (lines_at waiters) group,
+          λ accepted. few e event plain,
+        );
+      }
+    where
+      same : (accepted : Bool) (lines : ℕ → Option (List Line)) (group : ℕ) → lines group ≡ (if accepted then (if list_any (nat_eq group) (groups_of step.reply.what) then None else own_lines model e event [] lines group) else lines group)
+      same false lines group = refl
+      same true lines group =
+          sym (own_same model e event plain lines group)
+          ∙ ap (λ gone. if list_any (nat_eq group) gone then None else own_lines model e event [] lines group) (sym (still model (state_in e) event plain).1)
+
+  module _ (made new : Made) (is : IsMadeOf model run made) (ended : new.ended ≡ made.ended) (noted number : ℕ) (waiters : WaitingGroups) (numbered : number ≡ e.number + 1) where
+    -- what is made of the run with the event more
+    pub passed_on : (current : Option OpenLeg) → made.current ≡ option_map (open_end noted waiters) current → new.current ≡ option_map (open_end number waiters) current → IsMadeOf model (plus run event) new
+    passed_on None old now = none_made model lawful run e stands step weighed made new is opens_none ended old now
+    passed_on (Some leg) old now = still_made model lawful run e stands step weighed made new is opens_none ended noted number leg leg waiters waiters numbered (goes_on number leg waiters) old now

@@ -1,0 +1,16 @@
+use Rattle.std.proofs.Common.{◌+◌, refl, ap}
+use Rattle.std.specs.Option.{option_map}
+use Rattle.lp_cert.specs.declared.maker.Ready.{Ready}
+use Rattle.lp_cert.specs.Ends.{Made, IsMadeOf}
+use Rattle.lp_cert.specs.Kept.{open_end}
+use Rattle.lp_cert.proofs.Passed.{passed_on}
+use Rattle.lp_cert.proofs.maker.Maker.pass.Goals as goal
+
+pub returns-clause-made : goal.returns-clause-made
+returns-clause-made g c = λ run stands is.
+    let i = c.self.inside in
+    let number = c.events.result + 1 in
+    let old : Made = record { ended = i.ended.items; current = option_map (open_end i.noted i.waiters) i.current; ready = option_map (λ (r : Ready). (r.event, r.verdicts)) i.ready } in
+    let new : Made = record { ended = i.ended.items; current = option_map (open_end number i.waiters) i.current; ready = option_map (λ (r : Ready). (r.event, r.verdicts)) i.ready } in
+    let was : IsMadeOf g.M.Consistency.rules run old = rw (← c.self.view_is) at is in
+    passed_on g.M.Consistency.rules g.met.M.Consistency.lawful run c.args.core.now stands c.args.event c.requires.plain c.requires.room old new was refl i.noted number i.waiters (ap (λ m. m + 1) c.events.ensures.value) i.current refl refl
