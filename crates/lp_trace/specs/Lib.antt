@@ -16,3 +16,5 @@ pub mod Fronts
 pub mod OfRows
 pub mod Input
 pub mod Runs
+pub mod CheckReading
+pub mod CheckRows

@@ -1,6 +1,8 @@
 //! Traces of events as texts: the grammar, the reader and the writer.
 #![tactic(auto)]
 
+mod check_input;
+mod check_lines;
 mod draft;
 mod fault;
 mod form;
@@ -24,6 +26,7 @@ mod word;
 mod words;
 mod write;
 
+pub use check_input::CheckInput;
 pub use fault::{Cause, ReadFault, TraceFault};
 pub use form::TraceForm;
 pub use leg_end::{LegEnd, LegList};
