@@ -30,3 +30,4 @@ pub mod Divided
 pub mod CertLines
 pub mod CheckInputs
 pub mod CheckRows
+pub mod Legs

@@ -18,3 +18,4 @@ pub mod Input
 pub mod Runs
 pub mod CheckReading
 pub mod CheckRows
+pub mod Answer

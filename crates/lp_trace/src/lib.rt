@@ -3,6 +3,7 @@
 
 mod check_input;
 mod check_lines;
+mod checks;
 mod draft;
 mod fault;
 mod form;
@@ -27,6 +28,7 @@ mod words;
 mod write;
 
 pub use check_input::CheckInput;
+pub use checks::check;
 pub use fault::{Cause, ReadFault, TraceFault};
 pub use form::TraceForm;
 pub use leg_end::{LegEnd, LegList};
