@@ -4,9 +4,11 @@ use Rattle.std.specs.Prelude.{◌==◌, slice_index}
 use Rattle.std.specs.List.{All, slice_split}
 use Rattle.std.proofs.lemmas.List.Splits.{slice_split_none, slice_split_at, length-slice_split}
 use Rattle.std.proofs.lemmas.List.{take-append-drop, take_all, length-take-le, length-drop, get_or-take}
+use Rattle.std.proofs.lemmas.Bool.Decides.{Decides-eqb}
 use Rattle.std.proofs.lemmas.Grind.{get_or_default_zero}
 use Rattle.std.proofs.Math.Seq.{drop-cons}
 use Rattle.lp_trace.specs.declared.fault.Cause.TheVariants as cause
+use Rattle.lp_trace.specs.Left.{IsCut}
 use Rattle.lp_trace.specs.Words.{parts}
 use Rattle.lp_transition.specs.declared.event.Event.{Event}
 use Rattle.lp_trace.specs.Reading.{last_word, no_word}
@@ -40,6 +42,24 @@ parts-some at bytes end below h here =
     in
     let rest : take (length bytes - (end + 1)) (drop (end + 1) bytes) ≡ drop (end + 1) bytes = take_all _ _ (omega (arith, length-drop (end + 1) bytes)) in
     ap (slice_split test) (sym (opened bytes end below)) ∙ slice_split_at test (take end bytes) (get_or bytes end 0) (drop (end + 1) bytes) none here ∙ ap (λ r. take end bytes ∷ slice_split test r) (sym rest)
+
+pub is_cut : (at : ℕ) (bytes : List ℕ) (end : ℕ) → end < length bytes → Free at bytes end → (slice_index bytes end == at) ≡ true → IsCut at bytes (take end bytes) (take (length bytes - (end + 1)) (drop (end + 1) bytes))
+unfolding parts
+is_cut at bytes end below h here =
+    let test : ℕ → Bool = λ b. b == at in
+    let front : length (take end bytes) ≡ end = length-take-le end bytes (omega arith) in
+    let none : All (λ x. test x ≡ false) (take end bytes) =
+    λ k d under.
+    let lower : k < end = omega arith in
+    rw (get_or-take end bytes k d lower, get_or_default_zero bytes k d (omega arith)) (free (slice_index bytes k == at) (h k (omega arith) lower))
+    in
+    let rest : take (length bytes - (end + 1)) (drop (end + 1) bytes) ≡ drop (end + 1) bytes = take_all _ _ (omega (arith, length-drop (end + 1) bytes)) in
+    let byte : get_or bytes end 0 ≡ at = (Decides-eqb (get_or bytes end 0) at).0 here in
+    let same : (at == at) ≡ true = (Decides-eqb at at).1 refl in
+    record {
+      whole = sym (opened bytes end below) ∙ (ap (λ b. take end bytes ++ b ∷ drop (end + 1) bytes) byte ∙ ap (λ r. take end bytes ++ at ∷ r) (sym rest));
+      again = λ tail. slice_split_at test (take end bytes) at tail none same;
+    }
 
 one_more : (word : List ℕ) (parts : List (List ℕ)) → 0 < length parts → last_word (word ∷ parts) ≡ Err cause.Shape
 unfolding last_word

@@ -26,3 +26,8 @@ pub mod OfRows
 pub mod Starting
 pub mod Completions
 pub mod Recording
+pub mod Divided
+pub mod CertLines
+pub mod CheckInputs
+pub mod CheckRows
+pub mod Legs

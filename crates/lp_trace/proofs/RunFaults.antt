@@ -11,6 +11,7 @@ use Rattle.lp_trace.specs.declared.outcome.Outcome.{Outcome}
 use Rattle.lp_trace.specs.Outcome.{outcome, leg_ends, run_of}
 use Rattle.lp_trace.specs.Traces.{TraceValue}
 use Rattle.lp_trace.specs.declared.fault.Cause.TheVariants as cause
+use Rattle.lp_trace.specs.declared.fault.TraceFault.{TraceFault}
 use Rattle.lp_trace.specs.declared.input.InputFault.{InputFault}
 use Rattle.lp_trace.specs.declared.input.InputFault.TheVariants as input
 use Rattle.lp_trace.specs.declared.runs.RunFault.{RunFault}
@@ -24,13 +25,6 @@ long_reading text more =
     let e : nat_lt 134217728 (length text) ≡ true = lt-ltb 134217728 (length text) more in
     rw e refl
 
--- the reader has more than it gave
-pub long_known : (old new : Option (List ℕ)) → ReadsTooMuch old new → IfSome old (λ text. reading text ≡ Err (record { line = 0; cause = cause.Long }))
-long_known None new much = tt
-long_known (Some xs) None much = absurd much.1
-long_known (Some xs) (Some ys) much =
-    long_reading xs (omega (arith, much.2, ap length much.1, length-append much.0 ys))
-
 -- what was read is all that the reader had
 pub all_known : (old new : Option (List ℕ)) (text : List ℕ) (P : List ℕ → Type 0) → ReadsAll old new text → P text → IfSome old P
 all_known None new text P all h = tt
@@ -38,21 +32,30 @@ all_known (Some xs) None text P all h = absurd all.0
 all_known (Some xs) (Some ys) text P all h =
     subst P (sym (all.0 ∙ ap (λ l. text ++ l) all.1 ∙ append-nil text)) h
 
-pub input_fault : (old new : Option (List ℕ)) (fault : InputFault) (e : RunFault) → IsInputFault old new fault → e ≡ of_input fault → AtTrace e (λ why. IfSome old (λ text. reading text ≡ Err why))
-input_fault old new input.Long e much is =
-    let P : RunFault → Type 0 = λ x. AtTrace x (λ why. IfSome old (λ text. reading text ≡ Err why)) in
-    subst P (sym is) (long_known old new much)
-input_fault old new (input.Failed error) e h is =
-    let P : RunFault → Type 0 = λ x. AtTrace x (λ why. IfSome old (λ text. reading text ≡ Err why)) in
-    subst P (sym is) tt
-input_fault old new input.NoMemory e h is =
-    let P : RunFault → Type 0 = λ x. AtTrace x (λ why. IfSome old (λ text. reading text ≡ Err why)) in
-    subst P (sym is) tt
+-- the text of an input is read so, and is at fault where it is too long
+module _ {A : Type 0} (reads : List ℕ → Result A TraceFault) (long : (text : List ℕ) → 134217728 < length text → reads text ≡ Err (record { line = 0; cause = cause.Long })) where
+  -- the reader has more than it gave
+  long_known : (old new : Option (List ℕ)) → ReadsTooMuch old new → IfSome old (λ text. reads text ≡ Err (record { line = 0; cause = cause.Long }))
+  long_known None new much = tt
+  long_known (Some xs) None much = absurd much.1
+  long_known (Some xs) (Some ys) much =
+      long xs (omega (arith, much.2, ap length much.1, length-append much.0 ys))
 
--- the same, as it is returned
-pub input_fault_of : {X : Type 0} (old new : Option (List ℕ)) (fault : InputFault) (r : Result X RunFault) → IsInputFault old new fault → IsErrAnd r (λ e. e ≡ of_input fault) → IfErr r (λ e. AtTrace e (λ why. IfSome old (λ text. reading text ≡ Err why)))
-input_fault_of old new fault (Ok x) h is = tt
-input_fault_of old new fault (Err e) h is = input_fault old new fault e h is
+  input_fault : (old new : Option (List ℕ)) (fault : InputFault) (e : RunFault) → IsInputFault old new fault → e ≡ of_input fault → AtTrace e (λ why. IfSome old (λ text. reads text ≡ Err why))
+  input_fault old new input.Long e much is =
+      let P : RunFault → Type 0 = λ x. AtTrace x (λ why. IfSome old (λ text. reads text ≡ Err why)) in
+      subst P (sym is) (long_known old new much)
+  input_fault old new (input.Failed error) e h is =
+      let P : RunFault → Type 0 = λ x. AtTrace x (λ why. IfSome old (λ text. reads text ≡ Err why)) in
+      subst P (sym is) tt
+  input_fault old new input.NoMemory e h is =
+      let P : RunFault → Type 0 = λ x. AtTrace x (λ why. IfSome old (λ text. reads text ≡ Err why)) in
+      subst P (sym is) tt
+
+  -- the same, as it is returned
+  pub input_fault_of : {X : Type 0} (old new : Option (List ℕ)) (fault : InputFault) (r : Result X RunFault) → IsInputFault old new fault → IsErrAnd r (λ e. e ≡ of_input fault) → IfErr r (λ e. AtTrace e (λ why. IfSome old (λ text. reads text ≡ Err why)))
+  input_fault_of old new fault (Ok x) h is = tt
+  input_fault_of old new fault (Err e) h is = input_fault old new fault e h is
 
 abbrev with_fields : List Reply → List LegEnd → ℕ → ℕ → Outcome
 with_fields replies legs stays mixed = record { replies = replies; legs = legs; stays = stays; mixed = mixed }

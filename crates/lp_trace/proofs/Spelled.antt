@@ -114,13 +114,13 @@ first_digit word false false e f h z = absurd (cc (sym f ∙ (Decides-eqb (slice
 pub number_spelled : (word : List ℕ) (n : ℕ) → number_of word ≡ Some n → word ≡ decimal n
 unfolding number_of
 number_spelled word n h =
-    let numeral = some_if (is_numeral word) (digits_value 10 word) n h in
+    let numeral = some_if (is_numeral 5 word) (digits_value 10 word) n h in
     let a = and_parts (nat_le 1 (length word) && nat_le (length word) 5 && list_all is_ascii_digit word) (length word == 1 || not (slice_index word 0 == 48)) numeral.0 in
     let b = and_parts (nat_le 1 (length word) && nat_le (length word) 5) (list_all is_ascii_digit word) a.0 in
     let d = and_parts (nat_le 1 (length word)) (nat_le (length word) 5) b.0 in
     let some : 1 ≤ length word = leb-true 1 (length word) d.0 in
     let few : length word ≤ 5 = leb-true (length word) 5 d.1 in
-    let small : digits_value 10 word < 100000 = value_small word b.1 few in
+    let small : digits_value 10 word < 10000000 = value_small word b.1 (omega arith) in
     sym (decimal-digits_value own word b.1 (omega arith) (first_digit word (length word == 1) (slice_index word 0 == 48) refl refl a.1) (omega arith)) ∙ ap decimal numeral.1
 
 -- ---- Words after the first

@@ -16,3 +16,6 @@ pub mod Fronts
 pub mod OfRows
 pub mod Input
 pub mod Runs
+pub mod CheckReading
+pub mod CheckRows
+pub mod Answer

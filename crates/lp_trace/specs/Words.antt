@@ -126,10 +126,10 @@ fork_kind_of word =
 
 -- ---- Numbers
 
--- 1 to 5 digits, the first of them no 0 but in `0` itself
-abbrev pub is_numeral : List ℕ → Bool
-is_numeral word = nat_le 1 (length word) && nat_le (length word) 5 && list_all is_ascii_digit word && (length word == 1 || not (slice_index word 0 == 48))
+-- 1 to so many digits, the first of them no 0 but in `0` itself
+abbrev pub is_numeral : ℕ → List ℕ → Bool
+is_numeral most word = nat_le 1 (length word) && nat_le (length word) most && list_all is_ascii_digit word && (length word == 1 || not (slice_index word 0 == 48))
 
 -- the number that a word of 1 to 5 digits spells
 unfoldable pub number_of : List ℕ → Option ℕ
-number_of word = if is_numeral word then Some (digits_value 10 word) else None
+number_of word = if is_numeral 5 word then Some (digits_value 10 word) else None

@@ -1,4 +1,5 @@
 //! The laws of the trace text. The functions do nothing: each has a law as its contract.
+ghost use Rattle.lp_trace.specs.CheckRows.{InputsCompute};
 ghost use Rattle.lp_trace.specs.Laws.{ReadsWhatIsSpelled, SpellsOne};
 ghost use Rattle.lp_trace.specs.OfRows.{PartsCompute};
 ghost use Rattle.lp_trace.specs.Rows.{TextsCompute};
@@ -21,4 +22,9 @@ pub fn one_trace_a_text()
 /// What the definitions make of short lists of parts: the trace, or the first place without a spelling.
 pub fn worked_parts()
     ensures { PartsCompute }
+{}
+
+/// Inputs of a check whose certificates or faults are known, computed from the definitions.
+pub fn worked_inputs()
+    ensures { InputsCompute }
 {}

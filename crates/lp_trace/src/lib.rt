@@ -1,6 +1,9 @@
 //! Traces of events as texts: the grammar, the reader and the writer.
 #![tactic(auto)]
 
+mod check_input;
+mod check_lines;
+mod checks;
 mod draft;
 mod fault;
 mod form;
@@ -25,6 +28,8 @@ mod word;
 mod words;
 mod write;
 
+pub use check_input::CheckInput;
+pub use checks::check;
 pub use fault::{Cause, ReadFault, TraceFault};
 pub use form::TraceForm;
 pub use leg_end::{LegEnd, LegList};

@@ -5,6 +5,7 @@ ghost use Rattle.lp_transition.specs.Stays.{mixed_count, stay_count};
 ghost use Rattle.lp_trace.specs.Outcome.{leg_ends, run_of};
 
 mod fault;
+mod leg;
 mod legs;
 mod open_leg;
 mod recorder;
@@ -13,6 +14,7 @@ mod start;
 use crate::outcome::Outcome;
 use crate::trace::Trace;
 pub use fault::ReplayFault;
+pub(crate) use leg::{TraceLeg, leg_numbered};
 use lp_model::Consistency;
 use lp_stays::StayCount;
 use recorder::Recorder;

@@ -77,7 +77,7 @@ fn put_model<W: Write>(page: &mut Page, writer: &mut W, name: &str) -> Result<()
 }
 
 /// A number, in a buffer of its own.
-fn number<'a>(buffer: &'a mut Buffer, number: u64) -> &'a [u8]
+pub(crate) fn number<'a>(buffer: &'a mut Buffer, number: u64) -> &'a [u8]
     ensures { result.now ≡ decimal number }
 {
     buffer.format(number).as_bytes()

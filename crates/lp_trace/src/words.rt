@@ -4,7 +4,7 @@ ghost use Rattle.lp_trace.specs.Words.{parts};
 ghost use Rattle.memchr.specs.Find.{IsFirstByte, is_byte};
 ghost use Rattle.lp_trace.specs.Faults.{GivesLine};
 ghost use Rattle.lp_trace.specs.Reading.{next_word, last_word, next_number, last_number};
-ghost use Rattle.lp_trace.specs.Left.{parts_left, words_left};
+ghost use Rattle.lp_trace.specs.Left.{IsCut, parts_left, words_left};
 
 use crate::fault::{Cause, LineFault};
 use crate::number::number_of;
@@ -14,6 +14,7 @@ use memchr::memchr;
 pub(crate) fn cut(byte: u8, text: &[u8]) -> (&[u8], Option<&[u8]>)
     ensures parts { parts byte text.now ≡ result.0.now ∷ parts_left byte (option_copied result.1) }
     ensures shorter { IfSome result.1 (λ rest. length rest.now < length text.now) }
+    ensures cut { IfSome result.1 (λ rest. IsCut byte text.now result.0.now rest.now) }
 {
     match memchr(byte, text) {
         Some(end) => (&text[..end], Some(&text[end + 1..])),

@@ -17,8 +17,10 @@ pub enum Fault {
     Usage,
     /// There is no such model.
     UnknownModel,
-    /// The input is no trace.
+    /// The input is no trace, or holds no certificate.
     Trace(TraceFault),
+    /// The certificate was refused, as standard output says.
+    Refused,
     /// A growth was refused.
     NoMemory,
 }
@@ -67,11 +69,12 @@ impl Fault {
             Fault::Read | Fault::Write => 1,
             Fault::Usage | Fault::UnknownModel => 2,
             Fault::Trace(_) => 3,
+            Fault::Refused => 4,
             Fault::NoMemory => 5,
         }
     }
 
-    /// Says on standard error what is wrong, and gives the exit status.
+    /// Says on standard error what is wrong, unless standard output does, and gives the exit status.
     pub fn tell(self, rt: &impl Eprint) -> ExitCode {
         let _ = match self {
             Fault::Read => eprintln!(rt; "lpt: read fault"),
@@ -82,6 +85,7 @@ impl Fault {
                 let number = fault.cause.number();
                 eprintln!(rt; "lpt: line {}: L{number}", fault.line)
             }
+            Fault::Refused => Ok(()),
             Fault::NoMemory => eprintln!(rt; "lpt: out of memory"),
         };
         ExitCode::from(self.status())

@@ -37,12 +37,33 @@ fn run<R: Read, W: Write>(
     }
 }
 
+/// Reads a trace and a certificate, writes the answer to it under a model, and says whether it was
+/// accepted.
+fn check<R: Read, W: Write>(
+    alloc: Global,
+    model: ModelName,
+    reader: &mut R,
+    writer: &mut W,
+) -> Result<bool, RunFault> {
+    match model {
+        ModelName::Hybrid => lp_trace::check(alloc, Hybrid, reader, writer),
+        ModelName::LeaveKernel => lp_trace::check(alloc, LeaveKernel, reader, writer),
+        ModelName::AllAtOnce => lp_trace::check(alloc, AllAtOnce, reader, writer),
+        ModelName::Immediate => lp_trace::check(alloc, Immediate, reader, writer),
+        ModelName::ProcessGroup => lp_trace::check(alloc, ProcessGroup, reader, writer),
+    }
+}
+
 /// Does what the words ask for, over standard input and output.
 fn perform(rt: &HostRuntime) -> Result<(), Fault> {
-    let Task::Run(model) = task(rt)?;
+    let task = task(rt)?;
     let mut reader = rt.stdin();
     let mut writer = io::writer(rt);
-    Ok(run(rt.alloc(), model, &mut reader, &mut writer)?)
+    match task {
+        Task::Run(model) => Ok(run(rt.alloc(), model, &mut reader, &mut writer)?),
+        Task::Check(model) if check(rt.alloc(), model, &mut reader, &mut writer)? => Ok(()),
+        Task::Check(_) => Err(Fault::Refused),
+    }
 }
 
 fn main(rt: HostRuntime) -> ExitCode {

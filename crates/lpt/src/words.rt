@@ -11,6 +11,8 @@ use std::convert::AsStr;
 pub enum Task {
     /// `run MODEL`: reads a trace and writes the report of its run under the model.
     Run(ModelName),
+    /// `check MODEL`: reads a trace and a certificate, and writes the answer to it under the model.
+    Check(ModelName),
 }
 
 /// Why the words ask for nothing that the program does.
@@ -38,13 +40,19 @@ fn refused(error: &Error) -> WordsFault {
     }
 }
 
-/// The words of the program: one subcommand with a model.
-fn command<'a>(alloc: Global) -> Result<Command<'a>, AllocError> {
+/// A subcommand with a model.
+fn with_model<'a>(alloc: Global, name: &'a str) -> Result<Command<'a>, AllocError> {
     let model = Arg::new(alloc, "MODEL")
         .required(true)
         .action(ArgAction::Set);
-    let run = Command::new(alloc, "run").arg(model)?;
-    Command::new(alloc, "lpt").subcommand(run)
+    Command::new(alloc, name).arg(model)
+}
+
+/// The words of the program: one of the subcommands.
+fn command<'a>(alloc: Global) -> Result<Command<'a>, AllocError> {
+    Command::new(alloc, "lpt")
+        .subcommand(with_model(alloc, "run")?)?
+        .subcommand(with_model(alloc, "check")?)
 }
 
 /// The model that a subcommand names.
@@ -61,6 +69,7 @@ pub fn task_of<S: AsStr>(alloc: Global, words: &[S]) -> Result<Task, WordsFault>
     };
     match matches.subcommand() {
         Some(("run", run)) => Ok(Task::Run(model_of(run)?)),
+        Some(("check", check)) => Ok(Task::Check(model_of(check)?)),
         _ => Err(WordsFault::Usage),
     }
 }

@@ -118,7 +118,7 @@ impl<M: Consistency> Recorder<M> {
 
 /// Whether an event opened a leg: it is a control event, and was accepted.
 #[inline(always)]
-fn opens(event: Event, what: &What) -> bool
+pub(super) fn opens(event: Event, what: &What) -> bool
     ensures { result ≡ is_opened event what.now }
 {
     event.is_control() && !matches!(what, What::Refused(_))

@@ -1,4 +1,4 @@
-use Rattle.std.proofs.Common.{◌≡◌, ◌≤◌, ◌+◌, List, ℕ, [], ◌∷◌, ◌++◌, drop, refl, sym, ap, ap₂, ◌∙◌, subst, arith}
+use Rattle.std.proofs.Common.{◌+◌, List, ℕ, [], ◌∷◌, ◌++◌, drop, refl, sym, subst, arith}
 use Rattle.std.specs.List.{flat_map}
 use Rattle.lp_trace.specs.Words.{line_of}
 use Rattle.lp_trace.specs.Replies.{first_groups, replies_of}

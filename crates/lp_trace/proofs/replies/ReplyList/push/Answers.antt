@@ -1,10 +1,10 @@
-use Rattle.std.proofs.Common.{◌≡◌, List, ℕ, [], ◌∷◌, ◌++◌, refl, sym, ap, ap₂, ◌∙◌}
+use Rattle.std.proofs.Common.{List, [], ◌∷◌, ◌++◌, refl, sym, ap, ◌∙◌}
 use Rattle.lp_transition.specs.declared.reply.What.{What}
 use Rattle.lp_transition.specs.declared.reply.Reply.{Reply}
 use Rattle.lp_trace.specs.declared.replies.ShortReply.{ShortReply}
 use Rattle.lp_trace.specs.declared.replies.ShortWhat.TheVariants.{Ran, Done, Refused}
 use Rattle.lp_transition.specs.declared.reply.What.TheVariants as what
-use Rattle.lp_trace.proofs.ReplyLists.{Pushed, pushed-plain, pushed-over}
+use Rattle.lp_trace.proofs.ReplyLists.{pushed-plain, pushed-over}
 use Rattle.lp_trace.proofs.replies.ReplyList.push.Goals as goal
 use Rattle.lp_trace.proofs.replies.ReplyList.push.Goals.{in-Ran, in-Done, in-Refused, in-Switched+in_ok-push-in-Switched}
 

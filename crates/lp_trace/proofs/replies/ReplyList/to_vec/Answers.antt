@@ -1,8 +1,6 @@
-use Rattle.std.proofs.Common.{◌≡◌, ◌≤◌, ◌+◌, List, ℕ, [], ◌∷◌, ◌++◌, drop, refl, sym, ap, ap₂, ◌∙◌, arith, append_assoc}
+use Rattle.std.proofs.Common.{List, ℕ, ◌++◌, drop, sym, ap, ◌∙◌, arith}
 use Rattle.std.proofs.lemmas.List.{append-nil}
-use Rattle.lp_transition.specs.declared.reply.What.{What}
-use Rattle.lp_transition.specs.declared.reply.Reply.{Reply}
-use Rattle.lp_trace.specs.Replies.{what_of, first_groups, replies_of}
+use Rattle.lp_trace.specs.Replies.{first_groups, replies_of}
 use Rattle.lp_trace.proofs.ReplyLists.{told-next, replies-end}
 use Rattle.lp_trace.proofs.replies.ReplyList.to_vec.Goals as goal
 

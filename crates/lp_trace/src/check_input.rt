@@ -1,0 +1,156 @@
+//! The input of a check: a trace and a certificate.
+ghost use Rattle.std.specs.Prelude.{◌≡◌, ◌≤◌, [], IfSome, length, option_copied};
+ghost use Rattle.std.specs.Option.{option_map};
+ghost use Rattle.lp_trace.specs.CheckReading.{cert_after, cert_from, check_reading, divided, reasons_from};
+ghost use Rattle.lp_trace.specs.Faults.{Gives};
+ghost use Rattle.lp_trace.specs.Words.{lines};
+
+use crate::check_lines::{claim_line, reason_line};
+use crate::fault::{Cause, LineFault, ReadFault};
+use crate::read::MOST_BYTES;
+use crate::trace::Trace;
+use crate::word::is;
+use crate::words::cut;
+use lp_cert::{Cert, Line, LineList};
+use std::alloc::Global;
+
+/// What a check is given: a trace, and a certificate of one of its legs.
+#[derive(Drop)]
+pub struct CheckInput {
+    /// What happened.
+    pub trace: Trace,
+    /// Why a group is said to wait.
+    pub cert: Cert,
+}
+
+/// Where an input is divided.
+#[derive(Clone, Copy)]
+struct Division<'a> {
+    /// What stands before the line `lpcert 1`; the whole input where there is none.
+    trace: &'a [u8],
+    /// The number of the line `lpcert 1`, or of the one after the last.
+    line: u64,
+    /// What stands behind the line `lpcert 1`.
+    cert: Option<&'a [u8]>,
+}
+
+impl CheckInput {
+    /// The trace and the certificate that an input spells, or the input's first fault; NoMemory
+    /// where a growth was refused.
+    pub fn read(alloc: Global, text: &[u8]) -> Result<CheckInput, ReadFault>
+        // Which trace and certificate, or which fault: the first one.
+        ensures exact { Gives (λ input. input) result (check_reading text.now) }
+    {
+        if text.len() > MOST_BYTES {
+            return Err(LineFault::Cause(Cause::Long).at(0));
+        }
+        let division = divide(text);
+        let trace = match Trace::read(alloc, division.trace) {
+            Ok(trace) => trace,
+            Err(fault) => return Err(fault),
+        };
+        match read_cert(alloc, division.line, division.cert) {
+            Ok(cert) => Ok(CheckInput { trace, cert }),
+            Err(fault) => Err(fault),
+        }
+    }
+}
+
+/// Where an input is divided: at the first line `lpcert 1` that has its end.
+fn divide(text: &[u8]) -> Division<'_>
+    requires few { length text.now ≤ 134217728 }
+    ensures trace { lines result.trace.now ≡ (divided (lines text.now)).0 }
+    ensures front { length result.trace.now ≤ length text.now }
+    ensures line { result.line ≡ length (divided (lines text.now)).0 }
+    ensures cert { option_map lines (option_copied result.cert) ≡ (divided (lines text.now)).1 }
+    ensures small { result.line ≤ 134217729 }
+    ensures back { IfSome result.cert (λ cert. length cert.now ≤ length text.now) }
+{
+    let mut line = 1;
+    let mut rest = text;
+    loop {
+        let (first, left) = cut(b'\n', rest);
+        let Some(more) = left else {
+            return Division {
+                trace: text,
+                line,
+                cert: None,
+            };
+        };
+        if is(first, "lpcert 1") {
+            return Division {
+                trace: &text[..text.len() - rest.len()],
+                line,
+                cert: Some(more),
+            };
+        }
+        rest = more;
+        line += 1;
+    }
+}
+
+/// The certificate behind the line of this number, if there is one.
+fn read_cert(alloc: Global, line: u64, text: Option<&[u8]>) -> Result<Cert, ReadFault>
+    requires small { line ≤ 134217729 }
+    requires few { IfSome text (λ text. length text.now ≤ 134217728) }
+    ensures { Gives (λ cert. cert) result (cert_after line (option_map lines (option_copied text.entry))) }
+{
+    match text {
+        Some(text) => read_claim(alloc, line + 1, text),
+        None => Err(LineFault::Cause(Cause::Cert).at(line)),
+    }
+}
+
+/// A certificate, whose first line has this number.
+#[tactic(auto, using(crate::proofs::CertLines::cert_step), unfolding(crate::specs::CheckReading::cert_from))]
+fn read_claim(alloc: Global, number: u64, text: &[u8]) -> Result<Cert, ReadFault>
+    requires small { number ≤ 134217730 }
+    requires few { length text.now ≤ 134217728 }
+    ensures { Gives (λ cert. cert) result (cert_from number (lines text.now)) }
+{
+    let (line, left) = cut(b'\n', text);
+    let Some(rest) = left else {
+        let cause = if line.is_empty() {
+            Cause::Cert
+        } else {
+            Cause::Unended
+        };
+        return Err(LineFault::Cause(cause).at(number));
+    };
+    let mut cert = match claim_line(alloc, line) {
+        Ok(cert) => cert,
+        Err(fault) => return Err(fault.at(number)),
+    };
+    let reasons = read_reasons(alloc, number + 1, rest)?;
+    cert.lines = LineList::from_vec(reasons);
+    Ok(cert)
+}
+
+/// The reasons of a certificate, the first of which stands in the line of this number.
+fn read_reasons(alloc: Global, first: u64, text: &[u8]) -> Result<Vec<Line>, ReadFault>
+    requires small { first ≤ 134217731 }
+    requires few { length text.now ≤ 134217728 }
+    ensures { Gives (λ lines. lines.items) result (reasons_from first [] (lines text.now)) }
+{
+    let mut number = first;
+    let mut reasons = Vec::new(alloc);
+    let mut rest = text;
+    loop {
+        let (line, left) = cut(b'\n', rest);
+        let Some(more) = left else {
+            if line.is_empty() {
+                return Ok(reasons);
+            }
+            return Err(LineFault::Cause(Cause::Unended).at(number));
+        };
+        let reason = match reason_line(line) {
+            Ok(reason) => reason,
+            Err(fault) => return Err(fault.at(number)),
+        };
+        let Ok(()) = reasons.push(reason) else {
+            return Err(ReadFault::NoMemory);
+        };
+        rest = more;
+        number += 1;
+    }
+}
