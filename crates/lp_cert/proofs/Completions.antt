@@ -44,7 +44,7 @@ find_first : (a k : ℕ) → Some a ≡ Some k → (n : ℕ) → k < a + suc n
 find_first a k e n = let same : a ≡ k = cc in omega arith
 
 -- what is found is in the range
-find_below : (p : ℕ → Bool) (a n k : ℕ) → find p (range_with_len a n) ≡ Some k → k < a + n
+pub find_below : (p : ℕ → Bool) (a n k : ℕ) → find p (range_with_len a n) ≡ Some k → k < a + n
 find_below p a zero k e = absurd (cc)
 find_below p a (suc n) k e =
     ⊎_elim

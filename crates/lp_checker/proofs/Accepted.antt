@@ -64,7 +64,7 @@ module _ (model : Rules) (leg : Leg) where
   group_on j k t y x le live before (Stayed z c was is) = ap (λ v. v.group) is ∙ (changed_group k c z ∙ before z was)
   group_on j k t y x le live before (BornNow p how z event was unused positive within is) = let none = unused_before model.child_group leg j k t le unused in absurd (cc)
 
-  group_stays : (j k t : ℕ) (y x : Life) → j ≤ k → after model leg j t ≡ Live y → after model leg k t ≡ Live x → x.group ≡ y.group
+  pub group_stays : (j k t : ℕ) (y x : Life) → j ≤ k → after model leg j t ≡ Live y → after model leg k t ≡ Live x → x.group ≡ y.group
   group_stays j zero t y x le live_y live_x =
       let same : j ≡ zero = omega arith in
       ap (λ v. v.group) (live_same x y (after model leg zero t) live_x (subst (λ n. after model leg n t ≡ Live y) same live_y))

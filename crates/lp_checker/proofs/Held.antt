@@ -45,7 +45,7 @@ module _ (model : Rules) (leg : Leg) where
       (cases_eq k (suc e))
 
 module _ (model : Rules) (leg : Leg) (lawful : IsLawful model) (sound : IsSound leg.opening) where
-  between : (f k e t serial : ℕ) → f ≤ k → k ≤ e → Stands model leg t serial f → Stands model leg t serial e → is_on_stack model leg t serial k ≡ true
+  pub between : (f k e t serial : ℕ) → f ≤ k → k ≤ e → Stands model leg t serial f → Stands model leg t serial e → is_on_stack model leg t serial k ≡ true
   between f k e t serial low high a b =
       let z = alive model leg f k e t a.life b.life low high a.live b.live in
       let past = (serials model leg lawful sound nobody (λ group moment e. absurd (cc)) f t a.life a.live).1 in
@@ -57,7 +57,7 @@ module _ (model : Rules) (leg : Leg) (lawful : IsLawful model) (sound : IsSound 
       ap (on_live false (λ x. list_any has (view leg nobody t x).frames)) z.1 ∙ found
 
   -- a blamed frame is on the stack
-  blamed_stands : (moment group t serial : ℕ) → blame_at model leg group moment t ≡ Some (Blamed serial) → Stands model leg t serial moment
+  pub blamed_stands : (moment group t serial : ℕ) → blame_at model leg group moment t ≡ Some (Blamed serial) → Stands model leg t serial moment
   blamed_stands moment group t serial e =
       let b = blamed-is model leg moment group t (Blamed serial) e in
       let there = lawful.blames_there b.kind (view leg nobody t b.life) leg.aim serial b.blamed in

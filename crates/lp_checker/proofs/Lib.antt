@@ -19,3 +19,8 @@ pub mod SpanLines
 pub mod SectionLines
 pub mod PartLines
 pub mod AtOpening
+pub mod LeadingTo
+pub mod MadeParts
+pub mod MadeSteps
+pub mod MadeLines
+pub mod MadeVerdicts

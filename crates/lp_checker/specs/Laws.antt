@@ -1,11 +1,12 @@
--- What an accepted certificate is worth.
-use Rattle.std.specs.Prelude.{◌≡◌, ℕ, ◌+◌, ◌≤◌, length, None, IsTrue, IsFalse}
+-- What an accepted certificate is worth, and which are accepted.
+use Rattle.std.specs.Prelude.{◌≡◌, ℕ, ◌+◌, ◌≤◌, length, All, None, IsTrue, IsFalse}
 use Rattle.lp_model.specs.Rules.{Rules}
 use Rattle.lp_transition.specs.Leg.{Leg}
-use Rattle.lp_transition.specs.Schedule.{Schedule, waits, complete, IsLegal}
+use Rattle.lp_transition.specs.Schedule.{Schedule, waits, complete, IsLegal, first_check}
 use Rattle.lp_transition.specs.Sound.{IsSound}
 use Rattle.lp_cert.specs.declared.cert.Cert.{Cert}
 use Rattle.lp_cert.specs.declared.cert.Claim.{Claim}
+use Rattle.lp_cert.specs.Made.{cert, certs_of}
 use Rattle.lp_checker.specs.Verdict.{verdict_on}
 
 -- what a certificate claims of a leg. Event `upto` of the run is event k of the leg
@@ -27,3 +28,15 @@ pub record TrustsCertificates (model : Rules) : Type 0 where
   pub holds :
       (leg : Leg) → IsSound leg.opening →
       (claim : Claim) (cert : Cert) → verdict_on model leg claim cert ≡ None → Holds model leg cert
+
+-- each certificate that is made of a leg that opens soundly has no fault: whatever it is to claim, for each group that
+-- waits after the first k events, and so each of those of the leg's end, where its events don't go past the 1,000,000
+-- that a run can have
+pub record AcceptsWhatIsMade (model : Rules) : Type 0 where
+  pub accepted :
+      (leg : Leg) → IsSound leg.opening → (claim : Claim) (k group : ℕ) →
+      k ≤ length leg.events → leg.number + k ≤ 1000000 → IsTrue (waits model leg (first_check model leg) k group) →
+      verdict_on model leg claim (cert model leg claim k group) ≡ None
+  pub at_the_end :
+      (leg : Leg) → IsSound leg.opening → leg.number + length leg.events ≤ 1000000 →
+      All (λ made. verdict_on model leg made.claim made ≡ None) (certs_of model leg)

@@ -2,7 +2,7 @@
 //!
 //! The functions do nothing: each has a law as its contract, so a call of one at a model gives
 //! the law there.
-ghost use Rattle.lp_checker.specs.Laws.{TrustsCertificates};
+ghost use Rattle.lp_checker.specs.Laws.{AcceptsWhatIsMade, TrustsCertificates};
 ghost use Rattle.lp_checker.specs.Rows.{CertificatesCompute};
 
 use lp_model::Consistency;
@@ -11,6 +11,12 @@ use lp_model::Consistency;
 /// legal schedule has completed the leg by then, whoever made it.
 pub fn accepted_certificates_hold<M: Consistency>()
     ensures { TrustsCertificates M.rules }
+{}
+
+/// Each certificate that is made of a leg by the first-check schedule, for a group that waits, has
+/// no fault, as long as the leg's events go no further than event 1,000,000 of the run.
+pub fn made_certificates_are_accepted<M: Consistency>()
+    ensures { AcceptsWhatIsMade M.rules }
 {}
 
 /// Certificates whose verdicts are known, computed from the definitions.
