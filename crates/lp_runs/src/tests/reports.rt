@@ -1,5 +1,6 @@
 //! Traces in and their reports out, as texts that are worked out by hand from the definitions, and
 //! the same over readers and writers that fail.
+mod checks;
 mod faults;
 mod streams;
 
