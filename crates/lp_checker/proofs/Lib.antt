@@ -24,3 +24,4 @@ pub mod MadeParts
 pub mod MadeSteps
 pub mod MadeLines
 pub mod MadeVerdicts
+pub mod MadeOfRuns

@@ -17,7 +17,6 @@ use Rattle.lp_cert.specs.declared.cert.Claim.TheVariants.{Waiting, Floor}
 use Rattle.lp_cert.specs.Made.{lines, cert, waiting_groups, completion, certs_by}
 use Rattle.lp_cert.proofs.Completions.{find_below}
 use Rattle.lp_checker.specs.declared.fault.CertFault.TheVariants.{NoSuchGroup, NoLeg}
-use Rattle.lp_checker.specs.Laws.{AcceptsWhatIsMade}
 use Rattle.lp_checker.specs.Verdict.{Section, births, first_lines, last_group, same_claim, moment_of, no_leg, birth_tests, first_group, sections, has_stray, no_such_group, line_tests, gap_test, verdict_on}
 use Rattle.lp_checker.proofs.FirstBad.{first_of_append, first_none}
 use Rattle.lp_checker.proofs.LeadingTo.{Leads, born_well, none_strays, lines_well, gaps_well}
@@ -110,7 +109,7 @@ module _ (model : Rules) (leg : Leg) (lawful : IsLawful model) (sound : IsSound 
   each claim k within few =
       All-weaker (λ group. waits model leg first k group ≡ true) (λ group. IsAccepted (cert model leg claim k group)) (λ group w. accepted claim k group within few w) (waiting_groups model leg k) (filter_passes (waits model leg first k) (range_with_len 0 (suc leg.bounds.tasks)))
 
-  at_end : (o : Option ℕ) → completion model leg ≡ o → leg.number + length leg.events ≤ 1000000 → All IsAccepted (certs_by model leg o)
+  pub at_end : (o : Option ℕ) → completion model leg ≡ o → leg.number + length leg.events ≤ 1000000 → All IsAccepted (certs_by model leg o)
   unfolding completion
   at_end (Some zero) e few = All-nil IsAccepted
   at_end (Some (suc k)) e few =
@@ -119,10 +118,3 @@ module _ (model : Rules) (leg : Leg) (lawful : IsLawful model) (sound : IsSound 
   at_end None e few =
       let n = length leg.events in
       All-map IsAccepted (cert model leg Waiting n) (waiting_groups model leg n) (each Waiting n (omega arith) few)
-
-pub accepts_what_is_made : (model : Rules) → IsLawful model → AcceptsWhatIsMade model
-accepts_what_is_made model lawful =
-    record {
-      accepted = λ leg sound claim k group within few waiting. accepted model leg lawful sound claim k group within few waiting;
-      at_the_end = λ leg sound few. at_end model leg lawful sound (completion model leg) refl few;
-    }

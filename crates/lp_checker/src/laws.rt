@@ -13,8 +13,8 @@ pub fn accepted_certificates_hold<M: Consistency>()
     ensures { TrustsCertificates M.rules }
 {}
 
-/// Each certificate that is made of a leg by the first-check schedule, for a group that waits, has
-/// no fault, as long as the leg's events go no further than event 1,000,000 of the run.
+/// Each certificate that is made has no fault: for each group that waits after some events of a
+/// leg that opens soundly, and so at the end of each leg of a run of up to 1,000,000 events.
 pub fn made_certificates_are_accepted<M: Consistency>()
     ensures { AcceptsWhatIsMade M.rules }
 {}

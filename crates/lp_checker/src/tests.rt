@@ -405,6 +405,7 @@ fn faults_have_numbers(rt: HostRuntime) {
 fn laws_are_called(_rt: HostRuntime) {
     laws::worked_certificates();
     laws::accepted_certificates_hold::<Hybrid>();
+    laws::made_certificates_are_accepted::<Hybrid>();
 }
 
 /// A patch of function `a`. The fault is NoMemory also where the name wants for memory.

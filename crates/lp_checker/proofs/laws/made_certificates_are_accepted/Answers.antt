@@ -1,4 +1,4 @@
-use Rattle.lp_checker.proofs.MadeVerdicts.{accepts_what_is_made}
+use Rattle.lp_checker.proofs.MadeOfRuns.{accepts_what_is_made}
 use Rattle.lp_checker.proofs.laws.made_certificates_are_accepted.Goals as goal
 
 pub returns : goal.returns
