@@ -11,6 +11,7 @@ use crate::number::number_of;
 use memchr::memchr;
 
 /// What stands before the first place of a byte, and what stands after it, if there is such a place.
+#[inline(always)]
 pub(crate) fn cut(byte: u8, text: &[u8]) -> (&[u8], Option<&[u8]>)
     ensures parts { parts byte text.now ≡ result.0.now ∷ parts_left byte (option_copied result.1) }
     ensures shorter { IfSome result.1 (λ rest. length rest.now < length text.now) }
