@@ -219,6 +219,26 @@ impl Maker {
     {
         self.ended.as_slice()
     }
+
+    /// The ends of all legs, that of the leg under way as it stands last, if there is one;
+    /// AllocError where a growth was refused. What is kept of the legs is moved.
+    pub fn finish(self, alloc: Global) -> Result<Vec<LegEnd>, AllocError>
+        ensures { IfOk result (λ ends. ends.items ≡ self.ended ++ option_to_list self.current) }
+    {
+        let Maker {
+            mut ended,
+            current,
+            waiters,
+            noted,
+            ..
+        } = self;
+        if let Some(leg) = current {
+            let list = end_waiters(alloc, leg.completed, &waiters)?;
+            let (chains, scans) = waiters.into_past();
+            ended.push(leg.end(noted, list, chains, scans))?;
+        }
+        Ok(ended)
+    }
 }
 
 /// The leg under way after an event that opens none. Takes no memory.
