@@ -201,31 +201,11 @@ impl Maker {
     }
 
     /// The ends of all legs, given up, the last one as it stands; AllocError where a growth was
-    /// refused.
+    /// refused. What is kept of the legs is moved.
     pub fn into_ends(self, alloc: Global) -> Result<Vec<LegEnd>, AllocError>
         ensures { IfOk result (λ ends. ends.items ≡ self.ended ++ option_to_list self.current) }
     {
-        let current = self.current(alloc)?;
-        let Self { mut ended, .. } = self;
-        if let Some(leg) = current {
-            ended.push(leg)?;
-        }
-        Ok(ended)
-    }
-
-    /// The ends of the legs that ended, lent.
-    pub fn ended(&self) -> &[LegEnd]
-        ensures { result.now ≡ self.now.ended }
-    {
-        self.ended.as_slice()
-    }
-
-    /// The ends of all legs, that of the leg under way as it stands last, if there is one;
-    /// AllocError where a growth was refused. What is kept of the legs is moved.
-    pub fn finish(self, alloc: Global) -> Result<Vec<LegEnd>, AllocError>
-        ensures { IfOk result (λ ends. ends.items ≡ self.ended ++ option_to_list self.current) }
-    {
-        let Maker {
+        let Self {
             mut ended,
             current,
             waiters,
@@ -238,6 +218,13 @@ impl Maker {
             ended.push(leg.end(noted, list, chains, scans))?;
         }
         Ok(ended)
+    }
+
+    /// The ends of the legs that ended, lent.
+    pub fn ended(&self) -> &[LegEnd]
+        ensures { result.now ≡ self.now.ended }
+    {
+        self.ended.as_slice()
     }
 }
 
