@@ -1,8 +1,8 @@
 -- Lists of reasons that share their older parts.
-use Rattle.std.proofs.Common.{◌≡◌, ℕ, zero, suc, ◌+◌, ◌<◌, List, [], ◌∷◌, ◌++◌, length, get_or, refl, sym, ap, subst, ◌∙◌, arith}
+use Rattle.std.proofs.Common.{◌≡◌, ℕ, zero, suc, ◌+◌, ◌-◌, ◌<◌, ◌≤◌, List, [], ◌∷◌, ◌++◌, drop, length, get_or, refl, sym, ap, subst, ◌∙◌, arith}
 use Rattle.std.proofs.Math.ListN.{get_or-append}
 use Rattle.std.proofs.Math.Seq.{get_or-append_seam}
-use Rattle.std.proofs.lemmas.List.{length-append}
+use Rattle.std.proofs.lemmas.List.{length-append, length-drop, drop-drop}
 use Rattle.std.proofs.lemmas.List.Sums.{fold-append}
 use Rattle.std.specs.List.{fold}
 use Rattle.lp_cert.specs.declared.reason.Reason.{Reason}
@@ -94,3 +94,42 @@ lists_of-push entries entry = fold-append with_entry ([] ∷ []) entries (entry 
 pub empty_first : (entries : List Entry) → get_or (lists_of entries) 0 [] ≡ []
 unfolding lists_of
 empty_first entries = fold-keeps ([] ∷ []) entries 0 (omega arith)
+
+-- ---- Along a list
+
+-- the entry of a list that isn't empty
+pub place_below : (entries : List Entry) (at : ℕ) → at < length (lists_of entries) → 0 < at → at - 1 < length entries
+place_below entries at known h = omega (arith, lists_of-length entries)
+
+-- a list is its newest reason and an earlier list
+pub one_on : (entries : List Entry) (at : ℕ) (entry : Entry) → AreLinked 1 entries → at < length (lists_of entries) → 0 < at → entry ≡ get_or entries (at - 1) entry
+    → get_or (lists_of entries) at [] ≡ entry.reason ∷ get_or (lists_of entries) entry.older.0 []
+one_on entries at entry linked known h is =
+    let e : at ≡ at - 1 + 1 = omega arith in
+    ap (λ k. get_or (lists_of entries) k []) e ∙ list_at entries (at - 1) entry linked (place_below entries at known h) is
+
+pub older_less : (entries : List Entry) (at : ℕ) (entry : Entry) → AreLinked 1 entries → at < length (lists_of entries) → 0 < at → entry ≡ get_or entries (at - 1) entry → entry.older.0 < at
+older_less entries at entry linked known h is =
+    omega (arith, older_before 1 entries (at - 1) entry linked (place_below entries at known h) is)
+
+-- a list of which some are left isn't the empty one
+pub some_on : (entries : List Entry) (at count left : ℕ) (list : List Reason) → get_or (lists_of entries) at [] ≡ drop (count - left) list
+    → count ≤ length list → 0 < left → left ≤ count → 0 < at
+some_on entries zero count left list rest enough more fewer =
+    let e = ap length (sym (empty_first entries) ∙ rest) in
+    let d = length-drop (count - left) list in
+    absurd (omega arith)
+some_on entries (suc at) count left list rest enough more fewer = omega arith
+
+-- one reason less
+pub one_less : (count left : ℕ) (this list : List Reason) (reason : Reason) (older : List Reason) → this ≡ reason ∷ older
+    → this ≡ drop (count - left) list → 0 < left → left ≤ count → older ≡ drop (count - (left - 1)) list
+one_less count left this list reason older is rest more fewer =
+    let e : count - (left - 1) ≡ count - left + 1 = omega arith in
+    ap (drop 1) (sym is ∙ rest) ∙ (drop-drop 1 (count - left) list ∙ ap (λ n. drop n list) (sym e))
+
+pub some_place : (entries : List Entry) (at : ℕ) → 0 < length (get_or (lists_of entries) at []) → 0 < at
+some_place entries zero some =
+    let e = ap length (empty_first entries) in
+    absurd (omega arith)
+some_place entries (suc at) some = omega arith

@@ -1,5 +1,7 @@
 mod Rows
 pub mod ChainLemmas
+pub mod PartLemmas
+pub mod LineLemmas
 pub mod HeadLemmas
 pub mod WrittenLemmas
 pub mod Past

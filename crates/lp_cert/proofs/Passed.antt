@@ -1,5 +1,5 @@
 -- A call, a return, a sleep, a wake-up and an entry into the kernel change the lines of no group.
-use Rattle.std.proofs.Common.{◌≡◌, ◌<◌, ◌+◌, ℕ, suc, Bool, true, false, not, ◌&&◌, List, [], ◌∷◌, Option, Some, None, is_none, if◌then◌else◌, nat_eq, refl, sym, ap, ap₂, ◌∙◌}
+use Rattle.std.proofs.Common.{◌≡◌, ◌<◌, ◌+◌, ℕ, suc, Bool, true, false, not, ◌&&◌, List, [], Option, Some, None, is_none, if◌then◌else◌, nat_eq, refl, sym, ap, ◌∙◌}
 use mathlib.Core.Path.{fun_ext}
 use Rattle.std.specs.Option.{option_map}
 use Rattle.std.specs.List.{list_any}
@@ -10,13 +10,11 @@ use Rattle.lp_transition.specs.declared.event.Event.{Event}
 use Rattle.lp_transition.specs.declared.event.Event.TheVariants.{Call, Ret, Sleep, Wake, Enter}
 use Rattle.lp_transition.specs.declared.refusal.Refusal.{Refusal}
 use Rattle.lp_transition.specs.declared.reply.Reply.{Reply}
-use Rattle.lp_transition.specs.declared.reply.What.{What}
-use Rattle.lp_transition.specs.declared.reply.What.TheVariants.{Done}
 use Rattle.lp_transition.specs.Events.{is_control}
 use Rattle.lp_transition.specs.Tasks.{Fate, Unused, Live, Dead, on_live, map_live, change}
 use Rattle.lp_transition.specs.Leg.{Standing, State, each_live, each_task}
 use Rattle.lp_transition.specs.Run.{Run, switched, plus}
-use Rattle.lp_transition.specs.Machine.{at_rest, affected, answer, answer_by, calling, going, goes_over, put_in, refusal_of, returning, switched_over, told}
+use Rattle.lp_transition.specs.Machine.{at_rest, affected, answer, calling, goes_over, put_in, refusal_of, returning, switched_over, told}
 use Rattle.lp_transition.specs.ScanSteps.{groups_of}
 use Rattle.lp_transition.specs.Steps.{StandsIn}
 use Rattle.lp_transition.specs.Table.{Engine, state_in}
@@ -27,7 +25,7 @@ use Rattle.lp_cert.specs.declared.line.Line.{Line}
 use Rattle.lp_cert.specs.declared.open_leg.OpenLeg.{OpenLeg}
 use Rattle.lp_cert.specs.Ends.{Made, IsMadeOf, is_plain}
 use Rattle.lp_cert.specs.Kept.{IsGoneOn, open_end, is_opening}
-use Rattle.lp_cert.specs.Waiters.{WaitingGroups, lines_at, next_lines, HasFewGroups, own_lines}
+use Rattle.lp_cert.specs.Waiters.{WaitingGroups, lines_at, HasFewGroups, own_lines}
 use Rattle.lp_cert.proofs.Noted.{none_made, still_made}
 
 quiet : (event : Event) → is_plain event ≡ true → is_quiet event ≡ true

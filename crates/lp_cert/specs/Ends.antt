@@ -10,6 +10,7 @@ use Rattle.lp_transition.specs.Leg.{Leg}
 use Rattle.lp_transition.specs.Run.{Run, first_leg, leg_of, opens, next_leg}
 use Rattle.lp_cert.specs.declared.cert.Claim.TheVariants.{Floor}
 use Rattle.lp_cert.specs.declared.cert.Cert.{Cert}
+use Rattle.lp_cert.specs.declared.cert.CertHead.{CertHead}
 use Rattle.lp_cert.specs.declared.leg_end.LegEnd.{LegEnd}
 use Rattle.lp_cert.specs.Made.{completion, certs_of}
 
@@ -19,6 +20,10 @@ pub record Made : Type 0 where
   pub ended : List LegEnd
   pub current : Option LegEnd
   pub ready : Option (Event × ℕ)
+
+-- a certificate without its lines
+abbrev pub cert_head : Cert → CertHead
+cert_head cert = record { claim = cert.claim; leg = cert.leg; group = cert.group; upto = cert.upto }
 
 -- ---- The certificates of the leg under way, while it isn't complete
 

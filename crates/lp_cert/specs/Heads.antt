@@ -40,10 +40,10 @@ head_lines lists scans group head =
 
 -- ---- What holds of them
 
--- a reason speaks of no more than so many scans
+-- a reason speaks of no more than so many scans, of one at least where it speaks of scans
 abbrev pub FitsIn : ℕ → Reason → Type 0
 FitsIn scans (reason.One line) = Unit {0}
-FitsIn scans (reason.Busy group task first end) = (first ≤ end) × (end ≤ scans)
+FitsIn scans (reason.Busy group task first end) = (first < end) × (end ≤ scans)
 
 abbrev pub GoesOnIn : ℕ → Ongoing → Type 0
 GoesOnIn scans (Busy task first) = first < scans

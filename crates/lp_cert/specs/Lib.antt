@@ -2,6 +2,7 @@ pub mod Made
 pub mod Text
 pub mod Rows
 pub mod Chains
+pub mod Parts
 pub mod Heads
 pub mod Steps
 pub mod Laws

@@ -1,12 +1,12 @@
 //! Lists of reasons that share their older parts.
-ghost use Rattle.std.specs.Prelude.{◌≡◌, ◌+◌, ◌<◌, ◌≤◌, [], ◌∷◌, ◌++◌, length, slice_index_or, IfOk, OnOk};
+ghost use Rattle.std.specs.Prelude.{◌≡◌, ◌+◌, ◌<◌, ◌≤◌, [], ◌∷◌, ◌++◌, Some, drop, length, slice_get, slice_index_or, IfOk, OnOk};
 
 use crate::reason::Reason;
 use std::alloc::{AllocError, Global};
 use std::marker::Model;
 
 /// One of the lists.
-#[derive(Clone, Copy)]
+#[derive(Clone, Copy, Default)]
 pub(crate) struct ChainId(pub(crate) usize);
 
 /// A reason in front of a list.
@@ -89,5 +89,44 @@ impl Chains {
             at = entry.older.0;
         }
         Ok(reasons)
+    }
+
+    /// How many reasons a list has.
+    pub(crate) fn count(&self, id: ChainId) -> usize
+        requires { id.0 < length self.now.lists }
+        ensures { result ≡ length (slice_index_or self.now.lists id.0 []) }
+    {
+        let mut count = 0;
+        let mut at = id.0;
+        while at > 0 {
+            count += 1;
+            at = self.entries[at - 1].older.0;
+        }
+        count
+    }
+
+    /// The newest reason of a list that isn't empty.
+    pub(crate) fn newest(&self, id: ChainId) -> Reason
+        requires known { id.0 < length self.now.lists }
+        requires some { 0 < length (slice_index_or self.now.lists id.0 []) }
+        ensures { slice_get (slice_index_or self.now.lists id.0 []) 0 ≡ Some result }
+    {
+        self.entries[id.0 - 1].reason
+    }
+
+    /// A list without so many of its newest reasons.
+    pub(crate) fn without(&self, id: ChainId, count: usize) -> ChainId
+        requires known { id.0 < length self.now.lists }
+        requires enough { count ≤ length (slice_index_or self.now.lists id.0 []) }
+        ensures known { result.0 < length self.now.lists }
+        ensures list { slice_index_or self.now.lists result.0 [] ≡ drop count (slice_index_or self.now.lists id.0 []) }
+    {
+        let mut at = id.0;
+        let mut left = count;
+        while left > 0 {
+            left -= 1;
+            at = self.entries[at - 1].older.0;
+        }
+        ChainId(at)
     }
 }

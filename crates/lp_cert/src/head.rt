@@ -4,6 +4,7 @@ ghost use Rattle.lp_cert.specs.Heads.{ongoing_reasons, head_lines, stays, begun_
 
 use crate::chains::{ChainId, Chains};
 use crate::line::{Line, LineList};
+use crate::oldest_first::OldestFirst;
 use crate::ongoing::Ongoing;
 use crate::reason::Reason;
 use crate::written::{add_lines, lines_of};
@@ -70,6 +71,23 @@ impl Head {
             add_lines(&mut lines, &reason, scans)?;
         }
         Ok(LineList::from_vec(lines))
+    }
+
+    /// The reasons as they stand, of which the oldest comes first. Takes no memory.
+    pub(crate) fn oldest_first<'a>(
+        self,
+        chains: &'a Chains,
+        scans: &[u64],
+        group: GroupId,
+    ) -> OldestFirst<'a>
+        requires { self.older.0 < length chains.now.lists }
+        ensures { result ≡ ongoing_reasons scans.now group self.ongoing ++ slice_index_or chains.now.lists self.older.0 [] }
+    {
+        OldestFirst::new(
+            chains,
+            self.older,
+            ongoing_reason(scans, group, self.ongoing),
+        )
     }
 
     /// The reasons as they stand, as a list. Takes no memory.

@@ -1,8 +1,11 @@
 //! How a leg ended, with its certificates.
-ghost use Rattle.std.specs.Prelude.{◌≡◌, ◌↔◌, [], length, map, slice_get, IfOk, IsTrue};
+ghost use Rattle.std.specs.Prelude.{◌≡◌, ◌<◌, ◌↔◌, [], Some, length, map, slice_get, IfOk, IsTrue};
+ghost use Rattle.std.specs.Option.{option_map};
+ghost use Rattle.lp_cert.specs.Ends.{cert_head};
 ghost use Rattle.lp_cert.specs.Waiters.{AreHeads, kept_cert};
 
-use crate::cert::{Cert, Claim};
+use crate::cert::{Cert, CertHead, Claim};
+use crate::cert_lines::CertLines;
 use crate::chains::Chains;
 use crate::head::Waiter;
 use lp_stack::Level;
@@ -108,5 +111,29 @@ impl CertList {
             upto: self.upto,
             lines,
         }))
+    }
+
+    /// The certificate at a place, from 0, without its lines.
+    pub fn head(&self, place: usize) -> CertHead
+        requires { place < length self.now }
+        ensures { option_map cert_head (slice_get self.now place) ≡ Some result }
+    {
+        CertHead {
+            claim: self.claim,
+            leg: self.leg,
+            group: self.waiters[place].group,
+            upto: self.upto,
+        }
+    }
+
+    /// The lines of the certificate at a place, from 0, one at a time. Takes no memory.
+    pub fn lines(&self, place: usize) -> CertLines<'_>
+        requires { place < length self.now }
+        ensures { option_map (λ cert. cert.lines) (slice_get self.now place) ≡ Some result }
+    {
+        let Waiter { group, head } = self.waiters[place];
+        let scans = self.scans.as_slice();
+        let reasons = head.oldest_first(&self.chains, scans, group);
+        CertLines::new(group, scans, reasons)
     }
 }

@@ -3,12 +3,14 @@
 
 mod advance;
 mod cert;
+mod cert_lines;
 mod chains;
 mod head;
 pub mod laws;
 mod leg_end;
 mod line;
 mod maker;
+mod oldest_first;
 mod ongoing;
 mod open_leg;
 mod reason;
@@ -18,7 +20,8 @@ mod tests;
 mod waiters;
 mod written;
 
-pub use cert::{Cert, Claim};
+pub use cert::{Cert, CertHead, Claim};
+pub use cert_lines::CertLines;
 pub use leg_end::{CertList, LegEnd};
 pub use line::{Line, LineList};
 pub use maker::Maker;

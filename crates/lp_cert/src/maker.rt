@@ -201,14 +201,21 @@ impl Maker {
     }
 
     /// The ends of all legs, given up, the last one as it stands; AllocError where a growth was
-    /// refused.
+    /// refused. What is kept of the legs is moved.
     pub fn into_ends(self, alloc: Global) -> Result<Vec<LegEnd>, AllocError>
         ensures { IfOk result (λ ends. ends.items ≡ self.ended ++ option_to_list self.current) }
     {
-        let current = self.current(alloc)?;
-        let Self { mut ended, .. } = self;
+        let Self {
+            mut ended,
+            current,
+            waiters,
+            noted,
+            ..
+        } = self;
         if let Some(leg) = current {
-            ended.push(leg)?;
+            let list = end_waiters(alloc, leg.completed, &waiters)?;
+            let (chains, scans) = waiters.into_past();
+            ended.push(leg.end(noted, list, chains, scans))?;
         }
         Ok(ended)
     }

@@ -135,6 +135,14 @@ impl Reasons {
         Ok((chains, scans))
     }
 
+    /// The older reasons, and the scans. Takes no memory.
+    pub(crate) fn into_past(self) -> (Chains, Vec<u64>)
+        ensures lists { result.0.lists ≡ self.lists }
+        ensures scans { result.1.items ≡ self.scans }
+    {
+        (self.chains, self.scans)
+    }
+
     /// Puts others in the place of the older reasons and the scans, which are given back. Takes no
     /// memory.
     pub(crate) fn replace_past(&mut self, chains: Chains, scans: Vec<u64>) -> (Chains, Vec<u64>)

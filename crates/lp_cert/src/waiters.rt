@@ -117,6 +117,14 @@ impl Waiters {
         self.reasons.copy_past(alloc)
     }
 
+    /// The older reasons, and the scans. Takes no memory.
+    pub(crate) fn into_past(self) -> (Chains, Vec<u64>)
+        ensures lists { result.0.lists ≡ self.reasons.lists }
+        ensures scans { result.1.items ≡ self.reasons.scans }
+    {
+        self.reasons.into_past()
+    }
+
     /// A group as it stands, which may wait or not.
     pub(crate) fn waiter(&self, group: GroupId) -> Waiter
         ensures { result ≡ waiter_in self.now.reasons group.0 }

@@ -1,25 +1,9 @@
-use Rattle.std.proofs.Common.{◌≡◌, ℕ, ◌+◌, ◌-◌, ◌<◌, List, [], ◌∷◌, ◌++◌, length, get_or, refl, sym, ap, ◌∙◌, arith}
+use Rattle.std.proofs.Common.{◌≡◌, List, [], ◌∷◌, ◌++◌, get_or, refl, sym, ap, ◌∙◌, arith}
 use Rattle.std.proofs.lemmas.List.{append-nil, append_assoc}
 use Rattle.lp_cert.specs.declared.reason.Reason.{Reason}
-use Rattle.lp_cert.specs.declared.chains.Entry.{Entry}
-use Rattle.lp_cert.specs.Chains.{lists_of, AreLinked}
-use Rattle.lp_cert.proofs.ChainLemmas.{lists_of-length, list_at, older_before, empty_first}
+use Rattle.lp_cert.specs.Chains.{lists_of}
+use Rattle.lp_cert.proofs.ChainLemmas.{place_below, one_on, older_less, empty_first}
 use Rattle.lp_cert.proofs.chains.Chains.reasons.Goals as goal
-
--- the entry of a list that isn't empty
-place_below : (entries : List Entry) (at : ℕ) → at < length (lists_of entries) → 0 < at → at - 1 < length entries
-place_below entries at known h = omega (arith, lists_of-length entries)
-
--- a list is its newest reason and an earlier list
-one_on : (entries : List Entry) (at : ℕ) (entry : Entry) → AreLinked 1 entries → at < length (lists_of entries) → 0 < at → entry ≡ get_or entries (at - 1) entry
-    → get_or (lists_of entries) at [] ≡ entry.reason ∷ get_or (lists_of entries) entry.older.0 []
-one_on entries at entry linked known h is =
-    let e : at ≡ at - 1 + 1 = omega arith in
-    ap (λ k. get_or (lists_of entries) k []) e ∙ list_at entries (at - 1) entry linked (place_below entries at known h) is
-
-older_less : (entries : List Entry) (at : ℕ) (entry : Entry) → AreLinked 1 entries → at < length (lists_of entries) → 0 < at → entry ≡ get_or entries (at - 1) entry → entry.older.0 < at
-older_less entries at entry linked known h is =
-    omega (arith, older_before 1 entries (at - 1) entry linked (place_below entries at known h) is)
 
 regroup : (before all : List Reason) (reason : Reason) (older : List Reason) (list : List Reason) → before ++ list ≡ all → list ≡ reason ∷ older → (before ++ reason ∷ []) ++ older ≡ all
 regroup before all reason older list e is = append_assoc before (reason ∷ []) older ∙ ap (λ l. before ++ l) (sym is) ∙ e

@@ -1,0 +1,77 @@
+-- The lines that are left of a certificate.
+use Rattle.std.proofs.Common.{◌≡◌, ℕ, ◌<◌, ◌≤◌, List, [], ◌∷◌, ◌++◌, length, map, reverse, take, drop, Option, Some, None, IfNone, option_to_list, sym, ap, ap₂, subst, ◌∙◌, arith}
+use Rattle.std.specs.List.{AllByRecursion, slice_get}
+use Rattle.std.proofs.lemmas.Grind.{flat_map-append}
+use Rattle.std.proofs.lemmas.List.{append-nil, append_assoc, reverse-append, length-drop, length-take-le, length-map}
+use Rattle.lp_stack.specs.declared.number.GroupId.{GroupId}
+use Rattle.lp_stack.specs.declared.number.TaskId.{TaskId}
+use Rattle.lp_cert.specs.declared.line.Line.{Line}
+use Rattle.lp_cert.specs.declared.line.Line.TheVariants as line
+use Rattle.lp_cert.specs.declared.reason.Reason.{Reason}
+use Rattle.lp_cert.specs.declared.reason.Reason.TheVariants as reason
+use Rattle.lp_cert.specs.Heads.{reason_lines, lines_of, FitsIn}
+use Rattle.lp_cert.proofs.PartLemmas.{all_front, all_last}
+use Rattle.lp_cert.proofs.WrittenLemmas.{oldest_busy}
+
+-- ---- The first line, and the others
+
+pub first_line : (r : Option Line) (old new : List Line) → old ≡ option_to_list r ++ new → IfNone r (old ≡ []) → r ≡ slice_get old 0
+first_line None old new e nothing = ap (λ ls. slice_get ls 0) (sym nothing)
+first_line (Some l) old new e nothing = ap (λ ls. slice_get ls 0) (sym e)
+
+pub lines_left : (r : Option Line) (old new : List Line) → old ≡ option_to_list r ++ new → IfNone r (old ≡ []) → new ≡ drop 1 old
+lines_left None old new e nothing = sym e ∙ (nothing ∙ ap (drop 1) (sym nothing))
+lines_left (Some l) old new e nothing = ap (drop 1) (sym e)
+
+-- ---- Where no line is left of a run
+
+module _ (scans : List ℕ) (run run_new : List Line) (old new : List Reason) (same : run ≡ run_new) (over : run ≡ []) where
+  pub all_over : old ≡ new ++ [] → old ≡ [] → (run ++ reverse (lines_of scans old) ≡ []) × (run_new ++ reverse (lines_of scans new) ≡ [])
+  unfolding lines_of
+  all_over e nothing = (
+    ap₂ (λ ls rs. ls ++ reverse (lines_of scans rs)) over nothing,
+    ap₂ (λ ls rs. ls ++ reverse (lines_of scans rs)) (sym same ∙ over) (sym (append-nil new) ∙ (sym e ∙ nothing)),
+  )
+
+  with_reason : (r : Reason) → old ≡ new ++ r ∷ [] → run ++ reverse (lines_of scans old) ≡ reverse (reason_lines scans r) ++ reverse (lines_of scans new)
+  unfolding lines_of
+  with_reason r e =
+      ap₂ (λ ls rs. ls ++ reverse (lines_of scans rs)) over e
+      ∙ (ap reverse (flat_map-append (reason_lines scans) new (r ∷ []) ∙ ap (λ ls. lines_of scans new ++ ls) (append-nil (reason_lines scans r)))
+      ∙ reverse-append (lines_of scans new) (reason_lines scans r))
+
+  pub one_line : (r : Reason) (l : Line) → old ≡ new ++ r ∷ [] → r ≡ reason.One l → run ++ reverse (lines_of scans old) ≡ l ∷ (run_new ++ reverse (lines_of scans new))
+  one_line r l e is =
+      with_reason r e
+      ∙ (ap (λ x. reverse (reason_lines scans x) ++ reverse (lines_of scans new)) is
+      ∙ ap (λ ls. l ∷ (ls ++ reverse (lines_of scans new))) (sym over ∙ same))
+
+  module _ (r : Reason) (g : GroupId) (t : TaskId) (first end : ℕ) (part : List ℕ) (found : Option Line) (later : List Line)
+      (e : old ≡ new ++ r ∷ []) (is : r ≡ reason.Busy g t first end) (is_part : part ≡ drop first (take end scans)) (lines : map (λ at. line.Busy g t at) part ≡ option_to_list found ++ later) where
+    pub busy_line : run ++ reverse (lines_of scans old) ≡ option_to_list found ++ (later ++ reverse (lines_of scans new))
+    busy_line =
+        with_reason r e
+        ∙ (ap (λ x. reverse (reason_lines scans x) ++ reverse (lines_of scans new)) is
+        ∙ (ap (λ ls. ls ++ reverse (lines_of scans new)) (oldest_busy g t (drop first (take end scans)) ∙ (ap (map (λ at. line.Busy g t at)) (sym is_part) ∙ lines))
+        ∙ append_assoc (option_to_list found) later (reverse (lines_of scans new))))
+
+-- ---- Reasons that fit the scans
+
+pub busy_fits : (n : ℕ) (rs new : List Reason) (r : Reason) (g : GroupId) (t : TaskId) (first end : ℕ) → rs ≡ new ++ r ∷ [] → r ≡ reason.Busy g t first end
+    → AllByRecursion (FitsIn n) rs → (first < end) × (end ≤ n)
+busy_fits n rs new r g t first end e is fits = subst (FitsIn n) is (all_last (FitsIn n) new r (subst (AllByRecursion (FitsIn n)) e fits))
+
+pub others_fit : (n : ℕ) (rs new : List Reason) (r : Reason) → rs ≡ new ++ r ∷ [] → AllByRecursion (FitsIn n) rs → AllByRecursion (FitsIn n) new
+others_fit n rs new r e fits = all_front (FitsIn n) new (r ∷ []) (subst (AllByRecursion (FitsIn n)) e fits)
+
+-- a run has a line
+pub run_has : (g : GroupId) (t : TaskId) (scans part : List ℕ) (first end : ℕ) (found : Option Line) (X : Type 0) → part ≡ drop first (take end scans) → (first < end) × (end ≤ length scans)
+    → IfNone found (map (λ at. line.Busy g t at) part ≡ []) → IfNone found X
+run_has g t scans part first end None X is fits nothing =
+    let m = length-map part (λ at. line.Busy g t at) in
+    let z = ap length nothing in
+    let p = ap length is in
+    let d = length-drop first (take end scans) in
+    let k = length-take-le end scans fits.1 in
+    absurd (omega (arith, fits.0))
+run_has g t scans part first end (Some l) X is fits nothing = tt

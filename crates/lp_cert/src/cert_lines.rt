@@ -1,0 +1,112 @@
+//! The lines of a certificate, one at a time.
+ghost use Rattle.std.specs.Prelude.{◌≡◌, ◌<◌, ◌≤◌, ◌++◌, [], drop, length, option_to_list, reverse, slice_get, take, IfNone};
+ghost use Rattle.std.specs.List.{AllByRecursion};
+ghost use Rattle.lp_cert.specs.Heads.{lines_of, FitsIn};
+ghost use Rattle.lp_cert.specs.Parts.{run_lines};
+
+use crate::line::Line;
+use crate::oldest_first::OldestFirst;
+use crate::reason::Reason;
+use lp_stack::{GroupId, TaskId};
+use std::marker::Model;
+
+/// The scans that are left at which a member is busy.
+#[derive(Clone, Copy)]
+pub(crate) struct Run<'a> {
+    pub(crate) group: GroupId,
+    pub(crate) task: TaskId,
+    pub(crate) scans: &'a [u64],
+}
+
+impl Run<'_> {
+    /// The next line, if one is left.
+    fn next(&mut self) -> Option<Line>
+        ensures lines { run_lines self.old ≡ option_to_list result ++ run_lines self.new }
+        ensures none { IfNone result (run_lines self.old ≡ []) }
+    {
+        let (at, later) = self.scans.split_first()?;
+        self.scans = later;
+        Some(Line::Busy {
+            group: self.group,
+            task: self.task,
+            at: *at,
+        })
+    }
+}
+
+/// The lines of a certificate that are left, the oldest first. No call takes memory.
+///
+/// Contracts see the list of these lines.
+#[derive(Drop)]
+pub struct CertLines<'a> {
+    scans: &'a [u64],
+    run: Run<'a>,
+    reasons: OldestFirst<'a>,
+}
+
+impl<'a> Model for CertLines<'a> {
+    ghost use Rattle.std.specs.Prelude.{◌++◌, List, length, reverse};
+    ghost use Rattle.std.specs.List.{AllByRecursion};
+    ghost use Rattle.lp_cert.specs.declared.line.Line.{Line};
+    ghost use Rattle.lp_cert.specs.Heads.{lines_of, FitsIn};
+    ghost use Rattle.lp_cert.specs.Parts.{run_lines};
+
+    ghost Value = { List Line };
+
+    ghost view = { λ c. run_lines c.run ++ reverse (lines_of c.scans.now c.reasons) };
+
+    ghost invariant = { λ c. AllByRecursion (FitsIn (length c.scans.now)) c.reasons };
+}
+
+impl<'a> CertLines<'a> {
+    /// The lines of a group's reasons over the scans of the leg.
+    pub(crate) fn new(group: GroupId, scans: &'a [u64], reasons: OldestFirst<'a>) -> CertLines<'a>
+        requires { AllByRecursion (FitsIn (length scans.now)) reasons }
+        ensures { result ≡ reverse (lines_of scans.now reasons.entry) }
+    {
+        let (none, _) = scans.split_at(0);
+        CertLines {
+            scans,
+            run: Run {
+                group,
+                task: TaskId(0),
+                scans: none,
+            },
+            reasons,
+        }
+    }
+
+    /// The next line, which is no longer left then, if one is left.
+    pub fn next(&mut self) -> Option<Line>
+        ensures line { result ≡ slice_get self.old 0 }
+        ensures left { self.new ≡ drop 1 self.old }
+    {
+        if let Some(line) = self.run.next() {
+            return Some(line);
+        }
+        match self.reasons.next()? {
+            Reason::One(line) => Some(line),
+            Reason::Busy {
+                group,
+                task,
+                first,
+                end,
+            } => {
+                let scans = part_of(self.scans, first, end);
+                self.run = Run { group, task, scans };
+                self.run.next()
+            }
+        }
+    }
+}
+
+/// The scans from one place on and before another.
+fn part_of(scans: &[u64], first: usize, end: usize) -> &[u64]
+    requires order { first ≤ end }
+    requires within { end ≤ length scans.now }
+    ensures { result.now ≡ drop first (take end scans.now) }
+{
+    let (before_end, _) = scans.split_at(end);
+    let (_, part) = before_end.split_at(first);
+    part
+}
