@@ -103,8 +103,9 @@ impl<M: Consistency> Core<M> {
         self.events < MOST_EVENTS
     }
 
-    /// Any event, weighed.
-    fn weigh_any(&self, alloc: Global, event: Event) -> Result<Step, Halt>
+    /// Any event, weighed; a walk or a stop after a look at every waiting task. Makes all growths
+    /// that `take` needs: NoMemory where one was refused, JournalFull where no event is left.
+    pub fn weigh_any(&self, alloc: Global, event: Event) -> Result<Step, Halt>
         ensures full { (result ≡ Err JournalFull) ↔ (1000000 ≤ self.now.number) }
         ensures memory { result ≡ Err NoMemory → IsTrue (may_want_memory event (answer M.rules (state_in self.now) event).what) }
         ensures weighed { IfOk result (λ step. IsWeighed M.rules self.now step) }
