@@ -31,3 +31,7 @@ pub mod CertLines
 pub mod CheckInputs
 pub mod CheckRows
 pub mod Legs
+pub mod Moved
+pub mod GroupsInRange
+pub mod LegByLeg
+pub mod Headline

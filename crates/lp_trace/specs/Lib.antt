@@ -19,3 +19,4 @@ pub mod Runs
 pub mod CheckReading
 pub mod CheckRows
 pub mod Answer
+pub mod Headline

@@ -1,8 +1,11 @@
 //! The laws of the trace text. The functions do nothing: each has a law as its contract.
 ghost use Rattle.lp_trace.specs.CheckRows.{InputsCompute};
+ghost use Rattle.lp_trace.specs.Headline.{HeadlineHolds};
 ghost use Rattle.lp_trace.specs.Laws.{ReadsWhatIsSpelled, SpellsOne};
 ghost use Rattle.lp_trace.specs.OfRows.{PartsCompute};
 ghost use Rattle.lp_trace.specs.Rows.{TextsCompute};
+
+use lp_model::Consistency;
 
 /// What the definitions make of short texts: one of each fault, and a text of each form.
 pub fn worked_texts()
@@ -27,4 +30,11 @@ pub fn worked_parts()
 /// Inputs of a check whose certificates or faults are known, computed from the definitions.
 pub fn worked_inputs()
     ensures { InputsCompute }
+{}
+
+/// The headline, of every run: in each leg every group went over at its first check that the model
+/// allows; no legal schedule moves any group, or completes the leg, earlier; each waiting group has
+/// a certificate that the checker accepts; and under a whole-call model each stay runs one version.
+pub fn headline_holds<M: Consistency>()
+    ensures { HeadlineHolds M.rules }
 {}
