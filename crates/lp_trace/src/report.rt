@@ -8,12 +8,12 @@ ghost use Rattle.lp_trace.specs.Replies.{replies_of, reply_of, what_of};
 ghost use Rattle.lp_trace.specs.Writing.{Puts, Writes, line_rest};
 
 use crate::form::TraceForm;
-use crate::leg_end::LegEnd;
 use crate::outcome::Outcome;
 use crate::page::Page;
 use crate::replies::{ReplyList, ShortReply, ShortWhat, groups_at};
 use crate::write::WriteFault;
 use itoa::Buffer;
+use lp_cert::LegEnd;
 use lp_stack::{GroupId, Level};
 use lp_transition::GroupList;
 use std::io::Write;
@@ -244,7 +244,7 @@ fn end_words<'a>(buffer: &'a mut Buffer, leg: &LegEnd) -> (&'static [u8], &'a [u
 {
     match leg.completed {
         Some(event) => (b"complete", number(buffer, event)),
-        None => (b"waiting", number(buffer, leg.waiting)),
+        None => (b"waiting", number(buffer, leg.certs.len() as u64)),
     }
 }
 

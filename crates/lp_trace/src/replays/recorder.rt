@@ -10,10 +10,10 @@ ghost use Rattle.lp_trace.specs.Outcome.{waiting_count};
 ghost use Rattle.lp_trace.specs.Replay.{IsRecorded, IsOutcome, is_opened, legs_after};
 
 use super::fault::ReplayFault;
-use super::legs::Legs;
-use super::open_leg::OpenLeg;
+use crate::leg_end::LegList;
 use crate::outcome::Outcome;
 use crate::replies::ReplyList;
+use lp_cert::Maker;
 use lp_model::Consistency;
 use lp_stays::StayCount;
 use lp_symbols::SymId;
@@ -25,8 +25,8 @@ use std::marker::Model;
 #[derive(Drop)]
 pub(super) struct Recorder<M: Consistency> {
     core: Core<M>,
+    maker: Maker,
     replies: ReplyList,
-    legs: Legs,
     stays: StayCount,
 }
 
@@ -35,7 +35,7 @@ impl<M: Consistency> Model for Recorder<M> {
 
     ghost Value = { Recorded };
 
-    ghost view = { λ r. record { core = r.core; replies = r.replies; legs = r.legs; stays = r.stays } };
+    ghost view = { λ r. record { core = r.core; made = r.maker; replies = r.replies; stays = r.stays } };
 }
 
 impl<M: Consistency> Recorder<M> {
@@ -46,12 +46,12 @@ impl<M: Consistency> Recorder<M> {
         stays: StayCount,
         events: usize,
     ) -> Result<Recorder<M>, ReplayFault>
-        ensures { IfOk result (λ recorder. recorder ≡ record { core = core; replies = []; legs = record { ended = []; present = None }; stays = stays }) }
+        ensures { IfOk result (λ recorder. recorder ≡ record { core = core; made = record { ended = []; current = None; ready = None }; replies = []; stays = stays }) }
     {
         Ok(Recorder {
             core,
+            maker: Maker::new(alloc)?,
             replies: ReplyList::with_capacity(alloc, events)?,
-            legs: Legs::new(alloc),
             stays,
         })
     }
@@ -64,36 +64,40 @@ impl<M: Consistency> Recorder<M> {
         ensures { OnOk result ((run : Run) → IsRecorded M.rules run self.old → IsRecorded M.rules (plus run event) self.new) }
     {
         let top = last_function(&self.core, event);
-        let waiting = waiting_before(alloc, &self.core, event)?;
+        let reply = if is_plain(event) {
+            self.step_plain(alloc, event)?
+        } else {
+            self.step_weighed(alloc, event)?
+        };
+        self.stays.note(event, &reply, top);
+        self.replies.push(reply)?;
+        Ok(())
+    }
+
+    /// The next event, where it is a call, a return, a sleep, a wake-up or an entry into the kernel.
+    #[inline(always)]
+    fn step_plain(&mut self, alloc: Global, event: Event) -> Result<Reply, ReplayFault>
+    {
+        self.maker.pass(&self.core, event);
         match self.core.step(alloc, event) {
-            Ok(reply) => {
-                self.stays.note(event, &reply, top);
-                self.note_legs(event, &reply, waiting)?;
-                self.replies.push(reply)?;
-                Ok(())
-            }
+            Ok(reply) => Ok(reply),
             Err(Halt::NoMemory) => Err(ReplayFault::NoMemory),
             Err(Halt::JournalFull) => unreachable!(),
         }
     }
 
-    /// Notes what the event that came last did to the legs.
-    #[inline(always)]
-    fn note_legs(&mut self, event: Event, reply: &Reply, waiting: u64) -> Result<(), ReplayFault>
-        ensures { OnOk result (self.new ≡ record self.old { legs = legs_after event reply.now waiting self.old.core self.old.legs }) }
+    /// The next event, whatever it is.
+    #[inline(never)]
+    fn step_weighed(&mut self, alloc: Global, event: Event) -> Result<Reply, ReplayFault>
     {
-        let number = self.core.events();
-        if opens(event, &reply.what) {
-            let leg = OpenLeg {
-                opened: number,
-                target: self.core.target(),
-                completed: reply.completed.then_some(number),
-            };
-            self.legs.turn(waiting, leg)?;
-        } else if reply.completed {
-            self.legs.complete(number);
-        }
-        Ok(())
+        let step = match self.core.weigh_any(alloc, event) {
+            Ok(step) => step,
+            Err(Halt::NoMemory) => return Err(ReplayFault::NoMemory),
+            Err(Halt::JournalFull) => unreachable!(),
+        };
+        self.maker.ready(alloc, &self.core, &step)?;
+        self.maker.note(&self.core, &step);
+        Ok(self.core.take(step))
     }
 
     /// What the run came to, with the last event behind it.
@@ -101,15 +105,14 @@ impl<M: Consistency> Recorder<M> {
         ensures { IfOk result (λ found. (run : Run) → IsRecorded M.rules run self → IsOutcome M.rules run found) }
     {
         let Self {
-            core,
+            core: _,
+            maker,
             replies,
-            legs,
             stays,
         } = self;
-        let waiting = waiting(alloc, &core)?;
         Ok(Outcome {
             replies,
-            legs: legs.finish(waiting)?,
+            legs: LegList::from_vec(maker.into_ends(alloc)?),
             stays: stays.stays(),
             mixed: stays.mixed(),
         })
@@ -124,6 +127,17 @@ pub(super) fn opens(event: Event, what: &What) -> bool
     event.is_control() && !matches!(what, What::Refused(_))
 }
 
+/// Whether an event is a call, a return, a sleep, a wake-up or an entry into the kernel.
+#[inline(always)]
+fn is_plain(event: Event) -> bool
+    ensures { result ≡ is_plain event }
+{
+    matches!(
+        event,
+        Event::Call(..) | Event::Ret(_) | Event::Sleep(_) | Event::Wake(_) | Event::Enter(_)
+    )
+}
+
 /// The function of the last frame of the task that returns at an event; None at any other event.
 #[inline(always)]
 fn last_function<M: Consistency>(core: &Core<M>, event: Event) -> Option<SymId>
@@ -135,30 +149,4 @@ fn last_function<M: Consistency>(core: &Core<M>, event: Event) -> Option<SymId>
     let view = core.task(task)?;
     let frame = view.frames.last()?;
     Some(frame.func)
-}
-
-/// How many groups wait.
-#[inline(never)]
-fn waiting<M: Consistency>(alloc: Global, core: &Core<M>) -> Result<u64, ReplayFault>
-    ensures { IfOk result (λ count. (run : Run) → StandsIn M.rules run (state_in core.now) → count ≡ waiting_count M.rules (leg_of M.rules run)) }
-{
-    if !core.in_transition() {
-        return Ok(0);
-    }
-    Ok(core.waiting(alloc)?.len() as u64)
-}
-
-/// How many groups wait before an event, if it ends the leg under way. Only a reversal finds
-/// groups that wait.
-fn waiting_before<M: Consistency>(
-    alloc: Global,
-    core: &Core<M>,
-    event: Event,
-) -> Result<u64, ReplayFault>
-    ensures { IfOk result (λ count. (run : Run) → StandsIn M.rules run (state_in core.now) → opens M.rules (leg_of M.rules run) event ≡ true → count ≡ waiting_count M.rules (leg_of M.rules run)) }
-{
-    match event {
-        Event::Reverse => waiting(alloc, core),
-        _ => Ok(0),
-    }
 }
