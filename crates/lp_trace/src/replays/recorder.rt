@@ -1,13 +1,13 @@
 //! What a run comes to, event by event.
-ghost use Rattle.std.specs.Prelude.{◌≡◌, ◌<◌, [], true, None, IfOk, OnOk};
-ghost use Rattle.lp_transition.specs.Run.{Run, leg_of, opens, plus};
+ghost use Rattle.std.specs.Prelude.{◌≡◌, ◌<◌, [], None, IfOk, OnOk};
+ghost use Rattle.lp_transition.specs.Run.{Run, leg_of, plus};
 ghost use Rattle.lp_stack.specs.declared.number.TaskId.{TaskId};
 ghost use Rattle.lp_stays.specs.Counts.{top_of};
 ghost use Rattle.lp_transition.specs.Stays.{stack};
 ghost use Rattle.lp_transition.specs.Steps.{IsStep, StandsIn};
 ghost use Rattle.lp_transition.specs.Table.{state_in};
-ghost use Rattle.lp_trace.specs.Outcome.{waiting_count};
-ghost use Rattle.lp_trace.specs.Replay.{IsRecorded, IsOutcome, is_opened, legs_after};
+ghost use Rattle.lp_cert.specs.Ends.{IsMadeOf, is_plain};
+ghost use Rattle.lp_trace.specs.Replay.{IsRecorded, IsOutcome, is_opened};
 
 use super::fault::ReplayFault;
 use crate::leg_end::LegList;
@@ -64,40 +64,10 @@ impl<M: Consistency> Recorder<M> {
         ensures { OnOk result ((run : Run) → IsRecorded M.rules run self.old → IsRecorded M.rules (plus run event) self.new) }
     {
         let top = last_function(&self.core, event);
-        let reply = if is_plain(event) {
-            self.step_plain(alloc, event)?
-        } else {
-            self.step_weighed(alloc, event)?
-        };
+        let reply = take(alloc, &mut self.core, &mut self.maker, event)?;
         self.stays.note(event, &reply, top);
         self.replies.push(reply)?;
         Ok(())
-    }
-
-    /// The next event, where it is a call, a return, a sleep, a wake-up or an entry into the kernel.
-    #[inline(always)]
-    fn step_plain(&mut self, alloc: Global, event: Event) -> Result<Reply, ReplayFault>
-    {
-        self.maker.pass(&self.core, event);
-        match self.core.step(alloc, event) {
-            Ok(reply) => Ok(reply),
-            Err(Halt::NoMemory) => Err(ReplayFault::NoMemory),
-            Err(Halt::JournalFull) => unreachable!(),
-        }
-    }
-
-    /// The next event, whatever it is.
-    #[inline(never)]
-    fn step_weighed(&mut self, alloc: Global, event: Event) -> Result<Reply, ReplayFault>
-    {
-        let step = match self.core.weigh_any(alloc, event) {
-            Ok(step) => step,
-            Err(Halt::NoMemory) => return Err(ReplayFault::NoMemory),
-            Err(Halt::JournalFull) => unreachable!(),
-        };
-        self.maker.ready(alloc, &self.core, &step)?;
-        self.maker.note(&self.core, &step);
-        Ok(self.core.take(step))
     }
 
     /// What the run came to, with the last event behind it.
@@ -125,6 +95,51 @@ pub(super) fn opens(event: Event, what: &What) -> bool
     ensures { result ≡ is_opened event what.now }
 {
     event.is_control() && !matches!(what, What::Refused(_))
+}
+
+/// Takes an event, which the maker of certificates notes before the engine takes it.
+#[inline(always)]
+fn take<M: Consistency>(
+    alloc: Global,
+    core: &mut Core<M>,
+    maker: &mut Maker,
+    event: Event,
+) -> Result<Reply, ReplayFault>
+    requires { core.old.number < 1000000 }
+    ensures step { IfOk result (λ reply. IsStep M.rules (state_in core.old) event reply (state_in core.new)) }
+    ensures made { OnOk result ((run : Run) → StandsIn M.rules run (state_in core.old) → IsMadeOf M.rules run maker.old → IsMadeOf M.rules (plus run event) maker.new) }
+{
+    if !is_plain(event) {
+        return take_weighed(alloc, core, maker, event);
+    }
+    maker.pass(core, event);
+    match core.step(alloc, event) {
+        Ok(reply) => Ok(reply),
+        Err(Halt::NoMemory) => Err(ReplayFault::NoMemory),
+        Err(Halt::JournalFull) => unreachable!(),
+    }
+}
+
+/// Takes an event of any kind: it is weighed, and noted as it was weighed.
+#[inline(never)]
+fn take_weighed<M: Consistency>(
+    alloc: Global,
+    core: &mut Core<M>,
+    maker: &mut Maker,
+    event: Event,
+) -> Result<Reply, ReplayFault>
+    requires { core.old.number < 1000000 }
+    ensures step { IfOk result (λ reply. IsStep M.rules (state_in core.old) event reply (state_in core.new)) }
+    ensures made { OnOk result ((run : Run) → StandsIn M.rules run (state_in core.old) → IsMadeOf M.rules run maker.old → IsMadeOf M.rules (plus run event) maker.new) }
+{
+    let step = match core.weigh_any(alloc, event) {
+        Ok(step) => step,
+        Err(Halt::NoMemory) => return Err(ReplayFault::NoMemory),
+        Err(Halt::JournalFull) => unreachable!(),
+    };
+    maker.ready(alloc, core, &step)?;
+    maker.note(core, &step);
+    Ok(core.take(step))
 }
 
 /// Whether an event is a call, a return, a sleep, a wake-up or an entry into the kernel.
