@@ -1,5 +1,5 @@
 //! Writing the report of a run.
-ghost use Rattle.std.specs.Prelude.{◌≡◌, ℕ, ◌+◌, ◌<◌, ◌∷◌, ◌++◌, [], List, codes, decimal, map, IfSome, IsTrue, IsFalse};
+ghost use Rattle.std.specs.Prelude.{◌≡◌, ℕ, ◌+◌, ◌<◌, ◌∷◌, ◌++◌, [], List, codes, decimal, length, map, IfSome, IsTrue, IsFalse};
 ghost use Rattle.std.specs.List.{flat_map};
 ghost use Rattle.lp_transition.specs.Events.{group_numbers};
 ghost use Rattle.lp_trace.specs.Words.{line_of};
@@ -240,7 +240,7 @@ fn put_legs<W: Write>(
 
 /// How a leg ended: by which word, and the number that follows it.
 fn end_words<'a>(buffer: &'a mut Buffer, leg: &LegEnd) -> (&'static [u8], &'a [u8])
-    ensures { result.0.now ∷ result.1.now ∷ [] ≡ end_words leg.now.completed leg.now.waiting }
+    ensures { result.0.now ∷ result.1.now ∷ [] ≡ end_words leg.now.completed (length leg.now.certs) }
 {
     match leg.completed {
         Some(event) => (b"complete", number(buffer, event)),
