@@ -24,7 +24,6 @@ pub mod Goes
 pub mod Making
 pub mod OfRows
 pub mod Starting
-pub mod Completions
 pub mod Recording
 pub mod Divided
 pub mod CertLines

@@ -8,7 +8,7 @@ use Rattle.std.proofs.Math.Seq.{drop-cons}
 use Rattle.lp_stack.specs.declared.number.GroupId.{GroupId}
 use Rattle.lp_transition.specs.Events.{group_numbers}
 use Rattle.lp_transition.specs.declared.reply.Reply.{Reply}
-use Rattle.lp_trace.specs.declared.leg_end.LegEnd.{LegEnd}
+use Rattle.lp_cert.specs.declared.leg_end.LegEnd.{LegEnd}
 use Rattle.lp_trace.specs.declared.form.TraceForm.{TraceForm}
 use Rattle.lp_trace.specs.declared.outcome.Outcome.{Outcome}
 use Rattle.lp_trace.specs.Words.{line_of}

@@ -6,7 +6,7 @@ use Rattle.lp_model.specs.Rules.{Rules}
 use Rattle.lp_transition.specs.declared.reply.Reply.{Reply}
 use Rattle.lp_transition.specs.Run.{first_leg, replies}
 use Rattle.lp_transition.specs.Stays.{mixed_count, stay_count}
-use Rattle.lp_trace.specs.declared.leg_end.LegEnd.{LegEnd}
+use Rattle.lp_cert.specs.declared.leg_end.LegEnd.{LegEnd}
 use Rattle.lp_trace.specs.declared.outcome.Outcome.{Outcome}
 use Rattle.lp_trace.specs.Outcome.{outcome, leg_ends, run_of}
 use Rattle.lp_trace.specs.Traces.{TraceValue}

@@ -1,14 +1,14 @@
 -- The report of a run, as a text.
-use Rattle.std.specs.Prelude.{ℕ, suc, true, false, Bool, List, [], ◌∷◌, ◌++◌, map, Option, Some, None, decimal, codes, nat_eq, if◌then◌else◌}
+use Rattle.std.specs.Prelude.{ℕ, suc, true, false, Bool, List, [], ◌∷◌, ◌++◌, length, map, Option, Some, None, decimal, codes, nat_eq, if◌then◌else◌}
 use Rattle.std.specs.List.{flat_map}
 use Rattle.lp_stack.specs.declared.number.Level.{Level}
 use Rattle.lp_transition.specs.declared.reply.What.{What}
 use Rattle.lp_transition.specs.declared.reply.What.TheVariants.{Ran, Done, Switched, Refused}
 use Rattle.lp_transition.specs.declared.reply.Reply.{Reply}
 use Rattle.lp_transition.specs.Events.{refusal_number}
+use Rattle.lp_cert.specs.declared.leg_end.LegEnd.{LegEnd}
 use Rattle.lp_trace.specs.declared.form.TraceForm.{TraceForm}
 use Rattle.lp_trace.specs.declared.form.TraceForm.TheVariants.{Single, Stacked}
-use Rattle.lp_trace.specs.declared.leg_end.LegEnd.{LegEnd}
 use Rattle.lp_trace.specs.declared.outcome.Outcome.{Outcome}
 use Rattle.lp_trace.specs.Words.{line_of}
 
@@ -58,7 +58,7 @@ end_words None waiting = codes "waiting" ∷ decimal waiting ∷ []
 
 abbrev pub leg_line : TraceForm → LegEnd → List (List ℕ)
 leg_line form leg =
-    codes "leg" ∷ decimal leg.opened ∷ target_words form leg.target ++ end_words leg.completed leg.waiting
+    codes "leg" ∷ decimal leg.opened ∷ target_words form leg.target ++ end_words leg.completed (length leg.certs)
 
 abbrev pub stays_line : Outcome → List (List ℕ)
 stays_line outcome = codes "stays" ∷ decimal outcome.stays ∷ codes "mixed" ∷ decimal outcome.mixed ∷ []

@@ -1,23 +1,8 @@
-//! How a leg ended.
+//! How the legs of a run ended.
 ghost use Rattle.std.specs.Prelude.{◌≡◌, ◌↔◌, [], length, IsTrue};
 
-use lp_stack::Level;
+use lp_cert::LegEnd;
 use std::marker::Model;
-
-/// How a leg ended: a transition, from the control event that opened it up to the next, or to the
-/// end of the run.
-#[derive(Clone, Copy, Debug, PartialEq, Eq)]
-pub struct LegEnd {
-    /// The number of the event that opened it.
-    pub opened: u64,
-    /// The level to which it took the tasks.
-    pub target: Level,
-    /// The number of the event from which on no task was off the target, if there was one; the
-    /// opening's where it was complete at once.
-    pub completed: Option<u64>,
-    /// How many groups waited at its end.
-    pub waiting: u64,
-}
 
 /// A list of ends of legs. Contracts see the list.
 #[derive(Drop)]
@@ -27,7 +12,7 @@ pub struct LegList {
 
 impl Model for LegList {
     ghost use Rattle.std.specs.Prelude.{List};
-    ghost use Rattle.lp_trace.specs.declared.leg_end.LegEnd.{LegEnd};
+    ghost use Rattle.lp_cert.specs.declared.leg_end.LegEnd.{LegEnd};
 
     ghost Value = { List LegEnd };
 

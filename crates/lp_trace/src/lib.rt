@@ -32,7 +32,7 @@ pub use check_input::CheckInput;
 pub use checks::check;
 pub use fault::{Cause, ReadFault, TraceFault};
 pub use form::TraceForm;
-pub use leg_end::{LegEnd, LegList};
+pub use leg_end::LegList;
 pub use of::OfFault;
 pub use outcome::Outcome;
 pub use replays::{ReplayFault, replay};

@@ -6,8 +6,6 @@ ghost use Rattle.lp_trace.specs.Outcome.{leg_ends, run_of};
 
 mod fault;
 mod leg;
-mod legs;
-mod open_leg;
 mod recorder;
 mod start;
 

@@ -1,5 +1,5 @@
 //! Writing the report of a run.
-ghost use Rattle.std.specs.Prelude.{◌≡◌, ℕ, ◌+◌, ◌<◌, ◌∷◌, ◌++◌, [], List, codes, decimal, map, IfSome, IsTrue, IsFalse};
+ghost use Rattle.std.specs.Prelude.{◌≡◌, ℕ, ◌+◌, ◌<◌, ◌∷◌, ◌++◌, [], List, codes, decimal, length, map, IfSome, IsTrue, IsFalse};
 ghost use Rattle.std.specs.List.{flat_map};
 ghost use Rattle.lp_transition.specs.Events.{group_numbers};
 ghost use Rattle.lp_trace.specs.Words.{line_of};
@@ -8,12 +8,12 @@ ghost use Rattle.lp_trace.specs.Replies.{replies_of, reply_of, what_of};
 ghost use Rattle.lp_trace.specs.Writing.{Puts, Writes, line_rest};
 
 use crate::form::TraceForm;
-use crate::leg_end::LegEnd;
 use crate::outcome::Outcome;
 use crate::page::Page;
 use crate::replies::{ReplyList, ShortReply, ShortWhat, groups_at};
 use crate::write::WriteFault;
 use itoa::Buffer;
+use lp_cert::LegEnd;
 use lp_stack::{GroupId, Level};
 use lp_transition::GroupList;
 use std::io::Write;
@@ -240,11 +240,11 @@ fn put_legs<W: Write>(
 
 /// How a leg ended: by which word, and the number that follows it.
 fn end_words<'a>(buffer: &'a mut Buffer, leg: &LegEnd) -> (&'static [u8], &'a [u8])
-    ensures { result.0.now ∷ result.1.now ∷ [] ≡ end_words leg.now.completed leg.now.waiting }
+    ensures { result.0.now ∷ result.1.now ∷ [] ≡ end_words leg.now.completed (length leg.now.certs) }
 {
     match leg.completed {
         Some(event) => (b"complete", number(buffer, event)),
-        None => (b"waiting", number(buffer, leg.waiting)),
+        None => (b"waiting", number(buffer, leg.certs.len() as u64)),
     }
 }
 

@@ -1,9 +1,10 @@
 //! Traces replayed: the replies, how each leg ended, and the stays.
+mod certs;
 mod legs;
 
 use super::*;
 use lp_models::{Hybrid, Immediate, LeaveKernel};
-use lp_trace::{LegEnd, Outcome, Trace, replay};
+use lp_trace::{Outcome, Trace, replay};
 
 /// What comes of a trace of the functions `a`, `b` and `c` with a patch of `a`, and of these boot
 /// and event lines.
@@ -30,23 +31,46 @@ fn said(alloc: Global, outcome: &Outcome) -> Result<Vec<Said>, Fail> {
     Ok(said)
 }
 
-/// A leg that was complete from an event on, so that nobody waited at its end.
-fn complete(opened: u64, target: u8, completed: u64) -> LegEnd {
-    LegEnd {
+/// What there is to see of how a leg ended, with the number of its certificates.
+#[derive(Clone, Copy, Debug, PartialEq, Eq)]
+struct Ended {
+    opened: u64,
+    target: Level,
+    completed: Option<u64>,
+    certs: usize,
+}
+
+/// How the legs ended.
+fn ends(alloc: Global, outcome: &Outcome) -> Result<Vec<Ended>, Fail> {
+    let mut ends = Vec::new(alloc);
+    for leg in outcome.legs.as_slice() {
+        ends.push(Ended {
+            opened: leg.opened,
+            target: leg.target,
+            completed: leg.completed,
+            certs: leg.certs.len(),
+        })?;
+    }
+    Ok(ends)
+}
+
+/// A leg that was complete from an event on. If that was after its opening, it has one certificate.
+fn complete(opened: u64, target: u8, completed: u64) -> Ended {
+    Ended {
         opened,
         target: Level(target),
         completed: Some(completed),
-        waiting: 0,
+        certs: if completed > opened { 1 } else { 0 },
     }
 }
 
-/// A leg that ended while so many groups waited.
-fn waiting(opened: u64, target: u8, waiting: u64) -> LegEnd {
-    LegEnd {
+/// A leg that ended while so many groups waited, each of which has a certificate.
+fn waiting(opened: u64, target: u8, certs: usize) -> Ended {
+    Ended {
         opened,
         target: Level(target),
         completed: None,
-        waiting,
+        certs,
     }
 }
 
@@ -65,7 +89,10 @@ fn a_task_goes_over_as_it_leaves_the_kernel(rt: HostRuntime) -> Result<(), Fail>
         Said::Ran(1),
     ];
     assert_eq!(rt; said(alloc, &found)?.as_slice(), replies.as_slice());
-    assert_eq!(rt; found.legs.as_slice(), [complete(3, 1, 5)].as_slice());
+    assert_eq!(rt;
+        ends(alloc, &found)?.as_slice(),
+        [complete(3, 1, 5)].as_slice()
+    );
     assert_eq!(rt; (found.stays, found.mixed), (2, 0));
     Ok(())
 }
@@ -86,7 +113,10 @@ fn a_patched_function_on_the_stack_is_waited_for(rt: HostRuntime) -> Result<(), 
         Said::OverLast(1),
     ];
     assert_eq!(rt; said(alloc, &found)?.as_slice(), replies.as_slice());
-    assert_eq!(rt; found.legs.as_slice(), [complete(4, 1, 8)].as_slice());
+    assert_eq!(rt;
+        ends(alloc, &found)?.as_slice(),
+        [complete(4, 1, 8)].as_slice()
+    );
     assert_eq!(rt; (found.stays, found.mixed), (1, 0));
     let found = replayed(alloc, LeaveKernel, "boot 1 normal\n", events)?;
     let replies = [
@@ -100,7 +130,10 @@ fn a_patched_function_on_the_stack_is_waited_for(rt: HostRuntime) -> Result<(), 
         Said::OverLast(1),
     ];
     assert_eq!(rt; said(alloc, &found)?.as_slice(), replies.as_slice());
-    assert_eq!(rt; found.legs.as_slice(), [complete(4, 1, 8)].as_slice());
+    assert_eq!(rt;
+        ends(alloc, &found)?.as_slice(),
+        [complete(4, 1, 8)].as_slice()
+    );
     assert_eq!(rt; (found.stays, found.mixed), (1, 0));
     Ok(())
 }
@@ -118,12 +151,18 @@ fn a_walk_takes_a_sleeper_over_or_not(rt: HostRuntime) -> Result<(), Fail> {
         Said::OverLast(1),
     ];
     assert_eq!(rt; said(alloc, &found)?.as_slice(), replies.as_slice());
-    assert_eq!(rt; found.legs.as_slice(), [complete(4, 1, 5)].as_slice());
+    assert_eq!(rt;
+        ends(alloc, &found)?.as_slice(),
+        [complete(4, 1, 5)].as_slice()
+    );
     assert_eq!(rt; (found.stays, found.mixed), (0, 0));
     let found = replayed(alloc, LeaveKernel, "boot 1 normal\n", events)?;
     let replies = [Said::Done, Said::Ran(0), Said::Done, Said::Done, Said::Done];
     assert_eq!(rt; said(alloc, &found)?.as_slice(), replies.as_slice());
-    assert_eq!(rt; found.legs.as_slice(), [waiting(4, 1, 1)].as_slice());
+    assert_eq!(rt;
+        ends(alloc, &found)?.as_slice(),
+        [waiting(4, 1, 1)].as_slice()
+    );
     assert_eq!(rt; (found.stays, found.mixed), (0, 0));
     Ok(())
 }
@@ -142,7 +181,10 @@ fn a_child_is_born_on_the_level_of_its_parent(rt: HostRuntime) -> Result<(), Fai
         Said::Ran(1),
     ];
     assert_eq!(rt; said(alloc, &found)?.as_slice(), replies.as_slice());
-    assert_eq!(rt; found.legs.as_slice(), [waiting(1, 1, 1)].as_slice());
+    assert_eq!(rt;
+        ends(alloc, &found)?.as_slice(),
+        [waiting(1, 1, 1)].as_slice()
+    );
     assert_eq!(rt; (found.stays, found.mixed), (1, 0));
     let events = "enter 1\nenable\nwalk\nfork 1 2 own\nexit 1\ncall 2 a\nsleep 2\nwalk\n";
     let found = replayed(alloc, Hybrid, "boot 1 normal\n", events)?;
@@ -157,7 +199,10 @@ fn a_child_is_born_on_the_level_of_its_parent(rt: HostRuntime) -> Result<(), Fai
         Said::Done,
     ];
     assert_eq!(rt; said(alloc, &found)?.as_slice(), replies.as_slice());
-    assert_eq!(rt; found.legs.as_slice(), [waiting(2, 1, 1)].as_slice());
+    assert_eq!(rt;
+        ends(alloc, &found)?.as_slice(),
+        [waiting(2, 1, 1)].as_slice()
+    );
     assert_eq!(rt; (found.stays, found.mixed), (1, 0));
     Ok(())
 }
@@ -169,13 +214,19 @@ fn an_idle_task_goes_over_at_its_point(rt: HostRuntime) -> Result<(), Fail> {
     let found = replayed(alloc, Hybrid, "boot 9 idle\n", events)?;
     let replies = [Said::Done, Said::OverLast(9)];
     assert_eq!(rt; said(alloc, &found)?.as_slice(), replies.as_slice());
-    assert_eq!(rt; found.legs.as_slice(), [complete(1, 1, 2)].as_slice());
+    assert_eq!(rt;
+        ends(alloc, &found)?.as_slice(),
+        [complete(1, 1, 2)].as_slice()
+    );
     assert_eq!(rt; (found.stays, found.mixed), (0, 0));
     let events = "enable\ncall 9 a\nidle 9\n";
     let found = replayed(alloc, Hybrid, "boot 9 idle\n", events)?;
     let replies = [Said::Done, Said::Ran(0), Said::Refused(9)];
     assert_eq!(rt; said(alloc, &found)?.as_slice(), replies.as_slice());
-    assert_eq!(rt; found.legs.as_slice(), [waiting(1, 1, 1)].as_slice());
+    assert_eq!(rt;
+        ends(alloc, &found)?.as_slice(),
+        [waiting(1, 1, 1)].as_slice()
+    );
     assert_eq!(rt; (found.stays, found.mixed), (1, 0));
     Ok(())
 }
@@ -193,7 +244,10 @@ fn a_call_after_a_walk_is_mixed_under_immediate(rt: HostRuntime) -> Result<(), F
         Said::Ran(1),
     ];
     assert_eq!(rt; said(alloc, &found)?.as_slice(), replies.as_slice());
-    assert_eq!(rt; found.legs.as_slice(), [complete(3, 1, 4)].as_slice());
+    assert_eq!(rt;
+        ends(alloc, &found)?.as_slice(),
+        [complete(3, 1, 4)].as_slice()
+    );
     assert_eq!(rt; (found.stays, found.mixed), (1, 1));
     Ok(())
 }
@@ -213,7 +267,10 @@ fn a_task_on_a_cpu_is_passed_over_by_walks(rt: HostRuntime) -> Result<(), Fail> 
         Said::OverLast(1),
     ];
     assert_eq!(rt; said(alloc, &found)?.as_slice(), replies.as_slice());
-    assert_eq!(rt; found.legs.as_slice(), [complete(3, 1, 7)].as_slice());
+    assert_eq!(rt;
+        ends(alloc, &found)?.as_slice(),
+        [complete(3, 1, 7)].as_slice()
+    );
     assert_eq!(rt; (found.stays, found.mixed), (0, 0));
     Ok(())
 }

@@ -1,19 +1,19 @@
 //! What a run comes to, event by event.
-ghost use Rattle.std.specs.Prelude.{◌≡◌, ◌<◌, [], true, None, IfOk, OnOk};
-ghost use Rattle.lp_transition.specs.Run.{Run, leg_of, opens, plus};
+ghost use Rattle.std.specs.Prelude.{◌≡◌, ◌<◌, [], None, IfOk, OnOk};
+ghost use Rattle.lp_transition.specs.Run.{Run, leg_of, plus};
 ghost use Rattle.lp_stack.specs.declared.number.TaskId.{TaskId};
 ghost use Rattle.lp_stays.specs.Counts.{top_of};
 ghost use Rattle.lp_transition.specs.Stays.{stack};
 ghost use Rattle.lp_transition.specs.Steps.{IsStep, StandsIn};
 ghost use Rattle.lp_transition.specs.Table.{state_in};
-ghost use Rattle.lp_trace.specs.Outcome.{waiting_count};
-ghost use Rattle.lp_trace.specs.Replay.{IsRecorded, IsOutcome, is_opened, legs_after};
+ghost use Rattle.lp_cert.specs.Ends.{IsMadeOf, is_plain};
+ghost use Rattle.lp_trace.specs.Replay.{IsRecorded, IsOutcome, is_opened};
 
 use super::fault::ReplayFault;
-use super::legs::Legs;
-use super::open_leg::OpenLeg;
+use crate::leg_end::LegList;
 use crate::outcome::Outcome;
 use crate::replies::ReplyList;
+use lp_cert::Maker;
 use lp_model::Consistency;
 use lp_stays::StayCount;
 use lp_symbols::SymId;
@@ -25,8 +25,8 @@ use std::marker::Model;
 #[derive(Drop)]
 pub(super) struct Recorder<M: Consistency> {
     core: Core<M>,
+    maker: Maker,
     replies: ReplyList,
-    legs: Legs,
     stays: StayCount,
 }
 
@@ -35,7 +35,7 @@ impl<M: Consistency> Model for Recorder<M> {
 
     ghost Value = { Recorded };
 
-    ghost view = { λ r. record { core = r.core; replies = r.replies; legs = r.legs; stays = r.stays } };
+    ghost view = { λ r. record { core = r.core; made = r.maker; replies = r.replies; stays = r.stays } };
 }
 
 impl<M: Consistency> Recorder<M> {
@@ -46,12 +46,12 @@ impl<M: Consistency> Recorder<M> {
         stays: StayCount,
         events: usize,
     ) -> Result<Recorder<M>, ReplayFault>
-        ensures { IfOk result (λ recorder. recorder ≡ record { core = core; replies = []; legs = record { ended = []; present = None }; stays = stays }) }
+        ensures { IfOk result (λ recorder. recorder ≡ record { core = core; made = record { ended = []; current = None; ready = None }; replies = []; stays = stays }) }
     {
         Ok(Recorder {
             core,
+            maker: Maker::new(alloc)?,
             replies: ReplyList::with_capacity(alloc, events)?,
-            legs: Legs::new(alloc),
             stays,
         })
     }
@@ -64,35 +64,9 @@ impl<M: Consistency> Recorder<M> {
         ensures { OnOk result ((run : Run) → IsRecorded M.rules run self.old → IsRecorded M.rules (plus run event) self.new) }
     {
         let top = last_function(&self.core, event);
-        let waiting = waiting_before(alloc, &self.core, event)?;
-        match self.core.step(alloc, event) {
-            Ok(reply) => {
-                self.stays.note(event, &reply, top);
-                self.note_legs(event, &reply, waiting)?;
-                self.replies.push(reply)?;
-                Ok(())
-            }
-            Err(Halt::NoMemory) => Err(ReplayFault::NoMemory),
-            Err(Halt::JournalFull) => unreachable!(),
-        }
-    }
-
-    /// Notes what the event that came last did to the legs.
-    #[inline(always)]
-    fn note_legs(&mut self, event: Event, reply: &Reply, waiting: u64) -> Result<(), ReplayFault>
-        ensures { OnOk result (self.new ≡ record self.old { legs = legs_after event reply.now waiting self.old.core self.old.legs }) }
-    {
-        let number = self.core.events();
-        if opens(event, &reply.what) {
-            let leg = OpenLeg {
-                opened: number,
-                target: self.core.target(),
-                completed: reply.completed.then_some(number),
-            };
-            self.legs.turn(waiting, leg)?;
-        } else if reply.completed {
-            self.legs.complete(number);
-        }
+        let reply = take(alloc, &mut self.core, &mut self.maker, event)?;
+        self.stays.note(event, &reply, top);
+        self.replies.push(reply)?;
         Ok(())
     }
 
@@ -101,15 +75,14 @@ impl<M: Consistency> Recorder<M> {
         ensures { IfOk result (λ found. (run : Run) → IsRecorded M.rules run self → IsOutcome M.rules run found) }
     {
         let Self {
-            core,
+            core: _,
+            maker,
             replies,
-            legs,
             stays,
         } = self;
-        let waiting = waiting(alloc, &core)?;
         Ok(Outcome {
             replies,
-            legs: legs.finish(waiting)?,
+            legs: LegList::from_vec(maker.into_ends(alloc)?),
             stays: stays.stays(),
             mixed: stays.mixed(),
         })
@@ -124,6 +97,62 @@ pub(super) fn opens(event: Event, what: &What) -> bool
     event.is_control() && !matches!(what, What::Refused(_))
 }
 
+/// Takes an event, which the maker of certificates notes before the engine takes it.
+#[inline(always)]
+fn take<M: Consistency>(
+    alloc: Global,
+    core: &mut Core<M>,
+    maker: &mut Maker,
+    event: Event,
+) -> Result<Reply, ReplayFault>
+    requires { core.old.number < 1000000 }
+    ensures step { IfOk result (λ reply. IsStep M.rules (state_in core.old) event reply (state_in core.new)) }
+    ensures made { OnOk result ((run : Run) → StandsIn M.rules run (state_in core.old) → IsMadeOf M.rules run maker.old → IsMadeOf M.rules (plus run event) maker.new) }
+{
+    if !is_plain(event) {
+        return take_weighed(alloc, core, maker, event);
+    }
+    maker.pass(core, event);
+    match core.step(alloc, event) {
+        Ok(reply) => Ok(reply),
+        Err(Halt::NoMemory) => Err(ReplayFault::NoMemory),
+        Err(Halt::JournalFull) => unreachable!(),
+    }
+}
+
+/// Takes an event of any kind: it is weighed, and noted as it was weighed.
+#[inline(never)]
+fn take_weighed<M: Consistency>(
+    alloc: Global,
+    core: &mut Core<M>,
+    maker: &mut Maker,
+    event: Event,
+) -> Result<Reply, ReplayFault>
+    requires { core.old.number < 1000000 }
+    ensures step { IfOk result (λ reply. IsStep M.rules (state_in core.old) event reply (state_in core.new)) }
+    ensures made { OnOk result ((run : Run) → StandsIn M.rules run (state_in core.old) → IsMadeOf M.rules run maker.old → IsMadeOf M.rules (plus run event) maker.new) }
+{
+    let step = match core.weigh_any(alloc, event) {
+        Ok(step) => step,
+        Err(Halt::NoMemory) => return Err(ReplayFault::NoMemory),
+        Err(Halt::JournalFull) => unreachable!(),
+    };
+    maker.ready(alloc, core, &step)?;
+    maker.note(core, &step);
+    Ok(core.take(step))
+}
+
+/// Whether an event is a call, a return, a sleep, a wake-up or an entry into the kernel.
+#[inline(always)]
+fn is_plain(event: Event) -> bool
+    ensures { result ≡ is_plain event }
+{
+    matches!(
+        event,
+        Event::Call(..) | Event::Ret(_) | Event::Sleep(_) | Event::Wake(_) | Event::Enter(_)
+    )
+}
+
 /// The function of the last frame of the task that returns at an event; None at any other event.
 #[inline(always)]
 fn last_function<M: Consistency>(core: &Core<M>, event: Event) -> Option<SymId>
@@ -135,30 +164,4 @@ fn last_function<M: Consistency>(core: &Core<M>, event: Event) -> Option<SymId>
     let view = core.task(task)?;
     let frame = view.frames.last()?;
     Some(frame.func)
-}
-
-/// How many groups wait.
-#[inline(never)]
-fn waiting<M: Consistency>(alloc: Global, core: &Core<M>) -> Result<u64, ReplayFault>
-    ensures { IfOk result (λ count. (run : Run) → StandsIn M.rules run (state_in core.now) → count ≡ waiting_count M.rules (leg_of M.rules run)) }
-{
-    if !core.in_transition() {
-        return Ok(0);
-    }
-    Ok(core.waiting(alloc)?.len() as u64)
-}
-
-/// How many groups wait before an event, if it ends the leg under way. Only a reversal finds
-/// groups that wait.
-fn waiting_before<M: Consistency>(
-    alloc: Global,
-    core: &Core<M>,
-    event: Event,
-) -> Result<u64, ReplayFault>
-    ensures { IfOk result (λ count. (run : Run) → StandsIn M.rules run (state_in core.now) → opens M.rules (leg_of M.rules run) event ≡ true → count ≡ waiting_count M.rules (leg_of M.rules run)) }
-{
-    match event {
-        Event::Reverse => waiting(alloc, core),
-        _ => Ok(0),
-    }
 }

@@ -17,7 +17,10 @@ fn all_go_over_at_one_stop(rt: HostRuntime) -> Result<(), Fail> {
         Said::OverLast(0),
     ];
     assert_eq!(rt; said(alloc, &found)?.as_slice(), replies.as_slice());
-    assert_eq!(rt; found.legs.as_slice(), [complete(3, 1, 6)].as_slice());
+    assert_eq!(rt;
+        ends(alloc, &found)?.as_slice(),
+        [complete(3, 1, 6)].as_slice()
+    );
     assert_eq!(rt; (found.stays, found.mixed), (1, 0));
     let events = "enable\nenter 1\nfork 1 3 own\ncall 3 a\nstop\nret 3\nexit 3\nstop\n";
     let found = replayed(alloc, AllAtOnce, "boot 1 normal\nboot 2 normal\n", events)?;
@@ -32,7 +35,10 @@ fn all_go_over_at_one_stop(rt: HostRuntime) -> Result<(), Fail> {
         Said::OverLast(0),
     ];
     assert_eq!(rt; said(alloc, &found)?.as_slice(), replies.as_slice());
-    assert_eq!(rt; found.legs.as_slice(), [complete(1, 1, 8)].as_slice());
+    assert_eq!(rt;
+        ends(alloc, &found)?.as_slice(),
+        [complete(1, 1, 8)].as_slice()
+    );
     assert_eq!(rt; (found.stays, found.mixed), (1, 0));
     Ok(())
 }
@@ -45,7 +51,7 @@ fn a_reversal_ends_a_leg_that_waits(rt: HostRuntime) -> Result<(), Fail> {
     let replies = [Said::Done, Said::Complete];
     assert_eq!(rt; said(alloc, &found)?.as_slice(), replies.as_slice());
     assert_eq!(rt;
-        found.legs.as_slice(),
+        ends(alloc, &found)?.as_slice(),
         [waiting(1, 1, 1), complete(2, 0, 2)].as_slice()
     );
     assert_eq!(rt; (found.stays, found.mixed), (0, 0));
@@ -63,7 +69,7 @@ fn a_reversal_ends_a_leg_that_waits(rt: HostRuntime) -> Result<(), Fail> {
     ];
     assert_eq!(rt; said(alloc, &found)?.as_slice(), replies.as_slice());
     assert_eq!(rt;
-        found.legs.as_slice(),
+        ends(alloc, &found)?.as_slice(),
         [waiting(1, 1, 1), waiting(7, 0, 1)].as_slice()
     );
     assert_eq!(rt; (found.stays, found.mixed), (1, 0));
@@ -83,7 +89,10 @@ fn a_death_completes_a_leg(rt: HostRuntime) -> Result<(), Fail> {
         Said::Complete,
     ];
     assert_eq!(rt; said(alloc, &found)?.as_slice(), replies.as_slice());
-    assert_eq!(rt; found.legs.as_slice(), [complete(3, 1, 5)].as_slice());
+    assert_eq!(rt;
+        ends(alloc, &found)?.as_slice(),
+        [complete(3, 1, 5)].as_slice()
+    );
     assert_eq!(rt; (found.stays, found.mixed), (1, 0));
     Ok(())
 }
@@ -101,7 +110,10 @@ fn refused_control_events_open_no_leg(rt: HostRuntime) -> Result<(), Fail> {
         Said::Done,
     ];
     assert_eq!(rt; said(alloc, &found)?.as_slice(), replies.as_slice());
-    assert_eq!(rt; found.legs.as_slice(), [waiting(3, 1, 1)].as_slice());
+    assert_eq!(rt;
+        ends(alloc, &found)?.as_slice(),
+        [waiting(3, 1, 1)].as_slice()
+    );
     assert_eq!(rt; (found.stays, found.mixed), (0, 0));
     Ok(())
 }
@@ -120,7 +132,10 @@ fn a_sleeper_in_the_patch_waits_on(rt: HostRuntime) -> Result<(), Fail> {
         Said::Done,
     ];
     assert_eq!(rt; said(alloc, &found)?.as_slice(), replies.as_slice());
-    assert_eq!(rt; found.legs.as_slice(), [waiting(4, 1, 1)].as_slice());
+    assert_eq!(rt;
+        ends(alloc, &found)?.as_slice(),
+        [waiting(4, 1, 1)].as_slice()
+    );
     assert_eq!(rt; (found.stays, found.mixed), (1, 0));
     Ok(())
 }
@@ -132,7 +147,10 @@ fn a_leg_of_no_task_is_complete_at_once(rt: HostRuntime) -> Result<(), Fail> {
     let found = replayed(alloc, Hybrid, "", events)?;
     let replies = [Said::Complete];
     assert_eq!(rt; said(alloc, &found)?.as_slice(), replies.as_slice());
-    assert_eq!(rt; found.legs.as_slice(), [complete(1, 1, 1)].as_slice());
+    assert_eq!(rt;
+        ends(alloc, &found)?.as_slice(),
+        [complete(1, 1, 1)].as_slice()
+    );
     assert_eq!(rt; (found.stays, found.mixed), (0, 0));
     Ok(())
 }
@@ -155,7 +173,10 @@ fn threads_go_over_together(rt: HostRuntime) -> Result<(), Fail> {
         Said::Done,
     ];
     assert_eq!(rt; said(alloc, &found)?.as_slice(), replies.as_slice());
-    assert_eq!(rt; found.legs.as_slice(), [waiting(6, 1, 1)].as_slice());
+    assert_eq!(rt;
+        ends(alloc, &found)?.as_slice(),
+        [waiting(6, 1, 1)].as_slice()
+    );
     assert_eq!(rt; (found.stays, found.mixed), (1, 0));
     let events = "enter 1\nfork 1 2 share\nexit 1\nenable\ncall 2 a\nwalk\nret 2\nexit 2\nwalk\n";
     let found = replayed(alloc, ProcessGroup, "boot 1 normal\n", events)?;
@@ -171,7 +192,10 @@ fn threads_go_over_together(rt: HostRuntime) -> Result<(), Fail> {
         Said::OverLast(1),
     ];
     assert_eq!(rt; said(alloc, &found)?.as_slice(), replies.as_slice());
-    assert_eq!(rt; found.legs.as_slice(), [complete(4, 1, 9)].as_slice());
+    assert_eq!(rt;
+        ends(alloc, &found)?.as_slice(),
+        [complete(4, 1, 9)].as_slice()
+    );
     assert_eq!(rt; (found.stays, found.mixed), (1, 0));
     Ok(())
 }
@@ -198,7 +222,7 @@ fn stacked_patches_come_and_go_in_turn(rt: HostRuntime) -> Result<(), Fail> {
     ];
     assert_eq!(rt; said(alloc, &found)?.as_slice(), replies.as_slice());
     assert_eq!(rt;
-        found.legs.as_slice(),
+        ends(alloc, &found)?.as_slice(),
         [
             complete(1, 1, 3),
             complete(7, 2, 8),
