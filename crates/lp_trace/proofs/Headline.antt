@@ -1,15 +1,16 @@
 -- The headline holds of what is answered as the definitions say.
 use Rattle.std.proofs.Common.{◌≡◌, ◌+◌, ◌<◌, ◌≤◌, ℕ, zero, suc, Bool, true, false, List, [], ◌∷◌, map, filter, length, take, All, Contains, Option, Some, None, IsTrue, nat_eq, refl, sym, ap, ◌∙◌, subst, ⊎_elim, arith}
-use Rattle.std.specs.List.{AllZip, find, range_with_len}
+use Rattle.std.specs.List.{AllByRecursion, AllZip, find, range_with_len}
 use Rattle.std.specs.Option.{option_map}
 use Rattle.std.proofs.lemmas.Bool.{cases_Bool, cases_eq, cases_lt, cond-true, cond-false, eqb-false}
-use Rattle.std.proofs.lemmas.List.Elements.{All-head, All-tail}
+use Rattle.std.proofs.lemmas.List.Elements.{All-from_recursion, All-head, All-tail}
+use Rattle.lp_stack.specs.declared.number.TaskId.{TaskId}
+use Rattle.lp_stack.specs.declared.view.Class.{Class}
 use Rattle.lp_model.specs.Rules.{Rules, IsLawful}
 use Rattle.lp_transition.specs.declared.reply.Reply.{Reply}
 use Rattle.lp_transition.specs.Leg.{Leg, after}
 use Rattle.lp_transition.specs.Schedule.{Schedule, level, waits, complete, first_check, IsLegal, IsFirstCheck, CompletesAt}
 use Rattle.lp_transition.specs.Run.{Run, AreInRange, first_leg, replies}
-use Rattle.lp_transition.specs.Stays.{mixed_count}
 use Rattle.lp_transition.proofs.Chains.{refused_so_far}
 use Rattle.lp_transition.proofs.First.{first_check_is}
 use Rattle.lp_transition.proofs.LawProofs.{mixes_no_stay}
@@ -23,7 +24,13 @@ use Rattle.lp_cert.specs.Ends.{end_of}
 use Rattle.lp_cert.specs.Made.{cert, certs_by, completion, opened_legs, waiting_groups}
 use Rattle.lp_cert.proofs.Completions.{completion_below}
 use Rattle.lp_checker.proofs.MadeOfRuns.{accepts_what_is_made}
-use Rattle.lp_trace.specs.Headline.{Answered, HeadlineHolds, NoneIsEarlier, AreCertified, HeadlineOfLeg, Headline}
+use Rattle.lp_trace.specs.declared.outcome.Outcome.{Outcome}
+use Rattle.lp_trace.specs.Outcome.{outcome}
+use Rattle.lp_trace.specs.Input.{ReadsAll}
+use Rattle.lp_trace.specs.Replay.{IsOutcome}
+use Rattle.lp_trace.specs.Runs.{ReadsTrace}
+use Rattle.lp_trace.specs.Traces.{TraceValue, IsTask, IsTrace, text_of}
+use Rattle.lp_trace.specs.Headline.{HeadlineHolds, NoneIsEarlier, AreCertified, HeadlineOfLeg, Headline, whole_run}
 use Rattle.lp_trace.proofs.GroupsInRange.{group_in_range}
 use Rattle.lp_trace.proofs.LegByLeg.{IsLeg, legs_of}
 
@@ -188,23 +195,37 @@ ends_zip : {A B : Type 0} (P : A → Type 0) (R : A → B → Type 0) (f : A →
 ends_zip P R f h [] ok = tt
 ends_zip P R f h (x ∷ xs) ok = (h x (All-head P x xs ok), ends_zip P R f h xs (All-tail P x xs ok))
 
-module _ (model : Rules) (lawful : IsLawful model) (run : Run) (in_range : AreInRange run.bounds run.boots) (few : length run.events ≤ 1000000) where
-  abbrev start : Leg
-  start = first_leg model run
-
+module _ (model : Rules) (lawful : IsLawful model) where
   -- what is answered as the definitions say is as the headline says
-  pub headline : (answer : Answered) → answer.replies ≡ replies model start run.events → answer.legs ≡ map (end_of model) (opened_legs model start run.events) → answer.mixed ≡ mixed_count model start run.events → Headline model run answer
-  headline answer replied ended mixed =
-      let legs = opened_legs model start run.events in
-      let told = replies model start run.events in
+  headline : (run : Run) → AreInRange run.bounds run.boots → length run.events ≤ 1000000 → (found : Outcome) → IsOutcome model run found → Headline model run found
+  headline run in_range few found is =
+      let legs = opened_legs model (first_leg model run) run.events in
+      let told = replies model (first_leg model run) run.events in
       record {
         legs =
-            subst (λ rs. AllZip (HeadlineOfLeg model rs) legs answer.legs) (sym replied)
-            (subst (AllZip (HeadlineOfLeg model told) legs) (sym ended)
+            subst (λ rs. AllZip (HeadlineOfLeg model rs) legs found.legs) (sym is.replied)
+            (subst (AllZip (HeadlineOfLeg model told) legs) (sym is.legs)
             (ends_zip (IsLeg model lawful told) (HeadlineOfLeg model told) (end_of model) (headline_of_leg model lawful told) legs (legs_of model lawful run in_range few)));
-        one_version = λ whole. (λ patch t. (mixes_no_stay model lawful).none_mixed whole run in_range patch t, mixed ∙ (mixes_no_stay model lawful).count_is_0 whole run in_range);
+        one_version = λ whole. (λ patch t. (mixes_no_stay model lawful).none_mixed whole run in_range patch t, is.mixed ∙ (mixes_no_stay model lawful).count_is_0 whole run in_range);
       }
 
-pub headline_holds : (model : Rules) → IsLawful model → HeadlineHolds model
-headline_holds model lawful =
-    record { holds = λ run in_range few found replied ended mixed. headline model lawful run in_range few found replied ended mixed }
+  pub headline_holds : HeadlineHolds model
+  headline_holds = record { holds = headline }
+
+  -- ---- The run of a trace
+
+  boots_in_range : (boots : List (TaskId × Class)) → AllByRecursion (λ (boot : TaskId × Class). IsTask boot.0) boots → AllByRecursion (λ (boot : TaskId × Class). (0 < boot.0.0) × (boot.0.0 ≤ 65535)) boots
+  boots_in_range [] tasks = tt
+  boots_in_range (boot ∷ boots) tasks = ((omega (arith, tasks.0.0), omega (arith, tasks.0.1)), boots_in_range boots tasks.1)
+
+  pub headline_of_trace : (trace : TraceValue) → IsTrace trace → (found : Outcome) → IsOutcome model (whole_run trace) found → Headline model (whole_run trace) found
+  headline_of_trace trace is found answered =
+      headline (whole_run trace) (All-from_recursion (λ (boot : TaskId × Class). (0 < boot.0.0) × (boot.0.0 ≤ 65535)) trace.boots (boots_in_range trace.boots is.boots)) is.events_few found answered
+
+  outcome_is : (trace : TraceValue) → IsOutcome model (whole_run trace) (outcome model trace)
+  unfolding outcome
+  outcome_is trace = record { replied = refl; legs = refl; stays = refl; mixed = refl }
+
+  -- what was read is a trace, and the headline holds of its outcome
+  pub headline_of_text : (old new : Option (List ℕ)) (trace : TraceValue) → IsTrace trace → ReadsAll old new (text_of trace) → ReadsTrace old new (λ read. Headline model (whole_run read) (outcome model read))
+  headline_of_text old new trace is reads = (trace, is, reads, headline_of_trace trace is (outcome model trace) (outcome_is trace))

@@ -11,19 +11,16 @@ use Rattle.lp_transition.specs.declared.reply.Reply.{Reply}
 use Rattle.lp_transition.specs.Leg.{Leg}
 use Rattle.lp_transition.specs.Schedule.{Schedule, waits, complete, IsLegal, IsFirstCheck, CompletesAt}
 use Rattle.lp_transition.specs.Chain.{IsRefusedBetween}
-use Rattle.lp_transition.specs.Run.{Run, AreInRange, first_leg, movers, replies}
-use Rattle.lp_transition.specs.Stays.{moments, stays, is_mixed, mixed_count}
+use Rattle.lp_transition.specs.Run.{Run, AreInRange, first_leg, movers}
+use Rattle.lp_transition.specs.Stays.{moments, stays, is_mixed}
 use Rattle.lp_cert.specs.declared.cert.Claim.TheVariants.{Waiting, Floor}
 use Rattle.lp_cert.specs.declared.leg_end.LegEnd.{LegEnd}
-use Rattle.lp_cert.specs.Ends.{end_of}
 use Rattle.lp_cert.specs.Made.{cert, opened_legs}
 use Rattle.lp_checker.specs.Verdict.{verdict_on}
-
--- what was answered of a run: a reply to each event, the end of each leg, and how many stays are mixed
-pub record Answered : Type 0 where
-  pub replies : List Reply
-  pub legs : List LegEnd
-  pub mixed : ℕ
+use Rattle.lp_trace.specs.declared.outcome.Outcome.{Outcome}
+use Rattle.lp_trace.specs.Outcome.{run_of}
+use Rattle.lp_trace.specs.Replay.{IsOutcome}
+use Rattle.lp_trace.specs.Traces.{TraceValue}
 
 -- the groups that went over, as a reply names them
 abbrev pub gone_over : What → List ℕ
@@ -34,16 +31,17 @@ gone_over _ = []
 abbrev pub replies_in : Leg → List Reply → List Reply
 replies_in leg replies = take (suc (length leg.events)) (drop (pred leg.number) replies)
 
--- ---- One leg, by its first-check schedule. Its events are counted from 1, and 0 is its opening
+-- ---- One leg, with its first-check schedule. Its events are counted from 1, and 0 is its opening
 
 module _ (model : Rules) (leg : Leg) (first : Schedule) where
-  -- every group went over at its first check that the model allows
+  -- every group went over at its first check that the model allows: the replies name those whose moment it is
   abbrev pub GoOverAtFirstChecks : List Reply → Type 0
   GoOverAtFirstChecks replies =
       map (λ reply. gone_over reply.what) (replies_in leg replies)
       ≡ map (movers leg first) (range_with_len 0 (suc (length leg.events)))
 
-  -- no legal schedule moves any group, or completes the leg, earlier
+  -- no legal schedule moves any group, or completes the leg, earlier: who waits waits under each of them, and where one of
+  -- them has completed the leg, the answer says that it was complete by then
   pub record NoneIsEarlier (end : LegEnd) : Type 0 where
     pub moves :
         (other : Schedule) → IsLegal model leg other →
@@ -52,7 +50,7 @@ module _ (model : Rules) (leg : Leg) (first : Schedule) where
         (other : Schedule) → IsLegal model leg other →
         (k : ℕ) → k ≤ length leg.events → IsTrue (complete model leg other k) →
         (j : ℕ) × (j ≤ k) × (end.completed ≡ Some (leg.number + j))
-    -- and where the answer says that the leg completed, it did
+    -- it did complete where the answer says so
     pub completed :
         (at : ℕ) → end.completed ≡ Some at → (k : ℕ) × (at ≡ leg.number + k) × CompletesAt model leg first k
 
@@ -71,8 +69,13 @@ module _ (model : Rules) (leg : Leg) (first : Schedule) where
 
 -- ---- The run
 
+-- the whole run that a trace tells
+abbrev pub whole_run : TraceValue → Run
+whole_run trace = record (run_of trace) { events = trace.events }
+
 -- a leg, and the end that was answered for it
 pub record HeadlineOfLeg (model : Rules) (replies : List Reply) (leg : Leg) (end : LegEnd) : Type 0 where
+  -- a leg has exactly one
   pub first : Schedule
   pub is_first : IsFirstCheck model leg first
   pub first_checks : GoOverAtFirstChecks model leg first replies
@@ -85,7 +88,7 @@ StaysRunOneVersion model run =
     (patch t : ℕ) → All (λ stay. IsFalse (is_mixed stay)) (stays (moments model patch t (first_leg model run) run.events))
 
 -- a run, and what was answered for it
-pub record Headline (model : Rules) (run : Run) (found : Answered) : Type 0 where
+pub record Headline (model : Rules) (run : Run) (found : Outcome) : Type 0 where
   pub legs : AllZip (HeadlineOfLeg model found.replies) (opened_legs model (first_leg model run) run.events) found.legs
   pub one_version : IsTrue model.whole_call → StaysRunOneVersion model run × (found.mixed ≡ 0)
 
@@ -93,7 +96,4 @@ pub record Headline (model : Rules) (run : Run) (found : Answered) : Type 0 wher
 pub record HeadlineHolds (model : Rules) : Type 0 where
   pub holds :
       (run : Run) → AreInRange run.bounds run.boots → length run.events ≤ 1000000 →
-      (found : Answered) → found.replies ≡ replies model (first_leg model run) run.events →
-      found.legs ≡ map (end_of model) (opened_legs model (first_leg model run) run.events) →
-      found.mixed ≡ mixed_count model (first_leg model run) run.events →
-      Headline model run found
+      (found : Outcome) → IsOutcome model run found → Headline model run found

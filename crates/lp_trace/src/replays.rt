@@ -2,6 +2,7 @@
 ghost use Rattle.std.specs.Prelude.{◌≡◌, IfOk, IsTrue};
 ghost use Rattle.lp_transition.specs.Run.{first_leg, replies};
 ghost use Rattle.lp_transition.specs.Stays.{mixed_count, stay_count};
+ghost use Rattle.lp_trace.specs.Headline.{Headline, whole_run};
 ghost use Rattle.lp_trace.specs.Outcome.{leg_ends, run_of};
 
 mod fault;
@@ -29,6 +30,7 @@ pub fn replay<M: Consistency>(
     ensures stays { IfOk result (λ found. found.stays ≡ stay_count M.rules (first_leg M.rules (run_of trace.now)) trace.now.events) }
     ensures mixed { IfOk result (λ found. found.mixed ≡ mixed_count M.rules (first_leg M.rules (run_of trace.now)) trace.now.events) }
     ensures unmixed { IfOk result (λ found. IsTrue M.rules.whole_call → found.mixed ≡ 0) }
+    ensures headline { IfOk result (λ found. Headline M.rules (whole_run trace.now) found) }
 {
     let patches = start::stack(alloc, trace)?;
     let stays = StayCount::new(alloc, &patches)?;

@@ -2,6 +2,7 @@
 ghost use Rattle.std.specs.Prelude.{◌≡◌, IfSome, IfOk, IfErr, OnOk, Err};
 ghost use Rattle.std.specs.Io.KnownBytes.{Appends};
 ghost use Rattle.lp_trace.specs.declared.runs.RunFault.TheVariants.{NoMemory as RunNoMemory};
+ghost use Rattle.lp_trace.specs.Headline.{Headline, whole_run};
 ghost use Rattle.lp_trace.specs.Input.{ReadsAll};
 ghost use Rattle.lp_trace.specs.Outcome.{outcome};
 ghost use Rattle.lp_trace.specs.Reading.{reading};
@@ -99,6 +100,9 @@ pub fn run<M: Consistency, R: Read, W: Write>(
     // What was read spells a trace, and its report was written and nothing else.
     ensures report { OnOk result (ReadsTrace (R.remaining reader.old) (R.remaining reader.new)
         (λ trace. Appends (W.contents writer.old) (W.contents writer.new) (report trace.form name.now (outcome M.rules trace)))) }
+    // The headline holds of the outcome that was reported.
+    ensures headline { OnOk result (ReadsTrace (R.remaining reader.old) (R.remaining reader.new)
+        (λ trace. Headline M.rules (whole_run trace) (outcome M.rules trace))) }
     // Where the writer failed, a front of that report was written.
     ensures front { IfErr result (λ fault. AtWrite fault (ReadsTrace (R.remaining reader.old) (R.remaining reader.new)
         (λ trace. AppendsFront (W.contents writer.old) (W.contents writer.new) (report trace.form name.now (outcome M.rules trace))))) }

@@ -5,8 +5,11 @@ use Rattle.lp_transition.specs.Run.{Run, first_leg, replies}
 use Rattle.lp_transition.specs.Stays.{mixed_count, stay_count}
 use Rattle.lp_transition.proofs.LawProofs.{mixes_no_stay}
 use Rattle.lp_trace.specs.declared.outcome.Outcome.{Outcome}
+use Rattle.lp_trace.specs.Headline.{Headline, whole_run}
 use Rattle.lp_trace.specs.Outcome.{leg_ends, run_of}
 use Rattle.lp_trace.specs.Replay.{IsOutcome, IsRecorded}
+use Rattle.lp_trace.specs.Traces.{IsTrace}
+use Rattle.lp_trace.proofs.Headline.{headline_of_trace}
 use Rattle.lp_trace.proofs.Recording.{none_recorded, number_is, ok_weaker}
 use Rattle.lp_trace.proofs.Starting.{run_more}
 use Rattle.lp_trace.proofs.replays.replay.Goals as goal
@@ -75,3 +78,13 @@ returns-clause-unmixed g c =
     let all = take_all c.loop-event.event-index c.as_slice-event-items.result.now (omega arith) ∙ (c.as_slice-event-items.ensures.value ∙ ap (λ t. t.events) c.trace.view_is) in
     let whole = subst (λ (events : List Event). IsRecorded model (record (run_of trace) { events = events }) recorder) all c.loop-event.invariant in
     ok_weaker (λ (found : Outcome). (run : Run) → IsRecorded model run recorder → IsOutcome model run found) (λ (found : Outcome). IsTrue model.whole_call → found.mixed ≡ 0) (λ found h. λ calls. (h _ whole).mixed ∙ (mixes_no_stay model g.met.M.Consistency.lawful).count_is_0 calls _ whole.stands.in_range) c.finish.result c.finish.ensures
+
+pub returns-clause-headline : goal.returns-clause-headline
+returns-clause-headline g c =
+    let model = g.M.Consistency.rules in
+    let trace = c.args.trace.now in
+    let recorder = c.loop-event.recorder in
+    let all = take_all c.loop-event.event-index c.as_slice-event-items.result.now (omega arith) ∙ (c.as_slice-event-items.ensures.value ∙ ap (λ t. t.events) c.trace.view_is) in
+    let whole = subst (λ (events : List Event). IsRecorded model (record (run_of trace) { events = events }) recorder) all c.loop-event.invariant in
+    let is_trace = subst IsTrace c.trace.view_is c.trace.invariant in
+    ok_weaker (λ (found : Outcome). (run : Run) → IsRecorded model run recorder → IsOutcome model run found) (λ (found : Outcome). Headline model (whole_run trace) found) (λ found h. headline_of_trace model g.met.M.Consistency.lawful trace is_trace found (h _ whole)) c.finish.result c.finish.ensures
