@@ -9,6 +9,7 @@ pub mod Pushes
 pub mod Steps
 pub mod Sound
 pub mod Writing
+pub mod Tails
 pub mod Pages
 pub mod Inputs
 pub mod RunFaults

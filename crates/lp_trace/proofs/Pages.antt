@@ -88,3 +88,8 @@ words_at words i d below = rest_at words i d below ∙ ap (λ l. l ++ line_rest 
 -- the same by another name of the text
 pub puts_along : {E : Type 0} (a b : Option (List ℕ)) (h k text other : List ℕ) (r : Result (Unit {0}) E) → text ≡ other → Puts a b h k r text → Puts a b h k r other
 puts_along a b h k text other r e puts = let P : List ℕ → Type 0 = λ l. Puts a b h k r l in subst P e puts
+
+-- one piece after the other
+pub puts_both : {E : Type 0} (a b c : Option (List ℕ)) (h k m x y : List ℕ) (r : Result (Unit {0}) E) → Left a b (h ++ x) k → Puts b c k m r y → Puts a c h m r (x ++ y)
+puts_both a b c h k m x y r first puts =
+    held_last a b c (x ++ y) h k y y r refl (held_next a a b (h ++ (x ++ y)) h x (x ++ y) y k refl (held_start a (h ++ (x ++ y))) first) m puts

@@ -1,5 +1,6 @@
 -- The parts of a report, one after the other.
-use Rattle.std.proofs.Common.{◌≡◌, ◌<◌, ◌≤◌, ◌+◌, ℕ, suc, List, [], ◌∷◌, ◌++◌, length, drop, map, get_or, add-one, refl, sym, ap, ◌∙◌, append_assoc, codes, decimal, Option}
+use Rattle.std.proofs.Common.{◌≡◌, ◌<◌, ◌≤◌, ◌+◌, ℕ, suc, List, [], ◌∷◌, ◌++◌, length, drop, map, get_or, add-one, refl, sym, ap, ap₂, ◌∙◌, append_assoc, codes, decimal, Option, Some, zero, arith}
+use Rattle.std.specs.Prelude.{slice_get}
 use Rattle.std.specs.List.{concat, flat_map}
 use Rattle.std.proofs.lemmas.List.{append-nil}
 use Rattle.std.proofs.lemmas.Grind.{flat_map-append}
@@ -9,11 +10,13 @@ use Rattle.lp_stack.specs.declared.number.GroupId.{GroupId}
 use Rattle.lp_transition.specs.Events.{group_numbers}
 use Rattle.lp_transition.specs.declared.reply.Reply.{Reply}
 use Rattle.lp_cert.specs.declared.leg_end.LegEnd.{LegEnd}
+use Rattle.lp_cert.specs.declared.line.Line.{Line}
+use Rattle.lp_cert.specs.Text.{reason_words}
 use Rattle.lp_trace.specs.declared.form.TraceForm.{TraceForm}
 use Rattle.lp_trace.specs.declared.outcome.Outcome.{Outcome}
 use Rattle.lp_trace.specs.Words.{line_of}
 use Rattle.lp_trace.specs.Writing.{Left, line_rest}
-use Rattle.lp_trace.specs.Report.{event_line, event_lines, leg_line, stays_line, report, report_lines, report_header}
+use Rattle.lp_trace.specs.Report.{event_line, event_lines, leg_lines, stays_line, report, report_lines, report_header}
 use Rattle.lp_trace.specs.declared.replies.ShortReply.{ShortReply}
 use Rattle.lp_trace.specs.Replies.{first_groups, lists_in, replies_of, reply_of}
 use Rattle.lp_trace.proofs.ReplyLists.{replies-next, replies-end}
@@ -62,6 +65,30 @@ module _ (form : TraceForm) where
   unfolding event_lines
   events_end replies lists i n h = ap (λ r. flat_map line_of (event_lines form n r)) (replies-end replies lists i h)
 
+-- ---- The lines of legs and of certificates
+
+module _ {X : Type 0} (f : X → List (List (List ℕ))) where
+  -- the lines of what is at a place, and those after it
+  pub blocks_at : (xs : List X) (i : ℕ) (x d : X) → x ≡ get_or xs i d → i < length xs → flat_map line_of (flat_map f (drop i xs)) ≡ flat_map line_of (f x) ++ flat_map line_of (flat_map f (drop (i + 1) xs))
+  blocks_at xs i x d is below =
+      rw (drop-cons xs i d below, add-one) (flat_map-append line_of (f (get_or xs i d)) (flat_map f (drop (suc i) xs)))
+      ∙ ap (λ y. flat_map line_of (f y) ++ flat_map line_of (flat_map f (drop (i + 1) xs))) (sym is)
+
+  -- what is at a place, and its lines and those after it
+  pub block_of : (xs : List X) (i : ℕ) → i < length xs → (x : X) × (slice_get xs i ≡ Some x) × (flat_map line_of (flat_map f (drop i xs)) ≡ flat_map line_of (f x) ++ flat_map line_of (flat_map f (drop (i + 1) xs)))
+  block_of [] i below = absurd (omega arith)
+  block_of (x ∷ xs) zero below = (x, refl, flat_map-append line_of (f x) (flat_map f xs))
+  block_of (x ∷ xs) (suc i) below =
+      let found = block_of xs i (omega arith) in
+      (found.0, found.1, rw add-one (rw add-one at found.2))
+
+-- the first reason that is left, and those after it
+pub reasons_next : (reasons later : List Line) (reason : Line) → slice_get reasons 0 ≡ Some reason → later ≡ drop 1 reasons → flat_map line_of (map reason_words reasons) ≡ line_of (reason_words reason) ++ flat_map line_of (map reason_words later)
+reasons_next [] later reason found left = absurd (cc found)
+reasons_next (first ∷ rest) later reason found left =
+    let is : first ≡ reason = cc found in
+    ap₂ (λ (l : Line) ls. line_of (reason_words l) ++ flat_map line_of (map reason_words ls)) is (sym left)
+
 -- ---- The text
 
 module _ (form : TraceForm) (name : List ℕ) (outcome : Outcome) where
@@ -75,7 +102,7 @@ module _ (form : TraceForm) (name : List ℕ) (outcome : Outcome) where
   events_part = flat_map line_of (event_lines form 1 outcome.replies)
 
   abbrev pub legs_part : List ℕ
-  legs_part = flat_map line_of (map (leg_line form) outcome.legs)
+  legs_part = flat_map line_of (flat_map (leg_lines form) outcome.legs)
 
   abbrev pub stays_part : List ℕ
   stays_part = line_of (stays_line outcome)
@@ -84,7 +111,7 @@ module _ (form : TraceForm) (name : List ℕ) (outcome : Outcome) where
   unfolding report report_lines
   report_split =
       let events : List (List (List ℕ)) = event_lines form 1 outcome.replies in
-      let legs : List (List (List ℕ)) = map (leg_line form) outcome.legs in
+      let legs : List (List (List ℕ)) = flat_map (leg_lines form) outcome.legs in
       let last : List (List (List ℕ)) = stays_line outcome ∷ [] in
       let lines : flat_map line_of (events ++ legs ++ last) ≡ events_part ++ (legs_part ++ stays_part) =
       flat_map-append line_of (events ++ legs) last

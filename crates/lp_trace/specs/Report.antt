@@ -7,6 +7,7 @@ use Rattle.lp_transition.specs.declared.reply.What.TheVariants.{Ran, Done, Switc
 use Rattle.lp_transition.specs.declared.reply.Reply.{Reply}
 use Rattle.lp_transition.specs.Events.{refusal_number}
 use Rattle.lp_cert.specs.declared.leg_end.LegEnd.{LegEnd}
+use Rattle.lp_cert.specs.Text.{cert_lines}
 use Rattle.lp_trace.specs.declared.form.TraceForm.{TraceForm}
 use Rattle.lp_trace.specs.declared.form.TraceForm.TheVariants.{Single, Stacked}
 use Rattle.lp_trace.specs.declared.outcome.Outcome.{Outcome}
@@ -60,17 +61,21 @@ abbrev pub leg_line : TraceForm → LegEnd → List (List ℕ)
 leg_line form leg =
     codes "leg" ∷ decimal leg.opened ∷ target_words form leg.target ++ end_words leg.completed (length leg.certs)
 
+-- a leg and its certificates
+abbrev pub leg_lines : TraceForm → LegEnd → List (List (List ℕ))
+leg_lines form leg = leg_line form leg ∷ flat_map cert_lines leg.certs
+
 abbrev pub stays_line : Outcome → List (List ℕ)
 stays_line outcome = codes "stays" ∷ decimal outcome.stays ∷ codes "mixed" ∷ decimal outcome.mixed ∷ []
 
 -- ---- The text
 
--- the lines after the first: the model, each event, each leg, and the stays
+-- the lines after the first: the model, each event, each leg with its certificates, and the stays
 unfoldable pub report_lines : TraceForm → List ℕ → Outcome → List (List (List ℕ))
 report_lines form name outcome =
     (codes "model" ∷ name ∷ [])
     ∷ event_lines form 1 outcome.replies
-    ++ map (leg_line form) outcome.legs
+    ++ flat_map (leg_lines form) outcome.legs
     ++ stays_line outcome ∷ []
 
 -- the report of an outcome under a model of this name

@@ -23,6 +23,7 @@ mod replays;
 mod replies;
 mod report;
 mod runs;
+mod tail;
 mod trace;
 mod word;
 mod words;

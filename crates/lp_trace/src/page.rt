@@ -1,9 +1,10 @@
 //! Text that is gathered before it is written.
-ghost use Rattle.std.specs.Prelude.{◌≡◌, ◌∷◌, ◌++◌, [], map, IsTrue, IsFalse, IfOk, OnOk};
+ghost use Rattle.std.specs.Prelude.{◌≡◌, ◌≤◌, ◌∷◌, ◌++◌, [], decimal, length, map, IsTrue, IsFalse, IfOk, OnOk};
 ghost use Rattle.std.specs.List.{concat};
 ghost use Rattle.lp_trace.specs.Words.{line_of};
 ghost use Rattle.lp_trace.specs.Writing.{Puts, Writes};
 
+use crate::tail::Tail;
 use crate::write::{WriteFault, put};
 use std::alloc::{AllocError, Global};
 use std::io::Write;
@@ -116,5 +117,20 @@ impl Page {
             self.put_all(writer, &[b" ", word])?;
         }
         self.put(writer, b"\n")
+    }
+
+    /// Puts a line of a word and at most six numbers.
+    #[inline(always)]
+    pub(crate) fn put_numbers<W: Write>(
+        &mut self,
+        writer: &mut W,
+        first: &[u8],
+        numbers: &[u64],
+    ) -> Result<(), WriteFault>
+        requires { length numbers.now ≤ 6 }
+        ensures { Puts (W.contents writer.old) (W.contents writer.new) self.old.held.items self.new.held.items result (line_of (first.now ∷ map decimal numbers.now)) }
+    {
+        let rest = Tail::of(numbers);
+        self.put_all(writer, &[first, rest.as_slice()])
     }
 }

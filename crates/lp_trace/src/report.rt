@@ -1,11 +1,13 @@
 //! Writing the report of a run.
-ghost use Rattle.std.specs.Prelude.{◌≡◌, ℕ, ◌+◌, ◌<◌, ◌∷◌, ◌++◌, [], List, codes, decimal, length, map, IfSome, IsTrue, IsFalse};
+ghost use Rattle.std.specs.Prelude.{◌≡◌, ℕ, ◌+◌, ◌<◌, ◌∷◌, ◌++◌, [], List, codes, decimal, map, IfSome, IsTrue, IsFalse};
 ghost use Rattle.std.specs.List.{flat_map};
 ghost use Rattle.lp_transition.specs.Events.{group_numbers};
 ghost use Rattle.lp_trace.specs.Words.{line_of};
-ghost use Rattle.lp_trace.specs.Report.{what_words, complete_words, end_words, event_line, event_lines, leg_line, level_word, report, report_header, stays_line};
+ghost use Rattle.lp_trace.specs.Report.{what_words, complete_words, event_line, event_lines, level_word, report, report_header, stays_line};
 ghost use Rattle.lp_trace.specs.Replies.{replies_of, reply_of, what_of};
 ghost use Rattle.lp_trace.specs.Writing.{Puts, Writes, line_rest};
+
+mod legs;
 
 use crate::form::TraceForm;
 use crate::outcome::Outcome;
@@ -13,7 +15,7 @@ use crate::page::Page;
 use crate::replies::{ReplyList, ShortReply, ShortWhat, groups_at};
 use crate::write::WriteFault;
 use itoa::Buffer;
-use lp_cert::LegEnd;
+use legs::put_legs;
 use lp_stack::{GroupId, Level};
 use lp_transition::GroupList;
 use std::io::Write;
@@ -221,52 +223,6 @@ fn put_group<W: Write>(page: &mut Page, writer: &mut W, group: GroupId) -> Resul
 {
     let mut buffer = Buffer::new();
     page.put_all(writer, &[b" ", number(&mut buffer, u64::from(group.0))])
-}
-
-/// Puts the lines of the ends of legs.
-fn put_legs<W: Write>(
-    page: &mut Page,
-    writer: &mut W,
-    form: TraceForm,
-    legs: &[LegEnd],
-) -> Result<(), WriteFault>
-    ensures { Puts (W.contents writer.old) (W.contents writer.new) page.old.held.items page.new.held.items result (flat_map line_of (map (leg_line form) legs.now)) }
-{
-    for leg in legs {
-        put_leg(page, writer, form, leg)?;
-    }
-    Ok(())
-}
-
-/// How a leg ended: by which word, and the number that follows it.
-fn end_words<'a>(buffer: &'a mut Buffer, leg: &LegEnd) -> (&'static [u8], &'a [u8])
-    ensures { result.0.now ∷ result.1.now ∷ [] ≡ end_words leg.now.completed (length leg.now.certs) }
-{
-    match leg.completed {
-        Some(event) => (b"complete", number(buffer, event)),
-        None => (b"waiting", number(buffer, leg.certs.len() as u64)),
-    }
-}
-
-/// Puts the line of the end of a leg.
-fn put_leg<W: Write>(
-    page: &mut Page,
-    writer: &mut W,
-    form: TraceForm,
-    leg: &LegEnd,
-) -> Result<(), WriteFault>
-    ensures { Puts (W.contents writer.old) (W.contents writer.new) page.old.held.items page.new.held.items result (line_of (leg_line form leg.now)) }
-{
-    let mut first = Buffer::new();
-    let mut second = Buffer::new();
-    let mut third = Buffer::new();
-    let opened = number(&mut first, leg.opened);
-    let target = level_word(&mut second, form, leg.target);
-    let (end, count) = end_words(&mut third, leg);
-    match form {
-        TraceForm::Single => page.put_line(writer, b"leg", &[opened, target, end, count]),
-        TraceForm::Stacked => page.put_line(writer, b"leg", &[opened, b"to", target, end, count]),
-    }
 }
 
 /// Puts the line of the stays.

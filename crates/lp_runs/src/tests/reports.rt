@@ -1,5 +1,6 @@
 //! Traces in and their reports out, as texts that are worked out by hand from the definitions, and
 //! the same over readers and writers that fail.
+mod certificates;
 mod checks;
 mod faults;
 mod streams;
@@ -61,7 +62,7 @@ fn a_task_goes_over_as_it_leaves_the_kernel(rt: HostRuntime) -> Result<(), Fail>
             "hybrid",
             Hybrid,
             "boot 1 normal / enter 1 / call 1 a / enable / ret 1 / exit 1 / enter 1 / call 1 a",
-            "1 done / 2 ran old / 3 done / 4 done / 5 over 1 complete / 6 done / 7 ran new / leg 3 new complete 5 / stays 2 mixed 0",
+            "1 done / 2 ran old / 3 done / 4 done / 5 over 1 complete / 6 done / 7 ran new / leg 3 new complete 5 / floor 3 1 4 / stays 2 mixed 0",
         )?
     );
     Ok(())
@@ -76,7 +77,7 @@ fn a_sleeper_goes_over_under_one_model(rt: HostRuntime) -> Result<(), Fail> {
             "hybrid",
             Hybrid,
             lines,
-            "1 done / 2 ran old / 3 done / 4 done / 5 over 1 complete / leg 4 new complete 5 / stays 0 mixed 0",
+            "1 done / 2 ran old / 3 done / 4 done / 5 over 1 complete / leg 4 new complete 5 / floor 4 1 4 / stays 0 mixed 0",
         )?
     );
     assert!(rt;
@@ -85,7 +86,7 @@ fn a_sleeper_goes_over_under_one_model(rt: HostRuntime) -> Result<(), Fail> {
             "leave-kernel",
             LeaveKernel,
             lines,
-            "1 done / 2 ran old / 3 done / 4 done / 5 done / leg 4 new waiting 1 / stays 0 mixed 0",
+            "1 done / 2 ran old / 3 done / 4 done / 5 done / leg 4 new waiting 1 / waiting 4 1 5 / stays 0 mixed 0",
         )?
     );
     Ok(())
@@ -99,7 +100,7 @@ fn all_go_over_at_a_stop(rt: HostRuntime) -> Result<(), Fail> {
             "all-at-once",
             AllAtOnce,
             "boot 1 normal / boot 2 normal / enter 2 / call 2 a / enable / stop / ret 2 / stop",
-            "1 done / 2 ran old / 3 done / 4 done / 5 done / 6 over 0 complete / leg 3 new complete 6 / stays 1 mixed 0",
+            "1 done / 2 ran old / 3 done / 4 done / 5 done / 6 over 0 complete / leg 3 new complete 6 / floor 3 0 5 / hold 0 2 2 4 4 / stays 1 mixed 0",
         )?
     );
     Ok(())
@@ -113,7 +114,7 @@ fn a_reversal_opens_a_leg(rt: HostRuntime) -> Result<(), Fail> {
             "hybrid",
             Hybrid,
             "boot 1 normal / enable / reverse",
-            "1 done / 2 done complete / leg 1 new waiting 1 / leg 2 old complete 2 / stays 0 mixed 0",
+            "1 done / 2 done complete / leg 1 new waiting 1 / waiting 1 1 1 / leg 2 old complete 2 / stays 0 mixed 0",
         )?
     );
     Ok(())
@@ -127,7 +128,7 @@ fn a_call_mixes_versions(rt: HostRuntime) -> Result<(), Fail> {
             "immediate",
             Immediate,
             "boot 1 normal / enter 1 / call 1 a / enable / walk / call 1 a",
-            "1 done / 2 ran old / 3 done / 4 over 1 complete / 5 ran new / leg 3 new complete 4 / stays 1 mixed 1",
+            "1 done / 2 ran old / 3 done / 4 over 1 complete / 5 ran new / leg 3 new complete 4 / floor 3 1 3 / stays 1 mixed 1",
         )?
     );
     Ok(())
@@ -141,7 +142,7 @@ fn events_are_refused(rt: HostRuntime) -> Result<(), Fail> {
             "hybrid",
             Hybrid,
             "boot 1 normal / reverse / disable / enable / enable / walk",
-            "1 refused E11 / 2 refused E12 / 3 done / 4 refused E10 / 5 done / leg 3 new waiting 1 / stays 0 mixed 0",
+            "1 refused E11 / 2 refused E12 / 3 done / 4 refused E10 / 5 done / leg 3 new waiting 1 / waiting 3 1 5 / busy 1 1 5 / stays 0 mixed 0",
         )?
     );
     assert!(rt;
@@ -178,7 +179,7 @@ fn threads_go_over_together(rt: HostRuntime) -> Result<(), Fail> {
             "process-group",
             ProcessGroup,
             "boot 1 normal / enter 1 / fork 1 2 share / exit 1 / enable / call 2 a / walk / ret 2 / exit 2 / walk",
-            "1 done / 2 done / 3 done / 4 done / 5 ran old / 6 done / 7 done / 8 done / 9 over 1 complete / leg 4 new complete 9 / stays 1 mixed 0",
+            "1 done / 2 done / 3 done / 4 done / 5 ran old / 6 done / 7 done / 8 done / 9 over 1 complete / leg 4 new complete 9 / floor 4 1 8 / hold 1 2 5 6 6 / stays 1 mixed 0",
         )?
     );
     Ok(())
@@ -194,7 +195,7 @@ fn patches_stand_on_one_another(rt: HostRuntime) -> Result<(), Fail> {
     let wanted = text_of(
         rt.alloc(),
         "lpreport 2 / model hybrid / 1 done / 2 done / 3 over 1 complete / 4 done / 5 ran 1 / 6 done / 7 done / 8 over 1 complete / 9 done / 10 over 1 complete / 11 done / 12 done",
-        "leg 1 to 1 complete 3 / leg 7 to 2 complete 8 / leg 9 to 1 complete 10 / leg 11 to 0 waiting 1 / stays 1 mixed 0",
+        "leg 1 to 1 complete 3 / floor 1 1 2 / leg 7 to 2 complete 8 / floor 7 1 7 / leg 9 to 1 complete 10 / floor 9 1 9 / leg 11 to 0 waiting 1 / waiting 11 1 12 / hold 1 1 5 12 12 / stays 1 mixed 0",
     )?;
     let taken = report_of(rt.alloc(), "hybrid", Hybrid, text.as_str())?;
     assert_eq!(rt; taken.as_slice(), wanted.as_bytes());

@@ -1,11 +1,26 @@
+ghost use Rattle.std.specs.Prelude.{IfOk};
+ghost use Rattle.lp_patch.specs.Patches.{ShareSymbols};
+
 use super::streams::{End, Sink};
 use crate::page::Page;
 use crate::report::write_report;
-use crate::{LegEnd, LegList, Outcome, ReplyList, TraceForm, WriteFault};
-use lp_stack::{GroupId, Level};
-use lp_transition::{GroupList, Refusal, Reply, What};
+use crate::{LegList, Outcome, ReplyList, TraceForm, WriteFault};
+use lp_cert::Maker;
+use lp_model::ForkKind;
+use lp_models::Hybrid;
+use lp_patch::{PatchSet, PatchStack};
+use lp_stack::{Class, GroupId, Level, TaskId};
+use lp_symbols::{SymId, Symbols};
+use lp_transition::{Core, Event, GroupList, Refusal, Reply, What};
 use std::alloc::Global;
 use std::test::*;
+
+const FIRST: TaskId = TaskId(1);
+
+const SECOND: TaskId = TaskId(2);
+
+/// A task's function, which the first patch has.
+const PATCHED: SymId = SymId(0);
 
 /// A reply after which no transition is complete.
 fn plain(what: What) -> Reply {
@@ -25,13 +40,46 @@ fn over(alloc: Global, groups: u16, completed: bool) -> Result<Reply, Fail> {
     Ok(Reply { what, completed })
 }
 
-fn leg(opened: u64, target: u8, completed: Option<u64>, waiting: u64) -> LegEnd {
-    LegEnd {
-        opened,
-        target: Level(target),
-        completed,
-        waiting,
+/// Two patches of a function each.
+fn patches(alloc: Global) -> Result<Vec<PatchSet>, Fail>
+    ensures { IfOk result (λ sets. ShareSymbols sets.items) }
+{
+    let mut symbols = Symbols::new(alloc)?;
+    symbols.add("a")?;
+    symbols.add("b")?;
+    let mut sets = Vec::new(alloc);
+    for id in [PATCHED, SymId(1)] {
+        sets.push(PatchSet::build(alloc, &symbols, &[id])?)?;
     }
+    Ok(sets)
+}
+
+/// The legs that these events open under `hybrid`, with the two patches and so many tasks.
+fn legs(alloc: Global, tasks: u16, events: &[Event]) -> Result<LegList, Fail> {
+    let mut boots = Vec::new(alloc);
+    for task in 0..tasks {
+        boots.push((TaskId(task + 1), Class::Normal))?;
+    }
+    let patches = PatchStack::new(alloc, patches(alloc)?)?;
+    let mut core = Core::boot(alloc, Hybrid, patches, boots.as_slice())?;
+    let mut maker = Maker::new(alloc)?;
+    for event in events {
+        let step = core.weigh_any(alloc, *event)?;
+        maker.ready(alloc, &core, &step)?;
+        maker.note(&core, &step);
+        core.take(step);
+    }
+    Ok(LegList::from_vec(maker.into_ends(alloc)?))
+}
+
+/// An outcome of these legs alone.
+fn with_legs(alloc: Global, legs: LegList) -> Result<Outcome, Fail> {
+    Ok(Outcome {
+        replies: ReplyList::with_capacity(alloc, 0)?,
+        legs,
+        stays: 0,
+        mixed: 0,
+    })
 }
 
 /// Whether this is the report, to a writer that takes so much at a time.
@@ -65,18 +113,25 @@ fn one_leg(alloc: Global) -> Result<Outcome, Fail> {
     replies.push(over(alloc, 1, true)?)?;
     replies.push(plain(What::Done))?;
     replies.push(plain(What::Ran(Level(1))))?;
-    let mut legs = Vec::new(alloc);
-    legs.push(leg(3, 1, Some(5), 0))?;
+    let events = [
+        Event::Enter(FIRST),
+        Event::Call(FIRST, PATCHED),
+        Event::Enable,
+        Event::Ret(FIRST),
+        Event::Exit(FIRST),
+        Event::Enter(FIRST),
+        Event::Call(FIRST, PATCHED),
+    ];
     Ok(Outcome {
         replies,
-        legs: LegList::from_vec(legs),
+        legs: legs(alloc, 1, &events)?,
         stays: 2,
         mixed: 0,
     })
 }
 
 const ONE_LEG: &str =
-    "lpreport 1\nmodel hybrid\n1 done\n2 ran old\n3 done\n4 done\n5 over 1 complete\n6 done\n7 ran new\nleg 3 new complete 5\nstays 2 mixed 0\n";
+    "lpreport 1\nmodel hybrid\n1 done\n2 ran old\n3 done\n4 done\n5 over 1 complete\n6 done\n7 ran new\nleg 3 new complete 5\nfloor 3 1 4\nstays 2 mixed 0\n";
 
 #[test]
 fn a_leg_is_reported(rt: HostRuntime) -> Result<(), Fail> {
@@ -95,17 +150,20 @@ fn a_reversal_is_reported(rt: HostRuntime) -> Result<(), Fail> {
     })?;
     replies.push(plain(What::Refused(Refusal::NotInTransition)))?;
     replies.push(plain(What::Refused(Refusal::UnknownTask)))?;
-    let mut legs = Vec::new(rt.alloc());
-    legs.push(leg(1, 1, None, 1))?;
-    legs.push(leg(2, 0, Some(2), 0))?;
+    let events = [
+        Event::Enable,
+        Event::Reverse,
+        Event::Reverse,
+        Event::Ret(SECOND),
+    ];
     let outcome = Outcome {
         replies,
-        legs: LegList::from_vec(legs),
+        legs: legs(rt.alloc(), 1, &events)?,
         stays: 0,
         mixed: 0,
     };
     let wanted =
-        "lpreport 1\nmodel hybrid\n1 done\n2 done complete\n3 refused E11\n4 refused E1\nleg 1 new waiting 1\nleg 2 old complete 2\nstays 0 mixed 0\n";
+        "lpreport 1\nmodel hybrid\n1 done\n2 done complete\n3 refused E11\n4 refused E1\nleg 1 new waiting 1\nwaiting 1 1 1\nleg 2 old complete 2\nstays 0 mixed 0\n";
     assert!(rt; is_report(rt.alloc(), TraceForm::Single, "hybrid", &outcome, wanted)?);
     Ok(())
 }
@@ -116,17 +174,28 @@ fn levels_are_numbers_in_the_second_form(rt: HostRuntime) -> Result<(), Fail> {
     replies.push(plain(What::Ran(Level(1))))?;
     replies.push(over(rt.alloc(), 3, false)?)?;
     replies.push(plain(What::Ran(Level(16))))?;
-    let mut legs = Vec::new(rt.alloc());
-    legs.push(leg(7, 2, Some(8), 0))?;
-    legs.push(leg(11, 0, None, 1))?;
+    let events = [
+        Event::Enable,
+        Event::Enter(FIRST),
+        Event::Exit(FIRST),
+        Event::Enter(FIRST),
+        Event::Call(FIRST, PATCHED),
+        Event::Sleep(FIRST),
+        Event::Enable,
+        Event::Walk,
+        Event::Disable,
+        Event::Walk,
+        Event::Disable,
+        Event::Walk,
+    ];
     let outcome = Outcome {
         replies,
-        legs: LegList::from_vec(legs),
+        legs: legs(rt.alloc(), 1, &events)?,
         stays: 1,
         mixed: 1,
     };
     let wanted =
-        "lpreport 2\nmodel immediate\n1 ran 1\n2 over 1 2 3\n3 ran 16\nleg 7 to 2 complete 8\nleg 11 to 0 waiting 1\nstays 1 mixed 1\n";
+        "lpreport 2\nmodel immediate\n1 ran 1\n2 over 1 2 3\n3 ran 16\nleg 1 to 1 complete 3\nfloor 1 1 2\nleg 7 to 2 complete 8\nfloor 7 1 7\nleg 9 to 1 complete 10\nfloor 9 1 9\nleg 11 to 0 waiting 1\nwaiting 11 1 12\nhold 1 1 5 12 12\nstays 1 mixed 1\n";
     assert!(rt;
         is_report(
             rt.alloc(),
@@ -134,6 +203,47 @@ fn levels_are_numbers_in_the_second_form(rt: HostRuntime) -> Result<(), Fail> {
             "immediate",
             &outcome,
             wanted
+        )?
+    );
+    Ok(())
+}
+
+#[test]
+fn each_reason_has_its_line(rt: HostRuntime) -> Result<(), Fail> {
+    let events = [
+        Event::Enter(FIRST),
+        Event::Enable,
+        Event::Walk,
+        Event::Fork(FIRST, SECOND, ForkKind::Own),
+        Event::Exit(FIRST),
+        Event::Call(SECOND, PATCHED),
+        Event::Sleep(SECOND),
+        Event::Walk,
+    ];
+    let outcome = with_legs(rt.alloc(), legs(rt.alloc(), 1, &events)?)?;
+    let wanted =
+        "lpreport 1\nmodel hybrid\nleg 2 new waiting 1\nwaiting 2 2 8\nbusy 1 1 3\nborn 2 1 4\nhold 2 2 6 8 8\nstays 0 mixed 0\n";
+    assert!(rt; is_report(rt.alloc(), TraceForm::Single, "hybrid", &outcome, wanted)?);
+    Ok(())
+}
+
+#[test]
+fn each_group_that_waits_has_a_certificate(rt: HostRuntime) -> Result<(), Fail> {
+    let mut wanted = String::new(rt.alloc());
+    wanted.push_str("lpreport 1\nmodel hybrid\nleg 1 new waiting 5000\n")?;
+    for group in 1..=5_000 {
+        wanted.push_str(format!(in rt.alloc(); "waiting 1 {group} 1\n")?.as_str())?;
+    }
+    wanted.push_str("stays 0 mixed 0\n")?;
+    let legs = legs(rt.alloc(), 5_000, &[Event::Enable])?;
+    let outcome = with_legs(rt.alloc(), legs)?;
+    assert!(rt;
+        is_report(
+            rt.alloc(),
+            TraceForm::Single,
+            "hybrid",
+            &outcome,
+            wanted.as_str()
         )?
     );
     Ok(())

@@ -1,0 +1,163 @@
+//! Writing how the legs of a run ended, with their certificates.
+ghost use Rattle.std.specs.Prelude.{◌≡◌, ◌<◌, ◌∷◌, [], length, map, slice_get, Some};
+ghost use Rattle.std.specs.List.{flat_map};
+ghost use Rattle.lp_cert.specs.declared.cert.Cert.{Cert};
+ghost use Rattle.lp_cert.specs.Ends.{cert_head};
+ghost use Rattle.lp_cert.specs.Text.{cert_lines, claim_word, claim_words, reason_words};
+ghost use Rattle.lp_trace.specs.Words.{line_of};
+ghost use Rattle.lp_trace.specs.Report.{end_words, leg_line, leg_lines};
+ghost use Rattle.lp_trace.specs.Writing.{Puts};
+
+use super::{level_word, number};
+use crate::form::TraceForm;
+use crate::page::Page;
+use crate::write::WriteFault;
+use itoa::Buffer;
+use lp_cert::{CertHead, CertLines, CertList, Claim, LegEnd, Line};
+use std::io::Write;
+
+/// Puts the lines of the ends of legs.
+pub(super) fn put_legs<W: Write>(
+    page: &mut Page,
+    writer: &mut W,
+    form: TraceForm,
+    legs: &[LegEnd],
+) -> Result<(), WriteFault>
+    ensures { Puts (W.contents writer.old) (W.contents writer.new) page.old.held.items page.new.held.items result (flat_map line_of (flat_map (leg_lines form) legs.now)) }
+{
+    for leg in legs {
+        put_leg(page, writer, form, leg)?;
+    }
+    Ok(())
+}
+
+/// Puts the line of the end of a leg, and those of its certificates.
+fn put_leg<W: Write>(
+    page: &mut Page,
+    writer: &mut W,
+    form: TraceForm,
+    leg: &LegEnd,
+) -> Result<(), WriteFault>
+    ensures { Puts (W.contents writer.old) (W.contents writer.new) page.old.held.items page.new.held.items result (flat_map line_of (leg_lines form leg.now)) }
+{
+    put_end(page, writer, form, leg)?;
+    put_certs(page, writer, &leg.certs)
+}
+
+/// How a leg ended: by which word, and the number that follows it.
+fn end_words<'a>(buffer: &'a mut Buffer, leg: &LegEnd) -> (&'static [u8], &'a [u8])
+    ensures { result.0.now ∷ result.1.now ∷ [] ≡ end_words leg.now.completed (length leg.now.certs) }
+{
+    match leg.completed {
+        Some(event) => (b"complete", number(buffer, event)),
+        None => (b"waiting", number(buffer, leg.certs.len() as u64)),
+    }
+}
+
+/// Puts the line of the end of a leg.
+fn put_end<W: Write>(
+    page: &mut Page,
+    writer: &mut W,
+    form: TraceForm,
+    leg: &LegEnd,
+) -> Result<(), WriteFault>
+    ensures { Puts (W.contents writer.old) (W.contents writer.new) page.old.held.items page.new.held.items result (line_of (leg_line form leg.now)) }
+{
+    let mut first = Buffer::new();
+    let mut second = Buffer::new();
+    let mut third = Buffer::new();
+    let opened = number(&mut first, leg.opened);
+    let target = level_word(&mut second, form, leg.target);
+    let (end, count) = end_words(&mut third, leg);
+    match form {
+        TraceForm::Single => page.put_line(writer, b"leg", &[opened, target, end, count]),
+        TraceForm::Stacked => page.put_line(writer, b"leg", &[opened, b"to", target, end, count]),
+    }
+}
+
+/// Puts the lines of certificates.
+fn put_certs<W: Write>(page: &mut Page, writer: &mut W, certs: &CertList) -> Result<(), WriteFault>
+    ensures { Puts (W.contents writer.old) (W.contents writer.new) page.old.held.items page.new.held.items result (flat_map line_of (flat_map cert_lines certs.now)) }
+{
+    for place in 0..certs.len() {
+        put_cert(page, writer, certs, place)?;
+    }
+    Ok(())
+}
+
+/// Puts the lines of the certificate at a place.
+fn put_cert<W: Write>(
+    page: &mut Page,
+    writer: &mut W,
+    certs: &CertList,
+    place: usize,
+) -> Result<(), WriteFault>
+    requires { place < length certs.now }
+    ensures { (cert : Cert) → slice_get certs.now place ≡ Some cert → Puts (W.contents writer.old) (W.contents writer.new) page.old.held.items page.new.held.items result (flat_map line_of (cert_lines cert)) }
+{
+    put_claim(page, writer, certs.head(place))?;
+    put_reasons(page, writer, &mut certs.lines(place))
+}
+
+/// The first word of a certificate.
+fn claim_word(claim: Claim) -> &'static [u8]
+    ensures { result.now ≡ claim_word claim }
+{
+    match claim {
+        Claim::Waiting => b"waiting",
+        Claim::Floor => b"floor",
+    }
+}
+
+/// Puts the first line of a certificate, the one that begins so.
+fn put_claim<W: Write>(page: &mut Page, writer: &mut W, head: CertHead) -> Result<(), WriteFault>
+    ensures { (cert : Cert) → cert_head cert ≡ head → Puts (W.contents writer.old) (W.contents writer.new) page.old.held.items page.new.held.items result (line_of (claim_words cert)) }
+{
+    let group = u64::from(head.group.0);
+    page.put_numbers(
+        writer,
+        claim_word(head.claim),
+        &[head.leg, group, head.upto],
+    )
+}
+
+/// Puts the reasons of a certificate that are left, a line each.
+fn put_reasons<W: Write>(
+    page: &mut Page,
+    writer: &mut W,
+    reasons: &mut CertLines<'_>,
+) -> Result<(), WriteFault>
+    ensures { Puts (W.contents writer.old) (W.contents writer.new) page.old.held.items page.new.held.items result (flat_map line_of (map reason_words reasons.old)) }
+{
+    while let Some(reason) = reasons.next() {
+        put_reason(page, writer, reason)?;
+    }
+    Ok(())
+}
+
+/// Puts the line of a reason.
+#[inline(always)]
+fn put_reason<W: Write>(page: &mut Page, writer: &mut W, reason: Line) -> Result<(), WriteFault>
+    ensures { Puts (W.contents writer.old) (W.contents writer.new) page.old.held.items page.new.held.items result (line_of (reason_words reason)) }
+{
+    match reason {
+        Line::Hold {
+            group,
+            task,
+            serial,
+            from,
+            to,
+        } => {
+            let (group, task) = (u64::from(group.0), u64::from(task.0));
+            page.put_numbers(writer, b"hold", &[group, task, serial, from, to])
+        }
+        Line::Busy { group, task, at } => {
+            let (group, task) = (u64::from(group.0), u64::from(task.0));
+            page.put_numbers(writer, b"busy", &[group, task, at])
+        }
+        Line::Born { group, parent, at } => {
+            let (group, parent) = (u64::from(group.0), u64::from(parent.0));
+            page.put_numbers(writer, b"born", &[group, parent, at])
+        }
+    }
+}
