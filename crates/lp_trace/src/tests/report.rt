@@ -1,6 +1,3 @@
-ghost use Rattle.std.specs.Prelude.{IfOk};
-ghost use Rattle.lp_patch.specs.Patches.{ShareSymbols};
-
 use super::streams::{End, Sink};
 use crate::page::Page;
 use crate::report::write_report;
@@ -19,7 +16,7 @@ const FIRST: TaskId = TaskId(1);
 
 const SECOND: TaskId = TaskId(2);
 
-/// A task's function, which the first patch has.
+/// The function that is patched.
 const PATCHED: SymId = SymId(0);
 
 /// A reply after which no transition is complete.
@@ -40,28 +37,21 @@ fn over(alloc: Global, groups: u16, completed: bool) -> Result<Reply, Fail> {
     Ok(Reply { what, completed })
 }
 
-/// Two patches of a function each.
-fn patches(alloc: Global) -> Result<Vec<PatchSet>, Fail>
-    ensures { IfOk result (λ sets. ShareSymbols sets.items) }
-{
+/// A patch of one function.
+fn patches(alloc: Global) -> Result<PatchStack, Fail> {
     let mut symbols = Symbols::new(alloc)?;
     symbols.add("a")?;
-    symbols.add("b")?;
-    let mut sets = Vec::new(alloc);
-    for id in [PATCHED, SymId(1)] {
-        sets.push(PatchSet::build(alloc, &symbols, &[id])?)?;
-    }
-    Ok(sets)
+    let set = PatchSet::build(alloc, &symbols, &[PATCHED])?;
+    Ok(PatchStack::new(alloc, vec![in alloc; set]?)?)
 }
 
-/// The legs that these events open under `hybrid`, with the two patches and so many tasks.
+/// The legs that these events open under `hybrid`, with this patch and so many tasks.
 fn legs(alloc: Global, tasks: u16, events: &[Event]) -> Result<LegList, Fail> {
     let mut boots = Vec::new(alloc);
     for task in 0..tasks {
         boots.push((TaskId(task + 1), Class::Normal))?;
     }
-    let patches = PatchStack::new(alloc, patches(alloc)?)?;
-    let mut core = Core::boot(alloc, Hybrid, patches, boots.as_slice())?;
+    let mut core = Core::boot(alloc, Hybrid, patches(alloc)?, boots.as_slice())?;
     let mut maker = Maker::new(alloc)?;
     for event in events {
         let step = core.weigh_any(alloc, *event)?;
@@ -181,10 +171,6 @@ fn levels_are_numbers_in_the_second_form(rt: HostRuntime) -> Result<(), Fail> {
         Event::Enter(FIRST),
         Event::Call(FIRST, PATCHED),
         Event::Sleep(FIRST),
-        Event::Enable,
-        Event::Walk,
-        Event::Disable,
-        Event::Walk,
         Event::Disable,
         Event::Walk,
     ];
@@ -195,7 +181,7 @@ fn levels_are_numbers_in_the_second_form(rt: HostRuntime) -> Result<(), Fail> {
         mixed: 1,
     };
     let wanted =
-        "lpreport 2\nmodel immediate\n1 ran 1\n2 over 1 2 3\n3 ran 16\nleg 1 to 1 complete 3\nfloor 1 1 2\nleg 7 to 2 complete 8\nfloor 7 1 7\nleg 9 to 1 complete 10\nfloor 9 1 9\nleg 11 to 0 waiting 1\nwaiting 11 1 12\nhold 1 1 5 12 12\nstays 1 mixed 1\n";
+        "lpreport 2\nmodel immediate\n1 ran 1\n2 over 1 2 3\n3 ran 16\nleg 1 to 1 complete 3\nfloor 1 1 2\nleg 7 to 0 waiting 1\nwaiting 7 1 8\nhold 1 1 5 8 8\nstays 1 mixed 1\n";
     assert!(rt;
         is_report(
             rt.alloc(),
