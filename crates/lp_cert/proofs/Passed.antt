@@ -11,7 +11,7 @@ use Rattle.lp_transition.specs.declared.event.Event.TheVariants.{Call, Ret, Slee
 use Rattle.lp_transition.specs.declared.refusal.Refusal.{Refusal}
 use Rattle.lp_transition.specs.declared.reply.Reply.{Reply}
 use Rattle.lp_transition.specs.Events.{is_control}
-use Rattle.lp_transition.specs.Tasks.{Fate, Unused, Live, Dead, on_live, map_live, change}
+use Rattle.lp_transition.specs.Tasks.{change}
 use Rattle.lp_transition.specs.Leg.{Standing, State, each_live, each_task}
 use Rattle.lp_transition.specs.Run.{Run, switched, plus}
 use Rattle.lp_transition.specs.Machine.{at_rest, affected, answer, calling, goes_over, put_in, refusal_of, returning, switched_over, told}
@@ -19,6 +19,7 @@ use Rattle.lp_transition.specs.ScanSteps.{groups_of}
 use Rattle.lp_transition.specs.Steps.{StandsIn}
 use Rattle.lp_transition.specs.Table.{Engine, state_in}
 use Rattle.lp_transition.specs.Weigh.{Weighed, IsWeighed, born_of, refused_by, verdicts_for}
+use Rattle.lp_transition.proofs.Alone.{same-after}
 use Rattle.lp_transition.proofs.EngineLemmas.{answer-refused, answer-accepted, is_quiet, quiet-control, quiet-stays, switched-still}
 use Rattle.lp_transition.proofs.Going.{going-none}
 use Rattle.lp_cert.specs.declared.line.Line.{Line}
@@ -36,37 +37,25 @@ quiet (Wake t) h = refl
 quiet (Enter t) h = refl
 quiet _ h = cc
 
--- a change that keeps levels keeps who is off the target
-kept-task : (f : Standing → Standing) → ((x : Standing) → (f x).level ≡ x.level) → (test : ℕ → Bool) (fate : Fate Standing) → on_live true (λ x. test x.level) (map_live f fate) ≡ on_live true (λ x. test x.level) fate
-kept-task f keeps test Unused = refl
-kept-task f keeps test (Live x) = ap test (keeps x)
-kept-task f keeps test Dead = refl
-
-changed-task : (t : ℕ) (f : Standing → Standing) → ((x : Standing) → (f x).level ≡ x.level) → (test : ℕ → Bool) (now : ℕ → Fate Standing) (u : ℕ) → on_live true (λ x. test x.level) (change t f now u) ≡ on_live true (λ x. test x.level) (now u)
-changed-task t f keeps test now u = by (nat_eq u t)
-  where
-    by : (b : Bool) → on_live true (λ x. test x.level) (if b then map_live f (now u) else now u) ≡ on_live true (λ x. test x.level) (now u)
-    by true = kept-task f keeps test (now u)
-    by false = refl
-
 and_not : (b : Bool) → (b && not b) ≡ false
 and_not true = refl
 and_not false = refl
 
 module _ (model : Rules) (s : State) where
-  rests : (t : ℕ) (f : Standing → Standing) → ((x : Standing) → (f x).level ≡ x.level) → at_rest (record s { number = suc s.number; tasks = change t f s.tasks }) ≡ at_rest s
+  -- who is off the target stays so
+  rests : (t : ℕ) (f : Standing → Standing) → ((x : Standing) → (f x).level ≡ x.level) → ((x : Standing) → (f x).group ≡ x.group) → at_rest (record s { number = suc s.number; tasks = change t f s.tasks }) ≡ at_rest s
   unfolding each_live
-  rests t f keeps = ap (each_task s.bounds.tasks) (fun_ext (changed-task t f keeps (λ level. nat_eq level s.target) s.tasks))
+  rests t f levels groups = ap (each_task s.bounds.tasks) (fun_ext (same-after t f levels groups true (λ u level group. nat_eq level s.target) s.tasks))
 
   stays : (event : Event) → is_plain event ≡ true → (group : ℕ) → goes_over model (affected model s event) event group ≡ false
   stays event plain group = quiet-stays model (affected model s event) event group (quiet event plain)
 
   rests_after : (event : Event) → is_plain event ≡ true → at_rest (affected model s event) ≡ at_rest s
-  rests_after (Call t f) plain = rests t.0 (calling (suc s.number) f) (λ x. refl)
-  rests_after (Ret t) plain = rests t.0 returning (λ x. refl)
-  rests_after (Sleep t) plain = rests t.0 (put_in Asleep) (λ x. refl)
-  rests_after (Wake t) plain = rests t.0 (put_in Kernel) (λ x. refl)
-  rests_after (Enter t) plain = rests t.0 (put_in Kernel) (λ x. refl)
+  rests_after (Call t f) plain = rests t.0 (calling (suc s.number) f) (λ x. refl) (λ x. refl)
+  rests_after (Ret t) plain = rests t.0 returning (λ x. refl) (λ x. refl)
+  rests_after (Sleep t) plain = rests t.0 (put_in Asleep) (λ x. refl) (λ x. refl)
+  rests_after (Wake t) plain = rests t.0 (put_in Kernel) (λ x. refl) (λ x. refl)
+  rests_after (Enter t) plain = rests t.0 (put_in Kernel) (λ x. refl) (λ x. refl)
   rests_after _ plain = cc
 
   no_groups : (event : Event) → is_plain event ≡ true → groups_of (told model s event) ≡ []

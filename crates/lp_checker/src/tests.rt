@@ -439,11 +439,11 @@ fn opened_again(alloc: Global) -> Result<Opening, Fail> {
     Ok(core.standing(alloc).or_else(|_| core.standing(alloc))?)
 }
 
-/// The answer to a certificate, asked again where memory is refused.
-fn answer(alloc: Global, opening: &Opening, cert: &Cert) -> Result<(), CertFault> {
-    match check_waiting(alloc, Hybrid, opening, &FORKS[2..], cert) {
-        Err(CertFault::NoMemory) => check_waiting(alloc, Hybrid, opening, &FORKS[2..], cert),
-        answer => answer,
+/// The answer to a certificate of the leg in which a task forks.
+fn judged(alloc: Global, opening: &Opening, cert: &Cert) -> Result<(), CertFault> {
+    match cert.claim {
+        Claim::Waiting => check_waiting(alloc, Hybrid, opening, &FORKS[2..], cert),
+        Claim::Floor => check_floor(alloc, Hybrid, opening, &FORKS[2..], cert),
     }
 }
 
@@ -451,22 +451,27 @@ fn answer(alloc: Global, opening: &Opening, cert: &Cert) -> Result<(), CertFault
 fn certificates_are_judged_after_a_refused_growth(rt: HostRuntime) -> Result<(), Fail> {
     let alloc = rt.alloc();
     let opening = opened_again(alloc)?;
-    for (lines, want) in [
-        ([busy(1, 1, 3), born(2, 1, 4), hold(2, 2, 6, 8, 8)], Ok(())),
-        (
-            [busy(1, 1, 3), born(2, 1, 4), busy(2, 2, 8)],
-            Err(CertFault::NoBlame(8)),
-        ),
+    let whole = [busy(1, 1, 3), born(2, 1, 4), hold(2, 2, 6, 8, 8)];
+    let wrong = [busy(1, 1, 3), born(2, 1, 4), busy(2, 2, 8)];
+    for (claim, lines, want) in [
+        (Claim::Waiting, whole, Ok(())),
+        (Claim::Waiting, wrong, Err(CertFault::NoBlame(8))),
+        (Claim::Floor, whole, Ok(())),
+        (Claim::Floor, wrong, Err(CertFault::NoBlame(8))),
     ] {
         let kept = Vec::from_slice(alloc, &lines).or_else(|_| Vec::from_slice(alloc, &lines))?;
         let cert = Cert {
-            claim: Claim::Waiting,
+            claim,
             leg: 2,
             group: GroupId(2),
             upto: 8,
             lines: LineList::from_vec(kept),
         };
-        assert_eq!(rt; answer(alloc, &opening, &cert), want);
+        let answer = match judged(alloc, &opening, &cert) {
+            Err(CertFault::NoMemory) => judged(alloc, &opening, &cert),
+            answer => answer,
+        };
+        assert_eq!(rt; answer, want);
     }
     Ok(())
 }

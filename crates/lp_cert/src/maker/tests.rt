@@ -5,6 +5,8 @@ ghost use Rattle.lp_models.specs.Models.{hybrid};
 ghost use Rattle.lp_transition.specs.Scan.{is_scan_kind};
 ghost use Rattle.lp_transition.specs.Weigh.{IsWeighed};
 
+mod memory;
+
 use super::*;
 use crate::Line;
 use lp_model::{CheckKind, ForkKind};

@@ -266,3 +266,37 @@ fn a_sleepers_floor_is_judged(rt: HostRuntime) -> Result<(), Fail> {
     }
     Ok(())
 }
+
+#[test]
+fn numbers_past_every_text_are_judged(rt: HostRuntime) -> Result<(), Fail> {
+    let alloc = rt.alloc();
+    let opening = opened(alloc, Hybrid, &TASK_1, &SLEEPS[..4])?;
+    let held = hold(1, 1, 2, 5, 5);
+    for (leg, upto, line, want) in [
+        (u64::MAX, 7, held, CertFault::NoLeg),
+        (4, u64::MAX, held, CertFault::NoLeg),
+        (u64::MAX, u64::MAX, held, CertFault::NoLeg),
+        (4, 7, hold(1, 1, u64::MAX, 5, 5), CertFault::NoBlame(5)),
+        (
+            4,
+            7,
+            hold(1, 1, 2, u64::MAX, 5),
+            CertFault::NoBlame(u64::MAX),
+        ),
+        (4, 7, hold(1, 1, 2, 5, u64::MAX), CertFault::NoBlame(5)),
+        (4, 7, busy(1, 1, u64::MAX), CertFault::NoBlame(u64::MAX)),
+        (4, 7, born(1, 1, u64::MAX), CertFault::BadBirth(u64::MAX)),
+    ] {
+        let waits = cert(alloc, Claim::Waiting, leg, 1, upto, &[line])?;
+        let floor = cert(alloc, Claim::Floor, leg, 1, upto, &[line])?;
+        assert_eq!(rt;
+            check_waiting(alloc, Hybrid, &opening, &SLEEPS[4..], &waits),
+            Err(want)
+        );
+        assert_eq!(rt;
+            check_floor(alloc, Hybrid, &opening, &SLEEPS[4..], &floor),
+            Err(want)
+        );
+    }
+    Ok(())
+}

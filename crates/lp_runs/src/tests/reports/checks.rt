@@ -1,4 +1,7 @@
 //! Traces with certificates in, and the answers out.
+mod limits;
+mod memory;
+
 use super::*;
 use lp_trace::{CheckInput, ReadFault, RunFault, TraceFault, check};
 use std::test::*;
