@@ -30,4 +30,8 @@ pub mod Divided
 pub mod CertLines
 pub mod CheckInputs
 pub mod CheckRows
+pub mod CertSpelled
+pub mod CertAgain
+pub mod InputsSound
+pub mod InputsComplete
 pub mod Legs

@@ -17,5 +17,6 @@ pub mod OfRows
 pub mod Input
 pub mod Runs
 pub mod CheckReading
+pub mod CheckTexts
 pub mod CheckRows
 pub mod Answer
