@@ -1,5 +1,5 @@
 -- The spelling of a trace and a certificate is read again as these.
-use Rattle.std.proofs.Common.{◌≡◌, ◌+◌, ℕ, Bool, true, false, List, [], ◌∷◌, ◌++◌, length, map, Option, Some, Result, Ok, Err, refl, sym, ap, ◌∙◌, arith, append_assoc, codes}
+use Rattle.std.proofs.Common.{◌≡◌, ◌+◌, ℕ, Bool, true, false, List, [], ◌∷◌, ◌++◌, length, map, Option, Some, Result, Ok, Err, refl, sym, ap, ◌∙◌, arith, subst, append_assoc, codes}
 use Rattle.std.specs.Prelude.{nat_lt}
 use Rattle.std.specs.List.{AllByRecursion, flat_map, join_with_byte}
 use Rattle.std.specs.Str.{bytes_eq}
@@ -12,8 +12,10 @@ use Rattle.lp_trace.specs.declared.check_input.CheckInput.{CheckInput}
 use Rattle.lp_trace.specs.declared.fault.Cause.{Cause}
 use Rattle.lp_trace.specs.declared.fault.Cause.TheVariants as cause
 use Rattle.lp_trace.specs.declared.fault.TraceFault.{TraceFault}
+use Rattle.lp_trace.specs.declared.fault.ReadFault.{ReadFault}
 use Rattle.lp_trace.specs.declared.form.TraceForm.{TraceForm}
 use Rattle.lp_trace.specs.declared.form.TraceForm.TheVariants.{Single, Stacked}
+use Rattle.lp_trace.specs.Faults.{Gives}
 use Rattle.lp_trace.specs.Words.{event_word_of, header, line_of, line_word_of, lines, parts, words}
 use Rattle.lp_trace.specs.Traces.{TraceValue, lines_after_header, text_of}
 use Rattle.lp_trace.specs.Reading.{◌>>=◌, empty, fault_at, first_word, reading_lines, with_line}
@@ -108,6 +110,12 @@ complete_input input i =
     (ap read (input_divided input i)
     ∙ ap (λ r. r >>= λ trace. cert_from (length front + 1) (texts (cert_lines input.cert)) >>= λ cert. Ok (record { trace = trace; cert = cert })) (header_read u i.trace)
     ∙ ap (λ r. r >>= λ cert. Ok (record { trace = u; cert = cert })) (cert_again (length front + 1) input.cert i.cert))
+
+-- what a reader gives is what the text spells
+pub gives_input : {X : Type 0} (view : X → CheckInput) (r : Result X ReadFault) (text : List ℕ) → Gives view r (check_reading text) → (input : CheckInput) → IsInput input → text ≡ input_text input → Gives view r (Ok input)
+gives_input view r text h input i e =
+    let P : Result CheckInput TraceFault → Type 0 = λ x. Gives view r x in
+    subst P (ap check_reading e ∙ complete_input input i) h
 
 -- a text spells one trace and certificate
 pub one_input : (input other : CheckInput) → IsInput input → IsInput other → input_text input ≡ input_text other → input ≡ other
