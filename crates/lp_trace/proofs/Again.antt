@@ -1,10 +1,11 @@
 -- The words of a line are read again.
-use Rattle.std.proofs.Common.{◌≡◌, ◌<◌, ◌≤◌, ℕ, zero, suc, Bool, true, false, not, List, [], ◌∷◌, length, get_or, Some, Ok, refl, sym, ap, ◌∙◌, arith, inl, inr}
+use Rattle.std.proofs.Common.{◌≡◌, ◌<◌, ◌≤◌, ℕ, zero, suc, Bool, true, false, not, List, [], ◌∷◌, length, get_or, None, Some, Ok, cond, refl, sym, ap, ◌∙◌, arith, inl, inr}
 use Rattle.std.specs.Prelude.{nat_le, nat_lt, ◌==◌, ◌&&◌, ◌||◌, slice_index, slice_index_or, decimal}
 use Rattle.std.specs.Char.{is_ascii_digit, is_ascii_graphic}
 use Rattle.std.specs.List.{list_all, IsDistinct, prefix_len}
 use Rattle.std.specs.Fmt.{digits}
 use Rattle.std.specs.Str.{bytes_eq}
+use Rattle.std.specs.Str.Parse.{digits_value}
 use Rattle.std.proofs.lemmas.Bool.{and_parts}
 use Rattle.std.proofs.lemmas.Bool.Decides.{Decides-ltb, leb_tells}
 use Rattle.std.proofs.lemmas.Fmt.{decimal_nonempty, length-decimal-le, first_decimal, digits_decimal, digits_value-decimal}
@@ -24,7 +25,7 @@ use Rattle.lp_trace.specs.declared.word.EventWord.{EventWord}
 use Rattle.lp_trace.specs.declared.word.EventWord.TheVariants as event
 use Rattle.lp_trace.specs.declared.word.LineWord.{LineWord}
 use Rattle.lp_trace.specs.declared.word.LineWord.TheVariants as line
-use Rattle.lp_trace.specs.Words.{header, event_word, line_word, class_word, fork_word, form_of, event_word_of, line_word_of, class_of, fork_kind_of, number_of}
+use Rattle.lp_trace.specs.Words.{header, event_word, line_word, class_word, fork_word, form_of, event_word_of, line_word_of, class_of, fork_kind_of, is_numeral, number_of}
 use Rattle.lp_trace.specs.Traces.{AreNames, name, event_words, patch_words, IsTask, IsEvent, most_patches}
 use Rattle.lp_trace.specs.Reading.{next_word, last_word, no_word, next_number, last_number, symbol_of, task_of, call_line, fork_line, task_line, event_line, patch_line, boot_line}
 use Rattle.lp_trace.proofs.Numbers.{own}
@@ -94,22 +95,25 @@ either : (a b : Bool) → b ≡ true → (a || b) ≡ true
 either true b h = refl
 either false b h = h
 
-first : (n : ℕ) → n < 100000 → (length (decimal n) == 1 || not (slice_index (decimal n) 0 == 48)) ≡ true
+first : (n : ℕ) → n < 10000000 → (length (decimal n) == 1 || not (slice_index (decimal n) 0 == 48)) ≡ true
 unfolding digits
 first zero small = refl
 first (suc n) small =
     let high : 48 < get_or (decimal (suc n)) 0 0 = first_decimal (suc n) (omega arith) (omega arith) in
     either (length (decimal (suc n)) == 1) (not (slice_index (decimal (suc n)) 0 == 48)) (ap not (not_same (slice_index (decimal (suc n)) 0) 48 (slice_index (decimal (suc n)) 0 == 48) refl (λ e. omega arith)))
 
-pub number_again : (n : ℕ) → n < 100000 → number_of (decimal n) ≡ Some n
-unfolding number_of
-number_again n small =
+-- the numeral of a number of so many digits
+pub numeral_again : (most n : ℕ) → length (decimal n) ≤ most → n < 10000000 → cond (is_numeral most (decimal n)) (Some (digits_value 10 (decimal n))) None ≡ Some n
+numeral_again most n few small =
     let some : 0 < length (decimal n) = decimal_nonempty n (omega arith) in
-    let few : length (decimal n) ≤ 5 = length-decimal-le 5 n (omega arith) small (omega arith) in
     let a = at_most 1 (length (decimal n)) (omega arith) in
-    let b = at_most (length (decimal n)) 5 few in
+    let b = at_most (length (decimal n)) most few in
     let d : list_all is_ascii_digit (decimal n) ≡ true = digits_decimal own n (omega arith) in
     rw (a, b, d, first n small) (ap (λ v. Some v) (digits_value-decimal own n (omega arith)))
+
+pub number_again : (n : ℕ) → n < 100000 → number_of (decimal n) ≡ Some n
+unfolding number_of
+number_again n small = numeral_again 5 n (length-decimal-le 5 n (omega arith) small (omega arith)) (omega arith)
 
 -- ---- Words after the first
 

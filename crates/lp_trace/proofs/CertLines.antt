@@ -17,7 +17,7 @@ use Rattle.lp_trace.specs.Reading.{◌>>=◌, fault_at}
 use Rattle.lp_trace.specs.CheckReading.{as_cert, cert_from, claim_line, reason_line, reasons_from}
 use Rattle.lp_trace.proofs.Cuts.{parts-some_there}
 
-step : (number : ℕ) (so_far : List Line) (line : List ℕ) (more : List (List ℕ)) → 0 < length more → reasons_from number so_far (line ∷ more) ≡ (fault_at number (as_cert (reason_line (words line))) >>= λ reason. reasons_from (number + 1) (so_far ++ reason ∷ []) more)
+pub step : (number : ℕ) (so_far : List Line) (line : List ℕ) (more : List (List ℕ)) → 0 < length more → reasons_from number so_far (line ∷ more) ≡ (fault_at number (as_cert (reason_line (words line))) >>= λ reason. reasons_from (number + 1) (so_far ++ reason ∷ []) more)
 unfolding reasons_from
 step number so_far line [] h = absurd (omega arith)
 step number so_far line (next ∷ more) h = refl
@@ -25,7 +25,7 @@ step number so_far line (next ∷ more) h = refl
 reasons_step : (number : ℕ) (so_far : List Line) (line rest : List ℕ) → reasons_from number so_far (line ∷ parts 10 rest) ≡ (fault_at number (as_cert (reason_line (words line))) >>= λ reason. reasons_from (number + 1) (so_far ++ reason ∷ []) (parts 10 rest))
 reasons_step number so_far line rest = step number so_far line (parts 10 rest) (parts-some_there 10 rest)
 
-first : (number : ℕ) (line : List ℕ) (more : List (List ℕ)) → 0 < length more → cert_from number (line ∷ more) ≡ (fault_at number (as_cert (claim_line (words line))) >>= λ (cert : Cert). reasons_from (number + 1) [] more >>= λ reasons. Ok (record cert { lines = reasons }))
+pub first : (number : ℕ) (line : List ℕ) (more : List (List ℕ)) → 0 < length more → cert_from number (line ∷ more) ≡ (fault_at number (as_cert (claim_line (words line))) >>= λ (cert : Cert). reasons_from (number + 1) [] more >>= λ reasons. Ok (record cert { lines = reasons }))
 unfolding cert_from
 first number line [] h = absurd (omega arith)
 first number line (next ∷ more) h = refl

@@ -7,7 +7,6 @@ use Rattle.lp_trace.specs.declared.fault.Cause.TheVariants as cause
 use Rattle.lp_trace.specs.declared.fault.ReadFault.{ReadFault}
 use Rattle.lp_trace.specs.declared.fault.ReadFault.TheVariants as read
 use Rattle.lp_trace.specs.Faults.{IsReadFault}
-use Rattle.lp_trace.specs.Answer.{ReadsInput}
 use Rattle.lp_trace.specs.Traces.{TraceValue}
 use Rattle.lp_trace.specs.Words.{lines}
 use Rattle.lp_trace.specs.Reading.{◌>>=◌, reading, reading_lines}
@@ -50,10 +49,6 @@ module _ (text trace : List ℕ) (line : ℕ) (cert : Option (List (List ℕ))) 
   cert_fault read.NoMemory found e h = tt
   cert_fault (read.Trace fault) found e h =
       parted ∙ (ap (λ x. x >>= λ found. cert_after line cert >>= λ why. Ok (both found why)) e ∙ ap (λ x. x >>= λ why. Ok (both found why)) h)
-
--- what holds of the input that was read
-pub input_mapped : (old new : Option (List ℕ)) (P Q : CheckInput → Type 0) → ((input : CheckInput) → P input → Q input) → ReadsInput old new P → ReadsInput old new Q
-input_mapped old new P Q f h = (h.0, h.1, h.2, h.3, f h.1 h.4)
 
 pub none_is : {A : Type 0} (o : Option A) (b : Bool) → is_some o ≡ not b → b ≡ true → o ≡ None
 none_is None b e h = refl

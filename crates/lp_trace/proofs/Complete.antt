@@ -30,7 +30,7 @@ use Rattle.lp_trace.specs.Words.{header, class_word, fork_word, line_of, lines, 
 use Rattle.lp_trace.specs.Traces.{TraceValue, IsTrace, AreNames, IsTask, IsEvent, most_patches, name, sym_words, patch_words, boot_words, event_words, patch_lines, lines_after_header, text_of}
 use Rattle.lp_trace.specs.Reading.{◌>>=◌, needs, at_end, empty, fault_at, reading, reading_from, reading_lines, with_line}
 use Rattle.lp_trace.proofs.Choices.{bind_ok}
-use Rattle.lp_trace.proofs.Lines.{step, first_step}
+use Rattle.lp_trace.proofs.Lines.{step, first}
 use Rattle.lp_trace.proofs.Numbers.{own}
 use Rattle.lp_trace.proofs.Pushes.{not_same, not_less, all_at}
 use Rattle.lp_trace.proofs.Symbols.{name_graphic}
@@ -59,10 +59,10 @@ all_fold u t =
 
 -- ---- Words without spaces and ends
 
-abbrev Clean : List ℕ → Type 0
+abbrev pub Clean : List ℕ → Type 0
 Clean word = list_all (nat_lt 32) word ≡ true
 
-abbrev CleanLine : List (List ℕ) → Type 0
+abbrev pub CleanLine : List (List ℕ) → Type 0
 CleanLine line = (0 < length line) × AllByRecursion (λ word. list_all (nat_lt 32) word ≡ true) line
 
 above : (n : ℕ) → 32 < n → nat_lt 32 n ≡ true
@@ -82,7 +82,7 @@ digits_clean (c ∷ cs) h =
     let low : 48 ≤ c = leb-true 48 c (and_parts (nat_le 48 c) (nat_le c 57) a.0).0 in
     both (nat_lt 32 c) (list_all (nat_lt 32) cs) (above c (omega arith)) (digits_clean cs a.1)
 
-number_clean : (n : ℕ) → n < 100000 → Clean (decimal n)
+pub number_clean : (n : ℕ) → n < 10000000 → Clean (decimal n)
 number_clean n small = digits_clean (decimal n) (digits_decimal own n (omega arith))
 
 task_clean : (task : TaskId) → IsTask task → Clean (decimal task.0)
@@ -122,14 +122,14 @@ event_clean s Reverse names h = (omega arith, (refl, tt))
 
 function_clean : (f : TraceForm) (n : ℕ) (func : List ℕ) → n < 100000 → Clean func → CleanLine (patch_words f n func)
 function_clean Single n func small h = (omega arith, (refl, (h, tt)))
-function_clean Stacked n func small h = (omega arith, (refl, (number_clean n small, (h, tt))))
+function_clean Stacked n func small h = (omega arith, (refl, (number_clean n (omega arith), (h, tt))))
 
 module _ {A B : Type 0} (P : A → Type 0) (Q : B → Type 0) (g : A → B) (each : (x : A) → P x → Q (g x)) where
-  all_map : (xs : List A) → AllByRecursion P xs → AllByRecursion Q (map g xs)
+  pub all_map : (xs : List A) → AllByRecursion P xs → AllByRecursion Q (map g xs)
   all_map [] h = tt
   all_map (x ∷ xs) h = (each x h.0, all_map xs h.1)
 
-all_both : {A : Type 0} (P : A → Type 0) (xs ys : List A) → AllByRecursion P xs → AllByRecursion P ys → AllByRecursion P (xs ++ ys)
+pub all_both : {A : Type 0} (P : A → Type 0) (xs ys : List A) → AllByRecursion P xs → AllByRecursion P ys → AllByRecursion P (xs ++ ys)
 all_both P [] ys h k = k
 all_both P (x ∷ xs) ys h k = (h.0, all_both P xs ys h.1 k)
 
@@ -150,7 +150,7 @@ few_enough : (f : TraceForm) (n : ℕ) → n ≤ most_patches f → n ≤ 16
 few_enough Single n h = omega arith
 few_enough Stacked n h = h
 
-all_clean : (u : TraceValue) → IsTrace u → AllByRecursion CleanLine (lines_after_header u)
+pub all_clean : (u : TraceValue) → IsTrace u → AllByRecursion CleanLine (lines_after_header u)
 unfolding lines_after_header
 all_clean u t =
     let f = u.form in
@@ -207,24 +207,24 @@ unfolding parts
 line_cut line rest h = slice_split_at (λ b. b == 10) line 10 rest (no_end_apart line h) refl
 
 -- the lines of a text, and nothing after the last
-abbrev texts : List (List (List ℕ)) → List (List ℕ)
+abbrev pub texts : List (List (List ℕ)) → List (List ℕ)
 texts ls = map (join_with_byte 32) ls ++ [] ∷ []
 
 nothing_left : parts 10 [] ≡ [] ∷ []
 unfolding parts
 nothing_left = refl
 
-lines_again : (ls : List (List (List ℕ))) → AllByRecursion CleanLine ls → parts 10 (flat_map line_of ls) ≡ texts ls
+pub lines_again : (ls : List (List (List ℕ))) → AllByRecursion CleanLine ls → parts 10 (flat_map line_of ls) ≡ texts ls
 lines_again [] h = nothing_left
 lines_again (ws ∷ ls) h =
     ap (parts 10) (append_assoc (join_with_byte 32 ws) (10 ∷ []) (flat_map line_of ls)) ∙ line_cut (join_with_byte 32 ws) (flat_map line_of ls) (joined_no_end ws h.0.1) ∙ ap (λ r. join_with_byte 32 ws ∷ r) (lines_again ls h.1)
 
 -- ---- Reading
 
-some_texts : (ls : List (List (List ℕ))) → 0 < length (texts ls)
+pub some_texts : (ls : List (List (List ℕ))) → 0 < length (texts ls)
 some_texts ls = omega (arith, length-append (map (join_with_byte 32) ls) ([] ∷ []))
 
-words_of_line : (ws : List (List ℕ)) → CleanLine ws → words (join_with_byte 32 ws) ≡ ws
+pub words_of_line : (ws : List (List ℕ)) → CleanLine ws → words (join_with_byte 32 ws) ≡ ws
 words_of_line [] h = absurd (omega (arith, h.0))
 words_of_line (word ∷ rest) h = words_again word rest h.1
 
@@ -248,18 +248,24 @@ header_no_end : (f : TraceForm) → NoEnd (header f)
 header_no_end Single = refl
 header_no_end Stacked = refl
 
+-- the lines of a text that begins as a trace does
+pub header_cut : (f : TraceForm) (ls : List (List (List ℕ))) → AllByRecursion CleanLine ls → lines (header f ++ 10 ∷ [] ++ flat_map line_of ls) ≡ header f ∷ texts ls
+header_cut f ls clean =
+    ap (parts 10) (append_assoc (header f) (10 ∷ []) (flat_map line_of ls))
+    ∙ line_cut (header f) (flat_map line_of ls) (header_no_end f)
+    ∙ ap (λ l. header f ∷ l) (lines_again ls clean)
+
+pub header_read : (u : TraceValue) → IsTrace u → reading_lines (header u.form ∷ texts (lines_after_header u)) ≡ Ok u
+header_read u t =
+    let f = u.form in
+    let ls = lines_after_header u in
+    first (header f) (texts ls) (some_texts ls)
+    ∙ ap (λ o. fault_at 1 (needs cause.Header o) >>= λ g. reading_from 2 (empty g) (texts ls)) (form_again f)
+    ∙ read_again 2 (empty f) u ls (all_clean u t) (all_fold u t) (ends_well u t.patches_some)
+
 text_cut : (u : TraceValue) → IsTrace u → reading_lines (lines (text_of u)) ≡ Ok u
 unfolding text_of
-text_cut u t =
-    let f = u.form in
-    let body : List ℕ = flat_map line_of (lines_after_header u) in
-    let clean = all_clean u t in
-    ap (λ b. reading_lines (parts 10 b)) (append_assoc (header f) (10 ∷ []) body)
-    ∙ ap reading_lines (line_cut (header f) body (header_no_end f))
-    ∙ first_step (header f) body
-    ∙ ap (λ o. fault_at 1 (needs cause.Header o) >>= λ g. reading_from 2 (empty g) (parts 10 body)) (form_again f)
-    ∙ ap (reading_from 2 (empty f)) (lines_again (lines_after_header u) clean)
-    ∙ read_again 2 (empty f) u (lines_after_header u) clean (all_fold u t) (ends_well u t.patches_some)
+text_cut u t = ap reading_lines (header_cut u.form (lines_after_header u) (all_clean u t)) ∙ header_read u t
 
 pub complete : (u : TraceValue) → IsTrace u → reading (text_of u) ≡ Ok u
 unfolding reading

@@ -31,12 +31,12 @@ at_start text =
       few = omega arith;
     }
 
-other_line : (line : List ℕ) (further : List (List ℕ)) → bytes_eq line (codes "lpcert 1") ≡ false → 0 < length further → divided (line ∷ further) ≡ (line ∷ (divided further).0, (divided further).1)
+pub other_line : (line : List ℕ) (further : List (List ℕ)) → bytes_eq line (codes "lpcert 1") ≡ false → 0 < length further → divided (line ∷ further) ≡ (line ∷ (divided further).0, (divided further).1)
 unfolding divided
 other_line line [] e some = absurd (omega arith)
 other_line line (next ∷ more) e some = cond-false _ _ _ e
 
-the_line : (line : List ℕ) (further : List (List ℕ)) → bytes_eq line (codes "lpcert 1") ≡ true → 0 < length further → divided (line ∷ further) ≡ ([] ∷ [], Some further)
+pub the_line : (line : List ℕ) (further : List (List ℕ)) → bytes_eq line (codes "lpcert 1") ≡ true → 0 < length further → divided (line ∷ further) ≡ ([] ∷ [], Some further)
 unfolding divided
 the_line line [] e some = absurd (omega arith)
 the_line line (next ∷ more) e some = cond-true _ _ _ e

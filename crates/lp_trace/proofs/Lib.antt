@@ -30,6 +30,10 @@ pub mod Divided
 pub mod CertLines
 pub mod CheckInputs
 pub mod CheckRows
+pub mod CertSpelled
+pub mod CertAgain
+pub mod InputsSound
+pub mod InputsComplete
 pub mod Legs
 pub mod Moved
 pub mod GroupsInRange

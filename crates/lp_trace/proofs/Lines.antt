@@ -21,7 +21,7 @@ step number so_far line (next ∷ more) h = refl
 pub reading_step : (number : ℕ) (so_far : TraceValue) (line rest : List ℕ) → reading_from number so_far (line ∷ parts 10 rest) ≡ (fault_at number (with_line so_far (words line)) >>= λ given. reading_from (number + 1) given (parts 10 rest))
 reading_step number so_far line rest = step number so_far line (parts 10 rest) (parts-some_there 10 rest)
 
-first : (line : List ℕ) (more : List (List ℕ)) → 0 < length more → reading_lines (line ∷ more) ≡ (fault_at 1 (needs cause.Header (form_of line)) >>= λ form. reading_from 2 (empty form) more)
+pub first : (line : List ℕ) (more : List (List ℕ)) → 0 < length more → reading_lines (line ∷ more) ≡ (fault_at 1 (needs cause.Header (form_of line)) >>= λ form. reading_from 2 (empty form) more)
 unfolding reading_lines
 first line [] h = absurd (omega arith)
 first line (next ∷ more) h = refl

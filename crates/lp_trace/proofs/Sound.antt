@@ -22,7 +22,7 @@ pub joined : (at : ℕ) (bytes : List ℕ) → join_with_byte at (parts at bytes
 unfolding parts
 joined at bytes = join_with_byte-slice_split at bytes
 
-fault_ok : {A : Type 0} (number : ℕ) (r : Result A Cause) (x : A) → fault_at number r ≡ Ok x → r ≡ Ok x
+pub fault_ok : {A : Type 0} (number : ℕ) (r : Result A Cause) (x : A) → fault_at number r ≡ Ok x → r ≡ Ok x
 fault_ok number (Ok y) x h = ap (λ z. Ok z) (ok_is h)
 fault_ok number (Err why) x h = absurd (cc h)
 
@@ -50,7 +50,7 @@ no_length : (xs : List ℕ) → length xs ≡ 0 → xs ≡ []
 no_length [] h = refl
 no_length (x ∷ xs) h = absurd (omega arith)
 
-empty_list : (xs : List ℕ) (b : Bool) → (length xs == 0) ≡ b → not b ≡ false → xs ≡ []
+pub empty_list : (xs : List ℕ) (b : Bool) → (length xs == 0) ≡ b → not b ≡ false → xs ≡ []
 empty_list xs true e h = no_length xs (eqb-true (length xs) 0 e)
 empty_list xs false e h = absurd (cc h)
 
@@ -90,11 +90,11 @@ empty_body : (form : TraceForm) → body (empty form) ≡ []
 unfolding body lines_after_header patch_lines
 empty_body form = refl
 
-no_choice : {A : Type 0} (b : Bool) (why or : Cause) (x : A) → cond b (Err why) (Err or) ≡ Ok x → ⊥
+pub no_choice : {A : Type 0} (b : Bool) (why or : Cause) (x : A) → cond b (Err why) (Err or) ≡ Ok x → ⊥
 no_choice true why or x h = absurd (cc h)
 no_choice false why or x h = absurd (cc h)
 
-lines_read : (ls : List (List ℕ)) (u : TraceValue) → reading_lines ls ≡ Ok u → SoFar u × (1 ≤ length u.patches) × (join_with_byte 10 ls ≡ text_of u)
+pub lines_read : (ls : List (List ℕ)) (u : TraceValue) → reading_lines ls ≡ Ok u → SoFar u × (1 ≤ length u.patches) × (join_with_byte 10 ls ≡ text_of u)
 unfolding reading_lines text_of body
 lines_read [] u h = absurd (cc h)
 lines_read (rest ∷ []) u h = absurd (no_choice (length rest == 0) cause.Header cause.Unended u (fault_ok 1 _ u h))
@@ -109,6 +109,23 @@ lines_read (line ∷ next ∷ more) u h =
     in
     (r.limits, r.patches_some, spelled)
 
+-- what was read is a trace where its text is short enough
+pub is_trace : (u : TraceValue) → SoFar u → 1 ≤ length u.patches → length (text_of u) ≤ 134217728 → IsTrace u
+is_trace u limits some few =
+    record {
+      names = limits.names;
+      names_differ = limits.names_differ;
+      symbols_few = limits.symbols_few;
+      patches = limits.patches;
+      patches_some = some;
+      patches_few = limits.patches_few;
+      boots = limits.boots;
+      boots_differ = limits.boots_differ;
+      events = limits.events;
+      events_few = limits.events_few;
+      size = few;
+    }
+
 pub sound : (text : List ℕ) (u : TraceValue) → reading text ≡ Ok u → IsTrace u × (text ≡ text_of u)
 unfolding reading
 sound text u h =
@@ -116,19 +133,4 @@ sound text u h =
     let r = lines_read (lines text) u a.1 in
     let same : text ≡ text_of u = sym (joined 10 text) ∙ r.2 in
     let few : length text ≤ 134217728 = ltb-false 134217728 (length text) a.0 in
-    let limits = r.0 in (
-      record {
-        names = limits.names;
-        names_differ = limits.names_differ;
-        symbols_few = limits.symbols_few;
-        patches = limits.patches;
-        patches_some = r.1;
-        patches_few = limits.patches_few;
-        boots = limits.boots;
-        boots_differ = limits.boots_differ;
-        events = limits.events;
-        events_few = limits.events_few;
-        size = omega (arith, ap length same);
-      },
-      same,
-    )
+    (is_trace u r.0 r.1 (omega (arith, ap length same)), same)

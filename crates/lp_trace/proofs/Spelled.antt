@@ -37,14 +37,14 @@ use Rattle.lp_trace.proofs.Numbers.{own, value_small}
 some_is : {A : Type 0} {x y : A} → ◌≡◌ {A = Option A} (Some x) (Some y) → x ≡ y
 some_is h = cc h
 
-pick : {A : Type 0} (P : A → Type 0) (b : Bool) (x y : A) (rest : Option A) → (b ≡ true → P x) → (rest ≡ Some y → P y) → cond b (Some x) rest ≡ Some y → P y
+pub pick : {A : Type 0} (P : A → Type 0) (b : Bool) (x y : A) (rest : Option A) → (b ≡ true → P x) → (rest ≡ Some y → P y) → cond b (Some x) rest ≡ Some y → P y
 pick P true x y rest f g h = subst P (some_is h) (f refl)
 pick P false x y rest f g h = g h
 
-is : (word text : List ℕ) → bytes_eq word text ≡ true → word ≡ text
+pub is : (word text : List ℕ) → bytes_eq word text ≡ true → word ≡ text
 is word text = (bytes_eq-Decides word text).0
 
-nothing : {A : Type 0} (P : A → Type 0) (y : A) → ◌≡◌ {A = Option A} None (Some y) → P y
+pub nothing : {A : Type 0} (P : A → Type 0) (y : A) → ◌≡◌ {A = Option A} None (Some y) → P y
 nothing P y h = absurd (cc h)
 
 pub form_spelled : (line : List ℕ) (form : TraceForm) → form_of line ≡ Some form → line ≡ header form
@@ -111,17 +111,23 @@ first_digit word true b e f h z = (Decides-eqb (length word) 1).0 e
 first_digit word false true e f h z = absurd (cc h)
 first_digit word false false e f h z = absurd (cc (sym f ∙ (Decides-eqb (slice_index word 0) 48).1 z))
 
+-- a numeral of at most seven digits
+pub numeral_spelled : (most : ℕ) (word : List ℕ) (n : ℕ) → most ≤ 7 → cond (is_numeral most word) (Some (digits_value 10 word)) None ≡ Some n → (word ≡ decimal n) × (n < 10000000)
+numeral_spelled most word n short h =
+    let numeral = some_if (is_numeral most word) (digits_value 10 word) n h in
+    let a = and_parts (nat_le 1 (length word) && nat_le (length word) most && list_all is_ascii_digit word) (length word == 1 || not (slice_index word 0 == 48)) numeral.0 in
+    let b = and_parts (nat_le 1 (length word) && nat_le (length word) most) (list_all is_ascii_digit word) a.0 in
+    let d = and_parts (nat_le 1 (length word)) (nat_le (length word) most) b.0 in
+    let some : 1 ≤ length word = leb-true 1 (length word) d.0 in
+    let few : length word ≤ most = leb-true (length word) most d.1 in
+    let small : digits_value 10 word < 10000000 = value_small word b.1 (omega arith) in (
+      sym (decimal-digits_value own word b.1 (omega arith) (first_digit word (length word == 1) (slice_index word 0 == 48) refl refl a.1) (omega arith)) ∙ ap decimal numeral.1,
+      omega (arith, numeral.1),
+    )
+
 pub number_spelled : (word : List ℕ) (n : ℕ) → number_of word ≡ Some n → word ≡ decimal n
 unfolding number_of
-number_spelled word n h =
-    let numeral = some_if (is_numeral 5 word) (digits_value 10 word) n h in
-    let a = and_parts (nat_le 1 (length word) && nat_le (length word) 5 && list_all is_ascii_digit word) (length word == 1 || not (slice_index word 0 == 48)) numeral.0 in
-    let b = and_parts (nat_le 1 (length word) && nat_le (length word) 5) (list_all is_ascii_digit word) a.0 in
-    let d = and_parts (nat_le 1 (length word)) (nat_le (length word) 5) b.0 in
-    let some : 1 ≤ length word = leb-true 1 (length word) d.0 in
-    let few : length word ≤ 5 = leb-true (length word) 5 d.1 in
-    let small : digits_value 10 word < 10000000 = value_small word b.1 (omega arith) in
-    sym (decimal-digits_value own word b.1 (omega arith) (first_digit word (length word == 1) (slice_index word 0 == 48) refl refl a.1) (omega arith)) ∙ ap decimal numeral.1
+number_spelled word n h = (numeral_spelled 5 word n (omega arith) h).0
 
 -- ---- Words after the first
 

@@ -1,5 +1,5 @@
 -- Names among symbols.
-use Rattle.std.proofs.Common.{◌≡◌, ◌<◌, ◌≤◌, ℕ, zero, suc, Bool, true, false, not, List, [], ◌∷◌, length, Option, None, Some, Ok, ap, refl, sym, arith, subst, leb-true}
+use Rattle.std.proofs.Common.{◌≡◌, ◌<◌, ◌≤◌, ℕ, zero, suc, Bool, true, false, not, List, [], ◌∷◌, length, None, Some, Ok, refl, sym, arith, subst, leb-true}
 use Rattle.std.specs.Prelude.{position, ◌&&◌, nat_lt, nat_le, ◌==◌}
 use Rattle.std.specs.List.{list_all, prefix_len, IsDistinct, AllByRecursion, slice_get}
 use Rattle.std.proofs.lemmas.Option.{slice_get_within}

@@ -1,5 +1,5 @@
 -- The answer to the input of a check: the verdict on its certificate in the leg of the trace that it names.
-use Rattle.std.specs.Prelude.{◌≡◌, ℕ, zero, suc, List, [], ◌∷◌, ◌++◌, take, drop, decimal, codes, Option, Some, None, if◌then◌else◌, Ok}
+use Rattle.std.specs.Prelude.{◌≡◌, ℕ, zero, suc, List, [], ◌∷◌, ◌++◌, take, drop, decimal, codes, Option, Some, None, if◌then◌else◌}
 use Rattle.lp_model.specs.Rules.{Rules}
 use Rattle.lp_transition.specs.declared.event.Event.{Event}
 use Rattle.lp_transition.specs.Leg.{Leg}
@@ -11,7 +11,7 @@ use Rattle.lp_checker.specs.Faults.{fault_number}
 use Rattle.lp_checker.specs.Laws.{Holds}
 use Rattle.lp_checker.specs.Verdict.{verdict_on}
 use Rattle.lp_trace.specs.declared.check_input.CheckInput.{CheckInput}
-use Rattle.lp_trace.specs.CheckReading.{check_reading}
+use Rattle.lp_trace.specs.CheckTexts.{IsInput, input_text}
 use Rattle.lp_trace.specs.Input.{ReadsAll}
 use Rattle.lp_trace.specs.Outcome.{run_of}
 use Rattle.lp_trace.specs.Traces.{TraceValue}
@@ -74,7 +74,7 @@ answer_words (Some fault) = codes "refused" ∷ (codes "C" ++ decimal (fault_num
 
 -- ---- The reader
 
--- a reader gave the text of an input of which this holds, and nothing is left
+-- a reader gave the spelling of a trace and a certificate of which this holds, and nothing is left
 abbrev pub ReadsInput : Option (List ℕ) → Option (List ℕ) → (CheckInput → Type 0) → Type 0
 ReadsInput old new P =
-    (text : List ℕ) × (input : CheckInput) × ReadsAll old new text × (check_reading text ≡ Ok input) × P input
+    (input : CheckInput) × IsInput input × ReadsAll old new (input_text input) × P input

@@ -10,6 +10,7 @@ use Rattle.lp_trace.specs.declared.fault.Cause.{Cause}
 use Rattle.lp_trace.specs.declared.fault.Cause.TheVariants as cause
 use Rattle.lp_trace.specs.Traces.{TraceValue}
 use Rattle.lp_trace.specs.CheckReading.{check_reading}
+use Rattle.lp_trace.specs.CheckTexts.{input_text}
 use Rattle.lp_trace.specs.Rows.{func, task}
 
 -- one task and an event; the text has five lines
@@ -18,6 +19,13 @@ short_trace = record { form = Single; symbols = codes "a" ∷ []; patches = (fun
 
 abbrev pub short_text : List ℕ
 short_text = codes "lptrace 1\nsym a\npatch a\nboot 1 normal\nenable\n"
+
+-- a certificate with each kind of reason
+abbrev pub each_line_cert : Cert
+each_line_cert = record { claim = Floor; leg = 0; group = record { 0 = 0 }; upto = 9999999; lines = Hold (record { 0 = 2 }) (task 1) 7 8 12 ∷ Busy (record { 0 = 0 }) (task 0) 0 ∷ Born (record { 0 = 3 }) (task 1) 10 ∷ [] }
+
+abbrev pub each_line_text : List ℕ
+each_line_text = codes "lpcert 1\nfloor 0 0 9999999\nhold 2 1 7 8 12\nbusy 0 0 0\nborn 3 1 10\n"
 
 -- this certificate is read behind the short trace
 abbrev pub Reads : List ℕ → Cert → Type 0
@@ -33,7 +41,8 @@ FailsAlone text number why = check_reading text ≡ Err (record { line = number;
 
 pub record InputsCompute : Type 0 where
   pub claim_alone : Reads (codes "lpcert 1\nwaiting 1 65535 1\n") (record { claim = Waiting; leg = 1; group = record { 0 = 65535 }; upto = 1; lines = [] })
-  pub each_line : Reads (codes "lpcert 1\nfloor 0 0 9999999\nhold 2 1 7 8 12\nbusy 0 0 0\nborn 3 1 10\n") (record { claim = Floor; leg = 0; group = record { 0 = 0 }; upto = 9999999; lines = Hold (record { 0 = 2 }) (task 1) 7 8 12 ∷ Busy (record { 0 = 0 }) (task 0) 0 ∷ Born (record { 0 = 3 }) (task 1) 10 ∷ [] })
+  pub each_line : Reads each_line_text each_line_cert
+  pub each_line_spelled : input_text (record { trace = short_trace; cert = each_line_cert }) ≡ short_text ++ each_line_text
   pub no_certificate : Fails (codes "") 6 cause.Cert
   pub unended_division : Fails (codes "lpcert 1") 6 cause.Unended
   pub other_division : Fails (codes "lpcert 2\n") 6 cause.Word

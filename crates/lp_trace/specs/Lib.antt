@@ -17,6 +17,7 @@ pub mod OfRows
 pub mod Input
 pub mod Runs
 pub mod CheckReading
+pub mod CheckTexts
 pub mod CheckRows
 pub mod Answer
 pub mod Headline

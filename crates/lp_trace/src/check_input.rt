@@ -1,7 +1,8 @@
 //! The input of a check: a trace and a certificate.
-ghost use Rattle.std.specs.Prelude.{◌≡◌, ◌≤◌, [], IfSome, length, option_copied};
+ghost use Rattle.std.specs.Prelude.{◌≡◌, ◌≤◌, [], IfOk, IfSome, Ok, length, option_copied};
 ghost use Rattle.std.specs.Option.{option_map};
 ghost use Rattle.lp_trace.specs.CheckReading.{cert_after, cert_from, check_reading, divided, reasons_from};
+ghost use Rattle.lp_trace.specs.CheckTexts.{IsInput, input_text};
 ghost use Rattle.lp_trace.specs.Faults.{Gives};
 ghost use Rattle.lp_trace.specs.Words.{lines};
 
@@ -38,6 +39,10 @@ impl CheckInput {
     /// The trace and the certificate that an input spells, or the input's first fault; NoMemory
     /// where a growth was refused.
     pub fn read(alloc: Global, text: &[u8]) -> Result<CheckInput, ReadFault>
+        // What is read keeps the limits, and the text is its spelling.
+        ensures found { IfOk result (λ input. IsInput input × (text.now ≡ input_text input)) }
+        // What spells a trace and a certificate is read as these, unless memory runs out.
+        ensures only { (input : CheckInput) → IsInput input → text.now ≡ input_text input → Gives (λ read. read) result (Ok input) }
         // Which trace and certificate, or which fault: the first one.
         ensures exact { Gives (λ input. input) result (check_reading text.now) }
     {

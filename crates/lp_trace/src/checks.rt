@@ -7,6 +7,8 @@ ghost use Rattle.lp_checker.specs.Verdict.{verdict_on};
 ghost use Rattle.lp_trace.specs.Answer.{HoldsInTrace, ReadsInput, answer_to, answer_words, event_of};
 ghost use Rattle.lp_checker.specs.Faults.{fault_number};
 ghost use Rattle.lp_trace.specs.CheckReading.{check_reading};
+ghost use Rattle.lp_trace.specs.CheckTexts.{IsInput, input_text};
+ghost use Rattle.lp_trace.specs.Input.{ReadsAll};
 ghost use Rattle.lp_trace.specs.Runs.{AtTrace, AtWrite, BeforeWriting};
 ghost use Rattle.lp_trace.specs.Words.{line_of};
 ghost use Rattle.lp_trace.specs.Writing.{AppendsFront, Puts, Writes};
@@ -62,7 +64,7 @@ pub fn check<M: Consistency, R: Read, W: Write>(
 
 /// The input that a reader has.
 fn read_check<R: Read>(alloc: Global, reader: &mut R) -> Result<CheckInput, RunFault>
-    ensures found { IfOk result (λ found. ReadsInput (R.remaining reader.old) (R.remaining reader.new) (λ input. input ≡ found)) }
+    ensures found { IfOk result (λ input. IsInput input × ReadsAll (R.remaining reader.old) (R.remaining reader.new) (input_text input)) }
     ensures trace { IfErr result (λ fault. AtTrace fault (λ why. IfSome (R.remaining reader.old) (λ text. check_reading text ≡ Err why))) }
     ensures early { IfErr result (λ fault. AtWrite fault ⊥) }
 {

@@ -1,11 +1,12 @@
-//! Why a text is no trace, or could not be read.
+//! Why a text is no trace or no input of a check, or could not be read.
 ghost use Rattle.std.specs.Prelude.{◌≡◌};
 ghost use Rattle.lp_trace.specs.declared.fault.LineFault.TheVariants.{NoMemory as LineNoMemory};
 ghost use Rattle.lp_trace.specs.Faults.{cause_number, read_fault};
 
 use std::alloc::{AllocError, AllocFailed};
 
-/// What is wrong with a line of a trace text. On one line the first that fits, in this order.
+/// What is wrong with a line of a trace text, or of the input of a check. On one line the first that
+/// fits, in this order.
 #[derive(Clone, Copy, Debug, PartialEq, Eq)]
 pub enum Cause {
     /// L1: the first line is neither `lptrace 1` nor `lptrace 2`, or there are no bytes.
@@ -32,7 +33,7 @@ pub enum Cause {
     Many,
     /// L11: more than 134,217,728 bytes; at line 0, before all others.
     Long,
-    /// L12: what follows the trace is no certificate.
+    /// L12: in the input of a check, what follows the trace is no certificate.
     Cert,
 }
 
@@ -58,7 +59,7 @@ impl Cause {
     }
 }
 
-/// The first fault of a text that is no trace.
+/// The first fault of a text that is no trace, or no input of a check.
 #[derive(Clone, Copy, Debug, PartialEq, Eq)]
 pub struct TraceFault {
     /// The number of the line, from 1; 0 for the text as a whole.
@@ -70,7 +71,7 @@ pub struct TraceFault {
 /// Why a text was not read.
 #[derive(Clone, Copy, Debug, PartialEq, Eq)]
 pub enum ReadFault {
-    /// The text is no trace.
+    /// The text is no trace; of a check, no trace with a certificate behind it.
     Trace(TraceFault),
     /// A growth was refused.
     NoMemory,

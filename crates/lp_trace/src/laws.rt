@@ -1,7 +1,7 @@
-//! The laws of the trace text. The functions do nothing: each has a law as its contract.
+//! The laws of the trace text and of the input of a check. The functions do nothing: each has a law as its contract.
 ghost use Rattle.lp_trace.specs.CheckRows.{InputsCompute};
 ghost use Rattle.lp_trace.specs.Headline.{HeadlineHolds};
-ghost use Rattle.lp_trace.specs.Laws.{ReadsWhatIsSpelled, SpellsOne};
+ghost use Rattle.lp_trace.specs.Laws.{ReadsSpelledInputs, ReadsWhatIsSpelled, SpellsOne, SpellsOneInput};
 ghost use Rattle.lp_trace.specs.OfRows.{PartsCompute};
 ghost use Rattle.lp_trace.specs.Rows.{TextsCompute};
 
@@ -20,6 +20,16 @@ pub fn what_is_spelled_is_read()
 /// A text spells at most one trace.
 pub fn one_trace_a_text()
     ensures { SpellsOne }
+{}
+
+/// The input of a check is read exactly where it spells a trace and a certificate, and as these.
+pub fn inputs_are_read_as_spelled()
+    ensures { ReadsSpelledInputs }
+{}
+
+/// A text spells at most one trace and certificate.
+pub fn one_input_a_text()
+    ensures { SpellsOneInput }
 {}
 
 /// What the definitions make of short lists of parts: the trace, or the first place without a spelling.

@@ -24,20 +24,20 @@ use std::alloc::{AllocError, Global};
 use std::io::{self, Read, Write};
 use thiserror::Error;
 
-/// Why a run wrote no report, or not all of it.
+/// Why a run or a check didn't write its output, the report or the answer, or not all of it.
 #[derive(Debug, Drop, Error)]
 pub enum RunFault {
     /// The reader failed, or was interrupted. Nothing was written.
-    #[error("the trace can't be read: {0}")]
+    #[error("the input can't be read: {0}")]
     Read(io::Error),
-    /// The input is no trace. Nothing was written.
+    /// The input is no trace; of a check, no trace with a certificate behind it. Nothing was written.
     #[error("line {line}: L{number}", line = .0.line, number = .0.cause.number())]
     Trace(TraceFault),
     /// A growth was refused. Nothing was written.
     #[error("out of memory")]
     NoMemory,
-    /// The writer failed, was interrupted or took no byte. What was written is a front of the report.
-    #[error("the report can't be written")]
+    /// The writer failed, was interrupted or took no byte. What was written is a front of the output.
+    #[error("the output can't be written")]
     Write(WriteFault),
 }
 

@@ -1,17 +1,15 @@
-use Rattle.std.proofs.Common.{◌≡◌, ◌++◌, ap, sym, subst, List, ℕ, Option, None}
+use Rattle.std.proofs.Common.{◌≡◌, ◌++◌, ap, subst, List, ℕ, Option, None}
 use Rattle.lp_checker.specs.declared.fault.CertFault.{CertFault}
-use Rattle.lp_trace.specs.declared.check_input.CheckInput.{CheckInput}
-use Rattle.lp_trace.specs.Answer.{HoldsInTrace, answer_to, answer_words}
+use Rattle.lp_trace.specs.Answer.{answer_to, answer_words}
 use Rattle.lp_trace.specs.Words.{line_of}
 use Rattle.lp_trace.specs.Writing.{AppendsFront}
-use Rattle.lp_trace.proofs.CheckInputs.{input_mapped, none_is}
+use Rattle.lp_trace.proofs.CheckInputs.{none_is}
 use Rattle.lp_trace.proofs.checks.check.Goals as goal
 
 pub returns-in-Ok-clause-sound : goal.returns-in-Ok-clause-sound
 returns-in-Ok-clause-sound g c = λ accepted.
-    let model = g.M.Consistency.rules in
     let none : c.in_ok-answer.answer ≡ None = none_is c.in_ok-answer.answer c.is_none.result c.is_none.ensures accepted in
-    input_mapped (g.R.Read.remaining c.args.reader.now) (g.R.Read.remaining c.read_check.new.reader) (λ (input : CheckInput). input ≡ c.in_ok-input.input) (HoldsInTrace model) (λ input is. subst (HoldsInTrace model) (sym is) (c.in_ok-answer.ensures.sound none)) c.in_ok-input.ensures.found
+    (c.in_ok-input.input, c.in_ok-input.ensures.found.0, c.in_ok-input.ensures.found.1, c.in_ok-answer.ensures.sound none)
 
 pub returns-clause-front : goal.returns-clause-front
 returns-clause-front g c =
@@ -22,4 +20,4 @@ returns-clause-front g c =
     let Answered : Option CertFault → Type 0 = λ answer. Front (line_of (answer_words answer)) in
     let held : Answered c.in_ok-answer.answer = subst Front (ap (λ l. l ++ line_of (answer_words c.in_ok-answer.answer)) c.in_ok-page.ensures) c.in-Err.ensures in
     let written : Answered (answer_to model c.in_ok-input.input) = subst Answered c.in_ok-answer.ensures.answer held in
-    input_mapped (g.R.Read.remaining c.args.reader.now) (g.R.Read.remaining c.read_check.new.reader) (λ (input : CheckInput). input ≡ c.in_ok-input.input) (λ input. Answered (answer_to model input)) (λ input is. subst (λ (x : CheckInput). Answered (answer_to model x)) (sym is) written) c.in_ok-input.ensures.found
+    (c.in_ok-input.input, c.in_ok-input.ensures.found.0, c.in_ok-input.ensures.found.1, written)
