@@ -88,7 +88,7 @@ number_clean n small = digits_clean (decimal n) (digits_decimal own n (omega ari
 task_clean : (task : TaskId) → IsTask task → Clean (decimal task.0)
 task_clean task h = let high : task.0 < 65536 = h.1 in number_clean task.0 (omega arith)
 
-symbol_clean : (symbol : List ℕ) → is_name symbol ≡ true → Clean symbol
+pub symbol_clean : (symbol : List ℕ) → is_name symbol ≡ true → Clean symbol
 symbol_clean symbol h = graphic_clean symbol (name_graphic symbol h)
 
 name_clean : (s : List (List ℕ)) (id : SymId) → AreNames s → id.0 < length s → Clean (name s id)

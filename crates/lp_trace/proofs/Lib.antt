@@ -3,6 +3,7 @@ pub mod Cuts
 pub mod Symbols
 pub mod Choices
 pub mod Lines
+pub mod OnLines
 pub mod Drafts
 pub mod Spelled
 pub mod Pushes
@@ -13,11 +14,13 @@ pub mod Tails
 pub mod Pages
 pub mod Inputs
 pub mod RunFaults
+pub mod Intakes
 pub mod ReplyLists
 pub mod Reports
 pub mod Again
 pub mod Folds
 pub mod Complete
+pub mod LastWords
 pub mod Rows
 pub mod Fronts
 pub mod Parts

@@ -30,11 +30,11 @@ pub first_step : (line rest : List ℕ) → reading_lines (line ∷ parts 10 res
 first_step line rest = first line (parts 10 rest) (parts-some_there 10 rest)
 
 -- a cause at a line is the text's fault there
-is_fault : (e : LineFault) (number : ℕ) (x : Result TraceValue Cause) → IsLineFault e x → IsReadFault (read_fault number e) (fault_at number x)
+pub is_fault : (e : LineFault) (number : ℕ) (x : Result TraceValue Cause) → IsLineFault e x → IsReadFault (read_fault number e) (fault_at number x)
 is_fault line_fault.NoMemory number x h = tt
 is_fault (line_fault.Cause why) number x h = ap (fault_at number) h
 
-is_fault_after : (e : LineFault) (number : ℕ) (x : Result TraceValue Cause) (f : TraceValue → Result TraceValue TraceFault) → IsLineFault e x → IsReadFault (read_fault number e) (fault_at number x >>= f)
+pub is_fault_after : (e : LineFault) (number : ℕ) (x : Result TraceValue Cause) (f : TraceValue → Result TraceValue TraceFault) → IsLineFault e x → IsReadFault (read_fault number e) (fault_at number x >>= f)
 is_fault_after line_fault.NoMemory number x f h = tt
 is_fault_after (line_fault.Cause why) number x f h = ap (λ y. fault_at number y >>= f) h
 

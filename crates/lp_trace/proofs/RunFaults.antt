@@ -41,7 +41,7 @@ module _ {A : Type 0} (reads : List ℕ → Result A TraceFault) (long : (text :
   long_known (Some xs) (Some ys) much =
       long xs (omega (arith, much.2, ap length much.1, length-append much.0 ys))
 
-  input_fault : (old new : Option (List ℕ)) (fault : InputFault) (e : RunFault) → IsInputFault old new fault → e ≡ of_input fault → AtTrace e (λ why. IfSome old (λ text. reads text ≡ Err why))
+  pub input_fault : (old new : Option (List ℕ)) (fault : InputFault) (e : RunFault) → IsInputFault old new fault → e ≡ of_input fault → AtTrace e (λ why. IfSome old (λ text. reads text ≡ Err why))
   input_fault old new input.Long e much is =
       let P : RunFault → Type 0 = λ x. AtTrace x (λ why. IfSome old (λ text. reads text ≡ Err why)) in
       subst P (sym is) (long_known old new much)

@@ -103,3 +103,7 @@ symbol_at symbols name i distinct get =
     let there : prefix_len (λ x. not (bytes_eq name x)) symbols ≡ i = none_before_at symbols name i distinct get in
     let below : nat_lt i (length symbols) ≡ true = (Decides-ltb i (length symbols)).1 (slice_get_within symbols i name get) in
     rw (there, below) refl
+
+-- what stands at a place is a name
+pub name_at : (symbols : List (List ℕ)) (name : List ℕ) (i : ℕ) → AreNames symbols → slice_get symbols i ≡ Some name → is_name name ≡ true
+name_at symbols name i names get = holds_at (λ n. is_name n ≡ true) symbols i name names get

@@ -15,6 +15,7 @@ pub mod Of
 pub mod Fronts
 pub mod OfRows
 pub mod Input
+pub mod Pieces
 pub mod Runs
 pub mod CheckReading
 pub mod CheckTexts

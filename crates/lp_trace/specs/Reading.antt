@@ -68,6 +68,12 @@ symbol_of symbols name = do
   place ← needs cause.Unknown (position (bytes_eq name) symbols)
   Ok (record { 0 = place })
 
+-- the symbol that the last word names
+abbrev pub last_symbol : List (List ℕ) → List (List ℕ) → Result SymId Cause
+last_symbol symbols given = do
+  name ← last_word given
+  symbol_of symbols name
+
 -- the task of a number
 unfoldable pub task_of : ℕ → Result TaskId Cause
 task_of number = if nat_le 1 number && nat_lt number 65536 then Ok (record { 0 = number }) else Err cause.Task

@@ -1,6 +1,7 @@
 //! Why a text is no trace or no input of a check, or could not be read.
 ghost use Rattle.std.specs.Prelude.{◌≡◌};
 ghost use Rattle.lp_trace.specs.declared.fault.LineFault.TheVariants.{NoMemory as LineNoMemory};
+ghost use Rattle.lp_trace.specs.declared.fault.ReadFault.TheVariants.{NoMemory as ReadNoMemory};
 ghost use Rattle.lp_trace.specs.Faults.{cause_number, read_fault};
 
 use std::alloc::{AllocError, AllocFailed};
@@ -111,5 +112,13 @@ impl<T: Drop> From<AllocFailed<T>> for LineFault {
 
     fn from(_e: AllocFailed<T>) -> LineFault {
         LineFault::NoMemory
+    }
+}
+
+impl From<AllocError> for ReadFault {
+    ghost from_gives = { λ _ e. e ≡ ReadNoMemory };
+
+    fn from(_e: AllocError) -> ReadFault {
+        ReadFault::NoMemory
     }
 }

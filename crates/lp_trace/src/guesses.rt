@@ -1,11 +1,14 @@
 //! Symbols that were looked up last: most names of a trace come again and again.
-ghost use Rattle.std.specs.Prelude.{◌≡◌, Ok, IsTrue};
+ghost use Rattle.std.specs.Prelude.{◌≡◌, Ok, IsTrue, option_copied};
 ghost use Rattle.lp_trace.specs.Faults.{GivesLine};
-ghost use Rattle.lp_trace.specs.Reading.{symbol_of};
+ghost use Rattle.lp_trace.specs.Reading.{last_symbol};
+ghost use Rattle.lp_trace.specs.Left.{words_left};
+ghost use Rattle.lp_trace.specs.Words.{words};
 ghost use Rattle.lp_trace.specs.Traces.{AreNames};
 
-use crate::fault::LineFault;
+use crate::fault::{Cause, LineFault};
 use crate::line::symbol_of;
+use crate::words::last_word;
 use lp_symbols::{SymId, Symbols};
 
 /// At each place the symbol that was found last of the names that belong there. A name is compared
@@ -23,17 +26,27 @@ impl Guesses {
         }
     }
 
-    /// The symbol of a name.
+    /// The symbol of a name, which is to be the last word of a line. A name has no space in it, so
+    /// it is all that is left.
     #[inline(always)]
-    pub(crate) fn symbol_of(&mut self, symbols: &Symbols, name: &[u8]) -> Result<SymId, LineFault>
+    #[tactic(auto, unfolding(crate::specs::Reading::last_word))]
+    pub(crate) fn last_symbol(
+        &mut self,
+        symbols: &Symbols,
+        left: Option<&[u8]>,
+    ) -> Result<SymId, LineFault>
         requires names { AreNames symbols.now }
-        ensures { GivesLine (λ id. id) result (symbol_of symbols.now name.now) }
+        ensures { GivesLine (λ id. id) result (last_symbol symbols.now (words_left (option_copied left.entry))) }
     {
-        let place = usize::from(place_of(name));
+        let Some(rest) = left else {
+            return Err(LineFault::Cause(Cause::Shape));
+        };
+        let place = usize::from(place_of(rest));
         let guess = self.ids[place];
-        if is_name_of(symbols, guess, name) {
+        if is_name_of(symbols, guess, rest) {
             return Ok(guess);
         }
+        let name = last_word(left)?;
         let id = symbol_of(symbols, name)?;
         self.ids[place] = id;
         Ok(id)
@@ -58,7 +71,8 @@ fn place_of(name: &[u8]) -> u8 {
 /// Whether a symbol has this name.
 #[inline(always)]
 fn is_name_of(symbols: &Symbols, id: SymId, name: &[u8]) -> bool
-    ensures { IsTrue result → symbol_of symbols.now name.now ≡ Ok id }
+    requires names { AreNames symbols.now }
+    ensures { IsTrue result → last_symbol symbols.now (words name.now) ≡ Ok id }
 {
     if id.index() >= symbols.len() {
         return false;

@@ -1,14 +1,15 @@
 //! Reading an input to its end.
-ghost use Rattle.std.specs.Prelude.{◌≡◌, ◌<◌, ◌≤◌, length, IfOk, IfErr};
+ghost use Rattle.std.specs.Prelude.{◌≡◌, ℕ, ◌+◌, ◌<◌, ◌≤◌, List, length, take, IfOk, IfErr, OnOk};
+ghost use Rattle.std.specs.Io.KnownBytes.{Consumes, IsAtEnd};
 ghost use Rattle.lp_trace.specs.declared.input.InputFault.TheVariants.{NoMemory as InputNoMemory};
-ghost use Rattle.lp_trace.specs.Input.{ReadsAll, IsInputFault};
+ghost use Rattle.lp_trace.specs.Input.{ReadsAll, IsFaultBehind, IsInputFault};
 
 use crate::read::MOST_BYTES;
 use std::alloc::{AllocError, Global};
 use std::io::{self, Read};
 
 /// How many bytes one read asks for.
-const PIECE: usize = 131_072;
+pub(crate) const PIECE: usize = 131_072;
 
 /// Why an input was not read to its end.
 #[derive(Debug, Drop)]
@@ -54,14 +55,54 @@ fn read_pieces<R: Read>(
 {
     let mut text = Vec::new(alloc);
     loop {
-        let count = match reader.read(piece) {
+        let count = match read_piece(reader, piece, text.len()) {
             Ok(0) => return Ok(text),
             Ok(count) => count,
-            Err(error) => return Err(InputFault::Failed(error)),
+            Err(fault) => return Err(fault),
         };
-        if count > MOST_BYTES - text.len() {
-            return Err(InputFault::Long);
-        }
         text.extend_from_slice(&piece[..count])?;
+    }
+}
+
+/// Reads what is left behind so many bytes, and keeps nothing of it.
+pub(crate) fn skip_rest<R: Read>(
+    reader: &mut R,
+    piece: &mut [u8],
+    before: usize,
+) -> Result<(), InputFault>
+    requires some { 0 < length piece.old }
+    requires few { before ≤ 134217728 }
+    ensures end { OnOk result ((rest : List ℕ) × ReadsAll (R.remaining reader.old) (R.remaining reader.new) rest × (before + length rest ≤ 134217728)) }
+    ensures fault { IfErr result (λ fault. IsFaultBehind before (R.remaining reader.old) (R.remaining reader.new) fault) }
+{
+    let mut total = before;
+    loop {
+        match read_piece(reader, piece, total) {
+            Ok(0) => return Ok(()),
+            Ok(count) => total += count,
+            Err(fault) => return Err(fault),
+        }
+    }
+}
+
+/// Reads a piece behind so many bytes, and gives how many it has: none at the end.
+pub(crate) fn read_piece<R: Read>(
+    reader: &mut R,
+    piece: &mut [u8],
+    before: usize,
+) -> Result<usize, InputFault>
+    requires some { 0 < length piece.old }
+    requires few { before ≤ 134217728 }
+    ensures bytes { IfOk result (λ count. Consumes (R.remaining reader.old) (R.remaining reader.new) (take count piece.new)) }
+    ensures size { length piece.new ≡ length piece.old }
+    ensures within { IfOk result (λ count. count ≤ length piece.new) }
+    ensures few { IfOk result (λ count. before + count ≤ 134217728) }
+    ensures end { IfOk result (λ count. count ≡ 0 → IsAtEnd (R.remaining reader.new)) }
+    ensures fault { IfErr result (λ fault. IsFaultBehind before (R.remaining reader.old) (R.remaining reader.new) fault) }
+{
+    match reader.read(piece) {
+        Ok(count) if count > MOST_BYTES - before => Err(InputFault::Long),
+        Ok(count) => Ok(count),
+        Err(error) => Err(InputFault::Failed(error)),
     }
 }

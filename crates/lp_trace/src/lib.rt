@@ -18,6 +18,7 @@ mod number;
 mod of;
 mod outcome;
 mod page;
+mod pieces;
 mod read;
 mod replays;
 mod replies;

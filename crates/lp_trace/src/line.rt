@@ -57,7 +57,7 @@ fn no_word(event: Event, left: Option<&[u8]>) -> Result<Event, LineFault>
 
 /// `call T NAME`; the name comes before the number.
 #[inline(always)]
-#[tactic(auto, unfolding(crate::specs::Reading::call_line))]
+#[tactic(auto, using(crate::proofs::LastWords::then_then), unfolding(crate::specs::Reading::call_line))]
 fn call_line(
     symbols: &Symbols,
     guesses: &mut Guesses,
@@ -67,8 +67,7 @@ fn call_line(
     ensures { GivesLine (λ event. event) result (call_line symbols.now (words_left (option_copied left.entry))) }
 {
     let (number, left) = next_number(left)?;
-    let name = last_word(left)?;
-    let func = guesses.symbol_of(symbols, name)?;
+    let func = guesses.last_symbol(symbols, left)?;
     let task = task_of(number)?;
     Ok(Event::Call(task, func))
 }

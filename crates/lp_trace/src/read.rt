@@ -1,9 +1,10 @@
 //! Reading a trace text.
-ghost use Rattle.std.specs.Prelude.{◌≡◌, ◌≤◌, length, IfOk, Ok};
+ghost use Rattle.std.specs.Prelude.{◌≡◌, ◌+◌, ◌≤◌, length, IfOk, Ok};
 ghost use Rattle.lp_trace.specs.Faults.{Gives};
-ghost use Rattle.lp_trace.specs.Reading.{reading, reading_from};
+ghost use Rattle.lp_trace.specs.Reading.{empty, fault_at, needs, reading, reading_from, reading_lines};
+ghost use Rattle.lp_trace.specs.declared.fault.Cause.TheVariants as cause;
 ghost use Rattle.lp_trace.specs.Traces.{IsTrace, TraceValue, text_of};
-ghost use Rattle.lp_trace.specs.Words.{lines};
+ghost use Rattle.lp_trace.specs.Words.{form_of, lines};
 
 use crate::draft::Draft;
 use crate::fault::{Cause, LineFault, ReadFault};
@@ -33,13 +34,22 @@ impl Trace {
 }
 
 /// What a text spells.
-#[tactic(auto, using(crate::proofs::Lines::first_step), unfolding(crate::specs::Reading::reading, crate::specs::Reading::reading_lines))]
+#[tactic(auto, unfolding(crate::specs::Reading::reading))]
 pub(crate) fn read_text(alloc: Global, text: &[u8]) -> Result<Draft, ReadFault>
     ensures { Gives (λ draft. draft) result (reading text.now) }
 {
     if text.len() > MOST_BYTES {
         return Err(LineFault::Cause(Cause::Long).at(0));
     }
+    read_all_lines(alloc, text)
+}
+
+/// All lines of a text.
+#[tactic(auto, using(crate::proofs::Lines::first_step), unfolding(crate::specs::Reading::reading_lines))]
+pub(crate) fn read_all_lines(alloc: Global, text: &[u8]) -> Result<Draft, ReadFault>
+    requires { length text.now ≤ 134217728 }
+    ensures { Gives (λ draft. draft) result (reading_lines (lines text.now)) }
+{
     let (first, rest) = cut(b'\n', text);
     let Some(rest) = rest else {
         let cause = if first.is_empty() {
@@ -49,21 +59,35 @@ pub(crate) fn read_text(alloc: Global, text: &[u8]) -> Result<Draft, ReadFault>
         };
         return Err(LineFault::Cause(cause).at(1));
     };
+    let draft = begun(alloc, first)?;
+    read_lines(alloc, 2, draft, rest)
+}
+
+/// What the first line gives.
+pub(crate) fn begun(alloc: Global, first: &[u8]) -> Result<Draft, ReadFault>
+    ensures form { Gives (λ draft. draft.form) result (fault_at 1 (needs cause.Header (form_of first.now))) }
+    ensures empty { IfOk result (λ draft. draft ≡ empty draft.form) }
+{
     let Some(form) = TraceForm::of(first) else {
         return Err(LineFault::Cause(Cause::Header).at(1));
     };
     match Draft::new(alloc, form) {
-        Ok(draft) => read_lines(alloc, draft, rest),
+        Ok(draft) => Ok(draft),
         Err(fault) => Err(fault.at(1)),
     }
 }
 
-/// The lines after the first, over what the first gave.
-fn read_lines(alloc: Global, mut draft: Draft, text: &[u8]) -> Result<Draft, ReadFault>
-    requires { length text.now ≤ 134217728 }
-    ensures { Gives (λ draft. draft) result (reading_from 2 draft (lines text.now)) }
+/// The lines from that of a number on, over what the lines before gave.
+pub(crate) fn read_lines(
+    alloc: Global,
+    first: u64,
+    mut draft: Draft,
+    text: &[u8],
+) -> Result<Draft, ReadFault>
+    requires { first + length text.now ≤ 134217730 }
+    ensures { Gives (λ draft. draft) result (reading_from first draft (lines text.now)) }
 {
-    let mut number = 2;
+    let mut number = first;
     let mut rest = text;
     loop {
         let (line, left) = cut(b'\n', rest);

@@ -12,9 +12,10 @@ ghost use Rattle.lp_trace.specs.Traces.{IsTrace, text_of};
 ghost use Rattle.lp_trace.specs.Writing.{AppendsFront};
 
 use crate::fault::{Cause, ReadFault, TraceFault};
-use crate::input::{InputFault, read_input};
+use crate::input::InputFault;
 use crate::outcome::Outcome;
 use crate::page::Page;
+use crate::pieces::read_draft;
 use crate::replays::{ReplayFault, replay};
 use crate::report::write_report;
 use crate::trace::Trace;
@@ -126,9 +127,8 @@ fn read_trace<R: Read>(alloc: Global, reader: &mut R) -> Result<Trace, RunFault>
     ensures trace { IfErr result (λ fault. AtTrace fault (λ why. IfSome (R.remaining reader.old) (λ text. reading text ≡ Err why))) }
     ensures early { IfErr result (λ fault. AtWrite fault ⊥) }
 {
-    let text = read_input(alloc, reader)?;
-    let trace = Trace::read(alloc, text.as_slice())?;
-    Ok(trace)
+    let draft = read_draft(alloc, reader)?;
+    Ok(draft.into_trace())
 }
 
 /// What a trace comes to under a model.

@@ -88,12 +88,15 @@ pub(crate) fn next_number(left: Option<&[u8]>) -> Result<(u32, Option<&[u8]>), L
     Ok((number, left))
 }
 
-/// The next word of a line as a number, which is to be the last.
+/// The next word of a line as a number, which is to be the last. A number has no space in it, so it
+/// is all that is left.
 #[inline(always)]
-#[tactic(auto, unfolding(crate::specs::Reading::last_number))]
+#[tactic(auto, using(crate::proofs::LastWords::number_alone), unfolding(crate::specs::Reading::last_number, crate::specs::Reading::last_word))]
 pub(crate) fn last_number(left: Option<&[u8]>) -> Result<u32, LineFault>
     ensures { GivesLine (λ number. number) result (last_number (words_left (option_copied left.entry))) }
 {
-    let word = last_word(left)?;
+    let Some(word) = left else {
+        return Err(LineFault::Cause(Cause::Shape));
+    };
     number_of(word).ok_or(LineFault::Cause(Cause::Shape))
 }

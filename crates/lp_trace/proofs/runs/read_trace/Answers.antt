@@ -1,6 +1,15 @@
-use Rattle.lp_trace.proofs.RunFaults.{input_fault_of, long_reading}
+use Rattle.std.proofs.Common.{subst}
+use Rattle.lp_trace.specs.Input.{ReadsAll}
+use Rattle.lp_trace.proofs.Sound.{sound}
 use Rattle.lp_trace.proofs.runs.read_trace.Goals as goal
 
-pub returns-in_err-text-clause-trace : goal.returns-in_err-text-clause-trace
-returns-in_err-text-clause-trace g c =
-    input_fault_of _ long_reading (g.R.Read.remaining c.args.reader.now) (g.R.Read.remaining c.read_input.new.reader) c.in_err-text.field-0.0 c.from_residual.result c.in_err-text.ensures.fault c.from_residual.ensures.1
+pub into_trace-requires : goal.into_trace-requires
+into_trace-requires g c =
+    let found = c.in_ok-draft.ensures.found in
+    (sound found.0 c.in_ok-draft.draft found.2).0
+
+pub returns-clause-found : goal.returns-clause-found
+returns-clause-found g c =
+    let found = c.in_ok-draft.ensures.found in
+    let trace = sound found.0 c.in_ok-draft.draft found.2 in
+    rw c.into_trace.ensures (trace.0, subst (λ text. ReadsAll (g.R.Read.remaining c.args.reader.now) (g.R.Read.remaining c.read_draft.new.reader) text) trace.1 found.1)
