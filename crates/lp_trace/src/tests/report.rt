@@ -45,19 +45,36 @@ fn patches(alloc: Global) -> Result<PatchStack, Fail> {
     Ok(PatchStack::new(alloc, vec![in alloc; set]?)?)
 }
 
-/// The legs that these events open under `hybrid`, with this patch and so many tasks.
-fn legs(alloc: Global, tasks: u16, events: &[Event]) -> Result<LegList, Fail> {
-    let mut boots = Vec::new(alloc);
-    for task in 0..tasks {
-        boots.push((TaskId(task + 1), Class::Normal))?;
+/// Engine and maker for one event.
+fn feed(
+    alloc: Global,
+    core: &mut Core<Hybrid>,
+    maker: &mut Maker,
+    event: Event,
+) -> Result<(), Fail> {
+    let step = core.weigh_any(alloc, event)?;
+    maker.ready(alloc, core, &step)?;
+    maker.note(core, &step);
+    core.take(step);
+    Ok(())
+}
+
+/// So many tasks, from 1 on.
+fn tasks(alloc: Global, count: u16) -> Result<Vec<(TaskId, Class)>, Fail> {
+    let mut tasks = Vec::new(alloc);
+    for task in 0..count {
+        tasks.push((TaskId(task + 1), Class::Normal))?;
     }
-    let mut core = Core::boot(alloc, Hybrid, patches(alloc)?, boots.as_slice())?;
+    Ok(tasks)
+}
+
+/// The legs that these events open under `hybrid`, with this patch and so many tasks.
+fn legs(alloc: Global, count: u16, events: &[Event]) -> Result<LegList, Fail> {
+    let tasks = tasks(alloc, count)?;
+    let mut core = Core::boot(alloc, Hybrid, patches(alloc)?, tasks.as_slice())?;
     let mut maker = Maker::new(alloc)?;
     for event in events {
-        let step = core.weigh_any(alloc, *event)?;
-        maker.ready(alloc, &core, &step)?;
-        maker.note(&core, &step);
-        core.take(step);
+        feed(alloc, &mut core, &mut maker, *event)?;
     }
     Ok(LegList::from_vec(maker.into_ends(alloc)?))
 }
