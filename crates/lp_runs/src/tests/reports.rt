@@ -1,11 +1,13 @@
 //! Traces in and their reports out, as texts that are worked out by hand from the definitions, and
 //! the same over readers and writers that fail.
+mod accepted;
 mod certificates;
 mod checks;
 mod faults;
 mod streams;
 
 use super::*;
+use accepted::are_accepted;
 use lp_models::{AllAtOnce, Hybrid, Immediate, LeaveKernel};
 use lp_process::ProcessGroup;
 use lp_trace::run;
@@ -39,8 +41,8 @@ fn report_of<M: Consistency>(
     Ok(sink.into_taken())
 }
 
-/// Whether the run of a trace of one patch has this report.
-fn reports<M: Consistency>(
+/// Whether the run of a trace of one patch has this report, of which each certificate is accepted.
+fn reports<M: Consistency + Copy>(
     alloc: Global,
     name: &str,
     model: M,
@@ -51,7 +53,7 @@ fn reports<M: Consistency>(
     let head = format!(in alloc; "lpreport 1 / model {name}")?;
     let wanted = text_of(alloc, head.as_str(), report)?;
     let taken = report_of(alloc, name, model, text.as_str())?;
-    Ok(taken.as_slice() == wanted.as_bytes())
+    Ok(taken.as_slice() == wanted.as_bytes() && are_accepted(alloc, model, text.as_str(), report)?)
 }
 
 #[test]
@@ -192,12 +194,15 @@ fn patches_stand_on_one_another(rt: HostRuntime) -> Result<(), Fail> {
         "lptrace 2 / sym a / sym b / patch 1 a / patch 2 b / boot 1 normal",
         "enable / enter 1 / exit 1 / enter 1 / call 1 a / sleep 1 / enable / walk / disable / walk / disable / walk",
     )?;
+    let ends =
+        "leg 1 to 1 complete 3 / floor 1 1 2 / leg 7 to 2 complete 8 / floor 7 1 7 / leg 9 to 1 complete 10 / floor 9 1 9 / leg 11 to 0 waiting 1 / waiting 11 1 12 / hold 1 1 5 12 12 / stays 1 mixed 0";
     let wanted = text_of(
         rt.alloc(),
         "lpreport 2 / model hybrid / 1 done / 2 done / 3 over 1 complete / 4 done / 5 ran 1 / 6 done / 7 done / 8 over 1 complete / 9 done / 10 over 1 complete / 11 done / 12 done",
-        "leg 1 to 1 complete 3 / floor 1 1 2 / leg 7 to 2 complete 8 / floor 7 1 7 / leg 9 to 1 complete 10 / floor 9 1 9 / leg 11 to 0 waiting 1 / waiting 11 1 12 / hold 1 1 5 12 12 / stays 1 mixed 0",
+        ends,
     )?;
     let taken = report_of(rt.alloc(), "hybrid", Hybrid, text.as_str())?;
     assert_eq!(rt; taken.as_slice(), wanted.as_bytes());
+    assert!(rt; are_accepted(rt.alloc(), Hybrid, text.as_str(), ends)?);
     Ok(())
 }
