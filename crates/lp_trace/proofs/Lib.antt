@@ -42,3 +42,4 @@ pub mod Moved
 pub mod GroupsInRange
 pub mod LegByLeg
 pub mod Headline
+pub mod HeadlineRows

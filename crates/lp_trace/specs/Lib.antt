@@ -22,3 +22,4 @@ pub mod CheckTexts
 pub mod CheckRows
 pub mod Answer
 pub mod Headline
+pub mod HeadlineRows

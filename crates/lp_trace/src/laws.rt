@@ -1,6 +1,9 @@
 //! The laws of the trace text and of the input of a check. The functions do nothing: each has a law as its contract.
+ghost use Rattle.lp_model.specs.Table.{rules_of};
+ghost use Rattle.lp_models.specs.Models.{hybrid};
 ghost use Rattle.lp_trace.specs.CheckRows.{InputsCompute};
 ghost use Rattle.lp_trace.specs.Headline.{HeadlineHolds};
+ghost use Rattle.lp_trace.specs.HeadlineRows.{HeadlineRefuses};
 ghost use Rattle.lp_trace.specs.Laws.{ReadsSpelledInputs, ReadsWhatIsSpelled, SpellsOne, SpellsOneInput};
 ghost use Rattle.lp_trace.specs.OfRows.{PartsCompute};
 ghost use Rattle.lp_trace.specs.Rows.{TextsCompute};
@@ -47,4 +50,11 @@ pub fn worked_inputs()
 /// a certificate that the checker accepts; and under a whole-call model each stay runs one version.
 pub fn headline_holds<M: Consistency>()
     ensures { HeadlineHolds M.rules }
+{}
+
+/// Four short runs: the headline holds of the answer to each, and refuses what a wrong engine would
+/// answer. In these a group goes over at its second check that the model allows; a check looks at
+/// the top frame alone; a child is on the target from birth; a leg is complete at checks alone.
+pub fn headline_refuses()
+    ensures { HeadlineRefuses (rules_of hybrid) }
 {}
