@@ -1,9 +1,9 @@
 -- What is read of a reader piece by piece.
-use Rattle.std.proofs.Common.{◌≡◌, ◌≤◌, ◌+◌, ℕ, false, List, ◌++◌, length, Option, None, Some, IfSome, Result, Ok, Err, refl, sym, ap, ◌∙◌, subst, append_assoc, arith, nat_lt, ◌<◌}
+use Rattle.std.proofs.Common.{◌≡◌, ◌≤◌, ◌+◌, ℕ, false, List, ◌++◌, length, Option, IfSome, Err, refl, sym, ap, ◌∙◌, subst, append_assoc, arith, nat_lt, ◌<◌}
 use Rattle.std.proofs.lemmas.List.{length-append}
 use Rattle.std.proofs.lemmas.Bool.Decides.{Decides-ltb}
 use Rattle.std.specs.Prelude.{Bool, true}
-use Rattle.std.specs.Io.KnownBytes.{Consumes, IsAtEnd}
+use Rattle.std.specs.Io.KnownBytes.{Consumes}
 use Rattle.lp_trace.specs.declared.fault.ReadFault.{ReadFault}
 use Rattle.lp_trace.specs.declared.fault.ReadFault.TheVariants as read
 use Rattle.lp_trace.specs.declared.input.InputFault.{InputFault}

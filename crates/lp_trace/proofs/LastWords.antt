@@ -1,15 +1,15 @@
 -- Numbers and names as the last words of lines: neither has a space in it.
-use Rattle.std.proofs.Common.{◌≡◌, ◌<◌, ◌≤◌, ℕ, suc, Bool, true, false, List, [], ◌∷◌, ◌++◌, length, Option, None, Some, Result, Ok, Err, refl, sym, ap, ◌∙◌, arith}
+use Rattle.std.proofs.Common.{◌≡◌, ◌<◌, ℕ, suc, Bool, true, false, List, [], ◌∷◌, ◌++◌, length, None, Result, Ok, Err, refl, sym, ap, ◌∙◌, arith}
 use Rattle.std.specs.Prelude.{◌==◌, ◌&&◌, ◌||◌, not, nat_le, slice_index, if◌then◌else◌}
-use Rattle.std.specs.Char.{is_ascii_digit, is_ascii_graphic}
-use Rattle.std.specs.List.{All, join_with_byte, list_all, slice_split}
+use Rattle.std.specs.Char.{is_ascii_digit}
+use Rattle.std.specs.List.{join_with_byte, list_all}
 use Rattle.std.proofs.lemmas.List.Folds.{list_all-append}
 use Rattle.std.proofs.lemmas.Bool.Decides.{Decides-eqb}
-use Rattle.std.proofs.lemmas.List.Splits.{join_with_byte-slice_split, length-slice_split, slice_split_none}
+use Rattle.std.proofs.lemmas.List.Splits.{join_with_byte-slice_split, length-slice_split}
 use Rattle.lp_symbols.specs.Names.{is_name}
 use Rattle.lp_trace.specs.declared.fault.Cause.{Cause}
 use Rattle.lp_trace.specs.declared.fault.Cause.TheVariants as cause
-use Rattle.lp_trace.specs.Words.{is_numeral, number_of, parts, words}
+use Rattle.lp_trace.specs.Words.{number_of, parts, words}
 use Rattle.lp_trace.specs.Reading.{◌>>=◌, last_number, last_word, needs}
 use Rattle.lp_trace.proofs.Complete.{symbol_clean, words_again}
 

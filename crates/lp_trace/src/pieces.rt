@@ -78,7 +78,12 @@ impl Intake {
         ensures few { OnOk result (self.new.number + length self.new.held ≤ self.old.number + length self.old.held) }
         ensures fault { IfErr result (λ fault. (bytes : List ℕ) → IsReadFault fault (reading_after self.old bytes)) }
     {
-        let rest = take_front(alloc, &mut self.draft, &mut self.number, self.held.as_slice())?;
+        let rest = take_front(
+            alloc,
+            &mut self.draft,
+            &mut self.number,
+            self.held.as_slice(),
+        )?;
         self.next.clear();
         self.next.extend_from_slice(rest)?;
         mem::swap(&mut self.held, &mut self.next);
@@ -91,7 +96,12 @@ impl Intake {
         requires few { self.number + length self.held ≤ 134217729 }
         ensures { Gives (λ draft. draft) result (reading_after self []) }
     {
-        let Self { draft, number, held, .. } = self;
+        let Self {
+            draft,
+            number,
+            held,
+            ..
+        } = self;
         match draft {
             None => read_all_lines(alloc, held.as_slice()),
             Some(draft) => read_lines(alloc, number, draft, held.as_slice()),

@@ -1,4 +1,4 @@
-use Rattle.std.proofs.Common.{◌++◌, length, take, ◌∙◌, arith}
+use Rattle.std.proofs.Common.{◌++◌, take, ◌∙◌, arith}
 use Rattle.std.proofs.lemmas.List.{length-append, length-take-le}
 use Rattle.lp_trace.proofs.Inputs.{consumes_more}
 use Rattle.lp_trace.proofs.Intakes.{behind}

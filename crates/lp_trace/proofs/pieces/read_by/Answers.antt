@@ -39,12 +39,12 @@ returns-in-Err-add-clause-trace g c =
     let piece : List ℕ = take c.in-Ok.count c.read_piece.new.piece in
     let size : length piece ≡ c.in-Ok.count = length-take-le c.in-Ok.count c.read_piece.new.piece c.in-Ok.ensures.within in
     elim c.match-skip_rest.branch [
-      in-Ok-skip_rest w ↦
-        let rest = w.in-Ok-skip_rest.ensures.end in
-        let few : length so_far.0 + length (piece ++ rest.0) ≤ 134217728 = omega (arith, so_far.2, size, rest.2, length-append piece rest.0) in
-        rw w.result-is (trace_fault before now so_far.0 c.loop-count.intake so_far.1 so_far.3 last (piece ++ rest.0) c.in-Err-add.fault w.from-in-Ok-skip_rest.result (consumes_more now then last piece rest.0 c.in-Ok.ensures.bytes rest.1.0, rest.1.1) few (c.in-Err-add.ensures.fault rest.0) w.from-in-Ok-skip_rest.ensures)
+      | in-Ok-skip_rest w ↦
+          let rest = w.in-Ok-skip_rest.ensures.end in
+          let few : length so_far.0 + length (piece ++ rest.0) ≤ 134217728 = omega (arith, so_far.2, size, rest.2, length-append piece rest.0) in
+          rw w.result-is (trace_fault before now so_far.0 c.loop-count.intake so_far.1 so_far.3 last (piece ++ rest.0) c.in-Err-add.fault w.from-in-Ok-skip_rest.result (consumes_more now then last piece rest.0 c.in-Ok.ensures.bytes rest.1.0, rest.1.1) few (c.in-Err-add.ensures.fault rest.0) w.from-in-Ok-skip_rest.ensures)
       | in-Err-skip_rest w ↦
-        rw w.result-is (input_fault_behind before then last (so_far.0 ++ piece) (c.loop-count.total + c.in-Ok.count) w.in-Err-skip_rest.later w.from-in-Err-skip_rest.result (consumes_more before now then so_far.0 piece so_far.1 c.in-Ok.ensures.bytes) (omega (arith, so_far.2, size, length-append so_far.0 piece)) w.in-Err-skip_rest.ensures.fault w.from-in-Err-skip_rest.ensures)
+          rw w.result-is (input_fault_behind before then last (so_far.0 ++ piece) (c.loop-count.total + c.in-Ok.count) w.in-Err-skip_rest.later w.from-in-Err-skip_rest.result (consumes_more before now then so_far.0 piece so_far.1 c.in-Ok.ensures.bytes) (omega (arith, so_far.2, size, length-append so_far.0 piece)) w.in-Err-skip_rest.ensures.fault w.from-in-Err-skip_rest.ensures)
     ]
 
 pub loop-count-preserved : goal.loop-count-preserved

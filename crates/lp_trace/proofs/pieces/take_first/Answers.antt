@@ -1,5 +1,4 @@
 use Rattle.std.proofs.Common.{ℕ, List, ◌++◌, ◌∙◌}
-use Rattle.lp_trace.specs.declared.fault.ReadFault.{ReadFault}
 use Rattle.lp_trace.specs.Faults.{IsReadFault}
 use Rattle.lp_trace.specs.Left.{IsCut}
 use Rattle.lp_trace.specs.Reading.{reading_lines}
