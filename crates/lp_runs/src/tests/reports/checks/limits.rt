@@ -36,7 +36,9 @@ fn is_no_cert(alloc: Global, place: usize, line: &str) -> Result<bool, Fail> {
     let mut sink = Sink::whole(alloc, 1);
     Ok(match check(alloc, Hybrid, &mut source, &mut sink) {
         Err(RunFault::Trace(fault)) => {
-            fault.line == 16 + place as u64 && fault.cause.number() == 12 && sink.taken().is_empty()
+            fault.line.checked_sub(16) == Some(place as u64)
+                && fault.cause.number() == 12
+                && sink.taken().is_empty()
         }
         _ => false,
     })
