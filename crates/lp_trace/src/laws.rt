@@ -1,4 +1,4 @@
-//! The laws of the trace text and of the input of a check. The functions do nothing: each has a law as its contract.
+//! The laws of traces, of the inputs of checks, and the headline. The functions do nothing: each has a law as its contract.
 ghost use Rattle.lp_model.specs.Table.{rules_of};
 ghost use Rattle.lp_models.specs.Models.{hybrid};
 ghost use Rattle.lp_trace.specs.CheckRows.{InputsCompute};
