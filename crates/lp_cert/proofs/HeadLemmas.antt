@@ -117,7 +117,7 @@ ongoing_fits scans g Nothing rs goes fits = fits
 ongoing_fits scans g (Hold t serial from) rs goes fits = (tt, fits)
 ongoing_fits scans g (Busy t first) rs goes fits = ((omega arith, omega arith), fits)
 
-busy_some : (scans : List ℕ) (first : ℕ) → first < length scans → 0 < length (reverse (drop first (take (length scans) scans)))
+pub busy_some : (scans : List ℕ) (first : ℕ) → first < length scans → 0 < length (reverse (drop first (take (length scans) scans)))
 busy_some scans first h =
     let e = length-reverse (drop first (take (length scans) scans)) in
     let d = length-drop first (take (length scans) scans) in

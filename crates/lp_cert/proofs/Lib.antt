@@ -3,6 +3,7 @@ pub mod ChainLemmas
 pub mod PartLemmas
 pub mod LineLemmas
 pub mod HeadLemmas
+pub mod Settling
 pub mod WrittenLemmas
 pub mod Past
 pub mod NextLines

@@ -9,3 +9,4 @@ pub mod Laws
 pub mod Waiters
 pub mod Ends
 pub mod Kept
+pub mod Settled

@@ -1,0 +1,136 @@
+-- Whom a scan needn't look at again, and what a further refusal of a settled task makes of its group's lines.
+use Rattle.std.proofs.Common.{◌≡◌, ◌≢◌, ℕ, ◌+◌, ◌<◌, Bool, true, false, List, [], ◌∷◌, ◌++◌, length, map, reverse, take, drop, is_some, nat_eq, get_or, refl, sym, ap, subst, ◌∙◌, arith}
+use Rattle.std.proofs.lemmas.Bool.{cond-true, eq-eqb}
+use Rattle.lp_stack.specs.declared.number.GroupId.{GroupId}
+use Rattle.lp_stack.specs.declared.number.TaskId.{TaskId}
+use Rattle.lp_model.specs.declared.check.CheckKind.{CheckKind}
+use Rattle.lp_model.specs.declared.check.Blame.{Blame}
+use Rattle.lp_model.specs.declared.check.Blame.TheVariants as blame
+use Rattle.lp_model.specs.Rules.{Rules}
+use Rattle.lp_transition.specs.Tasks.{Live}
+use Rattle.lp_transition.specs.Leg.{Standing, State}
+use Rattle.lp_transition.specs.Machine.{view_of}
+use Rattle.lp_cert.specs.declared.line.Line.{Line}
+use Rattle.lp_cert.specs.declared.line.Line.TheVariants as line
+use Rattle.lp_cert.specs.declared.reason.Reason.{Reason}
+use Rattle.lp_cert.specs.declared.reason.Reason.TheVariants as reason
+use Rattle.lp_cert.specs.declared.ongoing.Ongoing.{Ongoing}
+use Rattle.lp_cert.specs.declared.ongoing.Ongoing.TheVariants.{Nothing, Hold, Busy}
+use Rattle.lp_cert.specs.declared.head.Head.{Head}
+use Rattle.lp_cert.specs.declared.head.Refused.{Refused}
+use Rattle.lp_cert.specs.Made.{after_refusal, task_id}
+use Rattle.lp_cert.specs.Heads.{lines_of, ongoing_reasons, head_lines, GoesOnIn, IsUnchecked, IsHead, IsRefusedBy, HasFrameAs, stays}
+use Rattle.lp_cert.specs.Settled.{GoesOn, AreSettled}
+use Rattle.lp_cert.proofs.HeadLemmas.{busy_some, refused_on}
+
+-- ---- Whom a scan leaves out
+
+module _ (model : Rules) (s : State) (lines : ℕ → List Line) (kind : CheckKind) (unsettled : ℕ → Bool) (settled : AreSettled model s lines kind unsettled) where
+  -- who waits and is left out would be refused
+  pub left_out_refused : (t : ℕ) (x : Standing) → s.tasks t ≡ Live x → nat_eq x.level s.target ≡ false → unsettled t ≡ false → is_some (model.blame kind (view_of t x) s.aim) ≡ true
+  left_out_refused t x live off out = ap is_some (settled t x live off out).refused
+
+  -- of a group that waits all members are left out, or none
+  pub left_out_together : (t u : ℕ) (x y : Standing) → s.tasks t ≡ Live x → s.tasks u ≡ Live y → nat_eq x.level s.target ≡ false → nat_eq y.level s.target ≡ false → x.group ≡ y.group → unsettled t ≡ unsettled u
+  left_out_together t u x y live there off behind same = by (unsettled t) (unsettled u) refl refl
+    where
+      by : (a b : Bool) → unsettled t ≡ a → unsettled u ≡ b → unsettled t ≡ unsettled u
+      by true true first second = first ∙ sym second
+      by false b first second = ap unsettled (sym ((settled t x live off first).alone u y there (sym same)))
+      by true false first second = ap unsettled ((settled u y there behind second).alone t x live same)
+
+-- ---- One line more, or a line that goes on
+
+module _ (has_frame : (task serial : ℕ) → Bool) (group at t : ℕ) (why : Blame) where
+  -- the newest line goes on once more
+  pub goes_on_after : (lines : List Line) → GoesOn has_frame t why lines → GoesOn has_frame t why (after_refusal has_frame group at (t, why) lines)
+  goes_on_after [] h = absurd h
+  goes_on_after (line.Hold g task serial from to ∷ older) h =
+      let held : has_frame task.0 serial ≡ true = ap (λ n. has_frame n serial) h.0 ∙ h.1 in
+      subst (GoesOn has_frame t why) (sym (cond-true (has_frame task.0 serial) (line.Hold g task serial from at ∷ older) _ held)) h
+  goes_on_after (line.Busy g task on ∷ older) h =
+      subst (λ b. GoesOn has_frame t why (after_refusal has_frame group at (t, b) (line.Busy g task on ∷ older))) (sym h.1) (refl, h.1)
+  goes_on_after (line.Born g p on ∷ older) h = absurd h
+
+-- what goes on of a head goes on with this refusal of the task
+abbrev pub OngoingGoesOn : (has_frame : (task serial : ℕ) → Bool) → (task : ℕ) → Blame → Ongoing → Type 0
+OngoingGoesOn has_frame t why Nothing = ⊥
+OngoingGoesOn has_frame t why (Hold task serial from) = (task.0 ≡ t) × (has_frame t serial ≡ true)
+OngoingGoesOn has_frame t why (Busy task first) = (task.0 ≡ t) × (why ≡ blame.Busy)
+
+module _ (has_frame : (task serial : ℕ) → Bool) (t : ℕ) (why : Blame) where
+  -- lines of a busy task in front
+  busy_front : (g : GroupId) (task : TaskId) (ys : List ℕ) (rest : List Line) → 0 < length ys → GoesOn has_frame t why (map (λ on. line.Busy g task on) ys ++ rest) → (task.0 ≡ t) × (why ≡ blame.Busy)
+  busy_front g task [] rest some h = absurd (omega arith)
+  busy_front g task (y ∷ ys) rest some h = h
+
+  front_busy : (g : GroupId) (task : TaskId) (ys : List ℕ) (rest : List Line) → 0 < length ys → (task.0 ≡ t) × (why ≡ blame.Busy) → GoesOn has_frame t why (map (λ on. line.Busy g task on) ys ++ rest)
+  front_busy g task [] rest some h = absurd (omega arith)
+  front_busy g task (y ∷ ys) rest some h = h
+
+  unchecked_front : (scans : List ℕ) (rs : List Reason) → IsUnchecked rs → GoesOn has_frame t why (lines_of scans rs) → ⊥
+  unfolding lines_of
+  unchecked_front scans [] calm h = h
+  unchecked_front scans (reason.One (line.Born g p on) ∷ rs) calm h = h
+  unchecked_front scans (reason.One (line.Hold g task serial from to) ∷ rs) calm h = calm
+  unchecked_front scans (reason.One (line.Busy g task on) ∷ rs) calm h = calm
+  unchecked_front scans (reason.Busy g task first end ∷ rs) calm h = calm
+
+  -- the newest line tells what goes on
+  ongoing_of : (scans : List ℕ) (g : GroupId) (o : Ongoing) (rs : List Reason) → GoesOnIn (length scans) o → (o ≡ Nothing → IsUnchecked rs)
+      → GoesOn has_frame t why (lines_of scans (ongoing_reasons scans g o ++ rs)) → OngoingGoesOn has_frame t why o
+  unfolding lines_of
+  ongoing_of scans g Nothing rs goes unchecked h = unchecked_front scans rs (unchecked refl) h
+  ongoing_of scans g (Hold task serial from) rs goes unchecked h = h
+  ongoing_of scans g (Busy task first) rs goes unchecked h =
+      busy_front g task (reverse (drop first (take (length scans) scans))) (lines_of scans rs) (busy_some scans first goes) h
+
+  -- and what goes on tells the newest line
+  ongoing_lines : (scans : List ℕ) (g : GroupId) (o : Ongoing) (rs : List Reason) → GoesOnIn (length scans) o
+      → OngoingGoesOn has_frame t why o → GoesOn has_frame t why (lines_of scans (ongoing_reasons scans g o ++ rs))
+  unfolding lines_of
+  ongoing_lines scans g Nothing rs goes h = absurd h
+  ongoing_lines scans g (Hold task serial from) rs goes h = h
+  ongoing_lines scans g (Busy task first) rs goes h =
+      front_busy g task (reverse (drop first (take (length scans) scans))) (lines_of scans rs) (busy_some scans first goes) h
+
+  -- a refusal of the task with the frame still there
+  abbrev pub again : ℕ → Refused
+  again at = record { at = at; task = task_id t; blame = why; held = true }
+
+  ongoing_held : (o : Ongoing) → OngoingGoesOn has_frame t why o → HasFrameAs has_frame o true
+  ongoing_held Nothing h = absurd h
+  ongoing_held (Hold task serial from) h = ap (λ n. has_frame n serial) h.0 ∙ h.1
+  ongoing_held (Busy task first) h = tt
+
+  ongoing_stays : (o : Ongoing) (at : ℕ) → OngoingGoesOn has_frame t why o → stays o (again at) ≡ true
+  ongoing_stays Nothing at h = absurd h
+  ongoing_stays (Hold task serial from) at h = refl
+  ongoing_stays (Busy task first) at h = subst (λ b. stays (Busy task first) (record { at = at; task = task_id t; blame = b; held = true }) ≡ true) (sym h.1) (eq-eqb t task.0 (sym h.0))
+
+  ongoing_something : (o : Ongoing) → OngoingGoesOn has_frame t why o → o ≢ Nothing
+  ongoing_something Nothing h e = h
+  ongoing_something (Hold task serial from) h e = absurd (cc)
+  ongoing_something (Busy task first) h e = absurd (cc)
+
+  module _ (lists : List (List Reason)) (scans : List ℕ) (group : GroupId) (head : Head) (is_head : IsHead lists (length scans) head) where
+    -- the lines of a head go on as what goes on of it does
+    pub head_ongoing : GoesOn has_frame t why (head_lines lists scans group head) → OngoingGoesOn has_frame t why head.ongoing
+    head_ongoing h = ongoing_of scans group head.ongoing (get_or lists head.older.0 []) is_head.goes_on is_head.unchecked h
+
+    pub head_goes_on : OngoingGoesOn has_frame t why head.ongoing → GoesOn has_frame t why (head_lines lists scans group head)
+    head_goes_on h = ongoing_lines scans group head.ongoing (get_or lists head.older.0 []) is_head.goes_on h
+
+    pub head_something : GoesOn has_frame t why (head_lines lists scans group head) → head.ongoing ≢ Nothing
+    head_something h = ongoing_something head.ongoing (head_ongoing h)
+
+    -- a scan that refuses the task again leaves the head as it is
+    pub refused_again : (at : ℕ) → GoesOn has_frame t why (head_lines lists scans group head) → IsRefusedBy (again at) group scans head head lists lists
+    refused_again at h = refused_on scans group (again at) head lists is_head (ongoing_stays head.ongoing at (head_ongoing h))
+
+    pub lines_again : (at : ℕ) → GoesOn has_frame t why (head_lines lists scans group head)
+        → head_lines lists (scans ++ at ∷ []) group head ≡ after_refusal has_frame group.0 at (t, why) (head_lines lists scans group head)
+    lines_again at h = (refused_again at h).lines has_frame (ongoing_held head.ongoing (head_ongoing h))
+
+    pub stands_again : (at : ℕ) → GoesOn has_frame t why (head_lines lists scans group head) → IsHead lists (length scans + 1) head
+    stands_again at h = (refused_again at h).stands
