@@ -14,6 +14,8 @@ pub mod MoreWaiters
 pub mod Behind
 pub mod BehindTasks
 pub mod StepLines
+pub mod SettlingEvents
+pub mod SettlingScans
 pub mod Completions
 pub mod Keeping
 pub mod Making

@@ -33,13 +33,13 @@ AreSettled model s lines kind unsettled =
     (t : ℕ) (x : Standing) → s.tasks t ≡ Live x → nat_eq x.level s.target ≡ false → unsettled t ≡ false →
     IsSettled model kind s lines t x
 
--- something happens to the task at the event: its mode or its stack changes, or it forks or is born
+-- at the event something happens to a task that lives on: its mode or its stack changes, or it forks or is born
 abbrev pub is_touched : Event → ℕ → Bool
-is_touched (Call t f) u = nat_eq t.0 u
-is_touched (Ret t) u = nat_eq t.0 u
-is_touched (Sleep t) u = nat_eq t.0 u
-is_touched (Wake t) u = nat_eq t.0 u
-is_touched (Enter t) u = nat_eq t.0 u
-is_touched (Exit t) u = nat_eq t.0 u
-is_touched (Fork p c how) u = nat_eq p.0 u || nat_eq c.0 u
+is_touched (Call t f) u = nat_eq u t.0
+is_touched (Ret t) u = nat_eq u t.0
+is_touched (Sleep t) u = nat_eq u t.0
+is_touched (Wake t) u = nat_eq u t.0
+is_touched (Enter t) u = nat_eq u t.0
+is_touched (Exit t) u = nat_eq u t.0
+is_touched (Fork p c how) u = nat_eq u p.0 || nat_eq u c.0
 is_touched _ u = false
