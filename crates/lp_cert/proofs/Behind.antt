@@ -134,7 +134,7 @@ first_some-any : {A : Type 0} (o : Option A) (rest : List (Option A)) (b : Bool)
 first_some-any None rest b e = e
 first_some-any (Some a) rest b e = refl
 
-found_first : (s : State) (table : Table) (there : s.tasks ≡ standings table) (g : ℕ) (vs : List Verdict) → list_any (is_found table true g) vs ≡ is_some (first_refused s g vs)
+pub found_first : (s : State) (table : Table) (there : s.tasks ≡ standings table) (g : ℕ) (vs : List Verdict) → list_any (is_found table true g) vs ≡ is_some (first_refused s g vs)
 found_first s table there g [] = refl
 found_first s table there g (v ∷ vs) =
     ap₂ (λ a b. a || b) (found_member s table there g v) (found_first s table there g vs)
@@ -142,7 +142,7 @@ found_first s table there g (v ∷ vs) =
 
 module _ (model : Rules) (lawful : IsLawful model) (e : Engine) (sound : IsSound (state_in e)) (on : CheckKind) (g : ℕ) (behind : is_behind (state_in e) g ≡ true) where
   -- where nobody is refused, a waiting member is admitted
-  none_refused : first_refused (state_in e) g (verdicts_of model on (state_in e)) ≡ None → goes_by e.table (verdicts_of model on (state_in e)) g ≡ true
+  pub none_refused : first_refused (state_in e) g (verdicts_of model on (state_in e)) ≡ None → goes_by e.table (verdicts_of model on (state_in e)) g ≡ true
   none_refused none =
       let s = state_in e in
       let vs = verdicts_of model on s in

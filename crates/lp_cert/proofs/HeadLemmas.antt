@@ -138,7 +138,7 @@ new_in_front has_frame scans g (Busy t first) rs refused goes unchecked held not
     new_line has_frame g.0 refused.at (refused.task.0, refused.blame) _
     (mapped_busy g t (reverse (drop first (take (length scans) scans))) (lines_of scans rs) (busy_some scans first goes))
 
-busy_blame : (b : Blame) → is_busy b ≡ true → b ≡ blame.Busy
+pub busy_blame : (b : Blame) → is_busy b ≡ true → b ≡ blame.Busy
 busy_blame (blame.Frame serial) e = absurd (cc)
 busy_blame blame.Busy e = refl
 busy_blame blame.Unused e = absurd (cc)
@@ -213,6 +213,15 @@ module _ (scans : List ℕ) (group : GroupId) (refused : Refused) (head : Head) 
         };
         kept = kept;
       }
+
+-- a head stands with one scan more
+pub head_further : (lists : List (List Reason)) (n : ℕ) (head : Head) → IsHead lists n head → IsHead lists (n + 1) head
+head_further lists n head is = record {
+  known = is.known;
+  fits = all_fit_further n (get_or lists head.older.0 []) is.fits;
+  goes_on = goes_on_further n head.ongoing is.goes_on;
+  unchecked = is.unchecked;
+}
 
 -- ---- A birth
 

@@ -13,6 +13,8 @@ pub mod WaiterLemmas
 pub mod MoreWaiters
 pub mod Behind
 pub mod BehindTasks
+pub mod ScanTold
+pub mod SettledSteps
 pub mod StepLines
 pub mod SettlingEvents
 pub mod SettlingScans

@@ -1,5 +1,5 @@
 -- What is made of a run, after one event more.
-use Rattle.std.proofs.Common.{◌≡◌, ℕ, suc, ◌+◌, ◌-◌, ◌<◌, Bool, true, false, not, ◌&&◌, ◌||◌, List, [], ◌∷◌, ◌++◌, length, map, filter, take, drop, Option, Some, None, is_none, option_to_list, if◌then◌else◌, nat_eq, refl, sym, ap, ap₂, subst, ◌∙◌, ⊎_elim, arith, append-nil, append_assoc, length-append}
+use Rattle.std.proofs.Common.{◌≡◌, ◌⊎◌, ℕ, suc, ◌+◌, ◌-◌, ◌<◌, Bool, true, false, not, ◌&&◌, ◌||◌, List, [], ◌∷◌, ◌++◌, length, map, filter, take, drop, Option, Some, None, is_none, option_to_list, if◌then◌else◌, nat_eq, refl, sym, ap, ap₂, subst, ◌∙◌, ⊎_elim, arith, append-nil, append_assoc, length-append}
 use mathlib.Core.Path.{fun_ext}
 use Rattle.std.specs.List.{range_with_len}
 use Rattle.std.specs.Option.{option_map}
@@ -34,10 +34,12 @@ use Rattle.lp_cert.specs.declared.open_leg.OpenLeg.{OpenLeg}
 use Rattle.lp_cert.specs.declared.maker.Ready.{Ready}
 use Rattle.lp_cert.specs.Made.{lines, waiting_groups, waiting_certs, floor_certs, completion, certs_by}
 use Rattle.lp_cert.specs.Ends.{Made, IsMadeOf, end_of, ended_legs, under_way}
-use Rattle.lp_cert.specs.Kept.{open_end, ends_with, current_waiters, IfReady, IsReady, floor_waiters, is_opening, leg_at, IsGoneOn}
+use Rattle.lp_cert.specs.Kept.{open_end, ends_with, current_waiters, IfReady, IsReady, floor_waiters, is_opening, leg_at, IsGoneOn, IsSettledOn}
 use Rattle.lp_cert.specs.Waiters.{WaitingGroups, HasFewGroups, has_off, lines_at, kept_cert, waiters_of}
 use Rattle.lp_cert.proofs.Completions.{past_floor, completion_opened, completion_below, certs_kept, completion_stays, completion_now, unsettled_if}
 use Rattle.lp_cert.proofs.Making.{none_is, cert_for, certs_from, certs_tell, floor_from}
+use Rattle.lp_cert.specs.Settling.{Settling, AreSettledBy, Suffices}
+use Rattle.lp_cert.proofs.SettledSteps.{none_settled, settled_on}
 use Rattle.lp_cert.proofs.StepLines.{IsFew, step_lines}
 
 -- ---- Who waits in a leg, and its certificates
@@ -136,7 +138,8 @@ module _ (model : Rules) (lawful : IsLawful model) (e : Engine) (sound : IsSound
     length_is : length (and_then leg event).events ≡ suc k
     length_is = length-append leg.events (event ∷ []) ∙ omega arith
 
-    module _ (noted number : ℕ) (old new : OpenLeg) (before later : WaitingGroups) (numbered : number ≡ e.number + 1) (was : open_end noted before old ≡ end_of model leg) (gone : IsGoneOn model e step number old new before later) where
+    module _ (noted number : ℕ) (old new : OpenLeg) (before later : WaitingGroups) (settling settled : Settling) (numbered : number ≡ e.number + 1) (was : open_end noted before old ≡ end_of model leg) (gone : IsGoneOn model e step number old new before later)
+        (calm : AreSettledBy model (state_in e) (lines model leg k) settling) (suffices : Suffices model (state_in e) step settling) where
       -- a complete leg stays as it is
       complete_stays : (done : Completion) → old.completed ≡ Some done → open_end number later new ≡ end_of model (and_then leg event)
       complete_stays done is =
@@ -191,28 +194,52 @@ module _ (model : Rules) (lawful : IsLawful model) (e : Engine) (sound : IsSound
             (ap {A = ℕ} {B = Option ℕ} Some at ∙ ap (option_map (λ m. leg.number + m)) (sym moment))
             (certs ∙ ap (certs_by model (and_then leg event)) (sym moment)))
 
+        after_lines : step.reply.completed ≡ false → (g : ℕ) → g < 65536 → lines_at later g ≡ (if is_behind (state_of model (and_then leg event)) g then Some (lines model (and_then leg event) (length (and_then leg event).events) g) else None)
+        after_lines now g below =
+            let on = gone.goes_on unended now in
+            let few : refusal_of model (state_in e) event ≡ None → IsFew model lawful e sound leg leg_sound there before lines_before event =
+            λ ok p c how is. subst (HasFewGroups e) is (on.2 (refused_is ∙ ok)) in
+            on.1 g
+            ∙ (step_lines model lawful e sound leg leg_sound there before lines_before step weighed settling calm suffices on.3 plain few g below
+            ∙ ap₂ (λ (s : State) (m : ℕ). if is_behind s g then Some (lines model (and_then leg event) m g) else None) state_is (sym length_is))
+
         goes_on_now : step.reply.completed ≡ false → open_end number later new ≡ end_of model (and_then leg event)
         goes_on_now now =
             let on = gone.goes_on unended now in
             let unsettled : is_settled model (and_then leg event) ≡ false = sym (completes_is (unsettled_if model lawful leg leg_sound no_moment)) ∙ now in
             let moment : completion model (and_then leg event) ≡ None = completion_now model lawful leg leg_sound event no_moment false unsettled in
             let upto : number ≡ leg.number + length (and_then leg event).events = omega (arith, numbered, number_is, length_is) in
-            let few : refusal_of model (state_in e) event ≡ None → IsFew model lawful e sound leg leg_sound there (lines_at before) lines_before event =
-            λ ok p c how is. subst (HasFewGroups e) is (on.2 (refused_is ∙ ok)) in
-            let after_lines : (g : ℕ) → g < 65536 → lines_at later g ≡ (if is_behind (state_of model (and_then leg event)) g then Some (lines model (and_then leg event) (length (and_then leg event).events) g) else None) =
-            λ g below.
-            on.1 g
-            ∙ (step_lines model lawful e sound leg leg_sound there (lines_at before) lines_before step weighed plain few g below
-            ∙ ap₂ (λ (s : State) (m : ℕ). if is_behind s g then Some (lines model (and_then leg event) m g) else None) state_is (sym length_is)) in
             let certs : map (kept_cert Waiting old.opened number later.reasons.lists later.reasons.scans) (waiters_of later) ≡ waiting_certs model (and_then leg event) (length (and_then leg event).events) =
             ap₂ (λ a b. map (kept_cert Waiting a b later.reasons.lists later.reasons.scans) (waiters_of later)) opened_same upto
-            ∙ (certs_from Waiting leg.number (leg.number + length (and_then leg event).events) later (is_behind (state_of model (and_then leg event))) (lines model (and_then leg event) (length (and_then leg event).events)) after_lines
+            ∙ (certs_from Waiting leg.number (leg.number + length (and_then leg event).events) later (is_behind (state_of model (and_then leg event))) (lines model (and_then leg event) (length (and_then leg event).events)) (after_lines now)
             ∙ sym (waiting_are model (and_then leg event) tasks_are)) in
             ap (open_end number later) (on.0 ∙ still_is old unended)
             ∙ (ap₂ (λ (a b : ℕ). let l : LegEnd = record { opened = a; target = record { 0 = b }; completed = None; certs = map (kept_cert Waiting old.opened number later.reasons.lists later.reasons.scans) (waiters_of later) } in l) opened_same target_same
             ∙ ap₂ (λ (o : Option ℕ) (cs : List Cert). let l : LegEnd = record { opened = leg.number; target = record { 0 = leg.target }; completed = option_map (λ m. leg.number + m) o; certs = cs } in l)
             (sym moment)
             (certs ∙ ap (certs_by model (and_then leg event)) (sym moment)))
+
+      -- who is settled
+      abbrev settled_at : ℕ → Type 0
+      settled_at m = AreSettledBy model (state_of model (and_then leg event)) (lines model (and_then leg event) m) settled
+
+      pub still_settled : IsSettledOn model e step old later settling settled → settled_at (length (and_then leg event).events)
+      still_settled on = by old.completed refl
+        where
+          none : settled.kind ≡ None → settled_at (length (and_then leg event).events)
+          none kind_is = none_settled model (state_of model (and_then leg event)) (lines model (and_then leg event) (length (and_then leg event).events)) settled kind_is
+
+          by : (o : Option Completion) → old.completed ≡ o → settled_at (length (and_then leg event).events)
+          by (Some done) is = none (on.complete done is)
+          by None is =
+              ⊎_elim
+              (λ (now : step.reply.completed ≡ true). none (on.completes is now))
+              (λ (now : step.reply.completed ≡ false).
+              let further = on.goes_on is now in
+              subst settled_at (sym length_is)
+              (settled_on model lawful e sound leg leg_sound there step stays settling settled later further.1 suffices calm further.0
+              (λ g below. after_lines is now g below ∙ ap (λ m. if is_behind (state_of model (and_then leg event)) g then Some (lines model (and_then leg event) m g) else None) length_is)))
+              (cases_Bool step.reply.completed)
 
       pub went_on : open_end number later new ≡ end_of model (and_then leg event)
       went_on = by old.completed refl
@@ -350,7 +377,7 @@ module _ (model : Rules) (lawful : IsLawful model) (run : Run) (e : Engine) (sta
     ended_next : ended_legs model (first_leg model run) (run.events ++ step.event ∷ []) ≡ ended_legs model (first_leg model run) run.events ++ end_if model (leg_of model run) step.event
     ended_next = ended-plus model (first_leg model run) run.events step.event
 
-    opens_if : (b : Bool) → is_opening step ≡ b → opens model (leg_of model run) step.event ≡ b
+    pub opens_if : (b : Bool) → is_opening step ≡ b → opens model (leg_of model run) step.event ≡ b
     opens_if b told = sym (opening_is model lawful e engine_sound (leg_of model run) present_sound stands.there step weighed) ∙ told
 
     module _ (stays : is_opening step ≡ false) (ended : new.ended ≡ made.ended) where
@@ -367,19 +394,32 @@ module _ (model : Rules) (lawful : IsLawful model) (run : Run) (e : Engine) (sta
       ends : new.ended ≡ map (end_of model) (drop 1 (ended_legs model (first_leg model run) (run.events ++ step.event ∷ [])))
       ends = ended ∙ (is.ended ∙ ap (λ ls. map (end_of model) (drop 1 ls)) (sym same_ended))
 
-      pub none_made : made.current ≡ None → new.current ≡ None → IsMadeOf model (plus run step.event) new
-      none_made old now =
+      -- who is settled in the run's leg with the event more
+      abbrev pub settled_next : Type 0
+      settled_next =
+          AreSettledBy model (state_of model (and_then (leg_of model run) step.event)) (lines model (and_then (leg_of model run) step.event) (length (and_then (leg_of model run) step.event).events)) new.settling
+
+      settled_longer : settled_next → AreSettledBy model (state_of model (leg_of model (plus run step.event))) (lines model (leg_of model (plus run step.event)) (length (leg_of model (plus run step.event)).events)) new.settling
+      settled_longer settled = subst (λ (l : Leg). AreSettledBy model (state_of model l) (lines model l (length l.events)) new.settling) (sym longer_is) settled
+
+      pub was_settled : AreSettledBy model (state_in e) (lines model (leg_of model run) (length (leg_of model run).events)) made.settling
+      was_settled = subst (λ (st : State). AreSettledBy model st (lines model (leg_of model run) (length (leg_of model run).events)) made.settling) (sym stands.there) is.settled
+
+      pub none_made : made.current ≡ None → new.current ≡ None → settled_next → IsMadeOf model (plus run step.event) new
+      none_made old now settled =
           let none = none_before model (ended_legs model (first_leg model run) run.events) (leg_of model run) (sym old ∙ is.current) in
           record {
             ended = ends;
             current = now ∙ ap (λ ls. option_map (end_of model) (under_way model ls (leg_of model (plus run step.event)))) (sym (same_ended ∙ none));
+            settled = settled_longer settled;
           }
 
       pub still_made : (noted number : ℕ) (leg later_leg : OpenLeg) (before later : WaitingGroups) → number ≡ e.number + 1 → IsGoneOn model e step number leg later_leg before later
-          → made.current ≡ Some (open_end noted before leg) → new.current ≡ Some (open_end number later later_leg) → IsMadeOf model (plus run step.event) new
-      still_made noted number leg later_leg before later numbered gone old now =
+          → Suffices model (state_in e) step made.settling → (settled_next ⊎ IsSettledOn model e step leg later made.settling new.settling) → made.current ≡ Some (open_end noted before leg) → new.current ≡ Some (open_end number later later_leg) → IsMadeOf model (plus run step.event) new
+      still_made noted number leg later_leg before later numbered gone suffices settled old now =
           let was = some_before model (ended_legs model (first_leg model run) run.events) (leg_of model run) (open_end noted before leg) (sym old ∙ is.current) in
-          let went = went_on model lawful e engine_sound (leg_of model run) present_sound stands.there step weighed (opens_if false stays) noted number leg later_leg before later numbered was.0 gone in
+          let went = went_on model lawful e engine_sound (leg_of model run) present_sound stands.there step weighed (opens_if false stays) noted number leg later_leg before later made.settling new.settling numbered was.0 gone was_settled suffices in
+          let by_event = still_settled model lawful e engine_sound (leg_of model run) present_sound stands.there step weighed (opens_if false stays) noted number leg later_leg before later made.settling new.settling numbered was.0 gone was_settled suffices in
           record {
             ended = ends;
             current =
@@ -387,6 +427,7 @@ module _ (model : Rules) (lawful : IsLawful model) (run : Run) (e : Engine) (sta
                 ∙ (ap {A = LegEnd} {B = Option LegEnd} Some went
                 ∙ (sym (ap (option_map (end_of model)) (was.1 (and_then (leg_of model run) step.event)))
                 ∙ ap₂ (λ ls (l : Leg). option_map (end_of model) (under_way model ls l)) (sym same_ended) (sym longer_is)));
+            settled = settled_longer (⊎_elim (λ (is_so : settled_next). is_so) (λ (on : IsSettledOn model e step leg later made.settling new.settling). by_event on) settled);
           }
 
     module _ (turns : is_opening step ≡ true) where
@@ -398,8 +439,9 @@ module _ (model : Rules) (lawful : IsLawful model) (run : Run) (e : Engine) (sta
           → (IsSound (state_in e) → (g : ℕ) → lines_at later g ≡ (if has_off (state_in e) (new_target (state_in e) step.event) g then Some [] else None))
           → new.ended ≡ made.ended ++ option_to_list made.current
           → new.current ≡ Some (open_end number later (leg_at number (new_target (state_in e) step.event) step.reply.completed))
+          → new.settling.kind ≡ None
           → IsMadeOf model (plus run step.event) new
-      turned_made number later numbered lines_are ended now =
+      turned_made number later numbered lines_are ended now unsettled =
           let more : ended_legs model (first_leg model run) (run.events ++ step.event ∷ []) ≡ ended_legs model (first_leg model run) run.events ++ leg_of model run ∷ [] =
           ended_next ∙ ap (λ ls. ended_legs model (first_leg model run) run.events ++ ls) (cond-true (opens model (leg_of model run) step.event) (leg_of model run ∷ []) [] (opens_if true turns)) in
           let anew = opened_anew model lawful e engine_sound (leg_of model run) present_sound stands.there step weighed (opens_if true turns) number later numbered (lines_are engine_sound) in
@@ -411,6 +453,7 @@ module _ (model : Rules) (lawful : IsLawful model) (run : Run) (e : Engine) (sta
                 ∙ (ap {A = LegEnd} {B = Option LegEnd} Some anew
                 ∙ (sym (ap (option_map (end_of model)) (under_way-plus model (ended_legs model (first_leg model run) run.events) (leg_of model run) (opened model (leg_of model run) step.event)))
                 ∙ ap₂ (λ ls (l : Leg). option_map (end_of model) (under_way model ls l)) (sym more) (sym next_is)));
+            settled = none_settled model _ _ new.settling unsettled;
           }
 
 -- ---- What the maker needs of what it keeps

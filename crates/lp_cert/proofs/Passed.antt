@@ -1,5 +1,5 @@
 -- A call, a return, a sleep, a wake-up and an entry into the kernel change the lines of no group.
-use Rattle.std.proofs.Common.{◌≡◌, ◌<◌, ◌+◌, ℕ, suc, Bool, true, false, not, ◌&&◌, List, [], Option, Some, None, is_none, if◌then◌else◌, nat_eq, refl, sym, ap, ◌∙◌}
+use Rattle.std.proofs.Common.{◌≡◌, ◌<◌, ◌+◌, ℕ, suc, Bool, true, false, not, ◌&&◌, List, [], ◌∷◌, length, Option, Some, None, IsSome, is_none, if◌then◌else◌, nat_eq, refl, sym, ap, subst, ◌∙◌, inl, arith, length-append}
 use mathlib.Core.Path.{fun_ext}
 use Rattle.std.specs.Option.{option_map}
 use Rattle.std.specs.List.{list_any}
@@ -13,8 +13,8 @@ use Rattle.lp_transition.specs.declared.reply.Reply.{Reply}
 use Rattle.lp_transition.specs.Events.{is_control}
 use Rattle.lp_transition.specs.Tasks.{change}
 use Rattle.lp_transition.specs.Leg.{Standing, State, each_live, each_task}
-use Rattle.lp_transition.specs.Run.{Run, switched, plus}
-use Rattle.lp_transition.specs.Machine.{at_rest, affected, answer, calling, goes_over, put_in, refusal_of, returning, switched_over, told}
+use Rattle.lp_transition.specs.Run.{Run, and_then, leg_of, opens, switched, plus}
+use Rattle.lp_transition.specs.Machine.{at_rest, affected, answer, calling, goes_over, put_in, refusal_of, returning, state_of, switched_over, told}
 use Rattle.lp_transition.specs.ScanSteps.{groups_of}
 use Rattle.lp_transition.specs.Steps.{StandsIn}
 use Rattle.lp_transition.specs.Table.{Engine, state_in}
@@ -22,12 +22,17 @@ use Rattle.lp_transition.specs.Weigh.{Weighed, IsWeighed, born_of, refused_by, v
 use Rattle.lp_transition.proofs.Alone.{same-after}
 use Rattle.lp_transition.proofs.EngineLemmas.{answer-refused, answer-accepted, is_quiet, quiet-control, quiet-stays, switched-still}
 use Rattle.lp_transition.proofs.Going.{going-none}
+use Rattle.lp_model.specs.declared.check.CheckKind.{CheckKind}
 use Rattle.lp_cert.specs.declared.line.Line.{Line}
+use Rattle.lp_cert.specs.Made.{lines}
 use Rattle.lp_cert.specs.declared.open_leg.OpenLeg.{OpenLeg}
 use Rattle.lp_cert.specs.Ends.{Made, IsMadeOf, is_plain}
 use Rattle.lp_cert.specs.Kept.{IsGoneOn, open_end, is_opening}
 use Rattle.lp_cert.specs.Waiters.{WaitingGroups, lines_at, HasFewGroups, own_lines}
-use Rattle.lp_cert.proofs.Noted.{none_made, still_made}
+use Rattle.lp_cert.specs.Noting.{noted_by, noted_lines}
+use Rattle.lp_cert.specs.Settling.{AreSettledBy, AreThoseOf, IsTouched, Suffices, used_scan}
+use Rattle.lp_cert.proofs.SettledSteps.{touched_settled}
+use Rattle.lp_cert.proofs.Noted.{none_made, opens_if, present_sound, settled_next, still_made}
 
 quiet : (event : Event) → is_plain event ≡ true → is_quiet event ≡ true
 quiet (Call t f) h = refl
@@ -105,6 +110,14 @@ no_verdicts model s (Wake t) plain = refl
 no_verdicts model s (Enter t) plain = refl
 no_verdicts model s _ plain = cc
 
+no_used : (model : Rules) (event : Event) → is_plain event ≡ true → used_scan model event ≡ None
+no_used model (Call t f) plain = refl
+no_used model (Ret t) plain = refl
+no_used model (Sleep t) plain = refl
+no_used model (Wake t) plain = refl
+no_used model (Enter t) plain = refl
+no_used model _ plain = cc
+
 module _ (model : Rules) (lawful : IsLawful model) (run : Run) (e : Engine) (stands : StandsIn model run (state_in e)) (event : Event) (plain : is_plain event ≡ true) (room : e.number < 1000000) where
   abbrev step : Weighed
   step = record { event = event; reply = answer model (state_in e) event; verdicts = []; born = born_of model (state_in e) event }
@@ -123,8 +136,9 @@ module _ (model : Rules) (lawful : IsLawful model) (run : Run) (e : Engine) (sta
         completes = λ unfinished completed. absurd (false≢true (sym answered.0 ∙ completed));
         goes_on = λ unfinished incomplete. (
           refl,
-          λ group. same (is_none (refused_by step.reply.what)) (lines_at waiters) group,
+          λ group. same (is_none (refused_by step.reply.what)) (lines_at waiters) group ∙ noted (is_none (refused_by step.reply.what)) group,
           λ accepted. few e event plain,
+          λ used accepted. absurd (false≢true (subst IsSome (no_used model event plain) used)),
         );
       }
     where
@@ -134,8 +148,30 @@ module _ (model : Rules) (lawful : IsLawful model) (run : Run) (e : Engine) (sta
           sym (own_same model e event plain lines group)
           ∙ ap (λ gone. if list_any (nat_eq group) gone then None else own_lines model e event [] lines group) (sym (still model (state_in e) event plain).1)
 
+      -- no scan's lines
+      noted : (accepted : Bool) (group : ℕ)
+          → (if accepted then (if list_any (nat_eq group) (groups_of step.reply.what) then None else own_lines model e event [] (lines_at waiters) group) else lines_at waiters group)
+          ≡ (if accepted then (if list_any (nat_eq group) (groups_of step.reply.what) then None else noted_lines model e event [] waiters group) else lines_at waiters group)
+      noted accepted group =
+          ap (λ (o : Option CheckKind). if accepted then (if list_any (nat_eq group) (groups_of step.reply.what) then None else noted_by model e o event [] waiters group) else lines_at waiters group) (sym (no_used model event plain))
+
   module _ (made new : Made) (is : IsMadeOf model run made) (ended : new.ended ≡ made.ended) (noted number : ℕ) (waiters : WaitingGroups) (numbered : number ≡ e.number + 1) where
+    suffices : Suffices model (state_in e) step made.settling
+    suffices = subst (λ (o : Option CheckKind). AreThoseOf model (state_in e) o [] made.settling) (sym (no_used model event plain)) tt
+
     -- what is made of the run with the event more
-    pub passed_on : (current : Option OpenLeg) → made.current ≡ option_map (open_end noted waiters) current → new.current ≡ option_map (open_end number waiters) current → IsMadeOf model (plus run event) new
-    passed_on None old now = none_made model lawful run e stands step weighed made new is opens_none ended old now
-    passed_on (Some leg) old now = still_made model lawful run e stands step weighed made new is opens_none ended noted number leg leg waiters waiters numbered (goes_on number leg waiters) old now
+    pub passed_on : IsTouched event made.settling new.settling → (current : Option OpenLeg) → made.current ≡ option_map (open_end noted waiters) current → new.current ≡ option_map (open_end number waiters) current → IsMadeOf model (plus run event) new
+    passed_on touched current old now = by current old now
+      where
+        stays_open : opens model (leg_of model run) event ≡ false
+        stays_open = opens_if model lawful run e stands step weighed made new is false opens_none
+
+        settled : settled_next model lawful run e stands step weighed made new is opens_none ended
+        settled =
+            subst (λ m. AreSettledBy model (state_of model (and_then (leg_of model run) event)) (lines model (and_then (leg_of model run) event) m) new.settling) (sym (length-append (leg_of model run).events (event ∷ []) ∙ omega arith))
+            (touched_settled model lawful (leg_of model run) (present_sound model lawful run e stands) event stays_open made.settling new.settling touched is.settled (no_used model event plain))
+
+        by : (leg : Option OpenLeg) → made.current ≡ option_map (open_end noted waiters) leg → new.current ≡ option_map (open_end number waiters) leg → IsMadeOf model (plus run event) new
+        by None was later = none_made model lawful run e stands step weighed made new is opens_none ended was later settled
+        by (Some leg) was later =
+            still_made model lawful run e stands step weighed made new is opens_none ended noted number leg leg waiters waiters numbered (goes_on number leg waiters) suffices (inl settled) was later

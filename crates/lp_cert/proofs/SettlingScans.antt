@@ -107,8 +107,12 @@ module _ (model : Rules) (lawful : IsLawful model) (leg : Leg) (leg_sound : IsSo
   abbrev longer : Leg
   longer = and_then leg (scan_event on)
 
-  abbrev after : State
+  abbrev pub after : State
   after = switched_over model s (scan_event on)
+
+  -- the state after the scan
+  pub after_scan_is : state_of model longer ≡ after
+  after_scan_is = after_is model lawful leg leg_sound (scan_event on) (scan_opens_none model leg on) (scan_free model s on)
 
   -- a settled task's line goes on with the scan
   pub settled_goes_on : (t : ℕ) (x : Standing) → s.tasks t ≡ Live x → nat_eq x.level s.target ≡ false → (was : IsSettled model on s (lines model leg n) t x) → GoesOn (has_frame_in s) t was.why (lines model longer (suc n) x.group)
@@ -130,12 +134,12 @@ module _ (model : Rules) (lawful : IsLawful model) (leg : Leg) (leg_sound : IsSo
       either
 
   module _ (new : ℕ → Bool)
-      (settled : (t : ℕ) (x : Standing) → s.tasks t ≡ Live x → nat_eq x.level s.target ≡ false → new t ≡ false → IsSettled model on s (lines model leg n) t x ⊎ IsSettled model on s (lines model longer (suc n)) t x) where
+      (settled : (t : ℕ) (x : Standing) → s.tasks t ≡ Live x → nat_eq x.level s.target ≡ false → after.tasks t ≡ Live x → new t ≡ false → IsSettled model on s (lines model leg n) t x ⊎ IsSettled model on s (lines model longer (suc n)) t x) where
     switched_settled : AreSettled model after (lines model longer (suc n)) on new
     switched_settled t x live off out =
         let apart = scan_touches_none on t in
         let before = stands_as_before model s (scan_event on) t x apart live off in
-        let is = settled_now t x before off (settled t x before off out) in
+        let is = settled_now t x before off (settled t x before off live out) in
         record {
           why = is.why;
           refused = is.refused;
@@ -147,4 +151,4 @@ module _ (model : Rules) (lawful : IsLawful model) (leg : Leg) (leg_sound : IsSo
     pub scan_settles : AreSettled model (state_of model longer) (lines model longer (suc n)) on new
     scan_settles =
         subst (λ st. AreSettled model st (lines model longer (suc n)) on new)
-        (sym (after_is model lawful leg leg_sound (scan_event on) (scan_opens_none model leg on) (scan_free model s on))) switched_settled
+        (sym after_scan_is) switched_settled

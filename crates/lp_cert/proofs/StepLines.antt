@@ -1,10 +1,13 @@
 -- Who waits after an event of a leg, and with which lines.
-use Rattle.std.proofs.Common.{◌≡◌, ℕ, suc, ◌<◌, Bool, true, false, not, ◌&&◌, List, [], ◌∷◌, length, Option, Some, None, is_none, if◌then◌else◌, nat_eq, refl, sym, ap, ap₂, ◌∙◌, ⊎_elim}
-use Rattle.std.specs.List.{list_any}
+use Rattle.std.proofs.Common.{◌≡◌, ℕ, suc, ◌<◌, Bool, true, false, not, ◌&&◌, List, [], ◌∷◌, length, Option, Some, None, IsSome, is_none, if◌then◌else◌, nat_eq, refl, sym, ap, ap₂, subst, ◌∙◌, ⊎_elim}
+use Rattle.std.specs.List.{filter, list_any}
+use Rattle.lp_numbers.specs.Numbers.{has}
 use Rattle.std.proofs.lemmas.Bool.{false≢true, cond-true, cond-false, cases_Bool}
 use Rattle.lp_stack.specs.declared.number.TaskId.{TaskId}
 use Rattle.lp_model.specs.Rules.{Rules, IsLawful}
+use Rattle.lp_model.specs.declared.check.CheckKind.{CheckKind}
 use Rattle.lp_model.specs.declared.check.CheckKind.TheVariants as kind
+use Rattle.lp_model.specs.declared.check.Blame.{Blame}
 use Rattle.lp_model.specs.declared.check.ForkKind.{ForkKind}
 use Rattle.lp_model.specs.declared.verdict.Verdict.{Verdict}
 use Rattle.lp_transition.specs.declared.event.Event.{Event}
@@ -17,7 +20,8 @@ use Rattle.lp_transition.specs.Tasks.{Fate, Unused, Live, on_live, change}
 use Rattle.lp_transition.specs.Leg.{Standing, State, Leg, some_live}
 use Rattle.lp_transition.specs.Run.{and_then}
 use Rattle.lp_transition.specs.Sound.{IsSound}
-use Rattle.lp_transition.specs.ScanSteps.{groups_of}
+use Rattle.lp_transition.specs.Scan.{verdicts_of}
+use Rattle.lp_transition.specs.ScanSteps.{goes_by, groups_of}
 use Rattle.lp_transition.specs.Machine.{is_behind, goes_over, affected, next, told, state_of, refusal_of, calling, returning, put_in}
 use Rattle.lp_transition.specs.Table.{Engine, slot, fate_at, state_in}
 use Rattle.lp_transition.specs.Weigh.{Weighed, IsWeighed, verdicts_for, is_fork, refused_by}
@@ -29,18 +33,25 @@ use Rattle.lp_transition.proofs.Steps.{plain_refusal, refusal_is}
 use Rattle.lp_transition.proofs.TableLemmas.{live_from_slot, slot_from_live}
 use Rattle.lp_transition.proofs.Weighing.{refused-as}
 use Rattle.lp_cert.specs.declared.line.Line.{Line}
-use Rattle.lp_cert.specs.Made.{lines, birth_line}
+use Rattle.lp_cert.specs.Made.{lines, birth_line, after_refusal}
 use Rattle.lp_cert.specs.Steps.{lines_after_fork}
-use Rattle.lp_cert.specs.Waiters.{own_lines, next_lines, after_switch, after_fork, after_death, is_lone}
+use Rattle.lp_cert.specs.Noting.{advanced_lines, noted_by, noted_lines}
+use Rattle.lp_cert.specs.Settling.{Settling, AreSettledBy, AreSettledSince, AreThoseOf, Suffices, used_kind, used_scan}
+use Rattle.lp_cert.specs.Steps.{has_frame_in, first_refused}
+use Rattle.lp_cert.specs.Waiters.{WaitingGroups, AreStanding, own_lines, after_scan, after_scan_of, after_switch, after_verdict, after_fork, after_death, is_lone, lines_at, lines_in, scanned_lines}
 use Rattle.lp_cert.proofs.NextLines.{lines_at_fork}
 use Rattle.lp_cert.proofs.OtherEvents.{lines_at_refused, lines_at_others}
-use Rattle.lp_cert.proofs.Behind.{and_true, behind_after, told_over, same_own, others, changed_own, scan_own}
+use Rattle.lp_cert.proofs.Behind.{and_true, behind_after, none_refused, told_over, same_own, others, changed_own, scan_own}
+use Rattle.lp_cert.proofs.ScanTold.{scan_told}
 use Rattle.lp_cert.proofs.BehindTasks.{fork_lines, die_lines}
 
 module _ (model : Rules) (lawful : IsLawful model) (e : Engine) (sound : IsSound (state_in e)) (leg : Leg) (leg_sound : IsSound leg.opening) (there : state_in e ≡ state_of model leg)
-    (old : ℕ → Option (List Line)) (is : (g : ℕ) → g < 65536 → old g ≡ (if is_behind (state_in e) g then Some (lines model leg (length leg.events) g) else None)) where
+    (waiters : WaitingGroups) (is : (g : ℕ) → g < 65536 → lines_at waiters g ≡ (if is_behind (state_in e) g then Some (lines model leg (length leg.events) g) else None)) where
   abbrev s : State
   s = state_in e
+
+  abbrev old : ℕ → Option (List Line)
+  old = lines_at waiters
 
   abbrev n : ℕ
   n = length leg.events
@@ -154,10 +165,117 @@ module _ (model : Rules) (lawful : IsLawful model) (e : Engine) (sound : IsSound
       some_none : {A : Type 0} (a : A) → Some a ≡ None → ⊥
       some_none a e = absurd (cc)
 
+  -- ---- A scan that may leave out who is settled
+
+  some_none : {A : Type 0} (a : A) → Some a ≡ None → ⊥
+  some_none a e2 = absurd (cc)
+
+  -- where it is no scan that the model uses, the verdicts say nothing
+  own_any : (event : Event) (vs ws : List Verdict) (g : ℕ) → used_scan model event ≡ None → own_lines model e event vs old g ≡ own_lines model e event ws old g
+  own_any (Call t f) vs ws g none = refl
+  own_any (Ret t) vs ws g none = refl
+  own_any (Sleep t) vs ws g none = refl
+  own_any (Wake t) vs ws g none = refl
+  own_any (Enter t) vs ws g none = refl
+  own_any (Exit t) vs ws g none = refl
+  own_any (Idle t) vs ws g none = refl
+  own_any (Fork p c how) vs ws g none = refl
+  own_any (Die t) vs ws g none = refl
+  own_any Enable vs ws g none = refl
+  own_any Disable vs ws g none = refl
+  own_any Reverse vs ws g none = refl
+  own_any Walk vs ws g none = by (model.uses kind.Walk) refl
+    where
+      by : (b : Bool) → model.uses kind.Walk ≡ b → own_lines model e Walk vs old g ≡ own_lines model e Walk ws old g
+      by false unused = cond-false (model.uses kind.Walk) _ (old g) unused ∙ sym (cond-false (model.uses kind.Walk) _ (old g) unused)
+      by true used = absurd (some_none kind.Walk (sym (cond-true (model.uses kind.Walk) (Some kind.Walk) None used) ∙ none))
+  own_any Stop vs ws g none = by (model.uses kind.Stop) refl
+    where
+      by : (b : Bool) → model.uses kind.Stop ≡ b → own_lines model e Stop vs old g ≡ own_lines model e Stop ws old g
+      by false unused = cond-false (model.uses kind.Stop) _ (old g) unused ∙ sym (cond-false (model.uses kind.Stop) _ (old g) unused)
+      by true used = absurd (some_none kind.Stop (sym (cond-true (model.uses kind.Stop) (Some kind.Stop) None used) ∙ none))
+
+  module _ (settling : Settling) (calm : AreSettledBy model s (lines model leg n) settling) (on : CheckKind) (vs : List Verdict) (told : AreThoseOf model s (Some on) vs settling) (stand : AreStanding waiters)
+      (g : ℕ) (below : g < 65536) (not_over : goes_by e.table (verdicts_of model on s) g ≡ false) where
+    since : (o : Option CheckKind) → settling.kind ≡ o → AreSettledSince model s (lines model leg n) o (has settling.unsettled)
+    since o e2 = subst (λ (k : Option CheckKind). AreSettledSince model s (lines model leg n) k (has settling.unsettled)) e2 calm
+
+    -- the group is refused
+    refused_case : has waiters.groups g ≡ true → is_behind s g ≡ true → lines_in waiters.reasons g ≡ lines model leg n g → (blamed : ℕ × Blame) → first_refused s g (verdicts_of model on s) ≡ Some blamed
+        → after_verdict s (suc e.number) (first_refused s g vs) waiters.reasons g ≡ after_refusal (has_frame_in s) g (suc e.number) blamed (lines_in waiters.reasons g)
+    refused_case there behind same blamed first =
+        ⊎_elim
+        (λ (all : vs ≡ verdicts_of model on s). ap (λ o. after_verdict s (suc e.number) o waiters.reasons g) (ap (first_refused s g) all ∙ first))
+        (λ (some : (settling.kind ≡ Some on) × (vs ≡ filter (λ v. has settling.unsettled v.task.0) (verdicts_of model on s))).
+        ap (λ ws. after_verdict s (suc e.number) (first_refused s g ws) waiters.reasons g) some.1
+        ∙ scan_told model s sound on (lines model leg n) (has settling.unsettled) (since (Some on) some.0) waiters stand (suc e.number) g there same behind blamed first)
+        told
+
+    scan_noted : scanned_lines s (suc e.number) vs waiters g ≡ after_scan (has_frame_in s) g (suc e.number) (first_refused s g (verdicts_of model on s)) (old g)
+    scan_noted = by (has waiters.groups g) refl (is_behind s g) refl (first_refused s g (verdicts_of model on s)) refl
+      where
+        nothing : (o : Option (ℕ × Blame)) → after_scan (has_frame_in s) g (suc e.number) o None ≡ None
+        nothing None = refl
+        nothing (Some b) = refl
+
+        by : (w : Bool) → has waiters.groups g ≡ w → (b : Bool) → is_behind s g ≡ b → (o : Option (ℕ × Blame)) → first_refused s g (verdicts_of model on s) ≡ o
+            → scanned_lines s (suc e.number) vs waiters g ≡ after_scan (has_frame_in s) g (suc e.number) (first_refused s g (verdicts_of model on s)) (old g)
+        by false out b behind o first =
+            cond-false (has waiters.groups g) _ None out
+            ∙ (sym (nothing (first_refused s g (verdicts_of model on s)))
+            ∙ ap (after_scan (has_frame_in s) g (suc e.number) (first_refused s g (verdicts_of model on s))) (sym (cond-false (has waiters.groups g) (Some (lines_in waiters.reasons g)) None out)))
+        by true there false behind o first =
+            absurd (some_none (lines_in waiters.reasons g) (sym (cond-true (has waiters.groups g) (Some (lines_in waiters.reasons g)) None there) ∙ (is g below ∙ cond-false (is_behind s g) _ None behind)))
+        by true there true behind None first = absurd (false≢true (sym not_over ∙ none_refused model lawful e sound on g behind first))
+        by true there true behind (Some blamed) first =
+            let held : Some (lines_in waiters.reasons g) ≡ Some (lines model leg n g) = sym (cond-true (has waiters.groups g) (Some (lines_in waiters.reasons g)) None there) ∙ (is g below ∙ cond-true (is_behind s g) _ None behind) in
+            let same : lines_in waiters.reasons g ≡ lines model leg n g = cc in
+            cond-true (has waiters.groups g) _ None there
+            ∙ (ap {A = List Line} {B = Option (List Line)} Some (refused_case there behind same blamed first)
+            ∙ ap₂ (after_scan (has_frame_in s) g (suc e.number)) (sym first) (sym (cond-true (has waiters.groups g) (Some (lines_in waiters.reasons g)) None there)))
+
+  -- the lines that a scan leaves by what it found of those that it looked at are those that it leaves by what it finds of all
+  module _ (settling : Settling) (calm : AreSettledBy model s (lines model leg n) settling) (g : ℕ) (below : g < 65536) where
+    noted_scan : (on : CheckKind) (vs : List Verdict) → AreThoseOf model s (used_kind model on) vs settling → (IsSome (used_kind model on) → AreStanding waiters) → goes_by e.table (verdicts_of model on s) g ≡ false → (event : Event)
+        → ((ws : List Verdict) → own_lines model e event ws old g ≡ after_scan_of model s on ws old g) → used_scan model event ≡ used_kind model on
+        → noted_by model e (used_kind model on) event vs waiters g ≡ own_lines model e event (verdicts_of model on s) old g
+    noted_scan on vs told stand not_over event own is_used = by (model.uses on) refl
+      where
+        by : (b : Bool) → model.uses on ≡ b → noted_by model e (used_kind model on) event vs waiters g ≡ own_lines model e event (verdicts_of model on s) old g
+        by true used =
+            let kind_is : used_kind model on ≡ Some on = cond-true (model.uses on) (Some on) None used in
+            ap (λ o. noted_by model e o event vs waiters g) kind_is
+            ∙ (scan_noted settling calm on vs (subst (λ (o : Option CheckKind). AreThoseOf model s o vs settling) kind_is told) (stand (subst IsSome (sym kind_is) refl)) g below not_over
+            ∙ (sym (cond-true (model.uses on) (after_scan (has_frame_in s) g (suc e.number) (first_refused s g (verdicts_of model on s)) (old g)) (old g) used) ∙ sym (own (verdicts_of model on s))))
+        by false unused =
+            let kind_is : used_kind model on ≡ None = cond-false (model.uses on) (Some on) None unused in
+            ap (λ o. noted_by model e o event vs waiters g) kind_is ∙ own_any event vs (verdicts_of model on s) g (is_used ∙ kind_is)
+
+    noted_is : (event : Event) (vs : List Verdict) → AreThoseOf model s (used_scan model event) vs settling → (IsSome (used_scan model event) → AreStanding waiters) → goes_over model (affected model s event) event g ≡ false
+        → noted_lines model e event vs waiters g ≡ own_lines model e event (verdicts_for model s event) old g
+    noted_is Walk vs told stand stays =
+        noted_scan kind.Walk vs told stand (sym (goes-walk model lawful 65536 s refl sound e.table (λ t x live. slot_from_live e.table t x live) g) ∙ stays) Walk (λ ws. refl) refl
+    noted_is Stop vs told stand stays =
+        noted_scan kind.Stop vs told stand (sym (goes-stop model lawful 65536 s refl sound e.table (λ t x live. slot_from_live e.table t x live) g) ∙ stays) Stop (λ ws. refl) refl
+    noted_is (Call t f) vs told stand stays = refl
+    noted_is (Ret t) vs told stand stays = refl
+    noted_is (Sleep t) vs told stand stays = refl
+    noted_is (Wake t) vs told stand stays = refl
+    noted_is (Enter t) vs told stand stays = refl
+    noted_is (Exit t) vs told stand stays = refl
+    noted_is (Idle t) vs told stand stays = refl
+    noted_is (Fork p c how) vs told stand stays = refl
+    noted_is (Die t) vs told stand stays = refl
+    noted_is Enable vs told stand stays = refl
+    noted_is Disable vs told stand stays = refl
+    noted_is Reverse vs told stand stays = refl
+
   -- the lines that a group has after the event, if it waits then
-  pub step_lines : (step : Weighed) → IsWeighed model e step → (refusal_of model s step.event ≡ None → is_control step.event ≡ false) → (refusal_of model s step.event ≡ None → IsFew step.event) → (g : ℕ) → g < 65536
-      → next_lines model e step old g ≡ (if is_behind (next model s step.event) g then Some (lines model (and_then leg step.event) (suc n) g) else None)
-  step_lines step weighed plain few g below = by (refusal_of model s step.event) refl
+  pub step_lines : (step : Weighed) → IsWeighed model e step → (settling : Settling) → AreSettledBy model s (lines model leg n) settling → Suffices model s step settling
+      → (IsSome (used_scan model step.event) → refused_by step.reply.what ≡ None → AreStanding waiters)
+      → (refusal_of model s step.event ≡ None → is_control step.event ≡ false) → (refusal_of model s step.event ≡ None → IsFew step.event) → (g : ℕ) → g < 65536
+      → advanced_lines model e step waiters g ≡ (if is_behind (next model s step.event) g then Some (lines model (and_then leg step.event) (suc n) g) else None)
+  step_lines step weighed settling calm enough stand plain few g below = by (refusal_of model s step.event) refl
     where
       event : Event
       event = step.event
@@ -169,23 +287,23 @@ module _ (model : Rules) (lawful : IsLawful model) (e : Engine) (sound : IsSound
       refused_is = ap (λ (r : Reply). refused_by r.what) weighed.reply ∙ refused-as model s event
 
       gone : (ok : refusal_of model s event ≡ None) → (b : Bool) → goes_over model (affected model s event) event g ≡ b → list_any (nat_eq g) (groups_of step.reply.what) ≡ b
-          → after_switch (groups_of step.reply.what) (own_lines model e event step.verdicts old) g ≡ (if is_behind (next model s event) g then Some (new g) else None)
+          → after_switch (groups_of step.reply.what) (noted_lines model e event step.verdicts waiters) g ≡ (if is_behind (next model s event) g then Some (new g) else None)
       gone ok true goes told =
-          cond-true (list_any (nat_eq g) (groups_of step.reply.what)) None (own_lines model e event step.verdicts old g) told
+          cond-true (list_any (nat_eq g) (groups_of step.reply.what)) None (noted_lines model e event step.verdicts waiters g) told
           ∙ sym (cond-false (is_behind (next model s event) g) (Some (new g)) None (ap (λ (st : State). is_behind st g) (next-accepted model s event ok (plain ok)) ∙ (behind_after model s event g ∙ (ap (λ b. is_behind (affected model s event) g && not b) goes ∙ and-false (is_behind (affected model s event) g)))))
       gone ok false goes told =
-          cond-false (list_any (nat_eq g) (groups_of step.reply.what)) None (own_lines model e event step.verdicts old g) told
-          ∙ (ap (λ vs. own_lines model e event vs old g) weighed.verdicts
+          cond-false (list_any (nat_eq g) (groups_of step.reply.what)) None (noted_lines model e event step.verdicts waiters g) told
+          ∙ (noted_is settling calm g below event step.verdicts enough (λ used. stand used (refused_is ∙ ok)) goes
           ∙ (own_step event g below (few ok) ok (plain ok) goes
           ∙ ap (λ b. if b then Some (new g) else None) (sym (ap (λ (st : State). is_behind st g) (next-accepted model s event ok (plain ok)) ∙ (behind_after model s event g ∙ (ap (λ b. is_behind (affected model s event) g && not b) goes ∙ and_true (is_behind (affected model s event) g)))))))
 
-      by : (why : Option Refusal) → refusal_of model s event ≡ why → next_lines model e step old g ≡ (if is_behind (next model s event) g then Some (new g) else None)
+      by : (why : Option Refusal) → refusal_of model s event ≡ why → advanced_lines model e step waiters g ≡ (if is_behind (next model s event) g then Some (new g) else None)
       by (Some why) turned_down =
-          cond-false (is_none (refused_by step.reply.what)) (after_switch (groups_of step.reply.what) (own_lines model e event step.verdicts old) g) (old g) (ap is_none (refused_is ∙ turned_down))
+          cond-false (is_none (refused_by step.reply.what)) (after_switch (groups_of step.reply.what) (noted_lines model e event step.verdicts waiters) g) (old g) (ap is_none (refused_is ∙ turned_down))
           ∙ (is g below ∙ ap₂ (λ (b : Bool) (ls : List Line). if b then Some ls else None) (sym (ap (λ (st : State). is_behind st g) (next-refused model s event why turned_down))) (sym (refused_same event g why turned_down)))
       by None ok =
           let what : step.reply.what ≡ told model s event =
           ap (λ (r : Reply). r.what) (weighed.reply ∙ answer-accepted model s event ok)
           ∙ ap (λ (r : Reply). r.what) (cond-false (is_control event) _ _ (plain ok)) in
-          cond-true (is_none (refused_by step.reply.what)) (after_switch (groups_of step.reply.what) (own_lines model e event step.verdicts old) g) (old g) (ap is_none (refused_is ∙ ok))
+          cond-true (is_none (refused_by step.reply.what)) (after_switch (groups_of step.reply.what) (noted_lines model e event step.verdicts waiters) g) (old g) (ap is_none (refused_is ∙ ok))
           ∙ gone ok (goes_over model (affected model s event) event g) refl (ap (λ (w : What). list_any (nat_eq g) (groups_of w)) what ∙ told_over model s event g below refl (plain ok))

@@ -11,15 +11,17 @@ use Rattle.lp_cert.specs.declared.cert.Claim.TheVariants.{Waiting, Floor}
 use Rattle.lp_cert.specs.declared.cert.Cert.{Cert}
 use Rattle.lp_cert.specs.declared.leg_end.LegEnd.{LegEnd}
 use Rattle.lp_cert.specs.Made.{cert, completion, certs_by, waiting_groups, floor_certs, legs, opened_legs}
-use Rattle.lp_cert.specs.Ends.{Made, IsMadeOf, end_of, ended_legs, under_way, waiting_in, floor_in}
+use Rattle.lp_cert.specs.Ends.{Made, IsFresh, IsMadeOf, end_of, ended_legs, under_way, waiting_in, floor_in}
 use Rattle.lp_cert.proofs.Asked.{find_own}
+use Rattle.lp_cert.proofs.SettledSteps.{none_settled}
 
 module _ (model : Rules) where
-  pub begins : (run : Run) → run.events ≡ [] → IsMadeOf model run (record { ended = []; current = None; ready = None })
+  pub begins : (run : Run) (made : Made) → run.events ≡ [] → IsFresh made → IsMadeOf model run made
   unfolding ended_legs
-  begins run none = record {
-    ended = sym (ap (λ events. map (end_of model) (drop 1 (ended_legs model (first_leg model run) events))) none);
-    current = sym (ap (λ events. option_map (end_of model) (under_way model (ended_legs model (first_leg model run) events) (leg_after model (first_leg model run) events))) none);
+  begins run made none fresh = record {
+    ended = fresh.ended ∙ sym (ap (λ events. map (end_of model) (drop 1 (ended_legs model (first_leg model run) events))) none);
+    current = fresh.current ∙ sym (ap (λ events. option_map (end_of model) (under_way model (ended_legs model (first_leg model run) events) (leg_after model (first_leg model run) events))) none);
+    settled = none_settled model _ _ made.settling fresh.settling;
   }
 
   -- the legs are those that ended, and the last

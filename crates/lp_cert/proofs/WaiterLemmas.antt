@@ -21,7 +21,8 @@ use Rattle.lp_cert.specs.declared.ongoing.Ongoing.TheVariants.{Nothing}
 use Rattle.lp_cert.specs.Made.{group_id, after_refusal}
 use Rattle.lp_cert.specs.Heads.{ongoing_reasons, head_lines, lines_of, FitsIn, IsUnchecked, IsHead, Keeps, HasFrameAs, IsRefusedBy}
 use Rattle.lp_cert.specs.Steps.{has_frame_in, member_verdict, first_refused}
-use Rattle.lp_cert.specs.Waiters.{LegReasons, head_of, lines_in, StandsAt, IsRefusedOnce, IsJudged, AreJudged, lines_at, after_scan}
+use Rattle.lp_cert.specs.Waiters.{LegReasons, head_of, lines_in, StandsAt, IsRefusedOnce, IsJudged, AreJudged, lines_at, after_verdict, scanned_lines}
+use Rattle.lp_cert.proofs.HeadLemmas.{head_further}
 
 -- ---- Lists that stay
 
@@ -83,7 +84,7 @@ module _ (s : State) (verdict : Verdict) (why : Blame) (group : GroupId) (mine :
 
 -- ---- One verdict
 
-module _ (s : State) (at : ℕ) (verdict : Verdict) (why : Blame) (group : GroupId) (held : Bool) (groups left refused now : Numbers) (old new : LegReasons)
+module _ (s : State) (at : ℕ) (verdict : Verdict) (why : Blame) (group : GroupId) (held : Bool) (groups left : Numbers) (old new : LegReasons)
     (mine : (g : ℕ) → on_live false (λ x. nat_eq x.group g) (s.tasks verdict.task.0) ≡ nat_eq group.0 g)
     (blamed_is : verdict.blame ≡ Some why)
     (waits : has groups group.0 ≡ true)
@@ -91,34 +92,28 @@ module _ (s : State) (at : ℕ) (verdict : Verdict) (why : Blame) (group : Group
     (after : IsRefusedBy (record { at = at; task = verdict.task; blame = why; held = held }) group old.scans (head_of old group.0) (head_of new group.0) old.lists new.lists)
     (rest : (other : ℕ) → other ≢ group.0 → head_of new other ≡ head_of old other)
     (scans : new.scans ≡ old.scans) (room : old.room ≤ new.room + 1) (scan_room : new.scan_room ≡ old.scan_room)
-    (left_is : left ≡ set groups group.0 false) (now_is : now ≡ set refused group.0 true)
-    (wide : length left ≡ 65536) (wide_now : length now ≡ 65536) (few : group.0 < 65536) where
+    (left_is : left ≡ set groups group.0 false) (wide : length left ≡ 65536) (few : group.0 < 65536) where
   out : has left group.0 ≡ false
   out =
       let h : group.0 < length groups = omega (arith, length-set groups group.0 false, ap length left_is) in
       ap (λ (l : Numbers). has l group.0) left_is ∙ get_or-set_same groups group.0 false false h
 
-  in_now : has now group.0 ≡ true
-  in_now =
-      let h : group.0 < length refused = omega (arith, length-set refused group.0 true, ap length now_is) in
-      ap (λ (l : Numbers). has l group.0) now_is ∙ get_or-set_same refused group.0 true false h
-
   once : IsRefusedOnce s at group.0 (verdict.task.0, why) old new
   once = record { lines = after.lines (has_frame_in s) has_frame; stands = after.stands }
 
   judges-yes : (g : ℕ) (blamed : ℕ × Blame) → has groups g ≡ true → member_verdict s g verdict ≡ Some blamed → (b : Bool) → nat_eq group.0 g ≡ b
-      → (has left g ≡ false) × (has now g ≡ true) × IsRefusedOnce s at g blamed old new
+      → (has left g ≡ false) × IsRefusedOnce s at g blamed old new
   judges-yes g blamed there is false e = absurd (some_none blamed (sym is ∙ member_at s verdict why group mine blamed_is g false e))
   judges-yes g blamed there is true e =
       let same : group.0 ≡ g = eqb-true group.0 g e in
       let told : Some (verdict.task.0, why) ≡ Some blamed = sym (member_at s verdict why group mine blamed_is g true e) ∙ is in
       let pair : (verdict.task.0, why) ≡ blamed = cc in
-      subst (λ k. (has left k ≡ false) × (has now k ≡ true) × IsRefusedOnce s at k blamed old new) same
-      (subst (λ (bl : ℕ × Blame). (has left group.0 ≡ false) × (has now group.0 ≡ true) × IsRefusedOnce s at group.0 bl old new) pair
-      (out, in_now, once))
+      subst (λ k. (has left k ≡ false) × IsRefusedOnce s at k blamed old new) same
+      (subst (λ (bl : ℕ × Blame). (has left group.0 ≡ false) × IsRefusedOnce s at group.0 bl old new) pair
+      (out, once))
 
   judges-no : (g : ℕ) → (if has groups g then member_verdict s g verdict else None) ≡ None → (b : Bool) → nat_eq group.0 g ≡ b
-      → (has left g ≡ has groups g) × (has now g ≡ has refused g) × (head_of new g ≡ head_of old g)
+      → (has left g ≡ has groups g) × (head_of new g ≡ head_of old g)
   judges-no g none true e =
       let same : group.0 ≡ g = eqb-true group.0 g e in
       let there : has groups g ≡ true = ap (has groups) (sym same) ∙ waits in
@@ -129,11 +124,10 @@ module _ (s : State) (at : ℕ) (verdict : Verdict) (why : Blame) (group : Group
       let ne : group.0 ≢ g = eqb-false group.0 g e in
       let other : g ≢ group.0 = λ same. ne (sym same) in (
         ap (λ (l : Numbers). has l g) left_is ∙ get_or-set_other groups group.0 g false false other,
-        ap (λ (l : Numbers). has l g) now_is ∙ get_or-set_other refused group.0 g true false other,
         rest g other,
       )
 
-  pub judges : IsJudged s at verdict groups left refused now old new
+  pub judges : IsJudged s at verdict groups left old new
   judges = record {
     judged = λ g blamed there is. judges-yes g blamed there is (nat_eq group.0 g) refl;
     others = λ g none. judges-no g none (nat_eq group.0 g) refl;
@@ -162,62 +156,60 @@ first_none s g vs v e =
     ap first_of (map-append (member_verdict s g) vs (v ∷ []))
     ∙ (first_of-push (map (member_verdict s g) vs) (member_verdict s g v) None e ∙ one_of (member_verdict s g v))
 
-pub none_judged : (s : State) (at : ℕ) (groups refused : Numbers) (old : LegReasons) → IsEmpty refused → AreJudged s at [] groups groups refused old old
-none_judged s at groups refused old none = record {
+pub none_judged : (s : State) (at : ℕ) (groups : Numbers) (old : LegReasons) → AreJudged s at [] groups groups old old
+none_judged s at groups old = record {
   judged = λ g blamed there is. absurd (some_none blamed (sym is));
-  others = λ g e. (refl, none g, refl);
+  others = λ g e. (refl, refl);
   kept = record { no_less = omega arith; same = λ i h. refl };
   scans = refl;
   room = omega arith;
   scan_room = refl;
 }
 
-module _ (s : State) (at : ℕ) (vs : List Verdict) (v : Verdict) (groups mid left refused now : Numbers) (old some new : LegReasons)
+module _ (s : State) (at : ℕ) (vs : List Verdict) (v : Verdict) (groups mid left : Numbers) (old some new : LegReasons)
     (stand : (g : ℕ) → has groups g ≡ true → StandsAt (length old.scans) old g)
-    (so_far : AreJudged s at vs groups mid refused old some) (next : IsJudged s at v mid left refused now some new) where
+    (so_far : AreJudged s at vs groups mid old some) (next : IsJudged s at v mid left some new) where
   kept : Keeps old.lists new.lists
   kept = keeps_trans old.lists some.lists new.lists so_far.kept next.kept
 
   -- a group that this verdict leaves as it is
   abbrev Passed : ℕ → Type 0
-  Passed g = (has left g ≡ has mid g) × (has now g ≡ has refused g) × (head_of new g ≡ head_of some g)
+  Passed g = (has left g ≡ has mid g) × (head_of new g ≡ head_of some g)
 
   -- it was refused before
-  before : (g : ℕ) (blamed : ℕ × Blame) → (has mid g ≡ false) × (has refused g ≡ true) × IsRefusedOnce s at g blamed old some
-      → (has left g ≡ false) × (has now g ≡ true) × IsRefusedOnce s at g blamed old new
+  before : (g : ℕ) (blamed : ℕ × Blame) → (has mid g ≡ false) × IsRefusedOnce s at g blamed old some
+      → (has left g ≡ false) × IsRefusedOnce s at g blamed old new
   before g blamed b =
       let passed : Passed g = next.others g (cond-false (has mid g) (member_verdict s g v) None b.0) in (
         passed.0 ∙ b.0,
-        passed.1 ∙ b.1,
         record {
           lines =
-              ap (λ (h : Head). head_lines new.lists (old.scans ++ at ∷ []) (group_id g) h) passed.2
-              ∙ (lines_kept some.lists new.lists (old.scans ++ at ∷ []) (group_id g) (head_of some g) next.kept b.2.stands.known ∙ b.2.lines);
-          stands = subst (λ (h : Head). IsHead new.lists (length old.scans + 1) h) (sym passed.2) (head_kept some.lists new.lists (length old.scans + 1) (head_of some g) next.kept b.2.stands);
+              ap (λ (h : Head). head_lines new.lists (old.scans ++ at ∷ []) (group_id g) h) passed.1
+              ∙ (lines_kept some.lists new.lists (old.scans ++ at ∷ []) (group_id g) (head_of some g) next.kept b.1.stands.known ∙ b.1.lines);
+          stands = subst (λ (h : Head). IsHead new.lists (length old.scans + 1) h) (sym passed.1) (head_kept some.lists new.lists (length old.scans + 1) (head_of some g) next.kept b.1.stands);
         },
       )
 
   -- it is refused by this verdict
   at_last : (g : ℕ) (blamed : ℕ × Blame) → has groups g ≡ true → first_refused s g vs ≡ None → member_verdict s g v ≡ Some blamed
-      → (has left g ≡ false) × (has now g ≡ true) × IsRefusedOnce s at g blamed old new
+      → (has left g ≡ false) × IsRefusedOnce s at g blamed old new
   at_last g blamed there none is =
       let calm = so_far.others g (cond-true (has groups g) (first_refused s g vs) None there ∙ none) in
       let last = next.judged g blamed (calm.0 ∙ there) is in
       let same : lines_in some g ≡ lines_in old g =
-      ap₂ (λ scans (h : Head). head_lines some.lists scans (group_id g) h) so_far.scans calm.2
+      ap₂ (λ scans (h : Head). head_lines some.lists scans (group_id g) h) so_far.scans calm.1
       ∙ lines_kept old.lists some.lists old.scans (group_id g) (head_of old g) so_far.kept (stand g there).known in (
         last.0,
-        last.1,
         record {
           lines =
               ap (λ scans. head_lines new.lists (scans ++ at ∷ []) (group_id g) (head_of new g)) (sym so_far.scans)
-              ∙ (last.2.lines ∙ ap (after_refusal (has_frame_in s) g at blamed) same);
-          stands = subst (λ scans. IsHead new.lists (length scans + 1) (head_of new g)) so_far.scans last.2.stands;
+              ∙ (last.1.lines ∙ ap (after_refusal (has_frame_in s) g at blamed) same);
+          stands = subst (λ scans. IsHead new.lists (length scans + 1) (head_of new g)) so_far.scans last.1.stands;
         },
       )
 
   judged-more : (g : ℕ) (blamed : ℕ × Blame) → has groups g ≡ true → first_refused s g (vs ++ v ∷ []) ≡ Some blamed → (first : Option (ℕ × Blame)) → first_refused s g vs ≡ first
-      → (has left g ≡ false) × (has now g ≡ true) × IsRefusedOnce s at g blamed old new
+      → (has left g ≡ false) × IsRefusedOnce s at g blamed old new
   judged-more g blamed there is None e = at_last g blamed there e (sym (first_none s g vs v e) ∙ is)
   judged-more g blamed there is (Some b) e =
       let told : Some b ≡ Some blamed = sym (first_some s g vs v b e) ∙ is in
@@ -225,18 +217,18 @@ module _ (s : State) (at : ℕ) (vs : List Verdict) (v : Verdict) (groups mid le
       before g blamed (so_far.judged g blamed there (e ∙ ap {A = ℕ × Blame} {B = Option (ℕ × Blame)} Some same))
 
   others-more : (g : ℕ) (b : Bool) → has groups g ≡ b → (if b then first_refused s g (vs ++ v ∷ []) else None) ≡ None → (first : Option (ℕ × Blame)) → first_refused s g vs ≡ first
-      → (has left g ≡ has groups g) × (has now g ≡ false) × (head_of new g ≡ head_of old g)
+      → (has left g ≡ has groups g) × (head_of new g ≡ head_of old g)
   others-more g true there none (Some b) e = absurd (some_none b (sym (first_some s g vs v b e) ∙ none))
   others-more g true there none None e =
       let calm = so_far.others g (cond-true (has groups g) (first_refused s g vs) None there ∙ e) in
       let passed : Passed g = next.others g (cond-true (has mid g) (member_verdict s g v) None (calm.0 ∙ there) ∙ (sym (first_none s g vs v e) ∙ none)) in
-      (passed.0 ∙ calm.0, passed.1 ∙ calm.1, passed.2 ∙ calm.2)
+      (passed.0 ∙ calm.0, passed.1 ∙ calm.1)
   others-more g false there none first e =
       let calm = so_far.others g (cond-false (has groups g) (first_refused s g vs) None there) in
       let passed : Passed g = next.others g (cond-false (has mid g) (member_verdict s g v) None (calm.0 ∙ there)) in
-      (passed.0 ∙ calm.0, passed.1 ∙ calm.1, passed.2 ∙ calm.2)
+      (passed.0 ∙ calm.0, passed.1 ∙ calm.1)
 
-  pub one_judged : AreJudged s at (vs ++ v ∷ []) groups left now old new
+  pub one_judged : AreJudged s at (vs ++ v ∷ []) groups left old new
   one_judged = record {
     judged = λ g blamed there is. judged-more g blamed there is (first_refused s g vs) refl;
     others = λ g none. others-more g (has groups g) refl none (first_refused s g vs) refl;
@@ -250,11 +242,11 @@ module _ (s : State) (at : ℕ) (vs : List Verdict) (v : Verdict) (groups mid le
   pub still_standing : (g : ℕ) → has left g ≡ true → StandsAt (length new.scans) new g
   still_standing g there = by (has groups g) refl (first_refused s g (vs ++ v ∷ [])) refl
     where
-      stays : (has left g ≡ has groups g) × (has now g ≡ false) × (head_of new g ≡ head_of old g) → StandsAt (length new.scans) new g
+      stays : (has left g ≡ has groups g) × (head_of new g ≡ head_of old g) → StandsAt (length new.scans) new g
       stays calm =
           let known = stand g (sym calm.0 ∙ there) in
           subst (λ scans. StandsAt (length scans) new g) (sym one_judged.scans)
-          (subst (λ (h : Head). IsHead new.lists (length old.scans) h) (sym calm.2) (head_kept old.lists new.lists (length old.scans) (head_of old g) kept known))
+          (subst (λ (h : Head). IsHead new.lists (length old.scans) h) (sym calm.1) (head_kept old.lists new.lists (length old.scans) (head_of old g) kept known))
 
       by : (b : Bool) → has groups g ≡ b → (first : Option (ℕ × Blame)) → first_refused s g (vs ++ v ∷ []) ≡ first → StandsAt (length new.scans) new g
       by false e first is = stays (one_judged.others g (cond-false (has groups g) _ None e))
@@ -263,8 +255,9 @@ module _ (s : State) (at : ℕ) (vs : List Verdict) (v : Verdict) (groups mid le
 
 -- ---- After a scan
 
-module _ (s : State) (at : ℕ) (vs : List Verdict) (groups left refused : Numbers) (old some new : LegReasons)
-    (all : AreJudged s at vs groups left refused old some) (heads : new.heads ≡ some.heads) (lists : new.lists ≡ some.lists) (scans : new.scans ≡ some.scans ++ at ∷ []) where
+module _ (s : State) (at : ℕ) (vs : List Verdict) (groups left : Numbers) (old some new : LegReasons)
+    (stand : (g : ℕ) → has groups g ≡ true → StandsAt (length old.scans) old g)
+    (all : AreJudged s at vs groups left old some) (heads : new.heads ≡ some.heads) (lists : new.lists ≡ some.lists) (scans : new.scans ≡ some.scans ++ at ∷ []) where
   new_lines : (g : ℕ) → lines_in new g ≡ head_lines some.lists (old.scans ++ at ∷ []) (group_id g) (head_of some g)
   new_lines g =
       ap₂ (λ (hs : List Head) ls. head_lines ls new.scans (group_id g) (get_or hs g (record { ongoing = Nothing; older = record { 0 = 0 } }))) heads lists
@@ -277,23 +270,29 @@ module _ (s : State) (at : ℕ) (vs : List Verdict) (groups left refused : Numbe
       (subst (λ (hs : List Head). IsHead new.lists (length old.scans + 1) (get_or hs g (record { ongoing = Nothing; older = record { 0 = 0 } }))) (sym heads)
       (subst (λ ls. IsHead ls (length old.scans + 1) (head_of some g)) (sym lists) is))
 
-  scanned-lines : (g : ℕ) (b : Bool) → has groups g ≡ b → (first : Option (ℕ × Blame)) → first_refused s g vs ≡ first
-      → (if has refused g then Some (lines_in new g) else None) ≡ after_scan (has_frame_in s) g at first (if b then Some (lines_in old g) else None)
-  scanned-lines g true e (Some b) is =
-      let r = all.judged g b e is in
-      cond-true (has refused g) _ None r.1 ∙ ap {A = List Line} {B = Option (List Line)} Some (new_lines g ∙ r.2.lines)
-  scanned-lines g true e None is = cond-false (has refused g) _ None (all.others g (cond-true (has groups g) _ None e ∙ is)).1
-  scanned-lines g false e (Some b) is = cond-false (has refused g) _ None (all.others g (cond-false (has groups g) _ None e)).1
-  scanned-lines g false e None is = cond-false (has refused g) _ None (all.others g (cond-false (has groups g) _ None e)).1
+  noted-lines : (g : ℕ) → has groups g ≡ true → (first : Option (ℕ × Blame)) → first_refused s g vs ≡ first
+      → lines_in new g ≡ after_verdict s at first old g
+  noted-lines g e (Some b) is = new_lines g ∙ (all.judged g b e is).1.lines
+  noted-lines g e None is =
+      let calm = (all.others g (cond-true (has groups g) _ None e ∙ is)).1 in
+      new_lines g
+      ∙ (ap (λ (h : Head). head_lines some.lists (old.scans ++ at ∷ []) (group_id g) h) calm
+      ∙ lines_kept old.lists some.lists (old.scans ++ at ∷ []) (group_id g) (head_of old g) all.kept (stand g e).known)
 
-  pub after_all : (g : ℕ) → lines_at (record { groups = refused; reasons = new }) g ≡ after_scan (has_frame_in s) g at (first_refused s g vs) (lines_at (record { groups = groups; reasons = old }) g)
-  after_all g =
-      scanned-lines g (has groups g) refl (first_refused s g vs) refl
+  scanned-lines : (g : ℕ) (b : Bool) → has groups g ≡ b
+      → (if b then Some (lines_in new g) else None) ≡ (if b then Some (after_verdict s at (first_refused s g vs) old g) else None)
+  scanned-lines g true e = ap {A = List Line} {B = Option (List Line)} Some (noted-lines g e (first_refused s g vs) refl)
+  scanned-lines g false e = refl
 
-  pub all_stand : (g : ℕ) → has refused g ≡ true → StandsAt (length new.scans) new g
-  all_stand g there = by (has groups g) refl (first_refused s g vs) refl
+  pub after_all : (g : ℕ) → lines_at (record { groups = groups; reasons = new }) g ≡ scanned_lines s at vs (record { groups = groups; reasons = old }) g
+  after_all g = scanned-lines g (has groups g) refl
+
+  pub all_stand : (g : ℕ) → has groups g ≡ true → StandsAt (length new.scans) new g
+  all_stand g there = by (first_refused s g vs) refl
     where
-      by : (b : Bool) → has groups g ≡ b → (first : Option (ℕ × Blame)) → first_refused s g vs ≡ first → StandsAt (length new.scans) new g
-      by true e (Some b) is = new_stands g (all.judged g b e is).2.stands
-      by true e None is = absurd (false≢true (sym (all.others g (cond-true (has groups g) _ None e ∙ is)).1 ∙ there))
-      by false e first is = absurd (false≢true (sym (all.others g (cond-false (has groups g) _ None e)).1 ∙ there))
+      by : (first : Option (ℕ × Blame)) → first_refused s g vs ≡ first → StandsAt (length new.scans) new g
+      by (Some b) is = new_stands g (all.judged g b there is).1.stands
+      by None is =
+          let calm = (all.others g (cond-true (has groups g) _ None there ∙ is)).1 in
+          let was = head_kept old.lists some.lists (length old.scans) (head_of old g) all.kept (stand g there) in
+          new_stands g (subst (λ (h : Head). IsHead some.lists (length old.scans + 1) h) (sym calm) (head_further some.lists (length old.scans) (head_of old g) was))

@@ -1,5 +1,5 @@
 -- How the legs of a run ended, with their certificates, and what is made of a run so far.
-use Rattle.std.specs.Prelude.{◌≡◌, ℕ, ◌+◌, Bool, true, List, [], ◌∷◌, ◌++◌, map, drop, Option, Some, None, is_none, if◌then◌else◌, nat_eq, slice_get}
+use Rattle.std.specs.Prelude.{◌≡◌, ℕ, ◌+◌, Bool, true, List, [], ◌∷◌, ◌++◌, map, drop, length, Option, Some, None, is_none, if◌then◌else◌, nat_eq, slice_get}
 use Rattle.std.specs.List.{find}
 use Rattle.std.specs.Option.{option_map}
 use Rattle.lp_model.specs.Rules.{Rules}
@@ -8,18 +8,28 @@ use Rattle.lp_transition.specs.declared.event.Event.TheVariants.{Call}
 use Rattle.lp_transition.specs.Weigh.{moves}
 use Rattle.lp_transition.specs.Leg.{Leg}
 use Rattle.lp_transition.specs.Run.{Run, first_leg, leg_of, opens, next_leg}
+use Rattle.lp_transition.specs.Machine.{state_of}
 use Rattle.lp_cert.specs.declared.cert.Claim.TheVariants.{Floor}
 use Rattle.lp_cert.specs.declared.cert.Cert.{Cert}
 use Rattle.lp_cert.specs.declared.cert.CertHead.{CertHead}
 use Rattle.lp_cert.specs.declared.leg_end.LegEnd.{LegEnd}
-use Rattle.lp_cert.specs.Made.{completion, certs_of}
+use Rattle.lp_cert.specs.Made.{completion, certs_of, lines}
+use Rattle.lp_cert.specs.Settling.{Settling, AreSettledBy}
 
--- the ends of the legs that ended, the end of the leg under way as it stands, and the event for which there is room,
--- with the number of its verdicts
+-- the ends of the legs that ended, the end of the leg under way as it stands, the event for which there is room, with
+-- the number of its verdicts, and the tasks that a scan needn't look at
 pub record Made : Type 0 where
   pub ended : List LegEnd
   pub current : Option LegEnd
   pub ready : Option (Event × ℕ)
+  pub settling : Settling
+
+-- nothing is made yet
+pub record IsFresh (made : Made) : Type 0 where
+  pub ended : made.ended ≡ []
+  pub current : made.current ≡ None
+  pub ready : made.ready ≡ None
+  pub settling : made.settling.kind ≡ None
 
 -- a certificate without its lines
 abbrev pub cert_head : Cert → CertHead
@@ -69,3 +79,6 @@ module _ (model : Rules) where
   pub record IsMadeOf (run : Run) (made : Made) : Type 0 where
     pub ended : made.ended ≡ map end_of (drop 1 (ended_legs (first_leg model run) run.events))
     pub current : made.current ≡ option_map end_of (under_way (ended_legs (first_leg model run) run.events) (leg_of model run))
+    pub settled :
+        AreSettledBy model (state_of model (leg_of model run)) (lines model (leg_of model run) (length (leg_of model run).events))
+        made.settling

@@ -1,5 +1,5 @@
 -- The leg under way as it is kept.
-use Rattle.std.specs.Prelude.{◌≡◌, ℕ, ◌+◌, ◌-◌, ◌<◌, Bool, true, false, ◌&&◌, List, [], ◌∷◌, length, map, reverse, Option, Some, None, IfSome, is_none, if◌then◌else◌}
+use Rattle.std.specs.Prelude.{◌≡◌, ℕ, ◌+◌, ◌-◌, ◌<◌, Bool, true, false, ◌&&◌, List, [], ◌∷◌, length, map, reverse, Option, Some, None, IfSome, IsSome, is_none, if◌then◌else◌}
 use Rattle.std.specs.Option.{option_map}
 use Rattle.lp_stack.specs.declared.number.GroupId.{GroupId}
 use Rattle.lp_numbers.specs.Numbers.{has, IsNextFrom}
@@ -17,7 +17,9 @@ use Rattle.lp_cert.specs.declared.leg_end.LegEnd.{LegEnd}
 use Rattle.lp_cert.specs.declared.open_leg.Completion.{Completion}
 use Rattle.lp_cert.specs.declared.open_leg.OpenLeg.{OpenLeg}
 use Rattle.lp_cert.specs.declared.maker.Ready.{Ready}
-use Rattle.lp_cert.specs.Waiters.{LegReasons, WaitingGroups, AreHeads, HasFewGroups, kept_cert, lines_at, next_lines, waiter_in, waiters_of}
+use Rattle.lp_cert.specs.Noting.{advanced_lines}
+use Rattle.lp_cert.specs.Settling.{Settling, GoesFurther, used_scan}
+use Rattle.lp_cert.specs.Waiters.{LegReasons, WaitingGroups, AreHeads, AreStanding, HasFewGroups, kept_cert, lines_at, waiter_in, waiters_of}
 
 -- ---- The certificates of a leg as it stands
 
@@ -125,5 +127,14 @@ pub record IsGoneOn (model : Rules) (e : Engine) (step : Weighed) (number : ℕ)
       × IsNextFrom (has before.groups) 0 (option_map (λ group. group.0) floor) × IfSome floor (λ group. group.0 < 65536)
   pub goes_on :
       old.completed ≡ None → step.reply.completed ≡ false →
-      (new ≡ old) × ((group : ℕ) → lines_at after group ≡ next_lines model e step (lines_at before) group)
+      (new ≡ old) × ((group : ℕ) → lines_at after group ≡ advanced_lines model e step before group)
       × (refused_by step.reply.what ≡ None → HasFewGroups e step.event)
+      × (IsSome (used_scan model step.event) → refused_by step.reply.what ≡ None → AreStanding before)
+
+-- who is settled after an event: nobody of a leg that is complete, and else as the event goes
+pub record IsSettledOn (model : Rules) (e : Engine) (step : Weighed) (old : OpenLeg) (after : WaitingGroups) (was is : Settling) : Type 0 where
+  pub complete : (done : Completion) → old.completed ≡ Some done → is.kind ≡ None
+  pub completes : old.completed ≡ None → step.reply.completed ≡ true → is.kind ≡ None
+  pub goes_on :
+      old.completed ≡ None → step.reply.completed ≡ false →
+      AreStanding after × GoesFurther model e step.event step.verdicts after.reasons was is

@@ -17,7 +17,7 @@ use Rattle.lp_transition.specs.Scan.{is_scan_kind, scan_event, verdicts_of}
 use Rattle.lp_transition.specs.Machine.{is_behind, state_of}
 use Rattle.lp_cert.specs.declared.cert.Claim.TheVariants.{Waiting}
 use Rattle.lp_cert.specs.Made.{lines, cert, completion, floor_certs, opened_legs}
-use Rattle.lp_cert.specs.Ends.{Made, IsMadeOf, end_of, waiting_in, floor_in}
+use Rattle.lp_cert.specs.Ends.{Made, IsFresh, IsMadeOf, end_of, waiting_in, floor_in}
 use Rattle.lp_cert.specs.Steps.{first_refused, first_blamed_in, lines_after_scan, lines_after_fork}
 
 -- the lines of a group come with the events of its leg: each leaves those before it as they are, or goes by the state
@@ -60,7 +60,7 @@ pub record LinesComeWithEvents (model : Rules) : Type 0 where
 -- what a maker holds
 pub record MakersTell (model : Rules) : Type 0 where
   -- a run begins without a leg
-  pub begins : (run : Run) → run.events ≡ [] → IsMadeOf model run (record { ended = []; current = None; ready = None })
+  pub begins : (run : Run) (made : Made) → run.events ≡ [] → IsFresh made → IsMadeOf model run made
   -- what is made of a run is the ends of its legs, with their certificates
   pub legs :
       (run : Run) (made : Made) → IsMadeOf model run made →

@@ -10,3 +10,5 @@ pub mod Waiters
 pub mod Ends
 pub mod Kept
 pub mod Settled
+pub mod Settling
+pub mod Noting

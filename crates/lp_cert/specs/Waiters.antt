@@ -68,26 +68,26 @@ pub record IsRefusedOnce (s : State) (at group : ℕ) (blamed : ℕ × Blame) (o
 
 -- a verdict of a scan is noted: of a group that waits and wasn't refused before by this scan, which the verdict refuses, the
 -- reasons go on as after one scan more; of any other nothing changes
-pub record IsJudged (s : State) (at : ℕ) (verdict : Verdict) (groups left : Numbers) (refused now : Numbers) (old new : LegReasons) : Type 0 where
+pub record IsJudged (s : State) (at : ℕ) (verdict : Verdict) (groups left : Numbers) (old new : LegReasons) : Type 0 where
   pub judged :
       (group : ℕ) (blamed : ℕ × Blame) → has groups group ≡ true → member_verdict s group verdict ≡ Some blamed →
-      (has left group ≡ false) × (has now group ≡ true) × IsRefusedOnce s at group blamed old new
+      (has left group ≡ false) × IsRefusedOnce s at group blamed old new
   pub others :
       (group : ℕ) → (if has groups group then member_verdict s group verdict else None) ≡ None →
-      (has left group ≡ has groups group) × (has now group ≡ has refused group) × (head_of new group ≡ head_of old group)
+      (has left group ≡ has groups group) × (head_of new group ≡ head_of old group)
   pub kept : Keeps old.lists new.lists
   pub scans : new.scans ≡ old.scans
   pub room : old.room ≤ new.room + 1
   pub scan_room : new.scan_room ≡ old.scan_room
 
 -- verdicts of a scan are noted: each group that waits and is refused has its reasons as after one scan more
-pub record AreJudged (s : State) (at : ℕ) (verdicts : List Verdict) (groups left : Numbers) (refused : Numbers) (old new : LegReasons) : Type 0 where
+pub record AreJudged (s : State) (at : ℕ) (verdicts : List Verdict) (groups left : Numbers) (old new : LegReasons) : Type 0 where
   pub judged :
       (group : ℕ) (blamed : ℕ × Blame) → has groups group ≡ true → first_refused s group verdicts ≡ Some blamed →
-      (has left group ≡ false) × (has refused group ≡ true) × IsRefusedOnce s at group blamed old new
+      (has left group ≡ false) × IsRefusedOnce s at group blamed old new
   pub others :
       (group : ℕ) → (if has groups group then first_refused s group verdicts else None) ≡ None →
-      (has left group ≡ has groups group) × (has refused group ≡ false) × (head_of new group ≡ head_of old group)
+      (has left group ≡ has groups group) × (head_of new group ≡ head_of old group)
   pub kept : Keeps old.lists new.lists
   pub scans : new.scans ≡ old.scans
   pub room : old.room ≤ new.room + length verdicts
@@ -113,9 +113,19 @@ abbrev pub waiters_of : WaitingGroups → List Waiter
 waiters_of waiters = map (waiter_in waiters.reasons) (passing 0 65536 (has waiters.groups))
 
 -- the groups that wait have reasons
-pub record AreStanding (waiters : WaitingGroups) (refused : Numbers) : Type 0 where
-  pub stand : (group : ℕ) → has waiters.groups group ≡ true → StandsAt (length waiters.reasons.scans) waiters.reasons group
-  pub none_refused : IsEmpty refused
+abbrev pub AreStanding : WaitingGroups → Type 0
+AreStanding waiters = (group : ℕ) → has waiters.groups group ≡ true → StandsAt (length waiters.reasons.scans) waiters.reasons group
+
+-- the lines of a group after a scan, by who of it is the first that the scan is told to refuse: where none is, what goes on
+-- goes on
+abbrev pub after_verdict : State → (at : ℕ) → Option (ℕ × Blame) → LegReasons → (group : ℕ) → List Line
+after_verdict s at None reasons group = head_lines reasons.lists (reasons.scans ++ at ∷ []) (group_id group) (head_of reasons group)
+after_verdict s at (Some blamed) reasons group = after_refusal (has_frame_in s) group at blamed (lines_in reasons group)
+
+-- the lines of a group after a scan, with what it found of the tasks that it looked at
+abbrev pub scanned_lines : State → (at : ℕ) → List Verdict → WaitingGroups → (group : ℕ) → Option (List Line)
+scanned_lines s at verdicts waiters group =
+    if has waiters.groups group then Some (after_verdict s at (first_refused s group verdicts) waiters.reasons group) else None
 
 -- the lines of a group after a scan, if it still waits: it does where the scan refuses it
 abbrev pub after_scan : (has_frame : (task serial : ℕ) → Bool) → (group at : ℕ) → Option (ℕ × Blame) → Option (List Line) → Option (List Line)
@@ -214,13 +224,6 @@ own_lines model e (Fork p c how) verdicts lines group =
 own_lines model e (Die t) verdicts lines group =
     on_live (lines group) (λ x. after_death x.group (is_lone e t.0 x.group) lines group) (standings e.table t.0)
 own_lines model e _ verdicts lines group = lines group
-
--- the lines of a group after an event that was answered so
-abbrev pub next_lines : Rules → Engine → Weighed → (ℕ → Option (List Line)) → (group : ℕ) → Option (List Line)
-next_lines model e step lines group =
-    if is_none (refused_by step.reply.what)
-    then after_switch (groups_of step.reply.what) (own_lines model e step.event step.verdicts lines) group
-    else lines group
 
 -- the group of a task that forks is a number below 65,536
 abbrev pub HasFewGroups : Engine → Event → Type 0

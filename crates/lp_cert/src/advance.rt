@@ -1,13 +1,16 @@
 //! The groups that wait, as events come.
-ghost use Rattle.std.specs.Prelude.{◌≡◌, ◌+◌, ◌<◌, ◌≤◌, ℕ, suc, [], length, IsTrue, IsNone};
+ghost use Rattle.std.specs.Prelude.{◌≡◌, ◌+◌, ◌<◌, ◌≤◌, ℕ, suc, [], length, IsTrue, IsSome, IsNone};
 ghost use Rattle.std.specs.List.{AllByRecursion};
 ghost use Rattle.lp_transition.specs.Events.{group_numbers};
 ghost use Rattle.lp_transition.specs.ScanSteps.{groups_of};
 ghost use Rattle.lp_transition.specs.Table.{state_in};
 ghost use Rattle.lp_transition.specs.Weigh.{IsWeighed, refused_by};
-ghost use Rattle.lp_cert.specs.Waiters.{HasFewGroups, IsUsedVerdict, after_scan_of, after_switch, lines_at, next_lines, own_lines};
+ghost use Rattle.lp_cert.specs.Settling.{GoesFurther, used_kind, used_scan};
+ghost use Rattle.lp_cert.specs.Noting.{advanced_lines, after_scan_kind, noted_lines};
+ghost use Rattle.lp_cert.specs.Waiters.{AreStanding, HasFewGroups, IsUsedVerdict, after_switch, lines_at, own_lines};
 
 use crate::head::Birth;
+use crate::settled::Settled;
 use crate::waiters::Waiters;
 use lp_model::{CheckKind, Consistency, ForkKind, Verdict};
 use lp_stack::{GroupId, TaskId};
@@ -15,19 +18,27 @@ use lp_transition::{Core, Event, Step, What};
 
 impl Waiters {
     /// An event that was weighed and opens no leg. Takes no memory.
-    pub(crate) fn advance<M: Consistency>(&mut self, core: &Core<M>, step: &Step)
+    pub(crate) fn advance<M: Consistency>(
+        &mut self,
+        core: &Core<M>,
+        step: &Step,
+        settled: &mut Settled,
+    )
         requires weighed { IsWeighed M.rules core.now step.now }
         requires room { length step.now.verdicts + 1 < self.old.reasons.room }
         requires scan_room { 0 < self.old.reasons.scan_room }
-        ensures lines { (group : ℕ) → lines_at self.new group ≡ next_lines M.rules core.now step.now (lines_at self.old) group }
+        ensures lines { (group : ℕ) → lines_at self.new group ≡ advanced_lines M.rules core.now step.now self.old group }
         ensures few { IsNone (refused_by step.now.reply.what) → HasFewGroups core.now step.now.event }
+        ensures stood { IsSome (used_scan M.rules step.now.event) → IsNone (refused_by step.now.reply.what) → AreStanding self.old }
+        ensures stands { AreStanding self.new }
+        ensures settled { GoesFurther M.rules core.now step.now.event step.now.verdicts self.new.reasons settled.old settled.new }
     {
         let what = &step.reply().what;
-        if matches!(what, What::Refused(_)) {
-            return;
+        if !matches!(what, What::Refused(_)) {
+            self.affect(core, step);
+            self.switch(what);
         }
-        self.affect(core, step);
-        self.switch(what);
+        settled.note(core, step.event(), step.verdicts(), self.reasons());
     }
 
     /// The own effect of an accepted event. Takes no memory.
@@ -35,8 +46,9 @@ impl Waiters {
         requires weighed { IsWeighed M.rules core.now step.now }
         requires room { length step.now.verdicts + 1 < self.old.reasons.room }
         requires scan_room { 0 < self.old.reasons.scan_room }
-        ensures lines { (group : ℕ) → lines_at self.new group ≡ own_lines M.rules core.now step.now.event step.now.verdicts (lines_at self.old) group }
+        ensures lines { (group : ℕ) → lines_at self.new group ≡ noted_lines M.rules core.now step.now.event step.now.verdicts self.old group }
         ensures few { HasFewGroups core.now step.now.event }
+        ensures stood { IsSome (used_scan M.rules step.now.event) → AreStanding self.old }
     {
         let _ = &self;
         let at = core.events() + 1;
@@ -61,7 +73,8 @@ impl Waiters {
         requires room { length verdicts.now ≤ self.old.reasons.room }
         requires scan_room { 0 < self.old.reasons.scan_room }
         requires at { at ≡ suc (state_in core.now).number }
-        ensures { (group : ℕ) → lines_at self.new group ≡ after_scan_of M.rules (state_in core.now) kind verdicts.now (lines_at self.old) group }
+        ensures lines { (group : ℕ) → lines_at self.new group ≡ after_scan_kind (state_in core.now) (used_kind M.rules kind) verdicts.now self.old group }
+        ensures stood { IsSome (used_kind M.rules kind) → AreStanding self.old }
     {
         if core.model().uses(kind) {
             self.scan(core, at, verdicts);

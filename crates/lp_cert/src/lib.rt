@@ -15,6 +15,7 @@ mod ongoing;
 mod open_leg;
 mod reason;
 mod reasons;
+mod settled;
 #[cfg(test)]
 mod tests;
 mod waiters;

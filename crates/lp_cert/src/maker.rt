@@ -5,8 +5,9 @@ ghost use Rattle.lp_transition.specs.Run.{Run, new_target, plus};
 ghost use Rattle.lp_transition.specs.Steps.{StandsIn};
 ghost use Rattle.lp_transition.specs.Table.{state_in};
 ghost use Rattle.lp_transition.specs.Weigh.{IsWeighed};
-ghost use Rattle.lp_cert.specs.Ends.{IsMadeOf, floor_in, is_plain, waiting_in};
-ghost use Rattle.lp_cert.specs.Kept.{HasFloor, HasFloors, IsGoneOn, current_waiters, end_waiters, ends_with, is_opening, leg_at, waiting_cert};
+ghost use Rattle.lp_cert.specs.Ends.{IsFresh, IsMadeOf, floor_in, is_plain, waiting_in};
+ghost use Rattle.lp_cert.specs.Settling.{Suffices};
+ghost use Rattle.lp_cert.specs.Kept.{HasFloor, HasFloors, IsGoneOn, IsSettledOn, current_waiters, end_waiters, ends_with, is_opening, leg_at, waiting_cert};
 ghost use Rattle.lp_cert.specs.Waiters.{AreHeads, lines_at};
 ghost use Rattle.std.specs.Option.{option_map};
 
@@ -18,6 +19,7 @@ use crate::chains::Chains;
 use crate::head::Waiter;
 use crate::leg_end::LegEnd;
 use crate::open_leg::{Completion, OpenLeg};
+use crate::settled::Settled;
 use crate::waiters::Waiters;
 use lp_model::Consistency;
 use lp_stack::GroupId;
@@ -51,12 +53,14 @@ pub(crate) struct Ready {
 /// complete before it was.
 ///
 /// Contracts see the ends of the legs that ended, the end of the leg under way as it stands, and
-/// the event for which there is room, with the number of its verdicts.
+/// the event for which there is room, with the number of its verdicts, and the tasks that a scan
+/// needn't look at.
 #[derive(Drop)]
 pub struct Maker {
     ended: Vec<LegEnd>,
     current: Option<OpenLeg>,
     waiters: Waiters,
+    settled: Settled,
     /// The number of the last event noted.
     noted: u64,
     ready: Option<Ready>,
@@ -70,7 +74,7 @@ impl Model for Maker {
 
     ghost Value = { Made };
 
-    ghost view = { λ m. record { ended = m.ended.items; current = option_map (open_end m.noted m.waiters) m.current; ready = option_map (λ r. (r.event, r.verdicts)) m.ready } };
+    ghost view = { λ m. record { ended = m.ended.items; current = option_map (open_end m.noted m.waiters) m.current; ready = option_map (λ r. (r.event, r.verdicts)) m.ready; settling = m.settled } };
 
     ghost invariant = { λ m. IsMaker m.current m.waiters (vec_capacity m.ended - vec_len m.ended) m.ready };
 }
@@ -78,12 +82,13 @@ impl Model for Maker {
 impl Maker {
     /// No leg; AllocError where a growth was refused.
     pub fn new(alloc: Global) -> Result<Maker, AllocError>
-        ensures { IfOk result (λ maker. maker ≡ record { ended = []; current = None; ready = None }) }
+        ensures { IfOk result IsFresh }
     {
         Ok(Maker {
             ended: Vec::new(alloc),
             current: None,
             waiters: Waiters::new(alloc)?,
+            settled: Settled::new(alloc)?,
             noted: 0,
             ready: None,
         })
@@ -100,6 +105,7 @@ impl Maker {
         ensures ended { self.new.ended ≡ self.old.ended }
         ensures current { self.new.current ≡ self.old.current }
         ensures ready { OnOk result (self.new.ready ≡ Some (step.now.event, length step.now.verdicts)) }
+        ensures settling { self.new.settling ≡ self.old.settling }
     {
         self.ready = None;
         let verdicts = step.verdicts().len();
@@ -118,7 +124,7 @@ impl Maker {
     pub fn note<M: Consistency>(&mut self, core: &Core<M>, step: &Step)
         requires weighed { IsWeighed M.rules core.now step.now }
         requires ready { self.old.ready ≡ Some (step.now.event, length step.now.verdicts) }
-        ensures made { (run : Run) → StandsIn M.rules run (state_in core.now) → IsMadeOf M.rules run self.old → IsMadeOf M.rules (plus run step.now.event) self.new }
+        ensures made { (run : Run) → StandsIn M.rules run (state_in core.now) → IsMadeOf M.rules run self.old → Suffices M.rules (state_in core.now) step.now self.old.settling → IsMadeOf M.rules (plus run step.now.event) self.new }
     {
         let number = core.events() + 1;
         let Some(ready) = self.ready.take() else {
@@ -128,11 +134,13 @@ impl Maker {
         self.noted = number;
         if !opens(step) {
             let Some(leg) = &mut self.current else {
+                self.settled.reset();
                 return;
             };
-            go_on(core, step, number, leg, &mut self.waiters);
+            go_on(core, step, number, leg, &mut self.waiters, &mut self.settled);
             return;
         }
+        self.settled.reset();
         let Closing {
             waiters,
             chains,
@@ -185,6 +193,7 @@ impl Maker {
         ensures ready { self.new.ready ≡ self.old.ready }
     {
         self.noted = core.events() + 1;
+        self.settled.touch(event);
     }
 
     /// The end of the leg under way as it stands, if there is one; AllocError where a growth was
@@ -235,25 +244,29 @@ fn go_on<M: Consistency>(
     number: u64,
     leg: &mut OpenLeg,
     waiters: &mut Waiters,
+    settled: &mut Settled,
 )
     requires weighed { IsWeighed M.rules core.now step.now }
     requires floor { HasFloor waiters.old leg.old.completed }
     requires room { length step.now.verdicts + 1 < waiters.old.reasons.room }
     requires scan_room { 0 < waiters.old.reasons.scan_room }
     ensures gone_on { IsGoneOn M.rules core.now step.now number leg.old leg.new waiters.old waiters.new }
+    ensures settled { IsSettledOn M.rules core.now step.now leg.old waiters.new settled.old settled.new }
     ensures floor { HasFloor waiters.new leg.new.completed }
 {
     if leg.completed.is_some() {
+        settled.reset();
         return;
     }
     if step.reply().completed {
+        settled.reset();
         leg.completed = Some(Completion {
             at: number,
             floor: waiters.least(),
         });
         return;
     }
-    waiters.advance(core, step);
+    waiters.advance(core, step, settled);
 }
 
 /// Ends the leg under way after so many events, if there is one, with the groups that have a

@@ -10,7 +10,7 @@ ghost use Rattle.lp_transition.specs.Table.{state_in};
 ghost use Rattle.lp_cert.specs.Heads.{HasFrameAs};
 ghost use Rattle.lp_cert.specs.Steps.{has_frame_in, first_refused};
 ghost use Rattle.lp_cert.specs.Kept.{floor_waiters};
-ghost use Rattle.lp_cert.specs.Waiters.{AreHeads, StandsAt, IsJudged, AreJudged, IsUsedVerdict, after_birth, after_scan, has_off, lines_at, waiter_in, waiters_of, AreTakenIn, IsTakenIn};
+ghost use Rattle.lp_cert.specs.Waiters.{AreHeads, AreStanding, StandsAt, IsJudged, AreJudged, IsUsedVerdict, after_birth, has_off, lines_at, scanned_lines, waiter_in, waiters_of, AreTakenIn, IsTakenIn};
 
 use crate::chains::Chains;
 use crate::head::{Birth, Refused, Waiter};
@@ -30,8 +30,8 @@ use std::marker::Model;
 #[derive(Drop)]
 pub(crate) struct Waiters {
     groups: NumberSet,
-    /// Within a scan the groups that it has refused so far; else empty.
-    refused: NumberSet,
+    /// Within a scan the groups that it hasn't refused so far.
+    unrefused: NumberSet,
     reasons: Reasons,
 }
 
@@ -42,7 +42,7 @@ impl Model for Waiters {
 
     ghost view = { λ w. record { groups = w.groups; reasons = w.reasons } };
 
-    ghost invariant = { λ w. AreStanding (record { groups = w.groups; reasons = w.reasons }) w.refused };
+    ghost invariant = { λ w. AreStanding (record { groups = w.groups; reasons = w.reasons }) };
 }
 
 impl Waiters {
@@ -52,7 +52,7 @@ impl Waiters {
     {
         Ok(Waiters {
             groups: NumberSet::new(alloc)?,
-            refused: NumberSet::new(alloc)?,
+            unrefused: NumberSet::new(alloc)?,
             reasons: Reasons::new(alloc)?,
         })
     }
@@ -175,25 +175,32 @@ impl Waiters {
         past
     }
 
-    /// A scan, with what it found of the waiting tasks by increasing number: the groups that it
-    /// refuses wait on. Takes no memory.
+    /// A scan, with what it found of the tasks that it looked at, by increasing number: the reasons of
+    /// the groups that it refuses go on, and so do those that go on by themselves. Takes no memory.
     pub(crate) fn scan<M: Consistency>(&mut self, core: &Core<M>, at: u64, verdicts: &[Verdict])
         requires used { AllByRecursion IsUsedVerdict verdicts.now }
         requires room { length verdicts.now ≤ self.old.reasons.room }
         requires scan_room { 0 < self.old.reasons.scan_room }
-        ensures { (group : ℕ) → lines_at self.new group ≡ after_scan (has_frame_in (state_in core.now)) group at (first_refused (state_in core.now) group verdicts.now) (lines_at self.old group) }
+        ensures lines { (group : ℕ) → lines_at self.new group ≡ scanned_lines (state_in core.now) at verdicts.now self.old group }
+        ensures stood { AreStanding self.old }
     {
+        self.unrefused.copy_from(&self.groups);
         judge_all(
             core,
             at,
             verdicts,
-            &mut self.groups,
-            &mut self.refused,
+            &mut self.unrefused,
             &mut self.reasons,
         );
-        std::mem::swap(&mut self.groups, &mut self.refused);
-        empty(&mut self.refused);
         self.reasons.scanned(at);
+    }
+
+    /// The reasons of all groups.
+    pub(crate) fn reasons(&self) -> &Reasons
+        ensures reasons { result.now ≡ self.now.reasons }
+        ensures stand { AreStanding self.now }
+    {
+        &self.reasons
     }
 }
 
@@ -206,23 +213,21 @@ fn empty(set: &mut NumberSet)
     }
 }
 
-/// Notes what a scan found, and moves the groups that it refuses to those that were refused.
+/// Notes what a scan found, and takes the groups that it refuses out of those that it hasn't refused.
 fn judge_all<M: Consistency>(
     core: &Core<M>,
     at: u64,
     verdicts: &[Verdict],
     groups: &mut NumberSet,
-    refused: &mut NumberSet,
     reasons: &mut Reasons,
 )
     requires stand { (group : ℕ) → has groups.old group ≡ true → StandsAt (length reasons.old.scans) reasons.old group }
-    requires none { IsEmpty refused.old }
     requires used { AllByRecursion IsUsedVerdict verdicts.now }
     requires room { length verdicts.now ≤ reasons.old.room }
-    ensures { AreJudged (state_in core.now) at verdicts.now groups.old groups.new refused.new reasons.old reasons.new }
+    ensures { AreJudged (state_in core.now) at verdicts.now groups.old groups.new reasons.old reasons.new }
 {
     for verdict in verdicts {
-        judge(core, at, verdict, groups, refused, reasons);
+        judge(core, at, verdict, groups, reasons);
     }
 }
 
@@ -232,13 +237,12 @@ fn judge<M: Consistency>(
     at: u64,
     verdict: &Verdict,
     groups: &mut NumberSet,
-    refused: &mut NumberSet,
     reasons: &mut Reasons,
 )
     requires stand { (group : ℕ) → has groups.old group ≡ true → StandsAt (length reasons.old.scans) reasons.old group }
     requires used { IsUsedVerdict verdict.now }
     requires room { 0 < reasons.old.room }
-    ensures { IsJudged (state_in core.now) at verdict.now groups.old groups.new refused.old refused.new reasons.old reasons.new }
+    ensures { IsJudged (state_in core.now) at verdict.now groups.old groups.new reasons.old reasons.new }
 {
     let Some(blame) = verdict.blame else {
         return;
@@ -257,11 +261,10 @@ fn judge<M: Consistency>(
     };
     reasons.refuse(group, &refusal);
     groups.remove(group.0);
-    refused.insert(group.0);
 }
 
 /// Of a hold that goes on, whether its frame is still on its task's stack.
-fn is_held<M: Consistency>(core: &Core<M>, ongoing: Ongoing) -> bool
+pub(crate) fn is_held<M: Consistency>(core: &Core<M>, ongoing: Ongoing) -> bool
     ensures { HasFrameAs (has_frame_in (state_in core.now)) ongoing result }
 {
     let Ongoing::Hold { task, serial, .. } = ongoing else {

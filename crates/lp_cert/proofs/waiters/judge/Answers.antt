@@ -11,6 +11,6 @@ returns g c =
     let group = c.in-Some-group_of.group in
     let s = state_in c.args.core.now in
     let mine = grouped c.args.core.now.table c.args.verdict.now.task.0 group c.in-Some-group_of.ensures in
-    judges s c.args.at c.args.verdict.now c.in-Some.blame group c.is_held.result c.args.groups.now c.remove.new.self c.args.refused.now c.insert.new.self c.args.reasons.now c.refuse.new.self
+    judges s c.args.at c.args.verdict.now c.in-Some.blame group c.is_held.result c.args.groups.now c.remove.new.self c.args.reasons.now c.refuse.new.self
     mine c.in-Some.is (sym c.contains.ensures.member ∙ c.if-not-contains.false) (subst (λ (h : Head). HasFrameAs (has_frame_in s) h.ongoing c.is_held.result) c.head.ensures c.is_held.ensures) c.refuse.ensures.refused c.refuse.ensures.others c.refuse.ensures.scans c.refuse.ensures.room c.refuse.ensures.scan_room
-    c.remove.ensures.after c.insert.ensures.after c.remove.ensures.numbers c.insert.ensures.numbers (omega arith)
+    c.remove.ensures.after c.remove.ensures.numbers (omega arith)

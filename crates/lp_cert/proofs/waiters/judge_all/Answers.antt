@@ -14,8 +14,8 @@ loop-verdict-preserved g c =
     let within : i < length vs = omega arith in
     let step : take (i + 1) vs ≡ take i vs ++ get_or vs i none ∷ [] = rw add-one (take-suc vs i none within) in
     let s = state_in c.args.core.now in
-    let all = one_judged s c.args.at (take i vs) (get_or vs i none) c.args.groups.now c.loop-verdict.groups c.judge.new.groups c.loop-verdict.refused c.judge.new.refused c.args.reasons.now c.loop-verdict.reasons c.judge.new.reasons c.requires.stand c.loop-verdict.invariant.judged c.judge.ensures in
+    let all = one_judged s c.args.at (take i vs) (get_or vs i none) c.args.groups.now c.loop-verdict.groups c.judge.new.groups c.args.reasons.now c.loop-verdict.reasons c.judge.new.reasons c.requires.stand c.loop-verdict.invariant.judged c.judge.ensures in
     record {
-      judged = subst (λ (l : List Verdict). AreJudged s c.args.at l c.args.groups.now c.judge.new.groups c.judge.new.refused c.args.reasons.now c.judge.new.reasons) (sym step) all;
-      stand = still_standing s c.args.at (take i vs) (get_or vs i none) c.args.groups.now c.loop-verdict.groups c.judge.new.groups c.loop-verdict.refused c.judge.new.refused c.args.reasons.now c.loop-verdict.reasons c.judge.new.reasons c.requires.stand c.loop-verdict.invariant.judged c.judge.ensures;
+      judged = subst (λ (l : List Verdict). AreJudged s c.args.at l c.args.groups.now c.judge.new.groups c.args.reasons.now c.judge.new.reasons) (sym step) all;
+      stand = still_standing s c.args.at (take i vs) (get_or vs i none) c.args.groups.now c.loop-verdict.groups c.judge.new.groups c.args.reasons.now c.loop-verdict.reasons c.judge.new.reasons c.requires.stand c.loop-verdict.invariant.judged c.judge.ensures;
     }

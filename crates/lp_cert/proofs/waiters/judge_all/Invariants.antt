@@ -7,6 +7,6 @@ use Rattle.lp_cert.proofs.waiters.judge_all.Given as goal
 -- the verdicts so far are noted
 abbrev pub invariant-loop-verdict : goal.invariant-loop-verdict
 invariant-loop-verdict g l = record {
-  judged : AreJudged (state_in l.core) l.at (take l.verdict-index l.verdicts) l.fn.groups l.groups l.refused l.fn.reasons l.reasons;
+  judged : AreJudged (state_in l.core) l.at (take l.verdict-index l.verdicts) l.fn.groups l.groups l.fn.reasons l.reasons;
   stand : (group : ℕ) → has l.groups group ≡ true → StandsAt (length l.reasons.scans) l.reasons group;
 }

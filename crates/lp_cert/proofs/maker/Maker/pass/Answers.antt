@@ -10,7 +10,7 @@ pub returns-clause-made : goal.returns-clause-made
 returns-clause-made g c = λ run stands is.
     let i = c.self.inside in
     let number = c.events.result + 1 in
-    let old : Made = record { ended = i.ended.items; current = option_map (open_end i.noted i.waiters) i.current; ready = option_map (λ (r : Ready). (r.event, r.verdicts)) i.ready } in
-    let new : Made = record { ended = i.ended.items; current = option_map (open_end number i.waiters) i.current; ready = option_map (λ (r : Ready). (r.event, r.verdicts)) i.ready } in
+    let old : Made = record { ended = i.ended.items; current = option_map (open_end i.noted i.waiters) i.current; ready = option_map (λ (r : Ready). (r.event, r.verdicts)) i.ready; settling = i.settled } in
+    let new : Made = record { ended = i.ended.items; current = option_map (open_end number i.waiters) i.current; ready = option_map (λ (r : Ready). (r.event, r.verdicts)) i.ready; settling = c.touch.new.self } in
     let was : IsMadeOf g.M.Consistency.rules run old = rw (← c.self.view_is) at is in
-    passed_on g.M.Consistency.rules g.met.M.Consistency.lawful run c.args.core.now stands c.args.event c.requires.plain c.requires.room old new was refl i.noted number i.waiters (ap (λ m. m + 1) c.events.ensures.value) i.current refl refl
+    passed_on g.M.Consistency.rules g.met.M.Consistency.lawful run c.args.core.now stands c.args.event c.requires.plain c.requires.room old new was refl i.noted number i.waiters (ap (λ m. m + 1) c.events.ensures.value) c.touch.ensures i.current refl refl

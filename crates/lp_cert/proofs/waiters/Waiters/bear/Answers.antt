@@ -5,12 +5,9 @@ use Rattle.lp_cert.proofs.waiters.Waiters.bear.Goals as goal
 pub invariant_of-self : goal.invariant_of-self
 invariant_of-self c =
     let waits = rw (← c.self.view_is) at c.requires.waits in
-    record {
-      stand = birth_stand c.args.birth.now c.args.parent c.self.inside.groups c.insert.new.self c.self.inside.reasons c.bear.new.self c.self.invariant.stand waits c.bear.ensures.born c.bear.ensures.others c.bear.ensures.scans c.insert.ensures.after c.insert.ensures.numbers (omega arith);
-      none_refused = c.self.invariant.none_refused;
-    }
+    birth_stand c.args.birth.now c.args.parent c.self.inside.groups c.insert.new.self c.self.inside.reasons c.bear.new.self c.self.invariant waits c.bear.ensures.born c.bear.ensures.others c.bear.ensures.scans c.insert.ensures.after c.insert.ensures.numbers (omega arith)
 
 pub returns : goal.returns
 returns c =
     let waits = rw (← c.self.view_is) at c.requires.waits in
-    rw (← c.self.view_is) (birth_lines c.args.birth.now c.args.parent c.self.inside.groups c.insert.new.self c.self.inside.reasons c.bear.new.self c.self.invariant.stand waits c.bear.ensures.born c.bear.ensures.others c.bear.ensures.scans c.insert.ensures.after c.insert.ensures.numbers (omega arith))
+    rw (← c.self.view_is) (birth_lines c.args.birth.now c.args.parent c.self.inside.groups c.insert.new.self c.self.inside.reasons c.bear.new.self c.self.invariant waits c.bear.ensures.born c.bear.ensures.others c.bear.ensures.scans c.insert.ensures.after c.insert.ensures.numbers (omega arith))

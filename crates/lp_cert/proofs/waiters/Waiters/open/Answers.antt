@@ -8,10 +8,7 @@ pub invariant_of-self : goal.invariant_of-self
 invariant_of-self g c =
     let taken = c.take_in_all.ensures.taken in
     let reasons = c.take_in_all.new.reasons in
-    record {
-      stand = λ group there. calm_head reasons.lists reasons.scans _ (taken.lists ∙ (c.replace_past-past.ensures.lists ∙ c.requires.chains)) (taken.scans ∙ (c.replace_past-past.ensures.scans ∙ c.requires.scans)) (taken.calm group there);
-      none_refused = c.self.invariant.none_refused;
-    }
+    λ group there. calm_head reasons.lists reasons.scans _ (taken.lists ∙ (c.replace_past-past.ensures.lists ∙ c.requires.chains)) (taken.scans ∙ (c.replace_past-past.ensures.scans ∙ c.requires.scans)) (taken.calm group there)
 
 pub returns-clause-lines : goal.returns-clause-lines
 returns-clause-lines g c =

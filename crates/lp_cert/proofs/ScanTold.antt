@@ -1,0 +1,134 @@
+-- What a scan tells of each group, though it leaves out who is settled.
+use Rattle.std.proofs.Common.{◌≡◌, ℕ, ◌+◌, ◌<◌, Bool, true, false, not, ◌&&◌, ◌||◌, List, [], ◌∷◌, ◌++◌, length, map, Option, Some, None, is_some, IsTrue, if◌then◌else◌, nat_eq, refl, sym, ap, subst, ◌∙◌, ⊎_elim}
+use Rattle.std.specs.List.{filter, list_any}
+use Rattle.std.specs.Option.{option_map}
+use Rattle.std.proofs.lemmas.Bool.{false≢true, cond-true, cond-false, cases_Bool, and_parts, eqb-true, not-true, false_from_ne_true}
+use Rattle.lp_numbers.specs.Numbers.{has}
+use Rattle.lp_model.specs.Rules.{Rules}
+use Rattle.lp_model.specs.declared.check.Blame.{Blame}
+use Rattle.lp_model.specs.declared.check.CheckKind.{CheckKind}
+use Rattle.lp_model.specs.declared.verdict.Verdict.{Verdict}
+use Rattle.lp_transition.specs.Tasks.{Fate, Live, on_live, first_of}
+use Rattle.lp_transition.specs.Leg.{Standing, State}
+use Rattle.lp_transition.specs.Machine.{view_of, is_behind}
+use Rattle.lp_transition.specs.Scan.{verdict_of, verdicts_of}
+use Rattle.lp_transition.specs.Sound.{IsSound}
+use Rattle.lp_transition.proofs.ScanLists.{Judged, verdict-is}
+use Rattle.lp_cert.specs.declared.line.Line.{Line}
+use Rattle.lp_cert.specs.Made.{group_id, after_refusal}
+use Rattle.lp_cert.specs.Heads.{head_lines}
+use Rattle.lp_cert.specs.Settled.{GoesOn, IsSettled, AreSettled}
+use Rattle.lp_cert.specs.Steps.{has_frame_in, member_verdict, first_refused, first_blamed_in}
+use Rattle.lp_cert.specs.Waiters.{WaitingGroups, AreStanding, after_verdict, head_of, lines_in}
+use Rattle.lp_cert.proofs.Settling.{lines_again}
+use Rattle.lp_cert.proofs.SettlingScans.{lone_blamed}
+use Rattle.lp_cert.proofs.VerdictLines.{verdicts_tell}
+
+or_parts : (a b : Bool) → (a || b) ≡ false → (a ≡ false) × (b ≡ false)
+or_parts true b h = absurd (cc)
+or_parts false b h = (refl, h)
+
+in_front : {A : Type 0} (o : Option A) (xs ys : List (Option A)) → first_of xs ≡ first_of ys → first_of (o ∷ xs) ≡ first_of (o ∷ ys)
+in_front None xs ys e = e
+in_front (Some a) xs ys e = refl
+
+-- ---- Lists of verdicts
+
+module _ (s : State) (g : ℕ) (p : Verdict → Bool) where
+  -- where a test leaves out nobody who is refused, the first is the same
+  pub first_kept : (vs : List Verdict) → list_any (λ v. not (p v) && is_some (member_verdict s g v)) vs ≡ false → first_refused s g (filter p vs) ≡ first_refused s g vs
+  first_kept [] h = refl
+  first_kept (v ∷ vs) h = by (first_kept vs (or_parts (not (p v) && is_some (member_verdict s g v)) (list_any (λ w. not (p w) && is_some (member_verdict s g w)) vs) h).1) (p v) refl (member_verdict s g v) refl
+    where
+      parts : ((not (p v) && is_some (member_verdict s g v)) ≡ false) × (list_any (λ w. not (p w) && is_some (member_verdict s g w)) vs ≡ false)
+      parts = or_parts (not (p v) && is_some (member_verdict s g v)) (list_any (λ w. not (p w) && is_some (member_verdict s g w)) vs) h
+
+      by : first_refused s g (filter p vs) ≡ first_refused s g vs → (b : Bool) → p v ≡ b → (o : Option (ℕ × Blame)) → member_verdict s g v ≡ o → first_refused s g (filter p (v ∷ vs)) ≡ first_refused s g (v ∷ vs)
+      by rest true e o m =
+          ap (first_refused s g) (cond-true (p v) (v ∷ filter p vs) (filter p vs) e)
+          ∙ in_front (member_verdict s g v) (map (member_verdict s g) (filter p vs)) (map (member_verdict s g) vs) rest
+      by rest false e None m =
+          ap (first_refused s g) (cond-false (p v) (v ∷ filter p vs) (filter p vs) e)
+          ∙ (rest ∙ ap (λ o. first_of (o ∷ map (member_verdict s g) vs)) (sym m))
+      by rest false e (Some b) m =
+          let left : (not (p v) && is_some (member_verdict s g v)) ≡ true = ap (λ c. not c && is_some (member_verdict s g v)) e ∙ ap is_some m in
+          absurd (false≢true (sym parts.0 ∙ left))
+
+  -- where it keeps nobody who is refused, there is none
+  pub first_left : (vs : List Verdict) → list_any (λ v. p v && is_some (member_verdict s g v)) vs ≡ false → first_refused s g (filter p vs) ≡ None
+  first_left [] h = refl
+  first_left (v ∷ vs) h = by (first_left vs (or_parts (p v && is_some (member_verdict s g v)) (list_any (λ w. p w && is_some (member_verdict s g w)) vs) h).1) (p v) refl (member_verdict s g v) refl
+    where
+      parts : ((p v && is_some (member_verdict s g v)) ≡ false) × (list_any (λ w. p w && is_some (member_verdict s g w)) vs ≡ false)
+      parts = or_parts (p v && is_some (member_verdict s g v)) (list_any (λ w. p w && is_some (member_verdict s g w)) vs) h
+
+      by : first_refused s g (filter p vs) ≡ None → (b : Bool) → p v ≡ b → (o : Option (ℕ × Blame)) → member_verdict s g v ≡ o → first_refused s g (filter p (v ∷ vs)) ≡ None
+      by rest true e (Some b) m =
+          let kept : (p v && is_some (member_verdict s g v)) ≡ true = ap (λ c. c && is_some (member_verdict s g v)) e ∙ ap is_some m in
+          absurd (false≢true (sym parts.0 ∙ kept))
+      by rest true e None m =
+          ap (first_refused s g) (cond-true (p v) (v ∷ filter p vs) (filter p vs) e)
+          ∙ (ap (λ o. first_of (o ∷ map (member_verdict s g) (filter p vs))) m ∙ rest)
+      by rest false e o m =
+          ap (first_refused s g) (cond-false (p v) (v ∷ filter p vs) (filter p vs) e) ∙ rest
+
+-- ---- A scan
+
+is_member : (s : State) (g t : ℕ) (x : Standing) (why : Option Blame) → s.tasks t ≡ Live x → is_some (member_verdict s g (record { task = record { 0 = t }; blame = why })) ≡ true → x.group ≡ g
+is_member s g t x why live h = eqb-true x.group g (by (nat_eq x.group g) refl)
+  where
+    by : (b : Bool) → nat_eq x.group g ≡ b → nat_eq x.group g ≡ true
+    by true e = e
+    by false e =
+        let out : on_live false (λ y. nat_eq y.group g) (s.tasks t) ≡ false = ap (on_live false (λ y. nat_eq y.group g)) live ∙ e in
+        absurd (false≢true (sym (ap is_some (cond-false (on_live false (λ y. nat_eq y.group g) (s.tasks t)) (option_map (λ (w : Blame). (t, w)) why) None out)) ∙ h))
+
+module _ (model : Rules) (s : State) (sound : IsSound s) (on : CheckKind) (lines : ℕ → List Line) (p : ℕ → Bool) (settled : AreSettled model s lines on p)
+    (waiters : WaitingGroups) (stand : AreStanding waiters) (at g : ℕ) (there : has waiters.groups g ≡ true) (same : lines_in waiters.reasons g ≡ lines g) (behind : IsTrue (is_behind s g))
+    (blamed : ℕ × Blame) (first : first_refused s g (verdicts_of model on s) ≡ Some blamed) where
+  abbrev asked : Verdict → Bool
+  asked v = p v.task.0
+
+  abbrev all : List Verdict
+  all = verdicts_of model on s
+
+  -- a settled member of the group
+  module _ (j : Judged model on s (λ v. not (asked v) && is_some (member_verdict s g v))) where
+    parts : (not (p j.number) ≡ true) × (is_some (member_verdict s g (verdict_of model on s.aim (view_of j.number j.task))) ≡ true)
+    parts = and_parts (not (p j.number)) (is_some (member_verdict s g (verdict_of model on s.aim (view_of j.number j.task)))) j.passed
+
+    is_settled : IsSettled model on s lines j.number j.task
+    is_settled = settled j.number j.task j.live j.off (not-true (p j.number) parts.0)
+
+    grouped : j.task.group ≡ g
+    grouped = is_member s g j.number j.task (model.blame on (view_of j.number j.task) s.aim) j.live parts.1
+
+    blamed_is : blamed ≡ (j.number, is_settled.why)
+    blamed_is =
+        let lone = lone_blamed model s on j.number j.task j.live is_settled.why is_settled.refused is_settled.alone sound in
+        let told : Some blamed ≡ Some (j.number, is_settled.why) = sym first ∙ (verdicts_tell model s sound on g behind ∙ subst (λ k. first_blamed_in model s on k ≡ Some (j.number, is_settled.why)) grouped lone) in
+        cc
+
+    nobody : list_any (λ v. asked v && is_some (member_verdict s g v)) all ≡ false
+    nobody =
+        false_from_ne_true (list_any (λ v. asked v && is_some (member_verdict s g v)) all) (λ (some : list_any (λ v. asked v && is_some (member_verdict s g v)) all ≡ true).
+        let k = verdict-is model on s (λ v. asked v && is_some (member_verdict s g v)) some in
+        let both = and_parts (p k.number) (is_some (member_verdict s g (verdict_of model on s.aim (view_of k.number k.task)))) k.passed in
+        let member = is_member s g k.number k.task (model.blame on (view_of k.number k.task) s.aim) k.live both.1 in
+        let one : k.number ≡ j.number = is_settled.alone k.number k.task k.live (member ∙ sym grouped) in
+        absurd (false≢true (sym (not-true (p j.number) parts.0) ∙ (sym (ap p one) ∙ both.0))))
+
+    left : after_verdict s at (first_refused s g (filter asked all)) waiters.reasons g ≡ after_refusal (has_frame_in s) g at blamed (lines_in waiters.reasons g)
+    left =
+        let goes : GoesOn (has_frame_in s) j.number is_settled.why (lines_in waiters.reasons g) = subst (GoesOn (has_frame_in s) j.number is_settled.why) (ap lines grouped ∙ sym same) is_settled.goes_on in
+        ap (λ o. after_verdict s at o waiters.reasons g) (first_left s g asked all nobody)
+        ∙ (lines_again (has_frame_in s) j.number is_settled.why waiters.reasons.lists waiters.reasons.scans (group_id g) (head_of waiters.reasons g) (stand g there) at goes
+        ∙ ap (λ b. after_refusal (has_frame_in s) g at b (lines_in waiters.reasons g)) (sym blamed_is))
+
+  -- the lines of the group are those after a scan of all
+  pub scan_told : after_verdict s at (first_refused s g (filter asked all)) waiters.reasons g ≡ after_refusal (has_frame_in s) g at blamed (lines_in waiters.reasons g)
+  scan_told =
+      ⊎_elim
+      (λ (some : list_any (λ v. not (asked v) && is_some (member_verdict s g v)) all ≡ true). left (verdict-is model on s (λ v. not (asked v) && is_some (member_verdict s g v)) some))
+      (λ (none : list_any (λ v. not (asked v) && is_some (member_verdict s g v)) all ≡ false). ap (λ o. after_verdict s at o waiters.reasons g) (first_kept s g asked all none ∙ first))
+      (cases_Bool (list_any (λ v. not (asked v) && is_some (member_verdict s g v)) all))
