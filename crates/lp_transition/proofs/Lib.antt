@@ -40,6 +40,7 @@ pub mod Completes
 pub mod Going
 pub mod Weighing
 pub mod Turning
+pub mod AskedScans
 pub mod ScanAnswers
 pub mod Moving
 pub mod ScanTakes

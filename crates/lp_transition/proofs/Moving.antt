@@ -117,11 +117,11 @@ idle goes target t table waiting h =
 
 none_before : (set : Numbers) (first : ℕ) (next : Option ℕ) → IsNextBelow 65536 (has set) first next → (t : ℕ) → first ≤ t → t < reached next → has set t ≡ false
 none_before set first None h t low high = h t low high
-none_before set first (Some n) h t low high = h.least t low high
+none_before set first (Some n) h t low high = h.1.least t low high
 
 further : (set : Numbers) (first : ℕ) (next : Option ℕ) → IsNextBelow 65536 (has set) first next → first ≤ 65536 → first ≤ reached next
 further set first None h low = low
-further set first (Some n) h low = h.within
+further set first (Some n) h low = h.1.within
 
 -- the walk begins
 pub moving_from : (goes : ℕ → Bool) (target : ℕ) (table : Table) (waiting : Numbers) (next : Option ℕ) → IsNextBelow 65536 (has waiting) 0 next → Walked (place_after goes target) (place table waiting) (place table waiting) (reached next)

@@ -1,7 +1,9 @@
 -- Numbers that pass a test, in increasing order, and walks over them.
-use Rattle.std.proofs.Common.{◌≡◌, ℕ, zero, suc, ◌+◌, ◌-◌, ◌<◌, ◌≤◌, Bool, true, false, ◌||◌, List, [], ◌∷◌, ◌++◌, length, map, append_assoc, Option, Some, None, nat_eq, refl, sym, ap, ap₂, ◌∙◌, ⊎_elim, arith}
-use Rattle.std.proofs.lemmas.Bool.{cond-true, cond-false, cases_Bool, cases_eq, cases_lt, or_cases, or_left, or_right, eq-eqb, ne_eqb}
+use Rattle.std.proofs.Common.{◌≡◌, ℕ, zero, suc, ◌+◌, ◌-◌, ◌<◌, ◌≤◌, Bool, true, false, ◌||◌, List, [], ◌∷◌, ◌++◌, length, map, is_some, not, append_assoc, ◌↔◌, Option, Some, None, nat_eq, refl, sym, ap, ap₂, ◌∙◌, ⊎_elim, arith}
+use Rattle.std.proofs.lemmas.Bool.{cond-true, cond-false, cases_Bool, cases_eq, cases_lt, or_cases, or_left, or_right, not-true, not-false, eqb-true, eq-eqb, ne_eqb}
+use Rattle.std.proofs.lemmas.List.{append-nil}
 use Rattle.std.specs.List.{filter, filter_map, cons_option, list_any, range_with_len}
+use Rattle.std.specs.Option.{option_eq}
 use Rattle.lp_transition.specs.Scan.{passing}
 use Rattle.lp_transition.specs.ScanSteps.{passing_at, IsNextBelow}
 
@@ -50,11 +52,7 @@ passing-cons n limit test h e =
 -- a walk goes on with the next number that passes
 pub passing-next : (limit : ℕ) (test : ℕ → Bool) (first : ℕ) (next : Option ℕ) → IsNextBelow limit test first next → passing first limit test ≡ passing_at next limit test
 passing-next limit test first None h = passing-none first limit test h
-passing-next limit test first (Some n) h =
-    ⊎_elim
-    (λ (past : limit < n). passing-none first limit test (λ k low high. h.least k low (omega arith)) ∙ sym (passing-none n limit test (λ k low high. absurd (omega arith))))
-    (λ (within : n ≤ limit). passing-skip first n limit test h.within within h.least)
-    (cases_lt limit n)
+passing-next limit test first (Some n) h = let within = h.0 in passing-skip first n limit test h.1.within (omega arith) h.1.least
 
 -- one step of a walk
 pub passing-step : (limit : ℕ) (test : ℕ → Bool) (n : ℕ) (next : Option ℕ) → n < limit → test n ≡ true → IsNextBelow limit test (n + 1) next → passing_at (Some n) limit test ≡ n ∷ passing_at next limit test
@@ -63,7 +61,12 @@ passing-step limit test n next h e after = passing-cons n limit test h e ∙ ap 
 -- the next number passes
 pub next_passes : (limit : ℕ) (test : ℕ → Bool) (first : ℕ) (next : Option ℕ) → IsNextBelow limit test first next → (n : ℕ) → next ≡ Some n → test n ≡ true
 next_passes limit test first None after n e = absurd (cc)
-next_passes limit test first (Some m) after n e = let same : m ≡ n = cc in rw (← same) after.passes
+next_passes limit test first (Some m) after n e = let same : m ≡ n = cc in rw (← same) after.1.passes
+
+-- and is below the limit
+pub next_below : (limit : ℕ) (test : ℕ → Bool) (first : ℕ) (next : Option ℕ) → IsNextBelow limit test first next → (n : ℕ) → next ≡ Some n → n < limit
+next_below limit test first None after n e = absurd (cc)
+next_below limit test first (Some m) after n e = let same : m ≡ n = cc in rw (← same) after.0
 
 -- how many numbers are still to come falls at each step
 pub passing-less : (limit : ℕ) (test : ℕ → Bool) (now : Option ℕ) (n : ℕ) (next : Option ℕ) → now ≡ Some n → n < limit → test n ≡ true → IsNextBelow limit test (n + 1) next → length (passing_at next limit test) < length (passing_at now limit test)
@@ -74,6 +77,12 @@ pub passing-more : {X : Type 0} (f : ℕ → X) (limit : ℕ) (test : ℕ → Bo
     → done ++ map f (passing_at now limit test) ≡ all → (done ++ f n ∷ []) ++ map f (passing_at next limit test) ≡ all
 passing-more f limit test all done now n next is h e after so =
     rw append_assoc (sym (ap (λ o. done ++ map f (passing_at o limit test)) is ∙ ap (λ ns. done ++ map f ns) (passing-step limit test n next h e after)) ∙ so)
+
+-- the same of the numbers themselves
+pub passing-on : (limit : ℕ) (test : ℕ → Bool) (all done : List ℕ) (now : Option ℕ) (n : ℕ) (next : Option ℕ) → now ≡ Some n → n < limit → test n ≡ true → IsNextBelow limit test (n + 1) next
+    → done ++ passing_at now limit test ≡ all → (done ++ n ∷ []) ++ passing_at next limit test ≡ all
+passing-on limit test all done now n next is h e after so =
+    rw append_assoc (sym (ap (λ o. done ++ passing_at o limit test) is ∙ ap (λ ns. done ++ ns) (passing-step limit test n next h e after)) ∙ so)
 
 -- the same of what a function gives of some of the numbers
 pub passing-given : {X : Type 0} (f : ℕ → Option X) (limit : ℕ) (test : ℕ → Bool) (all : List X) (done : List X) (now : Option ℕ) (n : ℕ) (x : X) (next : Option ℕ) → now ≡ Some n → n < limit → test n ≡ true → f n ≡ Some x → IsNextBelow limit test (n + 1) next
@@ -177,3 +186,41 @@ passing-any_more limit test p now n next done is h e after =
     or_again : (a b c : Bool) → (a || (b || c)) ≡ ((a || b) || c)
     or_again true b c = refl
     or_again false b c = refl
+
+-- ---- A list beside a walk
+
+-- a list goes on with another number than the walk does
+pub walk_differs : (limit : ℕ) (test : ℕ → Bool) (done rest : List ℕ) (next : Option ℕ) (n : ℕ) → ((m : ℕ) → next ≡ Some m → test m ≡ true) → (next ≡ Some n → ⊥) → done ++ n ∷ rest ≡ done ++ passing_at next limit test → ⊥
+walk_differs limit test [] rest None n member other same = absurd (cc)
+walk_differs limit test [] rest (Some m) n member other same =
+    ⊎_elim
+    (λ (low : m < limit).
+    let apart : n ∷ rest ≡ m ∷ passing (m + 1) limit test = same ∙ passing-cons m limit test low (member m refl) in
+    let one : n ≡ m = cc in
+    other (ap Some (sym one)))
+    (λ (past : limit ≤ m). let none = passing-none m limit test (λ k low high. absurd (omega arith)) in absurd (cc))
+    (cases_lt m limit)
+walk_differs limit test (d ∷ done) rest next n member other same =
+    let less : done ++ n ∷ rest ≡ done ++ passing_at next limit test = cc in
+    walk_differs limit test done rest next n member other less
+
+-- a list ends where the walk goes on
+pub walk_goes_on : (limit : ℕ) (test : ℕ → Bool) (done : List ℕ) (n : ℕ) → n < limit → test n ≡ true → done ≡ done ++ passing n limit test → ⊥
+walk_goes_on limit test [] n low member same = let on = passing-cons n limit test low member in absurd (cc)
+walk_goes_on limit test (d ∷ done) n low member same =
+    let less : done ≡ done ++ passing n limit test = cc in
+    walk_goes_on limit test done n low member less
+
+-- a walk's next number is this one
+pub next_is : (next : Option ℕ) (n : ℕ) → option_eq nat_eq next (Some n) ≡ true → next ≡ Some n
+next_is None n h = absurd (cc)
+next_is (Some m) n h = ap Some (eqb-true m n h)
+
+pub next_is_not : (next : Option ℕ) (n : ℕ) → option_eq nat_eq next (Some n) ≡ false → next ≡ Some n → ⊥
+next_is_not None n h e = absurd (cc)
+next_is_not (Some m) n h e = let same : m ≡ n = cc in let equal = eq-eqb m n same in absurd (cc)
+
+-- a list is that of all numbers that pass where the walk beside it has come to its end
+pub walk_ends : (limit : ℕ) (test : ℕ → Bool) (done : List ℕ) (next : Option ℕ) (ends : Bool) → is_some next ≡ not ends → ((n : ℕ) → next ≡ Some n → (n < limit) × (test n ≡ true)) → done ++ passing_at next limit test ≡ passing 0 limit test → (ends ≡ true) ↔ (done ≡ passing 0 limit test)
+walk_ends limit test done None ends e member all = (λ h. sym (append-nil done) ∙ all, λ same. not-false ends (sym e))
+walk_ends limit test done (Some n) ends e member all = (λ h. let out = not-true ends (sym e) in absurd (cc), λ same. let m = member n refl in absurd (walk_goes_on limit test done n m.0 m.1 (same ∙ sym all)))

@@ -1,5 +1,5 @@
 -- The answer to a scan, by its verdicts.
-use Rattle.std.proofs.Common.{◌≡◌, ℕ, suc, ◌-◌, ◌<◌, Bool, true, false, not, ◌&&◌, ◌||◌, List, [], ◌∷◌, Some, None, is_none, nat_eq, refl, sym, ap, ap₂, subst, ◌∙◌, arith}
+use Rattle.std.proofs.Common.{◌≡◌, ℕ, suc, ◌-◌, ◌<◌, Bool, true, false, not, ◌&&◌, ◌||◌, List, [], ◌∷◌, Some, None, is_none, nat_eq, refl, sym, ap, ap₂, subst, ◌∙◌, ◌↔◌, arith}
 use Rattle.std.proofs.lemmas.Bool.{false≢true, or_left, or_right, false_from_ne_true}
 use Rattle.std.specs.List.{filter, list_any, range_with_len}
 use mathlib.Core.Path.{fun_ext}
@@ -20,12 +20,13 @@ use Rattle.lp_transition.specs.Sound.{IsSound}
 use Rattle.lp_transition.specs.Machine.{goes_over, going, affected, refusal_of, answer}
 use Rattle.lp_transition.specs.Table.{Table, Engine, slot, state_in, is_in}
 use Rattle.lp_transition.specs.Kept.{IsKept}
-use Rattle.lp_transition.specs.Weigh.{Weighed, IsWeighed, verdicts_for, born_of}
-use Rattle.lp_transition.specs.Scan.{is_scan_kind, scan_event, verdicts_of, passing}
-use Rattle.lp_transition.specs.ScanSteps.{is_found, goes_by, all_admit, groups_of}
+use Rattle.lp_transition.specs.Weigh.{Weighed, IsWeighed, AreVerdictsFor, born_of}
+use Rattle.lp_transition.specs.Scan.{is_scan_kind, scan_event, verdicts_of, AreEnough, passing}
+use Rattle.lp_transition.specs.ScanSteps.{tasks_of, is_found, goes_by, all_admit, groups_of}
 use Rattle.lp_transition.proofs.TableLemmas.{slot_from_live}
 use Rattle.lp_transition.proofs.Passing.{passing-none, passing-any}
 use Rattle.lp_transition.proofs.ScanGroups.{told, completes}
+use Rattle.lp_transition.proofs.AskedScans.{goes-among, completes-among, tasks-judged}
 
 -- ---- The reply by verdicts
 
@@ -102,34 +103,49 @@ born-scan model s Walk = refl
 born-scan model s Stop = refl
 
 -- what the verdicts tell
-abbrev pub reply_by : Table → List Verdict → Reply
-reply_by table vs = record { what = switched (passing 0 65536 (goes_by table vs)); completed = all_admit vs }
+abbrev pub reply_by : Table → List Verdict → Bool → Reply
+reply_by table vs completed = record { what = switched (passing 0 65536 (goes_by table vs)); completed = completed }
 
-abbrev pub step_by : CheckKind → Table → List Verdict → Weighed
-step_by kind table vs = record { event = scan_event kind; reply = reply_by table vs; verdicts = vs; born = None }
+abbrev pub step_by : CheckKind → Table → List Verdict → Bool → Weighed
+step_by kind table vs completed = record { event = scan_event kind; reply = reply_by table vs completed; verdicts = vs; born = None }
 
--- a scan is answered by its verdicts
-verdicts-scan : (model : Rules) (s : State) (kind : CheckKind) → is_scan_kind kind ≡ true → verdicts_of model kind s ≡ verdicts_for model s (scan_event kind)
-verdicts-scan model s KernelExit h = absurd (false≢true h)
-verdicts-scan model s IdlePoint h = absurd (false≢true h)
-verdicts-scan model s Walk h = refl
-verdicts-scan model s Stop h = refl
+-- some task waits, each was looked at, and each was admitted
+abbrev pub Completes : Numbers → List Verdict → Bool → Type 0
+Completes waiting vs completed = (completed ≡ true) ↔ ((all_admit vs ≡ true) × (tasks_of vs ≡ passing 0 65536 (has waiting)))
 
-weighs_here : (model : Rules) → IsLawful model → (e : Engine) (waiting : Numbers) (members : List ℕ) (kind : CheckKind) (vs : List Verdict) → IsKept e waiting members → is_scan_kind kind ≡ true → vs ≡ verdicts_of model kind (state_in e) → e.number < 1000000
-    → IsWeighed model e (step_by kind e.table vs)
-weighs_here model lawful e waiting members kind vs kept scan found room =
+-- a scan is answered by verdicts that are enough
+verdicts-scan : (model : Rules) (s : State) (kind : CheckKind) (vs : List Verdict) → is_scan_kind kind ≡ true → AreEnough model kind s vs → AreVerdictsFor model s (scan_event kind) vs
+verdicts-scan model s KernelExit vs h enough = absurd (false≢true h)
+verdicts-scan model s IdlePoint vs h enough = absurd (false≢true h)
+verdicts-scan model s Walk vs h enough = enough
+verdicts-scan model s Stop vs h enough = enough
+
+-- the reply by verdicts that are enough is that by all
+reply-enough : (model : Rules) → IsLawful model → (e : Engine) (waiting : Numbers) (members : List ℕ) (kind : CheckKind) (vs : List Verdict) (completed : Bool) → IsKept e waiting members → AreEnough model kind (state_in e) vs → Completes waiting vs completed
+    → reply_by e.table vs completed ≡ reply_by e.table (verdicts_of model kind (state_in e)) (all_admit (verdicts_of model kind (state_in e)))
+reply-enough model lawful e waiting members kind vs completed kept enough tells =
+    let s = state_in e in
+    let among = subst (λ (ws : List Verdict). (completed ≡ true) ↔ ((all_admit ws ≡ true) × (tasks_of ws ≡ tasks_of (verdicts_of model kind s)))) enough.found
+    (subst (λ (ts : List ℕ). (completed ≡ true) ↔ ((all_admit vs ≡ true) × (tasks_of vs ≡ ts))) (sym (tasks-judged model kind e waiting members kept)) tells) in
+    ap₂ (λ (goes : ℕ → Bool) (b : Bool). let r : Reply = record { what = switched (passing 0 65536 goes); completed = b } in r)
+    (fun_ext (λ (group : ℕ). ap (λ (ws : List Verdict). goes_by e.table ws group) enough.found ∙ goes-among model lawful kind s kept.sound enough.asked enough.others e.table (λ t x live. slot_from_live e.table t x live) group))
+    (completes-among model lawful kind s kept.sound enough.asked enough.others completed among)
+
+weighs_here : (model : Rules) → IsLawful model → (e : Engine) (waiting : Numbers) (members : List ℕ) (kind : CheckKind) (vs : List Verdict) (completed : Bool) → IsKept e waiting members → is_scan_kind kind ≡ true → AreEnough model kind (state_in e) vs → e.number < 1000000 → Completes waiting vs completed
+    → IsWeighed model e (step_by kind e.table vs completed)
+weighs_here model lawful e waiting members kind vs completed kept scan enough room tells =
     let there = answer-scan model lawful 65536 (state_in e) (omega arith) kept.sound e.table (λ t x live. slot_from_live e.table t x live) kind scan in
     record {
       room = room;
-      reply = ap (reply_by e.table) found ∙ sym there;
+      reply = reply-enough model lawful e waiting members kind vs completed kept enough tells ∙ sym there;
       born = born-scan model (state_in e) kind;
-      verdicts = found ∙ verdicts-scan model (state_in e) kind scan;
+      verdicts = verdicts-scan model (state_in e) kind vs scan enough;
     }
 
 -- a scan is weighed by what its verdicts tell
-pub weighs : (model : Rules) → IsLawful model → (e old : Engine) (waiting : Numbers) (members : List ℕ) (kind : CheckKind) (vs : List Verdict) (step : Weighed) → e ≡ old → IsKept e waiting members → is_scan_kind kind ≡ true → vs ≡ verdicts_of model kind (state_in old) → e.number < 1000000
-    → step ≡ step_by kind e.table vs → IsWeighed model old step
-weighs model lawful e old waiting members kind vs step was kept scan found room is =
+pub weighs : (model : Rules) → IsLawful model → (e old : Engine) (waiting : Numbers) (members : List ℕ) (kind : CheckKind) (vs : List Verdict) (completed : Bool) (step : Weighed) → e ≡ old → IsKept e waiting members → is_scan_kind kind ≡ true → AreEnough model kind (state_in old) vs → e.number < 1000000
+    → Completes waiting vs completed → step ≡ step_by kind e.table vs completed → IsWeighed model old step
+weighs model lawful e old waiting members kind vs completed step was kept scan enough room tells is =
     subst (λ (o : Engine). IsWeighed model o step) was
     (subst (λ (st : Weighed). IsWeighed model e st) (sym is)
-    (weighs_here model lawful e waiting members kind vs kept scan (subst (λ (o : Engine). vs ≡ verdicts_of model kind (state_in o)) (sym was) found) room))
+    (weighs_here model lawful e waiting members kind vs completed kept scan (subst (λ (o : Engine). AreEnough model kind (state_in o) vs) (sym was) enough) room tells))

@@ -43,7 +43,7 @@ kind_from uses b kind has used = ap (λ c. if_used uses (when c kind)) has ∙ a
 
 module _ (model : Rules) (lawful : IsLawful model) (kind : CheckKind) (s : State) (sound : IsSound s) (table : Table) (there : (t : ℕ) (x : Standing) → s.tasks t ≡ Live x → slot table t ≡ Some x) where
   -- a waiting task's verdict is one of its group's
-  found-from : (refused : Bool) (group t : ℕ) (x : Standing) → s.tasks t ≡ Live x → nat_eq x.level s.target ≡ false → x.group ≡ group → (if refused then is_some (model.blame kind (view_of t x) s.aim) else is_none (model.blame kind (view_of t x) s.aim)) ≡ true
+  pub found-from : (refused : Bool) (group t : ℕ) (x : Standing) → s.tasks t ≡ Live x → nat_eq x.level s.target ≡ false → x.group ≡ group → (if refused then is_some (model.blame kind (view_of t x) s.aim) else is_none (model.blame kind (view_of t x) s.aim)) ≡ true
       → list_any (is_found table refused group) (verdicts_of model kind s) ≡ true
   found-from refused group t x live off grouped told =
       let bounds = sound.numbered t x live in
@@ -56,15 +56,15 @@ module _ (model : Rules) (lawful : IsLawful model) (kind : CheckKind) (s : State
       }) bounds.0 bounds.1
 
   -- what a verdict of a group says
-  record Told (refused : Bool) (group : ℕ) : Type 0 where
-    number : ℕ
-    task : Standing
-    live : s.tasks number ≡ Live task
-    off : nat_eq task.level s.target ≡ false
-    grouped : task.group ≡ group
-    told : (if refused then is_some (model.blame kind (view_of number task) s.aim) else is_none (model.blame kind (view_of number task) s.aim)) ≡ true
+  pub record Told (refused : Bool) (group : ℕ) : Type 0 where
+    pub number : ℕ
+    pub task : Standing
+    pub live : s.tasks number ≡ Live task
+    pub off : nat_eq task.level s.target ≡ false
+    pub grouped : task.group ≡ group
+    pub told : (if refused then is_some (model.blame kind (view_of number task) s.aim) else is_none (model.blame kind (view_of number task) s.aim)) ≡ true
 
-  found-is : (refused : Bool) (group : ℕ) → list_any (is_found table refused group) (verdicts_of model kind s) ≡ true → Told refused group
+  pub found-is : (refused : Bool) (group : ℕ) → list_any (is_found table refused group) (verdicts_of model kind s) ≡ true → Told refused group
   found-is refused group h =
       let j = verdict-is model kind s (is_found table refused group) h in
       let parts = and_parts (if refused then is_some (model.blame kind (view_of j.number j.task) s.aim) else is_none (model.blame kind (view_of j.number j.task) s.aim)) (is_in group (slot table j.number)) j.passed in

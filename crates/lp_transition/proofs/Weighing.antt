@@ -22,7 +22,7 @@ use Rattle.lp_transition.specs.Run.{switched}
 use Rattle.lp_transition.specs.Machine.{at_rest, goes_over, going, bearing, refusal_of, affected, own_effect, calling, returning, put_in, told, answer_by, answer}
 use Rattle.lp_transition.specs.Table.{Engine, slot, fate_at, standings, changed, state_in, bounds_of, is_off}
 use Rattle.lp_transition.specs.Kept.{IsKept}
-use Rattle.lp_transition.specs.Weigh.{Weighed, IsWeighed, verdicts_for, moves, task_of, is_fork, child_of, born_by, born_of, is_switched, refused_by}
+use Rattle.lp_transition.specs.Weigh.{Weighed, IsWeighed, AreVerdictsFor, moves, task_of, is_fork, child_of, born_by, born_of, is_switched, refused_by}
 use Rattle.lp_transition.proofs.EngineLemmas.{is_quiet, quiet-control, quiet-stays, switched-still, answer-accepted}
 use Rattle.lp_transition.proofs.Quantifiers.{each_live-at, each_live-from}
 use Rattle.lp_transition.proofs.Accept.{fork-new}
@@ -236,7 +236,7 @@ born-none model e event plain = by (refusal_of model (state_in e) event) event p
     by None Reverse plain = refl
 
 -- an event that is no scan is answered by no verdicts
-pub verdicts-none : (model : Rules) (s : State) (event : Event) → is_scan event ≡ false → [] ≡ verdicts_for model s event
+pub verdicts-none : (model : Rules) (s : State) (event : Event) → is_scan event ≡ false → AreVerdictsFor model s event []
 verdicts-none model s (Call t f) h = refl
 verdicts-none model s (Ret t) h = refl
 verdicts-none model s (Sleep t) h = refl

@@ -1,5 +1,5 @@
 -- Scans, which look at the stacks of all waiting tasks: what they look at, and what they find.
-use Rattle.std.specs.Prelude.{ℕ, ◌-◌, Bool, true, false, List, map, Option, Some, None, if◌then◌else◌, nat_eq}
+use Rattle.std.specs.Prelude.{◌≡◌, ℕ, ◌-◌, Bool, true, false, List, map, Option, Some, None, is_some, if◌then◌else◌, nat_eq}
 use Rattle.std.specs.List.{filter, filter_map, range_with_len}
 use Rattle.lp_stack.specs.TaskView.{TaskView}
 use Rattle.lp_patch.specs.Patches.{Goal}
@@ -47,6 +47,24 @@ verdict_of model kind aim view = record { task = record { 0 = view.task }; blame
 -- what a check finds of the waiting tasks, by increasing number
 abbrev pub verdicts_of : Rules → CheckKind → State → List Verdict
 verdicts_of model kind s = map (verdict_of model kind s.aim) (views_of s)
+
+-- ---- What a scan may leave out
+
+-- a scan of this kind may leave out the waiting tasks that fail a test: it would refuse each of them, and the waiting
+-- members of a group are asked together or left out together
+pub record MayLeaveOut (model : Rules) (kind : CheckKind) (s : State) (asked : ℕ → Bool) : Type 0 where
+  pub refused : (t : ℕ) (x : Standing) → s.tasks t ≡ Live x → nat_eq x.level s.target ≡ false → asked t ≡ false → is_some (model.blame kind (view_of t x) s.aim) ≡ true
+  pub together : (t u : ℕ) (x y : Standing) → s.tasks t ≡ Live x → s.tasks u ≡ Live y → nat_eq x.level s.target ≡ false → nat_eq y.level s.target ≡ false → x.group ≡ y.group → asked t ≡ asked u
+
+-- what a scan finds of the waiting tasks that pass a test, by increasing number
+abbrev pub verdicts_among : Rules → CheckKind → State → (ℕ → Bool) → List Verdict
+verdicts_among model kind s asked = filter (λ v. asked v.task.0) (verdicts_of model kind s)
+
+-- these verdicts are enough to answer a scan: they are of some of the waiting tasks, and the others may be left out
+pub record AreEnough (model : Rules) (kind : CheckKind) (s : State) (verdicts : List Verdict) : Type 0 where
+  pub asked : ℕ → Bool
+  pub others : MayLeaveOut model kind s asked
+  pub found : verdicts ≡ verdicts_among model kind s asked
 
 -- ---- Numbers in increasing order
 

@@ -1,5 +1,5 @@
 -- How the engine goes from the verdicts of a scan to who goes over, and what it leaves.
-use Rattle.std.specs.Prelude.{◌≡◌, ◌≢◌, ℕ, ◌<◌, ◌≤◌, Bool, true, false, not, ◌&&◌, List, [], length, count_by, Option, Some, None, is_some, is_none, if◌then◌else◌, nat_eq}
+use Rattle.std.specs.Prelude.{◌≡◌, ◌≢◌, ℕ, ◌<◌, ◌≤◌, Bool, true, false, not, ◌&&◌, List, [], length, map, count_by, Option, Some, None, is_some, is_none, if◌then◌else◌, nat_eq}
 use Rattle.std.specs.List.{list_any}
 use Rattle.std.specs.Option.{option_map}
 use Rattle.lp_model.specs.declared.verdict.Verdict.{Verdict}
@@ -11,6 +11,16 @@ use Rattle.lp_transition.specs.Events.{is_scan}
 use Rattle.lp_transition.specs.Leg.{Standing}
 use Rattle.lp_transition.specs.Table.{Table, slot, IsWide, is_in}
 use Rattle.lp_transition.specs.Scan.{passing}
+
+-- ---- Who is looked at
+
+-- the live task of a number, where it is in the waiting set
+abbrev pub waiting_slot : Table → Numbers → ℕ → Option Standing
+waiting_slot table waiting t = if has waiting t then slot table t else None
+
+-- the task numbers of verdicts
+abbrev pub tasks_of : List Verdict → List ℕ
+tasks_of verdicts = map (λ v. v.task.0) verdicts
 
 -- ---- Who goes over by the verdicts
 
@@ -81,7 +91,7 @@ abbrev pub passing_at : Option ℕ → ℕ → (ℕ → Bool) → List ℕ
 passing_at None limit test = []
 passing_at (Some n) limit test = passing n limit test
 
--- the least number from a first one on that passes a test; None where none below the limit does
+-- the least number from a first one to below a limit that passes a test; None where none does
 abbrev pub IsNextBelow : ℕ → (ℕ → Bool) → ℕ → Option ℕ → Type 0
 IsNextBelow limit test first None = (n : ℕ) → first ≤ n → n < limit → test n ≡ false
-IsNextBelow limit test first (Some n) = IsLeastFrom test first n
+IsNextBelow limit test first (Some n) = (n < limit) × IsLeastFrom test first n

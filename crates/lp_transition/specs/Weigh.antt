@@ -12,7 +12,7 @@ use Rattle.lp_transition.specs.declared.reply.Reply.{Reply}
 use Rattle.lp_transition.specs.Tasks.{Fate, Live, Grouping}
 use Rattle.lp_transition.specs.Leg.{Standing, State}
 use Rattle.lp_transition.specs.Machine.{bearing, refusal_of, answer}
-use Rattle.lp_transition.specs.Scan.{verdicts_of}
+use Rattle.lp_transition.specs.Scan.{verdicts_of, AreEnough}
 use Rattle.lp_transition.specs.Table.{Engine, state_in}
 
 -- an event with its answer, the verdicts that it was answered by, and the child that it brings
@@ -34,18 +34,24 @@ born_by grouping _ event now = None
 abbrev pub born_of : Rules → State → Event → Option Standing
 born_of model s event = born_by model.child_group (refusal_of model s event) event s.tasks
 
--- the verdicts that an event is answered by: of a scan, what it finds of the waiting tasks
+-- all verdicts that an event can be answered by: of a scan, what it finds of the waiting tasks
 abbrev pub verdicts_for : Rules → State → Event → List Verdict
 verdicts_for model s Walk = verdicts_of model check.Walk s
 verdicts_for model s Stop = verdicts_of model check.Stop s
 verdicts_for model s _ = []
+
+-- an event may be answered by these verdicts: a scan by enough of them, and any other event by none
+abbrev pub AreVerdictsFor : Rules → State → Event → List Verdict → Type 0
+AreVerdictsFor model s Walk verdicts = AreEnough model check.Walk s verdicts
+AreVerdictsFor model s Stop verdicts = AreEnough model check.Stop s verdicts
+AreVerdictsFor model s _ verdicts = verdicts ≡ []
 
 -- the event was weighed on this engine
 pub record IsWeighed (model : Rules) (engine : Engine) (step : Weighed) : Type 0 where
   pub room : engine.number < 1000000
   pub reply : step.reply ≡ answer model (state_in engine) step.event
   pub born : step.born ≡ born_of model (state_in engine) step.event
-  pub verdicts : step.verdicts ≡ verdicts_for model (state_in engine) step.event
+  pub verdicts : AreVerdictsFor model (state_in engine) step.event step.verdicts
 
 -- an event that moves one task, between user space, the kernel and sleep or down its stack
 abbrev pub moves : Event → Bool

@@ -8,6 +8,7 @@ ghost use Rattle.lp_transition.specs.Leg.{is_alone};
 ghost use Rattle.lp_stack.specs.TaskView.{seen};
 ghost use Rattle.lp_transition.specs.Machine.{at_rest, outlines_of, view_of};
 
+mod asked;
 mod at_once;
 mod boot;
 mod control;

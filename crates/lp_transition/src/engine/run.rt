@@ -103,8 +103,9 @@ impl<M: Consistency> Core<M> {
         self.events < MOST_EVENTS
     }
 
-    /// Any event, weighed; a walk or a stop after a look at every waiting task. Makes all growths
-    /// that `take` needs: NoMemory where one was refused, JournalFull where no event is left.
+    /// Any event, weighed; a walk or a stop that the model uses after a look at every waiting task.
+    /// Makes all growths that `take` needs: NoMemory where one was refused, JournalFull where no
+    /// event is left.
     pub fn weigh_any(&self, alloc: Global, event: Event) -> Result<Step, Halt>
         ensures full { (result ≡ Err JournalFull) ↔ (1000000 ≤ self.now.number) }
         ensures memory { result ≡ Err NoMemory → IsTrue (may_want_memory event (answer M.rules (state_in self.now) event).what) }
@@ -118,7 +119,8 @@ impl<M: Consistency> Core<M> {
         }
     }
 
-    /// A walk or a stop, weighed after a look at every waiting task.
+    /// A walk or a stop, weighed after a look at every waiting task, or at none where the model
+    /// doesn't use the check.
     fn weigh_check(&self, alloc: Global, kind: CheckKind) -> Result<Step, Halt>
         requires scan { is_scan_kind kind ≡ true }
         ensures full { (result ≡ Err JournalFull) ↔ (1000000 ≤ self.now.number) }
@@ -127,6 +129,9 @@ impl<M: Consistency> Core<M> {
     {
         if self.events >= MOST_EVENTS {
             return Err(Halt::JournalFull);
+        }
+        if !self.model.uses(kind) {
+            return self.weigh_found(alloc, kind, &[]);
         }
         let views = self.views(alloc)?;
         let aim = self.aim();

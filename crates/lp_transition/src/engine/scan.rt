@@ -1,5 +1,5 @@
 //! Scans, which look at the stacks of all waiting tasks.
-ghost use Rattle.std.specs.Prelude.{◌≡◌, ℕ, ◌||◌, ◌<◌, ◌≤◌, ◌↔◌, true, Err, map, is_some, is_none, nat_eq, option_copied, IfOk};
+ghost use Rattle.std.specs.Prelude.{◌≡◌, ℕ, ◌||◌, ◌<◌, ◌≤◌, ◌↔◌, true, Err, map, is_some, is_none, nat_eq, option_copied, IfOk, IsTrue};
 ghost use Rattle.std.specs.List.{filter_map, list_any};
 ghost use Rattle.std.specs.Option.{option_map};
 ghost use Rattle.lp_stack.specs.TaskView.{seen};
@@ -10,10 +10,12 @@ ghost use Rattle.lp_transition.specs.Events.{is_scan};
 ghost use Rattle.lp_transition.specs.Run.{switched};
 ghost use Rattle.lp_transition.specs.Weigh.{IsWeighed};
 ghost use Rattle.lp_transition.specs.Steps.{IsReply};
-ghost use Rattle.lp_transition.specs.Scan.{is_scan_kind, scan_event, views_of, verdicts_of, passing};
-ghost use Rattle.lp_transition.specs.ScanSteps.{IsNextBelow, is_found, goes_by, all_admit, groups_of, is_over, IsTaskMoved, IsMoved};
+ghost use Rattle.lp_transition.specs.Scan.{is_scan_kind, scan_event, views_of, verdicts_of, AreEnough, passing};
+ghost use Rattle.lp_transition.specs.ScanSteps.{IsNextBelow, waiting_slot, tasks_of, is_found, goes_by, all_admit, groups_of, is_over, IsTaskMoved, IsMoved};
 ghost use Rattle.lp_transition.specs.declared.engine.step.Halt.TheVariants.{JournalFull};
 
+use super::asked::looks_at_all;
+use super::live_task::LiveTask;
 use super::step::{Halt, Step};
 use super::task_table::TaskTable;
 use super::{Core, MOST_EVENTS};
@@ -29,7 +31,7 @@ impl<M: Consistency> Core<M> {
     pub fn views(&self, alloc: Global) -> Result<Vec<View<'_>>, AllocError>
         ensures { IfOk result (λ views. map seen views.items ≡ views_of (state_in self.now)) }
     {
-        views_in(alloc, &self.tasks, &self.waiting)
+        views_in(alloc, &self.tasks, &self.waiting, &self.waiting)
     }
 
     /// The groups that wait, which have a live member off the target, in increasing order;
@@ -58,6 +60,24 @@ impl<M: Consistency> Core<M> {
         ensures event { IfOk result (λ step. step.event ≡ scan_event kind) }
         ensures verdicts { IfOk result (λ step. step.verdicts ≡ verdicts.now) }
     {
+        self.weigh_found(alloc, kind, verdicts)
+    }
+
+    /// The answer to a walk or a stop, by verdicts that are enough to answer it.
+    pub(super) fn weigh_found(
+        &self,
+        alloc: Global,
+        kind: CheckKind,
+        verdicts: &[Verdict],
+    ) -> Result<Step, Halt>
+        requires scan { is_scan_kind kind ≡ true }
+        requires found { AreEnough M.rules kind (state_in self.now) verdicts.now }
+        ensures full { (result ≡ Err JournalFull) ↔ (1000000 ≤ self.now.number) }
+        ensures reply { IfOk result (λ step. IsReply M.rules (state_in self.now) (scan_event kind) step.reply) }
+        ensures weighed { IfOk result (λ step. IsWeighed M.rules self.now step) }
+        ensures event { IfOk result (λ step. step.event ≡ scan_event kind) }
+        ensures verdicts { IfOk result (λ step. step.verdicts ≡ verdicts.now) }
+    {
         if self.events >= MOST_EVENTS {
             return Err(Halt::JournalFull);
         }
@@ -65,7 +85,7 @@ impl<M: Consistency> Core<M> {
         let copied = Vec::from_slice(alloc, verdicts)?;
         let reply = Reply {
             what,
-            completed: all_admit(verdicts),
+            completed: completes(&self.waiting, verdicts),
         };
         Ok(Step::scan(scan_event(kind), reply, copied, over))
     }
@@ -82,24 +102,35 @@ impl<M: Consistency> Core<M> {
     }
 }
 
-/// The live tasks of a set as checks see them, by increasing number.
-fn views_in<'a>(
+/// The waiting tasks of a set as checks see them, by increasing number.
+pub(super) fn views_in<'a>(
     alloc: Global,
     tasks: &'a TaskTable,
+    waiting: &NumberSet,
     set: &NumberSet,
 ) -> Result<Vec<View<'a>>, AllocError>
-    ensures { IfOk result (λ views. map seen views.items ≡ filter_map (λ t. option_map (view_of t) (slot tasks.now t)) (passing 0 65536 (has set.now))) }
+    ensures { IfOk result (λ views. map seen views.items ≡ filter_map (λ t. option_map (view_of t) (waiting_slot tasks.now waiting.now t)) (passing 0 65536 (has set.now))) }
 {
     let mut views = Vec::new(alloc);
     let mut next = member_from(set, 0);
     while let Some(number) = next {
         let task = TaskId(number);
-        if let Some(live) = tasks.get(task) {
+        if let Some(live) = waiting_task(tasks, waiting, task) {
             views.push(live.view(task))?;
         }
         next = member_from(set, usize::from(number) + 1);
     }
     Ok(views)
+}
+
+/// The live task of a number, where it waits.
+fn waiting_task<'a>(tasks: &'a TaskTable, waiting: &NumberSet, task: TaskId) -> Option<&'a LiveTask>
+    ensures { option_copied result ≡ waiting_slot tasks.now waiting.now task.0 }
+{
+    if !waiting.contains(task.0) {
+        return None;
+    }
+    tasks.get(task)
 }
 
 /// The members of a set as groups, in increasing order.
@@ -116,7 +147,7 @@ fn group_list(alloc: Global, set: &NumberSet) -> Result<GroupList, AllocError>
 }
 
 /// The least member of a set that is at or above a number, which may be past all members.
-fn member_from(set: &NumberSet, first: usize) -> Option<u16>
+pub(super) fn member_from(set: &NumberSet, first: usize) -> Option<u16>
     ensures { IsNextBelow 65536 (has set.now) first result }
 {
     if first >= NUMBERS {
@@ -222,6 +253,13 @@ fn add_group(groups: &mut NumberSet, tasks: &TaskTable, task: TaskId)
     if let Some(live) = tasks.get(task) {
         groups.insert(live.group().0);
     }
+}
+
+/// Whether some task waits, each was looked at, and each was admitted.
+fn completes(waiting: &NumberSet, verdicts: &[Verdict]) -> bool
+    ensures { IsTrue result ↔ ((all_admit verdicts.now ≡ true) × (tasks_of verdicts.now ≡ passing 0 65536 (has waiting.now))) }
+{
+    all_admit(verdicts) && looks_at_all(waiting, verdicts)
 }
 
 /// Whether a task was looked at, and each was admitted.

@@ -4,15 +4,15 @@ use Rattle.std.specs.List.{filter_map}
 use Rattle.std.specs.Option.{option_map}
 use Rattle.lp_stack.specs.TaskView.{seen}
 use Rattle.lp_numbers.specs.Numbers.{has}
-use Rattle.lp_transition.specs.Table.{slot}
 use Rattle.lp_transition.specs.Machine.{view_of}
+use Rattle.lp_transition.specs.ScanSteps.{waiting_slot}
 use Rattle.lp_transition.proofs.Passing.{passing-next, passing-less, passing-given, passing-left_out, next_passes}
 use Rattle.lp_transition.proofs.engine.scan.views_in.Goals as goal
-use Rattle.lp_transition.proofs.engine.scan.views_in.Goals.{in-Some-get+in_ok-push, in_default-get}
+use Rattle.lp_transition.proofs.engine.scan.views_in.Goals.{in-Some-waiting_task+in_ok-push, in_default-waiting_task}
 
 pub loop-next-init : goal.loop-next-init
 loop-next-init c =
-    let f = λ (t : ℕ). option_map (view_of t) (slot c.args.tasks.now t) in
+    let f = λ (t : ℕ). option_map (view_of t) (waiting_slot c.args.tasks.now c.args.waiting.now t) in
     record {
       all = rw c.new-views.ensures.items (ap (filter_map f) (sym (passing-next 65536 (has c.args.set.now) 0 c.member_from-next.result c.member_from-next.ensures)));
       member = next_passes 65536 (has c.args.set.now) 0 c.member_from-next.result c.member_from-next.ensures;
@@ -30,14 +30,14 @@ loop-next-preserved c =
     let n = c.in-Some.number in
     let h : n < 65536 = omega arith in
     let after = rw c.from.ensures at c.member_from-next-in-Some.ensures in
-    let f = λ (t : ℕ). option_map (view_of t) (slot c.args.tasks.now t) in
+    let f = λ (t : ℕ). option_map (view_of t) (waiting_slot c.args.tasks.now c.args.waiting.now t) in
     record {
-      all = elim c.match-get.branch [
-        | in-Some-get+in_ok-push w ↦
-            let x : f n ≡ Some (view_of n w.in-Some-get.live.now) = ap (option_map (view_of n)) (sym c.get.ensures.value ∙ ap option_copied w.in-Some-get.is) in
+      all = elim c.match-waiting_task.branch [
+        | in-Some-waiting_task+in_ok-push w ↦
+            let x : f n ≡ Some (view_of n w.in-Some-waiting_task.live.now) = ap (option_map (view_of n)) (sym c.waiting_task.ensures ∙ ap option_copied w.in-Some-waiting_task.is) in
             rw (w.views-is, w.in_ok-push.ensures.items, map-append) (passing-given f 65536 (has c.args.set.now) _ _ c.loop-next.next n (seen w.view.result) c.member_from-next-in-Some.result c.in-Some.is h (c.loop-next.invariant.member n c.in-Some.is) (x ∙ ap Some (sym w.view.ensures)) after c.loop-next.invariant.all)
-        | in_default-get w ↦
-            let none : f n ≡ None = ap (option_map (view_of n)) (sym c.get.ensures.value ∙ ap option_copied w.in_default-get.is) in
+        | in_default-waiting_task w ↦
+            let none : f n ≡ None = ap (option_map (view_of n)) (sym c.waiting_task.ensures ∙ ap option_copied w.in_default-waiting_task.is) in
             rw w.views-is (passing-left_out f 65536 (has c.args.set.now) _ _ c.loop-next.next n c.member_from-next-in-Some.result c.in-Some.is h (c.loop-next.invariant.member n c.in-Some.is) none after c.loop-next.invariant.all)
       ];
       member = next_passes 65536 (has c.args.set.now) (n + 1) c.member_from-next-in-Some.result after;

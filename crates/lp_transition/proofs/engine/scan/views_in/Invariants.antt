@@ -3,16 +3,15 @@ use Rattle.std.specs.List.{filter_map}
 use Rattle.std.specs.Option.{option_map}
 use Rattle.lp_stack.specs.TaskView.{seen}
 use Rattle.lp_numbers.specs.Numbers.{has}
-use Rattle.lp_transition.specs.Table.{slot}
 use Rattle.lp_transition.specs.Machine.{view_of}
 use Rattle.lp_transition.specs.Scan.{passing}
-use Rattle.lp_transition.specs.ScanSteps.{passing_at}
+use Rattle.lp_transition.specs.ScanSteps.{waiting_slot, passing_at}
 use Rattle.lp_transition.proofs.engine.scan.views_in.Given as goal
 
 -- the views so far, and those still to come
 abbrev pub invariant-loop-next : goal.invariant-loop-next
 invariant-loop-next l = record {
-  all : map seen l.views.items ++ filter_map (λ t. option_map (view_of t) (slot l.tasks t)) (passing_at l.next 65536 (has l.set)) ≡ filter_map (λ t. option_map (view_of t) (slot l.tasks t)) (passing 0 65536 (has l.set));
+  all : map seen l.views.items ++ filter_map (λ t. option_map (view_of t) (waiting_slot l.tasks l.waiting t)) (passing_at l.next 65536 (has l.set)) ≡ filter_map (λ t. option_map (view_of t) (waiting_slot l.tasks l.waiting t)) (passing 0 65536 (has l.set));
   member : (n : ℕ) → l.next ≡ Some n → has l.set n ≡ true;
 }
 

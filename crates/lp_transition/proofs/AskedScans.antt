@@ -1,0 +1,243 @@
+-- A scan that leaves out tasks that it would refuse answers as one that asks all.
+use Rattle.std.proofs.Common.{◌≡◌, ℕ, zero, suc, ◌<◌, ◌≤◌, Bool, true, false, not, ◌&&◌, ◌||◌, List, [], ◌∷◌, ◌++◌, length, take, get_or, map, Some, is_some, is_none, if◌then◌else◌, nat_eq, refl, sym, ap, ◌∙◌, ◌↔◌, ⊎_elim, arith}
+use Rattle.std.proofs.lemmas.Bool.{false≢true, cases_Bool, and_parts, and_from, eqb-true, eq-eqb, not-true, not_from_false, false_from_ne_true}
+use Rattle.std.specs.List.{filter, filter_map, list_any}
+use Rattle.std.specs.Option.{option_map}
+use Rattle.lp_stack.specs.TaskView.{TaskView}
+use Rattle.lp_numbers.specs.Numbers.{Numbers, has}
+use Rattle.lp_model.specs.Rules.{Rules, IsLawful}
+use Rattle.lp_model.specs.declared.check.CheckKind.{CheckKind}
+use Rattle.lp_model.specs.declared.verdict.Verdict.{Verdict}
+use Rattle.lp_transition.specs.Tasks.{Live}
+use Rattle.lp_transition.specs.Leg.{Standing, State}
+use Rattle.lp_transition.specs.Sound.{IsSound}
+use Rattle.lp_transition.specs.Machine.{view_of}
+use Rattle.lp_transition.specs.Table.{Table, Engine, slot, state_in, is_in}
+use Rattle.lp_transition.specs.Kept.{IsKept}
+use Rattle.lp_transition.specs.Scan.{views_of, verdict_of, verdicts_of, MayLeaveOut, verdicts_among, AreEnough, passing}
+use Rattle.lp_transition.specs.ScanSteps.{waiting_slot, tasks_of, is_found, goes_by, all_admit}
+use Rattle.lp_transition.proofs.ScanLists.{verdict-is, verdict-from}
+use Rattle.lp_transition.proofs.ScanGroups.{same_bool, found-from, found-is}
+use Rattle.lp_transition.proofs.ScanLemmas.{views-asked, tasks-waiting}
+
+-- ---- Lists with some left out
+
+any_kept : {X : Type 0} (q p : X → Bool) (x : X) (kept rest : List X) (b : Bool) → q x ≡ b → list_any p kept ≡ list_any (λ y. q y && p y) rest → list_any p (if b then x ∷ kept else kept) ≡ ((b && p x) || list_any (λ y. q y && p y) rest)
+any_kept q p x kept rest true e same = ap (λ b. p x || b) same
+any_kept q p x kept rest false e same = same
+
+-- one that was kept passes a test
+any-filter : {X : Type 0} (q p : X → Bool) (xs : List X) → list_any p (filter q xs) ≡ list_any (λ x. q x && p x) xs
+any-filter q p [] = refl
+any-filter q p (x ∷ xs) = any_kept q p x (filter q xs) xs (q x) refl (any-filter q p xs)
+
+-- where none is left out
+all-kept : {X : Type 0} (q : X → Bool) (xs : List X) → list_any (λ x. not (q x)) xs ≡ false → filter q xs ≡ xs
+all-kept q [] none = refl
+all-kept q (x ∷ xs) none = kept_cons (q x) none (all-kept q xs)
+  where
+    kept_cons : (b : Bool) → (not b || list_any (λ y. not (q y)) xs) ≡ false → (list_any (λ y. not (q y)) xs ≡ false → filter q xs ≡ xs) → (if b then x ∷ filter q xs else filter q xs) ≡ x ∷ xs
+    kept_cons true h more = ap (λ ys. x ∷ ys) (more h)
+    kept_cons false h more = absurd (cc)
+
+filter_short : {X : Type 0} (q : X → Bool) (xs : List X) → length (filter q xs) ≤ length xs
+filter_short q [] = omega arith
+filter_short q (x ∷ xs) = kept_cons (q x) (filter_short q xs)
+  where
+    kept_cons : (b : Bool) → length (filter q xs) ≤ length xs → length (if b then x ∷ filter q xs else filter q xs) ≤ suc (length xs)
+    kept_cons true h = omega arith
+    kept_cons false h = omega arith
+
+-- where as many are there as before
+long-kept : {X : Type 0} (q : X → Bool) (xs : List X) → length (filter q xs) ≡ length xs → filter q xs ≡ xs
+long-kept q [] long = refl
+long-kept q (x ∷ xs) long = kept_cons (q x) long (filter_short q xs) (long-kept q xs)
+  where
+    kept_cons : (b : Bool) → length (if b then x ∷ filter q xs else filter q xs) ≡ suc (length xs) → length (filter q xs) ≤ length xs → (length (filter q xs) ≡ length xs → filter q xs ≡ xs) → (if b then x ∷ filter q xs else filter q xs) ≡ x ∷ xs
+    kept_cons true h short more = ap (λ ys. x ∷ ys) (more (omega arith))
+    kept_cons false h short more = absurd (omega arith)
+
+filter-map : {X Y : Type 0} (q : Y → Bool) (f : X → Y) (xs : List X) → filter q (map f xs) ≡ map f (filter (λ x. q (f x)) xs)
+filter-map q f [] = refl
+filter-map q f (x ∷ xs) = kept_cons (q (f x)) (filter-map q f xs)
+  where
+    kept_cons : (b : Bool) → filter q (map f xs) ≡ map f (filter (λ y. q (f y)) xs) → (if b then f x ∷ filter q (map f xs) else filter q (map f xs)) ≡ map f (if b then x ∷ filter (λ y. q (f y)) xs else filter (λ y. q (f y)) xs)
+    kept_cons true h = ap (λ ys. f x ∷ ys) h
+    kept_cons false h = h
+
+map-map : {X Y Z : Type 0} (g : Y → Z) (f : X → Y) (xs : List X) → map g (map f xs) ≡ map (λ x. g (f x)) xs
+map-map g f [] = refl
+map-map g f (x ∷ xs) = ap (λ ys. g (f x) ∷ ys) (map-map g f xs)
+
+length-tasks : (vs : List Verdict) → length (tasks_of vs) ≡ length vs
+length-tasks [] = refl
+length-tasks (v ∷ vs) = ap suc (length-tasks vs)
+
+-- a verdict's task stands behind those before it
+pub task-at : (vs : List Verdict) (i : ℕ) (d : Verdict) → i < length vs → (rest : List ℕ) × (tasks_of vs ≡ tasks_of (take i vs) ++ (get_or vs i d).task.0 ∷ rest)
+task-at [] i d h = absurd (omega arith)
+task-at (v ∷ vs) zero d h = (tasks_of vs, refl)
+task-at (v ∷ vs) (suc i) d h =
+    let more = task-at vs i d (omega arith) in
+    (more.0, ap (λ ts. v.task.0 ∷ ts) more.1)
+
+-- ---- Scans that leave tasks out
+
+module _ (model : Rules) (lawful : IsLawful model) (kind : CheckKind) (s : State) (sound : IsSound s) (asked : ℕ → Bool) (others : MayLeaveOut model kind s asked) where
+  -- a waiting member of a group that is asked, and refused or admitted
+  record Found (refused : Bool) (group : ℕ) : Type 0 where
+    number : ℕ
+    task : Standing
+    live : s.tasks number ≡ Live task
+    off : nat_eq task.level s.target ≡ false
+    grouped : task.group ≡ group
+    is_asked : asked number ≡ true
+    told : (if refused then is_some (model.blame kind (view_of number task) s.aim) else is_none (model.blame kind (view_of number task) s.aim)) ≡ true
+
+  module _ (table : Table) (there : (t : ℕ) (x : Standing) → s.tasks t ≡ Live x → slot table t ≡ Some x) where
+    among-is : (refused : Bool) (group : ℕ) → list_any (is_found table refused group) (verdicts_among model kind s asked) ≡ true → Found refused group
+    among-is refused group h =
+        let j = verdict-is model kind s (λ v. asked v.task.0 && is_found table refused group v) (sym (any-filter (λ (v : Verdict). asked v.task.0) (is_found table refused group) (verdicts_of model kind s)) ∙ h) in
+        let told = if refused then is_some (model.blame kind (view_of j.number j.task) s.aim) else is_none (model.blame kind (view_of j.number j.task) s.aim) in
+        let both = and_parts (asked j.number) (told && is_in group (slot table j.number)) j.passed in
+        let parts = and_parts told (is_in group (slot table j.number)) both.1 in
+        record {
+          number = j.number;
+          task = j.task;
+          live = j.live;
+          off = j.off;
+          grouped = eqb-true j.task.group group (sym (ap (is_in group) (there j.number j.task j.live)) ∙ parts.1);
+          is_asked = both.0;
+          told = parts.0;
+        }
+
+    among-from : (refused : Bool) (group t : ℕ) (x : Standing) → s.tasks t ≡ Live x → nat_eq x.level s.target ≡ false → x.group ≡ group → asked t ≡ true → (if refused then is_some (model.blame kind (view_of t x) s.aim) else is_none (model.blame kind (view_of t x) s.aim)) ≡ true
+        → list_any (is_found table refused group) (verdicts_among model kind s asked) ≡ true
+    among-from refused group t x live off grouped taken told =
+        let bounds = sound.numbered t x live in
+        let tells = if refused then is_some (model.blame kind (view_of t x) s.aim) else is_none (model.blame kind (view_of t x) s.aim) in
+        any-filter (λ (v : Verdict). asked v.task.0) (is_found table refused group) (verdicts_of model kind s)
+        ∙ verdict-from model kind s (λ v. asked v.task.0 && is_found table refused group v) (record {
+          number = t;
+          task = x;
+          live = live;
+          off = off;
+          passed = and_from (asked t) (tells && is_in group (slot table t)) taken (and_from tells (is_in group (slot table t)) told (ap (is_in group) (there t x live) ∙ eq-eqb x.group group grouped));
+        }) bounds.0 bounds.1
+
+    -- who is admitted is asked
+    admitted_asked : (t : ℕ) (x : Standing) → s.tasks t ≡ Live x → nat_eq x.level s.target ≡ false → is_none (model.blame kind (view_of t x) s.aim) ≡ true → asked t ≡ true
+    admitted_asked t x live off admitted =
+        ⊎_elim
+        (λ (yes : asked t ≡ true). yes)
+        (λ (out : asked t ≡ false). let refusal = others.refused t x live off out in absurd (cc))
+        (cases_Bool (asked t))
+
+    -- the groups that go over are told by those who are asked
+    pub goes-among : (group : ℕ) → goes_by table (verdicts_among model kind s asked) group ≡ goes_by table (verdicts_of model kind s) group
+    goes-among group =
+        let part = verdicts_among model kind s asked in
+        let whole = verdicts_of model kind s in
+        same_bool (goes_by table part group) (goes_by table whole group)
+        (λ h.
+        let parts = and_parts (list_any (is_found table false group) part) (not (list_any (is_found table true group) part)) h in
+        let f = among-is false group parts.0 in
+        and_from (list_any (is_found table false group) whole) (not (list_any (is_found table true group) whole))
+        (found-from model lawful kind s sound table there false group f.number f.task f.live f.off f.grouped f.told)
+        (not_from_false (list_any (is_found table true group) whole) (false_from_ne_true (list_any (is_found table true group) whole) (λ refused.
+        let r = found-is model lawful kind s sound table there true group refused in
+        let yes = others.together r.number f.number r.task f.task r.live f.live r.off f.off (r.grouped ∙ sym f.grouped) ∙ f.is_asked in
+        let blocked = among-from true group r.number r.task r.live r.off r.grouped yes r.told in
+        let unblocked = not-true (list_any (is_found table true group) part) parts.1 in
+        absurd (cc)))))
+        (λ h.
+        let parts = and_parts (list_any (is_found table false group) whole) (not (list_any (is_found table true group) whole)) h in
+        let f = found-is model lawful kind s sound table there false group parts.0 in
+        and_from (list_any (is_found table false group) part) (not (list_any (is_found table true group) part))
+        (among-from false group f.number f.task f.live f.off f.grouped (admitted_asked f.number f.task f.live f.off f.told) f.told)
+        (not_from_false (list_any (is_found table true group) part) (false_from_ne_true (list_any (is_found table true group) part) (λ refused.
+        let r = among-is true group refused in
+        let blocked = found-from model lawful kind s sound table there true group r.number r.task r.live r.off r.grouped r.told in
+        let unblocked = not-true (list_any (is_found table true group) whole) parts.1 in
+        absurd (cc)))))
+
+  -- where nobody is refused, all are asked
+  all_asked : list_any (λ v. is_some v.blame) (verdicts_of model kind s) ≡ false → verdicts_among model kind s asked ≡ verdicts_of model kind s
+  all_asked admitted =
+      all-kept (λ (v : Verdict). asked v.task.0) (verdicts_of model kind s)
+      (false_from_ne_true (list_any (λ v. not (asked v.task.0)) (verdicts_of model kind s)) (λ left.
+      let j = verdict-is model kind s (λ v. not (asked v.task.0)) left in
+      let bounds = sound.numbered j.number j.task j.live in
+      let refusal = verdict-from model kind s (λ v. is_some v.blame) (record {
+        number = j.number;
+        task = j.task;
+        live = j.live;
+        off = j.off;
+        passed = others.refused j.number j.task j.live j.off (not-true (asked j.number) j.passed);
+      }) bounds.0 bounds.1 in
+      absurd (cc)))
+
+  -- a scan completes the transition where each who is asked is admitted, and all who wait are asked
+  pub completes-among : (completed : Bool) → (completed ≡ true) ↔ ((all_admit (verdicts_among model kind s asked) ≡ true) × (tasks_of (verdicts_among model kind s asked) ≡ tasks_of (verdicts_of model kind s))) → completed ≡ all_admit (verdicts_of model kind s)
+  completes-among completed tells =
+      let part = verdicts_among model kind s asked in
+      let whole = verdicts_of model kind s in
+      same_bool completed (all_admit whole)
+      (λ h.
+      let both = tells.0 h in
+      let long = sym (length-tasks part) ∙ ap length both.1 ∙ length-tasks whole in
+      let same = long-kept (λ (v : Verdict). asked v.task.0) whole long in
+      ap all_admit (sym same) ∙ both.0)
+      (λ h.
+      let parts = and_parts (not (nat_eq (length whole) 0)) (not (list_any (λ v. is_some v.blame) whole)) h in
+      let same = all_asked (not-true (list_any (λ v. is_some v.blame) whole) parts.1) in
+      tells.1 (ap all_admit same ∙ h, ap tasks_of same))
+
+-- ---- Verdicts that are enough
+
+-- a scan may leave out nobody
+pub all-enough : (model : Rules) (kind : CheckKind) (s : State) (vs : List Verdict) → vs ≡ verdicts_of model kind s → AreEnough model kind s vs
+all-enough model kind s vs found = record {
+  asked = λ t. true;
+  others = record {
+    refused = λ t x live off out. absurd (false≢true (sym out));
+    together = λ t u x y live other off away same. refl;
+  };
+  found = found ∙ sym (kept_all (verdicts_of model kind s));
+}
+  where
+    kept_all : (ws : List Verdict) → filter (λ v. true) ws ≡ ws
+    kept_all [] = refl
+    kept_all (w ∷ ws) = ap (λ us. w ∷ us) (kept_all ws)
+
+-- a scan of a kind that the model doesn't use may leave out all
+pub none-enough : (model : Rules) → IsLawful model → (kind : CheckKind) (s : State) → model.uses kind ≡ false → AreEnough model kind s []
+none-enough model lawful kind s unused = record {
+  asked = λ t. false;
+  others = record {
+    refused = λ t x live off out. ap is_some (lawful.blames_unused kind (view_of t x) s.aim unused);
+    together = λ t u x y live other off away same. refl;
+  };
+  found = sym (kept_none (verdicts_of model kind s));
+}
+  where
+    kept_none : (ws : List Verdict) → filter (λ v. false) ws ≡ []
+    kept_none [] = refl
+    kept_none (w ∷ ws) = kept_none ws
+
+-- a scan may look at the members of a set that wait
+pub asked-enough : (model : Rules) (kind : CheckKind) (e old : Engine) (waiting : Numbers) (members : List ℕ) (asked : ℕ → Bool) (views : List TaskView) (vs : List Verdict) → e ≡ old → IsKept e waiting members → MayLeaveOut model kind (state_in old) asked
+    → views ≡ filter_map (λ t. option_map (view_of t) (waiting_slot e.table waiting t)) (passing 0 65536 asked) → vs ≡ map (verdict_of model kind (state_in old).aim) views → AreEnough model kind (state_in old) vs
+asked-enough model kind e old waiting members asked views vs was kept others seen found = record {
+  asked = asked;
+  others = others;
+  found =
+      found
+      ∙ ap (map (verdict_of model kind (state_in old).aim)) (seen ∙ views-asked e waiting members kept asked ∙ ap (λ (o : Engine). filter (λ v. asked v.task) (views_of (state_in o))) was)
+      ∙ sym (filter-map (λ (v : Verdict). asked v.task.0) (verdict_of model kind (state_in old).aim) (views_of (state_in old)));
+}
+
+-- the verdicts of all are of the members of the waiting set
+pub tasks-judged : (model : Rules) (kind : CheckKind) (e : Engine) (waiting : Numbers) (members : List ℕ) → IsKept e waiting members → tasks_of (verdicts_of model kind (state_in e)) ≡ passing 0 65536 (has waiting)
+tasks-judged model kind e waiting members kept =
+    map-map (λ (v : Verdict). v.task.0) (verdict_of model kind (state_in e).aim) (views_of (state_in e)) ∙ tasks-waiting e waiting members kept

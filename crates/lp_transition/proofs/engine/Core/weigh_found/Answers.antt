@@ -1,0 +1,16 @@
+use Rattle.std.proofs.Common.{◌<◌, ap, ◌∙◌, arith}
+use Rattle.lp_transition.specs.Weigh.{Weighed}
+use Rattle.lp_transition.specs.Scan.{scan_event}
+use Rattle.lp_transition.proofs.ScanAnswers.{weighs}
+use Rattle.lp_transition.proofs.Runs.{weighed_reply}
+use Rattle.lp_transition.proofs.engine.Core.weigh_found.Goals as goal
+
+pub returns-clause-weighed : goal.returns-clause-weighed
+returns-clause-weighed g c =
+    let i = c.self.inside in
+    let room : i.events < 1000000 = omega (arith, c.if-self-ge-MOST_EVENTS.false) in
+    let step = rw (c.scan_event.ensures, c.in_ok-what.ensures.what, c.in_ok-copied.ensures.items) at c.scan.ensures in
+    weighs g.M.Consistency.rules g.met.M.Consistency.lawful (record { number = i.events; from = i.from.0; target = i.target.0; patches = i.patches; table = i.tasks }) c.args.self.now i.waiting i.members.items c.args.kind c.args.verdicts.now c.completes.result c.scan.result c.self.view_is c.self.invariant c.requires.scan c.requires.found room c.completes.ensures step
+
+pub returns-clause-reply : goal.returns-clause-reply
+returns-clause-reply g c = weighed_reply g.M.Consistency.rules g.met.M.Consistency.lawful c.args.self.now c.scan.result (scan_event c.args.kind) (returns-clause-weighed g c) (ap (λ (w : Weighed). w.event) c.scan.ensures ∙ c.scan_event.ensures)
