@@ -197,7 +197,7 @@ pub least_waiter : (w : WaitingGroups) (o : Option GroupId) → IsNextFrom (has 
 least_waiter w None next few =
     sym (ap (λ ns. take 1 (map (waiter_in w.reasons) ns)) (passing-next 65536 (has w.groups) 0 None (λ n low high. next n low)))
 least_waiter w (Some g) next few =
-    sym (ap (λ ns. take 1 (map (waiter_in w.reasons) ns)) (passing-next 65536 (has w.groups) 0 (Some g.0) next)
+    sym (ap (λ ns. take 1 (map (waiter_in w.reasons) ns)) (passing-next 65536 (has w.groups) 0 (Some g.0) (few, next))
     ∙ (take_one (waiter_in w.reasons) (passing g.0 65536 (has w.groups))
     ∙ ap (map (waiter_in w.reasons)) (passing_first g.0 65536 (has w.groups) few next.passes)))
 

@@ -1,6 +1,6 @@
 -- The groups that wait, as births, openings and switches come.
 use Rattle.std.proofs.Common.{◌≡◌, ◌≢◌, ℕ, ◌+◌, ◌<◌, ◌≤◌, Bool, true, false, List, [], ◌∷◌, ◌++◌, length, set, Option, Some, None, if◌then◌else◌, nat_eq, refl, sym, ap, ap₂, subst, ◌∙◌, arith, ◌⊎◌, inl, inr, not, ◌&&◌, ◌||◌, is_some}
-use Rattle.std.specs.List.{AllByRecursion, list_any}
+use Rattle.std.specs.List.{AllByRecursion, filter, list_any}
 use Rattle.std.specs.Option.{option_map}
 use Rattle.std.proofs.lemmas.Bool.{false≢true, cases_lt, cond-true, cond-false, eqb-true, eqb-false}
 use Rattle.std.proofs.lemmas.List.{get_or-set_same, get_or-set_other, length-set, get_or_past}
@@ -25,7 +25,8 @@ use Rattle.lp_model.specs.declared.check.Blame.{Blame}
 use Rattle.lp_model.specs.declared.check.Blame.TheVariants as blame
 use Rattle.lp_stack.specs.TaskView.{TaskView}
 use Rattle.lp_transition.specs.Leg.{State}
-use Rattle.lp_transition.specs.Scan.{verdict_of, verdicts_of, views_of}
+use Rattle.lp_transition.specs.Scan.{AreEnough, verdict_of, verdicts_of, views_of}
+use Rattle.lp_model.specs.declared.verdict.Verdict.{Verdict}
 use Rattle.lp_cert.specs.Heads.{IsUsed}
 use Rattle.lp_cert.specs.Waiters.{IsUsedVerdict}
 use Rattle.std.proofs.Common.{IfSome, IsTrue, map}
@@ -255,3 +256,15 @@ used_found model lawful kind aim used (view ∷ views) =
 
 pub used_verdicts : (model : Rules) → IsLawful model → (kind : CheckKind) (s : State) → IsTrue (model.uses kind) → AllByRecursion IsUsedVerdict (verdicts_of model kind s)
 used_verdicts model lawful kind s used = used_found model lawful kind s.aim used (views_of s)
+
+used_filtered : (p : Verdict → Bool) (vs : List Verdict) → AllByRecursion IsUsedVerdict vs → AllByRecursion IsUsedVerdict (filter p vs)
+used_filtered p [] used = tt
+used_filtered p (v ∷ vs) used = by (used_filtered p vs used.1) (p v) refl
+  where
+    by : AllByRecursion IsUsedVerdict (filter p vs) → (b : Bool) → p v ≡ b → AllByRecursion IsUsedVerdict (filter p (v ∷ vs))
+    by rest true e = subst (AllByRecursion IsUsedVerdict) (sym (cond-true (p v) (v ∷ filter p vs) (filter p vs) e)) (used.0, rest)
+    by rest false e = subst (AllByRecursion IsUsedVerdict) (sym (cond-false (p v) (v ∷ filter p vs) (filter p vs) e)) rest
+
+pub used_enough : (model : Rules) → IsLawful model → (kind : CheckKind) (s : State) (vs : List Verdict) → AreEnough model kind s vs → IsTrue (model.uses kind) → AllByRecursion IsUsedVerdict vs
+used_enough model lawful kind s vs enough used =
+    subst (AllByRecursion IsUsedVerdict) (sym enough.found) (used_filtered (λ v. enough.asked v.task.0) (verdicts_of model kind s) (used_verdicts model lawful kind s used))

@@ -18,7 +18,7 @@ use Rattle.lp_transition.specs.Machine.{at_rest, affected, answer, calling, goes
 use Rattle.lp_transition.specs.ScanSteps.{groups_of}
 use Rattle.lp_transition.specs.Steps.{StandsIn}
 use Rattle.lp_transition.specs.Table.{Engine, state_in}
-use Rattle.lp_transition.specs.Weigh.{Weighed, IsWeighed, born_of, refused_by, verdicts_for}
+use Rattle.lp_transition.specs.Weigh.{Weighed, IsWeighed, born_of, refused_by, AreVerdictsFor}
 use Rattle.lp_transition.proofs.Alone.{same-after}
 use Rattle.lp_transition.proofs.EngineLemmas.{answer-refused, answer-accepted, is_quiet, quiet-control, quiet-stays, switched-still}
 use Rattle.lp_transition.proofs.Going.{going-none}
@@ -102,7 +102,7 @@ few e (Wake t) plain = tt
 few e (Enter t) plain = tt
 few e _ plain = cc
 
-no_verdicts : (model : Rules) (s : State) (event : Event) → is_plain event ≡ true → [] ≡ verdicts_for model s event
+no_verdicts : (model : Rules) (s : State) (event : Event) → is_plain event ≡ true → AreVerdictsFor model s event []
 no_verdicts model s (Call t f) plain = refl
 no_verdicts model s (Ret t) plain = refl
 no_verdicts model s (Sleep t) plain = refl

@@ -15,7 +15,7 @@ use Rattle.lp_transition.specs.Leg.{Standing, State, Leg}
 use Rattle.lp_transition.specs.Run.{and_then, opens}
 use Rattle.lp_transition.specs.Sound.{IsSound}
 use Rattle.lp_transition.specs.Machine.{view_of, is_behind, goes_over, affected, outlines_of, state_of, next}
-use Rattle.lp_transition.specs.Scan.{is_scan_kind, scan_event, verdict_of, verdicts_of}
+use Rattle.lp_transition.specs.Scan.{MayLeaveOut, is_scan_kind, scan_event, verdict_of, verdicts_of}
 use Rattle.lp_transition.specs.ScanSteps.{goes_by}
 use Rattle.lp_transition.specs.Table.{Engine, slot, state_in, bounds_of, standings}
 use Rattle.lp_transition.specs.Weigh.{Weighed}
@@ -33,7 +33,7 @@ use Rattle.lp_cert.specs.Settling.{Settling, AreSettledBy, AreSettledSince, AreT
 use Rattle.lp_cert.specs.Steps.{has_frame_in}
 use Rattle.lp_cert.specs.Waiters.{LegReasons, WaitingGroups, AreStanding, head_of, is_lone, lines_at, lines_in}
 use Rattle.lp_cert.proofs.HeadLemmas.{busy_blame}
-use Rattle.lp_cert.proofs.Settling.{OngoingGoesOn, head_goes_on}
+use Rattle.lp_cert.proofs.Settling.{OngoingGoesOn, head_goes_on, left_out_refused, left_out_together}
 use Rattle.lp_cert.proofs.SettlingEvents.{IsNoUsedScan, settled_by}
 use Rattle.lp_cert.proofs.SettlingScans.{scan_settles, after_scan_is}
 
@@ -43,6 +43,13 @@ some_none a e = absurd (cc)
 -- nobody is said to be settled where there was no scan
 pub none_settled : (model : Rules) (s : State) (ls : ℕ → List Line) (settling : Settling) → settling.kind ≡ None → AreSettledBy model s ls settling
 none_settled model s ls settling none = subst (λ (o : Option CheckKind). AreSettledSince model s ls o (has settling.unsettled)) (sym none) tt
+
+-- who is settled may be left out
+pub may_leave_out : (model : Rules) (s : State) (ls : ℕ → List Line) (on : CheckKind) (unsettled : ℕ → Bool) → AreSettled model s ls on unsettled → MayLeaveOut model on s unsettled
+may_leave_out model s ls on unsettled settled = record {
+  refused = left_out_refused model s ls on unsettled settled;
+  together = left_out_together model s ls on unsettled settled;
+}
 
 -- ---- Which events are scans that the model uses
 

@@ -24,7 +24,7 @@ use Rattle.lp_transition.specs.Scan.{verdicts_of}
 use Rattle.lp_transition.specs.ScanSteps.{goes_by, groups_of}
 use Rattle.lp_transition.specs.Machine.{is_behind, goes_over, affected, next, told, state_of, refusal_of, calling, returning, put_in}
 use Rattle.lp_transition.specs.Table.{Engine, slot, fate_at, state_in}
-use Rattle.lp_transition.specs.Weigh.{Weighed, IsWeighed, verdicts_for, is_fork, refused_by}
+use Rattle.lp_transition.specs.Weigh.{Weighed, IsWeighed, is_fork, refused_by}
 use Rattle.lp_stack.specs.declared.view.Mode.TheVariants.{User, Kernel, Asleep}
 use Rattle.lp_transition.proofs.Accept.{fork-live, fork-new, fork-positive, fork-within, die-live}
 use Rattle.lp_transition.proofs.EngineLemmas.{and-false, answer-accepted, next-accepted, next-refused}
@@ -44,6 +44,12 @@ use Rattle.lp_cert.proofs.OtherEvents.{lines_at_refused, lines_at_others}
 use Rattle.lp_cert.proofs.Behind.{and_true, behind_after, none_refused, told_over, same_own, others, changed_own, scan_own}
 use Rattle.lp_cert.proofs.ScanTold.{scan_told}
 use Rattle.lp_cert.proofs.BehindTasks.{fork_lines, die_lines}
+
+-- what a scan finds of all waiting tasks
+abbrev all_for : Rules → State → Event → List Verdict
+all_for model s Walk = verdicts_of model kind.Walk s
+all_for model s Stop = verdicts_of model kind.Stop s
+all_for model s _ = []
 
 module _ (model : Rules) (lawful : IsLawful model) (e : Engine) (sound : IsSound (state_in e)) (leg : Leg) (leg_sound : IsSound leg.opening) (there : state_in e ≡ state_of model leg)
     (waiters : WaitingGroups) (is : (g : ℕ) → g < 65536 → lines_at waiters g ≡ (if is_behind (state_in e) g then Some (lines model leg (length leg.events) g) else None)) where
@@ -95,7 +101,7 @@ module _ (model : Rules) (lawful : IsLawful model) (e : Engine) (sound : IsSound
   change_own event t f g below levels groups changed scan fork = changed_own model lawful e sound leg leg_sound there g (old g) (is g below) event t f levels groups changed scan fork
 
   own_step : (event : Event) (g : ℕ) → g < 65536 → IsFew event → refusal_of model s event ≡ None → is_control event ≡ false → goes_over model (affected model s event) event g ≡ false
-      → IsOwn event g (own_lines model e event (verdicts_for model s event) old g)
+      → IsOwn event g (own_lines model e event (all_for model s event) old g)
   own_step (Call t f) g below few ok plain stays = change_own (Call t f) t.0 (calling (suc e.number) f) g below (λ x. refl) (λ x. refl) refl refl refl
   own_step (Ret t) g below few ok plain stays = change_own (Ret t) t.0 returning g below (λ x. refl) (λ x. refl) refl refl refl
   own_step (Sleep t) g below few ok plain stays = change_own (Sleep t) t.0 (put_in Asleep) g below (λ x. refl) (λ x. refl) refl refl refl
@@ -252,7 +258,7 @@ module _ (model : Rules) (lawful : IsLawful model) (e : Engine) (sound : IsSound
             ap (λ o. noted_by model e o event vs waiters g) kind_is ∙ own_any event vs (verdicts_of model on s) g (is_used ∙ kind_is)
 
     noted_is : (event : Event) (vs : List Verdict) → AreThoseOf model s (used_scan model event) vs settling → (IsSome (used_scan model event) → AreStanding waiters) → goes_over model (affected model s event) event g ≡ false
-        → noted_lines model e event vs waiters g ≡ own_lines model e event (verdicts_for model s event) old g
+        → noted_lines model e event vs waiters g ≡ own_lines model e event (all_for model s event) old g
     noted_is Walk vs told stand stays =
         noted_scan kind.Walk vs told stand (sym (goes-walk model lawful 65536 s refl sound e.table (λ t x live. slot_from_live e.table t x live) g) ∙ stays) Walk (λ ws. refl) refl
     noted_is Stop vs told stand stays =

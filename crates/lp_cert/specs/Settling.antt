@@ -1,6 +1,6 @@
 -- What is kept of the tasks that a scan needn't look at again.
 use Rattle.std.specs.Prelude.{◌≡◌, ◌⊎◌, ℕ, Bool, true, false, ◌&&◌, ◌||◌, List, nat_eq, nat_lt, Option, Some, None, is_some, if◌then◌else◌}
-use Rattle.std.specs.List.{filter, list_any}
+use Rattle.std.specs.List.{list_any}
 use Rattle.lp_numbers.specs.Numbers.{Numbers, has}
 use Rattle.lp_model.specs.Rules.{Rules}
 use Rattle.lp_model.specs.declared.check.Blame.{Blame}
@@ -10,7 +10,7 @@ use Rattle.lp_model.specs.declared.verdict.Verdict.{Verdict}
 use Rattle.lp_transition.specs.declared.event.Event.{Event}
 use Rattle.lp_transition.specs.declared.event.Event.TheVariants.{Walk, Stop}
 use Rattle.lp_transition.specs.Leg.{Standing, State}
-use Rattle.lp_transition.specs.Scan.{verdicts_of}
+use Rattle.lp_transition.specs.Scan.{verdicts_among, verdicts_of}
 use Rattle.lp_transition.specs.Table.{Engine, slot, state_in}
 use Rattle.lp_transition.specs.Weigh.{Weighed, refused_by}
 use Rattle.lp_cert.specs.declared.line.Line.{Line}
@@ -40,7 +40,7 @@ abbrev pub AreThoseOf : Rules → State → Option CheckKind → List Verdict �
 AreThoseOf model s None verdicts settling = Unit {0}
 AreThoseOf model s (Some kind) verdicts settling =
     (verdicts ≡ verdicts_of model kind s)
-    ⊎ ((settling.kind ≡ Some kind) × (verdicts ≡ filter (λ v. has settling.unsettled v.task.0) (verdicts_of model kind s)))
+    ⊎ ((settling.kind ≡ Some kind) × (verdicts ≡ verdicts_among model kind s (has settling.unsettled)))
 
 -- ---- By the verdicts of a scan
 

@@ -1,10 +1,12 @@
 //! The maker of certificates.
-ghost use Rattle.std.specs.Prelude.{◌≡◌, ◌+◌, ◌-◌, ◌<◌, [], ◌∷◌, ◌++◌, true, Some, None, length, vec_len, vec_capacity, option_to_list, IfOk, OnOk};
+ghost use Rattle.std.specs.Prelude.{◌≡◌, ◌+◌, ◌-◌, ◌<◌, [], ◌∷◌, ◌++◌, true, Some, None, Err, IsTrue, ◌↔◌, ◌≤◌, length, vec_len, vec_capacity, option_to_list, IfOk, OnOk};
 ghost use Rattle.lp_transition.specs.Events.{is_control};
 ghost use Rattle.lp_transition.specs.Run.{Run, new_target, plus};
 ghost use Rattle.lp_transition.specs.Steps.{StandsIn};
 ghost use Rattle.lp_transition.specs.Table.{state_in};
-ghost use Rattle.lp_transition.specs.Weigh.{IsWeighed};
+ghost use Rattle.lp_transition.specs.Weigh.{IsWeighed, may_want_memory};
+ghost use Rattle.lp_transition.specs.Machine.{answer};
+ghost use Rattle.lp_transition.specs.declared.engine.step.Halt.TheVariants.{NoMemory, JournalFull};
 ghost use Rattle.lp_cert.specs.Ends.{IsFresh, IsMadeOf, floor_in, is_plain, waiting_in};
 ghost use Rattle.lp_cert.specs.Settling.{Suffices};
 ghost use Rattle.lp_cert.specs.Kept.{HasFloor, HasFloors, IsGoneOn, IsSettledOn, current_waiters, end_waiters, ends_with, is_opening, leg_at, waiting_cert};
@@ -21,9 +23,9 @@ use crate::leg_end::LegEnd;
 use crate::open_leg::{Completion, OpenLeg};
 use crate::settled::Settled;
 use crate::waiters::Waiters;
-use lp_model::Consistency;
+use lp_model::{CheckKind, Consistency};
 use lp_stack::GroupId;
-use lp_transition::{Core, Event, Step, What};
+use lp_transition::{Core, Event, Halt, Step, What};
 use std::alloc::{AllocError, Global};
 use std::marker::Model;
 
@@ -92,6 +94,33 @@ impl Maker {
             noted: 0,
             ready: None,
         })
+    }
+
+    /// An event, weighed on the engine of which all is noted here; a walk or a stop after a look at those
+    /// waiting tasks alone to which something happened since a scan of its kind refused them. NoMemory
+    /// where a growth was refused, JournalFull where no event is left.
+    pub fn weigh<M: Consistency>(
+        &self,
+        alloc: Global,
+        core: &Core<M>,
+        event: Event,
+    ) -> Result<Step, Halt>
+        requires made { (run : Run) × StandsIn M.rules run (state_in core.now) × IsMadeOf M.rules run self.now }
+        ensures full { (result ≡ Err JournalFull) ↔ (1000000 ≤ core.now.number) }
+        ensures memory { result ≡ Err NoMemory → IsTrue (may_want_memory event (answer M.rules (state_in core.now) event).what) }
+        ensures weighed { IfOk result (λ step. IsWeighed M.rules core.now step) }
+        ensures event { IfOk result (λ step. step.event ≡ event) }
+        ensures suffices { IfOk result (λ step. Suffices M.rules (state_in core.now) step self.now.settling) }
+    {
+        let kind = match event {
+            Event::Walk => CheckKind::Walk,
+            Event::Stop => CheckKind::Stop,
+            _ => return core.weigh_any(alloc, event),
+        };
+        match self.settled.asked(kind) {
+            Some(asked) => core.weigh_asked(alloc, kind, asked),
+            None => core.weigh_any(alloc, event),
+        }
     }
 
     /// Makes room for an event that was weighed on the engine, which takes all the memory that

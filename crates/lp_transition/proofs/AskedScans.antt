@@ -225,16 +225,21 @@ none-enough model lawful kind s unused = record {
     kept_none [] = refl
     kept_none (w ∷ ws) = kept_none ws
 
--- a scan may look at the members of a set that wait
+-- what a scan finds of the members of a set that wait
+pub asked-among : (model : Rules) (kind : CheckKind) (e old : Engine) (waiting : Numbers) (members : List ℕ) (asked : ℕ → Bool) (views : List TaskView) (vs : List Verdict) → e ≡ old → IsKept e waiting members
+    → views ≡ filter_map (λ t. option_map (view_of t) (waiting_slot e.table waiting t)) (passing 0 65536 asked) → vs ≡ map (verdict_of model kind (state_in old).aim) views → vs ≡ verdicts_among model kind (state_in old) asked
+asked-among model kind e old waiting members asked views vs was kept seen found =
+    found
+    ∙ ap (map (verdict_of model kind (state_in old).aim)) (seen ∙ views-asked e waiting members kept asked ∙ ap (λ (o : Engine). filter (λ v. asked v.task) (views_of (state_in o))) was)
+    ∙ sym (filter-map (λ (v : Verdict). asked v.task.0) (verdict_of model kind (state_in old).aim) (views_of (state_in old)))
+
+-- a scan may look at these alone
 pub asked-enough : (model : Rules) (kind : CheckKind) (e old : Engine) (waiting : Numbers) (members : List ℕ) (asked : ℕ → Bool) (views : List TaskView) (vs : List Verdict) → e ≡ old → IsKept e waiting members → MayLeaveOut model kind (state_in old) asked
     → views ≡ filter_map (λ t. option_map (view_of t) (waiting_slot e.table waiting t)) (passing 0 65536 asked) → vs ≡ map (verdict_of model kind (state_in old).aim) views → AreEnough model kind (state_in old) vs
 asked-enough model kind e old waiting members asked views vs was kept others seen found = record {
   asked = asked;
   others = others;
-  found =
-      found
-      ∙ ap (map (verdict_of model kind (state_in old).aim)) (seen ∙ views-asked e waiting members kept asked ∙ ap (λ (o : Engine). filter (λ v. asked v.task) (views_of (state_in o))) was)
-      ∙ sym (filter-map (λ (v : Verdict). asked v.task.0) (verdict_of model kind (state_in old).aim) (views_of (state_in old)));
+  found = asked-among model kind e old waiting members asked views vs was kept seen found;
 }
 
 -- the verdicts of all are of the members of the waiting set

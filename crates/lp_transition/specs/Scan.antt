@@ -1,5 +1,5 @@
 -- Scans, which look at the stacks of all waiting tasks: what they look at, and what they find.
-use Rattle.std.specs.Prelude.{◌≡◌, ℕ, ◌-◌, Bool, true, false, List, map, Option, Some, None, is_some, if◌then◌else◌, nat_eq}
+use Rattle.std.specs.Prelude.{◌≡◌, ℕ, ◌-◌, Bool, true, false, List, [], map, Option, Some, None, is_some, if◌then◌else◌, nat_eq}
 use Rattle.std.specs.List.{filter, filter_map, range_with_len}
 use Rattle.lp_stack.specs.TaskView.{TaskView}
 use Rattle.lp_patch.specs.Patches.{Goal}
@@ -59,6 +59,10 @@ pub record MayLeaveOut (model : Rules) (kind : CheckKind) (s : State) (asked : �
 -- what a scan finds of the waiting tasks that pass a test, by increasing number
 abbrev pub verdicts_among : Rules → CheckKind → State → (ℕ → Bool) → List Verdict
 verdicts_among model kind s asked = filter (λ v. asked v.task.0) (verdicts_of model kind s)
+
+-- what a scan finds that leaves out nobody whom it has to ask: of a kind that the model uses, that of all waiting tasks
+abbrev pub verdicts_used : Rules → CheckKind → State → List Verdict
+verdicts_used model kind s = if model.uses kind then verdicts_of model kind s else []
 
 -- these verdicts are enough to answer a scan: they are of some of the waiting tasks, and the others may be left out
 pub record AreEnough (model : Rules) (kind : CheckKind) (s : State) (verdicts : List Verdict) : Type 0 where

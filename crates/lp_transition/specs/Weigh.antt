@@ -12,7 +12,7 @@ use Rattle.lp_transition.specs.declared.reply.Reply.{Reply}
 use Rattle.lp_transition.specs.Tasks.{Fate, Live, Grouping}
 use Rattle.lp_transition.specs.Leg.{Standing, State}
 use Rattle.lp_transition.specs.Machine.{bearing, refusal_of, answer}
-use Rattle.lp_transition.specs.Scan.{verdicts_of, AreEnough}
+use Rattle.lp_transition.specs.Scan.{verdicts_used, AreEnough}
 use Rattle.lp_transition.specs.Table.{Engine, state_in}
 
 -- an event with its answer, the verdicts that it was answered by, and the child that it brings
@@ -34,10 +34,11 @@ born_by grouping _ event now = None
 abbrev pub born_of : Rules → State → Event → Option Standing
 born_of model s event = born_by model.child_group (refusal_of model s event) event s.tasks
 
--- all verdicts that an event can be answered by: of a scan, what it finds of the waiting tasks
+-- the verdicts that an event is answered by where no waiting task is left out: of a scan that the model uses, what it finds
+-- of them
 abbrev pub verdicts_for : Rules → State → Event → List Verdict
-verdicts_for model s Walk = verdicts_of model check.Walk s
-verdicts_for model s Stop = verdicts_of model check.Stop s
+verdicts_for model s Walk = verdicts_used model check.Walk s
+verdicts_for model s Stop = verdicts_used model check.Stop s
 verdicts_for model s _ = []
 
 -- an event may be answered by these verdicts: a scan by enough of them, and any other event by none

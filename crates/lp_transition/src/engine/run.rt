@@ -5,10 +5,10 @@ ghost use Rattle.lp_stack.specs.TaskView.{seen};
 ghost use Rattle.lp_patch.specs.Aimed.{aimed};
 ghost use Rattle.lp_transition.specs.declared.engine.step.Halt.TheVariants.{NoMemory, JournalFull};
 ghost use Rattle.lp_transition.specs.Events.{is_scan};
-ghost use Rattle.lp_transition.specs.Scan.{is_scan_kind, scan_event, verdict_of, verdicts_of};
+ghost use Rattle.lp_transition.specs.Scan.{is_scan_kind, scan_event, verdict_of, verdicts_of, verdicts_used};
 ghost use Rattle.lp_transition.specs.Steps.{IsStep};
 ghost use Rattle.lp_transition.specs.Table.{state_in};
-ghost use Rattle.lp_transition.specs.Weigh.{IsWeighed, born_of, is_switched, may_want_memory, refused_by};
+ghost use Rattle.lp_transition.specs.Weigh.{IsWeighed, born_of, is_switched, may_want_memory, refused_by, verdicts_for};
 ghost use Rattle.lp_transition.specs.Machine.{refusal_of, answer, next};
 
 use super::live_task::LiveTask;
@@ -111,6 +111,7 @@ impl<M: Consistency> Core<M> {
         ensures memory { result ≡ Err NoMemory → IsTrue (may_want_memory event (answer M.rules (state_in self.now) event).what) }
         ensures weighed { IfOk result (λ step. IsWeighed M.rules self.now step) }
         ensures event { IfOk result (λ step. step.event ≡ event) }
+        ensures verdicts { IfOk result (λ step. step.verdicts ≡ verdicts_for M.rules (state_in self.now) event) }
     {
         match event {
             Event::Walk => self.weigh_check(alloc, CheckKind::Walk),
@@ -126,6 +127,7 @@ impl<M: Consistency> Core<M> {
         ensures full { (result ≡ Err JournalFull) ↔ (1000000 ≤ self.now.number) }
         ensures weighed { IfOk result (λ step. IsWeighed M.rules self.now step) }
         ensures event { IfOk result (λ step. step.event ≡ scan_event kind) }
+        ensures verdicts { IfOk result (λ step. step.verdicts ≡ verdicts_used M.rules kind (state_in self.now)) }
     {
         if self.events >= MOST_EVENTS {
             return Err(Halt::JournalFull);

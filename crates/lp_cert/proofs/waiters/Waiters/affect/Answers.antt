@@ -1,23 +1,24 @@
-use Rattle.std.proofs.Common.{List, sym, ap, subst, ◌∙◌}
+use Rattle.std.proofs.Common.{List, sym, subst, ◌∙◌}
 use Rattle.std.specs.List.{AllByRecursion}
 use Rattle.lp_model.specs.declared.verdict.Verdict.{Verdict}
 use Rattle.lp_model.specs.declared.check.CheckKind.TheVariants as kind
+use Rattle.lp_transition.specs.declared.event.Event.{Event}
 use Rattle.lp_transition.specs.Table.{state_in}
-use Rattle.lp_transition.specs.Weigh.{verdicts_for}
+use Rattle.lp_transition.specs.Weigh.{AreVerdictsFor}
 use Rattle.lp_cert.specs.Waiters.{IsUsedVerdict}
-use Rattle.lp_cert.proofs.MoreWaiters.{used_verdicts}
+use Rattle.lp_cert.proofs.MoreWaiters.{used_enough}
 use Rattle.lp_cert.proofs.waiters.Waiters.affect.Goals as goal
 
 pub scan_of-requires-clause-used : goal.scan_of-requires-clause-used
 scan_of-requires-clause-used g c = λ used.
     let model = g.M.Consistency.rules in
     let s = state_in c.args.core.now in
-    let found = c.verdicts.ensures ∙ (c.requires.weighed.verdicts ∙ ap (verdicts_for model s) (sym c.event.ensures ∙ c.in-Walk.is)) in
-    subst (λ (vs : List Verdict). AllByRecursion IsUsedVerdict vs) (sym found) (used_verdicts model g.met.M.Consistency.lawful kind.Walk s used)
+    let enough = subst (λ (event : Event). AreVerdictsFor model s event c.args.step.now.verdicts) (sym c.event.ensures ∙ c.in-Walk.is) c.requires.weighed.verdicts in
+    subst (λ (vs : List Verdict). AllByRecursion IsUsedVerdict vs) (sym c.verdicts.ensures) (used_enough model g.met.M.Consistency.lawful kind.Walk s c.args.step.now.verdicts enough used)
 
 pub scan_of-requires-in-Stop-clause-used : goal.scan_of-requires-in-Stop-clause-used
 scan_of-requires-in-Stop-clause-used g c = λ used.
     let model = g.M.Consistency.rules in
     let s = state_in c.args.core.now in
-    let found = c.verdicts-in-Stop.ensures ∙ (c.requires.weighed.verdicts ∙ ap (verdicts_for model s) (sym c.event.ensures ∙ c.in-Stop.is)) in
-    subst (λ (vs : List Verdict). AllByRecursion IsUsedVerdict vs) (sym found) (used_verdicts model g.met.M.Consistency.lawful kind.Stop s used)
+    let enough = subst (λ (event : Event). AreVerdictsFor model s event c.args.step.now.verdicts) (sym c.event.ensures ∙ c.in-Stop.is) c.requires.weighed.verdicts in
+    subst (λ (vs : List Verdict). AllByRecursion IsUsedVerdict vs) (sym c.verdicts-in-Stop.ensures) (used_enough model g.met.M.Consistency.lawful kind.Stop s c.args.step.now.verdicts enough used)

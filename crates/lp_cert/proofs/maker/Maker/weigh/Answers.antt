@@ -1,0 +1,25 @@
+use Rattle.std.proofs.Common.{length, Option, sym, subst}
+use Rattle.lp_numbers.specs.Numbers.{Numbers, has}
+use Rattle.lp_model.specs.declared.check.CheckKind.{CheckKind}
+use Rattle.lp_transition.specs.Leg.{State}
+use Rattle.lp_transition.specs.Run.{leg_of}
+use Rattle.lp_transition.specs.Scan.{MayLeaveOut}
+use Rattle.lp_transition.specs.Table.{state_in}
+use Rattle.lp_cert.specs.Ends.{Made}
+use Rattle.lp_cert.specs.Made.{lines}
+use Rattle.lp_cert.specs.Settling.{AreSettledBy, AreSettledSince}
+use Rattle.lp_cert.proofs.SettledSteps.{may_leave_out}
+use Rattle.lp_cert.proofs.maker.Maker.weigh.Goals as goal
+
+pub weigh_asked-requires-clause-others : goal.weigh_asked-requires-clause-others
+weigh_asked-requires-clause-others g c =
+    let model = g.M.Consistency.rules in
+    let run = c.requires.made.0 in
+    let is = c.requires.made.2 in
+    let leg = leg_of model run in
+    let s = state_in c.args.core.now in
+    let settling = c.self.inside.settled in
+    let settled : AreSettledBy model s (lines model leg (length leg.events)) settling =
+    subst (λ (st : State). AreSettledBy model st (lines model leg (length leg.events)) settling) (sym c.requires.made.1.there) (rw (← c.self.view_is) at is.settled) in
+    let since = subst (λ (o : Option CheckKind). AreSettledSince model s (lines model leg (length leg.events)) o (has settling.unsettled)) c.in-Some.ensures.0 settled in
+    subst (λ (asked : Numbers). MayLeaveOut model c.match-event.kind s (has asked)) (sym c.in-Some.ensures.1) (may_leave_out model s (lines model leg (length leg.events)) c.match-event.kind (has settling.unsettled) since)
