@@ -14,7 +14,7 @@ use Rattle.lp_transition.specs.Steps.{StandsIn, IsStep}
 use Rattle.lp_transition.specs.Table.{Engine, state_in}
 use Rattle.lp_stays.specs.Kept.{Counted}
 use Rattle.lp_stays.specs.Counts.{Counts}
-use Rattle.lp_cert.specs.Ends.{Made, IsMadeOf}
+use Rattle.lp_cert.specs.Ends.{Made, IsFresh, IsMadeOf}
 use Rattle.lp_cert.proofs.Tellings.{begins}
 use Rattle.lp_trace.specs.Replay.{Recorded, is_refused, is_opened, IsRecorded}
 
@@ -96,13 +96,12 @@ module _ (model : Rules) where
       }
 
   -- a run before its first event
-  pub none_recorded : (run : Run) (core : Engine) (count : Counted) → run.events ≡ [] → StandsIn model run (state_in core) → Counts model run count
-      → IsRecorded model run (record { core = core; made = record { ended = []; current = None; ready = None }; replies = []; stays = count })
+  pub none_recorded : (run : Run) (kept : Recorded) → IsFresh kept.made → kept.replies ≡ [] → run.events ≡ [] → StandsIn model run (state_in kept.core) → Counts model run kept.stays → IsRecorded model run kept
   unfolding replies
-  none_recorded run core count none stands counts =
+  none_recorded run kept fresh empty none stands counts =
       record {
         stands = stands;
-        made = begins model run none;
-        replied = sym (ap (replies model (first_leg model run)) none);
+        made = begins model run kept.made none fresh;
+        replied = empty ∙ sym (ap (replies model (first_leg model run)) none);
         counts = counts;
       }

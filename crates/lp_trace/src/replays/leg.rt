@@ -6,13 +6,13 @@ ghost use Rattle.lp_transition.specs.Run.{Run, leg_of, opens, plus};
 ghost use Rattle.lp_transition.specs.Steps.{StandsIn};
 ghost use Rattle.lp_transition.specs.Table.{state_in};
 ghost use Rattle.lp_trace.specs.Answer.{leg_numbered, opened_by, to_end};
+ghost use Rattle.lp_trace.specs.Replay.{is_opened};
 
 use super::fault::ReplayFault;
-use super::recorder::opens;
 use super::start;
 use crate::trace::Trace;
 use lp_model::Consistency;
-use lp_transition::{Core, Event, Halt, Opening};
+use lp_transition::{Core, Event, Halt, Opening, What};
 use std::alloc::Global;
 
 /// A leg of a trace.
@@ -115,4 +115,12 @@ fn to_end<M: Consistency>(
         }
     }
     Ok(events.len())
+}
+
+/// Whether an event opened a leg: it is a control event, and was accepted.
+#[inline(always)]
+fn opens(event: Event, what: &What) -> bool
+    ensures { result ≡ is_opened event what.now }
+{
+    event.is_control() && !matches!(what, What::Refused(_))
 }

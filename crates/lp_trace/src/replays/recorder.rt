@@ -1,13 +1,13 @@
 //! What a run comes to, event by event.
-ghost use Rattle.std.specs.Prelude.{◌≡◌, ◌<◌, [], None, IfOk, OnOk};
+ghost use Rattle.std.specs.Prelude.{◌≡◌, ◌<◌, [], IfOk, OnOk};
 ghost use Rattle.lp_transition.specs.Run.{Run, leg_of, plus};
 ghost use Rattle.lp_stack.specs.declared.number.TaskId.{TaskId};
 ghost use Rattle.lp_stays.specs.Counts.{top_of};
 ghost use Rattle.lp_transition.specs.Stays.{stack};
 ghost use Rattle.lp_transition.specs.Steps.{IsStep, StandsIn};
 ghost use Rattle.lp_transition.specs.Table.{state_in};
-ghost use Rattle.lp_cert.specs.Ends.{IsMadeOf, is_plain};
-ghost use Rattle.lp_trace.specs.Replay.{IsRecorded, IsOutcome, is_opened};
+ghost use Rattle.lp_cert.specs.Ends.{IsFresh, IsMadeOf, is_plain};
+ghost use Rattle.lp_trace.specs.Replay.{IsRecorded, IsOutcome};
 
 use super::fault::ReplayFault;
 use crate::leg_end::LegList;
@@ -17,7 +17,7 @@ use lp_cert::Maker;
 use lp_model::Consistency;
 use lp_stays::StayCount;
 use lp_symbols::SymId;
-use lp_transition::{Core, Event, Halt, Reply, What};
+use lp_transition::{Core, Event, Halt, Reply};
 use std::alloc::Global;
 use std::marker::Model;
 
@@ -46,7 +46,10 @@ impl<M: Consistency> Recorder<M> {
         stays: StayCount,
         events: usize,
     ) -> Result<Recorder<M>, ReplayFault>
-        ensures { IfOk result (λ recorder. recorder ≡ record { core = core; made = record { ended = []; current = None; ready = None }; replies = []; stays = stays }) }
+        ensures core { IfOk result (λ recorder. recorder.core ≡ core) }
+        ensures made { IfOk result (λ recorder. IsFresh recorder.made) }
+        ensures replies { IfOk result (λ recorder. recorder.replies ≡ []) }
+        ensures stays { IfOk result (λ recorder. recorder.stays ≡ stays) }
     {
         Ok(Recorder {
             core,
@@ -61,6 +64,7 @@ impl<M: Consistency> Recorder<M> {
     pub(super) fn event(&mut self, alloc: Global, event: Event) -> Result<(), ReplayFault>
         requires numbered { self.old.core.number < 1000000 }
         requires noted { self.old.stays.noted < 1000000 }
+        requires recorded { (run : Run) × IsRecorded M.rules run self.old }
         ensures { OnOk result ((run : Run) → IsRecorded M.rules run self.old → IsRecorded M.rules (plus run event) self.new) }
     {
         let top = last_function(&self.core, event);
@@ -89,14 +93,6 @@ impl<M: Consistency> Recorder<M> {
     }
 }
 
-/// Whether an event opened a leg: it is a control event, and was accepted.
-#[inline(always)]
-pub(super) fn opens(event: Event, what: &What) -> bool
-    ensures { result ≡ is_opened event what.now }
-{
-    event.is_control() && !matches!(what, What::Refused(_))
-}
-
 /// Takes an event, which the maker of certificates notes before the engine takes it.
 #[inline(always)]
 fn take<M: Consistency>(
@@ -105,7 +101,8 @@ fn take<M: Consistency>(
     maker: &mut Maker,
     event: Event,
 ) -> Result<Reply, ReplayFault>
-    requires { core.old.number < 1000000 }
+    requires room { core.old.number < 1000000 }
+    requires made { (run : Run) × StandsIn M.rules run (state_in core.old) × IsMadeOf M.rules run maker.old }
     ensures step { IfOk result (λ reply. IsStep M.rules (state_in core.old) event reply (state_in core.new)) }
     ensures made { OnOk result ((run : Run) → StandsIn M.rules run (state_in core.old) → IsMadeOf M.rules run maker.old → IsMadeOf M.rules (plus run event) maker.new) }
 {
@@ -120,7 +117,8 @@ fn take<M: Consistency>(
     }
 }
 
-/// Takes an event of any kind: it is weighed, and noted as it was weighed.
+/// Takes an event of any kind: it is weighed, a scan by those alone that have to be asked, and noted
+/// as it was weighed.
 #[inline(never)]
 fn take_weighed<M: Consistency>(
     alloc: Global,
@@ -128,11 +126,12 @@ fn take_weighed<M: Consistency>(
     maker: &mut Maker,
     event: Event,
 ) -> Result<Reply, ReplayFault>
-    requires { core.old.number < 1000000 }
+    requires room { core.old.number < 1000000 }
+    requires made { (run : Run) × StandsIn M.rules run (state_in core.old) × IsMadeOf M.rules run maker.old }
     ensures step { IfOk result (λ reply. IsStep M.rules (state_in core.old) event reply (state_in core.new)) }
     ensures made { OnOk result ((run : Run) → StandsIn M.rules run (state_in core.old) → IsMadeOf M.rules run maker.old → IsMadeOf M.rules (plus run event) maker.new) }
 {
-    let step = match core.weigh_any(alloc, event) {
+    let step = match maker.weigh(alloc, core, event) {
         Ok(step) => step,
         Err(Halt::NoMemory) => return Err(ReplayFault::NoMemory),
         Err(Halt::JournalFull) => unreachable!(),

@@ -3,6 +3,9 @@ use Rattle.std.proofs.lemmas.List.{length-take-le, take_all}
 use Rattle.lp_transition.specs.declared.event.Event.{Event}
 use Rattle.lp_transition.specs.Run.{Run, first_leg, replies}
 use Rattle.lp_transition.specs.Stays.{mixed_count, stay_count}
+use Rattle.lp_transition.specs.Steps.{StandsIn}
+use Rattle.lp_transition.specs.Table.{Engine, state_in}
+use Rattle.lp_stays.specs.Counts.{Counts}
 use Rattle.lp_transition.proofs.LawProofs.{mixes_no_stay}
 use Rattle.lp_trace.specs.declared.outcome.Outcome.{Outcome}
 use Rattle.lp_trace.specs.Headline.{Headline, whole_run}
@@ -18,7 +21,10 @@ pub loop-event-init : goal.loop-event-init
 loop-event-init g c =
     let model = g.M.Consistency.rules in
     let run = run_of c.args.trace.now in
-    subst (IsRecorded model run) (sym c.in_ok-recorder.ensures) (none_recorded model run c.in_ok-core.core c.in_ok-stays.stays refl c.in_ok-core.ensures (c.in_ok-stays.ensures.first model run (sym c.in_ok-patches.ensures) refl refl))
+    let started = c.in_ok-recorder.ensures in
+    none_recorded model run c.in_ok-recorder.recorder started.made started.replies refl
+    (subst (λ (core : Engine). StandsIn model run (state_in core)) (sym started.core) c.in_ok-core.ensures)
+    (subst (Counts model run) (sym started.stays) (c.in_ok-stays.ensures.first model run (sym c.in_ok-patches.ensures) refl refl))
 
 pub event-requires : goal.event-requires
 event-requires g c =
@@ -28,7 +34,7 @@ event-requires g c =
     let noted = c.loop-event.invariant.counts.noted in
     let few : length c.as_slice-event-items.result.now ≤ 1000000 = subst (λ (es : List Event). length es ≤ 1000000) (sym c.as_slice-event-items.ensures.value) c.trace.invariant.events_few in
     let taken = length-take-le c.loop-event.event-index c.as_slice-event-items.result.now (omega arith) in
-    record { numbered = omega (arith, numbered, few, taken); noted = omega (arith, noted, few, taken) }
+    record { numbered = omega (arith, numbered, few, taken); noted = omega (arith, noted, few, taken); recorded = (run, c.loop-event.invariant) }
 
 pub loop-event-preserved : goal.loop-event-preserved
 loop-event-preserved g c =
