@@ -7,6 +7,9 @@ ghost use Rattle.lp_transition.specs.Scan.{is_scan_kind, scan_event, MayLeaveOut
 ghost use Rattle.lp_transition.specs.ScanSteps.{tasks_of};
 ghost use Rattle.lp_transition.specs.declared.engine.step.Halt.TheVariants.{JournalFull};
 
+#[cfg(test)]
+mod tests;
+
 use super::run::verdicts;
 use super::scan::{member_from, views_in};
 use super::step::{Halt, Step};
