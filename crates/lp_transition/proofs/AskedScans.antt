@@ -15,8 +15,8 @@ use Rattle.lp_transition.specs.Machine.{view_of}
 use Rattle.lp_transition.specs.Table.{Table, Engine, slot, state_in, is_in}
 use Rattle.lp_transition.specs.Kept.{IsKept}
 use Rattle.lp_transition.specs.Scan.{views_of, verdict_of, verdicts_of, MayLeaveOut, verdicts_among, AreEnough, passing}
-use Rattle.lp_transition.specs.ScanSteps.{waiting_slot, tasks_of, is_found, goes_by, all_admit}
-use Rattle.lp_transition.proofs.ScanLists.{verdict-is, verdict-from}
+use Rattle.lp_transition.specs.ScanSteps.{waiting_slot, tasks_of, is_judged, is_found, goes_by, all_admit}
+use Rattle.lp_transition.proofs.ScanLists.{any-map, verdict-is, verdict-from}
 use Rattle.lp_transition.proofs.ScanGroups.{same_bool, found-from, found-is}
 use Rattle.lp_transition.proofs.ScanLemmas.{views-asked, tasks-waiting}
 
@@ -246,3 +246,37 @@ asked-enough model kind e old waiting members asked views vs was kept others see
 pub tasks-judged : (model : Rules) (kind : CheckKind) (e : Engine) (waiting : Numbers) (members : List ℕ) → IsKept e waiting members → tasks_of (verdicts_of model kind (state_in e)) ≡ passing 0 65536 (has waiting)
 tasks-judged model kind e waiting members kept =
     map-map (λ (v : Verdict). v.task.0) (verdict_of model kind (state_in e).aim) (views_of (state_in e)) ∙ tasks-waiting e waiting members kept
+
+-- ---- Who is judged
+
+module _ (model : Rules) (lawful : IsLawful model) (kind : CheckKind) (s : State) (sound : IsSound s) (vs : List Verdict) (enough : AreEnough model kind s vs) where
+  judged_by : (t : ℕ) → is_judged vs t ≡ list_any (λ v. enough.asked v.task.0 && nat_eq t v.task.0) (verdicts_of model kind s)
+  judged_by t =
+      any-map (λ (v : Verdict). v.task.0) (nat_eq t) vs
+      ∙ ap (list_any (λ (v : Verdict). nat_eq t v.task.0)) enough.found
+      ∙ any-filter (λ (v : Verdict). enough.asked v.task.0) (λ v. nat_eq t v.task.0) (verdicts_of model kind s)
+
+  -- who is judged waits
+  pub judged-waits : (t : ℕ) → is_judged vs t ≡ true → (x : Standing) × (s.tasks t ≡ Live x) × (nat_eq x.level s.target ≡ false)
+  judged-waits t h =
+      let j = verdict-is model kind s (λ v. enough.asked v.task.0 && nat_eq t v.task.0) (sym (judged_by t) ∙ h) in
+      let parts = and_parts (enough.asked j.number) (nat_eq t j.number) j.passed in
+      (j.task, ap s.tasks (eqb-true t j.number parts.1) ∙ j.live, j.off)
+
+  -- who waits and goes over is judged
+  pub goes-judged : (table : Table) → ((u : ℕ) (y : Standing) → s.tasks u ≡ Live y → slot table u ≡ Some y) → (t : ℕ) (x : Standing) → s.tasks t ≡ Live x → nat_eq x.level s.target ≡ false → goes_by table (verdicts_of model kind s) x.group ≡ true → is_judged vs t ≡ true
+  goes-judged table there t x live off goes =
+      let whole = verdicts_of model kind s in
+      let parts = and_parts (list_any (is_found table false x.group) whole) (not (list_any (is_found table true x.group) whole)) goes in
+      let f = found-is model lawful kind s sound table there false x.group parts.0 in
+      let found_asked = admitted_asked model lawful kind s sound enough.asked enough.others table there f.number f.task f.live f.off f.told in
+      let is_asked = enough.others.together t f.number x f.task live f.live off f.off (sym f.grouped) ∙ found_asked in
+      let bounds = sound.numbered t x live in
+      judged_by t
+      ∙ verdict-from model kind s (λ v. enough.asked v.task.0 && nat_eq t v.task.0) (record {
+        number = t;
+        task = x;
+        live = live;
+        off = off;
+        passed = and_from (enough.asked t) (nat_eq t t) is_asked (eq-eqb t t refl);
+      }) bounds.0 bounds.1

@@ -1,12 +1,12 @@
 -- Waiting tasks go over with their groups, one after another.
-use Rattle.std.proofs.Common.{◌≡◌, ◌≢◌, ℕ, ◌+◌, ◌-◌, ◌<◌, ◌≤◌, Bool, true, false, not, ◌&&◌, length, count_by, set, Option, Some, None, if◌then◌else◌, refl, sym, ap, ap₂, ◌∙◌, subst, ⊎_elim, arith}
-use Rattle.std.proofs.lemmas.Bool.{cond-true, cond-false, cases_Bool, cases_eq, cases_lt}
+use Rattle.std.proofs.Common.{◌≡◌, ◌≢◌, ℕ, ◌+◌, ◌-◌, ◌<◌, ◌≤◌, Bool, true, false, not, ◌&&◌, ◌||◌, length, count_by, set, Option, Some, None, if◌then◌else◌, nat_eq, refl, sym, ap, ap₂, ◌∙◌, subst, ⊎_elim, arith}
+use Rattle.std.proofs.lemmas.Bool.{cond-true, cond-false, cases_Bool, cases_eq, eq-eqb, ne_eqb}
 use Rattle.std.proofs.lemmas.List.{length-set, get_or-set_same, get_or-set_other, get_or_past}
 use Rattle.std.specs.Option.{option_map}
 use Rattle.lp_numbers.specs.Numbers.{Numbers, has}
 use Rattle.lp_transition.specs.Leg.{Standing}
 use Rattle.lp_transition.specs.Table.{Table, slot, IsWide, changed, is_in}
-use Rattle.lp_transition.specs.ScanSteps.{moved, task_goes, IsTaskMoved, IsMoved, IsNextBelow}
+use Rattle.lp_transition.specs.ScanSteps.{moved, task_goes, IsTaskMoved, IsMoved}
 use Rattle.lp_transition.proofs.TableLemmas.{slot-changed, slot-changed_other, IsWide-changed}
 use Rattle.lp_transition.proofs.CountLemmas.{count-changed}
 
@@ -27,7 +27,7 @@ moved-group goes target x =
     (λ (stays : goes x.group ≡ false). ap (λ (y : Standing). y.group) (cond-false (goes x.group) (record x { level = target }) x stays))
     (cases_Bool (goes x.group))
 
-slot_stays : (goes : ℕ → Bool) (target : ℕ) (o : Option Standing) → task_goes goes o ≡ false → o ≡ option_map (moved goes target) o
+pub slot_stays : (goes : ℕ → Bool) (target : ℕ) (o : Option Standing) → task_goes goes o ≡ false → o ≡ option_map (moved goes target) o
 slot_stays goes target None h = refl
 slot_stays goes target (Some x) h = ap Some (sym (cond-false (goes x.group) (record x { level = target }) x h))
 
@@ -65,123 +65,56 @@ task_went goes target t table new waiting left wide h went is out long =
       members = λ old group. ap (λ (n : Table). count_by (is_in group) n.slots) is ∙ count-changed table t f group old h (λ x. refl);
     }
 
--- ---- A walk over all
+-- ---- One task after another
 
--- as far as p each has changed, and from there on none
-pub record Walked {A : Type 0} (f : A → A) (old now : ℕ → A) (p : ℕ) : Type 0 where
-  pub below : (t : ℕ) → t < p → now t ≡ f (old t)
-  pub above : (t : ℕ) → p ≤ t → now t ≡ old t
-
-walk_from : {A : Type 0} (f : A → A) (old : ℕ → A) (p : ℕ) → ((t : ℕ) → t < p → old t ≡ f (old t)) → Walked f old old p
-walk_from f old p h = record { below = h; above = λ t low. refl }
-
-walk_on : {A : Type 0} (f : A → A) (old now new : ℕ → A) (n p : ℕ) → Walked f old now n → n < p → new n ≡ f (now n) → ((t : ℕ) → t ≢ n → new t ≡ now t) → ((t : ℕ) → n < t → t < p → new t ≡ f (new t)) → Walked f old new p
-walk_on f old now new n p w more here others between = record {
-  below = λ t high.
-      ⊎_elim
-      (λ (e : t ≡ n). subst (λ u. new u ≡ f (old u)) (sym e) (here ∙ ap f (w.above n (omega arith))))
-      (λ (ne : t ≡ n → ⊥).
-      ⊎_elim
-      (λ (low : t < n). others t ne ∙ w.below t low)
-      (λ (high_too : n ≤ t). between t (omega (arith, ne)) high ∙ ap f (others t ne ∙ w.above t high_too))
-      (cases_lt t n))
-      (cases_eq t n);
-  above = λ t low. others t (λ (e : t ≡ n). omega arith) ∙ w.above t (omega arith);
-}
-
--- a task number: its live task, and whether it waits
-pub record Place : Type 0 where
-  pub task : Option Standing
-  pub waits : Bool
-
-abbrev pub place : Table → Numbers → ℕ → Place
-place table waiting t = record { task = slot table t; waits = has waiting t }
-
--- a task number after the groups that go went
-abbrev pub place_after : (ℕ → Bool) → ℕ → Place → Place
-place_after goes target p = record {
-  task = if p.waits then option_map (moved goes target) p.task else p.task;
-  waits = p.waits && not (task_goes goes p.task);
-}
-
--- how far a walk has come
-abbrev pub reached : Option ℕ → ℕ
-reached None = 65536
-reached (Some n) = n
-
-idle : (goes : ℕ → Bool) (target t : ℕ) (table : Table) (waiting : Numbers) → has waiting t ≡ false → place table waiting t ≡ place_after goes target (place table waiting t)
-idle goes target t table waiting h =
-    ap₂ (λ (o : Option Standing) (b : Bool). let p : Place = record { task = o; waits = b } in p)
-    (sym (cond-false (has waiting t) (option_map (moved goes target) (slot table t)) (slot table t) h))
-    (h ∙ sym (ap (λ b. b && not (task_goes goes (slot table t))) h))
-
-none_before : (set : Numbers) (first : ℕ) (next : Option ℕ) → IsNextBelow 65536 (has set) first next → (t : ℕ) → first ≤ t → t < reached next → has set t ≡ false
-none_before set first None h t low high = h t low high
-none_before set first (Some n) h t low high = h.1.least t low high
-
-further : (set : Numbers) (first : ℕ) (next : Option ℕ) → IsNextBelow 65536 (has set) first next → first ≤ 65536 → first ≤ reached next
-further set first None h low = low
-further set first (Some n) h low = h.1.within
-
--- the walk begins
-pub moving_from : (goes : ℕ → Bool) (target : ℕ) (table : Table) (waiting : Numbers) (next : Option ℕ) → IsNextBelow 65536 (has waiting) 0 next → Walked (place_after goes target) (place table waiting) (place table waiting) (reached next)
-moving_from goes target table waiting next h =
-    walk_from (place_after goes target) (place table waiting) (reached next) (λ t high. idle goes target t table waiting (none_before waiting 0 next h t (omega arith) high))
-
--- the walk goes on
-pub moving_on : (goes : ℕ → Bool) (target n : ℕ) (first old new : Table) (waiting now left : Numbers) (next : Option ℕ) → Walked (place_after goes target) (place first waiting) (place old now) n → n < 65536 → has now n ≡ true → IsTaskMoved goes target n old new now left → IsNextBelow 65536 (has left) (n + 1) next
-    → Walked (place_after goes target) (place first waiting) (place new left) (reached next)
-moving_on goes target n first old new waiting now left next walked h member step after =
-    let on : n + 1 ≤ reached next = further left (n + 1) next after (omega arith) in
-    walk_on (place_after goes target) (place first waiting) (place old now) (place new left) n (reached next) walked (omega arith)
-    (ap₂ (λ (o : Option Standing) (b : Bool). let p : Place = record { task = o; waits = b } in p)
-    (step.task ∙ sym (cond-true (has now n) (option_map (moved goes target) (slot old n)) (slot old n) member))
-    step.waits)
-    (λ t ne. ap₂ (λ (o : Option Standing) (b : Bool). let p : Place = record { task = o; waits = b } in p) (step.others t ne) (step.others_wait t ne))
-    (λ t low high. idle goes target t new left (none_before left (n + 1) next after t (omega arith) high))
-
--- the walk comes nearer to its end
-pub moving_less : (set : Numbers) (n : ℕ) (next : Option ℕ) → n < 65536 → IsNextBelow 65536 (has set) (n + 1) next → 65536 - reached next < 65536 - n
-moving_less set n next h after = let on : n + 1 ≤ reached next = further set (n + 1) next after (omega arith) in omega arith
-
-slot_none : (goes : ℕ → Bool) (target : ℕ) (b : Bool) (o : Option Standing) → o ≡ None → o ≡ (if b then option_map (moved goes target) o else o)
-slot_none goes target true None e = refl
-slot_none goes target false None e = refl
-slot_none goes target b (Some x) e = absurd (cc)
-
-place_last : (goes : ℕ → Bool) (target : ℕ) (old new : Table) (waiting left : Numbers) → IsWide old → Walked (place_after goes target) (place old waiting) (place new left) 65536 → (t : ℕ) → place new left t ≡ place_after goes target (place old waiting t)
-place_last goes target old new waiting left wide walked t =
+moved-again : (goes : ℕ → Bool) (target : ℕ) (x : Standing) → moved goes target (moved goes target x) ≡ moved goes target x
+moved-again goes target x =
     ⊎_elim
-    (λ (low : t < 65536). walked.below t low)
-    (λ (high : 65536 ≤ t).
-    let empty : slot old t ≡ None = get_or_past old.slots t None (omega (arith, wide.slots)) in
-    walked.above t high
-    ∙ ap₂ (λ (o : Option Standing) (b : Bool). let p : Place = record { task = o; waits = b } in p)
-    (slot_none goes target (has waiting t) (slot old t) empty)
-    (sym (ap (λ (o : Option Standing). has waiting t && not (task_goes goes o)) empty ∙ and-true (has waiting t))))
-    (cases_lt t 65536)
+    (λ (went : goes x.group ≡ true).
+    let one = cond-true (goes x.group) (record x { level = target }) x went in
+    ap (moved goes target) one ∙ cond-true (goes x.group) (record x { level = target }) (record x { level = target }) went ∙ sym one)
+    (λ (stays : goes x.group ≡ false). ap (moved goes target) (cond-false (goes x.group) (record x { level = target }) x stays))
+    (cases_Bool (goes x.group))
 
--- the walk has come to its end
-pub moving_all : (goes : ℕ → Bool) (target : ℕ) (old new : Table) (waiting left : Numbers) → IsWide old → Walked (place_after goes target) (place old waiting) (place new left) 65536 → length left ≡ length waiting → new.used ≡ old.used → IsWide new → ((group : ℕ) → count_by (is_in group) new.slots ≡ count_by (is_in group) old.slots)
-    → IsMoved goes target old new waiting left
-moving_all goes target old new waiting left wide walked numbers used still_wide members = record {
-  tasks = λ t. ap (λ (p : Place). p.task) (place_last goes target old new waiting left wide walked t);
-  waits = λ t. ap (λ (p : Place). p.waits) (place_last goes target old new waiting left wide walked t);
-  numbers = numbers;
-  used = used;
-  wide = still_wide;
-  members = members;
+-- who went over already stays where it is
+slot_again : (goes : ℕ → Bool) (target : ℕ) (b : Bool) (o : Option Standing) → option_map (moved goes target) (if b then option_map (moved goes target) o else o) ≡ option_map (moved goes target) o
+slot_again goes target false o = refl
+slot_again goes target true None = refl
+slot_again goes target true (Some x) = ap Some (moved-again goes target x)
+
+-- who went over is still of its group
+goes_again : (goes : ℕ → Bool) (target : ℕ) (b : Bool) (o : Option Standing) → task_goes goes (if b then option_map (moved goes target) o else o) ≡ task_goes goes o
+goes_again goes target false o = refl
+goes_again goes target true None = refl
+goes_again goes target true (Some x) = ap goes (moved-group goes target x)
+
+waits_again : (waits b g : Bool) → ((waits && not (b && g)) && not g) ≡ (waits && not (true && g))
+waits_again false b g = refl
+waits_again true false false = refl
+waits_again true false true = refl
+waits_again true true false = refl
+waits_again true true true = refl
+
+-- where nobody is taken, nothing changes
+pub moving_none : (goes : ℕ → Bool) (target : ℕ) (table : Table) (waiting : Numbers) → IsMoved (λ t. false) goes target table table waiting waiting
+moving_none goes target table waiting = record {
+  tasks = λ t. refl;
+  waits = λ t. sym (and-true (has waiting t));
+  numbers = refl;
+  used = refl;
+  wide = λ wide. wide;
+  members = λ wide group. refl;
 }
 
 -- where no group goes, nothing changes
-pub moving_none : (target : ℕ) (table : Table) (waiting : Numbers) → IsWide table → IsMoved (λ group. false) target table table waiting waiting
-moving_none target table waiting wide = record {
-  tasks = λ t. still (has waiting t) (slot table t);
-  waits = λ t. sym (ap (λ b. has waiting t && not b) (none_goes (slot table t)) ∙ and-true (has waiting t));
+pub moving_still : (taken : ℕ → Bool) (target : ℕ) (table : Table) (waiting : Numbers) → IsMoved taken (λ group. false) target table table waiting waiting
+moving_still taken target table waiting = record {
+  tasks = λ t. still (taken t) (slot table t);
+  waits = λ t. sym (none_goes (has waiting t) (taken t) (slot table t));
   numbers = refl;
   used = refl;
-  wide = wide;
-  members = λ group. refl;
+  wide = λ wide. wide;
+  members = λ wide group. refl;
 }
   where
     still : (b : Bool) (o : Option Standing) → o ≡ (if b then option_map (moved (λ group. false) target) o else o)
@@ -189,6 +122,42 @@ moving_none target table waiting wide = record {
     still true (Some x) = refl
     still false o = refl
 
-    none_goes : (o : Option Standing) → task_goes (λ group. false) o ≡ false
-    none_goes None = refl
-    none_goes (Some x) = refl
+    none_goes : (waits b : Bool) (o : Option Standing) → (waits && not (b && task_goes (λ group. false) o)) ≡ waits
+    none_goes waits true None = and-true waits
+    none_goes waits true (Some x) = and-true waits
+    none_goes waits false o = and-true waits
+
+or_here : (b : Bool) → (b || (true || false)) ≡ true
+or_here true = refl
+or_here false = refl
+
+or_elsewhere : (b : Bool) → (b || (false || false)) ≡ b
+or_elsewhere true = refl
+or_elsewhere false = refl
+
+-- one more is taken
+pub moving_more : (taken more goes : ℕ → Bool) (target n : ℕ) (old now new : Table) (waiting mid left : Numbers) → IsMoved taken goes target old now waiting mid → IsTaskMoved goes target n now new mid left → ((t : ℕ) → more t ≡ (taken t || (nat_eq t n || false))) → IsMoved more goes target old new waiting left
+moving_more taken more goes target n old now new waiting mid left so_far step also = record {
+  tasks = λ t. ⊎_elim (λ (e : t ≡ n). subst (λ u. slot new u ≡ (if more u then option_map (moved goes target) (slot old u) else slot old u)) (sym e) task_here) (λ (ne : t ≡ n → ⊥). step.others t ne ∙ so_far.tasks t ∙ ap (λ b. if b then option_map (moved goes target) (slot old t) else slot old t) (elsewhere t ne)) (cases_eq t n);
+  waits = λ t. ⊎_elim (λ (e : t ≡ n). subst (λ u. has left u ≡ (has waiting u && not (more u && task_goes goes (slot old u)))) (sym e) waits_here) (λ (ne : t ≡ n → ⊥). step.others_wait t ne ∙ so_far.waits t ∙ ap (λ b. has waiting t && not (b && task_goes goes (slot old t))) (elsewhere t ne)) (cases_eq t n);
+  numbers = step.numbers ∙ so_far.numbers;
+  used = step.used ∙ so_far.used;
+  wide = λ wide. step.wide (so_far.wide wide);
+  members = λ wide group. step.members (so_far.wide wide) group ∙ so_far.members wide group;
+}
+  where
+    here : more n ≡ true
+    here = also n ∙ ap (λ b. taken n || (b || false)) (eq-eqb n n refl) ∙ or_here (taken n)
+
+    elsewhere : (t : ℕ) → t ≢ n → taken t ≡ more t
+    elsewhere t ne = sym (also t ∙ ap (λ b. taken t || (b || false)) (ne_eqb t n ne) ∙ or_elsewhere (taken t))
+
+    task_here : slot new n ≡ (if more n then option_map (moved goes target) (slot old n) else slot old n)
+    task_here = step.task ∙ ap (option_map (moved goes target)) (so_far.tasks n) ∙ slot_again goes target (taken n) (slot old n) ∙ sym (cond-true (more n) (option_map (moved goes target) (slot old n)) (slot old n) here)
+
+    waits_here : has left n ≡ (has waiting n && not (more n && task_goes goes (slot old n)))
+    waits_here =
+        step.waits
+        ∙ ap₂ (λ w g. w && not g) (so_far.waits n) (ap (task_goes goes) (so_far.tasks n) ∙ goes_again goes target (taken n) (slot old n))
+        ∙ waits_again (has waiting n) (taken n) (task_goes goes (slot old n))
+        ∙ ap (λ b. has waiting n && not (b && task_goes goes (slot old n))) (sym here)

@@ -1,28 +1,34 @@
 -- The engine after a scan.
-use Rattle.std.proofs.Common.{◌≡◌, ℕ, suc, ◌<◌, ◌≤◌, Bool, true, false, not, ◌&&◌, List, Option, Some, None, if◌then◌else◌, nat_eq, refl, sym, ap, ap₂, ◌∙◌, subst, ⊎_elim, arith}
-use Rattle.std.proofs.lemmas.Bool.{cond-true, cond-false, cases_Bool, cases_lt, eqb-true, eq-eqb, not_from_true, not_from_false}
+use Rattle.std.proofs.Common.{◌≡◌, ℕ, suc, ◌<◌, ◌≤◌, Bool, true, false, not, ◌&&◌, List, length, count_by, Option, Some, None, if◌then◌else◌, nat_eq, refl, sym, ap, ap₂, ◌∙◌, subst, ⊎_elim, arith}
+use Rattle.std.proofs.lemmas.Bool.{false≢true, cond-true, cond-false, cases_Bool, cases_lt, eqb-true, eq-eqb, not-true, not_from_true, not_from_false, false_from_ne_true}
 use Rattle.std.proofs.lemmas.List.{get_or_past}
 use Rattle.std.specs.List.{list_any}
 use Rattle.std.specs.Option.{option_map}
 use mathlib.Core.Path.{fun_ext}
 use Rattle.lp_numbers.specs.Numbers.{Numbers, has}
 use Rattle.lp_model.specs.Rules.{Rules, IsLawful}
+use Rattle.lp_model.specs.declared.check.CheckKind.{CheckKind}
+use Rattle.lp_model.specs.declared.check.CheckKind.TheVariants as Check
+use Rattle.lp_model.specs.declared.verdict.Verdict.{Verdict}
 use Rattle.lp_transition.specs.declared.event.Event.{Event}
 use Rattle.lp_transition.specs.declared.event.Event.TheVariants.{Call, Ret, Sleep, Wake, Enter, Exit, Idle, Fork, Die, Walk, Stop, Enable, Disable, Reverse}
 use Rattle.lp_transition.specs.Events.{is_scan}
-use Rattle.lp_transition.specs.Tasks.{Unused, map_live}
+use Rattle.lp_transition.specs.Tasks.{Unused, Live, map_live}
 use Rattle.lp_transition.specs.Leg.{Standing, State}
 use Rattle.lp_transition.specs.Sound.{IsSound}
 use Rattle.lp_transition.specs.Machine.{goes_over, going, affected, refusal_of, next, answer}
-use Rattle.lp_transition.specs.Table.{Table, Engine, IsWide, slot, fate_at, standings, state_in, is_off}
+use Rattle.lp_transition.specs.Table.{Table, Engine, IsWide, slot, fate_at, standings, state_in, is_off, is_in}
 use Rattle.lp_transition.specs.Kept.{IsKept}
-use Rattle.lp_transition.specs.Weigh.{Weighed, IsWeighed}
-use Rattle.lp_transition.specs.ScanSteps.{moved, task_goes, IsMoved, groups_of, is_over, HasOver}
+use Rattle.lp_transition.specs.Weigh.{Weighed, IsWeighed, AreVerdictsFor}
+use Rattle.lp_transition.specs.Scan.{verdicts_of, AreEnough}
+use Rattle.lp_transition.specs.ScanSteps.{is_judged, goes_by, moved, task_goes, IsMoved, groups_of, is_over, HasOver}
 use Rattle.lp_transition.proofs.EngineLemmas.{next-accepted}
 use Rattle.lp_transition.proofs.Effects.{HasTaken, with_table, state-with_table, sound_next}
-use Rattle.lp_transition.proofs.TableLemmas.{live_from_slot}
+use Rattle.lp_transition.proofs.TableLemmas.{live_from_slot, slot_from_live}
+use Rattle.lp_transition.proofs.Moving.{slot_stays}
+use Rattle.lp_transition.proofs.AskedScans.{judged-waits, goes-judged}
 use Rattle.lp_transition.proofs.Passing.{passing-any}
-use Rattle.lp_transition.proofs.ScanAnswers.{groups_of-switched, going_by}
+use Rattle.lp_transition.proofs.ScanAnswers.{groups_of-switched, going_by, goes-walk, goes-stop}
 
 -- ---- The tasks
 
@@ -63,6 +69,50 @@ waits_moved goes target true (Some x) e =
     ap not stays ∙ e ∙ sym (ap (λ (y : Standing). not (nat_eq y.level target)) (cond-false (goes x.group) (record x { level = target }) x stays)))
     (cases_Bool (goes x.group))
 
+-- ---- All that wait
+
+-- each waiting task went over with its group, and waits no longer
+record Went (goes : ℕ → Bool) (target : ℕ) (old new : Table) (waiting left : Numbers) : Type 0 where
+  tasks : (t : ℕ) → slot new t ≡ (if has waiting t then option_map (moved goes target) (slot old t) else slot old t)
+  waits : (t : ℕ) → has left t ≡ (has waiting t && not (task_goes goes (slot old t)))
+  numbers : length left ≡ length waiting
+  used : new.used ≡ old.used
+  wide : IsWide new
+  members : (group : ℕ) → count_by (is_in group) new.slots ≡ count_by (is_in group) old.slots
+
+slot_taken : (goes : ℕ → Bool) (target : ℕ) (taken waits : Bool) (o : Option Standing) → (taken ≡ true → waits ≡ true) → (waits ≡ true → task_goes goes o ≡ true → taken ≡ true) → (if taken then option_map (moved goes target) o else o) ≡ (if waits then option_map (moved goes target) o else o)
+slot_taken goes target true true o waiting going = refl
+slot_taken goes target true false o waiting going = absurd (false≢true (waiting refl))
+slot_taken goes target false false o waiting going = refl
+slot_taken goes target false true o waiting going = slot_stays goes target o (false_from_ne_true (task_goes goes o) (λ (went : task_goes goes o ≡ true). absurd (false≢true (going refl went))))
+
+waits_taken : (taken waits went : Bool) → (waits ≡ true → went ≡ true → taken ≡ true) → (waits && not (taken && went)) ≡ (waits && not went)
+waits_taken true waits went going = refl
+waits_taken false false went going = refl
+waits_taken false true false going = refl
+waits_taken false true true going = absurd (false≢true (going refl refl))
+
+-- where all that wait and go were taken, and nobody who doesn't wait
+went_all : (taken goes : ℕ → Bool) (target : ℕ) (old new : Table) (waiting left : Numbers) → IsWide old → IsMoved taken goes target old new waiting left → ((t : ℕ) → taken t ≡ true → has waiting t ≡ true) → ((t : ℕ) → has waiting t ≡ true → task_goes goes (slot old t) ≡ true → taken t ≡ true) → Went goes target old new waiting left
+went_all taken goes target old new waiting left wide moves waits going = record {
+  tasks = λ t. moves.tasks t ∙ slot_taken goes target (taken t) (has waiting t) (slot old t) (waits t) (going t);
+  waits = λ t. moves.waits t ∙ waits_taken (taken t) (has waiting t) (task_goes goes (slot old t)) (going t);
+  numbers = moves.numbers;
+  used = moves.used;
+  wide = moves.wide wide;
+  members = moves.members wide;
+}
+
+-- a waiting task is live and off the target
+record OffTarget (e : Engine) (t : ℕ) : Type 0 where
+  task : Standing
+  there : slot e.table t ≡ Some task
+  off : nat_eq task.level e.target ≡ false
+
+off_target : (e : Engine) (t : ℕ) (o : Option Standing) → slot e.table t ≡ o → is_off e.target o ≡ true → OffTarget e t
+off_target e t None there h = absurd (cc)
+off_target e t (Some x) there h = record { task = x; there = there; off = not-true (nat_eq x.level e.target) h }
+
 -- ---- The groups
 
 unused_past : (table : Table) (g : ℕ) → IsWide table → 65536 ≤ g → standings table g ≡ Unused
@@ -84,7 +134,7 @@ module _ (model : Rules) (lawful : IsLawful model) where
       same g h ∙ ap (list_any (nat_eq g)) (e ∙ going_by model 65536 now event (goes_over model now event) wide (λ group. refl)) ∙ passing-any 65536 (goes_over model now event) g h
 
   -- the tasks after the groups went over
-  standings_moved : (e : Engine) (waiting left : Numbers) (members : List ℕ) (table : Table) (goes all : ℕ → Bool) → IsKept e waiting members → IsMoved goes e.target e.table table waiting left → ((g : ℕ) → g < 65536 → goes g ≡ all g) → standings table ≡ (λ t. map_live (moved all e.target) (standings e.table t))
+  standings_moved : (e : Engine) (waiting left : Numbers) (members : List ℕ) (table : Table) (goes all : ℕ → Bool) → IsKept e waiting members → Went goes e.target e.table table waiting left → ((g : ℕ) → g < 65536 → goes g ≡ all g) → standings table ≡ (λ t. map_live (moved all e.target) (standings e.table t))
   standings_moved e waiting left members table goes all kept went same =
       fun_ext (λ t.
       ap₂ fate_at
@@ -92,7 +142,7 @@ module _ (model : Rules) (lawful : IsLawful model) where
       (ap (λ set. has set t) went.used)
       ∙ fate-map (moved all e.target) (slot e.table t) (has e.table.used t))
 
-  kept_moved : (e : Engine) (waiting left : Numbers) (members : List ℕ) (table : Table) (goes : ℕ → Bool) → IsKept e waiting members → IsMoved goes e.target e.table table waiting left → e.number < 1000000 → IsSound (state_in (with_table table e)) → IsKept (with_table table e) left members
+  kept_moved : (e : Engine) (waiting left : Numbers) (members : List ℕ) (table : Table) (goes : ℕ → Bool) → IsKept e waiting members → Went goes e.target e.table table waiting left → e.number < 1000000 → IsSound (state_in (with_table table e)) → IsKept (with_table table e) left members
   kept_moved e waiting left members table goes kept went room sound = record {
     sound = sound;
     wide = went.wide;
@@ -106,7 +156,7 @@ module _ (model : Rules) (lawful : IsLawful model) where
   }
 
   -- an event after which the groups of a set went over
-  goes_there : (e : Engine) (waiting left : Numbers) (members : List ℕ) (table : Table) (over : Option Numbers) (event : Event) → IsKept e waiting members → e.number < 1000000 → IsMoved (is_over over) e.target e.table table waiting left
+  goes_there : (e : Engine) (waiting left : Numbers) (members : List ℕ) (table : Table) (over : Option Numbers) (event : Event) → IsKept e waiting members → e.number < 1000000 → Went (is_over over) e.target e.table table waiting left
       → state_in (with_table table e) ≡ next model (state_in e) event → HasTaken model e event (with_table table e) left members
   goes_there e waiting left members table over event kept room went state = record {
     kept = kept_moved e waiting left members table (is_over over) kept went room (sound_next model lawful e (with_table table e) event kept.sound state);
@@ -129,46 +179,64 @@ module _ (model : Rules) (lawful : IsLawful model) where
   unfolding refusal_of
   accepted_stop s = refl
 
-  module _ (e : Engine) (waiting left : Numbers) (members : List ℕ) (table : Table) (over : Option Numbers) (kept : IsKept e waiting members) (room : e.number < 1000000) (went : IsMoved (is_over over) e.target e.table table waiting left) where
-    takes_walk : ((g : ℕ) → g < 65536 → is_over over g ≡ list_any (nat_eq g) (groups_of (answer model (state_in e) Walk).what)) → HasTaken model e Walk (with_table table e) left members
-    takes_walk same =
+  module _ (e : Engine) (waiting left : Numbers) (members : List ℕ) (table : Table) (over : Option Numbers) (vs : List Verdict) (kept : IsKept e waiting members) (room : e.number < 1000000) (moves : IsMoved (is_judged vs) (is_over over) e.target e.table table waiting left) where
+    there : (t : ℕ) (x : Standing) → standings e.table t ≡ Live x → slot e.table t ≡ Some x
+    there t x live = slot_from_live e.table t x live
+
+    -- who was taken waits, and who waits and goes was taken
+    went_by : (kind : CheckKind) → AreEnough model kind (state_in e) vs → ((g : ℕ) → g < 65536 → is_over over g ≡ goes_by e.table (verdicts_of model kind (state_in e)) g) → Went (is_over over) e.target e.table table waiting left
+    went_by kind enough goes =
+        went_all (is_judged vs) (is_over over) e.target e.table table waiting left kept.wide moves
+        (λ t taken.
+        let j = judged-waits model lawful kind (state_in e) kept.sound vs enough t taken in
+        kept.waits t ∙ ap (is_off e.target) (there t j.0 j.1) ∙ not_from_false (nat_eq j.0.level e.target) j.2)
+        (λ t waits went.
+        let w = off_target e t (slot e.table t) refl (sym (kept.waits t) ∙ waits) in
+        let group_goes = sym (ap (task_goes (is_over over)) w.there) ∙ went in
+        goes-judged model lawful kind (state_in e) kept.sound vs enough e.table there t w.task (live_from_slot e.table t w.task w.there) w.off
+        (sym (goes w.task.group (group_fits e t w.task kept.sound kept.wide w.there)) ∙ group_goes))
+
+    takes_walk : AreEnough model Check.Walk (state_in e) vs → ((g : ℕ) → g < 65536 → is_over over g ≡ list_any (nat_eq g) (groups_of (answer model (state_in e) Walk).what)) → HasTaken model e Walk (with_table table e) left members
+    takes_walk enough same =
         let s = state_in e in
         let now = affected model s Walk in
         let goes = over_is now Walk over (groups_of (answer model s Walk).what) (omega arith) (walk_listed s) same in
+        let went = went_by Check.Walk enough (λ g h. goes g h ∙ goes-walk model lawful 65536 s (omega arith) kept.sound e.table there g) in
         goes_there e waiting left members table over Walk kept room went
         (state-with_table e table (λ t. map_live (moved (goes_over model now Walk) e.target) (standings e.table t)) (standings_moved e waiting left members table (is_over over) (goes_over model now Walk) kept went goes)
         ∙ sym (next-accepted model s Walk (accepted s) refl))
 
-    takes_stop : ((g : ℕ) → g < 65536 → is_over over g ≡ list_any (nat_eq g) (groups_of (answer model (state_in e) Stop).what)) → HasTaken model e Stop (with_table table e) left members
-    takes_stop same =
+    takes_stop : AreEnough model Check.Stop (state_in e) vs → ((g : ℕ) → g < 65536 → is_over over g ≡ list_any (nat_eq g) (groups_of (answer model (state_in e) Stop).what)) → HasTaken model e Stop (with_table table e) left members
+    takes_stop enough same =
         let s = state_in e in
         let now = affected model s Stop in
         let goes = over_is now Stop over (groups_of (answer model s Stop).what) (omega arith) (stop_listed s) same in
+        let went = went_by Check.Stop enough (λ g h. goes g h ∙ goes-stop model lawful 65536 s (omega arith) kept.sound e.table there g) in
         goes_there e waiting left members table over Stop kept room went
         (state-with_table e table (λ t. map_live (moved (goes_over model now Stop) e.target) (standings e.table t)) (standings_moved e waiting left members table (is_over over) (goes_over model now Stop) kept went goes)
         ∙ sym (next-accepted model s Stop (accepted_stop s) refl))
 
-    takes_event : (event : Event) → is_scan event ≡ true → ((g : ℕ) → g < 65536 → is_over over g ≡ list_any (nat_eq g) (groups_of (answer model (state_in e) event).what)) → HasTaken model e event (with_table table e) left members
-    takes_event Walk scan same = takes_walk same
-    takes_event Stop scan same = takes_stop same
-    takes_event (Call t f) scan same = absurd (cc)
-    takes_event (Ret t) scan same = absurd (cc)
-    takes_event (Sleep t) scan same = absurd (cc)
-    takes_event (Wake t) scan same = absurd (cc)
-    takes_event (Enter t) scan same = absurd (cc)
-    takes_event (Exit t) scan same = absurd (cc)
-    takes_event (Idle t) scan same = absurd (cc)
-    takes_event (Fork p c how) scan same = absurd (cc)
-    takes_event (Die t) scan same = absurd (cc)
-    takes_event Enable scan same = absurd (cc)
-    takes_event Disable scan same = absurd (cc)
-    takes_event Reverse scan same = absurd (cc)
+    takes_event : (event : Event) → is_scan event ≡ true → AreVerdictsFor model (state_in e) event vs → ((g : ℕ) → g < 65536 → is_over over g ≡ list_any (nat_eq g) (groups_of (answer model (state_in e) event).what)) → HasTaken model e event (with_table table e) left members
+    takes_event Walk scan enough same = takes_walk enough same
+    takes_event Stop scan enough same = takes_stop enough same
+    takes_event (Call t f) scan enough same = absurd (cc)
+    takes_event (Ret t) scan enough same = absurd (cc)
+    takes_event (Sleep t) scan enough same = absurd (cc)
+    takes_event (Wake t) scan enough same = absurd (cc)
+    takes_event (Enter t) scan enough same = absurd (cc)
+    takes_event (Exit t) scan enough same = absurd (cc)
+    takes_event (Idle t) scan enough same = absurd (cc)
+    takes_event (Fork p c how) scan enough same = absurd (cc)
+    takes_event (Die t) scan enough same = absurd (cc)
+    takes_event Enable scan enough same = absurd (cc)
+    takes_event Disable scan enough same = absurd (cc)
+    takes_event Reverse scan enough same = absurd (cc)
 
   -- a scan that was weighed on the engine that code holds
-  pub takes_scan : (e old : Engine) (table : Table) (waiting left : Numbers) (members : List ℕ) (step : Weighed) (over : Option Numbers) → e ≡ old → IsKept e waiting members → IsWeighed model old step → is_scan step.event ≡ true → HasOver step.event step.reply.what over → (IsWide e.table → IsMoved (is_over over) e.target e.table table waiting left)
+  pub takes_scan : (e old : Engine) (table : Table) (waiting left : Numbers) (members : List ℕ) (step : Weighed) (over : Option Numbers) → e ≡ old → IsKept e waiting members → IsWeighed model old step → is_scan step.event ≡ true → HasOver step.event step.reply.what over → IsMoved (is_judged step.verdicts) (is_over over) e.target e.table table waiting left
       → HasTaken model old step.event (with_table table e) left members
-  takes_scan e old table waiting left members step over was kept weighed scan listed went =
+  takes_scan e old table waiting left members step over was kept weighed scan listed moves =
       let here : IsWeighed model e step = subst (λ (o : Engine). IsWeighed model o step) (sym was) weighed in
       subst (λ (o : Engine). HasTaken model o step.event (with_table table e) left members) was
-      (takes_event e waiting left members table over kept here.room (went kept.wide) step.event scan
+      (takes_event e waiting left members table over step.verdicts kept here.room moves step.event scan here.verdicts
       (λ g h. listed scan g h ∙ ap (λ r. list_any (nat_eq g) (groups_of r.what)) here.reply))

@@ -22,6 +22,10 @@ waiting_slot table waiting t = if has waiting t then slot table t else None
 abbrev pub tasks_of : List Verdict → List ℕ
 tasks_of verdicts = map (λ v. v.task.0) verdicts
 
+-- the task is one of those looked at
+abbrev pub is_judged : List Verdict → ℕ → Bool
+is_judged verdicts t = list_any (nat_eq t) (tasks_of verdicts)
+
 -- ---- Who goes over by the verdicts
 
 -- the verdict refuses a member of the group, or admits one
@@ -75,14 +79,14 @@ pub record IsTaskMoved (goes : ℕ → Bool) (target t : ℕ) (old new : Table) 
   pub wide : IsWide old → IsWide new
   pub members : IsWide old → (group : ℕ) → count_by (is_in group) new.slots ≡ count_by (is_in group) old.slots
 
--- each waiting task went over with its group, and waits no longer
-pub record IsMoved (goes : ℕ → Bool) (target : ℕ) (old new : Table) (waiting left : Numbers) : Type 0 where
-  pub tasks : (t : ℕ) → slot new t ≡ (if has waiting t then option_map (moved goes target) (slot old t) else slot old t)
-  pub waits : (t : ℕ) → has left t ≡ (has waiting t && not (task_goes goes (slot old t)))
+-- each task that passes a test went over with its group, and waits no longer
+pub record IsMoved (taken goes : ℕ → Bool) (target : ℕ) (old new : Table) (waiting left : Numbers) : Type 0 where
+  pub tasks : (t : ℕ) → slot new t ≡ (if taken t then option_map (moved goes target) (slot old t) else slot old t)
+  pub waits : (t : ℕ) → has left t ≡ (has waiting t && not (taken t && task_goes goes (slot old t)))
   pub numbers : length left ≡ length waiting
   pub used : new.used ≡ old.used
-  pub wide : IsWide new
-  pub members : (group : ℕ) → count_by (is_in group) new.slots ≡ count_by (is_in group) old.slots
+  pub wide : IsWide old → IsWide new
+  pub members : IsWide old → (group : ℕ) → count_by (is_in group) new.slots ≡ count_by (is_in group) old.slots
 
 -- ---- Walks over a set of numbers
 

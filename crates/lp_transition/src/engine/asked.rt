@@ -3,6 +3,7 @@ ghost use Rattle.std.specs.Prelude.{◌≡◌, ◌≤◌, ◌↔◌, true, Err, 
 ghost use Rattle.lp_numbers.specs.Numbers.{has};
 ghost use Rattle.lp_transition.specs.Table.{state_in};
 ghost use Rattle.lp_transition.specs.Weigh.{IsWeighed};
+ghost use Rattle.lp_transition.specs.Steps.{IsReply};
 ghost use Rattle.lp_transition.specs.Scan.{is_scan_kind, scan_event, MayLeaveOut, passing, verdicts_among};
 ghost use Rattle.lp_transition.specs.ScanSteps.{tasks_of};
 ghost use Rattle.lp_transition.specs.declared.engine.step.Halt.TheVariants.{JournalFull};
@@ -30,6 +31,7 @@ impl<M: Consistency> Core<M> {
         requires scan { is_scan_kind kind ≡ true }
         requires others { MayLeaveOut M.rules kind (state_in self.now) (has asked.now) }
         ensures full { (result ≡ Err JournalFull) ↔ (1000000 ≤ self.now.number) }
+        ensures reply { IfOk result (λ step. IsReply M.rules (state_in self.now) (scan_event kind) step.reply) }
         ensures weighed { IfOk result (λ step. IsWeighed M.rules self.now step) }
         ensures event { IfOk result (λ step. step.event ≡ scan_event kind) }
         ensures verdicts { IfOk result (λ step. step.verdicts ≡ verdicts_among M.rules kind (state_in self.now) (has asked.now)) }

@@ -4,14 +4,14 @@ ghost use Rattle.std.specs.List.{filter_map, list_any};
 ghost use Rattle.std.specs.Option.{option_map};
 ghost use Rattle.lp_stack.specs.TaskView.{seen};
 ghost use Rattle.lp_numbers.specs.Numbers.{has};
-ghost use Rattle.lp_transition.specs.Table.{state_in, slot, is_in, IsWide};
+ghost use Rattle.lp_transition.specs.Table.{state_in, slot, is_in};
 ghost use Rattle.lp_transition.specs.Machine.{view_of, is_behind, next};
 ghost use Rattle.lp_transition.specs.Events.{is_scan};
 ghost use Rattle.lp_transition.specs.Run.{switched};
 ghost use Rattle.lp_transition.specs.Weigh.{IsWeighed};
 ghost use Rattle.lp_transition.specs.Steps.{IsReply};
 ghost use Rattle.lp_transition.specs.Scan.{is_scan_kind, scan_event, views_of, verdicts_of, AreEnough, passing};
-ghost use Rattle.lp_transition.specs.ScanSteps.{IsNextBelow, waiting_slot, tasks_of, is_found, goes_by, all_admit, groups_of, is_over, IsTaskMoved, IsMoved};
+ghost use Rattle.lp_transition.specs.ScanSteps.{IsNextBelow, waiting_slot, tasks_of, is_judged, is_found, goes_by, all_admit, groups_of, is_over, IsTaskMoved, IsMoved};
 ghost use Rattle.lp_transition.specs.declared.engine.step.Halt.TheVariants.{JournalFull};
 
 use super::asked::looks_at_all;
@@ -98,7 +98,13 @@ impl<M: Consistency> Core<M> {
         ensures { state_in self.new ≡ next M.rules (state_in self.old) step.now.event }
     {
         self.events += 1;
-        move_groups(&mut self.tasks, &mut self.waiting, step.over(), self.target);
+        move_groups(
+            &mut self.tasks,
+            &mut self.waiting,
+            step.verdicts(),
+            step.over(),
+            self.target,
+        );
     }
 }
 
@@ -283,28 +289,33 @@ fn any_admits(verdicts: &[Verdict]) -> bool
     verdicts.iter().any(|verdict| verdict.blame.is_none())
 }
 
-/// Takes the waiting tasks of these groups over, if there are any. Takes no memory.
+/// Takes the tasks that a scan looked at over, where their groups go. Takes no memory.
 fn move_groups(
     tasks: &mut TaskTable,
     waiting: &mut NumberSet,
+    verdicts: &[Verdict],
     over: Option<&NumberSet>,
     target: Level,
 )
-    ensures { IsWide tasks.old → IsMoved (is_over (option_copied over.entry)) target.0 tasks.old tasks.new waiting.old waiting.new }
+    ensures { IsMoved (is_judged verdicts.now) (is_over (option_copied over.entry)) target.0 tasks.old tasks.new waiting.old waiting.new }
 {
     if let Some(over) = over {
-        move_over(tasks, waiting, over, target);
+        move_over(tasks, waiting, verdicts, over, target);
     }
 }
 
-/// Takes the waiting tasks of these groups over. Takes no memory.
-fn move_over(tasks: &mut TaskTable, waiting: &mut NumberSet, over: &NumberSet, target: Level)
-    ensures { IsWide tasks.old → IsMoved (has over.now) target.0 tasks.old tasks.new waiting.old waiting.new }
+/// Takes the tasks of these verdicts over, where their groups go. Takes no memory.
+fn move_over(
+    tasks: &mut TaskTable,
+    waiting: &mut NumberSet,
+    verdicts: &[Verdict],
+    over: &NumberSet,
+    target: Level,
+)
+    ensures { IsMoved (is_judged verdicts.now) (has over.now) target.0 tasks.old tasks.new waiting.old waiting.new }
 {
-    let mut next = member_from(waiting, 0);
-    while let Some(number) = next {
-        move_task(tasks, waiting, over, target, TaskId(number));
-        next = member_from(waiting, usize::from(number) + 1);
+    for verdict in verdicts {
+        move_task(tasks, waiting, over, target, verdict.task);
     }
 }
 
