@@ -1,5 +1,5 @@
 -- What a scan tells of each group, though it leaves out who is settled.
-use Rattle.std.proofs.Common.{◌≡◌, ℕ, ◌+◌, ◌<◌, Bool, true, false, not, ◌&&◌, ◌||◌, List, [], ◌∷◌, ◌++◌, length, map, Option, Some, None, is_some, IsTrue, if◌then◌else◌, nat_eq, refl, sym, ap, subst, ◌∙◌, ⊎_elim}
+use Rattle.std.proofs.Common.{◌≡◌, ℕ, Bool, true, false, not, ◌&&◌, ◌||◌, List, [], ◌∷◌, map, Option, Some, None, is_some, IsTrue, nat_eq, refl, sym, ap, subst, ◌∙◌, ⊎_elim}
 use Rattle.std.specs.List.{filter, list_any}
 use Rattle.std.specs.Option.{option_map}
 use Rattle.std.proofs.lemmas.Bool.{false≢true, cond-true, cond-false, cases_Bool, and_parts, eqb-true, not-true, false_from_ne_true}
@@ -8,7 +8,7 @@ use Rattle.lp_model.specs.Rules.{Rules}
 use Rattle.lp_model.specs.declared.check.Blame.{Blame}
 use Rattle.lp_model.specs.declared.check.CheckKind.{CheckKind}
 use Rattle.lp_model.specs.declared.verdict.Verdict.{Verdict}
-use Rattle.lp_transition.specs.Tasks.{Fate, Live, on_live, first_of}
+use Rattle.lp_transition.specs.Tasks.{Live, on_live, first_of}
 use Rattle.lp_transition.specs.Leg.{Standing, State}
 use Rattle.lp_transition.specs.Machine.{view_of, is_behind}
 use Rattle.lp_transition.specs.Scan.{verdict_of, verdicts_of}
@@ -16,7 +16,6 @@ use Rattle.lp_transition.specs.Sound.{IsSound}
 use Rattle.lp_transition.proofs.ScanLists.{Judged, verdict-is}
 use Rattle.lp_cert.specs.declared.line.Line.{Line}
 use Rattle.lp_cert.specs.Made.{group_id, after_refusal}
-use Rattle.lp_cert.specs.Heads.{head_lines}
 use Rattle.lp_cert.specs.Settled.{GoesOn, IsSettled, AreSettled}
 use Rattle.lp_cert.specs.Steps.{has_frame_in, member_verdict, first_refused, first_blamed_in}
 use Rattle.lp_cert.specs.Waiters.{WaitingGroups, AreStanding, after_verdict, head_of, lines_in}

@@ -2,7 +2,7 @@
 use Rattle.std.proofs.Common.{◌≡◌, ℕ, suc, ◌<◌, ◌≤◌, ◌⊎◌, Bool, true, false, not, ◌&&◌, ◌||◌, List, [], ◌∷◌, length, Option, Some, None, is_some, IsTrue, IsFalse, if◌then◌else◌, nat_eq, nat_lt, refl, sym, ap, ap₂, subst, ◌∙◌, ⊎_elim, inl, inr}
 use Rattle.std.specs.List.{filter, list_any}
 use Rattle.std.proofs.lemmas.Bool.{false≢true, cond-true, cond-false, eqb-true, eq-eqb, ltb-true}
-use Rattle.lp_numbers.specs.Numbers.{Numbers, has}
+use Rattle.lp_numbers.specs.Numbers.{has}
 use Rattle.lp_model.specs.Rules.{Rules, IsLawful}
 use Rattle.lp_model.specs.declared.check.Blame.{Blame}
 use Rattle.lp_model.specs.declared.check.CheckKind.{CheckKind}
@@ -14,14 +14,13 @@ use Rattle.lp_transition.specs.Tasks.{Live}
 use Rattle.lp_transition.specs.Leg.{Standing, State, Leg}
 use Rattle.lp_transition.specs.Run.{and_then, opens}
 use Rattle.lp_transition.specs.Sound.{IsSound}
-use Rattle.lp_transition.specs.Machine.{view_of, is_behind, goes_over, affected, outlines_of, state_of, next}
+use Rattle.lp_transition.specs.Machine.{view_of, is_behind, state_of}
 use Rattle.lp_transition.specs.Scan.{MayLeaveOut, is_scan_kind, scan_event, verdict_of, verdicts_of}
-use Rattle.lp_transition.specs.ScanSteps.{goes_by}
 use Rattle.lp_transition.specs.Table.{Engine, slot, state_in, bounds_of, standings}
 use Rattle.lp_transition.specs.Weigh.{Weighed}
 use Rattle.lp_transition.proofs.Alone.{alone-other}
 use Rattle.lp_transition.proofs.Quantifiers.{some_live-from}
-use Rattle.lp_transition.proofs.ScanLists.{Judged, verdict-is, verdict-from}
+use Rattle.lp_transition.proofs.ScanLists.{verdict-is, verdict-from}
 use Rattle.lp_transition.proofs.TableLemmas.{slot_from_live}
 use Rattle.lp_cert.specs.declared.line.Line.{Line}
 use Rattle.lp_cert.specs.declared.ongoing.Ongoing.{Ongoing}

@@ -7,7 +7,7 @@ use Rattle.std.proofs.lemmas.List.{get_or-set_same, get_or-set_other, length-app
 use Rattle.lp_stack.specs.declared.number.GroupId.{GroupId}
 use Rattle.lp_stack.specs.declared.number.TaskId.{TaskId}
 use Rattle.lp_stack.specs.TaskView.{TaskView}
-use Rattle.lp_numbers.specs.Numbers.{Numbers, has, IsEmpty}
+use Rattle.lp_numbers.specs.Numbers.{Numbers, has}
 use Rattle.lp_model.specs.declared.check.Blame.{Blame}
 use Rattle.lp_model.specs.declared.verdict.Verdict.{Verdict}
 use Rattle.lp_transition.specs.Tasks.{on_live, first_of}

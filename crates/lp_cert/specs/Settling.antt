@@ -12,7 +12,7 @@ use Rattle.lp_transition.specs.declared.event.Event.TheVariants.{Walk, Stop}
 use Rattle.lp_transition.specs.Leg.{Standing, State}
 use Rattle.lp_transition.specs.Scan.{verdicts_among, verdicts_of}
 use Rattle.lp_transition.specs.Table.{Engine, slot, state_in}
-use Rattle.lp_transition.specs.Weigh.{Weighed, refused_by}
+use Rattle.lp_transition.specs.Weigh.{Weighed}
 use Rattle.lp_cert.specs.declared.line.Line.{Line}
 use Rattle.lp_cert.specs.declared.ongoing.Ongoing.{Ongoing}
 use Rattle.lp_cert.specs.declared.ongoing.Ongoing.TheVariants.{Nothing, Hold, Busy}

@@ -1,8 +1,8 @@
 -- The groups that wait in a leg as they are kept, each with its reasons.
-use Rattle.std.specs.Prelude.{◌≡◌, ℕ, suc, ◌+◌, ◌<◌, ◌≤◌, Bool, true, false, not, ◌&&◌, List, [], ◌++◌, ◌∷◌, length, map, reverse, nat_eq, Option, Some, None, is_some, is_none, IfSome, if◌then◌else◌, slice_index_or}
+use Rattle.std.specs.Prelude.{◌≡◌, ℕ, suc, ◌+◌, ◌<◌, ◌≤◌, Bool, true, false, not, ◌&&◌, List, [], ◌++◌, ◌∷◌, length, map, reverse, nat_eq, Option, Some, None, is_some, IfSome, if◌then◌else◌, slice_index_or}
 use Rattle.std.specs.List.{AllByRecursion, list_any}
 use Rattle.std.specs.Option.{option_map}
-use Rattle.lp_numbers.specs.Numbers.{Numbers, has, IsEmpty}
+use Rattle.lp_numbers.specs.Numbers.{Numbers, has}
 use Rattle.lp_stack.specs.declared.number.TaskId.{TaskId}
 use Rattle.lp_model.specs.Rules.{Rules}
 use Rattle.lp_model.specs.declared.check.ForkKind.{ForkKind}
@@ -15,8 +15,6 @@ use Rattle.lp_transition.specs.declared.event.Event.TheVariants.{Walk, Stop, For
 use Rattle.lp_transition.specs.Tasks.{on_live}
 use Rattle.lp_transition.specs.Leg.{Standing, State, some_live, is_alone}
 use Rattle.lp_transition.specs.Machine.{outlines_of}
-use Rattle.lp_transition.specs.Weigh.{Weighed, refused_by}
-use Rattle.lp_transition.specs.ScanSteps.{groups_of}
 use Rattle.lp_transition.specs.Table.{Table, Engine, slot, standings, bounds_of, state_in, is_in, is_off}
 use Rattle.lp_transition.specs.Scan.{passing}
 use Rattle.lp_cert.specs.declared.cert.Claim.{Claim}

@@ -166,7 +166,14 @@ impl Maker {
                 self.settled.reset();
                 return;
             };
-            go_on(core, step, number, leg, &mut self.waiters, &mut self.settled);
+            go_on(
+                core,
+                step,
+                number,
+                leg,
+                &mut self.waiters,
+                &mut self.settled,
+            );
             return;
         }
         self.settled.reset();

@@ -1,5 +1,6 @@
 //! The tasks that a scan needn't look at again.
-ghost use Rattle.std.specs.Prelude.{◌≡◌, None, Some, IfOk, IfSome};
+ghost use Rattle.std.specs.Prelude.{◌≡◌, ◌||◌, ℕ, None, Some, IfOk, IfSome, nat_eq};
+ghost use Rattle.lp_numbers.specs.Numbers.{has};
 ghost use Rattle.lp_transition.specs.Table.{state_in};
 ghost use Rattle.lp_cert.specs.Settling.{AreKeptApart, GoesFurther, IsTouched, goes_by, settles, used_scan};
 ghost use Rattle.lp_cert.specs.Steps.{has_frame_in};
@@ -75,10 +76,10 @@ impl Settled {
             | Event::Sleep(task)
             | Event::Wake(task)
             | Event::Enter(task)
-            | Event::Exit(task) => self.unsettled.insert(task.0),
+            | Event::Exit(task) => take_in(&mut self.unsettled, task),
             Event::Fork(parent, child, _) => {
-                self.unsettled.insert(parent.0);
-                self.unsettled.insert(child.0);
+                take_in(&mut self.unsettled, parent);
+                take_in(&mut self.unsettled, child);
             }
             _ => {}
         }
@@ -101,6 +102,16 @@ impl Settled {
         };
         self.kind = Some(kind);
         settle_all(core, verdicts, reasons, &mut self.unsettled);
+    }
+}
+
+/// Makes a task a member of a set, at the cost of a look where it is one.
+#[inline(always)]
+fn take_in(set: &mut NumberSet, task: TaskId)
+    ensures { (t : ℕ) → has set.new t ≡ (has set.old t || nat_eq t task.0) }
+{
+    if !set.contains(task.0) {
+        set.insert(task.0);
     }
 }
 
@@ -149,12 +160,7 @@ fn settles<M: Consistency>(core: &Core<M>, verdict: &Verdict, reasons: &Reasons)
 }
 
 /// Whether a reason goes on if this task is refused so.
-fn goes_by<M: Consistency>(
-    core: &Core<M>,
-    ongoing: Ongoing,
-    task: TaskId,
-    blame: Blame,
-) -> bool
+fn goes_by<M: Consistency>(core: &Core<M>, ongoing: Ongoing, task: TaskId, blame: Blame) -> bool
     ensures { result ≡ goes_by (has_frame_in (state_in core.now)) task.0 blame ongoing }
 {
     match ongoing {

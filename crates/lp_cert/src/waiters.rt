@@ -185,13 +185,7 @@ impl Waiters {
         ensures stood { AreStanding self.old }
     {
         self.unrefused.copy_from(&self.groups);
-        judge_all(
-            core,
-            at,
-            verdicts,
-            &mut self.unrefused,
-            &mut self.reasons,
-        );
+        judge_all(core, at, verdicts, &mut self.unrefused, &mut self.reasons);
         self.reasons.scanned(at);
     }
 

@@ -52,7 +52,7 @@ fn feed(
     maker: &mut Maker,
     event: Event,
 ) -> Result<(), Fail> {
-    let step = maker.weigh(alloc, core, event)?;
+    let step = core.weigh_any(alloc, event)?;
     maker.ready(alloc, core, &step)?;
     maker.note(core, &step);
     core.take(step);

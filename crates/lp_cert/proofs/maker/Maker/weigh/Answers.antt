@@ -5,7 +5,6 @@ use Rattle.lp_transition.specs.Leg.{State}
 use Rattle.lp_transition.specs.Run.{leg_of}
 use Rattle.lp_transition.specs.Scan.{MayLeaveOut}
 use Rattle.lp_transition.specs.Table.{state_in}
-use Rattle.lp_cert.specs.Ends.{Made}
 use Rattle.lp_cert.specs.Made.{lines}
 use Rattle.lp_cert.specs.Settling.{AreSettledBy, AreSettledSince}
 use Rattle.lp_cert.proofs.SettledSteps.{may_leave_out}

@@ -1,4 +1,4 @@
-use Rattle.std.proofs.Common.{sym, subst}
+use Rattle.std.proofs.Common.{subst}
 use Rattle.lp_numbers.specs.Numbers.{Numbers}
 use Rattle.lp_transition.specs.Table.{state_in}
 use Rattle.lp_cert.specs.Waiters.{AreJudged}
