@@ -17,6 +17,7 @@ pub mod ScanTold
 pub mod SettledSteps
 pub mod StepLines
 pub mod SettlingEvents
+pub mod Touching
 pub mod SettlingScans
 pub mod Completions
 pub mod Keeping

@@ -194,7 +194,7 @@ module _ (model : Rules) (lawful : IsLawful model) (e : Engine) (sound : IsSound
             (ap {A = ℕ} {B = Option ℕ} Some at ∙ ap (option_map (λ m. leg.number + m)) (sym moment))
             (certs ∙ ap (certs_by model (and_then leg event)) (sym moment)))
 
-        after_lines : step.reply.completed ≡ false → (g : ℕ) → g < 65536 → lines_at later g ≡ (if is_behind (state_of model (and_then leg event)) g then Some (lines model (and_then leg event) (length (and_then leg event).events) g) else None)
+        pub after_lines : step.reply.completed ≡ false → (g : ℕ) → g < 65536 → lines_at later g ≡ (if is_behind (state_of model (and_then leg event)) g then Some (lines model (and_then leg event) (length (and_then leg event).events) g) else None)
         after_lines now g below =
             let on = gone.goes_on unended now in
             let few : refusal_of model (state_in e) event ≡ None → IsFew model lawful e sound leg leg_sound there before lines_before event =
@@ -429,6 +429,17 @@ module _ (model : Rules) (lawful : IsLawful model) (run : Run) (e : Engine) (sta
                 ∙ ap₂ (λ ls (l : Leg). option_map (end_of model) (under_way model ls l)) (sym same_ended) (sym longer_is)));
             settled = settled_longer (⊎_elim (λ (is_so : settled_next). is_so) (λ (on : IsSettledOn model e step leg later made.settling new.settling). by_event on) settled);
           }
+
+      -- the lines of who waits in the run's leg with the event more
+      pub lines_after : (noted number : ℕ) (leg later_leg : OpenLeg) (before later : WaitingGroups) → number ≡ e.number + 1 → IsGoneOn model e step number leg later_leg before later
+          → Suffices model (state_in e) step made.settling → made.current ≡ Some (open_end noted before leg) → leg.completed ≡ None → step.reply.completed ≡ false
+          → (g : ℕ) → g < 65536 → lines_at later g
+          ≡ (if is_behind (state_of model (and_then (leg_of model run) step.event)) g then Some (lines model (and_then (leg_of model run) step.event) (suc (length (leg_of model run).events)) g) else None)
+      lines_after noted number leg later_leg before later numbered gone suffices old unended incomplete g below =
+          let was = some_before model (ended_legs model (first_leg model run) run.events) (leg_of model run) (open_end noted before leg) (sym old ∙ is.current) in
+          after_lines model lawful e engine_sound (leg_of model run) present_sound stands.there step weighed (opens_if false stays) noted number leg later_leg before later made.settling new.settling numbered was.0 gone was_settled suffices unended incomplete g below
+          ∙ ap (λ m. if is_behind (state_of model (and_then (leg_of model run) step.event)) g then Some (lines model (and_then (leg_of model run) step.event) m g) else None)
+          (length-append (leg_of model run).events (step.event ∷ []) ∙ omega arith)
 
     module _ (turns : is_opening step ≡ true) where
       opened_next : next_leg model (leg_of model run) step.event ≡ opened model (leg_of model run) step.event

@@ -28,11 +28,12 @@ use Rattle.lp_cert.specs.Made.{lines}
 use Rattle.lp_cert.specs.declared.open_leg.OpenLeg.{OpenLeg}
 use Rattle.lp_cert.specs.Ends.{Made, IsMadeOf, is_plain}
 use Rattle.lp_cert.specs.Kept.{IsGoneOn, open_end, is_opening}
-use Rattle.lp_cert.specs.Waiters.{WaitingGroups, lines_at, HasFewGroups, own_lines}
+use Rattle.lp_cert.specs.Waiters.{WaitingGroups, AreStanding, lines_at, HasFewGroups, own_lines}
 use Rattle.lp_cert.specs.Noting.{noted_by, noted_lines}
 use Rattle.lp_cert.specs.Settling.{AreSettledBy, AreThoseOf, IsTouched, Suffices, used_scan}
-use Rattle.lp_cert.proofs.SettledSteps.{touched_settled}
-use Rattle.lp_cert.proofs.Noted.{none_made, opens_if, present_sound, settled_next, still_made}
+use Rattle.lp_cert.proofs.SettledSteps.{no_scan, none_settled}
+use Rattle.lp_cert.proofs.Touching.{touched_settled}
+use Rattle.lp_cert.proofs.Noted.{lines_after, none_made, opens_if, present_sound, settled_next, still_made}
 
 quiet : (event : Event) → is_plain event ≡ true → is_quiet event ≡ true
 quiet (Call t f) h = refl
@@ -160,8 +161,20 @@ module _ (model : Rules) (lawful : IsLawful model) (run : Run) (e : Engine) (sta
     suffices = subst (λ (o : Option CheckKind). AreThoseOf model (state_in e) o [] made.settling) (sym (no_used model event plain)) tt
 
     -- what is made of the run with the event more
-    pub passed_on : IsTouched event made.settling new.settling → (current : Option OpenLeg) → made.current ≡ option_map (open_end noted waiters) current → new.current ≡ option_map (open_end number waiters) current → IsMadeOf model (plus run event) new
-    passed_on touched current old now = by current old now
+    with_settled : settled_next model lawful run e stands step weighed made new is opens_none ended → (current : Option OpenLeg) → made.current ≡ option_map (open_end noted waiters) current → new.current ≡ option_map (open_end number waiters) current
+        → IsMadeOf model (plus run event) new
+    with_settled settled None was later = none_made model lawful run e stands step weighed made new is opens_none ended was later settled
+    with_settled settled (Some leg) was later =
+        still_made model lawful run e stands step weighed made new is opens_none ended noted number leg leg waiters waiters numbered (goes_on number leg waiters) suffices (inl settled) was later
+
+    -- where no group is settled any longer
+    pub passed_over : new.settling.kind ≡ None → (current : Option OpenLeg) → made.current ≡ option_map (open_end noted waiters) current → new.current ≡ option_map (open_end number waiters) current → IsMadeOf model (plus run event) new
+    passed_over calm current was later = with_settled (none_settled model _ _ new.settling calm) current was later
+
+    -- where a leg goes on
+    pub passed_on : AreStanding waiters → IsTouched e waiters.reasons event made.settling new.settling → (leg : OpenLeg) → leg.completed ≡ None → made.current ≡ Some (open_end noted waiters leg) → new.current ≡ Some (open_end number waiters leg)
+        → IsMadeOf model (plus run event) new
+    passed_on stand touched leg unended was later = with_settled settled (Some leg) was later
       where
         stays_open : opens model (leg_of model run) event ≡ false
         stays_open = opens_if model lawful run e stands step weighed made new is false opens_none
@@ -169,9 +182,6 @@ module _ (model : Rules) (lawful : IsLawful model) (run : Run) (e : Engine) (sta
         settled : settled_next model lawful run e stands step weighed made new is opens_none ended
         settled =
             subst (λ m. AreSettledBy model (state_of model (and_then (leg_of model run) event)) (lines model (and_then (leg_of model run) event) m) new.settling) (sym (length-append (leg_of model run).events (event ∷ []) ∙ omega arith))
-            (touched_settled model lawful (leg_of model run) (present_sound model lawful run e stands) event stays_open made.settling new.settling touched is.settled (no_used model event plain))
-
-        by : (leg : Option OpenLeg) → made.current ≡ option_map (open_end noted waiters) leg → new.current ≡ option_map (open_end number waiters) leg → IsMadeOf model (plus run event) new
-        by None was later = none_made model lawful run e stands step weighed made new is opens_none ended was later settled
-        by (Some leg) was later =
-            still_made model lawful run e stands step weighed made new is opens_none ended noted number leg leg waiters waiters numbered (goes_on number leg waiters) suffices (inl settled) was later
+            (touched_settled model lawful e (leg_of model run) (present_sound model lawful run e stands) stands.there event stays_open (no_scan model event (no_used model event plain)) made.settling new.settling waiters touched stand
+            (lines_after model lawful run e stands step weighed made new is opens_none ended noted number leg leg waiters waiters numbered (goes_on number leg waiters) suffices was unended (still model (state_in e) event plain).0)
+            is.settled)

@@ -1,4 +1,4 @@
--- What a scan tells of each group, though it leaves out who is settled.
+-- What a scan tells of each group, though it leaves out those that are settled.
 use Rattle.std.proofs.Common.{◌≡◌, ℕ, Bool, true, false, not, ◌&&◌, ◌||◌, List, [], ◌∷◌, map, Option, Some, None, is_some, IsTrue, nat_eq, refl, sym, ap, subst, ◌∙◌, ⊎_elim}
 use Rattle.std.specs.List.{filter, list_any}
 use Rattle.std.specs.Option.{option_map}
@@ -11,16 +11,17 @@ use Rattle.lp_model.specs.declared.verdict.Verdict.{Verdict}
 use Rattle.lp_transition.specs.Tasks.{Live, on_live, first_of}
 use Rattle.lp_transition.specs.Leg.{Standing, State}
 use Rattle.lp_transition.specs.Machine.{view_of, is_behind}
-use Rattle.lp_transition.specs.Scan.{verdict_of, verdicts_of}
+use Rattle.lp_transition.specs.Scan.{is_asked, verdict_of, verdicts_among, verdicts_of}
 use Rattle.lp_transition.specs.Sound.{IsSound}
-use Rattle.lp_transition.proofs.ScanLists.{Judged, verdict-is}
+use Rattle.lp_transition.proofs.Quantifiers.{some_live-is}
+use Rattle.lp_transition.proofs.ScanLists.{verdict-is}
 use Rattle.lp_cert.specs.declared.line.Line.{Line}
 use Rattle.lp_cert.specs.Made.{group_id, after_refusal}
-use Rattle.lp_cert.specs.Settled.{GoesOn, IsSettled, AreSettled}
-use Rattle.lp_cert.specs.Steps.{has_frame_in, member_verdict, first_refused, first_blamed_in}
+use Rattle.lp_cert.specs.Settled.{IsSettled, AreSettled}
+use Rattle.lp_cert.specs.Steps.{has_frame_in, member_verdict, first_refused}
 use Rattle.lp_cert.specs.Waiters.{WaitingGroups, AreStanding, after_verdict, head_of, lines_in}
 use Rattle.lp_cert.proofs.Settling.{lines_again}
-use Rattle.lp_cert.proofs.SettlingScans.{lone_blamed}
+use Rattle.lp_cert.proofs.SettlingScans.{blamed_alike}
 use Rattle.lp_cert.proofs.VerdictLines.{verdicts_tell}
 
 or_parts : (a b : Bool) → (a || b) ≡ false → (a ≡ false) × (b ≡ false)
@@ -86,48 +87,52 @@ module _ (model : Rules) (s : State) (sound : IsSound s) (on : CheckKind) (lines
     (waiters : WaitingGroups) (stand : AreStanding waiters) (at g : ℕ) (there : has waiters.groups g ≡ true) (same : lines_in waiters.reasons g ≡ lines g) (behind : IsTrue (is_behind s g))
     (blamed : ℕ × Blame) (first : first_refused s g (verdicts_of model on s) ≡ Some blamed) where
   abbrev asked : Verdict → Bool
-  asked v = p v.task.0
+  asked v = is_asked s p v.task.0
 
   abbrev all : List Verdict
   all = verdicts_of model on s
 
-  -- a settled member of the group
-  module _ (j : Judged model on s (λ v. not (asked v) && is_some (member_verdict s g v))) where
-    parts : (not (p j.number) ≡ true) × (is_some (member_verdict s g (verdict_of model on s.aim (view_of j.number j.task))) ≡ true)
-    parts = and_parts (not (p j.number)) (is_some (member_verdict s g (verdict_of model on s.aim (view_of j.number j.task)))) j.passed
+  -- whether a member of the group is asked
+  asked_as : (t : ℕ) (x : Standing) (why : Option Blame) → s.tasks t ≡ Live x → is_some (member_verdict s g (record { task = record { 0 = t }; blame = why })) ≡ true → is_asked s p t ≡ p g
+  asked_as t x why live member = ap (on_live false (λ (y : Standing). p y.group)) live ∙ ap p (is_member s g t x why live member)
 
-    is_settled : IsSettled model on s lines j.number j.task
-    is_settled = settled j.number j.task j.live j.off (not-true (p j.number) parts.0)
+  -- where the group is asked, all members are
+  all_asked : p g ≡ true → list_any (λ v. not (asked v) && is_some (member_verdict s g v)) all ≡ false
+  all_asked kept =
+      false_from_ne_true (list_any (λ v. not (asked v) && is_some (member_verdict s g v)) all) (λ (some : list_any (λ v. not (asked v) && is_some (member_verdict s g v)) all ≡ true).
+      let j = verdict-is model on s (λ v. not (asked v) && is_some (member_verdict s g v)) some in
+      let both = and_parts (not (is_asked s p j.number)) (is_some (member_verdict s g (verdict_of model on s.aim (view_of j.number j.task)))) j.passed in
+      false≢true (sym (not-true (is_asked s p j.number) both.0) ∙ (asked_as j.number j.task (model.blame on (view_of j.number j.task) s.aim) j.live both.1 ∙ kept)))
 
-    grouped : j.task.group ≡ g
-    grouped = is_member s g j.number j.task (model.blame on (view_of j.number j.task) s.aim) j.live parts.1
+  -- where it isn't, none is
+  none_asked : p g ≡ false → list_any (λ v. asked v && is_some (member_verdict s g v)) all ≡ false
+  none_asked out =
+      false_from_ne_true (list_any (λ v. asked v && is_some (member_verdict s g v)) all) (λ (some : list_any (λ v. asked v && is_some (member_verdict s g v)) all ≡ true).
+      let j = verdict-is model on s (λ v. asked v && is_some (member_verdict s g v)) some in
+      let both = and_parts (is_asked s p j.number) (is_some (member_verdict s g (verdict_of model on s.aim (view_of j.number j.task)))) j.passed in
+      false≢true (sym out ∙ (sym (asked_as j.number j.task (model.blame on (view_of j.number j.task) s.aim) j.live both.1) ∙ both.0)))
 
-    blamed_is : blamed ≡ (j.number, is_settled.why)
-    blamed_is =
-        let lone = lone_blamed model s on j.number j.task j.live is_settled.why is_settled.refused is_settled.alone sound in
-        let told : Some blamed ≡ Some (j.number, is_settled.why) = sym first ∙ (verdicts_tell model s sound on g behind ∙ subst (λ k. first_blamed_in model s on k ≡ Some (j.number, is_settled.why)) grouped lone) in
-        cc
+  -- and it is settled
+  is_settled : p g ≡ false → IsSettled model on s (lines_in waiters.reasons g) g
+  is_settled out =
+      let w = some_live-is s.bounds s.tasks (λ u y. nat_eq y.group g && not (nat_eq y.level s.target)) behind in
+      let both = and_parts (nat_eq w.life.group g) (not (nat_eq w.life.level s.target)) w.passed in
+      let mine : w.life.group ≡ g = eqb-true w.life.group g both.0 in
+      let off : nat_eq w.life.level s.target ≡ false = not-true (nat_eq w.life.level s.target) both.1 in
+      subst (λ ls. IsSettled model on s ls g) (sym same)
+      (subst (λ k. IsSettled model on s (lines k) k) mine (settled w.task w.life w.live off (ap p mine ∙ out)))
 
-    nobody : list_any (λ v. asked v && is_some (member_verdict s g v)) all ≡ false
-    nobody =
-        false_from_ne_true (list_any (λ v. asked v && is_some (member_verdict s g v)) all) (λ (some : list_any (λ v. asked v && is_some (member_verdict s g v)) all ≡ true).
-        let k = verdict-is model on s (λ v. asked v && is_some (member_verdict s g v)) some in
-        let both = and_parts (p k.number) (is_some (member_verdict s g (verdict_of model on s.aim (view_of k.number k.task)))) k.passed in
-        let member = is_member s g k.number k.task (model.blame on (view_of k.number k.task) s.aim) k.live both.1 in
-        let one : k.number ≡ j.number = is_settled.alone k.number k.task k.live (member ∙ sym grouped) in
-        absurd (false≢true (sym (not-true (p j.number) parts.0) ∙ (sym (ap p one) ∙ both.0))))
-
-    left : after_verdict s at (first_refused s g (filter asked all)) waiters.reasons g ≡ after_refusal (has_frame_in s) g at blamed (lines_in waiters.reasons g)
-    left =
-        let goes : GoesOn (has_frame_in s) j.number is_settled.why (lines_in waiters.reasons g) = subst (GoesOn (has_frame_in s) j.number is_settled.why) (ap lines grouped ∙ sym same) is_settled.goes_on in
-        ap (λ o. after_verdict s at o waiters.reasons g) (first_left s g asked all nobody)
-        ∙ (lines_again (has_frame_in s) j.number is_settled.why waiters.reasons.lists waiters.reasons.scans (group_id g) (head_of waiters.reasons g) (stand g there) at goes
-        ∙ ap (λ b. after_refusal (has_frame_in s) g at b (lines_in waiters.reasons g)) (sym blamed_is))
+  left : p g ≡ false → after_verdict s at (first_refused s g (filter asked all)) waiters.reasons g ≡ after_refusal (has_frame_in s) g at blamed (lines_in waiters.reasons g)
+  left out =
+      let is = is_settled out in
+      ap (λ o. after_verdict s at o waiters.reasons g) (first_left s g asked all (none_asked out))
+      ∙ (lines_again (has_frame_in s) is.member is.why waiters.reasons.lists waiters.reasons.scans (group_id g) (head_of waiters.reasons g) (stand g there) at is.goes_on
+      ∙ sym (blamed_alike model s sound on g (lines_in waiters.reasons g) is at blamed (sym (verdicts_tell model s sound on g behind) ∙ first)))
 
   -- the lines of the group are those after a scan of all
-  pub scan_told : after_verdict s at (first_refused s g (filter asked all)) waiters.reasons g ≡ after_refusal (has_frame_in s) g at blamed (lines_in waiters.reasons g)
+  pub scan_told : after_verdict s at (first_refused s g (verdicts_among model on s p)) waiters.reasons g ≡ after_refusal (has_frame_in s) g at blamed (lines_in waiters.reasons g)
   scan_told =
       ⊎_elim
-      (λ (some : list_any (λ v. not (asked v) && is_some (member_verdict s g v)) all ≡ true). left (verdict-is model on s (λ v. not (asked v) && is_some (member_verdict s g v)) some))
-      (λ (none : list_any (λ v. not (asked v) && is_some (member_verdict s g v)) all ≡ false). ap (λ o. after_verdict s at o waiters.reasons g) (first_kept s g asked all none ∙ first))
-      (cases_Bool (list_any (λ v. not (asked v) && is_some (member_verdict s g v)) all))
+      (λ (kept : p g ≡ true). ap (λ o. after_verdict s at o waiters.reasons g) (first_kept s g asked all (all_asked kept) ∙ first))
+      (λ (out : p g ≡ false). left out)
+      (cases_Bool (p g))

@@ -1,5 +1,5 @@
--- Who is settled after an event that opens no leg.
-use Rattle.std.proofs.Common.{◌≡◌, ℕ, suc, ◌<◌, ◌≤◌, ◌⊎◌, Bool, true, false, not, ◌&&◌, ◌||◌, List, [], ◌∷◌, length, Option, Some, None, is_some, IsTrue, IsFalse, if◌then◌else◌, nat_eq, nat_lt, refl, sym, ap, ap₂, subst, ◌∙◌, ⊎_elim, inl, inr}
+-- Which groups are settled after an event that opens no leg.
+use Rattle.std.proofs.Common.{◌≡◌, ℕ, suc, ◌<◌, ◌⊎◌, Bool, true, false, not, ◌&&◌, ◌||◌, List, [], ◌∷◌, length, Option, Some, None, IsTrue, IsFalse, if◌then◌else◌, nat_eq, nat_lt, refl, sym, ap, ap₂, subst, ◌∙◌, ⊎_elim, inl, inr}
 use Rattle.std.specs.List.{filter, list_any}
 use Rattle.std.proofs.lemmas.Bool.{false≢true, cond-true, cond-false, eqb-true, eq-eqb, ltb-true}
 use Rattle.lp_numbers.specs.Numbers.{has}
@@ -10,16 +10,15 @@ use Rattle.lp_model.specs.declared.check.CheckKind.TheVariants as kind
 use Rattle.lp_model.specs.declared.verdict.Verdict.{Verdict}
 use Rattle.lp_transition.specs.declared.event.Event.{Event}
 use Rattle.lp_transition.specs.declared.event.Event.TheVariants.{Walk, Stop}
-use Rattle.lp_transition.specs.Tasks.{Live}
+use Rattle.lp_transition.specs.Tasks.{Live, on_live}
 use Rattle.lp_transition.specs.Leg.{Standing, State, Leg}
 use Rattle.lp_transition.specs.Run.{and_then, opens}
 use Rattle.lp_transition.specs.Sound.{IsSound}
 use Rattle.lp_transition.specs.Machine.{view_of, is_behind, state_of}
-use Rattle.lp_transition.specs.Scan.{MayLeaveOut, is_scan_kind, scan_event, verdict_of, verdicts_of}
-use Rattle.lp_transition.specs.Table.{Engine, slot, state_in, bounds_of, standings}
+use Rattle.lp_transition.specs.Scan.{is_asked, is_scan_kind, scan_event, verdict_of, verdicts_among, verdicts_of}
+use Rattle.lp_transition.specs.Table.{Engine, state_in, bounds_of, is_in, standings}
 use Rattle.lp_transition.specs.Weigh.{Weighed}
 use Rattle.lp_transition.proofs.Alone.{alone-other}
-use Rattle.lp_transition.proofs.Quantifiers.{some_live-from}
 use Rattle.lp_transition.proofs.ScanLists.{verdict-is, verdict-from}
 use Rattle.lp_transition.proofs.TableLemmas.{slot_from_live}
 use Rattle.lp_cert.specs.declared.line.Line.{Line}
@@ -27,28 +26,22 @@ use Rattle.lp_cert.specs.declared.ongoing.Ongoing.{Ongoing}
 use Rattle.lp_cert.specs.declared.ongoing.Ongoing.TheVariants.{Nothing, Hold, Busy}
 use Rattle.lp_cert.specs.Heads.{is_busy}
 use Rattle.lp_cert.specs.Made.{lines, group_id}
-use Rattle.lp_cert.specs.Settled.{GoesOn, IsSettled, AreSettled, is_touched}
-use Rattle.lp_cert.specs.Settling.{Settling, AreSettledBy, AreSettledSince, AreThoseOf, AreKeptApart, GoesFurther, IsTouched, Suffices, goes_by as reason_goes_by, settles, settles_member, used_kind, used_scan}
+use Rattle.lp_cert.specs.Settled.{GoesOn, IsSettled, AreSettled, says_busy}
+use Rattle.lp_cert.specs.Settling.{Settling, AreSettledBy, AreSettledSince, AreThoseOf, AreKeptApart, GoesFurther, Suffices, goes_by as reason_goes_by, is_of_group, says_busy_on, settles, settles_member, used_kind, used_scan}
 use Rattle.lp_cert.specs.Steps.{has_frame_in}
-use Rattle.lp_cert.specs.Waiters.{LegReasons, WaitingGroups, AreStanding, head_of, is_lone, lines_at, lines_in}
+use Rattle.lp_cert.specs.Waiters.{LegReasons, WaitingGroups, AreStanding, head_of, is_lone, lines_at}
 use Rattle.lp_cert.proofs.HeadLemmas.{busy_blame}
-use Rattle.lp_cert.proofs.Settling.{OngoingGoesOn, head_goes_on, left_out_refused, left_out_together}
-use Rattle.lp_cert.proofs.SettlingEvents.{IsNoUsedScan, settled_by}
+use Rattle.lp_cert.proofs.Settling.{OngoingGoesOn, head_goes_on, head_busy}
+use Rattle.lp_cert.proofs.SettlingEvents.{IsNoUsedScan}
+use Rattle.lp_cert.proofs.Touching.{lines_held, touched_settled}
 use Rattle.lp_cert.proofs.SettlingScans.{scan_settles, after_scan_is}
 
 some_none : {A : Type 0} (a : A) → Some a ≡ None → ⊥
 some_none a e = absurd (cc)
 
--- nobody is said to be settled where there was no scan
+-- no group is said to be settled where there was no scan
 pub none_settled : (model : Rules) (s : State) (ls : ℕ → List Line) (settling : Settling) → settling.kind ≡ None → AreSettledBy model s ls settling
 none_settled model s ls settling none = subst (λ (o : Option CheckKind). AreSettledSince model s ls o (has settling.unsettled)) (sym none) tt
-
--- who is settled may be left out
-pub may_leave_out : (model : Rules) (s : State) (ls : ℕ → List Line) (on : CheckKind) (unsettled : ℕ → Bool) → AreSettled model s ls on unsettled → MayLeaveOut model on s unsettled
-may_leave_out model s ls on unsettled settled = record {
-  refused = left_out_refused model s ls on unsettled settled;
-  together = left_out_together model s ls on unsettled settled;
-}
 
 -- ---- Which events are scans that the model uses
 
@@ -66,7 +59,7 @@ used_some model k on some = by (model.uses k) refl
     by false e = absurd (some_none on (sym some ∙ cond-false (model.uses k) (Some k) None e))
     by true e = let told : Some k ≡ Some on = sym (cond-true (model.uses k) (Some k) None e) ∙ some in (cc, e)
 
-no_scan : (model : Rules) (event : Event) → used_scan model event ≡ None → IsNoUsedScan model event
+pub no_scan : (model : Rules) (event : Event) → used_scan model event ≡ None → IsNoUsedScan model event
 no_scan model event none kind.Walk scan is = used_none model kind.Walk (sym (ap (used_scan model) is) ∙ none)
 no_scan model event none kind.Stop scan is = used_none model kind.Stop (sym (ap (used_scan model) is) ∙ none)
 no_scan model event none kind.KernelExit scan is = absurd (false≢true scan)
@@ -103,28 +96,36 @@ ongoing_is has_frame t why (Busy task first) h =
     let parts = both_true (nat_eq task.0 t) (is_busy why) h in
     (eqb-true task.0 t parts.0, busy_blame why parts.1)
 
--- a verdict that settles its task
-record Settles (e : Engine) (reasons : LegReasons) (t : ℕ) (o : Option Blame) (x : Standing) : Type 0 where
+not_busy_or : (a b : Bool) → (not a || b) ≡ true → a ≡ true → b ≡ true
+not_busy_or true b h busy = h
+not_busy_or false b h busy = absurd (false≢true busy)
+
+-- a verdict of this member that settles the group
+record Settles (e : Engine) (reasons : LegReasons) (g t : ℕ) (o : Option Blame) (x : Standing) : Type 0 where
+  grouped : x.group ≡ g
   why : Blame
   refused : o ≡ Some why
-  few : x.group < 65536
-  lone : is_lone e t x.group ≡ true
-  goes_on : reason_goes_by (has_frame_in (state_in e)) t why (head_of reasons x.group).ongoing ≡ true
+  few : g < 65536
+  goes_on : reason_goes_by (has_frame_in (state_in e)) t why (head_of reasons g).ongoing ≡ true
+  lone : says_busy_on (head_of reasons g).ongoing ≡ true → is_lone e t g ≡ true
 
-settles_is : (e : Engine) (reasons : LegReasons) (t : ℕ) (o : Option Blame) (x : Standing) (found : Option Standing) → found ≡ Some x → settles_member e reasons t o found ≡ true → Settles e reasons t o x
-settles_is e reasons t o x None there h = absurd (some_none x (sym there))
-settles_is e reasons t None x (Some y) there h = absurd (cc)
-settles_is e reasons t (Some why) x (Some y) there h =
-    let same : y ≡ x = cc in
-    let outer = both_true (nat_lt y.group 65536) (is_lone e t y.group && reason_goes_by (has_frame_in (state_in e)) t why (head_of reasons y.group).ongoing) h in
-    let parts = both_true (is_lone e t y.group) (reason_goes_by (has_frame_in (state_in e)) t why (head_of reasons y.group).ongoing) outer.1 in
-    let below : y.group < 65536 = ltb-true y.group 65536 outer.0 in
+settles_is : (e : Engine) (reasons : LegReasons) (g t : ℕ) (o : Option Blame) (x : Standing) → settles_member e reasons g t o (Some x) ≡ true → Settles e reasons g t o x
+settles_is e reasons g t None x h = absurd (cc)
+settles_is e reasons g t (Some why) x h =
+    let by_reason : ℕ → Bool = λ k. reason_goes_by (has_frame_in (state_in e)) t why (head_of reasons k).ongoing in
+    let by_busy : ℕ → Bool = λ k. not (says_busy_on (head_of reasons k).ongoing) || is_lone e t k in
+    let outer = both_true (nat_eq x.group g && nat_lt x.group 65536) (by_reason x.group && by_busy x.group) h in
+    let member = both_true (nat_eq x.group g) (nat_lt x.group 65536) outer.0 in
+    let parts = both_true (by_reason x.group) (by_busy x.group) outer.1 in
+    let mine : x.group ≡ g = eqb-true x.group g member.0 in
+    let below : x.group < 65536 = ltb-true x.group 65536 member.1 in
     record {
+      grouped = mine;
       why = why;
       refused = refl;
-      few = subst (λ (z : Standing). z.group < 65536) same below;
-      lone = ap (λ (z : Standing). is_lone e t z.group) (sym same) ∙ parts.0;
-      goes_on = ap (λ (z : Standing). reason_goes_by (has_frame_in (state_in e)) t why (head_of reasons z.group).ongoing) (sym same) ∙ parts.1;
+      few = subst (λ k. k < 65536) mine below;
+      goes_on = ap by_reason (sym mine) ∙ parts.0;
+      lone = λ busy. not_busy_or (says_busy_on (head_of reasons g).ongoing) (is_lone e t g) (ap by_busy (sym mine) ∙ parts.1) busy;
     }
 
 any_filtered : (p q : Verdict → Bool) (vs : List Verdict) → list_any q (filter p vs) ≡ true → list_any q vs ≡ true
@@ -136,30 +137,18 @@ any_filtered p q (v ∷ vs) h = by (any_filtered p q vs) (p v) refl (q v) refl
     by rest true e false f = ap (λ a. a || list_any q vs) f ∙ rest (sym (ap (λ a. a || list_any q (filter p vs)) f) ∙ (sym (ap (list_any q) (cond-true (p v) (v ∷ filter p vs) (filter p vs) e)) ∙ h))
     by rest false e false f = ap (λ a. a || list_any q vs) f ∙ rest (sym (ap (list_any q) (cond-false (p v) (v ∷ filter p vs) (filter p vs) e)) ∙ h)
 
--- ---- An event that is no scan that the model uses
-
-module _ (model : Rules) (lawful : IsLawful model) (leg : Leg) (leg_sound : IsSound leg.opening) (event : Event) (stays : opens model leg event ≡ false) (old new : Settling) (touched : IsTouched event old new)
-    (was : AreSettledBy model (state_of model leg) (lines model leg (length leg.events)) old) where
-  less_by : (on : CheckKind) → old.kind ≡ Some on → (t : ℕ) → has new.unsettled t ≡ false → (has old.unsettled t ≡ false) × (is_touched event t ≡ false)
-  less_by on kind_is t out =
-      let told : (has old.unsettled t || (is_some old.kind && is_touched event t)) ≡ false = sym (touched.tasks t) ∙ out in
-      by (has old.unsettled t) refl (is_touched event t) refl (sym (ap (λ (o : Option CheckKind). has old.unsettled t || (is_some o && is_touched event t)) kind_is) ∙ told)
-    where
-      by : (a : Bool) → has old.unsettled t ≡ a → (b : Bool) → is_touched event t ≡ b → (has old.unsettled t || is_touched event t) ≡ false → (has old.unsettled t ≡ false) × (is_touched event t ≡ false)
-      by false f false g h = (f, g)
-      by true f b g h = absurd (false≢true (sym h ∙ ap (λ c. c || is_touched event t) f))
-      by false f true g h = absurd (false≢true (sym h ∙ ap₂ (λ c d. c || d) f g))
-
-  pub touched_settled : used_scan model event ≡ None → AreSettledBy model (state_of model (and_then leg event)) (lines model (and_then leg event) (suc (length leg.events))) new
-  touched_settled none = by old.kind refl
-    where
-      by : (o : Option CheckKind) → old.kind ≡ o → AreSettledBy model (state_of model (and_then leg event)) (lines model (and_then leg event) (suc (length leg.events))) new
-      by None k = none_settled model (state_of model (and_then leg event)) (lines model (and_then leg event) (suc (length leg.events))) new (touched.kind ∙ k)
-      by (Some on) k =
-          let before : AreSettled model (state_of model leg) (lines model leg (length leg.events)) on (has old.unsettled) =
-          subst (λ (o : Option CheckKind). AreSettledSince model (state_of model leg) (lines model leg (length leg.events)) o (has old.unsettled)) k was in
-          subst (λ (o : Option CheckKind). AreSettledSince model (state_of model (and_then leg event)) (lines model (and_then leg event) (suc (length leg.events))) o (has new.unsettled)) (sym (touched.kind ∙ k))
-          (settled_by model lawful leg leg_sound event stays (no_scan model event none) on (has old.unsettled) (has new.unsettled) before (less_by on k))
+-- what passes both tests is kept
+any_kept : (p q : Verdict → Bool) (vs : List Verdict) → list_any (λ v. p v && q v) vs ≡ true → list_any q (filter p vs) ≡ true
+any_kept p q [] h = h
+any_kept p q (v ∷ vs) h = by (any_kept p q vs) (p v) refl (q v) refl
+  where
+    by : (list_any (λ w. p w && q w) vs ≡ true → list_any q (filter p vs) ≡ true) → (b : Bool) → p v ≡ b → (c : Bool) → q v ≡ c → list_any q (filter p (v ∷ vs)) ≡ true
+    by rest true e true f = ap (list_any q) (cond-true (p v) (v ∷ filter p vs) (filter p vs) e) ∙ ap (λ a. a || list_any q (filter p vs)) f
+    by rest true e false f =
+        ap (list_any q) (cond-true (p v) (v ∷ filter p vs) (filter p vs) e)
+        ∙ (ap (λ a. a || list_any q (filter p vs)) f ∙ rest (sym (ap₂ (λ a c. (a && c) || list_any (λ w. p w && q w) vs) e f) ∙ h))
+    by rest false e c f =
+        ap (list_any q) (cond-false (p v) (v ∷ filter p vs) (filter p vs) e) ∙ rest (sym (ap (λ a. (a && q v) || list_any (λ w. p w && q w) vs) e) ∙ h)
 
 -- ---- An event that opens no leg
 
@@ -181,87 +170,92 @@ module _ (model : Rules) (lawful : IsLawful model) (e : Engine) (sound : IsSound
 
   -- ---- A scan that the model uses
 
-  module _ (on : CheckKind) (is_scan : IsUsedScan model step.event on) (told : AreThoseOf model s (Some on) step.verdicts old) (apart : AreKeptApart e later.reasons step.verdicts old.unsettled new.unsettled) where
+  module _ (on : CheckKind) (is_scan : IsUsedScan model step.event on) (told : AreThoseOf model s (Some on) step.verdicts old) (apart : AreKeptApart e later.reasons step.verdicts new.unsettled) where
     abbrev all : List Verdict
     all = verdicts_of model on s
 
-    -- who isn't gone over was settled before
-    was_settled : (t : ℕ) (x : Standing) → s.tasks t ≡ Live x → nat_eq x.level s.target ≡ false → has old.unsettled t ≡ false → list_any (λ v. nat_eq v.task.0 t) step.verdicts ≡ false
-        → IsSettled model on s (lines model leg n) t x
-    was_settled t x live off out none =
+    -- the verdict of a task that waits is a member's of its group
+    of_group : (t : ℕ) (x : Standing) → s.tasks t ≡ Live x → is_of_group e x.group (verdict_of model on s.aim (view_of t x)) ≡ true
+    of_group t x live = ap (is_in x.group) (slot_from_live e.table t x live) ∙ eq-eqb x.group x.group refl
+
+    -- a group of which no member was gone over was settled before
+    was_settled : (t : ℕ) (x : Standing) → s.tasks t ≡ Live x → nat_eq x.level s.target ≡ false → list_any (is_of_group e x.group) step.verdicts ≡ false → IsSettled model on s (lines model leg n x.group) x.group
+    was_settled t x live off none =
         ⊎_elim
         (λ (whole : step.verdicts ≡ all).
         let bounds = sound.numbered t x live in
-        let some : list_any (λ v. nat_eq v.task.0 t) all ≡ true =
-        verdict-from model on s (λ v. nat_eq v.task.0 t) (record { number = t; task = x; live = live; off = off; passed = eq-eqb t t refl }) bounds.0 bounds.1 in
-        absurd (false≢true (sym none ∙ (ap (list_any (λ v. nat_eq v.task.0 t)) whole ∙ some))))
-        (λ (part : (old.kind ≡ Some on) × (step.verdicts ≡ filter (λ v. has old.unsettled v.task.0) all)). was_since (Some on) part.0 t x live off out)
+        let some : list_any (is_of_group e x.group) all ≡ true =
+        verdict-from model on s (is_of_group e x.group) (record { number = t; task = x; live = live; off = off; passed = of_group t x live }) bounds.0 bounds.1 in
+        absurd (false≢true (sym none ∙ (ap (list_any (is_of_group e x.group)) whole ∙ some))))
+        (λ (part : (old.kind ≡ Some on) × (step.verdicts ≡ verdicts_among model on s (has old.unsettled))). was_since (Some on) part.0 t x live off (left part.1 (has old.unsettled x.group) refl))
         told
+      where
+        left : step.verdicts ≡ verdicts_among model on s (has old.unsettled) → (b : Bool) → has old.unsettled x.group ≡ b → has old.unsettled x.group ≡ false
+        left part false e2 = e2
+        left part true e2 =
+            let bounds = sound.numbered t x live in
+            let was_asked : is_asked s (has old.unsettled) t ≡ true = ap (on_live false (λ (y : Standing). has old.unsettled y.group)) live ∙ e2 in
+            let some : list_any (λ v. is_asked s (has old.unsettled) v.task.0 && is_of_group e x.group v) all ≡ true =
+            verdict-from model on s (λ v. is_asked s (has old.unsettled) v.task.0 && is_of_group e x.group v)
+            (record { number = t; task = x; live = live; off = off; passed = ap₂ (λ c d. c && d) was_asked (of_group t x live) }) bounds.0 bounds.1 in
+            absurd (false≢true (sym none ∙ (ap (list_any (is_of_group e x.group)) part ∙ any_kept (λ v. is_asked s (has old.unsettled) v.task.0) (is_of_group e x.group) all some)))
 
-    -- what settles a task by its verdict
-    by_verdict : (t : ℕ) (x : Standing) → s.tasks t ≡ Live x → list_any (λ v. nat_eq v.task.0 t && settles e later.reasons v) step.verdicts ≡ true
-        → Settles e later.reasons t (model.blame on (view_of t x) s.aim) x
-    by_verdict t x live some =
-        let found : list_any (λ v. nat_eq v.task.0 t && settles e later.reasons v) all ≡ true =
+    -- a member of the group whose verdict settles it
+    record IsSettledBy (g : ℕ) : Type 0 where
+      member : ℕ
+      life : Standing
+      live : s.tasks member ≡ Live life
+      settles : Settles e later.reasons g member (model.blame on (view_of member life) s.aim) life
+
+    by_verdict : (g : ℕ) → list_any (settles e later.reasons g) step.verdicts ≡ true → IsSettledBy g
+    by_verdict g some =
+        let found : list_any (settles e later.reasons g) all ≡ true =
         ⊎_elim
-        (λ (whole : step.verdicts ≡ all). ap (list_any (λ v. nat_eq v.task.0 t && settles e later.reasons v)) (sym whole) ∙ some)
-        (λ (part : (old.kind ≡ Some on) × (step.verdicts ≡ filter (λ v. has old.unsettled v.task.0) all)).
-        any_filtered (λ v. has old.unsettled v.task.0) (λ v. nat_eq v.task.0 t && settles e later.reasons v) all (ap (list_any (λ v. nat_eq v.task.0 t && settles e later.reasons v)) (sym part.1) ∙ some))
+        (λ (whole : step.verdicts ≡ all). ap (list_any (settles e later.reasons g)) (sym whole) ∙ some)
+        (λ (part : (old.kind ≡ Some on) × (step.verdicts ≡ verdicts_among model on s (has old.unsettled))).
+        any_filtered (λ v. is_asked s (has old.unsettled) v.task.0) (settles e later.reasons g) all (ap (list_any (settles e later.reasons g)) (sym part.1) ∙ some))
         told in
-        let j = verdict-is model on s (λ v. nat_eq v.task.0 t && settles e later.reasons v) found in
-        let parts = both_true (nat_eq j.number t) (settles e later.reasons (verdict_of model on s.aim (view_of j.number j.task))) j.passed in
-        let mine : j.number ≡ t = eqb-true j.number t parts.0 in
-        let there_is : s.tasks t ≡ Live j.task = ap s.tasks (sym mine) ∙ j.live in
-        let one : j.task ≡ x = live_one j.task x (sym there_is ∙ live) in
-        let verdict : settles_member e later.reasons t (model.blame on (view_of t x) s.aim) (slot e.table t) ≡ true =
-        subst (λ (y : Standing). settles_member e later.reasons t (model.blame on (view_of t y) s.aim) (slot e.table t) ≡ true) one
-        (subst (λ u. settles_member e later.reasons u (model.blame on (view_of u j.task) s.aim) (slot e.table u) ≡ true) mine parts.1) in
-        settles_is e later.reasons t (model.blame on (view_of t x) s.aim) x (slot e.table t) (slot_from_live e.table t x live) verdict
-      where
-        live_one : (y z : Standing) → Live y ≡ Live z → y ≡ z
-        live_one y z h = cc
-
-    -- a group with a task that waits after the scan has its lines
-    lines_kept : (t : ℕ) (x : Standing) → s.tasks t ≡ Live x → x.group < 65536 → (state_of model longer).tasks t ≡ Live x → nat_eq x.level (state_of model longer).target ≡ false
-        → (has later.groups x.group ≡ true) × (lines model longer (suc n) x.group ≡ lines_in later.reasons x.group)
-    lines_kept t x live few live_after off_after =
-        let bounds = sound.numbered t x live in
-        let behind : is_behind (state_of model longer) x.group ≡ true =
-        some_live-from (state_of model longer).bounds (state_of model longer).tasks (λ u y. nat_eq y.group x.group && not (nat_eq y.level (state_of model longer).target))
-        (record { task = t; life = x; positive = bounds.0; within = subst (λ (st : State). t ≤ st.bounds.tasks) there bounds.1; live = live_after; passed = ap₂ (λ c d. c && not d) (eq-eqb x.group x.group refl) off_after }) in
-        held x.group (after_lines x.group few ∙ cond-true (is_behind (state_of model longer) x.group) (Some (lines model longer (suc n) x.group)) None behind)
-      where
-        held : (g : ℕ) → lines_at later g ≡ Some (lines model longer (suc n) g) → (has later.groups g ≡ true) × (lines model longer (suc n) g ≡ lines_in later.reasons g)
-        held g h = by (has later.groups g) refl
-          where
-            by : (b : Bool) → has later.groups g ≡ b → (has later.groups g ≡ true) × (lines model longer (suc n) g ≡ lines_in later.reasons g)
-            by true f = let same : Some (lines_in later.reasons g) ≡ Some (lines model longer (suc n) g) = sym (cond-true (has later.groups g) (Some (lines_in later.reasons g)) None f) ∙ h in (f, cc)
-            by false f = absurd (some_none (lines model longer (suc n) g) (sym h ∙ cond-false (has later.groups g) (Some (lines_in later.reasons g)) None f))
-
-    -- who is settled by its verdict
-    is_settled : (t : ℕ) (x : Standing) → s.tasks t ≡ Live x → (state_of model longer).tasks t ≡ Live x → nat_eq x.level (state_of model longer).target ≡ false
-        → list_any (λ v. nat_eq v.task.0 t && settles e later.reasons v) step.verdicts ≡ true → IsSettled model on s (lines model longer (suc n)) t x
-    is_settled t x live live_after off_after some =
-        let by = by_verdict t x live some in
-        let kept = lines_kept t x live by.few live_after off_after in
+        let j = verdict-is model on s (settles e later.reasons g) found in
+        let blame = model.blame on (view_of j.number j.task) s.aim in
         record {
-          why = by.why;
-          refused = by.refused;
-          alone = λ u y live_u group. let bounds = sound.numbered u y live_u in alone-other (bounds_of e.patches) (standings e.table) x.group t x live refl by.lone u y bounds.0 bounds.1 live_u group;
-          goes_on =
-              subst (GoesOn (has_frame_in s) t by.why) (sym kept.1)
-              (head_goes_on (has_frame_in s) t by.why later.reasons.lists later.reasons.scans (group_id x.group) (head_of later.reasons x.group) (stand x.group kept.0)
-              (ongoing_is (has_frame_in s) t by.why (head_of later.reasons x.group).ongoing by.goes_on));
+          member = j.number;
+          life = j.task;
+          live = j.live;
+          settles = settles_is e later.reasons g j.number blame j.task (ap (settles_member e later.reasons g j.number blame) (sym (slot_from_live e.table j.number j.task j.live)) ∙ j.passed);
         }
 
-    either : (t : ℕ) (x : Standing) → s.tasks t ≡ Live x → nat_eq x.level s.target ≡ false → (state_of model longer).tasks t ≡ Live x → has new.unsettled t ≡ false
-        → IsSettled model on s (lines model leg n) t x ⊎ IsSettled model on s (lines model longer (suc n)) t x
+    -- a group that a verdict settles
+    is_settled : (t : ℕ) (x : Standing) → (state_of model longer).tasks t ≡ Live x → nat_eq x.level (state_of model longer).target ≡ false
+        → list_any (settles e later.reasons x.group) step.verdicts ≡ true → IsSettled model on s (lines model longer (suc n) x.group) x.group
+    is_settled t x live_after off_after some =
+        let found = by_verdict x.group some in
+        let by = found.settles in
+        let kept = lines_held model lawful longer leg_sound later (suc n) after_lines t x live_after off_after by.few in
+        let goes_on = ongoing_is (has_frame_in s) found.member by.why (head_of later.reasons x.group).ongoing by.goes_on in
+        record {
+          member = found.member;
+          life = found.life;
+          live = found.live;
+          grouped = by.grouped;
+          why = by.why;
+          refused = by.refused;
+          goes_on =
+              subst (GoesOn (has_frame_in s) found.member by.why) (sym kept.1)
+              (head_goes_on (has_frame_in s) found.member by.why later.reasons.lists later.reasons.scans (group_id x.group) (head_of later.reasons x.group) (stand x.group kept.0) goes_on);
+          alone = λ busy u y live_u mine.
+              let busy_on = head_busy (has_frame_in s) found.member by.why later.reasons.lists later.reasons.scans (group_id x.group) (head_of later.reasons x.group) (stand x.group kept.0) goes_on (ap says_busy (sym kept.1) ∙ busy) in
+              let bounds = sound.numbered u y live_u in
+              alone-other (bounds_of e.patches) (standings e.table) x.group found.member found.life found.live by.grouped (by.lone busy_on) u y bounds.0 bounds.1 live_u mine;
+        }
+
+    either : (t : ℕ) (x : Standing) → s.tasks t ≡ Live x → nat_eq x.level s.target ≡ false → (state_of model longer).tasks t ≡ Live x → has new.unsettled x.group ≡ false
+        → IsSettled model on s (lines model leg n x.group) x.group ⊎ IsSettled model on s (lines model longer (suc n) x.group) x.group
     either t x live off live_after out =
         ⊎_elim
-        (λ (none : (has old.unsettled t ≡ false) × (list_any (λ v. nat_eq v.task.0 t) step.verdicts ≡ false)). inl (was_settled t x live off none.0 none.1))
-        (λ (some : list_any (λ v. nat_eq v.task.0 t && settles e later.reasons v) step.verdicts ≡ true).
-        inr (is_settled t x live live_after (subst (λ (st : State). nat_eq x.level st.target ≡ false) there off) some))
-        (apart t out)
+        (λ (none : list_any (is_of_group e x.group) step.verdicts ≡ false). inl (was_settled t x live off none))
+        (λ (some : list_any (settles e later.reasons x.group) step.verdicts ≡ true).
+        inr (is_settled t x live_after (subst (λ (st : State). nat_eq x.level st.target ≡ false) there off) some))
+        (apart x.group out)
 
     -- the state of a leg in the words of the engine's
     scanned_settled : AreSettled model (state_of model longer) (lines model longer (suc n)) on (has new.unsettled)
@@ -270,8 +264,8 @@ module _ (model : Rules) (lawful : IsLawful model) (e : Engine) (sound : IsSound
         subst (λ (l : Leg). AreSettled model (state_of model l) (lines model l (suc n)) on (has new.unsettled)) (sym longer_is)
         (scan_settles model lawful leg leg_sound on is_scan.scan is_scan.used (has new.unsettled)
         (λ t x live off live_after out.
-        subst (λ (l : Leg). IsSettled model on (state_of model leg) (lines model leg n) t x ⊎ IsSettled model on (state_of model leg) (lines model l (suc n)) t x) longer_is
-        (subst (λ (st : State). IsSettled model on st (lines model leg n) t x ⊎ IsSettled model on st (lines model longer (suc n)) t x) there
+        subst (λ (l : Leg). IsSettled model on (state_of model leg) (lines model leg n x.group) x.group ⊎ IsSettled model on (state_of model leg) (lines model l (suc n) x.group) x.group) longer_is
+        (subst (λ (st : State). IsSettled model on st (lines model leg n x.group) x.group ⊎ IsSettled model on st (lines model longer (suc n) x.group) x.group) there
         (either t x (subst (λ (st : State). st.tasks t ≡ Live x) (sym there) live) (subst (λ (st : State). nat_eq x.level st.target ≡ false) (sym there) off)
         (subst (λ (l : Leg). (state_of model l).tasks t ≡ Live x) (sym longer_is) (subst (λ (st : State). st.tasks t ≡ Live x) (sym (after_scan_is model lawful leg leg_sound on is_scan.scan is_scan.used)) live_after)) out))))
 
@@ -279,7 +273,7 @@ module _ (model : Rules) (lawful : IsLawful model) (e : Engine) (sound : IsSound
   settled_on = by (used_scan model step.event) refl
     where
       by : (o : Option CheckKind) → used_scan model step.event ≡ o → AreSettledBy model (state_of model longer) (lines model longer (suc n)) new
-      by None is = touched_settled model lawful leg leg_sound step.event stays old new (further.others is) (subst (λ (st : State). AreSettledBy model st (lines model leg n) old) there was) is
+      by None is = touched_settled model lawful e leg leg_sound there step.event stays (no_scan model step.event is) old new later (further.others is) stand after_lines (subst (λ (st : State). AreSettledBy model st (lines model leg n) old) there was)
       by (Some on) is =
           let after = further.scan on is in
           subst (λ (o : Option CheckKind). AreSettledSince model (state_of model longer) (lines model longer (suc n)) o (has new.unsettled)) (sym after.0)

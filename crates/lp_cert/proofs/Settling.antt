@@ -1,15 +1,15 @@
--- Whom a scan needn't look at again, and what a further refusal of a settled task makes of its group's lines.
-use Rattle.std.proofs.Common.{◌≡◌, ◌≢◌, ℕ, ◌+◌, ◌<◌, Bool, true, false, List, [], ◌∷◌, ◌++◌, length, map, reverse, take, drop, is_some, nat_eq, get_or, refl, sym, ap, subst, ◌∙◌, arith}
-use Rattle.std.proofs.lemmas.Bool.{cond-true, eq-eqb}
+-- What a scan needn't look at again, and what a further refusal of a settled group makes of its lines.
+use Rattle.std.proofs.Common.{◌≡◌, ℕ, ◌<◌, Bool, true, false, List, [], ◌∷◌, ◌++◌, length, map, reverse, take, drop, is_some, nat_eq, get_or, refl, sym, ap, subst, ◌∙◌, arith}
+use Rattle.std.proofs.lemmas.Bool.{false≢true, cond-true, eq-eqb}
 use Rattle.lp_stack.specs.declared.number.GroupId.{GroupId}
 use Rattle.lp_stack.specs.declared.number.TaskId.{TaskId}
 use Rattle.lp_model.specs.declared.check.CheckKind.{CheckKind}
 use Rattle.lp_model.specs.declared.check.Blame.{Blame}
 use Rattle.lp_model.specs.declared.check.Blame.TheVariants as blame
 use Rattle.lp_model.specs.Rules.{Rules}
-use Rattle.lp_transition.specs.Tasks.{Live}
-use Rattle.lp_transition.specs.Leg.{Standing, State}
-use Rattle.lp_transition.specs.Machine.{view_of}
+use Rattle.lp_transition.specs.Leg.{State}
+use Rattle.lp_transition.specs.Scan.{MayLeaveOut}
+use Rattle.lp_transition.specs.Sound.{IsSound}
 use Rattle.lp_cert.specs.declared.line.Line.{Line}
 use Rattle.lp_cert.specs.declared.line.Line.TheVariants as line
 use Rattle.lp_cert.specs.declared.reason.Reason.{Reason}
@@ -20,24 +20,25 @@ use Rattle.lp_cert.specs.declared.head.Head.{Head}
 use Rattle.lp_cert.specs.declared.head.Refused.{Refused}
 use Rattle.lp_cert.specs.Made.{after_refusal, task_id}
 use Rattle.lp_cert.specs.Heads.{lines_of, ongoing_reasons, head_lines, GoesOnIn, IsUnchecked, IsHead, IsRefusedBy, HasFrameAs, stays}
-use Rattle.lp_cert.specs.Settled.{GoesOn, AreSettled}
+use Rattle.lp_cert.specs.Settled.{GoesOn, AreSettled, says_busy}
+use Rattle.lp_cert.specs.Settling.{says_busy_on}
 use Rattle.lp_cert.proofs.HeadLemmas.{busy_some, refused_on}
 
--- ---- Whom a scan leaves out
+-- ---- What a scan leaves out
 
-module _ (model : Rules) (s : State) (lines : ℕ → List Line) (kind : CheckKind) (unsettled : ℕ → Bool) (settled : AreSettled model s lines kind unsettled) where
-  -- who waits and is left out would be refused
-  pub left_out_refused : (t : ℕ) (x : Standing) → s.tasks t ≡ Live x → nat_eq x.level s.target ≡ false → unsettled t ≡ false → is_some (model.blame kind (view_of t x) s.aim) ≡ true
-  left_out_refused t x live off out = ap is_some (settled t x live off out).refused
-
-  -- of a group that waits all members are left out, or none
-  pub left_out_together : (t u : ℕ) (x y : Standing) → s.tasks t ≡ Live x → s.tasks u ≡ Live y → nat_eq x.level s.target ≡ false → nat_eq y.level s.target ≡ false → x.group ≡ y.group → unsettled t ≡ unsettled u
-  left_out_together t u x y live there off behind same = by (unsettled t) (unsettled u) refl refl
-    where
-      by : (a b : Bool) → unsettled t ≡ a → unsettled u ≡ b → unsettled t ≡ unsettled u
-      by true true first second = first ∙ sym second
-      by false b first second = ap unsettled (sym ((settled t x live off first).alone u y there (sym same)))
-      by true false first second = ap unsettled ((settled u y there behind second).alone t x live same)
+module _ (model : Rules) (s : State) (sound : IsSound s) (lines : ℕ → List Line) (kind : CheckKind) (unsettled : ℕ → Bool) (settled : AreSettled model s lines kind unsettled) where
+  -- of a group that waits and is left out a member would be refused: it waits too
+  pub may_leave_out : MayLeaveOut model kind s unsettled
+  may_leave_out t x live off out =
+      let is = settled t x live off out in
+      record {
+        member = is.member;
+        life = is.life;
+        live = is.live;
+        off = ap (λ level. nat_eq level s.target) (sound.one_side is.member t is.life x is.live live is.grouped) ∙ off;
+        grouped = is.grouped;
+        refused = ap is_some is.refused;
+      }
 
 -- ---- One line more, or a line that goes on
 
@@ -51,6 +52,25 @@ module _ (has_frame : (task serial : ℕ) → Bool) (group at t : ℕ) (why : Bl
   goes_on_after (line.Busy g task on ∷ older) h =
       subst (λ b. GoesOn has_frame t why (after_refusal has_frame group at (t, b) (line.Busy g task on ∷ older))) (sym h.1) (refl, h.1)
   goes_on_after (line.Born g p on ∷ older) h = absurd h
+
+  -- a hold that goes on does so whoever is refused
+  pub hold_on : (blamed : ℕ × Blame) (lines : List Line) → GoesOn has_frame t why lines → says_busy lines ≡ false → after_refusal has_frame group at blamed lines ≡ after_refusal has_frame group at (t, why) lines
+  hold_on blamed [] h calm = absurd h
+  hold_on blamed (line.Hold g task serial from to ∷ older) h calm =
+      let held : has_frame task.0 serial ≡ true = ap (λ n. has_frame n serial) h.0 ∙ h.1 in
+      cond-true (has_frame task.0 serial) (line.Hold g task serial from at ∷ older) _ held
+      ∙ sym (cond-true (has_frame task.0 serial) (line.Hold g task serial from at ∷ older) _ held)
+  hold_on blamed (line.Busy g task on ∷ older) h calm = absurd (false≢true (sym calm))
+  hold_on blamed (line.Born g p on ∷ older) h calm = absurd h
+
+  -- a line that goes on is a busy member's if it was
+  pub busy_before : (lines : List Line) → GoesOn has_frame t why lines → says_busy (after_refusal has_frame group at (t, why) lines) ≡ true → says_busy lines ≡ true
+  busy_before [] h busy = absurd h
+  busy_before (line.Hold g task serial from to ∷ older) h busy =
+      let held : has_frame task.0 serial ≡ true = ap (λ n. has_frame n serial) h.0 ∙ h.1 in
+      absurd (false≢true (sym (ap says_busy (cond-true (has_frame task.0 serial) (line.Hold g task serial from at ∷ older) _ held)) ∙ busy))
+  busy_before (line.Busy g task on ∷ older) h busy = refl
+  busy_before (line.Born g p on ∷ older) h busy = absurd h
 
 -- what goes on of a head goes on with this refusal of the task
 abbrev pub OngoingGoesOn : (has_frame : (task serial : ℕ) → Bool) → (task : ℕ) → Blame → Ongoing → Type 0
@@ -94,6 +114,13 @@ module _ (has_frame : (task serial : ℕ) → Bool) (t : ℕ) (why : Blame) wher
   ongoing_lines scans g (Busy task first) rs goes h =
       front_busy g task (reverse (drop first (take (length scans) scans))) (lines_of scans rs) (busy_some scans first goes) h
 
+  -- where the newest line is that a member is busy, so is what goes on
+  busy_of : (scans : List ℕ) (g : GroupId) (o : Ongoing) (rs : List Reason) → OngoingGoesOn has_frame t why o → says_busy (lines_of scans (ongoing_reasons scans g o ++ rs)) ≡ true → says_busy_on o ≡ true
+  unfolding lines_of
+  busy_of scans g Nothing rs h busy = absurd h
+  busy_of scans g (Hold task serial from) rs h busy = busy
+  busy_of scans g (Busy task first) rs h busy = refl
+
   -- a refusal of the task with the frame still there
   abbrev pub again : ℕ → Refused
   again at = record { at = at; task = task_id t; blame = why; held = true }
@@ -108,11 +135,6 @@ module _ (has_frame : (task serial : ℕ) → Bool) (t : ℕ) (why : Blame) wher
   ongoing_stays (Hold task serial from) at h = refl
   ongoing_stays (Busy task first) at h = subst (λ b. stays (Busy task first) (record { at = at; task = task_id t; blame = b; held = true }) ≡ true) (sym h.1) (eq-eqb t task.0 (sym h.0))
 
-  ongoing_something : (o : Ongoing) → OngoingGoesOn has_frame t why o → o ≢ Nothing
-  ongoing_something Nothing h e = h
-  ongoing_something (Hold task serial from) h e = absurd (cc)
-  ongoing_something (Busy task first) h e = absurd (cc)
-
   module _ (lists : List (List Reason)) (scans : List ℕ) (group : GroupId) (head : Head) (is_head : IsHead lists (length scans) head) where
     -- the lines of a head go on as what goes on of it does
     pub head_ongoing : GoesOn has_frame t why (head_lines lists scans group head) → OngoingGoesOn has_frame t why head.ongoing
@@ -121,16 +143,13 @@ module _ (has_frame : (task serial : ℕ) → Bool) (t : ℕ) (why : Blame) wher
     pub head_goes_on : OngoingGoesOn has_frame t why head.ongoing → GoesOn has_frame t why (head_lines lists scans group head)
     head_goes_on h = ongoing_lines scans group head.ongoing (get_or lists head.older.0 []) is_head.goes_on h
 
-    pub head_something : GoesOn has_frame t why (head_lines lists scans group head) → head.ongoing ≢ Nothing
-    head_something h = ongoing_something head.ongoing (head_ongoing h)
+    pub head_busy : OngoingGoesOn has_frame t why head.ongoing → says_busy (head_lines lists scans group head) ≡ true → says_busy_on head.ongoing ≡ true
+    head_busy h busy = busy_of scans group head.ongoing (get_or lists head.older.0 []) h busy
 
     -- a scan that refuses the task again leaves the head as it is
-    pub refused_again : (at : ℕ) → GoesOn has_frame t why (head_lines lists scans group head) → IsRefusedBy (again at) group scans head head lists lists
+    refused_again : (at : ℕ) → GoesOn has_frame t why (head_lines lists scans group head) → IsRefusedBy (again at) group scans head head lists lists
     refused_again at h = refused_on scans group (again at) head lists is_head (ongoing_stays head.ongoing at (head_ongoing h))
 
     pub lines_again : (at : ℕ) → GoesOn has_frame t why (head_lines lists scans group head)
         → head_lines lists (scans ++ at ∷ []) group head ≡ after_refusal has_frame group.0 at (t, why) (head_lines lists scans group head)
     lines_again at h = (refused_again at h).lines has_frame (ongoing_held head.ongoing (head_ongoing h))
-
-    pub stands_again : (at : ℕ) → GoesOn has_frame t why (head_lines lists scans group head) → IsHead lists (length scans + 1) head
-    stands_again at h = (refused_again at h).stands

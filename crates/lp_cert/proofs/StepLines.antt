@@ -1,6 +1,6 @@
 -- Who waits after an event of a leg, and with which lines.
 use Rattle.std.proofs.Common.{◌≡◌, ℕ, suc, ◌<◌, Bool, true, false, not, ◌&&◌, List, [], ◌∷◌, length, Option, Some, None, IsSome, is_none, if◌then◌else◌, nat_eq, refl, sym, ap, ap₂, subst, ◌∙◌, ⊎_elim}
-use Rattle.std.specs.List.{filter, list_any}
+use Rattle.std.specs.List.{list_any}
 use Rattle.lp_numbers.specs.Numbers.{has}
 use Rattle.std.proofs.lemmas.Bool.{false≢true, cond-true, cond-false, cases_Bool}
 use Rattle.lp_stack.specs.declared.number.TaskId.{TaskId}
@@ -20,7 +20,7 @@ use Rattle.lp_transition.specs.Tasks.{Fate, Unused, Live, on_live, change}
 use Rattle.lp_transition.specs.Leg.{Standing, State, Leg, some_live}
 use Rattle.lp_transition.specs.Run.{and_then}
 use Rattle.lp_transition.specs.Sound.{IsSound}
-use Rattle.lp_transition.specs.Scan.{verdicts_of}
+use Rattle.lp_transition.specs.Scan.{verdicts_among, verdicts_of}
 use Rattle.lp_transition.specs.ScanSteps.{goes_by, groups_of}
 use Rattle.lp_transition.specs.Machine.{is_behind, goes_over, affected, next, told, state_of, refusal_of, calling, returning, put_in}
 use Rattle.lp_transition.specs.Table.{Engine, slot, fate_at, state_in}
@@ -171,7 +171,7 @@ module _ (model : Rules) (lawful : IsLawful model) (e : Engine) (sound : IsSound
       some_none : {A : Type 0} (a : A) → Some a ≡ None → ⊥
       some_none a e = absurd (cc)
 
-  -- ---- A scan that may leave out who is settled
+  -- ---- A scan that may leave out what is settled
 
   some_none : {A : Type 0} (a : A) → Some a ≡ None → ⊥
   some_none a e2 = absurd (cc)
@@ -212,7 +212,7 @@ module _ (model : Rules) (lawful : IsLawful model) (e : Engine) (sound : IsSound
     refused_case there behind same blamed first =
         ⊎_elim
         (λ (all : vs ≡ verdicts_of model on s). ap (λ o. after_verdict s (suc e.number) o waiters.reasons g) (ap (first_refused s g) all ∙ first))
-        (λ (some : (settling.kind ≡ Some on) × (vs ≡ filter (λ v. has settling.unsettled v.task.0) (verdicts_of model on s))).
+        (λ (some : (settling.kind ≡ Some on) × (vs ≡ verdicts_among model on s (has settling.unsettled))).
         ap (λ ws. after_verdict s (suc e.number) (first_refused s g ws) waiters.reasons g) some.1
         ∙ scan_told model s sound on (lines model leg n) (has settling.unsettled) (since (Some on) some.0) waiters stand (suc e.number) g there same behind blamed first)
         told

@@ -17,7 +17,7 @@ use Rattle.lp_cert.specs.Made.{completion, certs_of, lines}
 use Rattle.lp_cert.specs.Settling.{Settling, AreSettledBy}
 
 -- the ends of the legs that ended, the end of the leg under way as it stands, the event for which there is room, with
--- the number of its verdicts, and the tasks that a scan needn't look at
+-- the number of its verdicts, and the groups that a scan needn't look at
 pub record Made : Type 0 where
   pub ended : List LegEnd
   pub current : Option LegEnd

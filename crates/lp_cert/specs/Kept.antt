@@ -131,7 +131,7 @@ pub record IsGoneOn (model : Rules) (e : Engine) (step : Weighed) (number : ℕ)
       × (refused_by step.reply.what ≡ None → HasFewGroups e step.event)
       × (IsSome (used_scan model step.event) → refused_by step.reply.what ≡ None → AreStanding before)
 
--- who is settled after an event: nobody of a leg that is complete, and else as the event goes
+-- which groups are settled after an event: none of a leg that is complete, and else as the event goes
 pub record IsSettledOn (model : Rules) (e : Engine) (step : Weighed) (old : OpenLeg) (after : WaitingGroups) (was is : Settling) : Type 0 where
   pub complete : (done : Completion) → old.completed ≡ Some done → is.kind ≡ None
   pub completes : old.completed ≡ None → step.reply.completed ≡ true → is.kind ≡ None

@@ -55,7 +55,7 @@ pub(crate) struct Ready {
 /// complete before it was.
 ///
 /// Contracts see the ends of the legs that ended, the end of the leg under way as it stands, and
-/// the event for which there is room, with the number of its verdicts, and the tasks that a scan
+/// the event for which there is room, with the number of its verdicts, and the groups that a scan
 /// needn't look at.
 #[derive(Drop)]
 pub struct Maker {
@@ -96,9 +96,9 @@ impl Maker {
         })
     }
 
-    /// An event, weighed on the engine of which all is noted here; a walk or a stop after a look at those
-    /// waiting tasks alone to which something happened since a scan of its kind refused them. NoMemory
-    /// where a growth was refused, JournalFull where no event is left.
+    /// An event, weighed on the engine of which all is noted here; a walk or a stop after a look at the
+    /// waiting tasks of those groups alone that a scan of its kind may judge otherwise than before.
+    /// NoMemory where a growth was refused, JournalFull where no event is left.
     pub fn weigh<M: Consistency>(
         &self,
         alloc: Global,
@@ -229,7 +229,15 @@ impl Maker {
         ensures ready { self.new.ready ≡ self.old.ready }
     {
         self.noted = core.events() + 1;
-        self.settled.touch(event);
+        let Some(leg) = self.current else {
+            self.settled.reset();
+            return;
+        };
+        if leg.completed.is_some() {
+            self.settled.reset();
+            return;
+        }
+        self.settled.touch(core, event, self.waiters.reasons());
     }
 
     /// The end of the leg under way as it stands, if there is one; AllocError where a growth was

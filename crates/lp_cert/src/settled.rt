@@ -1,27 +1,31 @@
-//! The tasks that a scan needn't look at again.
-ghost use Rattle.std.specs.Prelude.{◌≡◌, ◌||◌, ℕ, None, Some, IfOk, IfSome, nat_eq};
+//! The groups that a scan needn't look at again.
+ghost use Rattle.std.specs.Prelude.{◌≡◌, ◌||◌, ◌⊎◌, ◌<◌, ℕ, false, true, None, Some, IfOk, IfSome, nat_eq};
+ghost use Rattle.std.specs.List.{list_any};
+ghost use Rattle.std.specs.Option.{option_map};
 ghost use Rattle.lp_numbers.specs.Numbers.{has};
-ghost use Rattle.lp_transition.specs.Table.{state_in};
-ghost use Rattle.lp_cert.specs.Settling.{AreKeptApart, GoesFurther, IsTouched, goes_by, settles, used_scan};
+ghost use Rattle.lp_transition.specs.Table.{slot, state_in};
+ghost use Rattle.lp_transition.specs.Leg.{Standing};
+ghost use Rattle.lp_cert.specs.Settled.{touched};
+ghost use Rattle.lp_cert.specs.Settling.{AreKeptApart, GoesFurther, IsTouched, goes_by, is_named, is_of_group, names, settles, used_scan};
 ghost use Rattle.lp_cert.specs.Steps.{has_frame_in};
 
 use crate::ongoing::Ongoing;
 use crate::reasons::Reasons;
-use crate::waiters::is_held;
+use crate::waiters::{empty, is_held};
 use lp_model::{Blame, CheckKind, Consistency, Verdict};
 use lp_numbers::NumberSet;
-use lp_stack::TaskId;
+use lp_stack::{GroupId, TaskId};
 use lp_transition::{Core, Event};
 use std::alloc::{AllocError, Global};
 use std::marker::Model;
 
-/// Which waiting tasks are settled: the last scan refused them, and nothing happened to them since,
-/// so that a scan of this kind refuses them again.
+/// Which waiting groups are settled: the last scan refused a member that the group's newest reason
+/// names, and nothing happened to that member since, so that a scan of this kind refuses it again.
 #[derive(Drop)]
 pub(crate) struct Settled {
     /// The kind of the last scan of the leg; None where there was none.
     kind: Option<CheckKind>,
-    /// The waiting tasks that aren't settled, and maybe others. It is of use where there was a scan.
+    /// The waiting groups that aren't settled, and maybe others. It is of use where there was a scan.
     unsettled: NumberSet,
 }
 
@@ -34,7 +38,7 @@ impl Model for Settled {
 }
 
 impl Settled {
-    /// No task; AllocError where a growth was refused.
+    /// No group; AllocError where a growth was refused.
     pub(crate) fn new(alloc: Global) -> Result<Settled, AllocError>
         ensures { IfOk result (λ settled. settled.kind ≡ None) }
     {
@@ -44,7 +48,7 @@ impl Settled {
         })
     }
 
-    /// The tasks that a scan of this kind has to look at, if it needn't look at all that wait.
+    /// The groups that a scan of this kind has to look at, if it needn't look at all that wait.
     pub(crate) fn asked(&self, kind: CheckKind) -> Option<&NumberSet>
         ensures { IfSome result (λ asked. (self.now.kind ≡ Some kind) × (asked.now ≡ self.now.unsettled)) }
     {
@@ -55,33 +59,28 @@ impl Settled {
         }
     }
 
-    /// No task is settled any longer. Takes no memory.
+    /// No group is settled any longer. Takes no memory.
     pub(crate) fn reset(&mut self)
         ensures { self.new.kind ≡ None }
     {
         self.kind = None;
     }
 
-    /// An event happens to its tasks, which are settled no longer. Takes no memory.
+    /// An event of which the reasons afterwards are these: a group is settled no longer where something
+    /// happens to the member that its newest reason names, or where it is a child's own. Takes no
+    /// memory.
     #[inline(always)]
-    pub(crate) fn touch(&mut self, event: Event)
-        ensures { IsTouched event self.old self.new }
+    pub(crate) fn touch<M: Consistency>(&mut self, core: &Core<M>, event: Event, reasons: &Reasons)
+        ensures { IsTouched core.now reasons.now event self.old self.new }
     {
         if self.kind.is_none() {
             return;
         }
-        match event {
-            Event::Call(task, _)
-            | Event::Ret(task)
-            | Event::Sleep(task)
-            | Event::Wake(task)
-            | Event::Enter(task)
-            | Event::Exit(task) => take_in(&mut self.unsettled, task),
-            Event::Fork(parent, child, _) => {
-                take_in(&mut self.unsettled, parent);
-                take_in(&mut self.unsettled, child);
-            }
-            _ => {}
+        if let Some(task) = touched(event) {
+            disturb(core, reasons, task, &mut self.unsettled);
+        }
+        if let Event::Fork(_, child, _) = event {
+            take_in(&mut self.unsettled, GroupId(child.0));
         }
     }
 
@@ -97,21 +96,65 @@ impl Settled {
         ensures { GoesFurther M.rules core.now event verdicts.now reasons.now self.old self.new }
     {
         let Some(kind) = used_scan(&core.model(), event) else {
-            self.touch(event);
+            self.touch(core, event, reasons);
             return;
         };
         self.kind = Some(kind);
+        empty(&mut self.unsettled);
+        take_in_all(core, verdicts, &mut self.unsettled);
         settle_all(core, verdicts, reasons, &mut self.unsettled);
     }
 }
 
-/// Makes a task a member of a set, at the cost of a look where it is one.
-#[inline(always)]
-fn take_in(set: &mut NumberSet, task: TaskId)
-    ensures { (t : ℕ) → has set.new t ≡ (has set.old t || nat_eq t task.0) }
+/// The task to which something happens at an event.
+fn touched(event: Event) -> Option<TaskId>
+    ensures { option_map (λ task. task.0) result ≡ touched event }
 {
-    if !set.contains(task.0) {
-        set.insert(task.0);
+    match event {
+        Event::Call(task, _)
+        | Event::Ret(task)
+        | Event::Sleep(task)
+        | Event::Wake(task)
+        | Event::Enter(task)
+        | Event::Exit(task)
+        | Event::Fork(task, _, _)
+        | Event::Die(task) => Some(task),
+        _ => None,
+    }
+}
+
+/// Something happens to a task: where its group's newest reason names it, the group becomes a
+/// member of a set.
+#[inline(always)]
+fn disturb<M: Consistency>(core: &Core<M>, reasons: &Reasons, task: TaskId, groups: &mut NumberSet)
+    ensures groups { (group : ℕ) → has groups.new group ≡ (has groups.old group || is_named core.now reasons.now task.0 group) }
+    ensures few { (x : Standing) → slot core.now.table task.0 ≡ Some x → x.group < 65536 }
+{
+    let Some(group) = core.group_of(task) else {
+        return;
+    };
+    if names(reasons.head(group).ongoing, task) {
+        take_in(groups, group);
+    }
+}
+
+/// Whether a reason names a task.
+fn names(ongoing: Ongoing, task: TaskId) -> bool
+    ensures { result ≡ names ongoing task.0 }
+{
+    match ongoing {
+        Ongoing::Nothing => false,
+        Ongoing::Hold { task: member, .. } | Ongoing::Busy { task: member, .. } => member == task,
+    }
+}
+
+/// Makes a group a member of a set, at the cost of a look where it is one.
+#[inline(always)]
+fn take_in(set: &mut NumberSet, group: GroupId)
+    ensures { (other : ℕ) → has set.new other ≡ (has set.old other || nat_eq other group.0) }
+{
+    if !set.contains(group.0) {
+        set.insert(group.0);
     }
 }
 
@@ -127,36 +170,53 @@ fn used_scan<M: Consistency>(model: &M, event: Event) -> Option<CheckKind>
     if model.uses(kind) { Some(kind) } else { None }
 }
 
-/// Keeps the tasks apart that aren't settled by what a scan found of them.
+/// Makes the groups of these verdicts' tasks members of a set.
+fn take_in_all<M: Consistency>(core: &Core<M>, verdicts: &[Verdict], set: &mut NumberSet)
+    ensures { (group : ℕ) → has set.new group ≡ (has set.old group || list_any (is_of_group core.now group) verdicts.now) }
+{
+    for verdict in verdicts {
+        if let Some(group) = core.group_of(verdict.task) {
+            take_in(set, group);
+        }
+    }
+}
+
+/// Takes the groups out of a set that what a scan found settles.
 fn settle_all<M: Consistency>(
     core: &Core<M>,
     verdicts: &[Verdict],
     reasons: &Reasons,
     unsettled: &mut NumberSet,
 )
-    ensures { AreKeptApart core.now reasons.now verdicts.now unsettled.old unsettled.new }
+    ensures { (group : ℕ) → has unsettled.new group ≡ false → (has unsettled.old group ≡ false) ⊎ (list_any (settles core.now reasons.now group) verdicts.now ≡ true) }
 {
     for verdict in verdicts {
-        if settles(core, verdict, reasons) {
-            unsettled.remove(verdict.task.0);
-        } else {
-            unsettled.insert(verdict.task.0);
+        if let Some(group) = settled_by(core, verdict, reasons) {
+            unsettled.remove(group.0);
         }
     }
 }
 
-/// Whether a verdict settles its task: it is refused and alone in its group, whose newest reason goes
-/// on if it is refused so again.
-fn settles<M: Consistency>(core: &Core<M>, verdict: &Verdict, reasons: &Reasons) -> bool
-    ensures { result ≡ settles core.now reasons.now verdict.now }
+/// The group that a verdict settles, if it does: its task is refused, and is the member that the
+/// group's newest reason names, which goes on if it is refused so again; a busy one is the only
+/// member.
+fn settled_by<M: Consistency>(
+    core: &Core<M>,
+    verdict: &Verdict,
+    reasons: &Reasons,
+) -> Option<GroupId>
+    ensures { IfSome result (λ group. settles core.now reasons.now group.0 verdict.now ≡ true) }
 {
-    let Some(blame) = verdict.blame else {
-        return false;
-    };
-    let Some(group) = core.group_of(verdict.task) else {
-        return false;
-    };
-    core.is_alone(verdict.task) && goes_by(core, reasons.head(group).ongoing, verdict.task, blame)
+    let blame = verdict.blame?;
+    let group = core.group_of(verdict.task)?;
+    let ongoing = reasons.head(group).ongoing;
+    if !goes_by(core, ongoing, verdict.task, blame) {
+        return None;
+    }
+    if matches!(ongoing, Ongoing::Busy { .. }) && !core.is_alone(verdict.task) {
+        return None;
+    }
+    Some(group)
 }
 
 /// Whether a reason goes on if this task is refused so.

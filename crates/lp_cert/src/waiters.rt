@@ -199,7 +199,7 @@ impl Waiters {
 }
 
 /// Takes every member out of a set, at no cost where there is none.
-fn empty(set: &mut NumberSet)
+pub(crate) fn empty(set: &mut NumberSet)
     ensures { IsEmpty set.new }
 {
     if !set.is_empty() {

@@ -1,24 +1,23 @@
--- A scan that leaves out tasks that it would refuse answers as one that asks all.
-use Rattle.std.proofs.Common.{◌≡◌, ℕ, zero, suc, ◌<◌, ◌≤◌, Bool, true, false, not, ◌&&◌, ◌||◌, List, [], ◌∷◌, ◌++◌, length, take, get_or, map, Some, is_some, is_none, if◌then◌else◌, nat_eq, refl, sym, ap, ◌∙◌, ◌↔◌, ⊎_elim, arith}
-use Rattle.std.proofs.lemmas.Bool.{false≢true, cases_Bool, and_parts, and_from, eqb-true, eq-eqb, not-true, not_from_false, false_from_ne_true}
-use Rattle.std.specs.List.{filter, filter_map, list_any}
-use Rattle.std.specs.Option.{option_map}
+-- A scan that leaves out groups of which it would refuse a member answers as one that asks all.
+use Rattle.std.proofs.Common.{◌≡◌, ℕ, zero, suc, ◌<◌, ◌≤◌, Bool, true, false, not, ◌&&◌, ◌||◌, List, [], ◌∷◌, ◌++◌, length, take, get_or, map, Option, Some, None, is_some, is_none, if◌then◌else◌, nat_eq, refl, sym, ap, ap₂, subst, ◌∙◌, ◌↔◌, ⊎_elim, arith}
+use Rattle.std.proofs.lemmas.Bool.{false≢true, cond-true, cond-false, cases_Bool, and_parts, and_from, eqb-true, eq-eqb, not-true, not_from_false, false_from_ne_true}
+use Rattle.std.specs.List.{filter, filter_map, cons_option, list_any, range_with_len}
 use Rattle.lp_stack.specs.TaskView.{TaskView}
 use Rattle.lp_numbers.specs.Numbers.{Numbers, has}
 use Rattle.lp_model.specs.Rules.{Rules, IsLawful}
 use Rattle.lp_model.specs.declared.check.CheckKind.{CheckKind}
 use Rattle.lp_model.specs.declared.verdict.Verdict.{Verdict}
-use Rattle.lp_transition.specs.Tasks.{Live}
+use Rattle.lp_transition.specs.Tasks.{Fate, Unused, Live, Dead, on_live}
 use Rattle.lp_transition.specs.Leg.{Standing, State}
 use Rattle.lp_transition.specs.Sound.{IsSound}
 use Rattle.lp_transition.specs.Machine.{view_of}
 use Rattle.lp_transition.specs.Table.{Table, Engine, slot, state_in, is_in}
 use Rattle.lp_transition.specs.Kept.{IsKept}
-use Rattle.lp_transition.specs.Scan.{views_of, verdict_of, verdicts_of, MayLeaveOut, verdicts_among, AreEnough, passing}
-use Rattle.lp_transition.specs.ScanSteps.{waiting_slot, tasks_of, is_judged, is_found, goes_by, all_admit}
+use Rattle.lp_transition.specs.Scan.{waiting_view, views_of, verdict_of, verdicts_of, IsHeldBack, MayLeaveOut, is_asked, verdicts_among, AreEnough, passing}
+use Rattle.lp_transition.specs.ScanSteps.{tasks_of, is_judged, is_found, goes_by, all_admit}
 use Rattle.lp_transition.proofs.ScanLists.{any-map, verdict-is, verdict-from}
 use Rattle.lp_transition.proofs.ScanGroups.{same_bool, found-from, found-is}
-use Rattle.lp_transition.proofs.ScanLemmas.{views-asked, tasks-waiting}
+use Rattle.lp_transition.proofs.ScanLemmas.{tasks-waiting}
 
 -- ---- Lists with some left out
 
@@ -81,9 +80,50 @@ task-at (v ∷ vs) (suc i) d h =
     let more = task-at vs i d (omega arith) in
     (more.0, ap (λ ts. v.task.0 ∷ ts) more.1)
 
--- ---- Scans that leave tasks out
+-- ---- Tests that agree on who waits
+
+module _ (s : State) (p q : ℕ → Bool) (agree : (t : ℕ) (x : Standing) → s.tasks t ≡ Live x → nat_eq x.level s.target ≡ false → p t ≡ q t) where
+  view_kept : (o : Option TaskView) (rest : List TaskView) → ((y : TaskView) → o ≡ Some y → p y.task ≡ q y.task) → filter (λ (v : TaskView). p v.task) rest ≡ filter (λ (v : TaskView). q v.task) rest
+      → filter (λ (v : TaskView). p v.task) (cons_option o rest) ≡ filter (λ (v : TaskView). q v.task) (cons_option o rest)
+  view_kept None rest same more = more
+  view_kept (Some y) rest same more = ap₂ (λ b ys. if b then y ∷ ys else ys) (same y refl) more
+
+  view_agrees : (t : ℕ) (fate : Fate Standing) → s.tasks t ≡ fate → (y : TaskView) → waiting_view s.target t fate ≡ Some y → p y.task ≡ q y.task
+  view_agrees t Unused e y given = absurd (cc)
+  view_agrees t Dead e y given = absurd (cc)
+  view_agrees t (Live x) e y given =
+      ⊎_elim
+      (λ (on : nat_eq x.level s.target ≡ true). let none = cond-true (nat_eq x.level s.target) None (Some (view_of t x)) on in absurd (cc))
+      (λ (off : nat_eq x.level s.target ≡ false).
+      let some = cond-false (nat_eq x.level s.target) None (Some (view_of t x)) off in
+      let same : view_of t x ≡ y = cc in
+      subst (λ (v : TaskView). p v.task ≡ q v.task) same (agree t x e off))
+      (cases_Bool (nat_eq x.level s.target))
+
+  views_agree : (ts : List ℕ) → filter (λ (v : TaskView). p v.task) (filter_map (λ t. waiting_view s.target t (s.tasks t)) ts) ≡ filter (λ (v : TaskView). q v.task) (filter_map (λ t. waiting_view s.target t (s.tasks t)) ts)
+  views_agree [] = refl
+  views_agree (t ∷ ts) = view_kept (waiting_view s.target t (s.tasks t)) (filter_map (λ u. waiting_view s.target u (s.tasks u)) ts) (view_agrees t (s.tasks t) refl) (views_agree ts)
+
+  -- of the waiting tasks they keep the same
+  pub views-agree : filter (λ (v : TaskView). p v.task) (views_of s) ≡ filter (λ (v : TaskView). q v.task) (views_of s)
+  unfolding views_of
+  views-agree = views_agree (range_with_len 1 s.bounds.tasks)
+
+-- the verdicts of some of the waiting tasks
+among_views : (model : Rules) (kind : CheckKind) (s : State) (p : ℕ → Bool) → filter (λ (v : Verdict). p v.task.0) (verdicts_of model kind s) ≡ map (verdict_of model kind s.aim) (filter (λ (v : TaskView). p v.task) (views_of s))
+among_views model kind s p = filter-map (λ (v : Verdict). p v.task.0) (verdict_of model kind s.aim) (views_of s)
+
+verdicts_agree : (model : Rules) (kind : CheckKind) (s : State) (p q : ℕ → Bool) → ((t : ℕ) (x : Standing) → s.tasks t ≡ Live x → nat_eq x.level s.target ≡ false → p t ≡ q t)
+    → filter (λ (v : Verdict). p v.task.0) (verdicts_of model kind s) ≡ filter (λ (v : Verdict). q v.task.0) (verdicts_of model kind s)
+verdicts_agree model kind s p q agree = among_views model kind s p ∙ ap (map (verdict_of model kind s.aim)) (views-agree s p q agree) ∙ sym (among_views model kind s q)
+
+-- ---- Scans that leave groups out
 
 module _ (model : Rules) (lawful : IsLawful model) (kind : CheckKind) (s : State) (sound : IsSound s) (asked : ℕ → Bool) (others : MayLeaveOut model kind s asked) where
+  -- a live task's group
+  group_asked : (t : ℕ) (x : Standing) → s.tasks t ≡ Live x → is_asked s asked t ≡ asked x.group
+  group_asked t x live = ap (on_live false (λ (y : Standing). asked y.group)) live
+
   -- a waiting member of a group that is asked, and refused or admitted
   record Found (refused : Bool) (group : ℕ) : Type 0 where
     number : ℕ
@@ -91,49 +131,57 @@ module _ (model : Rules) (lawful : IsLawful model) (kind : CheckKind) (s : State
     live : s.tasks number ≡ Live task
     off : nat_eq task.level s.target ≡ false
     grouped : task.group ≡ group
-    is_asked : asked number ≡ true
+    taken : asked group ≡ true
     told : (if refused then is_some (model.blame kind (view_of number task) s.aim) else is_none (model.blame kind (view_of number task) s.aim)) ≡ true
 
   module _ (table : Table) (there : (t : ℕ) (x : Standing) → s.tasks t ≡ Live x → slot table t ≡ Some x) where
     among-is : (refused : Bool) (group : ℕ) → list_any (is_found table refused group) (verdicts_among model kind s asked) ≡ true → Found refused group
     among-is refused group h =
-        let j = verdict-is model kind s (λ v. asked v.task.0 && is_found table refused group v) (sym (any-filter (λ (v : Verdict). asked v.task.0) (is_found table refused group) (verdicts_of model kind s)) ∙ h) in
+        let j = verdict-is model kind s (λ v. is_asked s asked v.task.0 && is_found table refused group v) (sym (any-filter (λ (v : Verdict). is_asked s asked v.task.0) (is_found table refused group) (verdicts_of model kind s)) ∙ h) in
         let told = if refused then is_some (model.blame kind (view_of j.number j.task) s.aim) else is_none (model.blame kind (view_of j.number j.task) s.aim) in
-        let both = and_parts (asked j.number) (told && is_in group (slot table j.number)) j.passed in
+        let both = and_parts (is_asked s asked j.number) (told && is_in group (slot table j.number)) j.passed in
         let parts = and_parts told (is_in group (slot table j.number)) both.1 in
+        let grouped = eqb-true j.task.group group (sym (ap (is_in group) (there j.number j.task j.live)) ∙ parts.1) in
         record {
           number = j.number;
           task = j.task;
           live = j.live;
           off = j.off;
-          grouped = eqb-true j.task.group group (sym (ap (is_in group) (there j.number j.task j.live)) ∙ parts.1);
-          is_asked = both.0;
+          grouped = grouped;
+          taken = ap asked (sym grouped) ∙ sym (group_asked j.number j.task j.live) ∙ both.0;
           told = parts.0;
         }
 
-    among-from : (refused : Bool) (group t : ℕ) (x : Standing) → s.tasks t ≡ Live x → nat_eq x.level s.target ≡ false → x.group ≡ group → asked t ≡ true → (if refused then is_some (model.blame kind (view_of t x) s.aim) else is_none (model.blame kind (view_of t x) s.aim)) ≡ true
+    among-from : (refused : Bool) (group t : ℕ) (x : Standing) → s.tasks t ≡ Live x → nat_eq x.level s.target ≡ false → x.group ≡ group → asked group ≡ true → (if refused then is_some (model.blame kind (view_of t x) s.aim) else is_none (model.blame kind (view_of t x) s.aim)) ≡ true
         → list_any (is_found table refused group) (verdicts_among model kind s asked) ≡ true
     among-from refused group t x live off grouped taken told =
         let bounds = sound.numbered t x live in
         let tells = if refused then is_some (model.blame kind (view_of t x) s.aim) else is_none (model.blame kind (view_of t x) s.aim) in
-        any-filter (λ (v : Verdict). asked v.task.0) (is_found table refused group) (verdicts_of model kind s)
-        ∙ verdict-from model kind s (λ v. asked v.task.0 && is_found table refused group v) (record {
+        let mine = group_asked t x live ∙ ap asked grouped ∙ taken in
+        any-filter (λ (v : Verdict). is_asked s asked v.task.0) (is_found table refused group) (verdicts_of model kind s)
+        ∙ verdict-from model kind s (λ v. is_asked s asked v.task.0 && is_found table refused group v) (record {
           number = t;
           task = x;
           live = live;
           off = off;
-          passed = and_from (asked t) (tells && is_in group (slot table t)) taken (and_from tells (is_in group (slot table t)) told (ap (is_in group) (there t x live) ∙ eq-eqb x.group group grouped));
+          passed = and_from (is_asked s asked t) (tells && is_in group (slot table t)) mine (and_from tells (is_in group (slot table t)) told (ap (is_in group) (there t x live) ∙ eq-eqb x.group group grouped));
         }) bounds.0 bounds.1
 
-    -- who is admitted is asked
-    admitted_asked : (t : ℕ) (x : Standing) → s.tasks t ≡ Live x → nat_eq x.level s.target ≡ false → is_none (model.blame kind (view_of t x) s.aim) ≡ true → asked t ≡ true
-    admitted_asked t x live off admitted =
-        ⊎_elim
-        (λ (yes : asked t ≡ true). yes)
-        (λ (out : asked t ≡ false). let refusal = others.refused t x live off out in absurd (cc))
-        (cases_Bool (asked t))
+    -- of a group that is left out a member is refused
+    held_back : (group : ℕ) → IsHeldBack model kind s group → list_any (is_found table true group) (verdicts_of model kind s) ≡ true
+    held_back group h = found-from model lawful kind s sound table there true group h.member h.life h.live h.off h.grouped h.refused
 
-    -- the groups that go over are told by those who are asked
+    -- a group that goes over is asked
+    pub goes-asked : (t : ℕ) (x : Standing) → s.tasks t ≡ Live x → nat_eq x.level s.target ≡ false → goes_by table (verdicts_of model kind s) x.group ≡ true → asked x.group ≡ true
+    goes-asked t x live off goes =
+        let whole = verdicts_of model kind s in
+        let parts = and_parts (list_any (is_found table false x.group) whole) (not (list_any (is_found table true x.group) whole)) goes in
+        ⊎_elim
+        (λ (yes : asked x.group ≡ true). yes)
+        (λ (out : asked x.group ≡ false). let refusal = held_back x.group (others t x live off out) in let free = not-true (list_any (is_found table true x.group) whole) parts.1 in absurd (cc))
+        (cases_Bool (asked x.group))
+
+    -- the groups that go over are told by those that are asked
     pub goes-among : (group : ℕ) → goes_by table (verdicts_among model kind s asked) group ≡ goes_by table (verdicts_of model kind s) group
     goes-among group =
         let part = verdicts_among model kind s asked in
@@ -146,15 +194,15 @@ module _ (model : Rules) (lawful : IsLawful model) (kind : CheckKind) (s : State
         (found-from model lawful kind s sound table there false group f.number f.task f.live f.off f.grouped f.told)
         (not_from_false (list_any (is_found table true group) whole) (false_from_ne_true (list_any (is_found table true group) whole) (λ refused.
         let r = found-is model lawful kind s sound table there true group refused in
-        let yes = others.together r.number f.number r.task f.task r.live f.live r.off f.off (r.grouped ∙ sym f.grouped) ∙ f.is_asked in
-        let blocked = among-from true group r.number r.task r.live r.off r.grouped yes r.told in
+        let blocked = among-from true group r.number r.task r.live r.off r.grouped f.taken r.told in
         let unblocked = not-true (list_any (is_found table true group) part) parts.1 in
         absurd (cc)))))
         (λ h.
         let parts = and_parts (list_any (is_found table false group) whole) (not (list_any (is_found table true group) whole)) h in
         let f = found-is model lawful kind s sound table there false group parts.0 in
+        let taken = ap asked (sym f.grouped) ∙ goes-asked f.number f.task f.live f.off (ap (goes_by table whole) f.grouped ∙ h) in
         and_from (list_any (is_found table false group) part) (not (list_any (is_found table true group) part))
-        (among-from false group f.number f.task f.live f.off f.grouped (admitted_asked f.number f.task f.live f.off f.told) f.told)
+        (among-from false group f.number f.task f.live f.off f.grouped taken f.told)
         (not_from_false (list_any (is_found table true group) part) (false_from_ne_true (list_any (is_found table true group) part) (λ refused.
         let r = among-is true group refused in
         let blocked = found-from model lawful kind s sound table there true group r.number r.task r.live r.off r.grouped r.told in
@@ -164,16 +212,18 @@ module _ (model : Rules) (lawful : IsLawful model) (kind : CheckKind) (s : State
   -- where nobody is refused, all are asked
   all_asked : list_any (λ v. is_some v.blame) (verdicts_of model kind s) ≡ false → verdicts_among model kind s asked ≡ verdicts_of model kind s
   all_asked admitted =
-      all-kept (λ (v : Verdict). asked v.task.0) (verdicts_of model kind s)
-      (false_from_ne_true (list_any (λ v. not (asked v.task.0)) (verdicts_of model kind s)) (λ left.
-      let j = verdict-is model kind s (λ v. not (asked v.task.0)) left in
-      let bounds = sound.numbered j.number j.task j.live in
+      all-kept (λ (v : Verdict). is_asked s asked v.task.0) (verdicts_of model kind s)
+      (false_from_ne_true (list_any (λ v. not (is_asked s asked v.task.0)) (verdicts_of model kind s)) (λ left.
+      let j = verdict-is model kind s (λ v. not (is_asked s asked v.task.0)) left in
+      let out = sym (group_asked j.number j.task j.live) ∙ not-true (is_asked s asked j.number) j.passed in
+      let h = others j.number j.task j.live j.off out in
+      let bounds = sound.numbered h.member h.life h.live in
       let refusal = verdict-from model kind s (λ v. is_some v.blame) (record {
-        number = j.number;
-        task = j.task;
-        live = j.live;
-        off = j.off;
-        passed = others.refused j.number j.task j.live j.off (not-true (asked j.number) j.passed);
+        number = h.member;
+        task = h.life;
+        live = h.live;
+        off = h.off;
+        passed = h.refused;
       }) bounds.0 bounds.1 in
       absurd (cc)))
 
@@ -186,7 +236,7 @@ module _ (model : Rules) (lawful : IsLawful model) (kind : CheckKind) (s : State
       (λ h.
       let both = tells.0 h in
       let long = sym (length-tasks part) ∙ ap length both.1 ∙ length-tasks whole in
-      let same = long-kept (λ (v : Verdict). asked v.task.0) whole long in
+      let same = long-kept (λ (v : Verdict). is_asked s asked v.task.0) whole long in
       ap all_admit (sym same) ∙ both.0)
       (λ h.
       let parts = and_parts (not (nat_eq (length whole) 0)) (not (list_any (λ v. is_some v.blame) whole)) h in
@@ -198,12 +248,9 @@ module _ (model : Rules) (lawful : IsLawful model) (kind : CheckKind) (s : State
 -- a scan may leave out nobody
 pub all-enough : (model : Rules) (kind : CheckKind) (s : State) (vs : List Verdict) → vs ≡ verdicts_of model kind s → AreEnough model kind s vs
 all-enough model kind s vs found = record {
-  asked = λ t. true;
-  others = record {
-    refused = λ t x live off out. absurd (false≢true (sym out));
-    together = λ t u x y live other off away same. refl;
-  };
-  found = found ∙ sym (kept_all (verdicts_of model kind s));
+  asked = λ group. true;
+  others = λ t x live off out. absurd (false≢true (sym out));
+  found = found ∙ sym (verdicts_agree model kind s (is_asked s (λ group. true)) (λ t. true) (λ t x live off. ap (on_live false (λ (y : Standing). true)) live) ∙ kept_all (verdicts_of model kind s));
 }
   where
     kept_all : (ws : List Verdict) → filter (λ v. true) ws ≡ ws
@@ -213,34 +260,18 @@ all-enough model kind s vs found = record {
 -- a scan of a kind that the model doesn't use may leave out all
 pub none-enough : (model : Rules) → IsLawful model → (kind : CheckKind) (s : State) → model.uses kind ≡ false → AreEnough model kind s []
 none-enough model lawful kind s unused = record {
-  asked = λ t. false;
-  others = record {
-    refused = λ t x live off out. ap is_some (lawful.blames_unused kind (view_of t x) s.aim unused);
-    together = λ t u x y live other off away same. refl;
-  };
-  found = sym (kept_none (verdicts_of model kind s));
+  asked = λ group. false;
+  others = λ t x live off out. record { member = t; life = x; live = live; off = off; grouped = refl; refused = ap is_some (lawful.blames_unused kind (view_of t x) s.aim unused) };
+  found = sym (verdicts_agree model kind s (is_asked s (λ group. false)) (λ t. false) (λ t x live off. ap (on_live false (λ (y : Standing). false)) live) ∙ kept_none (verdicts_of model kind s));
 }
   where
     kept_none : (ws : List Verdict) → filter (λ v. false) ws ≡ []
     kept_none [] = refl
     kept_none (w ∷ ws) = kept_none ws
 
--- what a scan finds of the members of a set that wait
-pub asked-among : (model : Rules) (kind : CheckKind) (e old : Engine) (waiting : Numbers) (members : List ℕ) (asked : ℕ → Bool) (views : List TaskView) (vs : List Verdict) → e ≡ old → IsKept e waiting members
-    → views ≡ filter_map (λ t. option_map (view_of t) (waiting_slot e.table waiting t)) (passing 0 65536 asked) → vs ≡ map (verdict_of model kind (state_in old).aim) views → vs ≡ verdicts_among model kind (state_in old) asked
-asked-among model kind e old waiting members asked views vs was kept seen found =
-    found
-    ∙ ap (map (verdict_of model kind (state_in old).aim)) (seen ∙ views-asked e waiting members kept asked ∙ ap (λ (o : Engine). filter (λ v. asked v.task) (views_of (state_in o))) was)
-    ∙ sym (filter-map (λ (v : Verdict). asked v.task.0) (verdict_of model kind (state_in old).aim) (views_of (state_in old)))
-
--- a scan may look at these alone
-pub asked-enough : (model : Rules) (kind : CheckKind) (e old : Engine) (waiting : Numbers) (members : List ℕ) (asked : ℕ → Bool) (views : List TaskView) (vs : List Verdict) → e ≡ old → IsKept e waiting members → MayLeaveOut model kind (state_in old) asked
-    → views ≡ filter_map (λ t. option_map (view_of t) (waiting_slot e.table waiting t)) (passing 0 65536 asked) → vs ≡ map (verdict_of model kind (state_in old).aim) views → AreEnough model kind (state_in old) vs
-asked-enough model kind e old waiting members asked views vs was kept others seen found = record {
-  asked = asked;
-  others = others;
-  found = asked-among model kind e old waiting members asked views vs was kept seen found;
-}
+-- what a scan finds of the waiting tasks of some groups
+pub asked-among : (model : Rules) (kind : CheckKind) (s : State) (asked : ℕ → Bool) (views : List TaskView) (vs : List Verdict) → views ≡ filter (λ view. is_asked s asked view.task) (views_of s) → vs ≡ map (verdict_of model kind s.aim) views → vs ≡ verdicts_among model kind s asked
+asked-among model kind s asked views vs seen found = found ∙ ap (map (verdict_of model kind s.aim)) seen ∙ sym (among_views model kind s (is_asked s asked))
 
 -- the verdicts of all are of the members of the waiting set
 pub tasks-judged : (model : Rules) (kind : CheckKind) (e : Engine) (waiting : Numbers) (members : List ℕ) → IsKept e waiting members → tasks_of (verdicts_of model kind (state_in e)) ≡ passing 0 65536 (has waiting)
@@ -250,33 +281,29 @@ tasks-judged model kind e waiting members kept =
 -- ---- Who is judged
 
 module _ (model : Rules) (lawful : IsLawful model) (kind : CheckKind) (s : State) (sound : IsSound s) (vs : List Verdict) (enough : AreEnough model kind s vs) where
-  judged_by : (t : ℕ) → is_judged vs t ≡ list_any (λ v. enough.asked v.task.0 && nat_eq t v.task.0) (verdicts_of model kind s)
+  judged_by : (t : ℕ) → is_judged vs t ≡ list_any (λ v. is_asked s enough.asked v.task.0 && nat_eq t v.task.0) (verdicts_of model kind s)
   judged_by t =
       any-map (λ (v : Verdict). v.task.0) (nat_eq t) vs
       ∙ ap (list_any (λ (v : Verdict). nat_eq t v.task.0)) enough.found
-      ∙ any-filter (λ (v : Verdict). enough.asked v.task.0) (λ v. nat_eq t v.task.0) (verdicts_of model kind s)
+      ∙ any-filter (λ (v : Verdict). is_asked s enough.asked v.task.0) (λ v. nat_eq t v.task.0) (verdicts_of model kind s)
 
   -- who is judged waits
   pub judged-waits : (t : ℕ) → is_judged vs t ≡ true → (x : Standing) × (s.tasks t ≡ Live x) × (nat_eq x.level s.target ≡ false)
   judged-waits t h =
-      let j = verdict-is model kind s (λ v. enough.asked v.task.0 && nat_eq t v.task.0) (sym (judged_by t) ∙ h) in
-      let parts = and_parts (enough.asked j.number) (nat_eq t j.number) j.passed in
+      let j = verdict-is model kind s (λ v. is_asked s enough.asked v.task.0 && nat_eq t v.task.0) (sym (judged_by t) ∙ h) in
+      let parts = and_parts (is_asked s enough.asked j.number) (nat_eq t j.number) j.passed in
       (j.task, ap s.tasks (eqb-true t j.number parts.1) ∙ j.live, j.off)
 
   -- who waits and goes over is judged
   pub goes-judged : (table : Table) → ((u : ℕ) (y : Standing) → s.tasks u ≡ Live y → slot table u ≡ Some y) → (t : ℕ) (x : Standing) → s.tasks t ≡ Live x → nat_eq x.level s.target ≡ false → goes_by table (verdicts_of model kind s) x.group ≡ true → is_judged vs t ≡ true
   goes-judged table there t x live off goes =
-      let whole = verdicts_of model kind s in
-      let parts = and_parts (list_any (is_found table false x.group) whole) (not (list_any (is_found table true x.group) whole)) goes in
-      let f = found-is model lawful kind s sound table there false x.group parts.0 in
-      let found_asked = admitted_asked model lawful kind s sound enough.asked enough.others table there f.number f.task f.live f.off f.told in
-      let is_asked = enough.others.together t f.number x f.task live f.live off f.off (sym f.grouped) ∙ found_asked in
+      let taken = ap (on_live false (λ (y : Standing). enough.asked y.group)) live ∙ goes-asked model lawful kind s sound enough.asked enough.others table there t x live off goes in
       let bounds = sound.numbered t x live in
       judged_by t
-      ∙ verdict-from model kind s (λ v. enough.asked v.task.0 && nat_eq t v.task.0) (record {
+      ∙ verdict-from model kind s (λ v. is_asked s enough.asked v.task.0 && nat_eq t v.task.0) (record {
         number = t;
         task = x;
         live = live;
         off = off;
-        passed = and_from (enough.asked t) (nat_eq t t) is_asked (eq-eqb t t refl);
+        passed = and_from (is_asked s enough.asked t) (nat_eq t t) taken (eq-eqb t t refl);
       }) bounds.0 bounds.1

@@ -41,6 +41,7 @@ pub mod Going
 pub mod Weighing
 pub mod Turning
 pub mod AskedScans
+pub mod OwnGroups
 pub mod ScanAnswers
 pub mod Moving
 pub mod ScanTakes

@@ -68,6 +68,11 @@ pub next_below : (limit : ℕ) (test : ℕ → Bool) (first : ℕ) (next : Optio
 next_below limit test first None after n e = absurd (cc)
 next_below limit test first (Some m) after n e = let same : m ≡ n = cc in rw (← same) after.0
 
+-- and no number before it passes
+pub none_before : (limit : ℕ) (test : ℕ → Bool) (first : ℕ) (next : Option ℕ) → IsNextBelow limit test first next → (n : ℕ) → first ≤ n → n < limit → test n ≡ true → ((m : ℕ) → next ≡ Some m → n < m) → ⊥
+none_before limit test first None after n low high passed past = let out = after n low high in absurd (cc)
+none_before limit test first (Some m) after n low high passed past = let out = after.1.least n low (past m refl) in absurd (cc)
+
 -- how many numbers are still to come falls at each step
 pub passing-less : (limit : ℕ) (test : ℕ → Bool) (now : Option ℕ) (n : ℕ) (next : Option ℕ) → now ≡ Some n → n < limit → test n ≡ true → IsNextBelow limit test (n + 1) next → length (passing_at next limit test) < length (passing_at now limit test)
 passing-less limit test now n next is h e after = rw (is, passing-step limit test n next h e after) (omega arith)

@@ -120,7 +120,7 @@ unused_past table g wide h =
     ap₂ fate_at (get_or_past table.slots g None (omega (arith, wide.slots))) (get_or_past table.used g false (omega (arith, wide.used)))
 
 -- a live task's group is a 16-bit number
-group_fits : (e : Engine) (t : ℕ) (x : Standing) → IsSound (state_in e) → IsWide e.table → slot e.table t ≡ Some x → x.group < 65536
+pub group_fits : (e : Engine) (t : ℕ) (x : Standing) → IsSound (state_in e) → IsWide e.table → slot e.table t ≡ Some x → x.group < 65536
 group_fits e t x sound wide there =
     ⊎_elim
     (λ (zero_is : x.group ≡ 0). omega arith)

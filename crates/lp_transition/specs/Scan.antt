@@ -9,7 +9,7 @@ use Rattle.lp_model.specs.declared.check.CheckKind.TheVariants.{Walk, Stop}
 use Rattle.lp_model.specs.declared.verdict.Verdict.{Verdict}
 use Rattle.lp_transition.specs.declared.event.Event.{Event}
 use Rattle.lp_transition.specs.declared.event.Event.TheVariants.{Walk, Stop}
-use Rattle.lp_transition.specs.Tasks.{Fate, Unused, Live, Dead}
+use Rattle.lp_transition.specs.Tasks.{Fate, Unused, Live, Dead, on_live}
 use Rattle.lp_transition.specs.Leg.{Standing, State}
 use Rattle.lp_transition.specs.Machine.{view_of}
 
@@ -50,21 +50,34 @@ verdicts_of model kind s = map (verdict_of model kind s.aim) (views_of s)
 
 -- ---- What a scan may leave out
 
--- a scan of this kind may leave out the waiting tasks that fail a test: it would refuse each of them, and the waiting
--- members of a group are asked together or left out together
-pub record MayLeaveOut (model : Rules) (kind : CheckKind) (s : State) (asked : ℕ → Bool) : Type 0 where
-  pub refused : (t : ℕ) (x : Standing) → s.tasks t ≡ Live x → nat_eq x.level s.target ≡ false → asked t ≡ false → is_some (model.blame kind (view_of t x) s.aim) ≡ true
-  pub together : (t u : ℕ) (x y : Standing) → s.tasks t ≡ Live x → s.tasks u ≡ Live y → nat_eq x.level s.target ≡ false → nat_eq y.level s.target ≡ false → x.group ≡ y.group → asked t ≡ asked u
+-- a waiting member of the group whom a check of this kind refuses
+pub record IsHeldBack (model : Rules) (kind : CheckKind) (s : State) (group : ℕ) : Type 0 where
+  pub member : ℕ
+  pub life : Standing
+  pub live : s.tasks member ≡ Live life
+  pub off : nat_eq life.level s.target ≡ false
+  pub grouped : life.group ≡ group
+  pub refused : is_some (model.blame kind (view_of member life) s.aim) ≡ true
 
--- what a scan finds of the waiting tasks that pass a test, by increasing number
-abbrev pub verdicts_among : Rules → CheckKind → State → (ℕ → Bool) → List Verdict
-verdicts_among model kind s asked = filter (λ v. asked v.task.0) (verdicts_of model kind s)
+-- a scan of this kind may leave out the groups that fail a test: of each that waits it would refuse a member
+abbrev pub MayLeaveOut : Rules → CheckKind → State → (asked : ℕ → Bool) → Type 0
+MayLeaveOut model kind s asked =
+    (t : ℕ) (x : Standing) → s.tasks t ≡ Live x → nat_eq x.level s.target ≡ false → asked x.group ≡ false →
+    IsHeldBack model kind s x.group
+
+-- the group of a live task passes a test
+abbrev pub is_asked : State → (asked : ℕ → Bool) → (t : ℕ) → Bool
+is_asked s asked t = on_live false (λ x. asked x.group) (s.tasks t)
+
+-- what a scan finds of the waiting tasks whose groups pass a test, by increasing number
+abbrev pub verdicts_among : Rules → CheckKind → State → (asked : ℕ → Bool) → List Verdict
+verdicts_among model kind s asked = filter (λ v. is_asked s asked v.task.0) (verdicts_of model kind s)
 
 -- what a scan finds that leaves out nobody whom it has to ask: of a kind that the model uses, that of all waiting tasks
 abbrev pub verdicts_used : Rules → CheckKind → State → List Verdict
 verdicts_used model kind s = if model.uses kind then verdicts_of model kind s else []
 
--- these verdicts are enough to answer a scan: they are of some of the waiting tasks, and the others may be left out
+-- these verdicts are enough to answer a scan: they are of the waiting tasks of some groups, and the others may be left out
 pub record AreEnough (model : Rules) (kind : CheckKind) (s : State) (verdicts : List Verdict) : Type 0 where
   pub asked : ℕ → Bool
   pub others : MayLeaveOut model kind s asked

@@ -1,5 +1,5 @@
 -- How the engine goes from the verdicts of a scan to who goes over, and what it leaves.
-use Rattle.std.specs.Prelude.{◌≡◌, ◌≢◌, ℕ, ◌<◌, ◌≤◌, Bool, true, false, not, ◌&&◌, List, [], length, map, count_by, Option, Some, None, is_some, is_none, if◌then◌else◌, nat_eq}
+use Rattle.std.specs.Prelude.{◌≡◌, ◌≢◌, ◌↔◌, ℕ, ◌<◌, ◌≤◌, Bool, true, false, not, ◌&&◌, List, [], length, map, count_by, Option, Some, None, is_some, is_none, if◌then◌else◌, nat_eq}
 use Rattle.std.specs.List.{list_any}
 use Rattle.std.specs.Option.{option_map}
 use Rattle.lp_model.specs.declared.verdict.Verdict.{Verdict}
@@ -56,6 +56,12 @@ is_over (Some set) group = has set group
 abbrev pub HasOver : Event → What → Option Numbers → Type 0
 HasOver event what over =
     is_scan event ≡ true → (group : ℕ) → group < 65536 → is_over over group ≡ list_any (nat_eq group) (groups_of what)
+
+-- ---- Whom a scan looks at
+
+-- the task of this number and no other live task is a member of the group of this number, if one is
+abbrev pub IsOwnGroup : Table → ℕ → Type 0
+IsOwnGroup table number = (t : ℕ) (x : Standing) → slot table t ≡ Some x → (x.group ≡ number) ↔ (t ≡ number)
 
 -- ---- What a scan leaves
 

@@ -1,11 +1,13 @@
-//! Scans that ask the tasks of a set alone.
-ghost use Rattle.std.specs.Prelude.{◌≡◌, ◌≤◌, ◌↔◌, true, Err, IfOk, IsTrue};
+//! Scans that ask the members of some groups alone.
+ghost use Rattle.std.specs.Prelude.{◌≡◌, ◌<◌, ◌≤◌, ◌↔◌, ◌&&◌, ◌||◌, ℕ, true, Err, map, nat_eq, IfOk, IsTrue};
+ghost use Rattle.std.specs.List.{filter, list_any};
+ghost use Rattle.lp_stack.specs.TaskView.{seen};
 ghost use Rattle.lp_numbers.specs.Numbers.{has};
-ghost use Rattle.lp_transition.specs.Table.{state_in};
+ghost use Rattle.lp_transition.specs.Table.{slot, state_in};
 ghost use Rattle.lp_transition.specs.Weigh.{IsWeighed};
 ghost use Rattle.lp_transition.specs.Steps.{IsReply};
-ghost use Rattle.lp_transition.specs.Scan.{is_scan_kind, scan_event, MayLeaveOut, passing, verdicts_among};
-ghost use Rattle.lp_transition.specs.ScanSteps.{tasks_of};
+ghost use Rattle.lp_transition.specs.Scan.{is_asked, is_scan_kind, scan_event, MayLeaveOut, passing, verdicts_among, views_of};
+ghost use Rattle.lp_transition.specs.ScanSteps.{IsOwnGroup, task_goes, tasks_of};
 ghost use Rattle.lp_transition.specs.declared.engine.step.Halt.TheVariants.{JournalFull};
 
 #[cfg(test)]
@@ -14,14 +16,17 @@ mod tests;
 use super::run::verdicts;
 use super::scan::{member_from, views_in};
 use super::step::{Halt, Step};
+use super::task_table::TaskTable;
 use super::{Core, MOST_EVENTS};
 use lp_model::{CheckKind, Consistency, Verdict};
 use lp_numbers::NumberSet;
-use std::alloc::Global;
+use lp_stack::{TaskId, View};
+use std::alloc::{AllocError, Global};
 
 impl<M: Consistency> Core<M> {
-    /// A walk or a stop, weighed after a look at the waiting tasks of a set alone: it would refuse
-    /// all others. NoMemory where a growth was refused, JournalFull where no event is left.
+    /// A walk or a stop, weighed after a look at the waiting tasks of some groups alone: of each of the
+    /// others that waits it would refuse a member. NoMemory where a growth was refused, JournalFull
+    /// where no event is left.
     pub fn weigh_asked(
         &self,
         alloc: Global,
@@ -39,10 +44,75 @@ impl<M: Consistency> Core<M> {
         if self.events >= MOST_EVENTS {
             return Err(Halt::JournalFull);
         }
-        let views = views_in(alloc, &self.tasks, &self.waiting, asked)?;
+        let views = self.asked_views(alloc, asked)?;
         let aim = self.aim();
         let found = verdicts(alloc, &self.model, kind, views.as_slice(), &aim)?;
         self.weigh_found(alloc, kind, found.as_slice())
+    }
+
+    /// The waiting tasks of some groups as checks see them, by increasing number.
+    fn asked_views(&self, alloc: Global, groups: &NumberSet) -> Result<Vec<View<'_>>, AllocError>
+        ensures { IfOk result (λ views. map seen views.items ≡ filter (λ view. is_asked (state_in self.now) (has groups.now) view.task) (views_of (state_in self.now))) }
+    {
+        if self.are_own(groups) {
+            return views_in(alloc, &self.tasks, &self.waiting, groups);
+        }
+        let members = members_of(alloc, &self.tasks, &self.waiting, groups)?;
+        views_in(alloc, &self.tasks, &self.waiting, &members)
+    }
+
+    /// Whether each of some groups has no other live member than the task of its number.
+    fn are_own(&self, groups: &NumberSet) -> bool
+        ensures { IsTrue result → (group : ℕ) → group < 65536 → has groups.now group ≡ true → IsOwnGroup self.now.table group }
+    {
+        let mut next = member_from(groups, 0);
+        while let Some(number) = next {
+            if !self.is_own(number) {
+                return false;
+            }
+            next = member_from(groups, usize::from(number) + 1);
+        }
+        true
+    }
+
+    /// Whether a group has no other live member than the task of its number, which has no other group.
+    fn is_own(&self, number: u16) -> bool
+        ensures { IsTrue result → IsOwnGroup self.now.table number }
+    {
+        let members = self.members[usize::from(number)];
+        match self.tasks.get(TaskId(number)) {
+            Some(live) => live.group().0 == number && members == 1,
+            None => members == 0,
+        }
+    }
+}
+
+/// The waiting tasks of some groups.
+fn members_of(
+    alloc: Global,
+    tasks: &TaskTable,
+    waiting: &NumberSet,
+    groups: &NumberSet,
+) -> Result<NumberSet, AllocError>
+    ensures { IfOk result (λ set. (task : ℕ) → has set task ≡ list_any (λ t. nat_eq t task && task_goes (has groups.now) (slot tasks.now t)) (passing 0 65536 (has waiting.now))) }
+{
+    let mut members = NumberSet::new(alloc)?;
+    let mut next = member_from(waiting, 0);
+    while let Some(number) = next {
+        add_member(&mut members, tasks, groups, TaskId(number));
+        next = member_from(waiting, usize::from(number) + 1);
+    }
+    Ok(members)
+}
+
+/// Takes in a live task whose group is one of these.
+fn add_member(members: &mut NumberSet, tasks: &TaskTable, groups: &NumberSet, task: TaskId)
+    ensures { (other : ℕ) → has members.new other ≡ (has members.old other || (nat_eq task.0 other && task_goes (has groups.now) (slot tasks.now task.0))) }
+{
+    if let Some(live) = tasks.get(task) {
+        if groups.contains(live.group().0) {
+            members.insert(task.0);
+        }
     }
 }
 

@@ -240,7 +240,11 @@ fn note(groups: &mut NumberSet, tasks: &TaskTable, verdict: Verdict, refused: bo
 }
 
 /// The groups of the live tasks of a set.
-fn groups_in(alloc: Global, tasks: &TaskTable, set: &NumberSet) -> Result<NumberSet, AllocError>
+pub(super) fn groups_in(
+    alloc: Global,
+    tasks: &TaskTable,
+    set: &NumberSet,
+) -> Result<NumberSet, AllocError>
     ensures { IfOk result (λ groups. (group : ℕ) → has groups group ≡ list_any (λ t. is_in group (slot tasks.now t)) (passing 0 65536 (has set.now))) }
 {
     let mut groups = NumberSet::new(alloc)?;

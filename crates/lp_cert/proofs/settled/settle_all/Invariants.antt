@@ -1,7 +1,10 @@
-use Rattle.std.proofs.Common.{take}
-use Rattle.lp_cert.specs.Settling.{AreKeptApart}
+use Rattle.std.proofs.Common.{◌≡◌, ◌⊎◌, ℕ, true, false, take}
+use Rattle.std.specs.List.{list_any}
+use Rattle.lp_numbers.specs.Numbers.{has}
+use Rattle.lp_cert.specs.Settling.{settles}
 use Rattle.lp_cert.proofs.settled.settle_all.Given as goal
 
--- the verdicts so far are gone over
+-- a group that isn't in was not in, or one of the verdicts so far settles it
 abbrev pub invariant-loop-verdict : goal.invariant-loop-verdict
-invariant-loop-verdict g l = AreKeptApart l.core l.reasons (take l.verdict-index l.verdicts) l.fn.unsettled l.unsettled
+invariant-loop-verdict g l =
+    (group : ℕ) → has l.unsettled group ≡ false → (has l.fn.unsettled group ≡ false) ⊎ (list_any (settles l.core l.reasons group) (take l.verdict-index l.verdicts) ≡ true)

@@ -1,11 +1,12 @@
 //! Walks that leave out who would be refused.
-ghost use Rattle.std.specs.Prelude.{◌≡◌, true, Some, IsTrue, IfOk, is_some};
+ghost use Rattle.std.specs.Prelude.{◌≡◌, true, false, Some, IsTrue, IfOk, is_some, nat_eq};
 ghost use Rattle.lp_numbers.specs.Numbers.{has};
-ghost use Rattle.lp_transition.specs.Leg.{Standing, is_alone};
-ghost use Rattle.lp_transition.specs.Machine.{view_of, outlines_of};
+ghost use Rattle.lp_transition.specs.Leg.{Standing};
+ghost use Rattle.lp_transition.specs.Machine.{view_of};
 ghost use Rattle.lp_transition.specs.Scan.{MayLeaveOut};
-ghost use Rattle.lp_transition.specs.Table.{slot, standings, bounds_of, state_in};
+ghost use Rattle.lp_transition.specs.Table.{slot, state_in};
 
+use super::super::scan::groups_in;
 use super::*;
 use crate::{Event, What};
 use lp_model::{Blame, ForkKind};
@@ -86,18 +87,18 @@ fn in_a_call(alloc: Global) -> Result<Core<Emptied>, Fail> {
     Ok(core)
 }
 
-/// Whether a check refuses a task that is alone in its group.
-fn is_refused_alone<M: Consistency>(core: &Core<M>, kind: CheckKind, task: TaskId) -> bool
-    ensures { IsTrue result → (x : Standing) → slot core.now.table task.0 ≡ Some x → (is_some (M.rules.blame kind (view_of task.0 x) (state_in core.now).aim) ≡ true) × (is_alone (bounds_of core.now.patches) (outlines_of (standings core.now.table)) x.group task.0 ≡ true) }
+/// Whether a task waits, and a check refuses it.
+fn is_refused<M: Consistency>(core: &Core<M>, kind: CheckKind, task: TaskId) -> bool
+    ensures { IsTrue result → (x : Standing) → slot core.now.table task.0 ≡ Some x → (nat_eq x.level core.now.target ≡ false) × (is_some (M.rules.blame kind (view_of task.0 x) (state_in core.now).aim) ≡ true) }
 {
     let Some(view) = core.task(task) else {
         return false;
     };
     let found = Verdict::of(&core.model, kind, &view, &core.aim());
-    found.blame.is_some() && core.is_alone(task)
+    found.blame.is_some() && core.side_of(task) != Some(core.target)
 }
 
-/// The waiting tasks without this one, if it is refused alone.
+/// The groups that wait without that of this task, if it waits and is refused.
 fn all_but<M: Consistency>(
     alloc: Global,
     core: &Core<M>,
@@ -106,9 +107,11 @@ fn all_but<M: Consistency>(
 ) -> Result<NumberSet, AllocError>
     ensures { IfOk result (λ set. MayLeaveOut M.rules kind (state_in core.now) (has set)) }
 {
-    let mut set = core.waiting.copy(alloc)?;
-    if is_refused_alone(core, kind, task) {
-        set.remove(task.0);
+    let mut set = groups_in(alloc, &core.tasks, &core.waiting)?;
+    if let Some(group) = core.group_of(task) {
+        if is_refused(core, kind, task) {
+            set.remove(group.0);
+        }
     }
     Ok(set)
 }

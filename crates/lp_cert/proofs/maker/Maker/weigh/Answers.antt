@@ -7,7 +7,8 @@ use Rattle.lp_transition.specs.Scan.{MayLeaveOut}
 use Rattle.lp_transition.specs.Table.{state_in}
 use Rattle.lp_cert.specs.Made.{lines}
 use Rattle.lp_cert.specs.Settling.{AreSettledBy, AreSettledSince}
-use Rattle.lp_cert.proofs.SettledSteps.{may_leave_out}
+use Rattle.lp_cert.proofs.Noted.{engine_sound}
+use Rattle.lp_cert.proofs.Settling.{may_leave_out}
 use Rattle.lp_cert.proofs.maker.Maker.weigh.Goals as goal
 
 pub weigh_asked-requires-clause-others : goal.weigh_asked-requires-clause-others
@@ -21,4 +22,5 @@ weigh_asked-requires-clause-others g c =
     let settled : AreSettledBy model s (lines model leg (length leg.events)) settling =
     subst (λ (st : State). AreSettledBy model st (lines model leg (length leg.events)) settling) (sym c.requires.made.1.there) (rw (← c.self.view_is) at is.settled) in
     let since = subst (λ (o : Option CheckKind). AreSettledSince model s (lines model leg (length leg.events)) o (has settling.unsettled)) c.in-Some.ensures.0 settled in
-    subst (λ (asked : Numbers). MayLeaveOut model c.match-event.kind s (has asked)) (sym c.in-Some.ensures.1) (may_leave_out model s (lines model leg (length leg.events)) c.match-event.kind (has settling.unsettled) since)
+    let sound = engine_sound model g.met.M.Consistency.lawful run c.args.core.now c.requires.made.1 in
+    subst (λ (asked : Numbers). MayLeaveOut model c.match-event.kind s (has asked)) (sym c.in-Some.ensures.1) (may_leave_out model s sound (lines model leg (length leg.events)) c.match-event.kind (has settling.unsettled) since)

@@ -1,25 +1,29 @@
 use Rattle.std.proofs.Common.{◌≡◌, List, Result, Ok, Err, IfOk, map, ◌∙◌}
 use Rattle.lp_model.specs.declared.verdict.Verdict.{Verdict}
+use Rattle.lp_transition.specs.Table.{state_in}
 use Rattle.lp_transition.specs.Weigh.{Weighed}
 use Rattle.lp_transition.specs.declared.engine.step.Halt.{Halt}
 use Rattle.lp_stack.specs.TaskView.{seen}
 use Rattle.lp_numbers.specs.Numbers.{has}
-use Rattle.lp_transition.proofs.AskedScans.{asked-among, asked-enough}
+use Rattle.lp_transition.proofs.AskedScans.{asked-among}
 use Rattle.lp_transition.proofs.engine.Core.weigh_asked.Goals as goal
 
 pub weigh_found-requires-clause-found : goal.weigh_found-requires-clause-found
 weigh_found-requires-clause-found g c =
-    let i = c.self.inside in
     let rules = g.M.Consistency.rules in
+    let asked = has c.args.asked.now in
     let found = rw (c.aim-aim.ensures, c.as_slice.ensures.value) at c.in_ok-found.ensures in
-    asked-enough rules c.args.kind (record { number = i.events; from = i.from.0; target = i.target.0; patches = i.patches; table = i.tasks }) c.args.self.now i.waiting i.members.items (has c.args.asked.now) (map seen c.in_ok-views.views.items) c.as_slice-2.result.now c.self.view_is c.self.invariant c.requires.others c.in_ok-views.ensures (c.as_slice-2.ensures.value ∙ found)
+    record {
+      asked = asked;
+      others = c.requires.others;
+      found = asked-among rules c.args.kind (state_in c.args.self.now) asked (map seen c.in_ok-views.views.items) c.as_slice-2.result.now c.in_ok-views.ensures (c.as_slice-2.ensures.value ∙ found);
+    }
 
 pub returns-clause-verdicts : goal.returns-clause-verdicts
 returns-clause-verdicts g c =
-    let i = c.self.inside in
     let rules = g.M.Consistency.rules in
     let found = rw (c.aim-aim.ensures, c.as_slice.ensures.value) at c.in_ok-found.ensures in
-    let among = asked-among rules c.args.kind (record { number = i.events; from = i.from.0; target = i.target.0; patches = i.patches; table = i.tasks }) c.args.self.now i.waiting i.members.items (has c.args.asked.now) (map seen c.in_ok-views.views.items) c.as_slice-2.result.now c.self.view_is c.self.invariant c.in_ok-views.ensures (c.as_slice-2.ensures.value ∙ found) in
+    let among = asked-among rules c.args.kind (state_in c.args.self.now) (has c.args.asked.now) (map seen c.in_ok-views.views.items) c.as_slice-2.result.now c.in_ok-views.ensures (c.as_slice-2.ensures.value ∙ found) in
     ok_map c.weigh_found.result c.weigh_found.ensures.verdicts among
   where
     ok_map : {vs ws : List Verdict} (r : Result Weighed Halt) → IfOk r (λ step. step.verdicts ≡ vs) → vs ≡ ws → IfOk r (λ step. step.verdicts ≡ ws)
