@@ -1,5 +1,5 @@
 -- What is made of a run, after one event more.
-use Rattle.std.proofs.Common.{◌≡◌, ◌⊎◌, ℕ, suc, ◌+◌, ◌-◌, ◌<◌, Bool, true, false, not, ◌&&◌, ◌||◌, List, [], ◌∷◌, ◌++◌, length, map, filter, take, drop, Option, Some, None, is_none, option_to_list, if◌then◌else◌, nat_eq, refl, sym, ap, ap₂, subst, ◌∙◌, ⊎_elim, arith, append-nil, append_assoc, length-append}
+use Rattle.std.proofs.Common.{is_some, ◌≡◌, ◌⊎◌, ℕ, suc, ◌+◌, ◌-◌, ◌<◌, Bool, true, false, not, ◌&&◌, ◌||◌, List, [], ◌∷◌, ◌++◌, length, map, filter, take, drop, Option, Some, None, is_none, option_to_list, if◌then◌else◌, nat_eq, refl, sym, ap, ap₂, subst, ◌∙◌, ⊎_elim, arith, append-nil, append_assoc, length-append}
 use mathlib.Core.Path.{fun_ext}
 use Rattle.std.specs.List.{range_with_len}
 use Rattle.std.specs.Option.{option_map}
@@ -33,8 +33,8 @@ use Rattle.lp_cert.specs.declared.open_leg.Completion.{Completion}
 use Rattle.lp_cert.specs.declared.open_leg.OpenLeg.{OpenLeg}
 use Rattle.lp_cert.specs.declared.maker.Ready.{Ready}
 use Rattle.lp_cert.specs.Made.{lines, waiting_groups, waiting_certs, floor_certs, completion, certs_by}
-use Rattle.lp_cert.specs.Ends.{Made, IsMadeOf, end_of, ended_legs, under_way}
-use Rattle.lp_cert.specs.Kept.{open_end, ends_with, current_waiters, IfReady, IsReady, floor_waiters, is_opening, leg_at, IsGoneOn, IsSettledOn}
+use Rattle.lp_cert.specs.Ends.{Made, IsMadeOf, Room, end_of, ended_legs, is_opening, under_way}
+use Rattle.lp_cert.specs.Kept.{open_end, ends_with, current_waiters, IfReady, IsReady, floor_waiters, room_of, leg_at, IsGoneOn, IsSettledOn}
 use Rattle.lp_cert.specs.Waiters.{WaitingGroups, HasFewGroups, has_off, lines_at, kept_cert, waiters_of}
 use Rattle.lp_cert.proofs.Completions.{past_floor, completion_opened, completion_below, certs_kept, completion_stays, completion_now, unsettled_if}
 use Rattle.lp_cert.proofs.Making.{none_is, cert_for, certs_from, certs_tell, floor_from}
@@ -477,13 +477,11 @@ ends_are noted w (Some leg) = refl
 pub ready_for : (current : Option OpenLeg) (w : WaitingGroups) (room : ℕ) (o : Option Ready) (ready : Ready) → IfReady current w room o → o ≡ Some ready → IsReady current w room ready
 ready_for current w room o ready h is = subst (IfReady current w room) is h
 
-abbrev asked_for : Ready → Event × ℕ
-asked_for ready = (ready.event, ready.verdicts)
-
-pub event_is : (o : Option Ready) (ready : Ready) (asked : Event) (count : ℕ) → o ≡ Some ready → option_map asked_for o ≡ Some (asked, count) → ready.event ≡ asked
-event_is o ready asked count is told =
-    let one : Option (Event × ℕ) = Some (asked_for ready) in
-    let two : Option (Event × ℕ) = Some (asked, count) in
-    let both : one ≡ two = sym (ap (option_map asked_for) is) ∙ told in
-    let pair : asked_for ready ≡ (asked, count) = cc in
-    ap (λ (q : Event × ℕ). q.0) pair
+-- whether it opens a leg
+pub opens_is : (o : Option Ready) (ready : Ready) (room : Room) → o ≡ Some ready → option_map room_of o ≡ Some room → is_some ready.closing ≡ room.opens
+opens_is o ready room is told =
+    let one : Option Room = Some (room_of ready) in
+    let two : Option Room = Some room in
+    let both : one ≡ two = sym (ap (option_map room_of) is) ∙ told in
+    let same : room_of ready ≡ room = cc in
+    ap (λ (r : Room). r.opens) same

@@ -26,8 +26,8 @@ use Rattle.lp_model.specs.declared.check.CheckKind.{CheckKind}
 use Rattle.lp_cert.specs.declared.line.Line.{Line}
 use Rattle.lp_cert.specs.Made.{lines}
 use Rattle.lp_cert.specs.declared.open_leg.OpenLeg.{OpenLeg}
-use Rattle.lp_cert.specs.Ends.{Made, IsMadeOf, is_plain}
-use Rattle.lp_cert.specs.Kept.{IsGoneOn, open_end, is_opening}
+use Rattle.lp_cert.specs.Ends.{Made, IsMadeOf, is_opening, is_plain}
+use Rattle.lp_cert.specs.Kept.{IsGoneOn, open_end}
 use Rattle.lp_cert.specs.Waiters.{WaitingGroups, AreStanding, lines_at, HasFewGroups, own_lines}
 use Rattle.lp_cert.specs.Noting.{noted_by, noted_lines}
 use Rattle.lp_cert.specs.Settling.{AreSettledBy, AreThoseOf, IsTouched, Suffices, used_scan}

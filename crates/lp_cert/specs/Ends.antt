@@ -1,11 +1,12 @@
 -- How the legs of a run ended, with their certificates, and what is made of a run so far.
-use Rattle.std.specs.Prelude.{◌≡◌, ℕ, ◌+◌, Bool, true, List, [], ◌∷◌, ◌++◌, map, drop, length, Option, Some, None, is_none, if◌then◌else◌, nat_eq, slice_get}
+use Rattle.std.specs.Prelude.{◌≡◌, ℕ, ◌+◌, Bool, true, ◌&&◌, List, [], ◌∷◌, ◌++◌, map, drop, length, Option, Some, None, is_none, if◌then◌else◌, nat_eq, slice_get}
 use Rattle.std.specs.List.{find}
 use Rattle.std.specs.Option.{option_map}
 use Rattle.lp_model.specs.Rules.{Rules}
 use Rattle.lp_transition.specs.declared.event.Event.{Event}
 use Rattle.lp_transition.specs.declared.event.Event.TheVariants.{Call}
-use Rattle.lp_transition.specs.Weigh.{moves}
+use Rattle.lp_transition.specs.Events.{is_control}
+use Rattle.lp_transition.specs.Weigh.{Weighed, moves, refused_by}
 use Rattle.lp_transition.specs.Leg.{Leg}
 use Rattle.lp_transition.specs.Run.{Run, first_leg, leg_of, opens, next_leg}
 use Rattle.lp_transition.specs.Machine.{state_of}
@@ -16,12 +17,26 @@ use Rattle.lp_cert.specs.declared.leg_end.LegEnd.{LegEnd}
 use Rattle.lp_cert.specs.Made.{completion, certs_of, lines}
 use Rattle.lp_cert.specs.Settling.{Settling, AreSettledBy}
 
--- the ends of the legs that ended, the end of the leg under way as it stands, the event for which there is room, with
--- the number of its verdicts, and the groups that a scan needn't look at
+-- the event opens a leg: it is a control event, and was accepted
+abbrev pub is_opening : Weighed → Bool
+is_opening step = is_control step.event && is_none (refused_by step.reply.what)
+
+-- room for an event, with so many verdicts, that may open a leg
+pub record Room : Type 0 where
+  pub event : Event
+  pub verdicts : ℕ
+  pub opens : Bool
+
+-- the room that an event needs
+abbrev pub room_for : Weighed → Room
+room_for step = record { event = step.event; verdicts = length step.verdicts; opens = is_opening step }
+
+-- the ends of the legs that ended, the end of the leg under way as it stands, the event for which there is room, and the
+-- groups that a scan needn't look at
 pub record Made : Type 0 where
   pub ended : List LegEnd
   pub current : Option LegEnd
-  pub ready : Option (Event × ℕ)
+  pub ready : Option Room
   pub settling : Settling
 
 -- nothing is made yet

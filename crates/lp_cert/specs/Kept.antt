@@ -1,10 +1,9 @@
 -- The leg under way as it is kept.
-use Rattle.std.specs.Prelude.{◌≡◌, ℕ, ◌+◌, ◌-◌, ◌<◌, Bool, true, false, ◌&&◌, List, [], ◌∷◌, length, map, reverse, Option, Some, None, IfSome, IsSome, is_none, if◌then◌else◌}
+use Rattle.std.specs.Prelude.{◌≡◌, ℕ, ◌+◌, ◌-◌, ◌<◌, Bool, true, false, List, [], ◌∷◌, length, map, reverse, Option, Some, None, IfSome, IsSome, is_some, if◌then◌else◌}
 use Rattle.std.specs.Option.{option_map}
 use Rattle.lp_stack.specs.declared.number.GroupId.{GroupId}
 use Rattle.lp_numbers.specs.Numbers.{has, IsNextFrom}
 use Rattle.lp_model.specs.Rules.{Rules}
-use Rattle.lp_transition.specs.Events.{is_control}
 use Rattle.lp_transition.specs.Table.{Engine}
 use Rattle.lp_transition.specs.Weigh.{Weighed, refused_by}
 use Rattle.lp_cert.specs.declared.cert.Claim.{Claim}
@@ -16,7 +15,9 @@ use Rattle.lp_cert.specs.declared.head.Waiter.{Waiter}
 use Rattle.lp_cert.specs.declared.leg_end.LegEnd.{LegEnd}
 use Rattle.lp_cert.specs.declared.open_leg.Completion.{Completion}
 use Rattle.lp_cert.specs.declared.open_leg.OpenLeg.{OpenLeg}
+use Rattle.lp_cert.specs.declared.maker.Closing.{Closing}
 use Rattle.lp_cert.specs.declared.maker.Ready.{Ready}
+use Rattle.lp_cert.specs.Ends.{Room}
 use Rattle.lp_cert.specs.Noting.{advanced_lines}
 use Rattle.lp_cert.specs.Settling.{Settling, GoesFurther, used_scan}
 use Rattle.lp_cert.specs.Waiters.{LegReasons, WaitingGroups, AreHeads, AreStanding, HasFewGroups, kept_cert, lines_at, waiter_in, waiters_of}
@@ -83,15 +84,23 @@ abbrev pub HasFloors : WaitingGroups → Option OpenLeg → Type 0
 HasFloors waiters None = Unit {0}
 HasFloors waiters (Some leg) = HasFloor waiters leg.completed
 
--- there is room for the event: for its reasons and its scan and, if it may end the leg, for the end
+-- the room that is made
+abbrev pub room_of : Ready → Room
+room_of ready = record { event = ready.event; verdicts = ready.verdicts; opens = is_some ready.closing }
+
+-- what the leg under way leaves where it ends now
+pub record IsClosing (current : Option OpenLeg) (waiters : WaitingGroups) (closing : Closing) : Type 0 where
+  pub lists : closing.chains.lists ≡ waiters.reasons.lists
+  pub scans : closing.scans.items ≡ waiters.reasons.scans
+  pub all : closing.waiters.items ≡ current_waiters current waiters
+  pub heads : AreHeads closing.chains.lists (length closing.scans.items) closing.waiters.items
+
+-- there is room for the event: for its reasons and its scan and, if it opens a leg, for the end of the one under way
 pub record IsReady (current : Option OpenLeg) (waiters : WaitingGroups) (ended_room : ℕ) (ready : Ready) : Type 0 where
   pub room : ready.verdicts + 1 < waiters.reasons.room
   pub scan_room : 0 < waiters.reasons.scan_room
   pub end_room : 0 < ended_room
-  pub lists : ready.closing.chains.lists ≡ [] ∷ []
-  pub scans : ready.closing.scans.items ≡ []
-  pub all : is_control ready.event ≡ true → ready.closing.waiters.items ≡ current_waiters current waiters
-  pub heads : is_control ready.event ≡ true → AreHeads waiters.reasons.lists (length waiters.reasons.scans) ready.closing.waiters.items
+  pub closing : IfSome ready.closing (IsClosing current waiters)
 
 abbrev pub IfReady : Option OpenLeg → WaitingGroups → ℕ → Option Ready → Type 0
 IfReady current waiters ended_room None = Unit {0}
@@ -102,10 +111,6 @@ pub record IsMaker (current : Option OpenLeg) (waiters : WaitingGroups) (ended_r
   pub for_event : IfReady current waiters ended_room ready
 
 -- ---- An event that opens a leg
-
--- it is a control event, and was accepted
-abbrev pub is_opening : Weighed → Bool
-is_opening step = is_control step.event && is_none (refused_by step.reply.what)
 
 -- the leg that opens with this event, with the level to which it goes
 abbrev pub leg_at : (number level : ℕ) → Bool → OpenLeg

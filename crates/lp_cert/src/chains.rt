@@ -46,6 +46,13 @@ impl Chains {
         }
     }
 
+    /// Takes every list out but the empty one. Takes no memory.
+    pub(crate) fn clear(&mut self)
+        ensures { self.new.lists ≡ [] ∷ [] }
+    {
+        self.entries.clear();
+    }
+
     /// Makes room for so many more lists; AllocError where a growth was refused.
     pub(crate) fn reserve(&mut self, more: usize) -> Result<(), AllocError>
         ensures lists { self.new.lists ≡ self.old.lists }

@@ -16,8 +16,6 @@ mod open_leg;
 mod reason;
 mod reasons;
 mod settled;
-#[cfg(test)]
-mod tests;
 mod waiters;
 mod written;
 

@@ -1,5 +1,5 @@
 //! The maker of certificates.
-ghost use Rattle.std.specs.Prelude.{◌≡◌, ◌+◌, ◌-◌, ◌<◌, [], ◌∷◌, ◌++◌, true, Some, None, Err, IsTrue, ◌↔◌, ◌≤◌, length, vec_len, vec_capacity, option_to_list, IfOk, OnOk};
+ghost use Rattle.std.specs.Prelude.{◌≡◌, ◌+◌, ◌-◌, ◌<◌, [], ◌∷◌, ◌++◌, true, Some, None, Err, IsTrue, ◌↔◌, ◌≤◌, length, vec_len, vec_capacity, option_to_list, is_some, IfOk, IfSome, OnOk};
 ghost use Rattle.lp_transition.specs.Events.{is_control};
 ghost use Rattle.lp_transition.specs.Run.{Run, new_target, plus};
 ghost use Rattle.lp_transition.specs.Steps.{StandsIn};
@@ -7,14 +7,11 @@ ghost use Rattle.lp_transition.specs.Table.{state_in};
 ghost use Rattle.lp_transition.specs.Weigh.{IsWeighed, may_want_memory};
 ghost use Rattle.lp_transition.specs.Machine.{answer};
 ghost use Rattle.lp_transition.specs.declared.engine.step.Halt.TheVariants.{NoMemory, JournalFull};
-ghost use Rattle.lp_cert.specs.Ends.{IsFresh, IsMadeOf, floor_in, is_plain, waiting_in};
+ghost use Rattle.lp_cert.specs.Ends.{IsFresh, IsMadeOf, floor_in, is_opening, is_plain, room_for, waiting_in};
 ghost use Rattle.lp_cert.specs.Settling.{Suffices};
-ghost use Rattle.lp_cert.specs.Kept.{HasFloor, HasFloors, IsGoneOn, IsSettledOn, current_waiters, end_waiters, ends_with, is_opening, leg_at, waiting_cert};
+ghost use Rattle.lp_cert.specs.Kept.{HasFloor, HasFloors, IsClosing, IsGoneOn, IsSettledOn, end_waiters, ends_with, leg_at, waiting_cert};
 ghost use Rattle.lp_cert.specs.Waiters.{AreHeads, lines_at};
 ghost use Rattle.std.specs.Option.{option_map};
-
-#[cfg(test)]
-mod tests;
 
 use crate::cert::{Cert, Claim};
 use crate::chains::Chains;
@@ -29,14 +26,14 @@ use lp_transition::{Core, Event, Halt, Step, What};
 use std::alloc::{AllocError, Global};
 use std::marker::Model;
 
-/// What the end of a leg takes, and the beginning of the next.
+/// What a leg leaves where it ends: copies, with no room to spare.
 #[derive(Drop)]
 pub(crate) struct Closing {
     /// The groups that have a certificate.
     pub(crate) waiters: Vec<Waiter>,
-    /// No list but the empty one.
+    /// Their older reasons.
     pub(crate) chains: Chains,
-    /// No scan.
+    /// The scans of the leg.
     pub(crate) scans: Vec<u64>,
 }
 
@@ -47,16 +44,15 @@ pub(crate) struct Ready {
     pub(crate) event: Event,
     /// How many verdicts it has.
     pub(crate) verdicts: usize,
-    /// What is needed where it ends the leg.
-    pub(crate) closing: Closing,
+    /// Where it opens a leg, what the one under way leaves.
+    pub(crate) closing: Option<Closing>,
 }
 
 /// Makes the certificates of a run, event by event: why each group still waits, and why no leg was
 /// complete before it was.
 ///
-/// Contracts see the ends of the legs that ended, the end of the leg under way as it stands, and
-/// the event for which there is room, with the number of its verdicts, and the groups that a scan
-/// needn't look at.
+/// Contracts see the ends of the legs that ended, the end of the leg under way as it stands, the
+/// event for which there is room, and the groups that a scan needn't look at.
 #[derive(Drop)]
 pub struct Maker {
     ended: Vec<LegEnd>,
@@ -72,11 +68,11 @@ impl Model for Maker {
     ghost use Rattle.std.specs.Prelude.{◌-◌, vec_len, vec_capacity};
     ghost use Rattle.std.specs.Option.{option_map};
     ghost use Rattle.lp_cert.specs.Ends.{Made};
-    ghost use Rattle.lp_cert.specs.Kept.{IsMaker, open_end};
+    ghost use Rattle.lp_cert.specs.Kept.{IsMaker, open_end, room_of};
 
     ghost Value = { Made };
 
-    ghost view = { λ m. record { ended = m.ended.items; current = option_map (open_end m.noted m.waiters) m.current; ready = option_map (λ r. (r.event, r.verdicts)) m.ready; settling = m.settled } };
+    ghost view = { λ m. record { ended = m.ended.items; current = option_map (open_end m.noted m.waiters) m.current; ready = option_map room_of m.ready; settling = m.settled } };
 
     ghost invariant = { λ m. IsMaker m.current m.waiters (vec_capacity m.ended - vec_len m.ended) m.ready };
 }
@@ -133,14 +129,14 @@ impl Maker {
     ) -> Result<(), AllocError>
         ensures ended { self.new.ended ≡ self.old.ended }
         ensures current { self.new.current ≡ self.old.current }
-        ensures ready { OnOk result (self.new.ready ≡ Some (step.now.event, length step.now.verdicts)) }
+        ensures ready { OnOk result (self.new.ready ≡ Some (room_for step.now)) }
         ensures settling { self.new.settling ≡ self.old.settling }
     {
         self.ready = None;
         let verdicts = step.verdicts().len();
         self.waiters.reserve(verdicts + 2)?;
         self.ended.reserve(1)?;
-        let closing = closing_for(alloc, step.event(), self.current, &self.waiters)?;
+        let closing = closing_for(alloc, step, self.current, &self.waiters)?;
         self.ready = Some(Ready {
             event: step.event(),
             verdicts,
@@ -152,7 +148,7 @@ impl Maker {
     /// Notes an event that was weighed on the engine, before the engine takes it. Takes no memory.
     pub fn note<M: Consistency>(&mut self, core: &Core<M>, step: &Step)
         requires weighed { IsWeighed M.rules core.now step.now }
-        requires ready { self.old.ready ≡ Some (step.now.event, length step.now.verdicts) }
+        requires ready { self.old.ready ≡ Some (room_for step.now) }
         ensures made { (run : Run) → StandsIn M.rules run (state_in core.now) → IsMadeOf M.rules run self.old → Suffices M.rules (state_in core.now) step.now self.old.settling → IsMadeOf M.rules (plus run step.now.event) self.new }
     {
         let number = core.events() + 1;
@@ -161,7 +157,7 @@ impl Maker {
         };
         let noted = self.noted;
         self.noted = number;
-        if !opens(step) {
+        let Some(closing) = ready.closing else {
             let Some(leg) = &mut self.current else {
                 self.settled.reset();
                 return;
@@ -175,16 +171,11 @@ impl Maker {
                 &mut self.settled,
             );
             return;
-        }
+        };
         self.settled.reset();
-        let Closing {
-            waiters,
-            chains,
-            scans,
-        } = ready.closing;
         let next = opened(core, step, number);
-        let (chains, scans) = self.waiters.open(core, next.target, chains, scans);
-        end_leg(&mut self.ended, noted, self.current, waiters, chains, scans);
+        self.waiters.open(core, next.target);
+        end_leg(&mut self.ended, noted, self.current, closing);
         self.current = Some(next);
     }
 
@@ -313,20 +304,17 @@ fn go_on<M: Consistency>(
     waiters.advance(core, step, settled);
 }
 
-/// Ends the leg under way after so many events, if there is one, with the groups that have a
-/// certificate. Takes no memory.
-fn end_leg(
-    ended: &mut Vec<LegEnd>,
-    noted: u64,
-    current: Option<OpenLeg>,
-    waiters: Vec<Waiter>,
-    chains: Chains,
-    scans: Vec<u64>,
-)
+/// Ends the leg under way after so many events, if there is one. Takes no memory.
+fn end_leg(ended: &mut Vec<LegEnd>, noted: u64, current: Option<OpenLeg>, closing: Closing)
     requires room { 0 < vec_capacity ended.old - vec_len ended.old }
-    requires heads { AreHeads chains.lists (length scans.items) waiters.items }
-    ensures { ended.new.items ≡ ended.old.items ++ ends_with noted current chains.lists scans.items waiters.items }
+    requires heads { AreHeads closing.chains.lists (length closing.scans.items) closing.waiters.items }
+    ensures { ended.new.items ≡ ended.old.items ++ ends_with noted current closing.chains.lists closing.scans.items closing.waiters.items }
 {
+    let Closing {
+        waiters,
+        chains,
+        scans,
+    } = closing;
     if let Some(leg) = current {
         ended.push_reserved(leg.end(noted, waiters, chains, scans));
     }
@@ -360,28 +348,31 @@ fn opened<M: Consistency>(core: &Core<M>, step: &Step, number: u64) -> OpenLeg
     }
 }
 
-/// What an event needs where it ends the leg; AllocError where a growth was refused.
+/// What the leg under way leaves where an event opens another; None where it opens none. AllocError
+/// where a growth was refused.
 fn closing_for(
     alloc: Global,
-    event: Event,
+    step: &Step,
     current: Option<OpenLeg>,
     waiters: &Waiters,
-) -> Result<Closing, AllocError>
+) -> Result<Option<Closing>, AllocError>
     requires { HasFloors waiters.now current }
-    ensures lists { IfOk result (λ closing. closing.chains.lists ≡ [] ∷ []) }
-    ensures scans { IfOk result (λ closing. closing.scans.items ≡ []) }
-    ensures waiters { IfOk result (λ closing. is_control event ≡ true → closing.waiters.items ≡ current_waiters current waiters.now) }
-    ensures heads { IfOk result (λ closing. is_control event ≡ true → AreHeads waiters.now.reasons.lists (length waiters.now.reasons.scans) closing.waiters.items) }
+    ensures opens { IfOk result (λ found. is_some found ≡ is_opening step.now) }
+    ensures closing { IfOk result (λ found. IfSome found (IsClosing current waiters.now)) }
 {
+    if !opens(step) {
+        return Ok(None);
+    }
     let list = match current {
-        Some(leg) if event.is_control() => end_waiters(alloc, leg.completed, waiters)?,
-        _ => Vec::new(alloc),
+        Some(leg) => end_waiters(alloc, leg.completed, waiters)?,
+        None => Vec::new(alloc),
     };
-    Ok(Closing {
+    let (chains, scans) = waiters.copy_past(alloc)?;
+    Ok(Some(Closing {
         waiters: list,
-        chains: Chains::new(alloc),
-        scans: Vec::new(alloc),
-    })
+        chains,
+        scans,
+    }))
 }
 
 /// The groups that have a certificate, in increasing order; AllocError where a growth was refused.
@@ -397,11 +388,10 @@ fn end_waiters(
     let Some(done) = completed else {
         return waiters.list(alloc);
     };
-    let mut list = Vec::new(alloc);
-    if let Some(group) = done.floor {
-        list.push(waiters.waiter(group))?;
+    match done.floor {
+        None => Ok(Vec::new(alloc)),
+        Some(group) => Ok(vec![in alloc; waiters.waiter(group)]?),
     }
-    Ok(list)
 }
 
 /// The certificate of a group after so many events, if it waits; AllocError where a growth was

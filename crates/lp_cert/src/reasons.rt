@@ -12,7 +12,6 @@ use lp_numbers::NUMBERS;
 use lp_stack::GroupId;
 use std::alloc::{AllocError, Global};
 use std::marker::Model;
-use std::mem;
 
 /// Nothing is known of a group yet.
 const NO_REASON: Head = Head {
@@ -143,18 +142,14 @@ impl Reasons {
         (self.chains, self.scans)
     }
 
-    /// Puts others in the place of the older reasons and the scans, which are given back. Takes no
-    /// memory.
-    pub(crate) fn replace_past(&mut self, chains: Chains, scans: Vec<u64>) -> (Chains, Vec<u64>)
+    /// Takes all older reasons and scans out. Takes no memory.
+    pub(crate) fn clear_past(&mut self)
         ensures heads { self.new.heads ≡ self.old.heads }
-        ensures lists { self.new.lists ≡ chains.lists }
-        ensures scans { self.new.scans ≡ scans.items }
-        ensures past_lists { result.0.lists ≡ self.old.lists }
-        ensures past_scans { result.1.items ≡ self.old.scans }
+        ensures lists { self.new.lists ≡ [] ∷ [] }
+        ensures scans { self.new.scans ≡ [] }
     {
-        let before = mem::replace(&mut self.chains, chains);
-        let scanned = mem::replace(&mut self.scans, scans);
-        (before, scanned)
+        self.chains.clear();
+        self.scans.clear();
     }
 
     /// A scan has refused the groups that were noted. Takes no memory.

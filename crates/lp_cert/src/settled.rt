@@ -11,7 +11,7 @@ ghost use Rattle.lp_cert.specs.Steps.{has_frame_in};
 
 use crate::ongoing::Ongoing;
 use crate::reasons::Reasons;
-use crate::waiters::{empty, is_held};
+use crate::waiters::is_held;
 use lp_model::{Blame, CheckKind, Consistency, Verdict};
 use lp_numbers::NumberSet;
 use lp_stack::{GroupId, TaskId};
@@ -100,7 +100,7 @@ impl Settled {
             return;
         };
         self.kind = Some(kind);
-        empty(&mut self.unsettled);
+        self.unsettled.clear();
         take_in_all(core, verdicts, &mut self.unsettled);
         settle_all(core, verdicts, reasons, &mut self.unsettled);
     }

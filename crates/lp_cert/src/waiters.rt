@@ -2,7 +2,7 @@
 ghost use Rattle.std.specs.Prelude.{◌≡◌, ◌≢◌, ◌+◌, ◌<◌, ◌≤◌, ℕ, [], ◌∷◌, ◌++◌, true, false, Some, None, length, map, reverse, slice_set, IfOk, IfSome, OnOk, if◌then◌else◌, nat_eq};
 ghost use Rattle.std.specs.List.{AllByRecursion, list_any};
 ghost use Rattle.std.specs.Option.{option_map};
-ghost use Rattle.lp_numbers.specs.Numbers.{has, IsEmpty, IsNextFrom};
+ghost use Rattle.lp_numbers.specs.Numbers.{Numbers, has, IsEmpty, IsNextFrom};
 ghost use Rattle.lp_transition.specs.Sound.{IsSound};
 ghost use Rattle.lp_transition.specs.Scan.{passing};
 ghost use Rattle.lp_transition.specs.ScanSteps.{IsNextBelow};
@@ -154,25 +154,13 @@ impl Waiters {
     }
 
     /// A leg opens that takes the tasks to a level: the groups of the live tasks off it wait,
-    /// without any reason. The older reasons and the scans of the leg before are given back. Takes
-    /// no memory.
-    pub(crate) fn open<M: Consistency>(
-        &mut self,
-        core: &Core<M>,
-        level: Level,
-        chains: Chains,
-        scans: Vec<u64>,
-    ) -> (Chains, Vec<u64>)
-        requires chains { chains.lists ≡ [] ∷ [] }
-        requires scans { scans.items ≡ [] }
-        ensures lines { IsSound (state_in core.now) → (group : ℕ) → lines_at self.new group ≡ (if has_off (state_in core.now) level.0 group then Some [] else None) }
-        ensures past_lists { result.0.lists ≡ self.old.reasons.lists }
-        ensures past_scans { result.1.items ≡ self.old.reasons.scans }
+    /// without any reason. Takes no memory.
+    pub(crate) fn open<M: Consistency>(&mut self, core: &Core<M>, level: Level)
+        ensures { IsSound (state_in core.now) → (group : ℕ) → lines_at self.new group ≡ (if has_off (state_in core.now) level.0 group then Some [] else None) }
     {
-        let past = self.reasons.replace_past(chains, scans);
-        empty(&mut self.groups);
+        self.reasons.clear_past();
+        self.groups.clear();
         take_in_all(core, level, &mut self.groups, &mut self.reasons);
-        past
     }
 
     /// A scan, with what it found of the tasks that it looked at, by increasing number: the reasons of
@@ -184,8 +172,15 @@ impl Waiters {
         ensures lines { (group : ℕ) → lines_at self.new group ≡ scanned_lines (state_in core.now) at verdicts.now self.old group }
         ensures stood { AreStanding self.old }
     {
-        self.unrefused.copy_from(&self.groups);
-        judge_all(core, at, verdicts, &mut self.unrefused, &mut self.reasons);
+        let unrefused = &mut self.unrefused;
+        judge_waiting(
+            core,
+            at,
+            verdicts,
+            &self.groups,
+            unrefused,
+            &mut self.reasons,
+        );
         self.reasons.scanned(at);
     }
 
@@ -198,13 +193,26 @@ impl Waiters {
     }
 }
 
-/// Takes every member out of a set, at no cost where there is none.
-pub(crate) fn empty(set: &mut NumberSet)
-    ensures { IsEmpty set.new }
+/// Notes what a scan found of the groups that wait. What it hasn't refused of them is kept beside, at
+/// no cost where nothing was found.
+fn judge_waiting<M: Consistency>(
+    core: &Core<M>,
+    at: u64,
+    verdicts: &[Verdict],
+    waiting: &NumberSet,
+    unrefused: &mut NumberSet,
+    reasons: &mut Reasons,
+)
+    requires stand { (group : ℕ) → has waiting.now group ≡ true → StandsAt (length reasons.old.scans) reasons.old group }
+    requires used { AllByRecursion IsUsedVerdict verdicts.now }
+    requires room { length verdicts.now ≤ reasons.old.room }
+    ensures { (left : Numbers) × AreJudged (state_in core.now) at verdicts.now waiting.now left reasons.old reasons.new }
 {
-    if !set.is_empty() {
-        set.clear();
+    if verdicts.is_empty() {
+        return;
     }
+    unrefused.copy_from(waiting);
+    judge_all(core, at, verdicts, unrefused, reasons);
 }
 
 /// Notes what a scan found, and takes the groups that it refuses out of those that it hasn't refused.

@@ -13,8 +13,6 @@ mod leg;
 mod lines;
 mod marks;
 mod sections;
-#[cfg(test)]
-mod tests;
 mod walk;
 
 pub use check::{check_floor, check_waiting};

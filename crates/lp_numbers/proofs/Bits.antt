@@ -1,10 +1,9 @@
 -- The bits of one word.
-use Rattle.std.proofs.Common.{◌≡◌, ℕ, ◌+◌, ◌-◌, ◌*◌, ◌/◌, ◌%◌, ◌^◌, ◌≤◌, ◌<◌, Bool, true, false, not, ◌&&◌, ◌==◌, if◌then◌else◌, inl, inr, refl, sym, ap, ◌∙◌, arith, w64, bit_and, bit_or, min, zero-le}
+use Rattle.std.proofs.Common.{◌≡◌, ℕ, ◌+◌, ◌-◌, ◌*◌, ◌/◌, ◌%◌, ◌^◌, ◌≤◌, ◌<◌, Bool, true, false, ◌==◌, if◌then◌else◌, inl, inr, refl, sym, ap, ◌∙◌, arith, w64, bit_and, bit_or, zero-le}
 use Rattle.std.specs.Int.{bit_at, trailing_zeros}
 use Rattle.std.proofs.lemmas.Bool.{eqb-true, eqb-false, cases_lt, false≢true}
-use Rattle.std.proofs.lemmas.Bool.Decides.{nat_tests}
 use Rattle.std.proofs.lemmas.Nat.{shr-shr}
-use Rattle.std.proofs.lemmas.Nat.Bits.{bit_at-lt, bit_at-zero, bit_at_above, bit_at_set_same, bit_at_set_other, bit_at_clear_same, bit_at_clear_other, bit_at-trailing_zeros, bit_at_and, bit_at_not, shr_and_one}
+use Rattle.std.proofs.lemmas.Nat.Bits.{bit_at-zero, bit_at_above, bit_at_set_same, bit_at_set_other, bit_at_clear_same, bit_at_clear_other, bit_at-trailing_zeros, shr_and_one}
 use Rattle.lp_numbers.specs.Numbers.{IsLeastFrom}
 use Rattle.lp_numbers.specs.Words.{word_has}
 
@@ -40,15 +39,6 @@ word_has-clear word bit k h l = by (k == bit) refl
     by : (b : Bool) → (k == bit) ≡ b → word_has (bit_and word (2 ^ 64 - 1 - 1 * 2 ^ bit % 2 ^ 64)) k ≡ (if b then false else word_has word k)
     by true e = rw (eqb-true k bit e) (has-none (bit_and word (2 ^ 64 - 1 - 1 * 2 ^ bit % 2 ^ 64)) bit (bit_at_clear_same w64 word bit h))
     by false e = has-same (bit_and word (2 ^ 64 - 1 - 1 * 2 ^ bit % 2 ^ 64)) word k (bit_at_clear_other w64 word bit h k l (eqb-false k bit e))
-
--- `word & !other`
-pub word_has-without : (word other k : ℕ) → other < 2 ^ 64 → k < 64 → word_has (bit_and word (2 ^ 64 - 1 - other)) k ≡ (word_has word k && not (word_has other k))
-unfolding word_has
-word_has-without word other k h l =
-    rw (bit_at_and word (2 ^ 64 - 1 - other) k, bit_at_not w64 other k h l) (by (bit_at word k) (bit_at other k) (bit_at-lt word k) (bit_at-lt other k))
-  where
-    by : (a b : ℕ) → a < 2 → b < 2 → (min a (1 - b) == 1) ≡ ((a == 1) && not (b == 1))
-    by a b p q = grind (arith, nat_tests)
 
 -- the lowest bit of a word that isn't 0
 pub lowest-trailing_zeros : (word : ℕ) → 0 < word → word < 2 ^ 64 → IsLeastFrom (word_has word) 0 (trailing_zeros w64 word)

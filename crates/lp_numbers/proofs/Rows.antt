@@ -1,5 +1,5 @@
 -- The bits of a row of words.
-use Rattle.std.proofs.Common.{◌≡◌, ℕ, ◌+◌, ◌*◌, ◌/◌, ◌%◌, ◌≤◌, ◌<◌, false, not, ◌&&◌, ◌==◌, inl, inr, List, length, get_or, refl, arith}
+use Rattle.std.proofs.Common.{◌≡◌, ℕ, ◌+◌, ◌*◌, ◌/◌, ◌%◌, ◌≤◌, ◌<◌, false, inl, inr, List, length, get_or, refl, arith}
 use Rattle.std.proofs.lemmas.Bool.{cases_lt}
 use Rattle.std.proofs.lemmas.List.{get_or_past}
 use Rattle.std.proofs.lemmas.Nat.{div-mul-add, mod-mul-add}
@@ -23,18 +23,4 @@ pub none-end : (row : List ℕ) (from i low : ℕ) → length row ≤ i → ((k 
 none-end row from i low end none k h = elim (cases_lt (k / 64) i) [
   | inl l ↦ none k h (omega arith)
   | inr l ↦ row_has-past row k (omega arith)
-]
-
--- each word says whether another isn't 0, and so does each bit past them
-pub summary-end : (summary words : List ℕ) (i : ℕ) → length words ≡ 64 * length summary → length words ≤ i → ((k : ℕ) → k < i → row_has summary k ≡ not (get_or words k 0 == 0)) → (k : ℕ) → row_has summary k ≡ not (get_or words k 0 == 0)
-summary-end summary words i count end right k = elim (cases_lt k (length words)) [
-  | inl l ↦ right k (omega arith)
-  | inr l ↦ rw (get_or_past words k 0 l) (row_has-past summary k (omega arith))
-]
-
--- each word has lost the bits of another row's, and past them there are none
-pub taken-end : (row before others : List ℕ) (i : ℕ) → length row ≡ length before → length before ≡ length others → length row ≤ i → ((k bit : ℕ) → k < i → bit < 64 → word_has (get_or row k 0) bit ≡ (word_has (get_or before k 0) bit && not (word_has (get_or others k 0) bit))) → (k : ℕ) → row_has row k ≡ (row_has before k && not (row_has others k))
-taken-end row before others i same count end done k = elim (cases_lt (k / 64) i) [
-  | inl l ↦ done (k / 64) (k % 64) l (omega arith)
-  | inr l ↦ rw (row_has-past row k (omega arith), row_has-past before k (omega arith)) refl
 ]

@@ -1,5 +1,5 @@
 //! Words, and a summary over them of which bit i says whether word i isn't 0.
-ghost use Rattle.std.specs.Prelude.{◌≡◌, ℕ, ◌<◌, ◌&&◌, ◌==◌, not, if◌then◌else◌, length};
+ghost use Rattle.std.specs.Prelude.{◌≡◌, ℕ, ◌<◌, ◌==◌, if◌then◌else◌, length};
 ghost use Rattle.lp_numbers.specs.Numbers.{IsNextFrom};
 ghost use Rattle.lp_numbers.specs.Words.{row_has, IsBlank, IsTwoLevel};
 
@@ -12,14 +12,26 @@ pub(crate) const WORDS: usize = NUMBERS / 64;
 /// How many words the summary has, with 64 bits each.
 pub(crate) const SUMMARIES: usize = WORDS / 64;
 
-/// Makes each word 0.
+/// Makes each word 0, at the cost of those that aren't.
 pub(crate) fn clear(words: &mut [u64], summary: &mut [u64])
     requires { IsTwoLevel words.old summary.old }
     ensures two_level { IsTwoLevel words.new summary.new }
     ensures blank { IsBlank words.new }
 {
-    row::clear(words);
+    clear_named(words, summary);
     row::clear(summary);
+}
+
+/// Makes each word 0 of which the summary says that it isn't.
+fn clear_named(words: &mut [u64], summary: &[u64])
+    requires { IsTwoLevel words.old summary.now }
+    ensures { IsBlank words.new }
+{
+    let mut from = 0;
+    while let Some(place) = row::next(summary, from) {
+        words[place] = 0;
+        from = place + 1;
+    }
 }
 
 /// Makes one bit of the words as it is asked for.
@@ -31,17 +43,6 @@ pub(crate) fn put(words: &mut [u64], summary: &mut [u64], at: usize, is_set: boo
 {
     row::put(words, at, is_set);
     row::put(summary, at / 64, words[at / 64] != 0);
-}
-
-/// Takes out the bits that other words have.
-pub(crate) fn take_out(words: &mut [u64], summary: &mut [u64], others: &[u64])
-    requires two_level { IsTwoLevel words.old summary.old }
-    requires count { length others.now ≡ 1024 }
-    ensures two_level { IsTwoLevel words.new summary.new }
-    ensures bits { (k : ℕ) → row_has words.new k ≡ (row_has words.old k && not (row_has others.now k)) }
-{
-    row::take_out(words, others);
-    row::summarize(summary, words);
 }
 
 /// The lowest bit of the words that is at or above a place.

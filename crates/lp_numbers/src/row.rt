@@ -1,9 +1,9 @@
 //! The bits of a row of words.
-ghost use Rattle.std.specs.Prelude.{◌≡◌, ◌≢◌, ℕ, ◌*◌, ◌/◌, ◌<◌, ◌^◌, ◌&&◌, ◌==◌, not, if◌then◌else◌, length, slice_index, IfOk};
+ghost use Rattle.std.specs.Prelude.{◌≡◌, ◌≢◌, ℕ, ◌*◌, ◌/◌, ◌<◌, ◌^◌, ◌==◌, if◌then◌else◌, length, slice_index, IfOk};
 ghost use Rattle.lp_numbers.specs.Numbers.{IsNextFrom};
 ghost use Rattle.lp_numbers.specs.Words.{row_has, IsBlank};
 
-use crate::word::{has_bit, next_in_word, with_bit, without};
+use crate::word::{has_bit, next_in_word, with_bit};
 use std::alloc::{AllocError, Global};
 
 /// As many words as are asked for, each of them 0.
@@ -52,24 +52,4 @@ pub(crate) fn next(row: &[u64], from: usize) -> Option<usize>
         low = 0;
     }
     None
-}
-
-/// Takes out the bits that another row has.
-pub(crate) fn take_out(row: &mut [u64], others: &[u64])
-    requires { length row.old ≡ length others.now }
-    ensures { (k : ℕ) → row_has row.new k ≡ (row_has row.old k && not (row_has others.now k)) }
-{
-    for (i, other) in others.iter().enumerate() {
-        row[i] = without(row[i], *other);
-    }
-}
-
-/// Makes bit i say whether word i isn't 0.
-pub(crate) fn summarize(summary: &mut [u64], words: &[u64])
-    requires { length words.now ≡ 64 * length summary.old }
-    ensures { (i : ℕ) → row_has summary.new i ≡ not (slice_index words.now i == 0) }
-{
-    for (i, word) in words.iter().enumerate() {
-        put(summary, i, *word != 0);
-    }
 }

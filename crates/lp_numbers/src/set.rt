@@ -1,7 +1,7 @@
 //! The set.
 #![tactic(auto, using(crate::proofs::Sets::sets))]
 
-ghost use Rattle.std.specs.Prelude.{◌≡◌, ℕ, ◌&&◌, ◌<◌, not, true, false, length, slice_set, IsTrue, ◌↔◌, IfOk};
+ghost use Rattle.std.specs.Prelude.{◌≡◌, ℕ, ◌<◌, true, false, length, slice_set, IsTrue, ◌↔◌, IfOk};
 ghost use Rattle.lp_numbers.specs.Numbers.{has, IsEmpty, IsNextFrom};
 
 use crate::levels::{self, SUMMARIES, WORDS};
@@ -102,7 +102,7 @@ impl NumberSet {
         self.put(number, false);
     }
 
-    /// Takes every member out, at the cost of the whole set.
+    /// Takes every member out, at the cost of the members.
     pub fn clear(&mut self)
         ensures empty { IsEmpty self.new }
         ensures numbers { length self.new ≡ 65536 }
@@ -117,18 +117,6 @@ impl NumberSet {
     {
         self.words.copy_from_slice(other.words.as_slice());
         self.summary.copy_from_slice(other.summary.as_slice());
-    }
-
-    /// Takes every member of another set out, at the cost of the whole set.
-    pub fn subtract(&mut self, other: &NumberSet)
-        ensures members { (n : ℕ) → has self.new n ≡ (has self.old n && not (has other.now n)) }
-        ensures numbers { length self.new ≡ 65536 }
-    {
-        levels::take_out(
-            self.words.as_mut_slice(),
-            self.summary.as_mut_slice(),
-            other.words.as_slice(),
-        );
     }
 
     /// Makes a number a member, or no member.

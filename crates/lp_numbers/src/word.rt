@@ -1,5 +1,5 @@
 //! The bits of one word.
-ghost use Rattle.std.specs.Prelude.{◌≡◌, ℕ, ◌<◌, ◌&&◌, ◌==◌, not, if◌then◌else◌, IfSome};
+ghost use Rattle.std.specs.Prelude.{◌≡◌, ℕ, ◌<◌, ◌==◌, if◌then◌else◌, IfSome};
 ghost use Rattle.lp_numbers.specs.Numbers.{IsLeastFrom, IsNextFrom};
 ghost use Rattle.lp_numbers.specs.Words.{word_has};
 
@@ -18,13 +18,6 @@ pub(crate) fn with_bit(word: u64, bit: usize, is_set: bool) -> u64
 {
     let mask = 1 << bit;
     if is_set { word | mask } else { word & !mask }
-}
-
-/// The bits of a word that another word lacks.
-pub(crate) fn without(word: u64, other: u64) -> u64
-    ensures { (k : ℕ) → k < 64 → word_has result k ≡ (word_has word k && not (word_has other k)) }
-{
-    word & !other
 }
 
 /// The lowest bit of a word that isn't 0.

@@ -1,4 +1,4 @@
-//! The engine under each consistency model: worked runs, and the laws at each model.
+//! Traces under each consistency model: worked runs and their reports, and checks of certificates.
 #![tactic(auto)]
 
 #[cfg(test)]

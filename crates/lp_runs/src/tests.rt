@@ -1,33 +1,13 @@
-//! Runs of the engine, event by event, with the replies that are worked out by hand from the
-//! definitions.
-ghost use Rattle.std.specs.Prelude.{IfOk};
-ghost use Rattle.lp_patch.specs.Patches.{ShareSymbols};
-
-mod calls;
-mod groups;
-mod laws;
-mod limits;
-mod memory;
-mod refusals;
+//! Runs of traces, with what comes of them, worked out by hand from the definitions.
 mod replays;
 mod reports;
-mod stacks;
-mod stays;
-mod tasks;
+mod traces;
 
 use lp_model::Consistency;
-use lp_patch::{PatchSet, PatchStack};
-use lp_stack::{Class, GroupId, Level, TaskId};
-use lp_symbols::{SymId, Symbols};
-use lp_transition::{Core, Event, Reply, What};
+use lp_stack::{GroupId, Level, TaskId};
+use lp_transition::{Reply, What};
 use std::alloc::Global;
 use std::test::Fail;
-
-const A: SymId = SymId(0);
-
-const B: SymId = SymId(1);
-
-const C: SymId = SymId(2);
 
 /// What a reply says.
 #[derive(Clone, Copy, Debug, PartialEq, Eq)]
@@ -62,46 +42,4 @@ fn said_over(groups: &[GroupId], completed: bool) -> Said {
         [first, ..] => Said::OverAll(first.0, groups.len()),
         [] => Said::Done,
     }
-}
-
-/// A patch of each of these symbols.
-fn single(alloc: Global, symbols: &Symbols, ids: &[SymId]) -> Result<Vec<PatchSet>, Fail>
-    ensures { IfOk result (λ sets. ShareSymbols sets.items) }
-{
-    let mut sets = Vec::new(alloc);
-    for id in ids {
-        sets.push(PatchSet::build(alloc, symbols, &[*id])?)?;
-    }
-    Ok(sets)
-}
-
-/// A stack of patches over `a`, `b` and `c`, each patch of one function.
-fn patches(alloc: Global, ids: &[SymId]) -> Result<PatchStack, Fail> {
-    let mut symbols = Symbols::new(alloc)?;
-    for name in ["a", "b", "c"] {
-        symbols.add(name)?;
-    }
-    let sets = single(alloc, &symbols, ids)?;
-    Ok(PatchStack::new(alloc, sets)?)
-}
-
-/// What an engine says to these events.
-fn run<M: Consistency>(
-    alloc: Global,
-    model: M,
-    patches: PatchStack,
-    boots: &[(TaskId, Class)],
-    events: &[Event],
-) -> Result<Vec<Said>, Fail> {
-    let mut core = Core::boot(alloc, model, patches, boots)?;
-    let mut replies = Vec::new(alloc);
-    for event in events {
-        let reply = core.step(alloc, *event)?;
-        replies.push(in_short(&reply))?;
-    }
-    Ok(replies)
-}
-
-fn normal(number: u16) -> (TaskId, Class) {
-    (TaskId(number), Class::Normal)
 }

@@ -3,7 +3,5 @@
 
 mod count;
 mod present;
-#[cfg(test)]
-mod tests;
 
 pub use count::StayCount;

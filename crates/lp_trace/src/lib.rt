@@ -42,6 +42,3 @@ pub use replies::ReplyList;
 pub use runs::{RunFault, run};
 pub use trace::Trace;
 pub use write::WriteFault;
-
-#[cfg(test)]
-mod tests;

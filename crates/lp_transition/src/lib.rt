@@ -7,8 +7,6 @@ mod event;
 pub mod laws;
 mod refusal;
 mod reply;
-#[cfg(test)]
-mod tests;
 
 pub use engine::{BootFault, Core, Halt, MOST_EVENTS, Opening, Step, verdicts};
 pub use event::Event;

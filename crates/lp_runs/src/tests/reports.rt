@@ -4,6 +4,7 @@ mod accepted;
 mod certificates;
 mod checks;
 mod faults;
+mod lines;
 mod streams;
 
 use super::*;
@@ -28,17 +29,35 @@ fn single_patch(alloc: Global, lines: &str) -> Result<String, Fail> {
     text_of(alloc, "lptrace 1 / sym a / sym b / sym c / patch a", lines)
 }
 
-/// The report of a run of a text that is given byte by byte, to a writer that takes byte by byte.
+/// The report of a run of a text that is given byte by byte, to a writer that takes so much at a
+/// time.
 fn report_of<M: Consistency>(
     alloc: Global,
     name: &str,
     model: M,
     text: &str,
+    most: usize,
 ) -> Result<Vec<u8>, Fail> {
     let mut source = Source::whole(text.as_bytes(), 1);
-    let mut sink = Sink::whole(alloc, 1);
+    let mut sink = Sink::whole(alloc, most);
     run(alloc, name, model, &mut source, &mut sink)?;
     Ok(sink.into_taken())
+}
+
+/// Whether the run of a text has this report, to writers that take little or much at a time.
+fn is_report<M: Consistency + Copy>(
+    alloc: Global,
+    name: &str,
+    model: M,
+    text: &str,
+    wanted: &str,
+) -> Result<bool, Fail> {
+    for most in [1, 5, 1_000_000] {
+        if report_of(alloc, name, model, text, most)?.as_slice() != wanted.as_bytes() {
+            return Ok(false);
+        }
+    }
+    Ok(true)
 }
 
 /// Whether the run of a trace of one patch has this report, of which each certificate is accepted.
@@ -52,8 +71,10 @@ fn reports<M: Consistency + Copy>(
     let text = single_patch(alloc, lines)?;
     let head = format!(in alloc; "lpreport 1 / model {name}")?;
     let wanted = text_of(alloc, head.as_str(), report)?;
-    let taken = report_of(alloc, name, model, text.as_str())?;
-    Ok(taken.as_slice() == wanted.as_bytes() && are_accepted(alloc, model, text.as_str(), report)?)
+    Ok(
+        is_report(alloc, name, model, text.as_str(), wanted.as_str())?
+            && are_accepted(alloc, model, text.as_str(), report)?,
+    )
 }
 
 #[test]
@@ -115,8 +136,8 @@ fn a_reversal_opens_a_leg(rt: HostRuntime) -> Result<(), Fail> {
             rt.alloc(),
             "hybrid",
             Hybrid,
-            "boot 1 normal / enable / reverse",
-            "1 done / 2 done complete / leg 1 new waiting 1 / waiting 1 1 1 / leg 2 old complete 2 / stays 0 mixed 0",
+            "boot 1 normal / enable / reverse / reverse / ret 2",
+            "1 done / 2 done complete / 3 refused E11 / 4 refused E1 / leg 1 new waiting 1 / waiting 1 1 1 / leg 2 old complete 2 / stays 0 mixed 0",
         )?
     );
     Ok(())
@@ -201,8 +222,7 @@ fn patches_stand_on_one_another(rt: HostRuntime) -> Result<(), Fail> {
         "lpreport 2 / model hybrid / 1 done / 2 done / 3 over 1 complete / 4 done / 5 ran 1 / 6 done / 7 done / 8 over 1 complete / 9 done / 10 over 1 complete / 11 done / 12 done",
         ends,
     )?;
-    let taken = report_of(rt.alloc(), "hybrid", Hybrid, text.as_str())?;
-    assert_eq!(rt; taken.as_slice(), wanted.as_bytes());
+    assert!(rt; is_report(rt.alloc(), "hybrid", Hybrid, text.as_str(), wanted.as_str())?);
     assert!(rt; are_accepted(rt.alloc(), Hybrid, text.as_str(), ends)?);
     Ok(())
 }

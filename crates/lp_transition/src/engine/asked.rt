@@ -10,9 +10,6 @@ ghost use Rattle.lp_transition.specs.Scan.{is_asked, is_scan_kind, scan_event, M
 ghost use Rattle.lp_transition.specs.ScanSteps.{IsOwnGroup, task_goes, tasks_of};
 ghost use Rattle.lp_transition.specs.declared.engine.step.Halt.TheVariants.{JournalFull};
 
-#[cfg(test)]
-mod tests;
-
 use super::run::verdicts;
 use super::scan::{member_from, views_in};
 use super::step::{Halt, Step};

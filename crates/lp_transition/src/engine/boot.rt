@@ -6,9 +6,6 @@ ghost use Rattle.lp_transition.specs.Boot.{boot_refusal};
 ghost use Rattle.lp_transition.specs.Table.{IsBlank, IsWide, is_in, standings, state_in, bounds_of};
 ghost use Rattle.lp_transition.specs.declared.engine.boot.BootFault.TheVariants.{NoMemory};
 
-#[cfg(test)]
-mod tests;
-
 use super::Core;
 use super::live_task::LiveTask;
 use super::task_table::TaskTable;

@@ -1,5 +1,5 @@
 //! Scans, which look at the stacks of all waiting tasks.
-ghost use Rattle.std.specs.Prelude.{◌≡◌, ℕ, ◌||◌, ◌<◌, ◌≤◌, ◌↔◌, true, Err, map, is_some, is_none, nat_eq, option_copied, IfOk, IsTrue};
+ghost use Rattle.std.specs.Prelude.{◌≡◌, ℕ, ◌||◌, ◌&&◌, not, ◌<◌, ◌≤◌, ◌↔◌, true, false, Err, map, is_some, is_none, nat_eq, option_copied, IfOk, IsTrue};
 ghost use Rattle.std.specs.List.{filter_map, list_any};
 ghost use Rattle.std.specs.Option.{option_map};
 ghost use Rattle.lp_stack.specs.TaskView.{seen};
@@ -208,34 +208,31 @@ fn groups_over(
 ) -> Result<NumberSet, AllocError>
     ensures { IfOk result (λ set. (group : ℕ) → has set group ≡ goes_by tasks.now verdicts.now group) }
 {
-    let mut over = groups_found(alloc, tasks, verdicts, false)?;
-    let blocked = groups_found(alloc, tasks, verdicts, true)?;
-    over.subtract(&blocked);
+    let mut over = NumberSet::new(alloc)?;
+    add_admitted(&mut over, tasks, verdicts);
+    remove_refused(&mut over, tasks, verdicts);
     Ok(over)
 }
 
-/// The groups with a member that is refused, or else with one that is admitted.
-fn groups_found(
-    alloc: Global,
-    tasks: &TaskTable,
-    verdicts: &[Verdict],
-    refused: bool,
-) -> Result<NumberSet, AllocError>
-    ensures { IfOk result (λ set. (group : ℕ) → has set group ≡ list_any (is_found tasks.now refused group) verdicts.now) }
+/// Takes in the groups with a member that is admitted.
+fn add_admitted(groups: &mut NumberSet, tasks: &TaskTable, verdicts: &[Verdict])
+    ensures { (group : ℕ) → has groups.new group ≡ (has groups.old group || list_any (is_found tasks.now false group) verdicts.now) }
 {
-    let mut groups = NumberSet::new(alloc)?;
     for verdict in verdicts {
-        note(&mut groups, tasks, *verdict, refused);
+        if verdict.blame.is_none() {
+            add_group(groups, tasks, verdict.task);
+        }
     }
-    Ok(groups)
 }
 
-/// Takes in the group of a task that is refused, or else of one that is admitted.
-fn note(groups: &mut NumberSet, tasks: &TaskTable, verdict: Verdict, refused: bool)
-    ensures { (group : ℕ) → has groups.new group ≡ (has groups.old group || is_found tasks.now refused group verdict) }
+/// Takes out the groups with a member that is refused.
+fn remove_refused(groups: &mut NumberSet, tasks: &TaskTable, verdicts: &[Verdict])
+    ensures { (group : ℕ) → has groups.new group ≡ (has groups.old group && not (list_any (is_found tasks.now true group) verdicts.now)) }
 {
-    if verdict.blame.is_some() == refused {
-        add_group(groups, tasks, verdict.task);
+    for verdict in verdicts {
+        if verdict.blame.is_some() {
+            remove_group(groups, tasks, verdict.task);
+        }
     }
 }
 
@@ -262,6 +259,15 @@ fn add_group(groups: &mut NumberSet, tasks: &TaskTable, task: TaskId)
 {
     if let Some(live) = tasks.get(task) {
         groups.insert(live.group().0);
+    }
+}
+
+/// Takes out the group of a live task.
+fn remove_group(groups: &mut NumberSet, tasks: &TaskTable, task: TaskId)
+    ensures { (group : ℕ) → has groups.new group ≡ (has groups.old group && not (is_in group (slot tasks.now task.0))) }
+{
+    if let Some(live) = tasks.get(task) {
+        groups.remove(live.group().0);
     }
 }
 

@@ -66,6 +66,25 @@ impl<'a> Read for Source<'a> {
     }
 }
 
+/// Gives so many bytes, in pieces of 65,536: what the buffers hold already.
+#[derive(Drop)]
+pub(super) struct Zeros {
+    pub(super) left: u64,
+}
+
+impl Read for Zeros {
+    fn read(&mut self, buf: &mut [u8]) -> io::Result<usize> {
+        let most = buf.len().min(65_536);
+        let count = if self.left < most as u64 {
+            self.left as usize
+        } else {
+            most
+        };
+        self.left -= count as u64;
+        Ok(count)
+    }
+}
+
 /// Keeps what it takes, at most so much a write, for some writes, and then ends.
 #[derive(Drop)]
 pub(super) struct Sink {

@@ -8,12 +8,12 @@ pub invariant_of-self : goal.invariant_of-self
 invariant_of-self g c =
     let taken = c.take_in_all.ensures.taken in
     let reasons = c.take_in_all.new.reasons in
-    λ group there. calm_head reasons.lists reasons.scans _ (taken.lists ∙ (c.replace_past-past.ensures.lists ∙ c.requires.chains)) (taken.scans ∙ (c.replace_past-past.ensures.scans ∙ c.requires.scans)) (taken.calm group there)
+    λ group there. calm_head reasons.lists reasons.scans _ (taken.lists ∙ c.clear_past.ensures.lists) (taken.scans ∙ c.clear_past.ensures.scans) (taken.calm group there)
 
-pub returns-clause-lines : goal.returns-clause-lines
-returns-clause-lines g c =
+pub returns : goal.returns
+returns g c =
     let taken = c.take_in_all.ensures.taken in
     let reasons = c.take_in_all.new.reasons in
     λ sound group.
     opened_lines c.take_in_all.new.groups reasons group (has_off (state_in c.args.core.now) c.args.level.0 group) (c.take_in_all.ensures.groups sound group)
-    (λ there. calm_lines reasons group (taken.lists ∙ (c.replace_past-past.ensures.lists ∙ c.requires.chains)) (taken.scans ∙ (c.replace_past-past.ensures.scans ∙ c.requires.scans)) (taken.calm group there))
+    (λ there. calm_lines reasons group (taken.lists ∙ c.clear_past.ensures.lists) (taken.scans ∙ c.clear_past.ensures.scans) (taken.calm group there))

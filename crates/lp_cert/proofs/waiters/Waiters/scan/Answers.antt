@@ -1,7 +1,4 @@
-use Rattle.std.proofs.Common.{subst}
-use Rattle.lp_numbers.specs.Numbers.{Numbers}
 use Rattle.lp_transition.specs.Table.{state_in}
-use Rattle.lp_cert.specs.Waiters.{AreJudged}
 use Rattle.lp_cert.proofs.WaiterLemmas.{after_all, all_stand}
 use Rattle.lp_cert.proofs.waiters.Waiters.scan.Goals as goal
 
@@ -9,15 +6,13 @@ pub invariant_of-self : goal.invariant_of-self
 invariant_of-self g c =
     let i = c.self.inside in
     let s = state_in c.args.core.now in
-    let judged = subst (λ (groups : Numbers). AreJudged s c.args.at c.args.verdicts.now groups c.judge_all.new.groups i.reasons c.judge_all.new.reasons) c.copy_from.ensures.same c.judge_all.ensures in
-    all_stand s c.args.at c.args.verdicts.now i.groups c.judge_all.new.groups i.reasons c.judge_all.new.reasons c.scanned.new.self c.self.invariant judged c.scanned.ensures.heads c.scanned.ensures.lists c.scanned.ensures.scans
+    all_stand s c.args.at c.args.verdicts.now i.groups c.judge_waiting.ensures.0 i.reasons c.judge_waiting.new.reasons c.scanned.new.self c.self.invariant c.judge_waiting.ensures.1 c.scanned.ensures.heads c.scanned.ensures.lists c.scanned.ensures.scans
 
 pub returns-clause-lines : goal.returns-clause-lines
 returns-clause-lines g c =
     let i = c.self.inside in
     let s = state_in c.args.core.now in
-    let judged = subst (λ (groups : Numbers). AreJudged s c.args.at c.args.verdicts.now groups c.judge_all.new.groups i.reasons c.judge_all.new.reasons) c.copy_from.ensures.same c.judge_all.ensures in
-    rw (← c.self.view_is) (after_all s c.args.at c.args.verdicts.now i.groups c.judge_all.new.groups i.reasons c.judge_all.new.reasons c.scanned.new.self c.self.invariant judged c.scanned.ensures.heads c.scanned.ensures.lists c.scanned.ensures.scans)
+    rw (← c.self.view_is) (after_all s c.args.at c.args.verdicts.now i.groups c.judge_waiting.ensures.0 i.reasons c.judge_waiting.new.reasons c.scanned.new.self c.self.invariant c.judge_waiting.ensures.1 c.scanned.ensures.heads c.scanned.ensures.lists c.scanned.ensures.scans)
 
 pub returns-clause-stood : goal.returns-clause-stood
 returns-clause-stood g c = rw (← c.self.view_is) c.self.invariant

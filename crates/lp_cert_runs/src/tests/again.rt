@@ -1,0 +1,30 @@
+//! An engine for calls after a refused growth, each call made again where memory is refused.
+use super::*;
+use lp_models::Hybrid;
+use lp_patch::PatchFault;
+use lp_symbols::SymFault;
+use lp_transition::{BootFault, Core};
+
+/// The name `a`.
+fn name_a(alloc: Global) -> Result<Symbols, SymFault> {
+    let mut symbols = Symbols::new(alloc)?;
+    symbols.add("a")?;
+    Ok(symbols)
+}
+
+/// A patch of function `a`. The fault is NoMemory also where the name wants for memory.
+fn patch_of_a(alloc: Global) -> Result<PatchStack, PatchFault> {
+    let symbols = name_a(alloc).map_err(|_| PatchFault::NoMemory)?;
+    let mut sets = Vec::new(alloc);
+    sets.push(PatchSet::build(alloc, &symbols, &[A])?)?;
+    PatchStack::new(alloc, sets)
+}
+
+/// The engine of one task. Where memory is refused, nothing was made, and the same call makes it.
+pub(super) fn booted_again(alloc: Global) -> Result<Core<Hybrid>, Fail> {
+    let patches = patch_of_a(alloc).or_else(|_| patch_of_a(alloc))?;
+    match Core::boot(alloc, Hybrid, patches, &TASK_1) {
+        Err(BootFault::NoMemory) => Ok(Core::boot(alloc, Hybrid, patch_of_a(alloc)?, &TASK_1)?),
+        answer => Ok(answer?),
+    }
+}

@@ -1,0 +1,222 @@
+//! A growth that is refused: the certificates stay the same, and the same call succeeds after it.
+//!
+//! `scripts/refuse-memory` runs these tests with each allocation refused in turn.
+use super::*;
+use crate::tests::again::booted_again;
+use lp_cert::{CertHead, CertList, LegEnd};
+use lp_transition::Halt;
+use std::alloc::AllocError;
+use std::process::Abort;
+
+/// A task that waits forks, and goes over; its child doesn't. The transition is turned round, is
+/// complete, and another begins, which isn't.
+const EVENTS: [Event; 15] = [
+    Event::Enter(ONE),
+    Event::Enable,
+    Event::Walk,
+    Event::Fork(ONE, TWO, ForkKind::Own),
+    Event::Exit(ONE),
+    Event::Call(TWO, A),
+    Event::Sleep(TWO),
+    Event::Walk,
+    Event::Reverse,
+    Event::Enter(ONE),
+    Event::Walk,
+    Event::Exit(ONE),
+    Event::Enable,
+    Event::Walk,
+    Event::Walk,
+];
+
+/// Of each leg when it opened, its target, and when it was complete.
+const LEGS: [(u64, Level, Option<u64>); 3] = [
+    (2, Level(1), None),
+    (9, Level(0), Some(12)),
+    (13, Level(1), None),
+];
+
+/// The certificates of these legs, each with how many lines it has.
+fn heads() -> [(CertHead, usize); 4] {
+    [
+        (head(Claim::Waiting, 2, 2, 8), 3),
+        (head(Claim::Floor, 9, 1, 11), 1),
+        (head(Claim::Waiting, 13, 1, 15), 2),
+        (head(Claim::Waiting, 13, 2, 15), 1),
+    ]
+}
+
+/// The lines of these certificates.
+fn lines() -> [Line; 7] {
+    [
+        busy(1, 1, 3),
+        born(2, 1, 4),
+        hold(2, 2, 6, 8, 8),
+        busy(1, 1, 11),
+        busy(1, 1, 14),
+        busy(1, 1, 15),
+        hold(2, 2, 6, 14, 15),
+    ]
+}
+
+fn head(claim: Claim, leg: u64, group: u16, upto: u64) -> CertHead {
+    CertHead {
+        claim,
+        leg,
+        group: GroupId(group),
+        upto,
+    }
+}
+
+/// What a maker gives of its legs.
+#[derive(PartialEq, Eq, Drop)]
+struct Given {
+    legs: Vec<(u64, Level, Option<u64>)>,
+    heads: Vec<(CertHead, usize)>,
+    lines: Vec<Line>,
+}
+
+impl Given {
+    /// Nothing yet.
+    fn new(alloc: Global) -> Given {
+        Given {
+            legs: Vec::new(alloc),
+            heads: Vec::new(alloc),
+            lines: Vec::new(alloc),
+        }
+    }
+
+    /// One leg more.
+    fn add(&mut self, alloc: Global, end: &LegEnd) -> Result<(), AllocError> {
+        self.legs.push((end.opened, end.target, end.completed))?;
+        self.add_certs(alloc, &end.certs)
+    }
+
+    /// The certificates of a leg.
+    fn add_certs(&mut self, alloc: Global, certs: &CertList) -> Result<(), AllocError> {
+        for place in 0..certs.len() {
+            if let Some(cert) = certs.cert(alloc, place)? {
+                self.heads.push((certs.head(place), cert.lines.len()))?;
+                self.lines.extend_from_slice(cert.lines.as_slice())?;
+            }
+        }
+        Ok(())
+    }
+
+    /// Whether it is what the definitions give.
+    fn is_worked(&self) -> bool {
+        self.legs.as_slice() == LEGS.as_slice()
+            && self.heads.as_slice() == heads().as_slice()
+            && self.lines.as_slice() == lines().as_slice()
+    }
+}
+
+/// What a maker gives of the legs that ended, and of the one under way.
+fn given_by(alloc: Global, maker: &Maker) -> Result<Given, AllocError> {
+    let mut given = Given::new(alloc);
+    for end in maker.ended() {
+        given.add(alloc, end)?;
+    }
+    if let Some(end) = maker.current(alloc)? {
+        given.add(alloc, &end)?;
+    }
+    Ok(given)
+}
+
+/// The same of legs that were given up.
+fn given_in(alloc: Global, ends: &[LegEnd]) -> Result<Given, AllocError> {
+    let mut given = Given::new(alloc);
+    for end in ends {
+        given.add(alloc, end)?;
+    }
+    Ok(given)
+}
+
+/// Engine and maker for one event. Where the maker is refused memory, the certificates are as they
+/// were, and the same call makes room.
+fn feed_again(
+    rt: &impl Abort,
+    alloc: Global,
+    core: &mut Core<Hybrid>,
+    maker: &mut Maker,
+    event: Event,
+) -> Result<(), Fail> {
+    let before = given_by(alloc, maker).or_else(|_| given_by(alloc, maker))?;
+    let step = match core.weigh_any(alloc, event) {
+        Err(Halt::NoMemory) => core.weigh_any(alloc, event)?,
+        answer => answer?,
+    };
+    if let Err(_) = maker.ready(alloc, core, &step) {
+        assert!(rt; given_by(alloc, maker)? == before);
+        maker.ready(alloc, core, &step)?;
+    }
+    maker.note(core, &step);
+    core.take(step);
+    Ok(())
+}
+
+/// The maker after all events, each call made again where memory is refused.
+fn made_again(rt: &impl Abort, alloc: Global) -> Result<Maker, Fail> {
+    let mut core = booted_again(alloc)?;
+    let mut maker = Maker::new(alloc).or_else(|_| Maker::new(alloc))?;
+    for event in EVENTS {
+        feed_again(rt, alloc, &mut core, &mut maker, event)?;
+    }
+    Ok(maker)
+}
+
+#[test]
+fn certificates_are_made_after_a_refused_growth(rt: HostRuntime) -> Result<(), Fail> {
+    let alloc = rt.alloc();
+    let maker = made_again(&rt, alloc)?;
+    let given = given_by(alloc, &maker).or_else(|_| given_by(alloc, &maker))?;
+    assert!(rt; given.is_worked());
+    Ok(())
+}
+
+#[test]
+fn certificates_are_asked_for_after_a_refused_growth(rt: HostRuntime) -> Result<(), Fail> {
+    let alloc = rt.alloc();
+    let maker = made_again(&rt, alloc)?;
+    let all = lines();
+    for (group, lines) in [(1, &all[4..6]), (2, &all[6..])] {
+        let group = GroupId(group);
+        let found = maker
+            .waiting(alloc, group)
+            .or_else(|_| maker.waiting(alloc, group))?;
+        let cert = found.expect(&rt, "a certificate");
+        assert_eq!(rt; (cert.claim, cert.group), (Claim::Waiting, group));
+        assert_eq!(rt; cert.lines.as_slice(), lines);
+    }
+    let floor = maker.floor(alloc).or_else(|_| maker.floor(alloc))?;
+    let cert = floor.expect(&rt, "a floor");
+    assert_eq!(rt; (cert.claim, cert.group), (Claim::Floor, GroupId(1)));
+    assert_eq!(rt; cert.lines.as_slice(), &all[4..6]);
+    let given = given_by(alloc, &maker).or_else(|_| given_by(alloc, &maker))?;
+    assert!(rt; given.is_worked());
+    Ok(())
+}
+
+/// The call that is refused has taken the maker, so it is made anew.
+#[test]
+fn ends_are_given_up_after_a_refused_growth(rt: HostRuntime) -> Result<(), Fail> {
+    let alloc = rt.alloc();
+    let ends = match made_again(&rt, alloc)?.into_ends(alloc) {
+        Ok(ends) => ends,
+        Err(_) => made_again(&rt, alloc)?.into_ends(alloc)?,
+    };
+    let given = given_in(alloc, ends.as_slice()).or_else(|_| given_in(alloc, ends.as_slice()))?;
+    assert!(rt; given.is_worked());
+    Ok(())
+}
+
+#[test]
+fn a_certificate_is_copied_after_a_refused_growth(rt: HostRuntime) -> Result<(), Fail> {
+    let alloc = rt.alloc();
+    let maker = made_again(&rt, alloc)?;
+    assert_eq!(rt; maker.ended().len(), 2);
+    let certs = &maker.ended()[0].certs;
+    let cert = certs.cert(alloc, 0).or_else(|_| certs.cert(alloc, 0))?;
+    let cert = cert.expect(&rt, "a certificate");
+    assert_eq!(rt; cert.lines.as_slice(), &lines()[..3]);
+    Ok(())
+}

@@ -1,0 +1,117 @@
+//! Runs of the engine, event by event, with the replies that are worked out by hand from the
+//! definitions, and the stays of such runs.
+ghost use Rattle.std.specs.Prelude.{IfOk};
+ghost use Rattle.lp_patch.specs.Patches.{ShareSymbols};
+
+mod asked;
+mod boots;
+mod calls;
+mod counts;
+mod events;
+mod groups;
+mod laws;
+mod limits;
+mod memory;
+mod refusals;
+mod stacks;
+mod stays;
+mod tasks;
+
+use lp_model::Consistency;
+use lp_patch::{PatchSet, PatchStack};
+use lp_stack::{Class, GroupId, Level, TaskId};
+use lp_symbols::{SymId, Symbols};
+use lp_transition::{Core, Event, Reply, What};
+use std::alloc::Global;
+use std::test::Fail;
+
+const A: SymId = SymId(0);
+
+const B: SymId = SymId(1);
+
+const C: SymId = SymId(2);
+
+const ONE: TaskId = TaskId(1);
+
+const TWO: TaskId = TaskId(2);
+
+const THREE: TaskId = TaskId(3);
+
+const NINE: TaskId = TaskId(9);
+
+/// What a reply says.
+#[derive(Clone, Copy, Debug, PartialEq, Eq)]
+enum Said {
+    Ran(u8),
+    Done,
+    /// One group goes over.
+    Over(u16),
+    /// Several groups go over: the first of them, and how many.
+    OverAll(u16, usize),
+    Refused(u8),
+    /// The transition is complete from here on, with no group going over.
+    Complete,
+    /// One group goes over, and the transition is complete.
+    OverLast(u16),
+}
+
+fn in_short(reply: &Reply) -> Said {
+    match &reply.what {
+        What::Ran(level) => Said::Ran(level.0),
+        What::Done if reply.completed => Said::Complete,
+        What::Done => Said::Done,
+        What::Switched(groups) => said_over(groups.as_slice(), reply.completed),
+        What::Refused(why) => Said::Refused(why.number()),
+    }
+}
+
+fn said_over(groups: &[GroupId], completed: bool) -> Said {
+    match groups {
+        [group] if completed => Said::OverLast(group.0),
+        [group] => Said::Over(group.0),
+        [first, ..] => Said::OverAll(first.0, groups.len()),
+        [] => Said::Done,
+    }
+}
+
+/// A patch of each of these lists of symbols.
+fn sets(alloc: Global, symbols: &Symbols, lists: &[&[SymId]]) -> Result<Vec<PatchSet>, Fail>
+    ensures { IfOk result (λ sets. ShareSymbols sets.items) }
+{
+    let mut sets = Vec::new(alloc);
+    for ids in lists {
+        sets.push(PatchSet::build(alloc, symbols, ids)?)?;
+    }
+    Ok(sets)
+}
+
+/// A stack of patches over `a`, `b` and `c`, one of each of these lists.
+fn patches(alloc: Global, lists: &[&[SymId]]) -> Result<PatchStack, Fail> {
+    let mut symbols = Symbols::new(alloc)?;
+    for name in ["a", "b", "c"] {
+        symbols.add(name)?;
+    }
+    let sets = sets(alloc, &symbols, lists)?;
+    Ok(PatchStack::new(alloc, sets)?)
+}
+
+/// What an engine says to these events.
+fn run<M: Consistency>(
+    alloc: Global,
+    model: M,
+    patches: PatchStack,
+    boots: &[(TaskId, Class)],
+    events: &[Event],
+) -> Result<Vec<Said>, Fail> {
+    let mut core = Core::boot(alloc, model, patches, boots)?;
+    let mut replies = Vec::new(alloc);
+    for event in events {
+        let reply = core.step(alloc, *event)?;
+        replies.push(in_short(&reply))?;
+    }
+    Ok(replies)
+}
+
+fn normal(number: u16) -> (TaskId, Class) {
+    (TaskId(number), Class::Normal)
+}

@@ -1,0 +1,112 @@
+//! The limits: 100 frames a task, and 1,000,000 events.
+use super::*;
+use lp_model::ForkKind;
+use lp_models::Hybrid;
+use lp_transition::Halt;
+
+/// How many frames task 1 has, and the serial of the last.
+fn depth(alloc: Global, core: &Core<Hybrid>) -> Result<(usize, u32), Fail> {
+    let stands = core.standing(alloc)?;
+    let view = stands.task(ONE).ok_or("task 1 lives")?;
+    let last = view.frames.last().ok_or("it has a frame")?;
+    Ok((view.frames.len(), last.serial))
+}
+
+/// Task 1 enters the kernel, calls `b` 101 times, returns and calls it once more; and the replies.
+fn deep_calls(alloc: Global) -> Result<(Vec<Event>, Vec<Said>), Fail> {
+    let call = Event::Call(ONE, B);
+    let mut events = Vec::new(alloc);
+    let mut worked = Vec::new(alloc);
+    events.push(Event::Enter(ONE))?;
+    worked.push(Said::Done)?;
+    for _ in 0..100 {
+        events.push(call)?;
+        worked.push(Said::Ran(0))?;
+    }
+    for (event, said) in [
+        (call, Said::Refused(7)),
+        (Event::Ret(ONE), Said::Done),
+        (call, Said::Ran(0)),
+    ] {
+        events.push(event)?;
+        worked.push(said)?;
+    }
+    Ok((events, worked))
+}
+
+/// `depth`, after these events.
+fn depth_after(alloc: Global, events: &[Event]) -> Result<(usize, u32), Fail> {
+    let mut core = Core::boot(alloc, Hybrid, patches(alloc, &[&[A]])?, &[normal(1)])?;
+    for event in events {
+        core.step(alloc, *event)?;
+    }
+    depth(alloc, &core)
+}
+
+#[test]
+fn a_task_has_at_most_100_frames(rt: HostRuntime) -> Result<(), Fail> {
+    let (events, worked) = deep_calls(rt.alloc())?;
+    let replies = run(
+        rt.alloc(),
+        Hybrid,
+        patches(rt.alloc(), &[&[A]])?,
+        &[normal(1)],
+        events.as_slice(),
+    )?;
+    assert_eq!(rt; replies.as_slice(), worked.as_slice());
+    assert_eq!(rt; depth_after(rt.alloc(), events.as_slice())?, (100, 104));
+    Ok(())
+}
+
+#[test]
+fn a_million_events_are_numbered(rt: HostRuntime) -> Result<(), Fail> {
+    let mut core = Core::boot(
+        rt.alloc(),
+        Hybrid,
+        patches(rt.alloc(), &[&[A]])?,
+        &[normal(1)],
+    )?;
+    for _ in 0..500_000 {
+        core.step(rt.alloc(), Event::Enter(ONE))?;
+        core.step(rt.alloc(), Event::Exit(ONE))?;
+    }
+    let full = core.step(rt.alloc(), Event::Enter(ONE));
+    assert_eq!(rt; full.err(), Some(Halt::JournalFull));
+    assert_eq!(rt; core.events(), 1_000_000);
+    Ok(())
+}
+
+/// An event of each kind.
+fn each_kind() -> [Event; 14] {
+    [
+        Event::Call(ONE, A),
+        Event::Ret(ONE),
+        Event::Sleep(ONE),
+        Event::Wake(ONE),
+        Event::Enter(ONE),
+        Event::Exit(ONE),
+        Event::Idle(ONE),
+        Event::Fork(ONE, TWO, ForkKind::Own),
+        Event::Die(ONE),
+        Event::Walk,
+        Event::Stop,
+        Event::Enable,
+        Event::Disable,
+        Event::Reverse,
+    ]
+}
+
+#[test]
+fn refused_events_are_numbered_too(rt: HostRuntime) -> Result<(), Fail> {
+    let mut core = Core::boot(rt.alloc(), Hybrid, patches(rt.alloc(), &[&[A]])?, &[])?;
+    for _ in 0..1_000_000 {
+        let reply = core.step(rt.alloc(), Event::Enter(ONE))?;
+        assert_eq!(rt; in_short(&reply), Said::Refused(1));
+    }
+    for event in each_kind() {
+        let full = core.step(rt.alloc(), event).err();
+        assert_eq!(rt; full, Some(Halt::JournalFull), "{event:?}");
+    }
+    assert_eq!(rt; (core.events(), core.in_transition()), (1_000_000, false));
+    Ok(())
+}

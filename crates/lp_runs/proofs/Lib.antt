@@ -1,2 +1,0 @@
-mod Order
-mod Rows
