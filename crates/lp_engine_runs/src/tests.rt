@@ -18,6 +18,7 @@ mod stays;
 mod tasks;
 
 use lp_model::Consistency;
+use lp_models::Hybrid;
 use lp_patch::{PatchSet, PatchStack};
 use lp_stack::{Class, GroupId, Level, TaskId};
 use lp_symbols::{SymId, Symbols};
@@ -95,7 +96,34 @@ fn patches(alloc: Global, lists: &[&[SymId]]) -> Result<PatchStack, Fail> {
     Ok(PatchStack::new(alloc, sets)?)
 }
 
+/// What an engine says to an event.
+fn reply_to<M: Consistency>(alloc: Global, core: &mut Core<M>, event: Event) -> Result<Said, Fail> {
+    let reply = core.step(alloc, event)?;
+    Ok(in_short(&reply))
+}
+
+/// Gives these events to an engine.
+fn give<M: Consistency>(alloc: Global, core: &mut Core<M>, events: &[Event]) -> Result<(), Fail> {
+    for event in events {
+        reply_to(alloc, core, *event)?;
+    }
+    Ok(())
+}
+
 /// What an engine says to these events.
+fn replies_to<M: Consistency>(
+    alloc: Global,
+    core: &mut Core<M>,
+    events: &[Event],
+) -> Result<Vec<Said>, Fail> {
+    let mut replies = Vec::new(alloc);
+    for event in events {
+        replies.push(reply_to(alloc, core, *event)?)?;
+    }
+    Ok(replies)
+}
+
+/// What an engine that starts with these tasks says to these events.
 fn run<M: Consistency>(
     alloc: Global,
     model: M,
@@ -104,12 +132,28 @@ fn run<M: Consistency>(
     events: &[Event],
 ) -> Result<Vec<Said>, Fail> {
     let mut core = Core::boot(alloc, model, patches, boots)?;
-    let mut replies = Vec::new(alloc);
-    for event in events {
-        let reply = core.step(alloc, *event)?;
-        replies.push(in_short(&reply))?;
-    }
-    Ok(replies)
+    replies_to(alloc, &mut core, events)
+}
+
+/// An engine that starts with these tasks, over one patch of function `a`.
+fn boot_over_a<M: Consistency>(
+    alloc: Global,
+    model: M,
+    boots: &[(TaskId, Class)],
+) -> Result<Core<M>, Fail> {
+    Ok(Core::boot(alloc, model, patches(alloc, &[&[A]])?, boots)?)
+}
+
+/// An engine under `hybrid` that started with these tasks, over one patch of function `a`, after
+/// these events.
+fn engine_after(
+    alloc: Global,
+    boots: &[(TaskId, Class)],
+    events: &[Event],
+) -> Result<Core<Hybrid>, Fail> {
+    let mut core = boot_over_a(alloc, Hybrid, boots)?;
+    give(alloc, &mut core, events)?;
+    Ok(core)
 }
 
 fn normal(number: u16) -> (TaskId, Class) {

@@ -8,25 +8,22 @@ ghost use Rattle.lp_transition.specs.Table.{slot, state_in};
 
 use super::*;
 use lp_model::{CheckKind, Verdict};
-use lp_models::Hybrid;
 use lp_numbers::NumberSet;
+use lp_transition::Step;
 use std::alloc::AllocError;
+use std::process::Abort;
 
 /// Two tasks that wait and sleep, of which the second is in a call.
 fn in_a_call(alloc: Global) -> Result<Core<Hybrid>, Fail> {
-    let boots = [normal(1), normal(2)];
-    let mut core = Core::boot(alloc, Hybrid, patches(alloc, &[&[A]])?, &boots)?;
-    for event in [
+    let events = [
         Event::Enter(ONE),
         Event::Sleep(ONE),
         Event::Enter(TWO),
         Event::Call(TWO, A),
         Event::Sleep(TWO),
         Event::Enable,
-    ] {
-        core.step(alloc, event)?;
-    }
-    Ok(core)
+    ];
+    engine_after(alloc, &[normal(1), normal(2)], &events)
 }
 
 /// Whether a task waits, and a check refuses it.
@@ -85,42 +82,88 @@ fn all_but<M: Consistency>(
     Ok(set)
 }
 
+/// What a weighed scan shows.
+#[derive(Clone, Copy)]
+struct Shown {
+    verdicts: usize,
+    completed: bool,
+    /// The group that goes over, if it is one alone.
+    over: Option<GroupId>,
+}
+
+fn shown_by(scan: &Step) -> Shown {
+    Shown {
+        verdicts: scan.verdicts().len(),
+        completed: scan.reply().completed,
+        over: one_over(&scan.reply().what),
+    }
+}
+
+fn one_over(what: &What) -> Option<GroupId> {
+    match what {
+        What::Switched(groups) if groups.len() == 1 => groups.as_slice().first().copied(),
+        _ => None,
+    }
+}
+
+/// A walk after a look at every task.
+fn whole_walk(alloc: Global, core: &Core<Hybrid>) -> Result<Shown, Fail> {
+    let whole = core.weigh_any(alloc, Event::Walk)?;
+    Ok(shown_by(&whole))
+}
+
+/// A walk without task 2 where it is refused, weighed and then taken.
+fn part_walk(alloc: Global, core: &mut Core<Hybrid>) -> Result<Shown, Fail> {
+    let asked = all_but(alloc, core, CheckKind::Walk, TWO)?;
+    let part = core.weigh_asked(alloc, CheckKind::Walk, &asked)?;
+    let shown = shown_by(&part);
+    core.take(part);
+    Ok(shown)
+}
+
+/// Both of these walks, after which task 2 returns and sleeps.
+fn both_walks(alloc: Global, core: &mut Core<Hybrid>) -> Result<(Shown, Shown), Fail> {
+    let whole = whole_walk(alloc, core)?;
+    let part = part_walk(alloc, core)?;
+    give(
+        alloc,
+        core,
+        &[Event::Wake(TWO), Event::Ret(TWO), Event::Sleep(TWO)],
+    )?;
+    Ok((part, whole))
+}
+
+/// The part of a walk looks at one task alone, and both walks come to the same.
+fn are_alike(rt: &impl Abort, walks: (Shown, Shown), waiting: usize, completes: bool) {
+    let (part, whole) = walks;
+    assert_eq!(rt; (part.verdicts, whole.verdicts), (1, waiting));
+    assert_eq!(rt; (part.completed, whole.completed), (completes, completes));
+    assert!(rt; part.over.is_some());
+    assert_eq!(rt; part.over, whole.over);
+}
+
 #[test]
 fn who_is_refused_may_be_left_out(rt: HostRuntime) -> Result<(), Fail> {
     let mut core = in_a_call(rt.alloc())?;
     for (waiting, completes) in [(2, false), (1, true)] {
-        let asked = all_but(rt.alloc(), &core, CheckKind::Walk, TWO)?;
-        let part = core.weigh_asked(rt.alloc(), CheckKind::Walk, &asked)?;
-        let whole = core.weigh_any(rt.alloc(), Event::Walk)?;
-        assert_eq!(rt;
-            (part.verdicts().len(), whole.verdicts().len()),
-            (1, waiting)
-        );
-        assert_eq!(rt;
-            (part.reply().completed, whole.reply().completed),
-            (completes, completes)
-        );
-        match (&part.reply().what, &whole.reply().what) {
-            (What::Switched(groups), What::Switched(all)) => {
-                assert_eq!(rt; groups.len(), 1);
-                assert_eq!(rt; groups.as_slice(), all.as_slice());
-            }
-            _ => assert!(rt; false),
-        }
-        core.take(part);
-        for event in [Event::Wake(TWO), Event::Ret(TWO), Event::Sleep(TWO)] {
-            core.step(rt.alloc(), event)?;
-        }
+        let walks = both_walks(rt.alloc(), &mut core)?;
+        are_alike(&rt, walks, waiting, completes);
     }
     assert!(rt; !core.in_transition());
     Ok(())
 }
 
+/// How many verdicts a stop has, and whether nothing comes of it.
+fn stop(alloc: Global) -> Result<(usize, bool), Fail> {
+    let core = in_a_call(alloc)?;
+    let stop = core.weigh_any(alloc, Event::Stop)?;
+    let done = matches!(&stop.reply().what, What::Done);
+    Ok((stop.verdicts().len(), done))
+}
+
 #[test]
 fn a_scan_that_is_not_used_looks_at_nobody(rt: HostRuntime) -> Result<(), Fail> {
-    let core = in_a_call(rt.alloc())?;
-    let stop = core.weigh_any(rt.alloc(), Event::Stop)?;
-    assert_eq!(rt; stop.verdicts().len(), 0);
-    assert!(rt; matches!(&stop.reply().what, What::Done));
+    let stopped = stop(rt.alloc())?;
+    assert_eq!(rt; stopped, (0, true));
     Ok(())
 }

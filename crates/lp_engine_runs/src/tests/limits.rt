@@ -1,8 +1,8 @@
 //! The limits: 100 frames a task, and 1,000,000 events.
 use super::*;
 use lp_model::ForkKind;
-use lp_models::Hybrid;
 use lp_transition::Halt;
+use std::process::Abort;
 
 /// How many frames task 1 has, and the serial of the last.
 fn depth(alloc: Global, core: &Core<Hybrid>) -> Result<(usize, u32), Fail> {
@@ -36,10 +36,7 @@ fn deep_calls(alloc: Global) -> Result<(Vec<Event>, Vec<Said>), Fail> {
 
 /// `depth`, after these events.
 fn depth_after(alloc: Global, events: &[Event]) -> Result<(usize, u32), Fail> {
-    let mut core = Core::boot(alloc, Hybrid, patches(alloc, &[&[A]])?, &[normal(1)])?;
-    for event in events {
-        core.step(alloc, *event)?;
-    }
+    let core = engine_after(alloc, &[normal(1)], events)?;
     depth(alloc, &core)
 }
 
@@ -58,21 +55,23 @@ fn a_task_has_at_most_100_frames(rt: HostRuntime) -> Result<(), Fail> {
     Ok(())
 }
 
+/// Task 1 enters the kernel and leaves it, 500,000 times.
+fn a_million_events(alloc: Global) -> Result<Core<Hybrid>, Fail> {
+    let mut core = boot_over_a(alloc, Hybrid, &[normal(1)])?;
+    for _ in 0..500_000 {
+        give(alloc, &mut core, &[Event::Enter(ONE), Event::Exit(ONE)])?;
+    }
+    Ok(core)
+}
+
 #[test]
 fn a_million_events_are_numbered(rt: HostRuntime) -> Result<(), Fail> {
-    let mut core = Core::boot(
-        rt.alloc(),
-        Hybrid,
-        patches(rt.alloc(), &[&[A]])?,
-        &[normal(1)],
-    )?;
-    for _ in 0..500_000 {
-        core.step(rt.alloc(), Event::Enter(ONE))?;
-        core.step(rt.alloc(), Event::Exit(ONE))?;
-    }
-    let full = core.step(rt.alloc(), Event::Enter(ONE));
-    assert_eq!(rt; full.err(), Some(Halt::JournalFull));
-    assert_eq!(rt; core.events(), 1_000_000);
+    let mut core = a_million_events(rt.alloc())?;
+    let full = core.step(rt.alloc(), Event::Enter(ONE)).err();
+    let events = core.events();
+    drop(core);
+    assert_eq!(rt; full, Some(Halt::JournalFull));
+    assert_eq!(rt; events, 1_000_000);
     Ok(())
 }
 
@@ -96,13 +95,21 @@ fn each_kind() -> [Event; 14] {
     ]
 }
 
+/// An engine of no task refuses an event, 1,000,000 times.
+fn a_million_refusals(rt: &impl Abort, alloc: Global) -> Result<Core<Hybrid>, Fail> {
+    let mut core = boot_over_a(alloc, Hybrid, &[])?;
+    for _ in 0..1_000_000 {
+        assert_eq!(rt;
+            reply_to(alloc, &mut core, Event::Enter(ONE))?,
+            Said::Refused(1)
+        );
+    }
+    Ok(core)
+}
+
 #[test]
 fn refused_events_are_numbered_too(rt: HostRuntime) -> Result<(), Fail> {
-    let mut core = Core::boot(rt.alloc(), Hybrid, patches(rt.alloc(), &[&[A]])?, &[])?;
-    for _ in 0..1_000_000 {
-        let reply = core.step(rt.alloc(), Event::Enter(ONE))?;
-        assert_eq!(rt; in_short(&reply), Said::Refused(1));
-    }
+    let mut core = a_million_refusals(&rt, rt.alloc())?;
     for event in each_kind() {
         let full = core.step(rt.alloc(), event).err();
         assert_eq!(rt; full, Some(Halt::JournalFull), "{event:?}");

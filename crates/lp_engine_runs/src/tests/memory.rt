@@ -3,7 +3,7 @@
 //! `scripts/refuse-memory` runs these tests with each allocation refused in turn.
 use super::*;
 use lp_model::ForkKind;
-use lp_models::{AllAtOnce, Hybrid};
+use lp_models::AllAtOnce;
 use lp_patch::PatchFault;
 use lp_process::ProcessGroup;
 use lp_symbols::SymFault;
@@ -26,6 +26,20 @@ fn patch_a(alloc: Global) -> Result<PatchStack, PatchFault> {
     PatchStack::new(alloc, sets)
 }
 
+/// `patch_a`, made once more where memory was refused.
+fn patched_a(alloc: Global) -> Result<PatchStack, PatchFault> {
+    patch_a(alloc).or_else(|_| patch_a(alloc))
+}
+
+/// The engine of these tasks, where memory was refused before.
+fn booted_again<M: Consistency>(
+    alloc: Global,
+    model: M,
+    boots: &[(TaskId, Class)],
+) -> Result<Core<M>, Fail> {
+    Ok(Core::boot(alloc, model, patch_a(alloc)?, boots)?)
+}
+
 /// The engine of these tasks, after one patch of function `a`. Where memory is refused, nothing was
 /// made, and the same call makes it.
 fn booted<M: Consistency>(
@@ -33,9 +47,8 @@ fn booted<M: Consistency>(
     model: M,
     boots: &[(TaskId, Class)],
 ) -> Result<Core<M>, Fail> {
-    let patches = patch_a(alloc).or_else(|_| patch_a(alloc))?;
-    match Core::boot(alloc, model, patches, boots) {
-        Err(BootFault::NoMemory) => Ok(Core::boot(alloc, model, patch_a(alloc)?, boots)?),
+    match Core::boot(alloc, model, patched_a(alloc)?, boots) {
+        Err(BootFault::NoMemory) => booted_again(alloc, model, boots),
         answer => Ok(answer?),
     }
 }
@@ -64,6 +77,20 @@ fn waiting<M: Consistency>(alloc: Global, core: &Core<M>) -> Result<GroupList, A
     core.waiting(alloc).or_else(|_| core.waiting(alloc))
 }
 
+/// The answer to an event, where memory was refused before. The engine is as it was.
+fn answer_again<M: Consistency>(
+    rt: &impl Abort,
+    alloc: Global,
+    core: &mut Core<M>,
+    event: Event,
+    before: (Shown, &[GroupId]),
+) -> Result<Said, Fail> {
+    let after = waiting(alloc, core)?;
+    assert_eq!(rt; shown_by(core), before.0);
+    assert_eq!(rt; after.as_slice(), before.1);
+    reply_to(alloc, core, event)
+}
+
 /// The answer to an event. Where memory is refused, the engine is as it was, and the same event
 /// has its answer.
 fn answer<M: Consistency>(
@@ -72,20 +99,35 @@ fn answer<M: Consistency>(
     core: &mut Core<M>,
     event: Event,
 ) -> Result<Said, Fail> {
-    let before = (shown_by(core), waiting(alloc, core)?);
-    let reply = match core.step(alloc, event) {
-        Err(Halt::NoMemory) => {
-            let after = waiting(alloc, core)?;
-            assert_eq!(rt; shown_by(core), before.0);
-            assert_eq!(rt; after.as_slice(), before.1.as_slice());
-            core.step(alloc, event)?
-        }
-        reply => reply?,
-    };
-    Ok(in_short(&reply))
+    let shown = shown_by(core);
+    let groups = waiting(alloc, core)?;
+    match core.step(alloc, event) {
+        Err(Halt::NoMemory) => answer_again(rt, alloc, core, event, (shown, groups.as_slice())),
+        reply => Ok(in_short(&reply?)),
+    }
+}
+
+/// Keeps a reply. Where memory is refused, the list is as it was, and the same call keeps it.
+fn keep(replies: &mut Vec<Said>, said: Said) -> Result<(), Fail> {
+    replies.push(said).or_else(|_| replies.push(said))?;
+    Ok(())
 }
 
 /// What an engine says to these events, each of them given once more where memory was refused.
+fn answers<M: Consistency>(
+    rt: &impl Abort,
+    alloc: Global,
+    core: &mut Core<M>,
+    events: &[Event],
+) -> Result<Vec<Said>, Fail> {
+    let mut replies = Vec::new(alloc);
+    for event in events {
+        keep(&mut replies, answer(rt, alloc, core, *event)?)?;
+    }
+    Ok(replies)
+}
+
+/// What an engine that starts with these tasks says to these events, as `answers` has it.
 fn replies<M: Consistency>(
     rt: &impl Abort,
     alloc: Global,
@@ -94,12 +136,7 @@ fn replies<M: Consistency>(
     events: &[Event],
 ) -> Result<Vec<Said>, Fail> {
     let mut core = booted(alloc, model, boots)?;
-    let mut replies = Vec::new(alloc);
-    for event in events {
-        let said = answer(rt, alloc, &mut core, *event)?;
-        replies.push(said).or_else(|_| replies.push(said))?;
-    }
-    Ok(replies)
+    answers(rt, alloc, &mut core, events)
 }
 
 #[test]
@@ -198,14 +235,47 @@ fn standing(alloc: Global, core: &Core<Hybrid>) -> Result<(u64, [Option<Level>; 
     Ok((stands.number(), levels))
 }
 
+/// The first groups that wait.
+fn first_waiting(alloc: Global, core: &Core<Hybrid>) -> Result<[Option<GroupId>; 3], AllocError> {
+    let groups = waiting(alloc, core)?;
+    let groups = groups.as_slice();
+    Ok([
+        groups.first().copied(),
+        groups.get(1).copied(),
+        groups.get(2).copied(),
+    ])
+}
+
+/// What an engine says where it is asked.
+#[derive(Clone, Copy)]
+struct Told {
+    waiting: [Option<GroupId>; 3],
+    seen: (usize, Option<TaskId>),
+    standing: (u64, [Option<Level>; 3]),
+    shown: Shown,
+}
+
+fn told_by(alloc: Global, core: &Core<Hybrid>) -> Result<Told, AllocError> {
+    Ok(Told {
+        waiting: first_waiting(alloc, core)?,
+        seen: seen(alloc, core)?,
+        standing: standing(alloc, core)?,
+        shown: shown_by(core),
+    })
+}
+
+fn told_by_one_over(rt: &impl Abort, alloc: Global) -> Result<Told, Fail> {
+    let core = one_over(rt, alloc)?;
+    Ok(told_by(alloc, &core)?)
+}
+
 #[test]
 fn an_engine_is_asked_again_after_a_refused_growth(rt: HostRuntime) -> Result<(), Fail> {
-    let core = one_over(&rt, rt.alloc())?;
+    let told = told_by_one_over(&rt, rt.alloc())?;
     let levels = [Some(Level(0)), Some(Level(1)), Some(Level(0))];
-    let waiting = waiting(rt.alloc(), &core)?;
-    assert_eq!(rt; waiting.as_slice(), [GroupId(1), GroupId(3)].as_slice());
-    assert_eq!(rt; seen(rt.alloc(), &core)?, (2, Some(ONE)));
-    assert_eq!(rt; standing(rt.alloc(), &core)?, (3, levels));
-    assert_eq!(rt; shown_by(&core).levels, levels);
+    assert_eq!(rt; told.waiting, [Some(GroupId(1)), Some(GroupId(3)), None]);
+    assert_eq!(rt; told.seen, (2, Some(ONE)));
+    assert_eq!(rt; told.standing, (3, levels));
+    assert_eq!(rt; told.shown.levels, levels);
     Ok(())
 }

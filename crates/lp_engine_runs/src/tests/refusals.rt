@@ -1,7 +1,6 @@
 //! Events that are refused, each for the first reason that fits.
 use super::*;
 use lp_model::ForkKind;
-use lp_models::Hybrid;
 
 #[test]
 fn a_number_is_used_once(rt: HostRuntime) -> Result<(), Fail> {

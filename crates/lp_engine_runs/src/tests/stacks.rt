@@ -1,6 +1,5 @@
 //! Control events, and patches stacked on one another.
 use super::*;
-use lp_models::Hybrid;
 
 #[test]
 fn control_events_out_of_turn_are_refused(rt: HostRuntime) -> Result<(), Fail> {

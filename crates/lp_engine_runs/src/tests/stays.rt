@@ -1,6 +1,6 @@
 //! Stays, counted while the engine runs.
 use super::*;
-use lp_models::{Hybrid, Immediate};
+use lp_models::Immediate;
 use lp_stays::StayCount;
 
 /// The stays and the mixed stays of a run. With each return stands the function that it leaves.

@@ -1,7 +1,7 @@
 //! Tasks that go over by themselves, after one patch of function a.
 use super::*;
 use lp_model::ForkKind;
-use lp_models::{Hybrid, Immediate, LeaveKernel};
+use lp_models::{Immediate, LeaveKernel};
 
 #[test]
 fn an_exit_switches_where_no_changed_function_runs(rt: HostRuntime) -> Result<(), Fail> {
