@@ -5,11 +5,11 @@ mod checks;
 mod makers;
 
 use lp_cert::{Cert, Claim, Line, LineList};
-use lp_model::ForkKind;
+use lp_model::{Consistency, ForkKind};
 use lp_patch::{PatchSet, PatchStack};
 use lp_stack::{Class, GroupId, TaskId};
 use lp_symbols::{SymId, Symbols};
-use lp_transition::Event;
+use lp_transition::{Core, Event};
 use std::alloc::Global;
 use std::test::Fail;
 
@@ -27,27 +27,57 @@ const TASK_1: [(TaskId, Class); 1] = [(ONE, Class::Normal)];
 
 const TASKS_1_2: [(TaskId, Class); 2] = [(ONE, Class::Normal), (TWO, Class::Normal)];
 
-/// A task that waits forks, and goes over; its child doesn't.
-const FORKS: [Event; 8] = [
-    Event::Enter(ONE),
-    Event::Enable,
-    Event::Walk,
-    Event::Fork(ONE, TWO, ForkKind::Own),
-    Event::Exit(ONE),
-    Event::Call(TWO, A),
-    Event::Sleep(TWO),
-    Event::Walk,
-];
+/// A run of these tasks, whose last events are those of a leg.
+#[derive(Clone, Copy)]
+struct Leg {
+    boots: &'static [(TaskId, Class)],
+    /// Up to the event that opens it.
+    before: &'static [Event],
+    after: &'static [Event],
+}
 
-/// A patch of function `a`, among `a`, `b` and `c`.
-fn patch_a(alloc: Global) -> Result<PatchStack, Fail> {
-    let mut symbols = Symbols::new(alloc)?;
+/// A task that waits forks, and goes over; its child doesn't.
+const A_CHILD_WAITS: Leg = Leg {
+    boots: &TASK_1,
+    before: &[Event::Enter(ONE), Event::Enable],
+    after: &[
+        Event::Walk,
+        Event::Fork(ONE, TWO, ForkKind::Own),
+        Event::Exit(ONE),
+        Event::Call(TWO, A),
+        Event::Sleep(TWO),
+        Event::Walk,
+    ],
+};
+
+/// The names `a`, `b` and `c`.
+fn names(alloc: Global) -> Result<Box<Symbols>, Fail> {
+    let mut symbols = Box::new(alloc, Symbols::new(alloc)?)?;
     for name in ["a", "b", "c"] {
         symbols.add(name)?;
     }
+    Ok(symbols)
+}
+
+/// A patch of function `a`, among these.
+fn patch_a(alloc: Global) -> Result<PatchStack, Fail> {
+    let symbols = names(alloc)?;
     let mut sets = Vec::new(alloc);
     sets.push(PatchSet::build(alloc, &symbols, &[A])?)?;
     Ok(PatchStack::new(alloc, sets)?)
+}
+
+/// An engine over a patch of function `a`.
+///
+/// It stands in a box, as does whatever else of a test has many fields and outlives a call that may
+/// fail: the proof of such a function goes over each field at each such call.
+fn booted<M: Consistency>(
+    alloc: Global,
+    model: M,
+    tasks: &[(TaskId, Class)],
+) -> Result<Box<Core<M>>, Fail> {
+    let core = Core::boot(alloc, model, patch_a(alloc)?, tasks)?;
+    Ok(Box::new(alloc, core)?)
 }
 
 /// The frame of this serial is on a task's stack.
@@ -77,22 +107,4 @@ const fn born(group: u16, parent: u16, at: u64) -> Line {
         parent: TaskId(parent),
         at,
     }
-}
-
-/// A certificate in the order of its text.
-fn cert(
-    alloc: Global,
-    claim: Claim,
-    leg: u64,
-    group: u16,
-    upto: u64,
-    lines: &[Line],
-) -> Result<Cert, Fail> {
-    Ok(Cert {
-        claim,
-        leg,
-        group: GroupId(group),
-        upto,
-        lines: LineList::from_vec(Vec::from_slice(alloc, lines)?),
-    })
 }

@@ -3,7 +3,7 @@ use super::*;
 use lp_models::Hybrid;
 use lp_patch::PatchFault;
 use lp_symbols::SymFault;
-use lp_transition::{BootFault, Core};
+use lp_transition::BootFault;
 
 /// The name `a`.
 fn name_a(alloc: Global) -> Result<Symbols, SymFault> {
@@ -20,11 +20,17 @@ fn patch_of_a(alloc: Global) -> Result<PatchStack, PatchFault> {
     PatchStack::new(alloc, sets)
 }
 
-/// The engine of one task. Where memory is refused, nothing was made, and the same call makes it.
-pub(super) fn booted_again(alloc: Global) -> Result<Core<Hybrid>, Fail> {
-    let patches = patch_of_a(alloc).or_else(|_| patch_of_a(alloc))?;
-    match Core::boot(alloc, Hybrid, patches, &TASK_1) {
-        Err(BootFault::NoMemory) => Ok(Core::boot(alloc, Hybrid, patch_of_a(alloc)?, &TASK_1)?),
+/// The engine of one task, over a patch of function `a`.
+fn booted_over_a(alloc: Global) -> Result<Box<Core<Hybrid>>, BootFault> {
+    let patches = patch_of_a(alloc).map_err(|_| BootFault::NoMemory)?;
+    let core = Core::boot(alloc, Hybrid, patches, &TASK_1)?;
+    Ok(Box::new(alloc, core)?)
+}
+
+/// The same. Where memory is refused, nothing was made, and the same call makes it.
+pub(super) fn booted_again(alloc: Global) -> Result<Box<Core<Hybrid>>, Fail> {
+    match booted_over_a(alloc) {
+        Err(BootFault::NoMemory) => Ok(booted_over_a(alloc)?),
         answer => Ok(answer?),
     }
 }

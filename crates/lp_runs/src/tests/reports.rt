@@ -208,21 +208,35 @@ fn threads_go_over_together(rt: HostRuntime) -> Result<(), Fail> {
     Ok(())
 }
 
+/// Two patches on one another, which come and go.
+const STACKED: &str =
+    "enable / enter 1 / exit 1 / enter 1 / call 1 a / sleep 1 / enable / walk / disable / walk / disable / walk";
+
+/// The replies to it.
+const STACKED_REPLIES: &str =
+    "lpreport 2 / model hybrid / 1 done / 2 done / 3 over 1 complete / 4 done / 5 ran 1 / 6 done / 7 done / 8 over 1 complete / 9 done / 10 over 1 complete / 11 done / 12 done";
+
+/// The ends of its legs.
+const STACKED_ENDS: &str =
+    "leg 1 to 1 complete 3 / floor 1 1 2 / leg 7 to 2 complete 8 / floor 7 1 7 / leg 9 to 1 complete 10 / floor 9 1 9 / leg 11 to 0 waiting 1 / waiting 11 1 12 / hold 1 1 5 12 12 / stays 1 mixed 0";
+
+/// A trace of two patches, with these lines.
+fn two_patches(alloc: Global, lines: &str) -> Result<String, Fail> {
+    let head = "lptrace 2 / sym a / sym b / patch 1 a / patch 2 b / boot 1 normal";
+    text_of(alloc, head, lines)
+}
+
 #[test]
 fn patches_stand_on_one_another(rt: HostRuntime) -> Result<(), Fail> {
-    let text = text_of(
-        rt.alloc(),
-        "lptrace 2 / sym a / sym b / patch 1 a / patch 2 b / boot 1 normal",
-        "enable / enter 1 / exit 1 / enter 1 / call 1 a / sleep 1 / enable / walk / disable / walk / disable / walk",
-    )?;
-    let ends =
-        "leg 1 to 1 complete 3 / floor 1 1 2 / leg 7 to 2 complete 8 / floor 7 1 7 / leg 9 to 1 complete 10 / floor 9 1 9 / leg 11 to 0 waiting 1 / waiting 11 1 12 / hold 1 1 5 12 12 / stays 1 mixed 0";
-    let wanted = text_of(
-        rt.alloc(),
-        "lpreport 2 / model hybrid / 1 done / 2 done / 3 over 1 complete / 4 done / 5 ran 1 / 6 done / 7 done / 8 over 1 complete / 9 done / 10 over 1 complete / 11 done / 12 done",
-        ends,
-    )?;
+    let text = two_patches(rt.alloc(), STACKED)?;
+    let wanted = text_of(rt.alloc(), STACKED_REPLIES, STACKED_ENDS)?;
     assert!(rt; is_report(rt.alloc(), "hybrid", Hybrid, text.as_str(), wanted.as_str())?);
-    assert!(rt; are_accepted(rt.alloc(), Hybrid, text.as_str(), ends)?);
+    Ok(())
+}
+
+#[test]
+fn certificates_of_stacked_patches_are_accepted(rt: HostRuntime) -> Result<(), Fail> {
+    let text = two_patches(rt.alloc(), STACKED)?;
+    assert!(rt; are_accepted(rt.alloc(), Hybrid, text.as_str(), STACKED_ENDS)?);
     Ok(())
 }

@@ -78,32 +78,57 @@ fn a_million_events_are_the_most(rt: HostRuntime) -> Result<(), Fail> {
     Ok(())
 }
 
+/// The trace of a text. It stands in a box, as does whatever else of a test has many fields and
+/// outlives a call that may fail: the proof of such a function goes over each field at each such
+/// call.
+fn read(alloc: Global, text: &str) -> Result<Box<Trace>, Fail> {
+    Ok(Box::new(alloc, Trace::read(alloc, text.as_bytes())?)?)
+}
+
+/// Whether a trace is written as this text.
+fn is_written(alloc: Global, trace: &Trace, text: &str) -> Result<bool, Fail> {
+    let mut written = Vec::new(alloc);
+    trace.write(&mut written).ok().ok_or("a vector takes it")?;
+    Ok(written.as_slice() == text.as_bytes())
+}
+
+/// A trace of two patches.
+const OF_TWO_PATCHES: &str =
+    "lptrace 2\nsym a\nsym b\npatch 1 a\npatch 2 b\npatch 2 a\nboot 7 normal\nboot 65535 idle\nenter 7\ncall 7 b\nfork 7 10 share\nwalk\n";
+
 #[test]
-fn a_text_is_read_and_written_again(rt: HostRuntime) -> Result<(), Fail> {
-    let text =
-        "lptrace 2\nsym a\nsym b\npatch 1 a\npatch 2 b\npatch 2 a\nboot 7 normal\nboot 65535 idle\nenter 7\ncall 7 b\nfork 7 10 share\nwalk\n";
-    let trace = Trace::read(rt.alloc(), text.as_bytes())?;
+fn a_text_is_read(rt: HostRuntime) -> Result<(), Fail> {
+    let trace = read(rt.alloc(), OF_TWO_PATCHES)?;
     assert!(rt; trace.form() == TraceForm::Stacked);
-    assert_eq!(rt; trace.patches(), 2);
-    assert_eq!(rt; trace.symbols().len(), 2);
-    assert_eq!(rt; trace.boots().len(), 2);
+    assert!(rt; (trace.patches(), trace.symbols().len()) == (2, 2));
+    assert!(rt; (trace.boots().len(), trace.events().len()) == (2, 4));
     let fork = Event::Fork(TaskId(7), TaskId(10), ForkKind::Share);
     assert!(rt; trace.events().get(2).copied() == Some(fork));
     assert!(rt; trace.boots().get(1).copied() == Some((TaskId(65_535), Class::Idle)));
-    let mut written = Vec::new(rt.alloc());
-    trace.write(&mut written).ok().ok_or("a vector takes it")?;
-    assert_eq!(rt; written.as_slice(), text.as_bytes());
+    Ok(())
+}
+
+#[test]
+fn a_text_is_written_again(rt: HostRuntime) -> Result<(), Fail> {
+    let trace = read(rt.alloc(), OF_TWO_PATCHES)?;
+    assert!(rt; is_written(rt.alloc(), &trace, OF_TWO_PATCHES)?);
     Ok(())
 }
 
 #[test]
 fn a_full_writer_ends_it(rt: HostRuntime) -> Result<(), Fail> {
-    let trace = Trace::read(rt.alloc(), b"lptrace 1\nsym a\npatch a\nenable\n")?;
-    assert_eq!(rt; trace.patches(), 1);
-    assert_eq!(rt; trace.patch(1).len(), 1);
+    let trace = read(rt.alloc(), "lptrace 1\nsym a\npatch a\nenable\n")?;
     let mut room = [0; 12];
     let mut rest = room.as_mut_slice();
     assert!(rt; matches!(trace.write(&mut rest), Err(WriteFault::Stopped)));
-    assert_eq!(rt; room.as_slice(), b"lptrace 1\nsy".as_slice());
+    assert!(rt; room.as_slice() == b"lptrace 1\nsy".as_slice());
+    Ok(())
+}
+
+#[test]
+fn a_patch_has_its_functions(rt: HostRuntime) -> Result<(), Fail> {
+    let trace = read(rt.alloc(), "lptrace 1\nsym a\npatch a\nenable\n")?;
+    assert!(rt; trace.patches() == 1);
+    assert!(rt; trace.patch(1).len() == 1);
     Ok(())
 }

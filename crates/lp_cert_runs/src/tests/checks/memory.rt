@@ -5,51 +5,83 @@ use super::*;
 use crate::tests::again::booted_again;
 use lp_transition::Halt;
 
-/// The opening of the leg in which a task forks, each call made again where memory is refused.
-fn opened_again(alloc: Global) -> Result<Opening, Fail> {
-    let mut core = booted_again(alloc)?;
-    for event in &FORKS[..2] {
+/// Gives these events to an engine, each again where memory is refused.
+fn give_again(alloc: Global, core: &mut Core<Hybrid>, events: &[Event]) -> Result<(), Fail> {
+    for event in events {
         match core.step(alloc, *event) {
             Err(Halt::NoMemory) => core.step(alloc, *event)?,
             answer => answer?,
         };
     }
-    Ok(core.standing(alloc).or_else(|_| core.standing(alloc))?)
+    Ok(())
+}
+
+/// The opening of an engine's leg.
+fn standing(alloc: Global, core: &Core<Hybrid>) -> Result<Box<Opening>, AllocError> {
+    Ok(Box::new(alloc, core.standing(alloc)?)?)
+}
+
+/// The opening of the leg of a child that waits, each call made again where memory is refused.
+fn opened_again(alloc: Global) -> Result<Box<Opening>, Fail> {
+    let mut core = booted_again(alloc)?;
+    give_again(alloc, &mut core, A_CHILD_WAITS.before)?;
+    Ok(standing(alloc, &core).or_else(|_| standing(alloc, &core))?)
 }
 
 /// The answer to a certificate of the leg in which a task forks.
-fn judged(alloc: Global, opening: &Opening, cert: &Cert) -> Result<(), CertFault> {
+fn answer_to(alloc: Global, opening: &Opening, cert: &Cert) -> Result<(), CertFault> {
     match cert.claim {
-        Claim::Waiting => check_waiting(alloc, Hybrid, opening, &FORKS[2..], cert),
-        Claim::Floor => check_floor(alloc, Hybrid, opening, &FORKS[2..], cert),
+        Claim::Waiting => check_waiting(alloc, Hybrid, opening, A_CHILD_WAITS.after, cert),
+        Claim::Floor => check_floor(alloc, Hybrid, opening, A_CHILD_WAITS.after, cert),
     }
+}
+
+/// The child's certificate.
+const WHOLE: Judged = Judged(
+    2,
+    2,
+    8,
+    &[
+        Row::Busy(1, 1, 3),
+        Row::Born(2, 1, 4),
+        Row::Hold(2, 2, 6, 8, 8),
+    ],
+    Ok(()),
+);
+
+/// The same, with a walk that finds the child on a CPU.
+const WRONG: Judged = Judged(
+    2,
+    2,
+    8,
+    &[Row::Busy(1, 1, 3), Row::Born(2, 1, 4), Row::Busy(2, 2, 8)],
+    Err(CertFault::NoBlame(8)),
+);
+
+/// Whether a certificate of the child has its answer, each call made again where memory is refused.
+fn is_answered(
+    alloc: Global,
+    opening: &Opening,
+    claim: Claim,
+    judged: &Judged,
+) -> Result<bool, Fail> {
+    let cert = judged
+        .cert(alloc, claim)
+        .or_else(|_| judged.cert(alloc, claim))?;
+    let answer = match answer_to(alloc, opening, &cert) {
+        Err(CertFault::NoMemory) => answer_to(alloc, opening, &cert),
+        answer => answer,
+    };
+    Ok(answer == judged.answer())
 }
 
 #[test]
 fn certificates_are_judged_after_a_refused_growth(rt: HostRuntime) -> Result<(), Fail> {
     let alloc = rt.alloc();
     let opening = opened_again(alloc)?;
-    let whole = [busy(1, 1, 3), born(2, 1, 4), hold(2, 2, 6, 8, 8)];
-    let wrong = [busy(1, 1, 3), born(2, 1, 4), busy(2, 2, 8)];
-    for (claim, lines, want) in [
-        (Claim::Waiting, whole, Ok(())),
-        (Claim::Waiting, wrong, Err(CertFault::NoBlame(8))),
-        (Claim::Floor, whole, Ok(())),
-        (Claim::Floor, wrong, Err(CertFault::NoBlame(8))),
-    ] {
-        let kept = Vec::from_slice(alloc, &lines).or_else(|_| Vec::from_slice(alloc, &lines))?;
-        let cert = Cert {
-            claim,
-            leg: 2,
-            group: GroupId(2),
-            upto: 8,
-            lines: LineList::from_vec(kept),
-        };
-        let answer = match judged(alloc, &opening, &cert) {
-            Err(CertFault::NoMemory) => judged(alloc, &opening, &cert),
-            answer => answer,
-        };
-        assert_eq!(rt; answer, want);
+    for claim in [Claim::Waiting, Claim::Floor] {
+        assert!(rt; is_answered(alloc, &opening, claim, &WHOLE)?);
+        assert!(rt; is_answered(alloc, &opening, claim, &WRONG)?);
     }
     Ok(())
 }

@@ -27,28 +27,52 @@ fn lists_lend_their_lines(rt: HostRuntime) -> Result<(), Fail> {
     Ok(())
 }
 
-#[test]
-fn reasons_are_written_out_whole_and_line_by_line(rt: HostRuntime) -> Result<(), Fail> {
-    let maker = made(rt.alloc(), &TASK_1, &EVENTS)?;
-    let reasons = [
+/// The reasons of the child.
+fn reasons() -> [Line; 5] {
+    [
         hold(1, 1, 2, 5, 5),
         busy(1, 1, 8),
         busy(1, 1, 9),
         born(2, 1, 10),
         busy(2, 2, 12),
-    ];
-    let leg = maker.current(rt.alloc())?.expect(&rt, "a leg");
-    assert!(rt; leg.certs.len() == 1);
-    assert_eq!(rt; leg.certs.head(0).group, GroupId(2));
-    let cert = leg.certs.cert(rt.alloc(), 0)?.expect(&rt, "a certificate");
-    assert_eq!(rt; cert.lines.as_slice(), reasons.as_slice());
-    let mut found = Vec::new(rt.alloc());
-    let mut lines = leg.certs.lines(0);
-    for _ in 0..9 {
-        if let Some(line) = lines.next() {
-            found.push(line)?;
-        }
+    ]
+}
+
+#[test]
+fn reasons_are_written_out_whole(rt: HostRuntime) -> Result<(), Fail> {
+    let maker = made(rt.alloc(), &TASK_1, &EVENTS)?;
+    let certs = certs_now(rt.alloc(), &maker)?;
+    assert_eq!(rt; certs.len(), 1);
+    assert_eq!(rt; certs.head(0).group, GroupId(2));
+    assert!(rt; is_cert(certs.cert(rt.alloc(), 0)?, certs.head(0), &reasons()));
+    Ok(())
+}
+
+/// The lines of a list's first certificate, one after the other, and what comes after them.
+fn one_by_one(alloc: Global, certs: &CertList) -> Result<Vec<Option<Line>>, Fail> {
+    let mut found = Vec::new(alloc);
+    if certs.is_empty() {
+        return Ok(found);
     }
-    assert_eq!(rt; found.as_slice(), reasons.as_slice());
+    let mut lines = certs.lines(0);
+    for _ in 0..7 {
+        found.push(lines.next())?;
+    }
+    Ok(found)
+}
+
+#[test]
+fn reasons_are_written_out_line_by_line(rt: HostRuntime) -> Result<(), Fail> {
+    let maker = made(rt.alloc(), &TASK_1, &EVENTS)?;
+    let certs = certs_now(rt.alloc(), &maker)?;
+    let found = one_by_one(rt.alloc(), &certs)?;
+    assert!(rt;
+        found
+            .iter()
+            .take(5)
+            .copied()
+            .eq(reasons().iter().copied().map(Some))
+    );
+    assert_eq!(rt; found.last().copied(), Some(None));
     Ok(())
 }

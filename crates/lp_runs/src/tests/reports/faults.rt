@@ -62,17 +62,22 @@ fn wanted(front: &str, patched: bool) -> Ended {
     }
 }
 
+/// Whether the run of the first so many bytes of a text ends in this way, with nothing written
+/// where that is a fault.
+fn cut_ends(alloc: Global, front: &str, wanted: Ended) -> bool {
+    let mut source = Source::whole(front.as_bytes(), 3);
+    let mut sink = Sink::whole(alloc, 1_000);
+    let end = ending_of(alloc, &mut source, &mut sink);
+    end == wanted && (matches!(end, Ended::Whole) || sink.taken().is_empty())
+}
+
 #[test]
 fn a_cut_text_has_its_fault(rt: HostRuntime) -> Result<(), Fail> {
     let text = single_patch(rt.alloc(), LINES)?;
     let patch_end = text.find("boot").ok_or("there is a boot task")?;
     for cut in 0..=text.len() {
         let front = text.get(..cut).ok_or("all bytes are letters")?;
-        let mut source = Source::whole(front.as_bytes(), 3);
-        let mut sink = Sink::whole(rt.alloc(), 1_000);
-        let end = ending_of(rt.alloc(), &mut source, &mut sink);
-        assert!(rt; end == wanted(front, cut >= patch_end));
-        assert!(rt; matches!(end, Ended::Whole) || sink.taken().is_empty());
+        assert!(rt; cut_ends(rt.alloc(), front, wanted(front, cut >= patch_end)));
     }
     Ok(())
 }
@@ -85,19 +90,24 @@ fn kind_of(end: End) -> ErrorKind {
     }
 }
 
+/// Whether a run and a check fail as their reader does after so many reads, with nothing written.
+fn fail_with(alloc: Global, text: &str, reads: usize, end: End) -> bool {
+    let failed = Ended::Read(kind_of(end));
+    let mut sink = Sink::whole(alloc, 1_000);
+    let mut source = Source::ending(text.as_bytes(), 1, reads, end);
+    let run_end = ending_of(alloc, &mut source, &mut sink);
+    let mut source = Source::ending(text.as_bytes(), 1, reads, end);
+    let check_end = check_ending_of(alloc, &mut source, &mut sink);
+    (run_end, check_end) == (failed, failed) && sink.taken().is_empty()
+}
+
 #[test]
 fn a_read_that_fails_leaves_nothing_written(rt: HostRuntime) -> Result<(), Fail> {
     let mut text = single_patch(rt.alloc(), LINES)?;
     text.push_str("lpcert 1\nwaiting 2 2 8\n")?;
-    let mut sink = Sink::whole(rt.alloc(), 1_000);
     for reads in 0..=text.len() {
         for end in [End::Fails, End::Interrupted] {
-            let failed = Ended::Read(kind_of(end));
-            let mut source = Source::ending(text.as_bytes(), 1, reads, end);
-            assert!(rt; ending_of(rt.alloc(), &mut source, &mut sink) == failed);
-            let mut source = Source::ending(text.as_bytes(), 1, reads, end);
-            assert!(rt; check_ending_of(rt.alloc(), &mut source, &mut sink) == failed);
-            assert!(rt; sink.taken().is_empty());
+            assert!(rt; fail_with(rt.alloc(), text.as_str(), reads, end));
         }
     }
     Ok(())
@@ -106,29 +116,42 @@ fn a_read_that_fails_leaves_nothing_written(rt: HostRuntime) -> Result<(), Fail>
 /// A trace of no task.
 const OF_NOBODY: &str = "lptrace 1\nsym a\npatch a\nenable\n";
 
+/// The same, with a certificate behind it.
+const WITH_CERT: &str = "lptrace 1\nsym a\npatch a\nenable\nlpcert 1\nwaiting 1 1 1\n";
+
+const REPORT: &str =
+    "lpreport 1\nmodel hybrid\n1 done complete\nleg 1 new complete 1\nstays 0 mixed 0\n";
+
+/// Whether a run of it by reads of so many bytes has its report.
+fn is_run_by(alloc: Global, most: usize) -> bool {
+    let mut source = Source::ending(OF_NOBODY.as_bytes(), most, 100, End::Fails);
+    let mut sink = Sink::whole(alloc, 1_000);
+    ending_of(alloc, &mut source, &mut sink) == Ended::Whole && sink.taken() == REPORT.as_bytes()
+}
+
+/// Whether a check of it by reads of so many bytes has its answer.
+fn is_checked_by(alloc: Global, most: usize) -> bool {
+    let mut source = Source::ending(WITH_CERT.as_bytes(), most, 100, End::Fails);
+    let mut sink = Sink::whole(alloc, 1_000);
+    check_ending_of(alloc, &mut source, &mut sink) == Ended::Whole
+        && sink.taken() == b"refused C1\n".as_slice()
+}
+
 #[test]
-fn an_input_is_read_whole(rt: HostRuntime) -> Result<(), Fail> {
-    let text = OF_NOBODY.as_bytes();
-    let with_cert = format!(in rt.alloc(); "{OF_NOBODY}lpcert 1\nwaiting 1 1 1\n")?;
-    let input = with_cert.as_bytes();
-    let wanted =
-        "lpreport 1\nmodel hybrid\n1 done complete\nleg 1 new complete 1\nstays 0 mixed 0\n";
+fn an_input_is_read_to_its_end(rt: HostRuntime) {
     for most in [1, 2, 7, 100] {
-        let mut source = Source::ending(text, most, 100, End::Fails);
-        let mut sink = Sink::whole(rt.alloc(), 1_000);
-        assert!(rt; ending_of(rt.alloc(), &mut source, &mut sink) == Ended::Whole);
-        assert_eq!(rt; sink.taken(), wanted.as_bytes());
-        let mut source = Source::ending(input, most, 100, End::Fails);
-        let mut sink = Sink::whole(rt.alloc(), 1_000);
-        assert!(rt; check_ending_of(rt.alloc(), &mut source, &mut sink) == Ended::Whole);
-        assert_eq!(rt; sink.taken(), b"refused C1\n".as_slice());
+        assert!(rt; is_run_by(rt.alloc(), most), "{most}");
+        assert!(rt; is_checked_by(rt.alloc(), most), "{most}");
     }
-    let (mut trace, mut all) = (text, input);
+}
+
+#[test]
+fn a_slice_is_read_whole(rt: HostRuntime) {
+    let (mut trace, mut all) = (OF_NOBODY.as_bytes(), WITH_CERT.as_bytes());
     let mut sink = Sink::whole(rt.alloc(), 1_000);
     assert!(rt; ending_of(rt.alloc(), &mut trace, &mut sink) == Ended::Whole);
     assert!(rt; check_ending_of(rt.alloc(), &mut all, &mut sink) == Ended::Whole);
     assert!(rt; trace.is_empty() && all.is_empty());
-    Ok(())
 }
 
 /// How the check of so many zeros ended, and how many are left then.
@@ -141,28 +164,47 @@ fn end_of_zeros(alloc: Global, count: u64) -> (Ended, u64) {
 
 #[test]
 fn a_text_has_so_many_bytes(rt: HostRuntime) {
-    assert_eq!(rt;
-        end_of_zeros(rt.alloc(), 134_217_728),
-        (Ended::Trace(1, 2), 0)
-    );
+    let whole = end_of_zeros(rt.alloc(), 134_217_728);
+    assert_eq!(rt; whole, (Ended::Trace(1, 2), 0));
     let (more, _) = end_of_zeros(rt.alloc(), 134_217_729);
     assert!(rt; more == Ended::Trace(0, 11));
+}
+
+#[test]
+fn a_reader_without_end_is_given_up(rt: HostRuntime) {
     let (endless, left) = end_of_zeros(rt.alloc(), u64::MAX);
     assert!(rt; endless == Ended::Trace(0, 11));
     assert!(rt; left > u64::MAX - 134_300_000);
 }
 
+/// How the run of a text that is no trace ends, by a reader that fails after so many reads of a
+/// byte, and how much is written.
+fn end_of_no_trace(alloc: Global, reads: usize) -> (Ended, usize) {
+    let mut sink = Sink::whole(alloc, 1_000);
+    let mut source = Source::ending(b"no trace\nat all\n", 1, reads, End::Fails);
+    let ended = ending_of(alloc, &mut source, &mut sink);
+    (ended, sink.taken().len())
+}
+
 #[test]
 fn a_fault_of_the_text_waits_for_the_end(rt: HostRuntime) {
-    let text = b"no trace\nat all\n";
-    let mut sink = Sink::whole(rt.alloc(), 1_000);
-    let mut source = Source::ending(text, 1, 12, End::Fails);
-    assert!(rt;
-        ending_of(rt.alloc(), &mut source, &mut sink) == Ended::Read(ErrorKind::BrokenPipe)
-    );
-    let mut source = Source::whole(text, 1);
-    assert!(rt; ending_of(rt.alloc(), &mut source, &mut sink) == Ended::Trace(1, 1));
-    assert!(rt; sink.taken().is_empty());
+    let broken = Ended::Read(ErrorKind::BrokenPipe);
+    assert_eq!(rt; end_of_no_trace(rt.alloc(), 12), (broken, 0));
+    assert_eq!(rt; end_of_no_trace(rt.alloc(), 1_000), (Ended::Trace(1, 1), 0));
+}
+
+/// Whether a report stops after so many bytes where its writer ends in this way.
+fn has_a_front(
+    alloc: Global,
+    text: &str,
+    report: &[u8],
+    writes: usize,
+    ends: (End, Ended),
+) -> bool {
+    let mut source = Source::whole(text.as_bytes(), 1_000);
+    let mut sink = Sink::ending(alloc, 1, writes, ends.0);
+    let ended = ending_of(alloc, &mut source, &mut sink);
+    ended == ends.1 && sink.taken().len() == writes && report.starts_with(sink.taken())
 }
 
 #[test]
@@ -170,16 +212,12 @@ fn a_writer_that_ends_has_a_front(rt: HostRuntime) -> Result<(), Fail> {
     let text = single_patch(rt.alloc(), LINES)?;
     let report = report_of(rt.alloc(), "hybrid", Hybrid, text.as_str(), 1)?;
     for writes in 0..report.len() {
-        let (end, wanted) = match writes % 3 {
+        let ends = match writes % 3 {
             0 => (End::Fails, Ended::Failed),
             1 => (End::Interrupted, Ended::Failed),
             _ => (End::Nothing, Ended::Stopped),
         };
-        let mut source = Source::whole(text.as_bytes(), 1_000);
-        let mut sink = Sink::ending(rt.alloc(), 1, writes, end);
-        assert!(rt; ending_of(rt.alloc(), &mut source, &mut sink) == wanted);
-        assert_eq!(rt; sink.taken().len(), writes);
-        assert!(rt; report.as_slice().starts_with(sink.taken()));
+        assert!(rt; has_a_front(rt.alloc(), text.as_str(), report.as_slice(), writes, ends));
     }
     Ok(())
 }

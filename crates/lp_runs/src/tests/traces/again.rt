@@ -24,21 +24,30 @@ const RUNS: [&str; 13] = [
 const STACKED: &str =
     "lptrace 2\nsym a\nsym b\npatch 1 a\npatch 2 b\nboot 1 normal\nenable\nenter 1\nexit 1\nenter 1\ncall 1 a\nsleep 1\nenable\nwalk\ndisable\nwalk\ndisable\nwalk\n";
 
-/// Whether a trace is written as these bytes.
-fn is_written(alloc: Global, trace: &Trace, text: &[u8]) -> Result<bool, Fail> {
-    let mut written = Vec::new(alloc);
-    trace.write(&mut written).ok().ok_or("a vector takes it")?;
-    Ok(written.as_slice() == text)
-}
-
-/// Whether a text is read, and its parts make a trace that is written as the text.
-fn is_made_again(alloc: Global, text: &[u8]) -> Result<bool, Fail> {
-    let read = Trace::read(alloc, text)?;
+/// The trace of a trace's parts, of which the first patch is the only one.
+fn made_of(alloc: Global, read: &Trace) -> Result<Box<Trace>, Fail> {
     if read.patches() != 1 {
-        return Ok(false);
+        return Err(Fail::from("it has one patch"));
     }
     let patch = read.patch(1);
     let made = Trace::of(alloc, read.symbols(), patch, read.boots(), read.events())?;
+    Ok(Box::new(alloc, made)?)
+}
+
+/// The same of two patches.
+fn made_of_two(alloc: Global, read: &Trace) -> Result<Box<Trace>, Fail> {
+    if read.patches() != 2 {
+        return Err(Fail::from("it has two patches"));
+    }
+    let patches = [read.patch(1), read.patch(2)];
+    let made = Trace::of_stack(alloc, read.symbols(), &patches, read.boots(), read.events())?;
+    Ok(Box::new(alloc, made)?)
+}
+
+/// Whether a text is read, and its parts make a trace that is written as the text.
+fn is_made_again(alloc: Global, text: &str) -> Result<bool, Fail> {
+    let trace = read(alloc, text)?;
+    let made = made_of(alloc, &trace)?;
     is_written(alloc, &made, text)
 }
 
@@ -46,26 +55,33 @@ fn is_made_again(alloc: Global, text: &[u8]) -> Result<bool, Fail> {
 fn runs_are_made_again(rt: HostRuntime) -> Result<(), Fail> {
     for run in RUNS {
         let text = format!(in rt.alloc(); "{HEAD}{run}")?;
-        assert!(rt; is_made_again(rt.alloc(), text.as_bytes())?, "{run}");
+        assert!(rt; is_made_again(rt.alloc(), text.as_str())?, "{run}");
     }
-    let mut text = String::from_str(rt.alloc(), HEAD)?;
+    Ok(())
+}
+
+/// More calls than a stack holds.
+fn deep_run(alloc: Global) -> Result<String, Fail> {
+    let mut text = String::from_str(alloc, HEAD)?;
     text.push_str("boot 1 normal\nenter 1\n")?;
     for _ in 0..101 {
         text.push_str("call 1 b\n")?;
     }
     text.push_str("ret 1\ncall 1 b\n")?;
-    assert!(rt; is_made_again(rt.alloc(), text.as_bytes())?, "a deep run");
+    Ok(text)
+}
+
+#[test]
+fn a_deep_run_is_made_again(rt: HostRuntime) -> Result<(), Fail> {
+    let text = deep_run(rt.alloc())?;
+    assert!(rt; is_made_again(rt.alloc(), text.as_str())?);
     Ok(())
 }
 
 #[test]
 fn a_run_of_two_patches_is_made_again(rt: HostRuntime) -> Result<(), Fail> {
-    let text = STACKED.as_bytes();
-    let read = Trace::read(rt.alloc(), text)?;
-    assert_eq!(rt; read.patches(), 2);
-    let patches = [read.patch(1), read.patch(2)];
-    let symbols = read.symbols();
-    let made = Trace::of_stack(rt.alloc(), symbols, &patches, read.boots(), read.events())?;
-    assert!(rt; is_written(rt.alloc(), &made, text)?);
+    let trace = read(rt.alloc(), STACKED)?;
+    let made = made_of_two(rt.alloc(), &trace)?;
+    assert!(rt; is_written(rt.alloc(), &made, STACKED)?);
     Ok(())
 }

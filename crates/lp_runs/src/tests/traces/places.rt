@@ -17,8 +17,8 @@ const TWO: (TaskId, Class) = (TaskId(2), Class::Idle);
 const NOBODY: TaskId = TaskId(0);
 
 /// The symbols a, b and c.
-fn three(alloc: Global) -> Result<Symbols, Fail> {
-    let mut symbols = Symbols::new(alloc)?;
+fn three(alloc: Global) -> Result<Box<Symbols>, Fail> {
+    let mut symbols = Box::new(alloc, Symbols::new(alloc)?)?;
     for name in ["a", "b", "c"] {
         symbols.add(name)?;
     }
@@ -30,44 +30,57 @@ fn stops_at(made: Result<Trace, OfFault>, place: u64) -> bool {
     made.err() == Some(OfFault::Unwritable(place))
 }
 
+/// How many events a trace has that is made of a patch of `a` and of these.
+fn events_of(alloc: Global, symbols: &Symbols, events: &[Event]) -> Result<usize, Fail> {
+    let made = Trace::of(alloc, symbols, &[A], &[], events)?;
+    Ok(made.events().len())
+}
+
+/// Patches with functions that are unknown or are there twice, and boot tasks without a number, or
+/// with one that is there before, each with its place.
+const PARTS: [(&[SymId], &[(TaskId, Class)], u64); 5] = [
+    (&[], &[ONE], 4),
+    (&[D], &[], 4),
+    (&[A, B, A], &[], 6),
+    (&[A, B], &[(NOBODY, Class::Normal)], 6),
+    (&[A, B], &[ONE, TWO, (TaskId(1), Class::Idle)], 8),
+];
+
 #[test]
 fn patches_and_boot_tasks_are_in_their_places(rt: HostRuntime) -> Result<(), Fail> {
-    let alloc = rt.alloc();
-    let symbols = three(alloc)?;
-    let nobody = (NOBODY, Class::Normal);
-    let twice = (TaskId(1), Class::Idle);
-    for (patch, boots, place) in [
-        // a patch has functions, known ones, each once
-        ([].as_slice(), [ONE].as_slice(), 4),
-        ([D].as_slice(), [].as_slice(), 4),
-        ([A, B, A].as_slice(), [].as_slice(), 6),
-        // a boot task has a number, and of its own
-        ([A, B].as_slice(), [nobody].as_slice(), 6),
-        ([A, B].as_slice(), [ONE, TWO, twice].as_slice(), 8),
-    ] {
-        assert!(rt;
-            stops_at(Trace::of(alloc, &symbols, patch, boots, &[]), place),
-            "{place}"
-        );
+    let symbols = three(rt.alloc())?;
+    for (patch, boots, place) in PARTS {
+        let made = Trace::of(rt.alloc(), &symbols, patch, boots, &[]);
+        assert!(rt; stops_at(made, place), "{place}");
     }
-    let none = Symbols::new(alloc)?;
-    assert!(rt; stops_at(Trace::of(alloc, &none, &[], &[], &[]), 1));
     Ok(())
 }
 
 #[test]
-fn a_patch_has_256_functions(rt: HostRuntime) -> Result<(), Fail> {
-    let mut symbols = Symbols::new(rt.alloc())?;
-    let mut patch = Vec::new(rt.alloc());
-    for i in 0..257_u16 {
-        let name = format!(in rt.alloc(); "f{i}")?;
+fn there_is_a_symbol(rt: HostRuntime) -> Result<(), Fail> {
+    let none = Symbols::new(rt.alloc())?;
+    assert!(rt; stops_at(Trace::of(rt.alloc(), &none, &[], &[], &[]), 1));
+    Ok(())
+}
+
+/// So many symbols, and a patch of all of them.
+fn patch_of(alloc: Global, count: u16) -> Result<(Box<Symbols>, Vec<SymId>), Fail> {
+    let mut symbols = Box::new(alloc, Symbols::new(alloc)?)?;
+    let mut patch = Vec::new(alloc);
+    for i in 0..count {
+        let name = format!(in alloc; "f{i}")?;
         patch.push(symbols.add(&name)?)?;
     }
+    Ok((symbols, patch))
+}
+
+#[test]
+fn a_patch_has_up_to_256_functions(rt: HostRuntime) -> Result<(), Fail> {
+    let (symbols, patch) = patch_of(rt.alloc(), 257)?;
     let funcs = patch.as_slice();
     assert!(rt; stops_at(Trace::of(rt.alloc(), &symbols, funcs, &[ONE], &[]), 514));
-    assert_eq!(rt; funcs.len(), 257);
-    let made = Trace::of(rt.alloc(), &symbols, &funcs[1..], &[ONE], &[])?;
-    assert_eq!(rt; made.patch(1).len(), 256);
+    assert!(rt; funcs.len() == 257);
+    assert!(rt; Trace::of(rt.alloc(), &symbols, &funcs[1..], &[ONE], &[]).is_ok());
     Ok(())
 }
 
@@ -89,71 +102,78 @@ fn an_event_has_tasks_and_a_known_function(rt: HostRuntime) -> Result<(), Fail> 
     Ok(())
 }
 
+/// An event so many times.
+fn times(alloc: Global, count: usize, event: Event) -> Result<Vec<Event>, Fail> {
+    let mut events = Vec::new(alloc);
+    for _ in 0..count {
+        events.push(event)?;
+    }
+    Ok(events)
+}
+
 #[test]
 fn a_million_events_have_spellings(rt: HostRuntime) -> Result<(), Fail> {
     let symbols = three(rt.alloc())?;
-    let mut events = Vec::new(rt.alloc());
-    for _ in 0..1_000_000 {
-        events.push(Event::Walk)?;
-    }
-    let made = Trace::of(rt.alloc(), &symbols, &[A], &[], events.as_slice())?;
-    assert_eq!(rt; made.events().len(), 1_000_000);
+    let mut events = times(rt.alloc(), 1_000_000, Event::Walk)?;
+    assert!(rt; events_of(rt.alloc(), &symbols, events.as_slice())? == 1_000_000);
     events.push(Event::Walk)?;
-    assert!(rt;
-        stops_at(
-            Trace::of(rt.alloc(), &symbols, &[A], &[], events.as_slice()),
-            1_000_005
-        )
-    );
+    let made = Trace::of(rt.alloc(), &symbols, &[A], &[], events.as_slice());
+    assert!(rt; stops_at(made, 1_000_005));
     Ok(())
+}
+
+/// A symbol with a name of 512 bytes.
+fn long_name(alloc: Global) -> Result<Box<Symbols>, Fail> {
+    let mut name = String::new(alloc);
+    for _ in 0..512 {
+        name.push('x')?;
+    }
+    let mut symbols = Box::new(alloc, Symbols::new(alloc)?)?;
+    symbols.add(&name)?;
+    Ok(symbols)
 }
 
 /// A call of a function with a name of 512 bytes has a line of 524 bytes, and the lines before the
 /// calls have 1,046. So 256,138 calls fit into the 134,217,728 bytes of a text.
 #[test]
 fn a_text_has_its_greatest_size(rt: HostRuntime) -> Result<(), Fail> {
-    let mut name = String::new(rt.alloc());
-    for _ in 0..512 {
-        name.push('x')?;
+    let symbols = long_name(rt.alloc())?;
+    let call = Event::Call(TaskId(65_535), A);
+    let mut events = times(rt.alloc(), 256_138, call)?;
+    assert!(rt; events_of(rt.alloc(), &symbols, events.as_slice())? == 256_138);
+    events.push(call)?;
+    let made = Trace::of(rt.alloc(), &symbols, &[A], &[], events.as_slice());
+    assert!(rt; stops_at(made, 256_141));
+    Ok(())
+}
+
+const FUNCS: [SymId; 2] = [A, B];
+
+/// Stacks with no patch, or with a patch of no function, each with its place.
+const STACKS: [(&[&[SymId]], u64); 4] = [
+    (&[], 4),
+    (&[&[], &[A]], 4),
+    (&[&[A], &[]], 5),
+    (&[&FUNCS, &[]], 6),
+];
+
+#[test]
+fn a_stack_has_patches_with_functions(rt: HostRuntime) -> Result<(), Fail> {
+    let symbols = three(rt.alloc())?;
+    for (stack, place) in STACKS {
+        let made = Trace::of_stack(rt.alloc(), &symbols, stack, &[ONE], &[]);
+        assert!(rt; stops_at(made, place), "{place}");
     }
-    let mut symbols = Symbols::new(rt.alloc())?;
-    symbols.add(&name)?;
-    let mut events = Vec::new(rt.alloc());
-    for _ in 0..256_138 {
-        events.push(Event::Call(TaskId(65_535), A))?;
-    }
-    let made = Trace::of(rt.alloc(), &symbols, &[A], &[], events.as_slice())?;
-    assert_eq!(rt; made.events().len(), 256_138);
-    events.push(Event::Call(TaskId(65_535), A))?;
-    assert!(rt;
-        stops_at(
-            Trace::of(rt.alloc(), &symbols, &[A], &[], events.as_slice()),
-            256_141
-        )
-    );
     Ok(())
 }
 
 #[test]
-fn a_stack_has_up_to_16_patches_with_functions(rt: HostRuntime) -> Result<(), Fail> {
-    let alloc = rt.alloc();
-    let symbols = three(alloc)?;
-    let funcs = [A, B];
-    let (empty, one, two) = (&funcs[..0], &funcs[..1], &funcs[..]);
-    let patches = [one; 17];
-    for (stack, place) in [
-        ([].as_slice(), 4),
-        ([empty, one].as_slice(), 4),
-        ([one, empty].as_slice(), 5),
-        ([two, empty].as_slice(), 6),
-        (patches.as_slice(), 20),
-    ] {
-        assert!(rt;
-            stops_at(Trace::of_stack(alloc, &symbols, stack, &[ONE], &[]), place),
-            "{place}"
-        );
-    }
-    let made = Trace::of_stack(alloc, &symbols, &patches[1..], &[ONE], &[])?;
-    assert_eq!(rt; made.patches(), 16);
+fn a_stack_has_up_to_16_patches(rt: HostRuntime) -> Result<(), Fail> {
+    let symbols = three(rt.alloc())?;
+    let patches = [&FUNCS[..1]; 17];
+    let made = Trace::of_stack(rt.alloc(), &symbols, &patches[1..], &[ONE], &[]);
+    assert!(rt; made.is_ok());
+    let made = Trace::of_stack(rt.alloc(), &symbols, &patches, &[ONE], &[]);
+    assert!(rt; stops_at(made, 20));
     Ok(())
 }
