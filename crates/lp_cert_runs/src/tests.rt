@@ -67,10 +67,7 @@ fn patch_a(alloc: Global) -> Result<PatchStack, Fail> {
     Ok(PatchStack::new(alloc, sets)?)
 }
 
-/// An engine over a patch of function `a`.
-///
-/// It stands in a box, as does whatever else of a test has many fields and outlives a call that may
-/// fail: the proof of such a function goes over each field at each such call.
+/// An engine over a patch of function `a`, in a box: docs/GATE.md says why.
 fn booted<M: Consistency>(
     alloc: Global,
     model: M,

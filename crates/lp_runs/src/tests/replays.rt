@@ -18,9 +18,7 @@ fn trace_of(alloc: Global, boots: &str, events: &str) -> Result<Box<Trace>, Fail
     Ok(Box::new(alloc, Trace::read(alloc, text.as_bytes())?)?)
 }
 
-/// What comes of a trace. It stands in a box, as does whatever else of a test has many fields and
-/// outlives a call that may fail: the proof of such a function goes over each field at each such
-/// call.
+/// What comes of a trace, in a box: docs/GATE.md says why.
 fn outcome_of<M: Consistency>(
     alloc: Global,
     model: M,

@@ -78,9 +78,7 @@ fn a_million_events_are_the_most(rt: HostRuntime) -> Result<(), Fail> {
     Ok(())
 }
 
-/// The trace of a text. It stands in a box, as does whatever else of a test has many fields and
-/// outlives a call that may fail: the proof of such a function goes over each field at each such
-/// call.
+/// The trace of a text, in a box: docs/GATE.md says why.
 fn read(alloc: Global, text: &str) -> Result<Box<Trace>, Fail> {
     Ok(Box::new(alloc, Trace::read(alloc, text.as_bytes())?)?)
 }

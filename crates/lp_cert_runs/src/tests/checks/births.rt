@@ -41,7 +41,7 @@ const OF_A_CHILD: [Judged; 9] = [
     Judged(3, 2, 8, &[Row::Born(2, 1, 3)], Err(CertFault::NoLeg)),
 ];
 
-/// A child dies before its walk, and the transition is turned round.
+/// A child dies before its walk, which is the last event.
 const A_CHILD_DIES: Leg = Leg {
     boots: &TASK_1,
     before: &[Event::Enter(ONE), Event::Enable],
@@ -52,7 +52,7 @@ const A_CHILD_DIES: Leg = Leg {
     ],
 };
 
-/// Before and after the death, and before and after the leg's end.
+/// After and before the death, and past the last event and at it.
 const OF_A_DEAD_CHILD: [Judged; 4] = [
     Judged(2, 2, 4, &[Row::Born(2, 1, 3)], Err(CertFault::NoSuchGroup)),
     Judged(2, 2, 3, &[Row::Born(2, 1, 3)], Ok(())),
