@@ -12,15 +12,15 @@ use Rattle.lp_transition.specs.declared.reply.Reply.{Reply}
 use Rattle.lp_cert.specs.declared.leg_end.LegEnd.{LegEnd}
 use Rattle.lp_cert.specs.declared.line.Line.{Line}
 use Rattle.lp_cert.specs.Text.{reason_words}
-use Rattle.lp_trace.specs.declared.form.TraceForm.{TraceForm}
-use Rattle.lp_trace.specs.declared.outcome.Outcome.{Outcome}
-use Rattle.lp_trace.specs.Words.{line_of}
-use Rattle.lp_trace.specs.Writing.{Left, line_rest}
+use Rattle.lp_text.specs.declared.form.TraceForm.{TraceForm}
+use Rattle.lp_replay.specs.declared.outcome.Outcome.{Outcome}
+use Rattle.lp_text.specs.Words.{line_of}
+use Rattle.lp_text.specs.inside.Writing.{Left, line_rest}
 use Rattle.lp_trace.specs.Report.{event_line, event_lines, leg_lines, stays_line, report, report_lines, report_header}
-use Rattle.lp_trace.specs.declared.replies.ShortReply.{ShortReply}
-use Rattle.lp_trace.specs.Replies.{first_groups, lists_in, replies_of, reply_of}
-use Rattle.lp_trace.proofs.ReplyLists.{replies-next, replies-end}
-use Rattle.lp_trace.proofs.Writing.{line_split}
+use Rattle.lp_replay.specs.declared.replies.ShortReply.{ShortReply}
+use Rattle.lp_replay.specs.Replies.{first_groups, lists_in, replies_of, reply_of}
+use Rattle.lp_replay.proofs.ReplyLists.{replies-next, replies-end}
+use Rattle.lp_text.proofs.Writing.{line_split}
 use Rattle.lp_trace.proofs.Pages.{held_start, held_next}
 
 -- ---- The groups of a line

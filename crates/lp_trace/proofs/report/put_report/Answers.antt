@@ -1,7 +1,7 @@
 use Rattle.std.proofs.Common.{refl, ap, ◌++◌}
-use Rattle.lp_trace.specs.declared.outcome.Outcome.{Outcome}
+use Rattle.lp_replay.specs.declared.outcome.Outcome.{Outcome}
 use Rattle.lp_trace.specs.Report.{report}
-use Rattle.lp_trace.proofs.Pages.{puts_err, puts_along, held_front, held_err, held_last}
+use Rattle.lp_trace.proofs.Pages.{puts_err, puts_along, held_prefix, held_err, held_last}
 use Rattle.lp_trace.proofs.Reports.{header_part, model_part, events_part, legs_part, stays_part, report_split, lent, with_lists, after_header, after_model, after_events, after_legs}
 use Rattle.lp_trace.proofs.report.put_report.Goals as goal
 
@@ -9,7 +9,7 @@ pub returns-in_err-put_header : goal.returns-in_err-put_header
 returns-in_err-put_header g c =
     let o : Outcome = with_lists c.args.outcome.now c.args.outcome.now.replies c.as_slice-legs.result.now in
     let same = ap (report c.args.form c.args.name.now) (lent c.args.outcome.now c.args.outcome.now.replies c.as_slice-legs.result.now refl c.as_slice-legs.ensures) in
-    puts_along _ _ c.args.page.now.held.items _ _ _ c.from_residual.result same (puts_err (g.W.Write.contents c.args.writer.now) (g.W.Write.contents c.put_header.new.writer) c.args.page.now.held.items c.put_header.new.page.held.items (report c.args.form c.args.name.now o) c.from_residual.result c.from_residual.ensures.0 (held_front _ _ c.args.page.now.held.items (header_part c.args.form c.args.name.now o) ((model_part c.args.form c.args.name.now o) ++ ((events_part c.args.form c.args.name.now o) ++ ((legs_part c.args.form c.args.name.now o) ++ (stays_part c.args.form c.args.name.now o)))) (report c.args.form c.args.name.now o) (report_split c.args.form c.args.name.now o) c.in_err-put_header.ensures))
+    puts_along _ _ c.args.page.now.held.items _ _ _ c.from_residual.result same (puts_err (g.W.Write.contents c.args.writer.now) (g.W.Write.contents c.put_header.new.writer) c.args.page.now.held.items c.put_header.new.page.held.items (report c.args.form c.args.name.now o) c.from_residual.result c.from_residual.ensures.0 (held_prefix _ _ c.args.page.now.held.items (header_part c.args.form c.args.name.now o) ((model_part c.args.form c.args.name.now o) ++ ((events_part c.args.form c.args.name.now o) ++ ((legs_part c.args.form c.args.name.now o) ++ (stays_part c.args.form c.args.name.now o)))) (report c.args.form c.args.name.now o) (report_split c.args.form c.args.name.now o) c.in_err-put_header.ensures))
 
 pub returns-in_err-put_model : goal.returns-in_err-put_model
 returns-in_err-put_model g c =
