@@ -23,12 +23,12 @@ module _ (model : Rules) where
 
   -- the first fault of an input's certificate, if it has one
   abbrev pub answer_to : CheckInput → Option CertFault
-  answer_to input = verdict_in (leg_numbered input.trace input.cert.leg) input.cert
+  answer_to input = verdict_in (leg_numbered model input.trace input.cert.leg) input.cert
 
   -- what the certificate claims holds of the leg that it names
   abbrev pub HoldsInTrace : CheckInput → Type 0
   HoldsInTrace input =
-      (leg : Leg) × (leg_numbered input.trace input.cert.leg ≡ Some leg) × Holds model leg input.cert
+      (leg : Leg) × (leg_numbered model input.trace input.cert.leg ≡ Some leg) × Holds model leg input.cert
 
 -- ---- The text
 
