@@ -1,3 +1,14 @@
 pub mod Report
 pub mod Runs
 pub mod Answer
+pub use Rattle.lp_text.specs.CheckReading
+pub use Rattle.lp_text.specs.CheckTexts
+pub use Rattle.lp_text.specs.Faults
+pub use Rattle.lp_text.specs.Input
+pub use Rattle.lp_text.specs.Reading
+pub use Rattle.lp_text.specs.Traces
+pub use Rattle.lp_text.specs.Words
+pub use Rattle.lp_text.specs.Writing
+pub use Rattle.lp_replay.specs.Headline
+pub use Rattle.lp_replay.specs.Legs
+pub use Rattle.lp_replay.specs.Outcome

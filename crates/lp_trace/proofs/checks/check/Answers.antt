@@ -5,9 +5,9 @@ pub returns-in-Ok-clause-sound : goal.returns-in-Ok-clause-sound
 returns-in-Ok-clause-sound g c = λ accepted.
     (c.in_ok-input.input, c.in_ok-input.ensures.found.0, c.in_ok-input.ensures.found.1, c.in-Ok.ensures.sound accepted)
 
-pub returns-in-Err-clause-prefix : goal.returns-in-Err-clause-prefix
-returns-in-Err-clause-prefix g c =
+pub returns-clause-prefix : goal.returns-clause-prefix
+returns-clause-prefix g c =
     at_write c.in-Err.fault _ _ (λ h. (c.in_ok-input.input, c.in_ok-input.ensures.found.0, c.in_ok-input.ensures.found.1, h)) c.in-Err.ensures.prefix
 
-pub returns-in-Err-clause-trace : goal.returns-in-Err-clause-trace
-returns-in-Err-clause-trace g c = no_text c.in-Err.fault _ c.in-Err.ensures.late
+pub returns-clause-trace : goal.returns-clause-trace
+returns-clause-trace g c = no_text c.in-Err.fault _ c.in-Err.ensures.late
