@@ -14,13 +14,13 @@ use Rattle.lp_transition.specs.Sound.{IsSound}
 use Rattle.lp_transition.specs.Run.{Run, AreInRange, and_then, first_leg, movers, opened, opens, next_leg, reply, replies}
 use Rattle.lp_transition.proofs.WholeRun.{next_sound, start_sound}
 use Rattle.lp_cert.specs.Made.{legs, opened_legs}
-use Rattle.lp_replay.specs.Headline.{gone_over, replies_in}
+use Rattle.lp_replay.specs.Headline.{switched_groups, replies_in}
 use Rattle.lp_replay.proofs.GroupsInRange.{GroupsAreInRange, next_in_range, start_in_range}
 use Rattle.lp_replay.proofs.Moved.{control_moves_none, none_at_opening, past_movers, reply_names}
 
 -- the groups that replies name
 abbrev names : List Reply → List (List ℕ)
-names = map (λ reply. gone_over reply.what)
+names = map (λ reply. switched_groups reply.what)
 
 drop_whole : {A : Type 0} (xs ys : List A) → drop (length xs) (xs ++ ys) ≡ ys
 drop_whole [] ys = refl
@@ -98,7 +98,7 @@ module _ (model : Rules) (lawful : IsLawful model) where
             let f = movers longer (first_check model longer) in
             let same_end : suc n + 1 ≡ suc (length longer.events) = omega (arith, long) in
             ap names (drop-append-le at before r (omega (arith, h.numbered)))
-            ∙ (map-append (λ (reply : Reply). gone_over reply.what) (drop at before) r
+            ∙ (map-append (λ (reply : Reply). switched_groups reply.what) (drop at before) r
             ∙ (ap₂ (λ prefix last. prefix ++ last ∷ []) (told.moved ∙ before_same 0 (suc n) (omega arith)) (reply_names model leg event)
             ∙ (sym (map-range_with_len_more f 0 (suc n) (suc n) (omega arith)) ∙ ap (λ m. map f (range_with_len 0 m)) same_end)));
       })

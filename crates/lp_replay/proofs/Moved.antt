@@ -19,7 +19,7 @@ use Rattle.lp_transition.proofs.Prefix.{past_same}
 use Rattle.lp_transition.proofs.ScanGroups.{same_bool}
 use Rattle.lp_transition.proofs.Steps.{check_is, plain_refusal}
 use Rattle.lp_transition.proofs.Waiting.{allowed-is, come_at, comes_now}
-use Rattle.lp_replay.specs.Headline.{gone_over}
+use Rattle.lp_replay.specs.Headline.{switched_groups}
 
 -- ---- Moments
 
@@ -121,18 +121,18 @@ module _ (model : Rules) where
         (cases_Bool (is_control event))
 
   -- the groups that a reply names are those that go over at its event
-  switched_names : (groups : List ℕ) → gone_over (switched groups) ≡ groups
+  switched_names : (groups : List ℕ) → switched_groups (switched groups) ≡ groups
   switched_names [] = refl
   switched_names (group ∷ groups) = refl
 
-  done_names : (leg : Leg) (event : Event) → gone_over (done model leg event) ≡ movers (and_then leg event) (first_check model (and_then leg event)) (suc (length leg.events))
+  done_names : (leg : Leg) (event : Event) → switched_groups (done model leg event) ≡ movers (and_then leg event) (first_check model (and_then leg event)) (suc (length leg.events))
   done_names leg (Call t f) = sym (quiet leg (Call t f) (unchecked leg (Call t f) (λ group. call_no_check leg (Call t f) leg.bounds _ group _ t f)))
   done_names leg event = switched_names (movers (and_then leg event) (first_check model (and_then leg event)) (suc (length leg.events)))
 
-  pub reply_names : (leg : Leg) (event : Event) → gone_over (reply model leg event).what ≡ movers (and_then leg event) (first_check model (and_then leg event)) (suc (length leg.events))
+  pub reply_names : (leg : Leg) (event : Event) → switched_groups (reply model leg event).what ≡ movers (and_then leg event) (first_check model (and_then leg event)) (suc (length leg.events))
   unfolding reply
   reply_names leg event = by (refused_by model leg event) refl
     where
-      by : (why : Option Refusal) → refused_by model leg event ≡ why → gone_over (unless_why model why (done model leg event)) ≡ movers (and_then leg event) (first_check model (and_then leg event)) (suc (length leg.events))
+      by : (why : Option Refusal) → refused_by model leg event ≡ why → switched_groups (unless_why model why (done model leg event)) ≡ movers (and_then leg event) (first_check model (and_then leg event)) (suc (length leg.events))
       by None e = done_names leg event
       by (Some why) e = sym (refused_moves_none leg event why e)

@@ -1,4 +1,4 @@
--- The headline. For every list of events and every lawful model: in each leg every group went over at its first check that
+-- The headline. For every list of events and every lawful model: in each leg every group switched at its first check that
 -- the model allows; no legal schedule from that leg's opening moves any group, or completes the leg, earlier; each waiting
 -- group has a certificate that the checker accepts, refusing every check so far; and under a whole-call model each stay in
 -- the patched set runs one version.
@@ -21,10 +21,10 @@ use Rattle.lp_replay.specs.declared.outcome.Outcome.{Outcome}
 use Rattle.lp_replay.specs.Outcome.{run_of, IsOutcome}
 use Rattle.lp_text.specs.Traces.{TraceValue}
 
--- the groups that went over, as a reply names them
-abbrev pub gone_over : What → List ℕ
-gone_over (Switched groups) = groups
-gone_over _ = []
+-- the groups that switched, as a reply names them
+abbrev pub switched_groups : What → List ℕ
+switched_groups (Switched groups) = groups
+switched_groups _ = []
 
 -- the replies to the event that opened a leg and to each event of the leg; the reply to event 1 of the run is the first
 abbrev pub replies_in : Leg → List Reply → List Reply
@@ -33,10 +33,10 @@ replies_in leg replies = take (suc (length leg.events)) (drop (pred leg.number) 
 -- ---- One leg, with its first-check schedule. Its events are counted from 1, and 0 is its opening
 
 module _ (model : Rules) (leg : Leg) (first : Schedule) where
-  -- every group went over at its first check that the model allows: the replies name those whose moment it is
-  abbrev pub GoOverAtFirstChecks : List Reply → Type 0
-  GoOverAtFirstChecks replies =
-      map (λ reply. gone_over reply.what) (replies_in leg replies)
+  -- every group switched at its first check that the model allows: the replies name those whose moment it is
+  abbrev pub SwitchAtFirstChecks : List Reply → Type 0
+  SwitchAtFirstChecks replies =
+      map (λ reply. switched_groups reply.what) (replies_in leg replies)
       ≡ map (movers leg first) (range_with_len 0 (suc (length leg.events)))
 
   -- no legal schedule moves any group, or completes the leg, earlier: who waits waits under each of them, and where one of
@@ -77,7 +77,7 @@ pub record HeadlineOfLeg (model : Rules) (replies : List Reply) (leg : Leg) (end
   -- a leg has exactly one
   pub first : Schedule
   pub is_first : IsFirstCheck model leg first
-  pub first_checks : GoOverAtFirstChecks model leg first replies
+  pub first_checks : SwitchAtFirstChecks model leg first replies
   pub none_earlier : NoneIsEarlier model leg first end
   pub certified : AreCertified model leg first end
 

@@ -1,4 +1,4 @@
--- Replies as they are kept: each in short, and apart from them the groups of those events that took some over.
+-- Replies as they are kept: each in short, and apart from them the groups of those events that switched some.
 use Rattle.std.specs.Prelude.{ℕ, ◌+◌, List, [], ◌∷◌, drop}
 use Rattle.lp_transition.specs.declared.reply.What.{What}
 use Rattle.lp_transition.specs.declared.reply.What.TheVariants as what
@@ -22,7 +22,7 @@ what_of (Refused why) lists = what.Refused why
 abbrev pub reply_of : ShortReply → List (List ℕ) → Reply
 reply_of reply lists = record { what = what_of reply.what lists; completed = reply.completed }
 
--- how many lists it takes: one if it took groups over
+-- how many lists it takes: one if it switched groups
 abbrev pub lists_in : ShortWhat → ℕ
 lists_in Switched = 1
 lists_in _ = 0

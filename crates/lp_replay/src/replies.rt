@@ -8,7 +8,7 @@ use lp_transition::{GroupList, Refusal, Reply, What};
 use std::alloc::{AllocError, Global};
 use std::marker::Model;
 
-/// What an event did, without the groups that it took over.
+/// What an event did, without the groups that it switched.
 #[derive(Clone, Copy)]
 pub enum ShortWhat {
     Ran(Level),
@@ -25,7 +25,7 @@ pub struct ShortReply {
 }
 
 impl ShortReply {
-    /// How many lists of groups belong to it: one if the event took groups over.
+    /// How many lists of groups belong to it: one if the event switched groups.
     #[inline(always)]
     pub fn lists(&self) -> usize
         ensures value { result ≡ lists_in self.now.what }
@@ -40,11 +40,11 @@ impl ShortReply {
 
 /// A list of replies. Contracts see the list.
 ///
-/// A reply takes three bytes, and those that took groups over take the memory of these beside.
+/// A reply takes three bytes, and those that switched groups take the memory of these beside.
 #[derive(Drop)]
 pub struct ReplyList {
     short: Vec<ShortReply>,
-    /// The groups of each event that took some over, in the order of the events.
+    /// The groups of each event that switched some, in the order of the events.
     groups: Vec<GroupList>,
 }
 
@@ -122,7 +122,7 @@ impl ReplyList {
         self.len() == 0
     }
 
-    /// The replies in short, and the groups of those events that took some over.
+    /// The replies in short, and the groups of those events that switched some.
     pub fn parts(&self) -> (&[ShortReply], &[GroupList])
         ensures { replies_of result.0.now result.1.now ≡ self.now }
     {
@@ -140,7 +140,7 @@ pub fn groups_at(lists: &[GroupList], place: usize) -> &[GroupId]
     }
 }
 
-/// What an event did that took these groups over, if it did so.
+/// What an event did that switched these groups, if it did so.
 fn what_of(alloc: Global, what: ShortWhat, groups: &[GroupId]) -> Result<What, AllocError>
     ensures { IfOk result (λ found. found ≡ what_of what (group_numbers groups.now ∷ [])) }
 {

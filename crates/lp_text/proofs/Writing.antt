@@ -98,9 +98,9 @@ module _ {A : Type 0} (form : TraceForm) (symbols : List (List ℕ)) where
   unfolding patch_lines
   patches_at patches i d below = rw (drop-cons patches i d, add-one) (flat_map-append line_of _ _)
 
-  -- the same, where the patch was lent
-  pub patches_lent : (patches : List (Vec SymId A)) (i : ℕ) (d : Vec SymId A) (lent : List SymId) → lent ≡ d.items → d ≡ get_or patches i d → i < length patches → flat_map line_of (patch_lines form symbols (i + 1) (functions (drop i patches))) ≡ flat_map line_of (map (λ func. patch_words form (i + 1) (name symbols func)) lent) ++ flat_map line_of (patch_lines form symbols (i + 1 + 1) (functions (drop (i + 1) patches)))
-  patches_lent patches i d lent e h below =
+  -- the same, where the patch was borrowed
+  pub patches_borrowed : (patches : List (Vec SymId A)) (i : ℕ) (d : Vec SymId A) (borrowed : List SymId) → borrowed ≡ d.items → d ≡ get_or patches i d → i < length patches → flat_map line_of (patch_lines form symbols (i + 1) (functions (drop i patches))) ≡ flat_map line_of (map (λ func. patch_words form (i + 1) (name symbols func)) borrowed) ++ flat_map line_of (patch_lines form symbols (i + 1 + 1) (functions (drop (i + 1) patches)))
+  patches_borrowed patches i d borrowed e h below =
       patches_at patches i d below ∙ ap (λ p. flat_map line_of (map (λ func. patch_words form (i + 1) (name symbols func)) p) ++ flat_map line_of (patch_lines form symbols (i + 1 + 1) (functions (drop (i + 1) patches)))) (sym (e ∙ ap (λ v. v.items) h))
 
   pub patches_end : (patches : List (Vec SymId A)) (i n : ℕ) → length patches ≤ i → flat_map line_of (patch_lines form symbols n (functions (drop i patches))) ≡ []

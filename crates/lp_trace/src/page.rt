@@ -78,12 +78,12 @@ impl Page {
         if self.hold(bytes) {
             return Ok(());
         }
-        self.put_over(writer, bytes)
+        self.put_flushed(writer, bytes)
     }
 
     /// The same, where there is no room.
     #[inline(never)]
-    fn put_over<W: Write>(&mut self, writer: &mut W, bytes: &[u8]) -> Result<(), WriteFault>
+    fn put_flushed<W: Write>(&mut self, writer: &mut W, bytes: &[u8]) -> Result<(), WriteFault>
         ensures { Puts (W.contents writer.old) (W.contents writer.new) self.old.held.items self.new.held.items result bytes.now }
     {
         self.flush(writer)?;

@@ -169,7 +169,7 @@ fn put_replies<W: Write>(
     Ok(())
 }
 
-/// Puts the line of the reply to the event of a number, which took these groups over if any.
+/// Puts the line of the reply to the event of a number, which switched these groups if any.
 #[inline(never)]
 fn put_event<W: Write>(
     page: &mut Page,
@@ -199,7 +199,7 @@ fn put_event<W: Write>(
     }
 }
 
-/// Puts the line of an event at which these groups went over.
+/// Puts the line of an event at which these groups switched.
 fn put_over<W: Write>(
     page: &mut Page,
     writer: &mut W,

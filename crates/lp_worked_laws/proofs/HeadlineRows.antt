@@ -25,7 +25,7 @@ use Rattle.lp_transition.proofs.WholeRun.{run_sound, start_sound}
 use Rattle.lp_cert.specs.declared.leg_end.LegEnd.{LegEnd}
 use Rattle.lp_cert.specs.Made.{lines, completion, legs}
 use Rattle.lp_replay.specs.declared.outcome.Outcome.{Outcome}
-use Rattle.lp_replay.specs.Headline.{Headline, HeadlineOfLeg, GoOverAtFirstChecks, gone_over, replies_in}
+use Rattle.lp_replay.specs.Headline.{Headline, HeadlineOfLeg, SwitchAtFirstChecks, switched_groups, replies_in}
 use Rattle.lp_worked_laws.specs.HeadlineRows.{HeadlineRefuses, of_task_1, leaves_twice, sleeps_above_a_changed_function, forks_and_leaves, dies_before_a_walk}
 use Rattle.lp_replay.specs.Outcome.{IsOutcome}
 use Rattle.lp_replay.proofs.Headline.{headline_holds}
@@ -64,8 +64,8 @@ module _ (events : List Event) (given : List Reply) (end : LegEnd) (h : Headline
   computed =
       fun_ext (λ group. one_first_check rules leg hybrid_lawful (opens_soundly events) h.first first h.is_first (first_check_is rules leg) group)
 
-  named : map (λ (reply : Reply). gone_over reply.what) (replies_in leg given) ≡ map (movers leg first) (range_with_len 0 (suc (length leg.events)))
-  named = subst (λ s. GoOverAtFirstChecks rules leg s given) computed h.first_checks
+  named : map (λ (reply : Reply). switched_groups reply.what) (replies_in leg given) ≡ map (movers leg first) (range_with_len 0 (suc (length leg.events)))
+  named = subst (λ s. SwitchAtFirstChecks rules leg s given) computed h.first_checks
 
   is_complete : (at : ℕ) → end.completed ≡ Some at → (k : ℕ) × (at ≡ leg.number + k) × IsTrue (complete rules leg first k)
   is_complete at e =

@@ -52,7 +52,7 @@ printed model run =
 
 -- under the five models that the rows speak of
 pub record CertificatesCompute (hybrid leave_kernel all_at_once immediate process_group : Rules) : Type 0 where
-  -- nothing was refused before it went over
+  -- nothing was refused before it switched
   pub no_check_before :
       printed hybrid leaves_the_kernel
       ≡ codes "floor 3 1 4" ∷ []

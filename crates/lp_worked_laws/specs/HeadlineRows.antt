@@ -66,7 +66,7 @@ leaves_twice = of_task_1 (Enable ∷ enter 1 ∷ exit 1 ∷ enter 1 ∷ exit 1 �
 abbrev pub sleeps_above_a_changed_function : Run
 sleeps_above_a_changed_function = of_task_1 (enter 1 ∷ call 1 a ∷ call 1 c ∷ sleep 1 ∷ Enable ∷ Walk ∷ [])
 
--- a task that waits forks, and goes over; its child doesn't
+-- a task that waits forks, and switches; its child doesn't
 abbrev pub forks_and_leaves : Run
 forks_and_leaves = of_task_1 (enter 1 ∷ Enable ∷ fork 1 2 Own ∷ exit 1 ∷ [])
 
@@ -78,7 +78,7 @@ dies_before_a_walk = of_task_1 (enter 1 ∷ Enable ∷ die 1 ∷ Walk ∷ [])
 
 -- under the one model that the rows speak of
 pub record HeadlineRefuses (hybrid : Rules) : Type 0 where
-  -- the group goes over at its first check, event 3, and not at its second
+  -- the group switches at its first check, event 3, and not at its second
   pub second_allowed_check :
       TellsApart hybrid leaves_twice
       (answer (done ∷ done ∷ complete (over 1) ∷ done ∷ done ∷ []) (completed 1 2 3) 0)
@@ -88,7 +88,7 @@ pub record HeadlineRefuses (hybrid : Rules) : Type 0 where
       TellsApart hybrid sleeps_above_a_changed_function
       (answer (done ∷ ran 0 ∷ ran 0 ∷ done ∷ done ∷ done ∷ []) (incomplete 5 1 6 (Hold (group_id 1) (task 1) 2 6 6 ∷ [])) 1)
       (answer (done ∷ ran 0 ∷ ran 0 ∷ done ∷ done ∷ complete (over 1) ∷ []) (completed 5 5 6) 1)
-  -- the child is born unpatched and waits, so the leg isn't complete when its parent goes over
+  -- the child is born unpatched and waits, so the leg isn't complete when its parent switches
   pub child_born_on_target :
       TellsApart hybrid forks_and_leaves
       (answer (done ∷ done ∷ done ∷ over 1 ∷ []) (incomplete 2 2 4 (Born (group_id 2) (task 1) 3 ∷ [])) 0)

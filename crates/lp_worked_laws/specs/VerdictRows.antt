@@ -38,7 +38,7 @@ abbrev pub is_stop : CheckKind → Bool
 is_stop Stop = true
 is_stop _ = false
 
--- Linux livepatch: a task goes over at kernel exit, at the idle point, or asleep when no function on its stack changes
+-- Linux livepatch: a task switches at kernel exit, at the idle point, or asleep when no function on its stack changes
 abbrev pub hybrid : Rules
 hybrid =
     rules_of (record {
@@ -50,7 +50,7 @@ hybrid =
       whole_call = true;
     })
 
--- Ksplice: all tasks go over together while all CPUs are stopped
+-- Ksplice: all tasks switch together while all CPUs are stopped
 abbrev pub all_at_once : Rules
 all_at_once =
     rules_of (record {
@@ -62,7 +62,7 @@ all_at_once =
       whole_call = true;
     })
 
--- the threads of a process go over together
+-- the threads of a process switch together
 abbrev pub process_group : Rules
 process_group =
     rules_of (record {
@@ -135,11 +135,11 @@ sleeps_on = enter 1 ∷ call 1 a ∷ sleep 1 ∷ Enable ∷ Walk ∷ Walk ∷ []
 abbrev pub stops_twice : List Event
 stops_twice = enter 2 ∷ call 2 a ∷ Enable ∷ StopAll ∷ ret 2 ∷ StopAll ∷ []
 
--- a task that waits forks, and goes over; its child doesn't
+-- a task that waits forks, and switches; its child doesn't
 abbrev pub forks : List Event
 forks = enter 1 ∷ Enable ∷ Walk ∷ fork 1 2 Own ∷ exit 1 ∷ call 2 a ∷ sleep 2 ∷ Walk ∷ []
 
--- a transition is turned round after a task went over, which sleeps in a changed function
+-- a transition is turned round after a task switched, which sleeps in a changed function
 abbrev pub reverses : List Event
 reverses = Enable ∷ enter 1 ∷ exit 1 ∷ enter 1 ∷ call 1 a ∷ sleep 1 ∷ Reverse ∷ Walk ∷ []
 

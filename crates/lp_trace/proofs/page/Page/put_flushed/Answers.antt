@@ -1,7 +1,7 @@
 use Rattle.std.proofs.Common.{◌++◌, ◌∙◌, refl}
 use Rattle.lp_text.proofs.Writing.{prefix_more}
 use Rattle.lp_trace.proofs.Pages.{puts_err, written_over}
-use Rattle.lp_trace.proofs.page.Page.put_over.Goals as goal
+use Rattle.lp_trace.proofs.page.Page.put_flushed.Goals as goal
 
 pub returns-in_err-flush : goal.returns-in_err-flush
 returns-in_err-flush g c =
