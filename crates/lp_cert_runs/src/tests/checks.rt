@@ -134,7 +134,6 @@ fn faults_have_numbers(rt: HostRuntime) {
 
 #[test]
 fn laws_are_called(_rt: HostRuntime) {
-    laws::worked_certificates();
     laws::accepted_certificates_hold::<Hybrid>();
     laws::made_certificates_are_accepted::<Hybrid>();
 }
