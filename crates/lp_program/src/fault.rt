@@ -1,10 +1,13 @@
 //! How the program ends where it has not done what it was asked.
+ghost use Rattle.std.specs.Prelude.{◌≡◌, OnOk};
+ghost use Rattle.std.specs.Io.KnownBytes.{Appends};
+ghost use Rattle.lp_program.specs.Faults.{line_for, of_run, of_words, status_of};
 
 use crate::words::WordsFault;
+use itoa::Buffer;
 use lp_trace::{RunFault, TraceFault};
 use std::alloc::AllocError;
-use std::io;
-use std::process::ExitCode;
+use std::io::{self, Write};
 
 /// Why the program ends with a status that isn't 0.
 #[derive(Clone, Copy, Debug, PartialEq, Eq)]
@@ -21,11 +24,13 @@ pub enum Fault {
     Trace(TraceFault),
     /// The certificate was refused, as standard output says.
     Refused,
-    /// A growth was refused.
+    /// An allocation failed.
     NoMemory,
 }
 
 impl From<WordsFault> for Fault {
+    ghost from_gives = { λ fault e. e ≡ of_words fault };
+
     fn from(fault: WordsFault) -> Fault {
         match fault {
             WordsFault::Usage => Fault::Usage,
@@ -36,6 +41,8 @@ impl From<WordsFault> for Fault {
 }
 
 impl From<RunFault> for Fault {
+    ghost from_gives = { λ fault e. e ≡ of_run fault };
+
     fn from(fault: RunFault) -> Fault {
         match fault {
             RunFault::Read(_) => Fault::Read,
@@ -52,7 +59,7 @@ impl From<AllocError> for Fault {
     }
 }
 
-/// A fault of the words: one of them isn't text, or a growth was refused.
+/// A fault of the words: one of them isn't text, or an allocation failed.
 impl From<io::Error> for Fault {
     fn from(error: io::Error) -> Fault {
         match error.kind() {
@@ -64,7 +71,9 @@ impl From<io::Error> for Fault {
 
 impl Fault {
     /// The exit status.
-    fn status(self) -> u8 {
+    pub fn status(self) -> u8
+        ensures { result ≡ status_of self }
+    {
         match self {
             Fault::Read | Fault::Write => 1,
             Fault::Usage | Fault::UnknownModel => 2,
@@ -74,20 +83,31 @@ impl Fault {
         }
     }
 
-    /// Says on standard error what is wrong, unless standard output does, and gives the exit status.
-    pub fn tell(self, rt: &impl Eprint) -> ExitCode {
-        let _ = match self {
-            Fault::Read => eprintln!(rt; "lpt: read fault"),
-            Fault::Write => eprintln!(rt; "lpt: write fault"),
-            Fault::Usage => eprintln!(rt; "lpt: usage"),
-            Fault::UnknownModel => eprintln!(rt; "lpt: unknown model"),
-            Fault::Trace(fault) => {
-                let number = fault.cause.number();
-                eprintln!(rt; "lpt: line {}: L{number}", fault.line)
-            }
+    /// Writes the line that says what is wrong; none where standard output does. Never allocates.
+    pub fn tell<W: Write>(self, writer: &mut W) -> io::Result<()>
+        ensures { OnOk result (Appends (W.contents writer.old) (W.contents writer.new) (line_for self)) }
+    {
+        match self {
+            Fault::Read => writer.write_all(b"lpt: read fault\n"),
+            Fault::Write => writer.write_all(b"lpt: write fault\n"),
+            Fault::Usage => writer.write_all(b"lpt: usage\n"),
+            Fault::UnknownModel => writer.write_all(b"lpt: unknown model\n"),
+            Fault::Trace(fault) => tell_line(fault, writer),
             Fault::Refused => Ok(()),
-            Fault::NoMemory => eprintln!(rt; "lpt: out of memory"),
-        };
-        ExitCode::from(self.status())
+            Fault::NoMemory => writer.write_all(b"lpt: out of memory\n"),
+        }
     }
+}
+
+/// Writes which line of the input is at fault, and why.
+fn tell_line<W: Write>(fault: TraceFault, writer: &mut W) -> io::Result<()>
+    ensures { OnOk result (Appends (W.contents writer.old) (W.contents writer.new) (line_for (Fault.Trace fault))) }
+{
+    let mut line = Buffer::new();
+    let mut cause = Buffer::new();
+    writer.write_all(b"lpt: line ")?;
+    writer.write_all(line.format(fault.line).as_bytes())?;
+    writer.write_all(b": L")?;
+    writer.write_all(cause.format(fault.cause.number()).as_bytes())?;
+    writer.write_all(b"\n")
 }
