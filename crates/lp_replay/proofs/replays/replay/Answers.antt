@@ -1,7 +1,6 @@
-use Rattle.std.proofs.Common.{◌≡◌, IsTrue, ◌∙◌}
+use Rattle.std.proofs.Common.{◌≡◌, IsTrue}
 use Rattle.lp_transition.specs.Run.{first_leg, replies}
 use Rattle.lp_transition.specs.Stays.{mixed_count, stay_count}
-use Rattle.lp_transition.proofs.LawProofs.{mixes_no_stay}
 use Rattle.lp_text.specs.Traces.{IsTrace}
 use Rattle.lp_replay.specs.declared.outcome.Outcome.{Outcome}
 use Rattle.lp_replay.specs.Headline.{Headline, whole_run}

@@ -3,7 +3,7 @@ use Rattle.lp_checker.specs.declared.fault.CertFault.{CertFault}
 use Rattle.lp_text.specs.Words.{line_of}
 use Rattle.lp_text.specs.Writing.{AppendsPrefix}
 use Rattle.lp_text.proofs.CheckInputs.{none_is}
-use Rattle.lp_trace.specs.Answer.{answer_to, answer_words}
+use Rattle.lp_trace.specs.Answer.{answer_words}
 use Rattle.lp_trace.proofs.checks.answer_on.Goals as goal
 
 pub returns-in-Ok-clause-sound : goal.returns-in-Ok-clause-sound
