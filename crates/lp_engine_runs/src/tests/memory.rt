@@ -26,29 +26,25 @@ fn patch_a(alloc: Global) -> Result<PatchStack, PatchFault> {
     PatchStack::new(alloc, sets)
 }
 
-/// `patch_a`, made once more where memory was refused.
-fn patched_a(alloc: Global) -> Result<PatchStack, PatchFault> {
-    patch_a(alloc).or_else(|_| patch_a(alloc))
-}
-
-/// The engine of these tasks, where memory was refused before.
-fn booted_again<M: Consistency>(
+/// The engine of these tasks, after one patch of function `a`, in a box: docs/GATE.md says why.
+fn booted_over_a<M: Consistency>(
     alloc: Global,
     model: M,
     boots: &[(TaskId, Class)],
-) -> Result<Core<M>, Fail> {
-    Ok(Core::boot(alloc, model, patch_a(alloc)?, boots)?)
+) -> Result<Box<Core<M>>, BootFault> {
+    let patches = patch_a(alloc).map_err(|_| BootFault::NoMemory)?;
+    let core = Core::boot(alloc, model, patches, boots)?;
+    Ok(Box::new(alloc, core)?)
 }
 
-/// The engine of these tasks, after one patch of function `a`. Where memory is refused, nothing was
-/// made, and the same call makes it.
+/// The same. Where memory is refused, nothing was made, and the same call makes it.
 fn booted<M: Consistency>(
     alloc: Global,
     model: M,
     boots: &[(TaskId, Class)],
-) -> Result<Core<M>, Fail> {
-    match Core::boot(alloc, model, patched_a(alloc)?, boots) {
-        Err(BootFault::NoMemory) => booted_again(alloc, model, boots),
+) -> Result<Box<Core<M>>, Fail> {
+    match booted_over_a(alloc, model, boots) {
+        Err(BootFault::NoMemory) => Ok(booted_over_a(alloc, model, boots)?),
         answer => Ok(answer?),
     }
 }
@@ -208,7 +204,7 @@ fn exits_and_idle_points_go_on_after_a_refused_growth(rt: HostRuntime) -> Result
 }
 
 /// The engine of tasks 1 to 3 after an enabling, when task 2 has gone over.
-fn one_over(rt: &impl Abort, alloc: Global) -> Result<Core<Hybrid>, Fail> {
+fn one_over(rt: &impl Abort, alloc: Global) -> Result<Box<Core<Hybrid>>, Fail> {
     let boots = [normal(1), normal(2), normal(3)];
     let mut core = booted(alloc, Hybrid, &boots)?;
     for event in [Event::Enable, Event::Enter(TWO), Event::Exit(TWO)] {
