@@ -1,5 +1,5 @@
 //! What no row of lp_rows can say: calls of an engine by themselves, its limits, events that no text
-//! has, the laws at each model, and calls after a refused growth.
+//! has, the laws at each model, and calls after a failed allocation.
 ghost use Rattle.std.specs.Prelude.{IfOk};
 ghost use Rattle.lp_patch.specs.Patches.{ShareSymbols};
 
@@ -41,14 +41,14 @@ const NINE: TaskId = TaskId(9);
 enum Said {
     Ran(u8),
     Done,
-    /// One group goes over.
+    /// One group switches.
     Over(u16),
-    /// Several groups go over: the first of them, and how many.
+    /// Several groups switch: the first of them, and how many.
     OverAll(u16, usize),
     Refused(u8),
     /// The transition is complete from here on, with no group going over.
     Complete,
-    /// One group goes over, and the transition is complete.
+    /// One group switches, and the transition is complete.
     OverLast(u16),
 }
 

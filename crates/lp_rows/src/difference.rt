@@ -39,8 +39,8 @@ fn common(wanted: &[u8], given: &[u8]) -> usize {
 
 /// The line of a text in which the byte of this place stands.
 fn line_at(alloc: Global, text: &[u8], place: usize) -> Result<String, AllocError> {
-    let front = text.get(..place).unwrap_or(text);
-    let begin = front
+    let prefix = text.get(..place).unwrap_or(text);
+    let begin = prefix
         .iter()
         .rposition(|byte| *byte == b'\n')
         .map_or(0, |end| end.saturating_add(1));

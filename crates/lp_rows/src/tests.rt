@@ -1,5 +1,5 @@
 //! What no row can say: streams that fail, limits, parts without a spelling, numbers past every text,
-//! what an engine's makers give, and calls after a refused growth.
+//! what an engine's makers give, and calls after a failed allocation.
 mod again;
 mod checks;
 mod faults;

@@ -15,7 +15,7 @@ pub enum Trouble {
     File(io::Error),
     /// A line of a data file says nothing that a row has.
     NoRow,
-    /// A growth was refused.
+    /// An allocation failed.
     NoMemory,
 }
 

@@ -87,7 +87,7 @@ fn all_but<M: Consistency>(
 struct Shown {
     verdicts: usize,
     completed: bool,
-    /// The group that goes over, if it is one alone.
+    /// The group that switches, if it is one alone.
     over: Option<GroupId>,
 }
 

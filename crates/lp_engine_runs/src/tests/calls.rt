@@ -86,7 +86,7 @@ fn a_walk_is_taken_by_its_verdicts(rt: HostRuntime) -> Result<(), Fail> {
     Ok(())
 }
 
-/// The engine of tasks 1 and 2 after an enabling, when task 1 has gone over.
+/// The engine of tasks 1 and 2 after an enabling, when task 1 has switched.
 fn one_over(alloc: Global) -> Result<Box<Core<Hybrid>>, Fail> {
     two_tasks_after(alloc, &[Event::Enable, Event::Enter(ONE), Event::Exit(ONE)])
 }

@@ -1,4 +1,4 @@
-//! An engine for calls after a refused growth, each call made again where memory is refused.
+//! An engine for calls after a failed allocation, each call made again where an allocation fails.
 use super::*;
 use lp_patch::{PatchFault, PatchSet, PatchStack};
 use lp_symbols::SymFault;
@@ -11,7 +11,7 @@ fn name_a(alloc: Global) -> Result<Symbols, SymFault> {
     Ok(symbols)
 }
 
-/// A patch of function `a`. The fault is NoMemory also where the name wants for memory.
+/// A patch of function `a`. The fault is NoMemory also where the name gets no memory.
 fn patch_of_a(alloc: Global) -> Result<PatchStack, PatchFault> {
     let symbols = name_a(alloc).map_err(|_| PatchFault::NoMemory)?;
     let mut sets = Vec::new(alloc);
@@ -26,7 +26,7 @@ fn booted_over_a(alloc: Global) -> Result<Box<Core<Hybrid>>, BootFault> {
     Ok(Box::new(alloc, core)?)
 }
 
-/// The same. Where memory is refused, nothing was made, and the same call makes it.
+/// The same. Where an allocation fails, nothing was made, and the same call makes it.
 pub(super) fn booted_again(alloc: Global) -> Result<Box<Core<Hybrid>>, Fail> {
     match booted_over_a(alloc) {
         Err(BootFault::NoMemory) => Ok(booted_over_a(alloc)?),

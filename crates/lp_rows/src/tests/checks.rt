@@ -86,7 +86,7 @@ fn answer_to<M: Consistency>(
     }
 }
 
-/// A task sleeps in a changed function during a walk, and goes over when it leaves the kernel. The
+/// A task sleeps in a changed function during a walk, and switches when it leaves the kernel. The
 /// fourth event opens the leg.
 const SLEEPS: &str =
     "boot 1 normal / enter 1 / call 1 a / sleep 1 / enable / walk / wake 1 / ret 1 / exit 1";

@@ -61,7 +61,7 @@ fn long_name(alloc: Global) -> Result<String, Fail> {
     Ok(name)
 }
 
-/// The report under this name of a walk by which all tasks go over.
+/// The report under this name of a walk by which all tasks switch.
 fn all_over(alloc: Global, name: &str) -> Result<String, Fail> {
     let mut wanted = format!(in alloc; "lpreport 1\nmodel {name}\n1 done\n2 over")?;
     for group in 1..=65_535 {

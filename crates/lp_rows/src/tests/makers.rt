@@ -86,7 +86,7 @@ fn now(alloc: Global, maker: &Maker) -> Result<Option<(u64, Level, Option<u64>, 
     Ok(maker.current(alloc)?.map(|end| (end.opened, end.target, end.completed, end.certs.len())))
 }
 
-/// Whether a maker has the child's reasons, and none of its parent, which went over.
+/// Whether a maker has the child's reasons, and none of its parent, which switched.
 fn tells_of_the_child(alloc: Global, maker: &Maker) -> Result<bool, Fail> {
     let reasons = [busy(1, 1, 3), born(2, 1, 4), hold(2, 2, 6, 8, 8)];
     let waiting = maker.waiting(alloc, GroupId(2))?;
@@ -106,7 +106,7 @@ fn a_child_waits_with_its_parents_reasons(rt: HostRuntime) -> Result<(), Fail> {
     Ok(())
 }
 
-/// A transition in which one task goes over and one waits, turned round, with a walk behind it.
+/// A transition in which one task switches and one waits, reversed, with a walk behind it.
 const TURNED: &str =
     "boot 1 normal / boot 2 normal / enable / enter 1 / exit 1 / enter 1 / call 1 a / sleep 1 / reverse / walk";
 
@@ -134,7 +134,7 @@ fn a_reversal_ends_a_leg(rt: HostRuntime) -> Result<(), Fail> {
     Ok(())
 }
 
-/// A task is on a CPU during two walks, goes over at a third, and there is one more.
+/// A task is on a CPU during two walks, switches at a third, and there is one more.
 const IS_WALKED: &str =
     "boot 1 normal / enter 1 / call 1 c / enable / walk / walk / sleep 1 / walk / walk";
 
@@ -181,7 +181,7 @@ fn lists_lend_their_lines(rt: HostRuntime) -> Result<(), Fail> {
     Ok(())
 }
 
-/// A task is held by a frame at a walk, and on a CPU at two more; it forks and goes over, and the
+/// A task is held by a frame at a walk, and on a CPU at two more; it forks and switches, and the
 /// child is on a CPU at the last walk.
 const EACH_REASON: &str =
     "boot 1 normal / enter 1 / call 1 a / sleep 1 / enable / walk / wake 1 / ret 1 / walk / walk / fork 1 2 own / exit 1 / walk";
@@ -232,7 +232,7 @@ fn outcome(alloc: Global) -> Result<Box<Outcome>, Fail> {
     Ok(Box::new(alloc, replay(alloc, Hybrid, &trace)?)?)
 }
 
-/// At which events a group goes over, a call runs, and the transition is complete.
+/// At which events a group switches, a call runs, and the transition is complete.
 fn events_of(alloc: Global, outcome: &Outcome) -> Result<[Option<usize>; 3], Fail> {
     let replies = outcome.replies.to_vec(alloc)?;
     let is_over = |what: &What| matches!(what, What::Switched(groups) if groups.len() == 1);

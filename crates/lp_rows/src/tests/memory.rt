@@ -1,4 +1,4 @@
-//! A growth that is refused: nothing is written, and the same check succeeds after it.
+//! An allocation that fails: nothing is written, and the same check succeeds after it.
 //!
 //! `scripts/refuse-memory` runs this test with each allocation refused in turn.
 use super::*;

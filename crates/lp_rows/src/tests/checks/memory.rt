@@ -1,4 +1,4 @@
-//! A growth that is refused: the same check succeeds after it.
+//! An allocation that fails: the same check succeeds after it.
 //!
 //! `scripts/refuse-memory` runs this test with each allocation refused in turn.
 use super::*;
@@ -7,7 +7,7 @@ use lp_model::ForkKind;
 use lp_transition::Halt;
 
 /// The events up to the opening of a leg, and those of the leg, in which a task that waits forks and
-/// goes over; its child doesn't.
+/// switches; its child doesn't.
 const BEFORE: [Event; 2] = [Event::Enter(TaskId(1)), Event::Enable];
 
 const AFTER: [Event; 6] = [
@@ -19,7 +19,7 @@ const AFTER: [Event; 6] = [
     Event::Walk,
 ];
 
-/// Gives these events to an engine, each again where memory is refused.
+/// Gives these events to an engine, each again where an allocation fails.
 fn give_again(alloc: Global, core: &mut Core<Hybrid>, events: &[Event]) -> Result<(), Fail> {
     for event in events {
         match core.step(alloc, *event) {
@@ -35,7 +35,7 @@ fn standing(alloc: Global, core: &Core<Hybrid>) -> Result<Box<Opening>, AllocErr
     Ok(Box::new(alloc, core.standing(alloc)?)?)
 }
 
-/// The opening of the leg of a child that waits, each call made again where memory is refused.
+/// The opening of the leg of a child that waits, each call made again where an allocation fails.
 fn opened_again(alloc: Global) -> Result<Box<Opening>, Fail> {
     let mut core = booted_again(alloc)?;
     give_again(alloc, &mut core, &BEFORE)?;
@@ -68,7 +68,7 @@ const WRONG: Judged = Judged(
     Err(CertFault::NoBlame(8)),
 );
 
-/// Whether a certificate of the child has its answer, each call made again where memory is refused.
+/// Whether a certificate of the child has its answer, each call made again where an allocation fails.
 fn is_answered(
     alloc: Global,
     opening: &Opening,

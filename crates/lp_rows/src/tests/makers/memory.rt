@@ -1,4 +1,4 @@
-//! A growth that is refused: the certificates stay the same, and the same call succeeds after it.
+//! An allocation that fails: the certificates stay the same, and the same call succeeds after it.
 //!
 //! `scripts/refuse-memory` runs these tests with each allocation refused in turn.
 use super::*;
@@ -12,7 +12,7 @@ const ONE: TaskId = TaskId(1);
 
 const TWO: TaskId = TaskId(2);
 
-/// A task that waits forks, and goes over; its child doesn't. The transition is turned round, is
+/// A task that waits forks, and switches; its child doesn't. The transition is reversed, is
 /// complete, and another begins, which isn't.
 const EVENTS: [Event; 15] = [
     Event::Enter(ONE),
@@ -32,7 +32,7 @@ const EVENTS: [Event; 15] = [
     Event::Walk,
 ];
 
-/// Engine and maker for one event. Where the maker is refused memory, the certificates are as they
+/// Engine and maker for one event. Where the maker gets no memory, the certificates are as they
 /// were, and the same call makes room.
 fn feed_again(
     rt: &impl Abort,
@@ -60,7 +60,7 @@ fn new_maker(alloc: Global) -> Result<Box<Maker>, AllocError> {
     Ok(Box::new(alloc, Maker::new(alloc)?)?)
 }
 
-/// The maker after all events, each call made again where memory is refused.
+/// The maker after all events, each call made again where an allocation fails.
 fn made_again(rt: &impl Abort, alloc: Global) -> Result<Box<Maker>, Fail> {
     let mut core = booted_again(alloc)?;
     let mut maker = new_maker(alloc).or_else(|_| new_maker(alloc))?;
@@ -70,7 +70,7 @@ fn made_again(rt: &impl Abort, alloc: Global) -> Result<Box<Maker>, Fail> {
     Ok(maker)
 }
 
-/// Whether a maker gives what the definitions give, asked again where memory is refused.
+/// Whether a maker gives what the definitions give, asked again where an allocation fails.
 fn gives_worked(alloc: Global, maker: &Maker) -> Result<bool, Fail> {
     let given = given_by(alloc, maker).or_else(|_| given_by(alloc, maker))?;
     Ok(given.is_worked())
@@ -84,7 +84,7 @@ fn certificates_are_made_after_a_refused_growth(rt: HostRuntime) -> Result<(), F
     Ok(())
 }
 
-/// Whether a group waits with these reasons, asked again where memory is refused.
+/// Whether a group waits with these reasons, asked again where an allocation fails.
 fn waits_with(alloc: Global, maker: &Maker, group: u16, lines: &[Line]) -> Result<bool, Fail> {
     let group = GroupId(group);
     let found = maker
