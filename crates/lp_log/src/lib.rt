@@ -16,3 +16,4 @@ pub use entry::Entry;
 pub use journal::Journal;
 pub use log::{Log, Opened};
 pub use seat::{Cause, Commanded, Control, Seat, Submitted, Turned};
+pub use sender::owner;

@@ -122,7 +122,7 @@ impl<M: Consistency> Log<M> {
     /// Gives the engine up, and hands out the journal. Never allocates.
     pub fn into_journal(self) -> Journal
         ensures value { result ≡ self.journal }
-        ensures replayed { IsReplayed M.rules self.journal }
+        ensures replayed { IsReplayed M.rules result }
     {
         let Self {
             core: _,

@@ -43,7 +43,8 @@ impl<M: Consistency + Sync> Log<M> {
         ensures control { IfOk result (λ done. done.control ≡ control ++ next_entry self.old.journal.entries event done.reply ∷ []) }
         ensures replayed { IsReplayed M.rules self.old.journal }
         ensures left { OnOk result (length self.old.journal.entries < 1000000) }
-        ensures turned { IfErr result (λ turned. (turned.part ≡ control) × AreSame self.old self.new) }
+        ensures turned { IfErr result (λ turned. turned.part ≡ control) }
+        ensures unchanged { OnErr result (AreSame self.old self.new) }
         ensures not_yours { IfErr result (λ turned. (turned.cause ≡ NotYours) ↔ (owner event ≢ None)) }
         ensures full { IfErr result (λ turned. (turned.cause ≡ Full) ↔ ((owner event ≡ None) × (1000000 ≤ length self.old.journal.entries))) }
     {

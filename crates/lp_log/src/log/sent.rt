@@ -36,7 +36,8 @@ impl<M: Consistency> Log<M> {
         ensures child { IfOk result (λ done. done.child ≡ child_seat event done.reply.what) }
         ensures replayed { IsReplayed M.rules self.old.journal }
         ensures left { OnOk result (length self.old.journal.entries < 1000000) }
-        ensures turned { IfErr result (λ turned. (turned.part ≡ seat) × AreSame self.old self.new) }
+        ensures turned { IfErr result (λ turned. turned.part ≡ seat) }
+        ensures unchanged { OnErr result (AreSame self.old self.new) }
         ensures not_yours { IfErr result (λ turned. (turned.cause ≡ NotYours) ↔ (owner event ≢ Some seat.task)) }
         ensures full { IfErr result (λ turned. (turned.cause ≡ Full) ↔ ((owner event ≡ Some seat.task) × (1000000 ≤ length self.old.journal.entries))) }
     {
