@@ -13,6 +13,7 @@ mod start;
 use crate::outcome::Outcome;
 use crate::trace::Trace;
 pub use fault::ReplayFault;
+pub use start::stack;
 pub(crate) use leg::{TraceLeg, leg_numbered};
 use lp_model::Consistency;
 use lp_stays::StayCount;

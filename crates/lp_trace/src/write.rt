@@ -27,7 +27,7 @@ pub enum WriteFault {
 }
 
 /// Writes all of the bytes.
-pub(crate) fn put<W: Write>(writer: &mut W, bytes: &[u8]) -> Result<(), WriteFault>
+pub fn put<W: Write>(writer: &mut W, bytes: &[u8]) -> Result<(), WriteFault>
     ensures { Writes (W.contents writer.old) (W.contents writer.new) result bytes.now }
 {
     let mut rest = bytes;
