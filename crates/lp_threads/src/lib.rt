@@ -2,6 +2,7 @@
 #![tactic(auto)]
 
 mod fault;
+mod in_order;
 mod play;
 mod playing;
 mod report;
@@ -9,4 +10,5 @@ mod returns;
 mod scripts;
 
 pub use fault::ThreadsFault;
+pub use in_order::play_in_order;
 pub use playing::threads;

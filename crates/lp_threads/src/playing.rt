@@ -1,15 +1,20 @@
 //! A trace, played by threads.
+ghost use Rattle.std.specs.Prelude.{IfOk, OnOk};
+ghost use Rattle.std.specs.Io.KnownBytes.{Appends};
+ghost use Rattle.lp_trace.specs.Runs.{ReadsTrace};
+ghost use Rattle.lp_threads.specs.Plays.{IsPlay, play_text};
+ghost use Rattle.lp_threads.specs.declared.report.Play.{Play};
 
 use crate::ThreadsFault;
 use crate::play::{play_control, play_seats};
-use crate::report::write_report;
+use crate::report::{Play, write_play};
 use crate::returns::Returns;
 use crate::scripts::Scripts;
 use lp_desk::{Desk, Launched};
 use lp_log::{Control, Seat};
 use lp_model::Consistency;
 use lp_scan::ScanGate;
-use lp_trace::{read_trace, stack};
+use lp_trace::{Trace, read_trace, stack};
 use std::alloc::{AllocError, Global};
 use std::io::{Read, Write};
 use std::sync::{Mutex, Wait};
@@ -19,11 +24,11 @@ use std::thread::{self, Threads};
 const MOST_PLAYERS: usize = 64;
 
 /// The workers of a walk or a stop.
-const SCAN_WORKERS: usize = 2;
+pub(crate) const SCAN_WORKERS: usize = 2;
 
 /// Holds nobody.
 #[derive(Drop)]
-struct Open;
+pub(crate) struct Open;
 
 impl ScanGate for Open {
     fn pass(&self, _piece: usize) {}
@@ -42,9 +47,26 @@ pub fn threads<T: Threads + Wait + Sync, M: Consistency + Send + Sync, R: Read, 
     model: M,
     reader: &mut R,
     writer: &mut W,
-) -> Result<(), ThreadsFault> {
+) -> Result<(), ThreadsFault>
+    // What was read spells a trace, and its play was reported and nothing else.
+    ensures report { OnOk result (ReadsTrace (R.remaining reader.old) (R.remaining reader.new)
+        (λ trace. (play : Play) × IsPlay M.rules trace play × Appends (W.contents writer.old) (W.contents writer.new) (play_text name.now play))) }
+{
     let trace = read_trace(alloc, reader)?;
-    let patches = stack(alloc, &trace)?;
+    let play = play(rt, alloc, model, &trace)?;
+    write_play(alloc, writer, name, play)
+}
+
+/// Lets threads play a trace, and closes the desk with all that comes back.
+fn play<T: Threads + Wait + Sync, M: Consistency + Send + Sync>(
+    rt: &T,
+    alloc: Global,
+    model: M,
+    trace: &Trace,
+) -> Result<Play, ThreadsFault>
+    ensures { IfOk result (λ play. IsPlay M.rules trace.now play) }
+{
+    let patches = stack(alloc, trace)?;
     let scripts = Scripts::deal(alloc, trace.events())?;
     let Launched {
         desk,
@@ -57,7 +79,11 @@ pub fn threads<T: Threads + Wait + Sync, M: Consistency + Send + Sync, R: Read, 
     let journal = desk.close(alloc, seats, control)?;
     let events = journal.entries().len();
     let skipped = trace.events().len().saturating_sub(events);
-    write_report(alloc, writer, name, given, events, skipped)
+    Ok(Play {
+        seats: given,
+        events,
+        skipped,
+    })
 }
 
 /// The seats, dealt out to the players in turn.
