@@ -14,6 +14,7 @@ mod start;
 use crate::outcome::Outcome;
 pub use fault::ReplayFault;
 pub use leg::{TraceLeg, leg_numbered};
+pub use start::stack;
 use lp_model::Consistency;
 use lp_text::Trace;
 use recorder::Recorder;

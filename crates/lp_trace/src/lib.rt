@@ -8,8 +8,8 @@ mod report;
 mod runs;
 
 pub use checks::check;
-pub use lp_replay::{LegList, Outcome, ReplayFault, ReplyList, replay};
+pub use lp_replay::{LegList, Outcome, ReplayFault, ReplyList, replay, stack};
 pub use lp_text::{
-    Cause, CheckInput, OfFault, ReadFault, Trace, TraceFault, TraceForm, WriteFault,
+    Cause, CheckInput, OfFault, ReadFault, StreamFault, Trace, TraceFault, TraceForm, WriteFault, put,
 };
 pub use runs::{RunFault, run};

@@ -121,8 +121,10 @@ fn report_on<M: Consistency, W: Write>(
     }
 }
 
-/// The trace that a reader has.
-fn read_trace<R: Read>(alloc: Global, reader: &mut R) -> Result<Trace, RunFault>
+/// The trace that a reader has, read to its end.
+///
+/// It makes at most 134,217,729 reads. A read that fails or is interrupted ends it.
+pub fn read_trace<R: Read>(alloc: Global, reader: &mut R) -> Result<Trace, RunFault>
     ensures found { IfOk result (λ trace. IsTrace trace × ReadsAll (R.remaining reader.old) (R.remaining reader.new) (text_of trace)) }
     ensures trace { IfErr result (λ fault. AtTrace fault (λ why. IfSome (R.remaining reader.old) (λ text. reading text ≡ Err why))) }
     ensures early { IfErr result (λ fault. AtWrite fault ⊥) }

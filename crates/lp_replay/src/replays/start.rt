@@ -46,7 +46,7 @@ pub(super) fn boot<M: Consistency>(
 }
 
 /// The patches of the trace, on one another.
-pub(super) fn stack(alloc: Global, trace: &Trace) -> Result<PatchStack, ReplayFault>
+pub fn stack(alloc: Global, trace: &Trace) -> Result<PatchStack, ReplayFault>
     ensures { IfOk result (λ patches. patches ≡ (run_of trace.now).patches) }
 {
     let sets = sets(alloc, trace.symbols(), trace.functions())?;

@@ -1,0 +1,53 @@
+//! The close of a desk.
+ghost use Rattle.std.specs.Prelude.{◌≡◌, IfOk, IfErr};
+ghost use Rattle.lp_log.specs.Audits.{AllBelong, IsClosed, IsFirstCause};
+ghost use Rattle.lp_log.specs.Journals.{IsReplayed};
+
+use crate::Desk;
+use lp_log::{CloseCause, Control, Journal, Seat};
+use lp_model::Consistency;
+use lp_scan::ScanGate;
+use std::alloc::Global;
+
+/// What is handed back where what was sent isn't what the journal says, so that the audit can be made again with other
+/// seats.
+#[derive(Drop)]
+pub struct Unclosed {
+    /// The journal.
+    pub journal: Journal,
+    /// The seats that were handed in.
+    pub seats: Vec<Seat>,
+    /// The control that was handed in.
+    pub control: Control,
+    /// Why.
+    pub cause: CloseCause,
+}
+
+impl<M: Consistency, G: ScanGate + Drop> Desk<M, G> {
+    /// Gives the desk up, and audits what was sent: see `Journal::audit`. Where a cause fits, the journal, the seats and
+    /// the control are handed back with the first.
+    pub fn close(
+        self,
+        alloc: Global,
+        seats: Vec<Seat>,
+        control: Control,
+    ) -> Result<Journal, Unclosed>
+        ensures replayed { IfOk result (λ journal. IsReplayed M.rules journal) }
+        ensures closed { IfOk result (λ journal. IsClosed journal seats.items control) }
+        ensures belong { IfOk result (λ journal. AllBelong journal.entries seats.items) }
+        ensures handed { IfErr result (λ unclosed. (unclosed.seats.items ≡ seats.items) × (unclosed.control ≡ control)) }
+        ensures kept { IfErr result (λ unclosed. IsReplayed M.rules unclosed.journal) }
+        ensures cause { IfErr result (λ unclosed. IsFirstCause unclosed.journal seats.items control unclosed.cause) }
+    {
+        let journal = self.into_log().into_journal();
+        match journal.audit(alloc, seats.as_slice(), &control) {
+            Ok(()) => Ok(journal),
+            Err(cause) => Err(Unclosed {
+                journal,
+                seats,
+                control,
+                cause,
+            }),
+        }
+    }
+}

@@ -1,0 +1,138 @@
+//! One lock round a log.
+ghost use Rattle.std.specs.Prelude.{◌≡◌, ◌≢◌, ◌↔◌, ◌<◌, ◌≤◌, ◌∷◌, ◌++◌, [], IfOk, IfErr, IfSome, OnOk, Some, None};
+ghost use Rattle.lp_transition.specs.declared.event.Event.TheVariants.{Walk};
+ghost use Rattle.lp_log.specs.declared.seat.Cause.TheVariants.{NotYours};
+ghost use Rattle.lp_log.specs.Journals.{IsReplayed, Written, next_entry, reply_to};
+ghost use Rattle.lp_log.specs.Seats.{and_sent, child_seat, owner};
+
+use lp_log::{Cause, Commanded, Control, Log, Seat, Submitted, Turned};
+use lp_model::Consistency;
+use lp_scan::{Judged, ScanGate, judge};
+use lp_transition::Event;
+use std::alloc::Global;
+use std::sync::{Mutex, Wait};
+use std::thread::Threads;
+
+/// A log behind a lock, with the number of workers of its walks and stops and the gate that they pass.
+#[derive(Drop)]
+pub struct Desk<M: Consistency, G: ScanGate + Drop> {
+    log: Mutex<Log<M>>,
+    model: M,
+    workers: usize,
+    gate: G,
+    ghost some: { 0 < workers },
+    ghost few: { workers ≤ 64 },
+}
+
+impl<M: Consistency, G: ScanGate + Drop> Desk<M, G> {
+    /// A desk round a log.
+    pub(crate) fn new(log: Log<M>, model: M, workers: usize, gate: G) -> Desk<M, G>
+        requires some { 0 < workers }
+        requires few { workers ≤ 64 }
+    {
+        Desk {
+            log: Mutex::new(log),
+            model,
+            workers,
+            gate,
+        }
+    }
+
+    /// Gives the lock up. Nobody waits for it: whoever has the desk by value is alone with it.
+    pub(crate) fn into_log(self) -> Log<M> {
+        let Desk { log, .. } = self;
+        log.into_inner()
+    }
+
+    /// Takes an event that is sent from a seat, in any thread. Waits for the lock.
+    ///
+    /// Turned back, with nothing having happened, for an event that isn't the task's, else where no event is left,
+    /// else where an allocation failed.
+    pub fn submit<R: Wait>(
+        &self,
+        rt: &R,
+        alloc: Global,
+        seat: Seat,
+        event: Event,
+    ) -> Result<Submitted, Turned<Seat>>
+        ensures yours { OnOk result (owner event ≡ Some seat.task) }
+        ensures sent { IfOk result (λ done. (before : Written) × IsReplayed M.rules before × (done.reply ≡ reply_to M.rules before event) × (done.seat ≡ and_sent seat (next_entry before.entries event done.reply))) }
+        ensures child { IfOk result (λ done. done.child ≡ child_seat event done.reply.what) }
+        ensures turned { IfErr result (λ turned. turned.part ≡ seat) }
+        ensures not_yours { IfErr result (λ turned. (turned.cause ≡ NotYours) ↔ (owner event ≢ Some seat.task)) }
+    {
+        self.log.lock(rt).submit(alloc, seat, event)
+    }
+}
+
+impl<M: Consistency + Sync, G: ScanGate + Sync + Drop> Desk<M, G> {
+    /// Takes an event that is sent from the control, in any thread. A walk is judged over copies of the waiting tasks, by
+    /// the desk's workers, while the tasks run on: the lock is taken once for the copies and once for the walk. A stop
+    /// looks at the tasks under the lock. Waits for the lock and for the workers.
+    ///
+    /// Turned back, with nothing having happened, for a task's event, else where no event is left, else where an
+    /// allocation failed.
+    pub fn command<R: Threads + Wait + Sync>(
+        &self,
+        rt: &R,
+        alloc: Global,
+        control: Control,
+        event: Event,
+    ) -> Result<Commanded, Turned<Control>>
+        ensures yours { OnOk result (owner event ≡ None) }
+        ensures sent { IfOk result (λ done. (before : Written) × IsReplayed M.rules before × (done.reply ≡ reply_to M.rules before event) × (done.control ≡ control ++ next_entry before.entries event done.reply ∷ [])) }
+        ensures turned { IfErr result (λ turned. turned.part ≡ control) }
+        ensures not_yours { IfErr result (λ turned. (turned.cause ≡ NotYours) ↔ (owner event ≢ None)) }
+    {
+        match self.judged(rt, alloc, event) {
+            Ok(judged) => self.take(rt, alloc, judged.as_ref(), control, event),
+            Err(cause) => Err(Turned {
+                part: control,
+                cause,
+            }),
+        }
+    }
+
+    /// What a walk finds of copies of the waiting tasks; None where the event is no walk that looks at tasks. The lock is
+    /// free while the workers judge: held, it would stop every task for as long as the walk takes.
+    fn judged<R: Threads + Wait + Sync>(
+        &self,
+        rt: &R,
+        alloc: Global,
+        event: Event,
+    ) -> Result<Option<Judged<M>>, Cause>
+        ensures walk { IfOk result (λ judged. IfSome judged (λ _. event ≡ Walk)) }
+        ensures yours { IfErr result (λ cause. (event ≡ Walk) × (cause ≢ NotYours)) }
+    {
+        let batch = self.log.lock(rt).batch_for(alloc, event)?;
+        let Some(batch) = batch else {
+            return Ok(None);
+        };
+        let judged = judge(rt, alloc, self.workers, &self.gate, self.model, batch)?;
+        Ok(Some(judged))
+    }
+
+    /// Takes an event under the lock; a walk by what was judged before, if it was.
+    fn take<R: Threads + Wait + Sync>(
+        &self,
+        rt: &R,
+        alloc: Global,
+        judged: Option<&Judged<M>>,
+        control: Control,
+        event: Event,
+    ) -> Result<Commanded, Turned<Control>>
+        requires walk { IfSome judged (λ _. event ≡ Walk) }
+        ensures yours { OnOk result (owner event ≡ None) }
+        ensures sent { IfOk result (λ done. (before : Written) × IsReplayed M.rules before × (done.reply ≡ reply_to M.rules before event) × (done.control ≡ control ++ next_entry before.entries event done.reply ∷ [])) }
+        ensures turned { IfErr result (λ turned. turned.part ≡ control) }
+        ensures not_yours { IfErr result (λ turned. (turned.cause ≡ NotYours) ↔ (owner event ≢ None)) }
+    {
+        let workers = self.workers;
+        let gate = &self.gate;
+        let mut log = self.log.lock(rt);
+        match log.command(rt, alloc, workers, gate, judged, control, event) {
+            Ok(done) => Ok(done),
+            Err(turned) => Err(turned),
+        }
+    }
+}

@@ -1,0 +1,170 @@
+//! Gates that only several threads can pass.
+use super::*;
+use lp_log::Commanded;
+use lp_model::Consistency;
+use lp_models::AllAtOnce;
+use std::hint::spin_loop;
+use std::sync::atomic::{AtomicBool, Ordering};
+use std::thread::{Threads, join};
+
+/// How often a gate looks before it gives up.
+const MOST_TURNS: u32 = 10_000_000;
+
+/// Whether the flag is set before the turns are over.
+fn is_set_in_time(flag: &AtomicBool) -> bool {
+    for _turn in 0..MOST_TURNS {
+        if flag.load(Ordering::SeqCst) {
+            return true;
+        }
+        spin_loop();
+    }
+    false
+}
+
+/// Two marks, and whether somebody waited for one in vain.
+#[derive(Drop)]
+struct Marks {
+    first: AtomicBool,
+    second: AtomicBool,
+    gave_up: AtomicBool,
+}
+
+impl Marks {
+    fn new() -> Marks {
+        Marks {
+            first: AtomicBool::new(false),
+            second: AtomicBool::new(false),
+            gave_up: AtomicBool::new(false),
+        }
+    }
+
+    /// Sets the first mark, and waits for the second.
+    fn first_meets_second(&self) {
+        self.first.store(true, Ordering::SeqCst);
+        if !is_set_in_time(&self.second) {
+            self.gave_up.store(true, Ordering::SeqCst);
+        }
+    }
+
+    /// Sets the second mark, and waits for the first.
+    fn second_meets_first(&self) {
+        self.second.store(true, Ordering::SeqCst);
+        if !is_set_in_time(&self.first) {
+            self.gave_up.store(true, Ordering::SeqCst);
+        }
+    }
+
+    fn gave_up(&self) -> bool {
+        self.gave_up.load(Ordering::SeqCst)
+    }
+}
+
+/// Holds the pieces 0 and 1 until the other has come.
+#[derive(Clone, Copy)]
+struct Meeting<'a>(&'a Marks);
+
+impl<'a> ScanGate for Meeting<'a> {
+    fn pass(&self, piece: usize) {
+        match piece {
+            0 => self.0.first_meets_second(),
+            1 => self.0.second_meets_first(),
+            _ => (),
+        }
+    }
+}
+
+/// What a desk of tasks 1 and 2 with two workers says to a scan after `enable`.
+fn scanned<R: Threads + Wait + Sync, M: Consistency + Sync>(
+    rt: &R,
+    alloc: Global,
+    model: M,
+    marks: &Marks,
+    scan: Event,
+) -> Result<Said, Fail> {
+    let gate = Meeting(marks);
+    let Launched { desk, control, .. } = Desk::launch(
+        alloc,
+        model,
+        patched(alloc)?,
+        &BOTH,
+        2,
+        gate,
+    )?;
+    let Ok(Commanded { control, .. }) = desk.command(rt, alloc, control, Event::Enable) else {
+        return Err("enable".into());
+    };
+    match desk.command(rt, alloc, control, scan) {
+        Ok(Commanded { reply, .. }) => Ok(in_short(&reply)),
+        Err(_) => Err("turned back".into()),
+    }
+}
+
+/// The pieces of a walk are judged by threads of their own, and so are those of a stop.
+#[test]
+fn desk_pieces_meet(rt: HostRuntime) -> Result<(), Fail> {
+    let alloc = rt.alloc();
+    let marks = Marks::new();
+    let walk = scanned(&rt, alloc, Hybrid, &marks, Event::Walk)?;
+    assert_eq!(rt; walk, Said::Done);
+    assert!(rt; !marks.gave_up());
+    let marks = Marks::new();
+    let stop = scanned(&rt, alloc, AllAtOnce, &marks, Event::Stop)?;
+    assert_eq!(rt; stop, Said::SwitchedLast(0));
+    assert!(rt; !marks.gave_up());
+    Ok(())
+}
+
+/// Holds piece 0 until a seat was answered.
+#[derive(Clone, Copy)]
+struct Holding<'a>(&'a Marks);
+
+impl<'a> ScanGate for Holding<'a> {
+    fn pass(&self, piece: usize) {
+        if piece == 0 {
+            self.0.first_meets_second();
+        }
+    }
+}
+
+/// Sends an event once piece 0 has come to the gate, and tells the gate when it was answered.
+fn submit_meanwhile<'a, R: Wait>(
+    rt: &R,
+    alloc: Global,
+    desk: &Desk<Hybrid, Holding<'a>>,
+    marks: &Marks,
+    seat: Seat,
+) -> Option<Said> {
+    if !is_set_in_time(&marks.first) {
+        return None;
+    }
+    let answer = desk.submit(rt, alloc, seat, Event::Enter(ONE)).ok()?;
+    marks.second.store(true, Ordering::SeqCst);
+    Some(in_short(&answer.reply))
+}
+
+/// A walk that is judged under the lock would hold the seat back until the gate gives up.
+#[test]
+fn tasks_run_during_walk(rt: HostRuntime) -> Result<(), Fail> {
+    let alloc = rt.alloc();
+    let marks = Marks::new();
+    let gate = Holding(&marks);
+    let launched = Desk::launch(alloc, Hybrid, patched(alloc)?, &BOTH, 2, gate)?;
+    let Launched {
+        desk,
+        mut seats,
+        control,
+    } = launched;
+    let seat = first(&mut seats)?;
+    let Ok(Commanded { control, .. }) = desk.command(&rt, alloc, control, Event::Enable) else {
+        return Err("enable".into());
+    };
+    let (walk, entered) = join(
+        &rt,
+        || desk.command(&rt, alloc, control, Event::Walk).ok(),
+        || submit_meanwhile(&rt, alloc, &desk, &marks, seat),
+    );
+    assert_eq!(rt; walk.map(|done| in_short(&done.reply)), Some(Said::Done));
+    assert_eq!(rt; entered, Some(Said::Done));
+    assert!(rt; !marks.gave_up());
+    Ok(())
+}

@@ -1,0 +1,19 @@
+//! The journal of an engine that several threads feed, the seats by which they do so, and the audit of what they sent.
+#![tactic(auto)]
+
+mod audit;
+mod cause;
+mod cursor;
+mod entry;
+mod journal;
+mod log;
+mod same;
+mod seat;
+mod sender;
+
+pub use audit::CloseCause;
+pub use entry::Entry;
+pub use journal::Journal;
+pub use log::{Log, Opened};
+pub use seat::{Cause, Commanded, Control, Seat, Submitted, Turned};
+pub use sender::owner;

@@ -1,0 +1,99 @@
+//! An event is made ready, which allocates all that it needs, and then taken, which never allocates.
+ghost use Rattle.std.specs.Prelude.{◌≡◌, ◌≤◌, ◌<◌, ◌↔◌, true, Err, IfOk, OnErr, OnOk, length};
+ghost use Rattle.lp_transition.specs.Scan.{is_scan_kind, scan_event, verdicts_of};
+ghost use Rattle.lp_transition.specs.Table.{state_in};
+ghost use Rattle.lp_transition.specs.Weigh.{IsWeighed};
+ghost use Rattle.lp_transition.specs.declared.engine.step.Halt.TheVariants.{JournalFull};
+ghost use Rattle.lp_log.specs.Journals.{reply_to, and_entry};
+ghost use Rattle.lp_log.specs.Logs.{IsReady, AreSame};
+
+use super::Log;
+use crate::Entry;
+use lp_model::{CheckKind, Consistency, Verdict};
+use lp_transition::{Event, Halt, Reply, Step};
+use std::alloc::{AllocError, Global};
+use std::marker::Model;
+
+/// An event that was weighed, with the answer that its entry will have.
+///
+/// Contracts see the event as it was weighed.
+#[derive(Drop)]
+pub(crate) struct Ready {
+    step: Step,
+    answer: Reply,
+}
+
+impl Model for Ready {
+    ghost use Rattle.std.specs.Prelude.{◌≡◌};
+    ghost use Rattle.lp_transition.specs.Weigh.{Weighed};
+
+    ghost Value = { Weighed };
+
+    ghost view = { λ r. r.step };
+
+    ghost invariant = { λ r. r.answer ≡ r.step.reply };
+}
+
+impl Ready {
+    /// The answer, which isn't given yet.
+    pub(crate) fn reply(&self) -> &Reply
+        ensures { result.now ≡ self.now.reply }
+    {
+        self.step.reply()
+    }
+}
+
+impl<M: Consistency> Log<M> {
+    /// An event, weighed on the engine; a walk or a stop after a look at every waiting task.
+    pub(crate) fn weigh(&self, alloc: Global, event: Event) -> Result<Step, Halt>
+        ensures full { (result ≡ Err JournalFull) ↔ (1000000 ≤ length self.now.journal.entries) }
+        ensures weighed { IfOk result (λ step. IsWeighed M.rules self.now.core step) }
+        ensures event { IfOk result (λ step. step.event ≡ event) }
+    {
+        self.core.weigh_any(alloc, event)
+    }
+
+    /// A walk or a stop, weighed by what its checks found of the waiting tasks.
+    pub(crate) fn weigh_scan(
+        &self,
+        alloc: Global,
+        kind: CheckKind,
+        verdicts: &[Verdict],
+    ) -> Result<Step, Halt>
+        requires scan { is_scan_kind kind ≡ true }
+        requires found { verdicts.now ≡ verdicts_of M.rules kind (state_in self.now.core) }
+        ensures full { (result ≡ Err JournalFull) ↔ (1000000 ≤ length self.now.journal.entries) }
+        ensures weighed { IfOk result (λ step. IsWeighed M.rules self.now.core step) }
+        ensures event { IfOk result (λ step. step.event ≡ scan_event kind) }
+    {
+        self.core.weigh_scan(alloc, kind, verdicts)
+    }
+
+    /// Allocates all that the entry of an event needs: what fails here has changed nothing, and `commit` can't fail.
+    pub(crate) fn ready(&mut self, alloc: Global, step: Step) -> Result<Ready, AllocError>
+        ensures step { IfOk result (λ ready. ready ≡ step) }
+        ensures room { OnOk result (0 < self.new.room) }
+        ensures same { AreSame self.old self.new }
+    {
+        let answer = step.reply().copy(alloc)?;
+        self.entries.reserve(1)?;
+        Ok(Ready { step, answer })
+    }
+
+    /// Takes an event that was made ready, and adds it to the journal with the answer. Never allocates.
+    pub(crate) fn commit(&mut self, ready: Ready) -> Reply
+        requires { IsReady M.rules self.old ready }
+        ensures reply { result ≡ ready.reply }
+        ensures defined { result ≡ reply_to M.rules self.old.journal ready.event }
+        ensures journal { self.new.journal ≡ and_entry self.old.journal ready.event result }
+    {
+        let Ready { step, answer } = ready;
+        let entry = Entry {
+            number: self.entries.len() as u32 + 1,
+            event: step.event(),
+            reply: answer,
+        };
+        self.entries.push_reserved(entry);
+        self.core.take(step)
+    }
+}

@@ -1,0 +1,130 @@
+//! Events that are sent from seats and from the control.
+ghost use Rattle.std.specs.Prelude.{◌≡◌, ◌≢◌, ◌+◌, ◌≤◌, ◌<◌, ◌↔◌, [], ◌∷◌, ◌++◌, true, Some, None, Err, IfOk, IfErr, IfSome, IfNone, IsTrue, OnErr, OnOk, length};
+ghost use Rattle.lp_transition.specs.Scan.{is_scan_kind, scan_event};
+ghost use Rattle.lp_transition.specs.Events.{is_scan};
+ghost use Rattle.lp_transition.specs.Weigh.{IsWeighed};
+ghost use Rattle.lp_transition.specs.declared.engine.step.Halt.TheVariants.{JournalFull};
+ghost use Rattle.lp_log.specs.declared.seat.Cause.TheVariants.{NotYours, JournalFull as Full};
+ghost use Rattle.lp_log.specs.Journals.{IsReplayed, next_entry, reply_to, and_entry};
+ghost use Rattle.lp_log.specs.Logs.{AreSame};
+ghost use Rattle.lp_log.specs.Seats.{owner, and_sent, child_seat};
+
+use super::Log;
+use crate::Entry;
+use crate::seat::{Cause, Seat, Submitted, Turned};
+use lp_model::Consistency;
+use lp_stack::TaskId;
+use lp_transition::{Event, Reply, Step, What};
+use std::alloc::{AllocError, Global};
+
+impl<M: Consistency> Log<M> {
+    /// Takes an event that is sent from a seat. The seat comes back with the entry, and with the seat of the child
+    /// where a fork was accepted.
+    ///
+    /// Turned back, with the engine and the journal as they were, for an event that isn't the task's, else where no
+    /// event is left, else where an allocation failed.
+    pub fn submit(
+        &mut self,
+        alloc: Global,
+        mut seat: Seat,
+        event: Event,
+    ) -> Result<Submitted, Turned<Seat>>
+        ensures yours { OnOk result (owner event ≡ Some seat.task) }
+        ensures reply { IfOk result (λ done. done.reply ≡ reply_to M.rules self.old.journal event) }
+        ensures journal { IfOk result (λ done. self.new.journal ≡ and_entry self.old.journal event done.reply) }
+        ensures seat { IfOk result (λ done. done.seat ≡ and_sent seat (next_entry self.old.journal.entries event done.reply)) }
+        ensures child { IfOk result (λ done. done.child ≡ child_seat event done.reply.what) }
+        ensures replayed { IsReplayed M.rules self.old.journal }
+        ensures left { OnOk result (length self.old.journal.entries < 1000000) }
+        ensures turned { IfErr result (λ turned. turned.part ≡ seat) }
+        ensures unchanged { OnErr result (AreSame self.old self.new) }
+        ensures not_yours { IfErr result (λ turned. (turned.cause ≡ NotYours) ↔ (owner event ≢ Some seat.task)) }
+        ensures full { IfErr result (λ turned. (turned.cause ≡ Full) ↔ ((owner event ≡ Some seat.task) × (1000000 ≤ length self.old.journal.entries))) }
+    {
+        let _ = &self.core;
+        match self.take_from(alloc, &mut seat, event) {
+            Ok(reply) => {
+                let child = child_seat(alloc, event, &reply.what);
+                Ok(Submitted { seat, reply, child })
+            }
+            Err(cause) => Err(Turned { part: seat, cause }),
+        }
+    }
+
+    /// Takes an event of the seat's task.
+    fn take_from(&mut self, alloc: Global, seat: &mut Seat, event: Event) -> Result<Reply, Cause>
+        ensures yours { OnOk result (owner event ≡ Some seat.old.task) }
+        ensures reply { IfOk result (λ given. given ≡ reply_to M.rules self.old.journal event) }
+        ensures journal { IfOk result (λ given. self.new.journal ≡ and_entry self.old.journal event given) }
+        ensures seat { IfOk result (λ given. seat.new ≡ and_sent seat.old (next_entry self.old.journal.entries event given)) }
+        ensures left { OnOk result (length self.old.journal.entries < 1000000) }
+        ensures err { OnErr result ((seat.new ≡ seat.old) × AreSame self.old self.new) }
+        ensures not_yours { IfErr result (λ cause. (cause ≡ NotYours) ↔ (owner event ≢ Some seat.old.task)) }
+        ensures full { IfErr result (λ cause. (cause ≡ Full) ↔ ((owner event ≡ Some seat.old.task) × (1000000 ≤ length self.old.journal.entries))) }
+    {
+        if !is_own(event, seat.task) {
+            return Err(Cause::NotYours);
+        }
+        let step = self.weigh(alloc, event)?;
+        let reply = self.take_into(alloc, step, &mut seat.entries)?;
+        Ok(reply)
+    }
+
+    /// Takes an event that was weighed, and adds its entry to a list of the sender's too.
+    pub(super) fn take_into(
+        &mut self,
+        alloc: Global,
+        step: Step,
+        sent: &mut Vec<Entry>,
+    ) -> Result<Reply, AllocError>
+        requires { IsWeighed M.rules self.old.core step }
+        ensures reply { IfOk result (λ given. given ≡ reply_to M.rules self.old.journal step.event) }
+        ensures journal { IfOk result (λ given. self.new.journal ≡ and_entry self.old.journal step.event given) }
+        ensures sent { IfOk result (λ given. sent.new.items ≡ sent.old.items ++ next_entry self.old.journal.entries step.event given ∷ []) }
+        ensures err { OnErr result ((sent.new.items ≡ sent.old.items) × AreSame self.old self.new) }
+    {
+        let number = self.next_number();
+        let event = step.event();
+        let ready = self.ready(alloc, step)?;
+        let answer = ready.reply().copy(alloc)?;
+        sent.reserve(1)?;
+        let reply = self.commit(ready);
+        sent.push_reserved(Entry {
+            number,
+            event,
+            reply: answer,
+        });
+        Ok(reply)
+    }
+
+    /// The number of the next event.
+    fn next_number(&self) -> u32
+        requires { self.now.core.number < 1000000 }
+        ensures { result ≡ length self.now.journal.entries + 1 }
+    {
+        self.entries.len() as u32 + 1
+    }
+}
+
+/// Whether it is an event of the task.
+fn is_own(event: Event, task: TaskId) -> bool
+    ensures { IsTrue result ↔ (owner event ≡ Some task.0) }
+{
+    match event {
+        Event::Call(of, _) | Event::Fork(of, _, _) => of == task,
+        Event::Ret(of) | Event::Sleep(of) | Event::Wake(of) | Event::Enter(of) => of == task,
+        Event::Exit(of) | Event::Idle(of) | Event::Die(of) => of == task,
+        Event::Walk | Event::Stop | Event::Enable | Event::Disable | Event::Reverse => false,
+    }
+}
+
+/// The seat of the child, where a fork was accepted.
+fn child_seat(alloc: Global, event: Event, what: &What) -> Option<Seat>
+    ensures { result ≡ child_seat event what.now }
+{
+    match (event, what) {
+        (Event::Fork(_, _, _), What::Refused(_)) => None,
+        (Event::Fork(_, child, _), _) => Some(Seat::new(alloc, child)),
+        _ => None,
+    }
+}

@@ -1,0 +1,125 @@
+//! Why threads didn't play a trace to its end.
+
+use lp_desk::{LaunchFault, Unclosed};
+use lp_log::{Cause, CloseCause};
+use lp_trace::{ReplayFault, RunFault, StreamFault, WriteFault};
+use lp_transition::BootFault;
+use std::alloc::AllocError;
+use thiserror::Error;
+
+/// Why threads didn't play a trace to its end, or why its report wasn't written.
+#[derive(Debug, Drop, Error)]
+pub enum ThreadsFault {
+    /// As of a run: the reader, the trace, an allocation, or the writer.
+    #[error("{0}")]
+    Run(RunFault),
+    /// No desk was launched.
+    #[error("no desk was launched")]
+    Launch(LaunchFault),
+    /// An event was turned back.
+    #[error("an event was turned back")]
+    Turned(Cause),
+    /// What was sent isn't what the journal says.
+    #[error("what was sent isn't what the journal says")]
+    Close(CloseCause),
+    /// D5: a thread couldn't be started.
+    #[error("a thread couldn't be started")]
+    NoThread,
+}
+
+impl ThreadsFault {
+    /// The desk's fault by its letter and number, as D3; None where it is a run's.
+    pub fn code(&self) -> Option<&'static str> {
+        match self {
+            ThreadsFault::Run(_) => None,
+            ThreadsFault::Launch(fault) => Some(launch_code(*fault)),
+            ThreadsFault::Turned(cause) => Some(cause_code(*cause)),
+            ThreadsFault::Close(cause) => Some(close_code(*cause)),
+            ThreadsFault::NoThread => Some("D5"),
+        }
+    }
+}
+
+fn launch_code(fault: LaunchFault) -> &'static str {
+    match fault {
+        LaunchFault::Boot(BootFault::TaskRange) => "T1",
+        LaunchFault::Boot(BootFault::TaskDoubled) => "T2",
+        LaunchFault::Boot(BootFault::NoMemory) => "T3",
+        LaunchFault::BadCrew => "T4",
+    }
+}
+
+fn cause_code(cause: Cause) -> &'static str {
+    match cause {
+        Cause::NotYours => "D1",
+        Cause::JournalFull => "E14",
+        Cause::NoMemory => "E13",
+    }
+}
+
+fn close_code(cause: CloseCause) -> &'static str {
+    match cause {
+        CloseCause::Missing { .. } => "D2",
+        CloseCause::Differs { .. } => "D3",
+        CloseCause::Stranger { .. } => "D4",
+        CloseCause::NoMemory => "E13",
+    }
+}
+
+impl From<RunFault> for ThreadsFault {
+    fn from(fault: RunFault) -> ThreadsFault {
+        ThreadsFault::Run(fault)
+    }
+}
+
+impl From<StreamFault> for ThreadsFault {
+    fn from(fault: StreamFault) -> ThreadsFault {
+        ThreadsFault::Run(RunFault::from(fault))
+    }
+}
+
+impl From<ReplayFault> for ThreadsFault {
+    fn from(fault: ReplayFault) -> ThreadsFault {
+        ThreadsFault::Run(RunFault::from(fault))
+    }
+}
+
+impl From<WriteFault> for ThreadsFault {
+    fn from(fault: WriteFault) -> ThreadsFault {
+        ThreadsFault::Run(RunFault::Write(fault))
+    }
+}
+
+impl From<AllocError> for ThreadsFault {
+    fn from(_e: AllocError) -> ThreadsFault {
+        ThreadsFault::Run(RunFault::NoMemory)
+    }
+}
+
+/// Want of memory is a run's fault, whichever call of the desk meets it.
+impl From<LaunchFault> for ThreadsFault {
+    fn from(fault: LaunchFault) -> ThreadsFault {
+        match fault {
+            LaunchFault::Boot(BootFault::NoMemory) => ThreadsFault::Run(RunFault::NoMemory),
+            fault => ThreadsFault::Launch(fault),
+        }
+    }
+}
+
+impl From<Cause> for ThreadsFault {
+    fn from(cause: Cause) -> ThreadsFault {
+        match cause {
+            Cause::NoMemory => ThreadsFault::Run(RunFault::NoMemory),
+            cause => ThreadsFault::Turned(cause),
+        }
+    }
+}
+
+impl From<Unclosed> for ThreadsFault {
+    fn from(unclosed: Unclosed) -> ThreadsFault {
+        match unclosed.cause {
+            CloseCause::NoMemory => ThreadsFault::Run(RunFault::NoMemory),
+            cause => ThreadsFault::Close(cause),
+        }
+    }
+}

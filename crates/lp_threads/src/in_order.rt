@@ -1,0 +1,131 @@
+//! A trace, played by one thread, each event in its turn.
+ghost use Rattle.std.specs.Prelude.{◌≡◌, IfOk, IfSome, length};
+ghost use Rattle.lp_log.specs.Journals.{IsReplayed};
+
+use crate::ThreadsFault;
+use crate::playing::{Open, SCAN_WORKERS};
+use lp_desk::{Desk, Launched};
+use lp_log::{Commanded, Control, Journal, Seat, Submitted, owner};
+use lp_model::Consistency;
+use lp_numbers::NUMBERS;
+use lp_scan::ScanGate;
+use lp_trace::{Trace, stack};
+use lp_transition::Event;
+use std::alloc::{AllocError, Global};
+use std::sync::Wait;
+use std::thread::Threads;
+
+/// Plays a trace through a desk, each event in its turn by its task's seat or by the control, closes the desk with all of
+/// these, and gives its journal. None where an event is of a task that has no seat, since it was never born.
+pub fn play_in_order<T: Threads + Wait + Sync, M: Consistency + Sync>(
+    rt: &T,
+    alloc: Global,
+    model: M,
+    trace: &Trace,
+) -> Result<Option<Journal>, ThreadsFault>
+    ensures { IfOk result (λ journal. IfSome journal (λ journal. IsReplayed M.rules journal)) }
+{
+    let patches = stack(alloc, trace)?;
+    let Launched {
+        desk,
+        seats,
+        control,
+    } = Desk::launch(alloc, model, patches, trace.boots(), SCAN_WORKERS, Open)?;
+    let mut table = table_of(alloc, seats)?;
+    let mut control = control;
+    for event in trace.events() {
+        let Some(task) = owner(*event) else {
+            control = commanded(rt, alloc, &desk, control, *event)?;
+            continue;
+        };
+        if !submitted(rt, alloc, &desk, table.as_mut_slice(), task, *event)? {
+            return Ok(None);
+        }
+    }
+    let seats = seats_in(alloc, table)?;
+    let journal = desk.close(alloc, seats, control)?;
+    Ok(Some(journal))
+}
+
+/// Sends an event from the control, which is handed back.
+fn commanded<T: Threads + Wait + Sync, M: Consistency + Sync, G: ScanGate + Sync + Drop>(
+    rt: &T,
+    alloc: Global,
+    desk: &Desk<M, G>,
+    control: Control,
+    event: Event,
+) -> Result<Control, ThreadsFault> {
+    match desk.command(rt, alloc, control, event) {
+        Ok(Commanded { control, .. }) => Ok(control),
+        Err(turned) => Err(ThreadsFault::from(turned.cause)),
+    }
+}
+
+/// Sends an event from its task's seat, which is put back, with the child's; false where the task has none.
+fn submitted<T: Wait, M: Consistency, G: ScanGate + Drop>(
+    rt: &T,
+    alloc: Global,
+    desk: &Desk<M, G>,
+    table: &mut [Option<Seat>],
+    task: u16,
+    event: Event,
+) -> Result<bool, ThreadsFault>
+    requires { length table.old ≡ 65536 }
+    ensures { length table.new ≡ 65536 }
+{
+    let Some(seat) = table[usize::from(task)].take() else {
+        return Ok(false);
+    };
+    match desk.submit(rt, alloc, seat, event) {
+        Ok(Submitted { seat, child, .. }) => {
+            put_back(table, seat);
+            if let Some(child) = child {
+                put_back(table, child);
+            }
+            Ok(true)
+        }
+        Err(turned) => Err(ThreadsFault::from(turned.cause)),
+    }
+}
+
+/// Puts a seat at its task's place.
+fn put_back(table: &mut [Option<Seat>], seat: Seat)
+    requires { length table.old ≡ 65536 }
+    ensures { length table.new ≡ 65536 }
+{
+    let place = usize::from(seat.task().0);
+    table[place] = Some(seat);
+}
+
+/// For each task number its seat, if it has one.
+fn table_of(alloc: Global, seats: Vec<Seat>) -> Result<Vec<Option<Seat>>, AllocError>
+    ensures { IfOk result (λ table. length table.items ≡ 65536) }
+{
+    let mut table = no_seats(alloc)?;
+    for seat in seats {
+        put_back(table.as_mut_slice(), seat);
+    }
+    Ok(table)
+}
+
+/// No seat for any task number.
+fn no_seats(alloc: Global) -> Result<Vec<Option<Seat>>, AllocError>
+    ensures { IfOk result (λ table. length table.items ≡ 65536) }
+{
+    let mut table = Vec::with_capacity(alloc, NUMBERS)?;
+    for _task in 0..NUMBERS {
+        table.push(None)?;
+    }
+    Ok(table)
+}
+
+/// The seats of a table.
+fn seats_in(alloc: Global, table: Vec<Option<Seat>>) -> Result<Vec<Seat>, AllocError> {
+    let mut seats = Vec::new(alloc);
+    for seat in table {
+        if let Some(seat) = seat {
+            seats.push(seat)?;
+        }
+    }
+    Ok(seats)
+}
