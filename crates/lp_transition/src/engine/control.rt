@@ -1,5 +1,5 @@
 //! The events that begin a transition or turn it round.
-ghost use Rattle.std.specs.Prelude.{◌≡◌, ◌≤◌, ◌<◌, ◌↔◌, ℕ, None, true, false, IsTrue, length};
+ghost use Rattle.std.specs.Prelude.{◌≡◌, ◌≤◌, ◌<◌, ◌↔◌, ℕ, None, true, false, IsTrue, if◌then◌else◌, length, nat_eq};
 ghost use Rattle.lp_numbers.specs.Numbers.{has};
 ghost use Rattle.lp_transition.specs.Events.{is_control};
 ghost use Rattle.lp_transition.specs.Tasks.{first_of};
@@ -8,7 +8,6 @@ ghost use Rattle.lp_transition.specs.Table.{slot, state_in, is_off};
 ghost use Rattle.lp_transition.specs.Machine.{at_rest, refusal_of, answer, next};
 
 use super::Core;
-use super::parts::put_number;
 use super::task_table::TaskTable;
 use crate::{Event, Refusal, Reply, What};
 use lp_model::Consistency;
@@ -132,4 +131,16 @@ fn all_on(tasks: &TaskTable, level: Level) -> bool
         from = u32::from(number) + 1;
     }
     true
+}
+
+/// Makes a number a member of a set, or no member.
+pub(super) fn put_number(set: &mut NumberSet, number: u16, is_member: bool)
+    ensures after { (n : ℕ) → has set.new n ≡ (if nat_eq n number then is_member else has set.old n) }
+    ensures numbers { length set.new ≡ 65536 }
+{
+    if is_member {
+        set.insert(number);
+    } else {
+        set.remove(number);
+    }
 }

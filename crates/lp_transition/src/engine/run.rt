@@ -167,8 +167,8 @@ impl<M: Consistency> Core<M> {
             Event::Sleep(task) => self.take_sleep(task),
             Event::Wake(task) => self.take_wake(task),
             Event::Enter(task) => self.take_enter(task),
-            Event::Exit(task) => self.leave(task, over),
-            Event::Idle(task) => self.pause(task, over),
+            Event::Exit(task) => self.take_point(CheckKind::KernelExit, task, over),
+            Event::Idle(task) => self.take_point(CheckKind::IdlePoint, task, over),
             Event::Fork(parent, child, how) => {
                 let Some(live) = born else { unreachable!() };
                 self.take_fork(parent, child, how, live);

@@ -5,8 +5,9 @@ ghost use Rattle.lp_transition.specs.Table.{state_in};
 ghost use Rattle.lp_transition.specs.Machine.{refusal_of, next};
 
 use super::Core;
+use super::control::put_number;
 use super::live_task::LiveTask;
-use super::parts::{group_of, put_number};
+use super::weigh::group_of;
 use crate::Event;
 use lp_model::{Consistency, ForkKind};
 use lp_stack::{Mode, TaskId};
