@@ -71,7 +71,7 @@ impl<M: Consistency> Core<M> {
         }
     }
 
-    /// An accepted control event.
+    /// The set of waiting tasks is made anew: against another target others wait, or none.
     pub(super) fn take_control(&mut self, event: Event)
         requires room { self.old.number < 1000000 }
         requires accepted { refusal_of M.rules (state_in self.old) event ≡ None }
@@ -106,7 +106,7 @@ fn is_off_level(tasks: &TaskTable, number: u16, level: Level) -> bool
     }
 }
 
-/// Makes the live tasks that are off a level the members of a set.
+/// Over the live tasks alone: 65,536 numbers for a handful of tasks would make a control event dear.
 fn collect_off(tasks: &TaskTable, waiting: &mut NumberSet, level: Level)
     ensures members { (t : ℕ) → has waiting.new t ≡ is_off level.0 (slot tasks.now t) }
     ensures numbers { length waiting.new ≡ 65536 }

@@ -84,7 +84,8 @@ impl<M: Consistency> Core<M> {
         }
     }
 
-    /// The answer to an accepted return, sleep, wake-up or entry into the kernel.
+    /// A return, a sleep, a wake-up or an entry into the kernel is no check and ends no task, so there
+    /// is nothing to look at.
     #[inline(always)]
     pub(super) fn answer_moves(&self, event: Event, task: TaskId) -> Reply
         requires room { self.now.number < 1000000 }
@@ -97,7 +98,7 @@ impl<M: Consistency> Core<M> {
         done()
     }
 
-    /// The answer to an accepted end of a task.
+    /// A task that ends may have been the last that waited: then its end completes the transition.
     fn answer_die(&self, task: TaskId) -> Reply
         requires room { self.now.number < 1000000 }
         requires accepted { refusal_of M.rules (state_in self.now) (Event.Die task) ≡ None }
@@ -109,7 +110,7 @@ impl<M: Consistency> Core<M> {
         }
     }
 
-    /// The child that an accepted fork brings.
+    /// It is made here and not where the fork is taken: its box is the one allocation of a fork.
     fn child(&self, parent: TaskId, child: TaskId, how: ForkKind) -> LiveTask
         requires { refusal_of M.rules (state_in self.now) (Event.Fork parent child how) ≡ None }
         ensures { Some result ≡ born_of M.rules (state_in self.now) (Event.Fork parent child how) }
