@@ -1,4 +1,3 @@
-mod Rows
 pub mod ChainLemmas
 pub mod PartLemmas
 pub mod LineLemmas

@@ -1,6 +1,5 @@
 pub mod Made
 pub mod Text
-pub mod Rows
 pub mod Chains
 pub mod Parts
 pub mod Heads

@@ -8,7 +8,6 @@ pub mod Advancing
 pub mod BirthLines
 pub mod Accepted
 pub mod LawProofs
-pub mod Rows
 pub mod Strays
 pub mod FirstBad
 pub mod GapLines

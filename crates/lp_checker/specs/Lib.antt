@@ -8,4 +8,3 @@ pub mod Spans
 pub mod Walks
 pub mod Marks
 pub mod Laws
-pub mod Rows

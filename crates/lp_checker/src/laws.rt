@@ -3,7 +3,6 @@
 //! The functions do nothing: each has a law as its contract, so a call of one at a model gives
 //! the law there.
 ghost use Rattle.lp_checker.specs.Laws.{AcceptsWhatIsMade, TrustsCertificates};
-ghost use Rattle.lp_checker.specs.Rows.{CertificatesCompute};
 
 use lp_model::Consistency;
 
@@ -17,9 +16,4 @@ pub fn accepted_certificates_hold<M: Consistency>()
 /// leg that opens soundly, and so at the end of each leg of a run of up to 1,000,000 events.
 pub fn made_certificates_are_accepted<M: Consistency>()
     ensures { AcceptsWhatIsMade M.rules }
-{}
-
-/// Certificates whose verdicts are known, computed from the definitions.
-pub fn worked_certificates()
-    ensures { CertificatesCompute }
 {}

@@ -1,5 +1,5 @@
-//! Runs of the engine, event by event, with the replies that are worked out by hand from the
-//! definitions, and the stays of such runs.
+//! What no row of lp_rows can say: calls of an engine by themselves, its limits, events that no text
+//! has, the laws at each model, and calls after a failed allocation.
 ghost use Rattle.std.specs.Prelude.{IfOk};
 ghost use Rattle.lp_patch.specs.Patches.{ShareSymbols};
 
@@ -8,14 +8,10 @@ mod boots;
 mod calls;
 mod counts;
 mod events;
-mod groups;
 mod laws;
 mod limits;
 mod memory;
 mod refusals;
-mod stacks;
-mod stays;
-mod tasks;
 
 use lp_model::Consistency;
 use lp_models::Hybrid;
@@ -45,14 +41,14 @@ const NINE: TaskId = TaskId(9);
 enum Said {
     Ran(u8),
     Done,
-    /// One group goes over.
+    /// One group switches.
     Over(u16),
-    /// Several groups go over: the first of them, and how many.
+    /// Several groups switch: the first of them, and how many.
     OverAll(u16, usize),
     Refused(u8),
     /// The transition is complete from here on, with no group going over.
     Complete,
-    /// One group goes over, and the transition is complete.
+    /// One group switches, and the transition is complete.
     OverLast(u16),
 }
 
@@ -123,25 +119,15 @@ fn replies_to<M: Consistency>(
     Ok(replies)
 }
 
-/// What an engine that starts with these tasks says to these events.
-fn run<M: Consistency>(
-    alloc: Global,
-    model: M,
-    patches: PatchStack,
-    boots: &[(TaskId, Class)],
-    events: &[Event],
-) -> Result<Vec<Said>, Fail> {
-    let mut core = Core::boot(alloc, model, patches, boots)?;
-    replies_to(alloc, &mut core, events)
-}
-
-/// An engine that starts with these tasks, over one patch of function `a`.
+/// An engine that starts with these tasks, over one patch of function `a`, in a box: docs/GATE.md says
+/// why.
 fn boot_over_a<M: Consistency>(
     alloc: Global,
     model: M,
     boots: &[(TaskId, Class)],
-) -> Result<Core<M>, Fail> {
-    Ok(Core::boot(alloc, model, patches(alloc, &[&[A]])?, boots)?)
+) -> Result<Box<Core<M>>, Fail> {
+    let core = Core::boot(alloc, model, patches(alloc, &[&[A]])?, boots)?;
+    Ok(Box::new(alloc, core)?)
 }
 
 /// An engine under `hybrid` that started with these tasks, over one patch of function `a`, after
@@ -150,10 +136,16 @@ fn engine_after(
     alloc: Global,
     boots: &[(TaskId, Class)],
     events: &[Event],
-) -> Result<Core<Hybrid>, Fail> {
+) -> Result<Box<Core<Hybrid>>, Fail> {
     let mut core = boot_over_a(alloc, Hybrid, boots)?;
     give(alloc, &mut core, events)?;
     Ok(core)
+}
+
+/// What such an engine says to these events.
+fn run(alloc: Global, boots: &[(TaskId, Class)], events: &[Event]) -> Result<Vec<Said>, Fail> {
+    let mut core = boot_over_a(alloc, Hybrid, boots)?;
+    replies_to(alloc, &mut core, events)
 }
 
 fn normal(number: u16) -> (TaskId, Class) {

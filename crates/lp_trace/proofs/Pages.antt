@@ -6,30 +6,31 @@ use Rattle.std.specs.List.{concat}
 use Rattle.std.proofs.lemmas.List.{append-nil}
 use Rattle.std.proofs.Math.ListN.{drop_of_length-le}
 use Rattle.std.proofs.Math.Seq.{drop-cons}
-use Rattle.lp_trace.specs.Writing.{AppendsFront, Writes, Left, Puts, line_rest}
-use Rattle.lp_trace.proofs.Writing.{appends_more, front_more, left_front, left_last, rest_at}
+use Rattle.lp_text.specs.Writing.{AppendsPrefix, Writes}
+use Rattle.lp_text.specs.inside.Writing.{Left, Puts, line_rest}
+use Rattle.lp_text.proofs.Writing.{appends_more, prefix_more, left_prefix, left_last, rest_at}
 
 pub appends_none : (a : Option (List ℕ)) → Appends a a []
 appends_none None = tt
 appends_none (Some x) = sym (append-nil x)
 
 -- a call gave up
-pub puts_err : {E : Type 0} (a b : Option (List ℕ)) (h k text : List ℕ) (r : Result (Unit {0}) E) → IsErr r → AppendsFront a b (h ++ text) → Puts a b h k r text
-puts_err a b h k text (Ok x) is front = absurd (cc is)
-puts_err a b h k text (Err e) is front = front
+pub puts_err : {E : Type 0} (a b : Option (List ℕ)) (h k text : List ℕ) (r : Result (Unit {0}) E) → IsErr r → AppendsPrefix a b (h ++ text) → Puts a b h k r text
+puts_err a b h k text (Ok x) is prefix = absurd (cc is)
+puts_err a b h k text (Err e) is prefix = prefix
 
 -- the first of two pieces was not put to its end
-pub held_front : (a b : Option (List ℕ)) (h x y text : List ℕ) → text ≡ x ++ y → AppendsFront a b (h ++ x) → AppendsFront a b (h ++ text)
-held_front a b h x y text e front = front_more a b (h ++ x) y (h ++ text) (ap (λ l. h ++ l) e ∙ sym (append_assoc h x y)) front
+pub held_prefix : (a b : Option (List ℕ)) (h x y text : List ℕ) → text ≡ x ++ y → AppendsPrefix a b (h ++ x) → AppendsPrefix a b (h ++ text)
+held_prefix a b h x y text e prefix = prefix_more a b (h ++ x) y (h ++ text) (ap (λ l. h ++ l) e ∙ sym (append_assoc h x y)) prefix
 
 -- nothing was put yet
 pub held_start : (a : Option (List ℕ)) (text : List ℕ) → Left a a text text
 held_start a text = ([], refl, appends_none a)
 
 module _ (a b c : Option (List ℕ)) (text h piece now next : List ℕ) where
-  pub held_err : now ≡ piece ++ next → Left a b text (h ++ now) → AppendsFront b c (h ++ piece) → AppendsFront a c text
-  held_err e left front =
-      left_front a b c text (h ++ piece) (h ++ now) next (ap (λ l. h ++ l) e ∙ sym (append_assoc h piece next)) left front
+  pub held_err : now ≡ piece ++ next → Left a b text (h ++ now) → AppendsPrefix b c (h ++ piece) → AppendsPrefix a c text
+  held_err e left prefix =
+      left_prefix a b c text (h ++ piece) (h ++ now) next (ap (λ l. h ++ l) e ∙ sym (append_assoc h piece next)) left prefix
 
   pub held_next : (k : List ℕ) → now ≡ piece ++ next → Left a b text (h ++ now) → Left b c (h ++ piece) k → Left a c text (k ++ next)
   held_next k e left more = (

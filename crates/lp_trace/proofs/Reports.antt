@@ -12,15 +12,15 @@ use Rattle.lp_transition.specs.declared.reply.Reply.{Reply}
 use Rattle.lp_cert.specs.declared.leg_end.LegEnd.{LegEnd}
 use Rattle.lp_cert.specs.declared.line.Line.{Line}
 use Rattle.lp_cert.specs.Text.{reason_words}
-use Rattle.lp_trace.specs.declared.form.TraceForm.{TraceForm}
-use Rattle.lp_trace.specs.declared.outcome.Outcome.{Outcome}
-use Rattle.lp_trace.specs.Words.{line_of}
-use Rattle.lp_trace.specs.Writing.{Left, line_rest}
+use Rattle.lp_text.specs.declared.form.TraceForm.{TraceForm}
+use Rattle.lp_replay.specs.declared.outcome.Outcome.{Outcome}
+use Rattle.lp_text.specs.Words.{line_of}
+use Rattle.lp_text.specs.inside.Writing.{Left, line_rest}
 use Rattle.lp_trace.specs.Report.{event_line, event_lines, leg_lines, stays_line, report, report_lines, report_header}
-use Rattle.lp_trace.specs.declared.replies.ShortReply.{ShortReply}
-use Rattle.lp_trace.specs.Replies.{first_groups, lists_in, replies_of, reply_of}
-use Rattle.lp_trace.proofs.ReplyLists.{replies-next, replies-end}
-use Rattle.lp_trace.proofs.Writing.{line_split}
+use Rattle.lp_replay.specs.declared.replies.ShortReply.{ShortReply}
+use Rattle.lp_replay.specs.Replies.{first_groups, lists_in, replies_of, reply_of}
+use Rattle.lp_replay.proofs.ReplyLists.{replies-next, replies-end}
+use Rattle.lp_text.proofs.Writing.{line_split}
 use Rattle.lp_trace.proofs.Pages.{held_start, held_next}
 
 -- ---- The groups of a line
@@ -42,7 +42,7 @@ groups_rest [] words = refl
 groups_rest (group ∷ groups) words =
     ap (λ l. (32 ∷ decimal group) ++ l) (groups_rest groups words) ∙ sym (append_assoc (32 ∷ decimal group) (flat_map (λ group. 32 ∷ decimal group) groups) (line_rest words))
 
--- the line of an event at which groups went over
+-- the line of an event at which groups switched
 pub over_line : (event : List ℕ) (groups : List ℕ) (words : List (List ℕ)) → line_of (event ∷ (codes "over" ∷ map decimal groups) ++ words) ≡ event ++ (codes " over" ++ (flat_map (λ group. 32 ∷ decimal group) groups ++ line_rest words))
 over_line event groups words =
     line_split event (codes "over" ∷ (map decimal groups ++ words)) ∙ ap (λ l. event ++ (codes " over" ++ l)) (groups_rest groups words)
@@ -124,9 +124,9 @@ module _ (form : TraceForm) (name : List ℕ) (outcome : Outcome) where
 abbrev pub with_lists : Outcome → List Reply → List LegEnd → Outcome
 with_lists outcome replies legs = record { replies = replies; legs = legs; stays = outcome.stays; mixed = outcome.mixed }
 
--- the same where the lists are the outcome's, lent
-pub lent : (outcome : Outcome) (replies : List Reply) (legs : List LegEnd) → replies ≡ outcome.replies → legs ≡ outcome.legs → with_lists outcome replies legs ≡ outcome
-lent outcome replies legs e h =
+-- the same where the lists are the outcome's, borrowed
+pub borrowed : (outcome : Outcome) (replies : List Reply) (legs : List LegEnd) → replies ≡ outcome.replies → legs ≡ outcome.legs → with_lists outcome replies legs ≡ outcome
+borrowed outcome replies legs e h =
     ap (λ r. with_lists outcome r legs) e ∙ ap (λ l. with_lists outcome outcome.replies l) h
 
 -- ---- Where a page and a writer stand after each part

@@ -1,61 +1,62 @@
--- Faults of a text that a reader has, and outcomes put together.
-use Rattle.std.proofs.Common.{◌≡◌, ◌<◌, ℕ, true, List, ◌++◌, length, Option, None, Some, IfSome, Result, Ok, Err, refl, sym, ap, ◌∙◌, subst, arith, nat_lt, lt-ltb}
-use Rattle.std.proofs.lemmas.List.{append-nil, length-append}
+-- Faults of a run, and outcomes put together.
+use Rattle.std.proofs.Common.{◌≡◌, ℕ, List, Option, Result, Ok, Err, ap, ◌∙◌, sym, subst}
 use Rattle.std.specs.Prelude.{IfErr, IfOk, IsErrAnd}
-use Rattle.lp_model.specs.Rules.{Rules}
+use Rattle.lp_model.specs.Rules.{Rules, IsLawful}
 use Rattle.lp_transition.specs.declared.reply.Reply.{Reply}
 use Rattle.lp_transition.specs.Run.{first_leg, replies}
 use Rattle.lp_transition.specs.Stays.{mixed_count, stay_count}
 use Rattle.lp_cert.specs.declared.leg_end.LegEnd.{LegEnd}
-use Rattle.lp_trace.specs.declared.outcome.Outcome.{Outcome}
-use Rattle.lp_trace.specs.Outcome.{outcome, leg_ends, run_of}
-use Rattle.lp_trace.specs.Traces.{TraceValue}
-use Rattle.lp_trace.specs.declared.fault.Cause.TheVariants as cause
-use Rattle.lp_trace.specs.declared.fault.TraceFault.{TraceFault}
-use Rattle.lp_trace.specs.declared.input.InputFault.{InputFault}
-use Rattle.lp_trace.specs.declared.input.InputFault.TheVariants as input
+use Rattle.lp_text.specs.declared.fault.TraceFault.{TraceFault}
+use Rattle.lp_text.specs.declared.stream_fault.StreamFault.{StreamFault}
+use Rattle.lp_text.specs.declared.stream_fault.StreamFault.TheVariants as stream
+use Rattle.lp_text.specs.Input.{AtText, ReadsAll}
+use Rattle.lp_text.specs.Traces.{TraceValue, IsTrace, text_of}
+use Rattle.lp_replay.specs.declared.outcome.Outcome.{Outcome}
+use Rattle.lp_replay.specs.Headline.{Headline, whole_run}
+use Rattle.lp_replay.specs.Outcome.{outcome, leg_ends, run_of}
+use Rattle.lp_replay.proofs.Headline.{headline_of_trace, outcome_is}
 use Rattle.lp_trace.specs.declared.runs.RunFault.{RunFault}
-use Rattle.lp_trace.specs.Input.{ReadsAll, ReadsTooMuch, IsInputFault}
-use Rattle.lp_trace.specs.Reading.{reading}
-use Rattle.lp_trace.specs.Runs.{AtTrace, of_input}
+use Rattle.lp_trace.specs.declared.runs.RunFault.TheVariants as run
+use Rattle.lp_trace.specs.Runs.{AtTrace, AtWrite, ReadsTrace, of_stream}
 
-pub long_reading : (text : List ℕ) → 134217728 < length text → reading text ≡ Err (record { line = 0; cause = cause.Long })
-unfolding reading
-long_reading text more =
-    let e : nat_lt 134217728 (length text) ≡ true = lt-ltb 134217728 (length text) more in
-    rw e refl
+-- ---- Faults in reading
 
--- what was read is all that the reader had
-pub all_known : (old new : Option (List ℕ)) (text : List ℕ) (P : List ℕ → Type 0) → ReadsAll old new text → P text → IfSome old P
-all_known None new text P all h = tt
-all_known (Some xs) None text P all h = absurd all.0
-all_known (Some xs) (Some ys) text P all h =
-    subst P (sym (all.0 ∙ ap (λ l. text ++ l) all.1 ∙ append-nil text)) h
-
--- the text of an input is read so, and is at fault where it is too long
-module _ {A : Type 0} (reads : List ℕ → Result A TraceFault) (long : (text : List ℕ) → 134217728 < length text → reads text ≡ Err (record { line = 0; cause = cause.Long })) where
-  -- the reader has more than it gave
-  long_known : (old new : Option (List ℕ)) → ReadsTooMuch old new → IfSome old (λ text. reads text ≡ Err (record { line = 0; cause = cause.Long }))
-  long_known None new much = tt
-  long_known (Some xs) None much = absurd much.1
-  long_known (Some xs) (Some ys) much =
-      long xs (omega (arith, much.2, ap length much.1, length-append much.0 ys))
-
-  pub input_fault : (old new : Option (List ℕ)) (fault : InputFault) (e : RunFault) → IsInputFault old new fault → e ≡ of_input fault → AtTrace e (λ why. IfSome old (λ text. reads text ≡ Err why))
-  input_fault old new input.Long e much is =
-      let P : RunFault → Type 0 = λ x. AtTrace x (λ why. IfSome old (λ text. reads text ≡ Err why)) in
-      subst P (sym is) (long_known old new much)
-  input_fault old new (input.Failed error) e h is =
-      let P : RunFault → Type 0 = λ x. AtTrace x (λ why. IfSome old (λ text. reads text ≡ Err why)) in
-      subst P (sym is) tt
-  input_fault old new input.NoMemory e h is =
-      let P : RunFault → Type 0 = λ x. AtTrace x (λ why. IfSome old (λ text. reads text ≡ Err why)) in
-      subst P (sym is) tt
+module _ (P : TraceFault → Type 0) where
+  stream_fault : (fault : StreamFault) → AtText fault P → AtTrace (of_stream fault) P
+  stream_fault (stream.Read error) h = tt
+  stream_fault (stream.Trace fault) h = h
+  stream_fault stream.NoMemory h = tt
 
   -- the same, as it is returned
-  pub input_fault_of : {X : Type 0} (old new : Option (List ℕ)) (fault : InputFault) (r : Result X RunFault) → IsInputFault old new fault → IsErrAnd r (λ e. e ≡ of_input fault) → IfErr r (λ e. AtTrace e (λ why. IfSome old (λ text. reads text ≡ Err why)))
-  input_fault_of old new fault (Ok x) h is = tt
-  input_fault_of old new fault (Err e) h is = input_fault old new fault e h is
+  pub stream_fault_of : {X : Type 0} (fault : StreamFault) (r : Result X RunFault) → AtText fault P → IsErrAnd r (λ e. e ≡ of_stream fault) → IfErr r (λ e. AtTrace e P)
+  stream_fault_of fault (Ok x) h is = tt
+  stream_fault_of fault (Err e) h is = subst (λ x. AtTrace x P) (sym is) (stream_fault fault h)
+
+unwritten : (P : Type 0) (fault : StreamFault) → AtWrite (of_stream fault) P
+unwritten P (stream.Read error) = tt
+unwritten P (stream.Trace fault) = tt
+unwritten P stream.NoMemory = tt
+
+-- no fault in reading is one of the writer
+pub unwritten_of : {X : Type 0} (P : Type 0) (fault : StreamFault) (r : Result X RunFault) → IsErrAnd r (λ e. e ≡ of_stream fault) → IfErr r (λ e. AtWrite e P)
+unwritten_of P fault (Ok x) is = tt
+unwritten_of P fault (Err e) is = subst (λ x. AtWrite x P) (sym is) (unwritten P fault)
+
+-- ---- Faults in writing
+
+pub at_write : (fault : RunFault) (P Q : Type 0) → (P → Q) → AtWrite fault P → AtWrite fault Q
+at_write (run.Write fault) P Q f h = f h
+at_write (run.Read error) P Q f h = tt
+at_write (run.Trace fault) P Q f h = tt
+at_write run.NoMemory P Q f h = tt
+
+pub no_text : (fault : RunFault) (P : TraceFault → Type 0) → AtTrace fault (λ why. ⊥) → AtTrace fault P
+no_text (run.Write fault) P h = tt
+no_text (run.Read error) P h = tt
+no_text (run.Trace fault) P h = absurd h
+no_text run.NoMemory P h = tt
+
+-- ---- Outcomes
 
 abbrev with_fields : List Reply → List LegEnd → ℕ → ℕ → Outcome
 with_fields replies legs stays mixed = record { replies = replies; legs = legs; stays = stays; mixed = mixed }
@@ -73,3 +74,10 @@ whole_outcome model trace found e h k m =
 pub whole_outcome_of : {E : Type 0} (model : Rules) (trace : TraceValue) (r : Result Outcome E) → IfOk r (λ found. found.replies ≡ replies model (first_leg model (run_of trace)) trace.events) → IfOk r (λ found. found.legs ≡ leg_ends model (first_leg model (run_of trace)) trace.events) → IfOk r (λ found. found.stays ≡ stay_count model (first_leg model (run_of trace)) trace.events) → IfOk r (λ found. found.mixed ≡ mixed_count model (first_leg model (run_of trace)) trace.events) → IfOk r (λ found. found ≡ outcome model trace)
 whole_outcome_of model trace (Ok found) e h k m = whole_outcome model trace found e h k m
 whole_outcome_of model trace (Err x) e h k m = tt
+
+-- ---- The headline
+
+-- what was read is a trace, and the headline holds of its outcome
+pub headline_of_text : (model : Rules) → IsLawful model → (old new : Option (List ℕ)) (trace : TraceValue) → IsTrace trace → ReadsAll old new (text_of trace) → ReadsTrace old new (λ read. Headline model (whole_run read) (outcome model read))
+headline_of_text model lawful old new trace is reads =
+    (trace, is, reads, headline_of_trace model lawful trace is (outcome model trace) (outcome_is model lawful trace))

@@ -1,40 +1,19 @@
 -- The answer to the input of a check: the verdict on its certificate in the leg of the trace that it names.
-use Rattle.std.specs.Prelude.{◌≡◌, ℕ, zero, suc, List, [], ◌∷◌, ◌++◌, take, drop, decimal, codes, Option, Some, None, if◌then◌else◌}
+use Rattle.std.specs.Prelude.{◌≡◌, ℕ, List, [], ◌∷◌, ◌++◌, decimal, codes, Option, Some, None}
 use Rattle.lp_model.specs.Rules.{Rules}
-use Rattle.lp_transition.specs.declared.event.Event.{Event}
 use Rattle.lp_transition.specs.Leg.{Leg}
-use Rattle.lp_transition.specs.Run.{and_then, first_leg, leg_after, next_leg, opens}
 use Rattle.lp_cert.specs.declared.cert.Cert.{Cert}
 use Rattle.lp_checker.specs.declared.fault.CertFault.{CertFault}
 use Rattle.lp_checker.specs.declared.fault.CertFault.TheVariants.{NoSuchGroup, NotOnStack, NoBlame, Gap, BadBirth, NoLeg, NoMemory}
 use Rattle.lp_checker.specs.Faults.{fault_number}
 use Rattle.lp_checker.specs.Laws.{Holds}
 use Rattle.lp_checker.specs.Verdict.{verdict_on}
-use Rattle.lp_trace.specs.declared.check_input.CheckInput.{CheckInput}
-use Rattle.lp_trace.specs.CheckTexts.{IsInput, input_text}
-use Rattle.lp_trace.specs.Input.{ReadsAll}
-use Rattle.lp_trace.specs.Outcome.{run_of}
-use Rattle.lp_trace.specs.Traces.{TraceValue}
+use Rattle.lp_text.specs.declared.check_input.CheckInput.{CheckInput}
+use Rattle.lp_text.specs.CheckTexts.{IsInput, input_text}
+use Rattle.lp_text.specs.Input.{ReadsAll}
+use Rattle.lp_replay.specs.Legs.{leg_numbered}
 
 module _ (model : Rules) where
-  -- ---- The leg
-
-  -- a leg with those of these events that come before the next that opens one
-  unfoldable pub to_end : Leg → List Event → Leg
-  to_end leg [] = leg
-  to_end leg (event ∷ events) = if opens model leg event then leg else to_end (and_then leg event) events
-
-  -- the leg that the first of these events opens, to its end
-  abbrev pub opened_by : Leg → List Event → Option Leg
-  opened_by leg [] = None
-  opened_by leg (event ∷ events) = if opens model leg event then Some (to_end (next_leg model leg event) events) else None
-
-  -- the leg of a trace that the event of a number opens, to its end, if that event opens one
-  unfoldable pub leg_numbered : TraceValue → ℕ → Option Leg
-  leg_numbered trace zero = None
-  leg_numbered trace (suc place) =
-      opened_by (leg_after model (first_leg model (run_of trace)) (take place trace.events)) (drop place trace.events)
-
   -- ---- The verdict
 
   -- the first fault of a certificate in its leg; C6 where there is no such leg
@@ -44,12 +23,12 @@ module _ (model : Rules) where
 
   -- the first fault of an input's certificate, if it has one
   abbrev pub answer_to : CheckInput → Option CertFault
-  answer_to input = verdict_in (leg_numbered input.trace input.cert.leg) input.cert
+  answer_to input = verdict_in (leg_numbered model input.trace input.cert.leg) input.cert
 
   -- what the certificate claims holds of the leg that it names
   abbrev pub HoldsInTrace : CheckInput → Type 0
   HoldsInTrace input =
-      (leg : Leg) × (leg_numbered input.trace input.cert.leg ≡ Some leg) × Holds model leg input.cert
+      (leg : Leg) × (leg_numbered model input.trace input.cert.leg ≡ Some leg) × Holds model leg input.cert
 
 -- ---- The text
 

@@ -8,10 +8,10 @@ use Rattle.lp_transition.specs.declared.reply.Reply.{Reply}
 use Rattle.lp_transition.specs.Events.{refusal_number}
 use Rattle.lp_cert.specs.declared.leg_end.LegEnd.{LegEnd}
 use Rattle.lp_cert.specs.Text.{cert_lines}
-use Rattle.lp_trace.specs.declared.form.TraceForm.{TraceForm}
-use Rattle.lp_trace.specs.declared.form.TraceForm.TheVariants.{Single, Stacked}
-use Rattle.lp_trace.specs.declared.outcome.Outcome.{Outcome}
-use Rattle.lp_trace.specs.Words.{line_of}
+use Rattle.lp_text.specs.declared.form.TraceForm.{TraceForm}
+use Rattle.lp_text.specs.declared.form.TraceForm.TheVariants.{Single, Stacked}
+use Rattle.lp_replay.specs.declared.outcome.Outcome.{Outcome}
+use Rattle.lp_text.specs.Words.{line_of}
 
 -- ---- Words
 

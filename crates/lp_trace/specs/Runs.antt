@@ -1,15 +1,12 @@
 -- What a run reads, and where its fault came.
 use Rattle.std.specs.Prelude.{List, ℕ, Option}
-use Rattle.lp_trace.specs.declared.fault.Cause.TheVariants as cause
-use Rattle.lp_trace.specs.declared.fault.TraceFault.{TraceFault}
-use Rattle.lp_trace.specs.declared.fault.ReadFault.{ReadFault}
-use Rattle.lp_trace.specs.declared.fault.ReadFault.TheVariants as read
-use Rattle.lp_trace.specs.declared.input.InputFault.{InputFault}
-use Rattle.lp_trace.specs.declared.input.InputFault.TheVariants as input
+use Rattle.lp_text.specs.declared.fault.TraceFault.{TraceFault}
+use Rattle.lp_text.specs.declared.stream_fault.StreamFault.{StreamFault}
+use Rattle.lp_text.specs.declared.stream_fault.StreamFault.TheVariants as stream
 use Rattle.lp_trace.specs.declared.runs.RunFault.{RunFault}
 use Rattle.lp_trace.specs.declared.runs.RunFault.TheVariants as run
-use Rattle.lp_trace.specs.Input.{ReadsAll}
-use Rattle.lp_trace.specs.Traces.{TraceValue, IsTrace, text_of}
+use Rattle.lp_text.specs.Input.{ReadsAll}
+use Rattle.lp_text.specs.Traces.{TraceValue, IsTrace, text_of}
 
 -- a reader gave the spelling of a trace of which this holds, and nothing is left
 abbrev pub ReadsTrace : Option (List ℕ) → Option (List ℕ) → (TraceValue → Type 0) → Type 0
@@ -37,11 +34,7 @@ BeforeWriting (run.Trace fault) P = P
 BeforeWriting run.NoMemory P = P
 
 -- a fault in reading, as a fault of a run
-abbrev pub of_input : InputFault → RunFault
-of_input (input.Failed error) = run.Read error
-of_input input.Long = run.Trace (record { line = 0; cause = cause.Long })
-of_input input.NoMemory = run.NoMemory
-
-abbrev pub of_read : ReadFault → RunFault
-of_read (read.Trace fault) = run.Trace fault
-of_read read.NoMemory = run.NoMemory
+abbrev pub of_stream : StreamFault → RunFault
+of_stream (stream.Read error) = run.Read error
+of_stream (stream.Trace fault) = run.Trace fault
+of_stream stream.NoMemory = run.NoMemory

@@ -6,24 +6,23 @@ ghost use Rattle.lp_checker.specs.Laws.{Holds};
 ghost use Rattle.lp_checker.specs.Verdict.{verdict_on};
 ghost use Rattle.lp_trace.specs.Answer.{HoldsInTrace, ReadsInput, answer_to, answer_words, event_of};
 ghost use Rattle.lp_checker.specs.Faults.{fault_number};
-ghost use Rattle.lp_trace.specs.CheckReading.{check_reading};
-ghost use Rattle.lp_trace.specs.CheckTexts.{IsInput, input_text};
-ghost use Rattle.lp_trace.specs.Input.{ReadsAll};
+ghost use Rattle.lp_text.specs.CheckReading.{check_reading};
+ghost use Rattle.lp_text.specs.CheckTexts.{IsInput, input_text};
+ghost use Rattle.lp_text.specs.Input.{ReadsAll};
 ghost use Rattle.lp_trace.specs.Runs.{AtTrace, AtWrite, BeforeWriting};
-ghost use Rattle.lp_trace.specs.Words.{line_of};
-ghost use Rattle.lp_trace.specs.Writing.{AppendsFront, Puts, Writes};
+ghost use Rattle.lp_text.specs.Words.{line_of};
+ghost use Rattle.lp_text.specs.Writing.{AppendsPrefix, Writes};
+ghost use Rattle.lp_text.specs.inside.Writing.{Puts};
 
-use crate::check_input::CheckInput;
-use crate::input::read_input;
 use crate::page::Page;
-use crate::replays::{ReplayFault, TraceLeg, leg_numbered};
 use crate::report::number;
 use crate::runs::RunFault;
-use crate::write::WriteFault;
 use itoa::Buffer;
 use lp_cert::{Cert, Claim};
 use lp_checker::{CertFault, check_floor, check_waiting};
 use lp_model::Consistency;
+use lp_replay::{ReplayFault, TraceLeg, leg_numbered};
+use lp_text::{CheckInput, WriteFault};
 use std::alloc::Global;
 use std::io::{Read, Write};
 
@@ -33,7 +32,7 @@ use std::io::{Read, Write};
 ///
 /// A certificate of an event that opens no leg is refused as C6. It makes at most 134,217,729
 /// reads. A read or write that fails or is interrupted ends it, and so does a write that takes no
-/// byte. Nothing is written before all that takes memory is done; C7 is RunFault::NoMemory.
+/// byte. Nothing is written before all allocations are done; C7 is RunFault::NoMemory.
 pub fn check<M: Consistency, R: Read, W: Write>(
     alloc: Global,
     model: M,
@@ -45,16 +44,36 @@ pub fn check<M: Consistency, R: Read, W: Write>(
         (λ input. (accepted ≡ is_none (answer_to M.rules input)) × Appends (W.contents writer.old) (W.contents writer.new) (line_of (answer_words (answer_to M.rules input))))) }
     // What an accepted certificate claims holds of the leg that it names.
     ensures sound { IfOk result (λ accepted. IsTrue accepted → ReadsInput (R.remaining reader.old) (R.remaining reader.new) (λ input. HoldsInTrace M.rules input)) }
-    // Where the writer failed, a front of that answer was written.
-    ensures front { IfErr result (λ fault. AtWrite fault (ReadsInput (R.remaining reader.old) (R.remaining reader.new)
-        (λ input. AppendsFront (W.contents writer.old) (W.contents writer.new) (line_of (answer_words (answer_to M.rules input)))))) }
+    // Where the writer failed, a prefix of that answer was written.
+    ensures prefix { IfErr result (λ fault. AtWrite fault (ReadsInput (R.remaining reader.old) (R.remaining reader.new)
+        (λ input. AppendsPrefix (W.contents writer.old) (W.contents writer.new) (line_of (answer_words (answer_to M.rules input)))))) }
     // Else a fault leaves the writer as it was.
     ensures untouched { IfErr result (λ fault. BeforeWriting fault (writer.new ≡ writer.old)) }
     // The fault of a text is the one that the definitions give.
     ensures trace { IfErr result (λ fault. AtTrace fault (λ why. IfSome (R.remaining reader.old) (λ text. check_reading text ≡ Err why))) }
 {
     let input = read_check(alloc, reader)?;
-    let answer = answer_to(alloc, model, &input)?;
+    match answer_on(alloc, model, &input, writer) {
+        Ok(accepted) => Ok(accepted),
+        Err(fault) => Err(fault),
+    }
+}
+
+/// Checks the certificate of an input under a model and writes the answer. Says whether the
+/// certificate was accepted.
+fn answer_on<M: Consistency, W: Write>(
+    alloc: Global,
+    model: M,
+    input: &CheckInput,
+    writer: &mut W,
+) -> Result<bool, RunFault>
+    ensures answer { IfOk result (λ accepted. (accepted ≡ is_none (answer_to M.rules input.now)) × Appends (W.contents writer.old) (W.contents writer.new) (line_of (answer_words (answer_to M.rules input.now)))) }
+    ensures sound { IfOk result (λ accepted. IsTrue accepted → HoldsInTrace M.rules input.now) }
+    ensures prefix { IfErr result (λ fault. AtWrite fault (AppendsPrefix (W.contents writer.old) (W.contents writer.new) (line_of (answer_words (answer_to M.rules input.now))))) }
+    ensures untouched { IfErr result (λ fault. BeforeWriting fault (writer.new ≡ writer.old)) }
+    ensures late { IfErr result (λ fault. AtTrace fault (λ _. ⊥)) }
+{
+    let answer = answer_to(alloc, model, input)?;
     let mut page = Page::new(alloc)?;
     match write_answer(&mut page, writer, answer) {
         Ok(()) => Ok(answer.is_none()),
@@ -68,8 +87,7 @@ fn read_check<R: Read>(alloc: Global, reader: &mut R) -> Result<CheckInput, RunF
     ensures trace { IfErr result (λ fault. AtTrace fault (λ why. IfSome (R.remaining reader.old) (λ text. check_reading text ≡ Err why))) }
     ensures early { IfErr result (λ fault. AtWrite fault ⊥) }
 {
-    let text = read_input(alloc, reader)?;
-    let input = CheckInput::read(alloc, text.as_slice())?;
+    let input = CheckInput::read_from(alloc, reader)?;
     Ok(input)
 }
 
@@ -109,7 +127,7 @@ fn verdict<M: Consistency>(
     }
 }
 
-/// Writes what the page holds, and then the line of an answer. Takes no memory.
+/// Writes what the page holds, and then the line of an answer. Never allocates.
 fn write_answer<W: Write>(
     page: &mut Page,
     writer: &mut W,

@@ -2,27 +2,26 @@
 ghost use Rattle.std.specs.Prelude.{◌≡◌, ℕ, ◌+◌, ◌<◌, ◌∷◌, ◌++◌, [], List, codes, decimal, map, IfSome, IsTrue, IsFalse};
 ghost use Rattle.std.specs.List.{flat_map};
 ghost use Rattle.lp_transition.specs.Events.{group_numbers};
-ghost use Rattle.lp_trace.specs.Words.{line_of};
+ghost use Rattle.lp_text.specs.Words.{line_of};
 ghost use Rattle.lp_trace.specs.Report.{what_words, complete_words, event_line, event_lines, level_word, report, report_header, stays_line};
-ghost use Rattle.lp_trace.specs.Replies.{replies_of, reply_of, what_of};
-ghost use Rattle.lp_trace.specs.Writing.{Puts, Writes, line_rest};
+ghost use Rattle.lp_replay.specs.Replies.{replies_of, reply_of, what_of};
+ghost use Rattle.lp_text.specs.Writing.{Writes};
+ghost use Rattle.lp_text.specs.inside.Writing.{Puts, line_rest};
 
 mod legs;
 
-use crate::form::TraceForm;
-use crate::outcome::Outcome;
 use crate::page::Page;
-use crate::replies::{ReplyList, ShortReply, ShortWhat, groups_at};
-use crate::write::WriteFault;
 use itoa::Buffer;
 use legs::put_legs;
+use lp_replay::{Outcome, ReplyList, ShortReply, ShortWhat, groups_at};
 use lp_stack::{GroupId, Level};
+use lp_text::{TraceForm, WriteFault};
 use lp_transition::GroupList;
 use std::io::Write;
 
 /// Writes what the page holds, and then the report of an outcome under a model of this name.
 ///
-/// Takes no memory. A fault of the writer, an interruption and a write that takes no byte end it.
+/// Never allocates. A fault of the writer, an interruption and a write that takes no byte end it.
 pub(crate) fn write_report<W: Write>(
     page: &mut Page,
     writer: &mut W,
@@ -170,7 +169,7 @@ fn put_replies<W: Write>(
     Ok(())
 }
 
-/// Puts the line of the reply to the event of a number, which took these groups over if any.
+/// Puts the line of the reply to the event of a number, which switched these groups if any.
 #[inline(never)]
 fn put_event<W: Write>(
     page: &mut Page,
@@ -200,7 +199,7 @@ fn put_event<W: Write>(
     }
 }
 
-/// Puts the line of an event at which these groups went over.
+/// Puts the line of an event at which these groups switched.
 fn put_over<W: Write>(
     page: &mut Page,
     writer: &mut W,

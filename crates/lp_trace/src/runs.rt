@@ -2,25 +2,20 @@
 ghost use Rattle.std.specs.Prelude.{◌≡◌, IfSome, IfOk, IfErr, OnOk, Err};
 ghost use Rattle.std.specs.Io.KnownBytes.{Appends};
 ghost use Rattle.lp_trace.specs.declared.runs.RunFault.TheVariants.{NoMemory as RunNoMemory};
-ghost use Rattle.lp_trace.specs.Headline.{Headline, whole_run};
-ghost use Rattle.lp_trace.specs.Input.{ReadsAll};
-ghost use Rattle.lp_trace.specs.Outcome.{outcome};
-ghost use Rattle.lp_trace.specs.Reading.{reading};
+ghost use Rattle.lp_replay.specs.Headline.{Headline, whole_run};
+ghost use Rattle.lp_text.specs.Input.{ReadsAll};
+ghost use Rattle.lp_replay.specs.Outcome.{outcome};
+ghost use Rattle.lp_text.specs.Reading.{reading};
 ghost use Rattle.lp_trace.specs.Report.{report};
-ghost use Rattle.lp_trace.specs.Runs.{ReadsTrace, AtTrace, AtWrite, BeforeWriting, of_input, of_read};
-ghost use Rattle.lp_trace.specs.Traces.{IsTrace, text_of};
-ghost use Rattle.lp_trace.specs.Writing.{AppendsFront};
+ghost use Rattle.lp_trace.specs.Runs.{ReadsTrace, AtTrace, AtWrite, BeforeWriting, of_stream};
+ghost use Rattle.lp_text.specs.Traces.{IsTrace, text_of};
+ghost use Rattle.lp_text.specs.Writing.{AppendsPrefix};
 
-use crate::fault::{Cause, ReadFault, TraceFault};
-use crate::input::InputFault;
-use crate::outcome::Outcome;
 use crate::page::Page;
-use crate::pieces::read_draft;
-use crate::replays::{ReplayFault, replay};
 use crate::report::write_report;
-use crate::trace::Trace;
-use crate::write::WriteFault;
 use lp_model::Consistency;
+use lp_replay::{Outcome, ReplayFault, replay};
+use lp_text::{StreamFault, Trace, TraceFault, WriteFault};
 use std::alloc::{AllocError, Global};
 use std::io::{self, Read, Write};
 use thiserror::Error;
@@ -34,36 +29,22 @@ pub enum RunFault {
     /// The input is no trace; of a check, no trace with a certificate behind it. Nothing was written.
     #[error("line {line}: L{number}", line = .0.line, number = .0.cause.number())]
     Trace(TraceFault),
-    /// A growth was refused. Nothing was written.
+    /// An allocation failed. Nothing was written.
     #[error("out of memory")]
     NoMemory,
-    /// The writer failed, was interrupted or took no byte. What was written is a front of the output.
+    /// The writer failed, was interrupted or took no byte. What was written is a prefix of the output.
     #[error("the output can't be written")]
     Write(WriteFault),
 }
 
-impl From<InputFault> for RunFault {
-    ghost from_gives = { λ fault e. e ≡ of_input fault };
+impl From<StreamFault> for RunFault {
+    ghost from_gives = { λ fault e. e ≡ of_stream fault };
 
-    fn from(fault: InputFault) -> RunFault {
+    fn from(fault: StreamFault) -> RunFault {
         match fault {
-            InputFault::Failed(error) => RunFault::Read(error),
-            InputFault::Long => RunFault::Trace(TraceFault {
-                line: 0,
-                cause: Cause::Long,
-            }),
-            InputFault::NoMemory => RunFault::NoMemory,
-        }
-    }
-}
-
-impl From<ReadFault> for RunFault {
-    ghost from_gives = { λ fault e. e ≡ of_read fault };
-
-    fn from(fault: ReadFault) -> RunFault {
-        match fault {
-            ReadFault::Trace(fault) => RunFault::Trace(fault),
-            ReadFault::NoMemory => RunFault::NoMemory,
+            StreamFault::Read(error) => RunFault::Read(error),
+            StreamFault::Trace(fault) => RunFault::Trace(fault),
+            StreamFault::NoMemory => RunFault::NoMemory,
         }
     }
 }
@@ -90,7 +71,7 @@ impl From<AllocError> for RunFault {
 /// model has this name.
 ///
 /// It makes at most 134,217,729 reads. A read or write that fails or is interrupted ends it, and so
-/// does a write that takes no byte. Nothing is written before all that takes memory is done.
+/// does a write that takes no byte. Nothing is written before all allocations are done.
 pub fn run<M: Consistency, R: Read, W: Write>(
     alloc: Global,
     name: &str,
@@ -104,17 +85,36 @@ pub fn run<M: Consistency, R: Read, W: Write>(
     // The headline holds of the outcome that was reported.
     ensures headline { OnOk result (ReadsTrace (R.remaining reader.old) (R.remaining reader.new)
         (λ trace. Headline M.rules (whole_run trace) (outcome M.rules trace))) }
-    // Where the writer failed, a front of that report was written.
-    ensures front { IfErr result (λ fault. AtWrite fault (ReadsTrace (R.remaining reader.old) (R.remaining reader.new)
-        (λ trace. AppendsFront (W.contents writer.old) (W.contents writer.new) (report trace.form name.now (outcome M.rules trace))))) }
+    // Where the writer failed, a prefix of that report was written.
+    ensures prefix { IfErr result (λ fault. AtWrite fault (ReadsTrace (R.remaining reader.old) (R.remaining reader.new)
+        (λ trace. AppendsPrefix (W.contents writer.old) (W.contents writer.new) (report trace.form name.now (outcome M.rules trace))))) }
     // Else a fault leaves the writer as it was.
     ensures untouched { IfErr result (λ fault. BeforeWriting fault (writer.new ≡ writer.old)) }
     // The fault of a text is the one that the definitions give.
     ensures trace { IfErr result (λ fault. AtTrace fault (λ why. IfSome (R.remaining reader.old) (λ text. reading text ≡ Err why))) }
 {
     let trace = read_trace(alloc, reader)?;
-    let outcome = outcome_of(alloc, model, &trace)?;
+    match report_on(alloc, name, model, &trace, writer) {
+        Ok(()) => Ok(()),
+        Err(fault) => Err(fault),
+    }
+}
+
+/// Replays a trace under a model and writes its report.
+fn report_on<M: Consistency, W: Write>(
+    alloc: Global,
+    name: &str,
+    model: M,
+    trace: &Trace,
+    writer: &mut W,
+) -> Result<(), RunFault>
+    ensures report { OnOk result (Appends (W.contents writer.old) (W.contents writer.new) (report trace.now.form name.now (outcome M.rules trace.now))) }
+    ensures prefix { IfErr result (λ fault. AtWrite fault (AppendsPrefix (W.contents writer.old) (W.contents writer.new) (report trace.now.form name.now (outcome M.rules trace.now)))) }
+    ensures untouched { IfErr result (λ fault. BeforeWriting fault (writer.new ≡ writer.old)) }
+    ensures late { IfErr result (λ fault. AtTrace fault (λ _. ⊥)) }
+{
     let mut page = Page::new(alloc)?;
+    let outcome = outcome_of(alloc, model, trace)?;
     match write_report(&mut page, writer, trace.form(), name, &outcome) {
         Ok(()) => Ok(()),
         Err(fault) => Err(RunFault::Write(fault)),
@@ -127,8 +127,8 @@ fn read_trace<R: Read>(alloc: Global, reader: &mut R) -> Result<Trace, RunFault>
     ensures trace { IfErr result (λ fault. AtTrace fault (λ why. IfSome (R.remaining reader.old) (λ text. reading text ≡ Err why))) }
     ensures early { IfErr result (λ fault. AtWrite fault ⊥) }
 {
-    let draft = read_draft(alloc, reader)?;
-    Ok(draft.into_trace())
+    let trace = Trace::read_from(alloc, reader)?;
+    Ok(trace)
 }
 
 /// What a trace comes to under a model.

@@ -14,7 +14,7 @@ use std::alloc::AllocError;
 use std::process::Abort;
 
 /// Two tasks that wait and sleep, of which the second is in a call.
-fn in_a_call(alloc: Global) -> Result<Core<Hybrid>, Fail> {
+fn in_a_call(alloc: Global) -> Result<Box<Core<Hybrid>>, Fail> {
     let events = [
         Event::Enter(ONE),
         Event::Sleep(ONE),
@@ -87,7 +87,7 @@ fn all_but<M: Consistency>(
 struct Shown {
     verdicts: usize,
     completed: bool,
-    /// The group that goes over, if it is one alone.
+    /// The group that switches, if it is one alone.
     over: Option<GroupId>,
 }
 

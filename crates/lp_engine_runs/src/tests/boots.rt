@@ -25,7 +25,7 @@ fn the_first_task_at_fault_is_named(rt: HostRuntime) -> Result<(), Fail> {
 }
 
 /// The engine of task 3 and an idle task 65,535.
-fn booted(alloc: Global) -> Result<Core<Immediate>, Fail> {
+fn booted(alloc: Global) -> Result<Box<Core<Immediate>>, Fail> {
     let tasks = [(TaskId(65_535), Class::Idle), normal(3)];
     boot_over_a(alloc, Immediate, &tasks)
 }
@@ -42,9 +42,9 @@ fn tasks_are_live_as_they_start(rt: HostRuntime) -> Result<(), Fail> {
 }
 
 /// The copy of that engine.
-fn opening(alloc: Global) -> Result<Opening, Fail> {
+fn opening(alloc: Global) -> Result<Box<Opening>, Fail> {
     let core = booted(alloc)?;
-    Ok(core.standing(alloc)?)
+    Ok(Box::new(alloc, core.standing(alloc)?)?)
 }
 
 #[test]

@@ -4,7 +4,7 @@ use lp_model::CheckKind;
 use lp_transition::{Step, verdicts};
 
 /// The engine of tasks 1 and 2 after these events.
-fn two_tasks_after(alloc: Global, events: &[Event]) -> Result<Core<Hybrid>, Fail> {
+fn two_tasks_after(alloc: Global, events: &[Event]) -> Result<Box<Core<Hybrid>>, Fail> {
     engine_after(alloc, &[normal(1), normal(2)], events)
 }
 
@@ -86,8 +86,8 @@ fn a_walk_is_taken_by_its_verdicts(rt: HostRuntime) -> Result<(), Fail> {
     Ok(())
 }
 
-/// The engine of tasks 1 and 2 after an enabling, when task 1 has gone over.
-fn one_over(alloc: Global) -> Result<Core<Hybrid>, Fail> {
+/// The engine of tasks 1 and 2 after an enabling, when task 1 has switched.
+fn one_over(alloc: Global) -> Result<Box<Core<Hybrid>>, Fail> {
     two_tasks_after(alloc, &[Event::Enable, Event::Enter(ONE), Event::Exit(ONE)])
 }
 

@@ -6,32 +6,23 @@ use std::process::Abort;
 
 /// How many frames task 1 has, and the serial of the last.
 fn depth(alloc: Global, core: &Core<Hybrid>) -> Result<(usize, u32), Fail> {
-    let stands = core.standing(alloc)?;
+    let stands = Box::new(alloc, core.standing(alloc)?)?;
     let view = stands.task(ONE).ok_or("task 1 lives")?;
     let last = view.frames.last().ok_or("it has a frame")?;
     Ok((view.frames.len(), last.serial))
 }
 
-/// Task 1 enters the kernel, calls `b` 101 times, returns and calls it once more; and the replies.
-fn deep_calls(alloc: Global) -> Result<(Vec<Event>, Vec<Said>), Fail> {
+/// Task 1 enters the kernel, calls `b` 101 times, returns and calls it once more.
+fn deep_calls(alloc: Global) -> Result<Vec<Event>, Fail> {
     let call = Event::Call(ONE, B);
     let mut events = Vec::new(alloc);
-    let mut worked = Vec::new(alloc);
     events.push(Event::Enter(ONE))?;
-    worked.push(Said::Done)?;
-    for _ in 0..100 {
+    for _ in 0..101 {
         events.push(call)?;
-        worked.push(Said::Ran(0))?;
     }
-    for (event, said) in [
-        (call, Said::Refused(7)),
-        (Event::Ret(ONE), Said::Done),
-        (call, Said::Ran(0)),
-    ] {
-        events.push(event)?;
-        worked.push(said)?;
-    }
-    Ok((events, worked))
+    events.push(Event::Ret(ONE))?;
+    events.push(call)?;
+    Ok(events)
 }
 
 /// `depth`, after these events.
@@ -40,23 +31,16 @@ fn depth_after(alloc: Global, events: &[Event]) -> Result<(usize, u32), Fail> {
     depth(alloc, &core)
 }
 
+/// What an engine says to these events is a row of lp_rows.
 #[test]
 fn a_task_has_at_most_100_frames(rt: HostRuntime) -> Result<(), Fail> {
-    let (events, worked) = deep_calls(rt.alloc())?;
-    let replies = run(
-        rt.alloc(),
-        Hybrid,
-        patches(rt.alloc(), &[&[A]])?,
-        &[normal(1)],
-        events.as_slice(),
-    )?;
-    assert_eq!(rt; replies.as_slice(), worked.as_slice());
+    let events = deep_calls(rt.alloc())?;
     assert_eq!(rt; depth_after(rt.alloc(), events.as_slice())?, (100, 104));
     Ok(())
 }
 
 /// Task 1 enters the kernel and leaves it, 500,000 times.
-fn a_million_events(alloc: Global) -> Result<Core<Hybrid>, Fail> {
+fn a_million_events(alloc: Global) -> Result<Box<Core<Hybrid>>, Fail> {
     let mut core = boot_over_a(alloc, Hybrid, &[normal(1)])?;
     for _ in 0..500_000 {
         give(alloc, &mut core, &[Event::Enter(ONE), Event::Exit(ONE)])?;
@@ -96,7 +80,7 @@ fn each_kind() -> [Event; 14] {
 }
 
 /// An engine of no task refuses an event, 1,000,000 times.
-fn a_million_refusals(rt: &impl Abort, alloc: Global) -> Result<Core<Hybrid>, Fail> {
+fn a_million_refusals(rt: &impl Abort, alloc: Global) -> Result<Box<Core<Hybrid>>, Fail> {
     let mut core = boot_over_a(alloc, Hybrid, &[])?;
     for _ in 0..1_000_000 {
         assert_eq!(rt;

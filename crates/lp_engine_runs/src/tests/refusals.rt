@@ -1,40 +1,6 @@
-//! Events that are refused, each for the first reason that fits.
+//! Events that no text can say, which are refused.
 use super::*;
 use lp_model::ForkKind;
-
-#[test]
-fn a_number_is_used_once(rt: HostRuntime) -> Result<(), Fail> {
-    let events = [
-        Event::Enter(ONE),
-        Event::Fork(ONE, NINE, ForkKind::Own),
-        Event::Fork(NINE, TWO, ForkKind::Own),
-        Event::Fork(ONE, TWO, ForkKind::Own),
-        Event::Fork(ONE, TWO, ForkKind::Own),
-        Event::Die(TWO),
-        Event::Fork(ONE, TWO, ForkKind::Own),
-        Event::Ret(TWO),
-    ];
-    let boots = [normal(1), (NINE, Class::Idle)];
-    let replies = run(
-        rt.alloc(),
-        Hybrid,
-        patches(rt.alloc(), &[&[A]])?,
-        &boots,
-        &events,
-    )?;
-    let worked = [
-        Said::Done,
-        Said::Refused(4),
-        Said::Refused(5),
-        Said::Done,
-        Said::Refused(4),
-        Said::Done,
-        Said::Refused(4),
-        Said::Refused(1),
-    ];
-    assert_eq!(rt; replies.as_slice(), worked.as_slice());
-    Ok(())
-}
 
 #[test]
 fn symbols_and_tasks_out_of_range_are_refused(rt: HostRuntime) -> Result<(), Fail> {
@@ -49,13 +15,7 @@ fn symbols_and_tasks_out_of_range_are_refused(rt: HostRuntime) -> Result<(), Fai
         Event::Fork(ONE, TaskId(65_535), ForkKind::Own),
         Event::Enter(none),
     ];
-    let replies = run(
-        rt.alloc(),
-        Hybrid,
-        patches(rt.alloc(), &[&[A]])?,
-        &[normal(1)],
-        &events,
-    )?;
+    let replies = run(rt.alloc(), &[normal(1)], &events)?;
     let worked = [
         Said::Done,
         Said::Refused(2),

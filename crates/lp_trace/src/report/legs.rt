@@ -4,16 +4,15 @@ ghost use Rattle.std.specs.List.{flat_map};
 ghost use Rattle.lp_cert.specs.declared.cert.Cert.{Cert};
 ghost use Rattle.lp_cert.specs.Ends.{cert_head};
 ghost use Rattle.lp_cert.specs.Text.{cert_lines, claim_word, claim_words, reason_words};
-ghost use Rattle.lp_trace.specs.Words.{line_of};
+ghost use Rattle.lp_text.specs.Words.{line_of};
 ghost use Rattle.lp_trace.specs.Report.{end_words, leg_line, leg_lines};
-ghost use Rattle.lp_trace.specs.Writing.{Puts};
+ghost use Rattle.lp_text.specs.inside.Writing.{Puts};
 
 use super::{level_word, number};
-use crate::form::TraceForm;
 use crate::page::Page;
-use crate::write::WriteFault;
 use itoa::Buffer;
 use lp_cert::{CertHead, CertLines, CertList, Claim, LegEnd, Line};
+use lp_text::{TraceForm, WriteFault};
 use std::io::Write;
 
 /// Puts the lines of the ends of legs.

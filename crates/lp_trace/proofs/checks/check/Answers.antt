@@ -1,23 +1,13 @@
-use Rattle.std.proofs.Common.{◌≡◌, ◌++◌, ap, subst, List, ℕ, Option, None}
-use Rattle.lp_checker.specs.declared.fault.CertFault.{CertFault}
-use Rattle.lp_trace.specs.Answer.{answer_to, answer_words}
-use Rattle.lp_trace.specs.Words.{line_of}
-use Rattle.lp_trace.specs.Writing.{AppendsFront}
-use Rattle.lp_trace.proofs.CheckInputs.{none_is}
+use Rattle.lp_trace.proofs.RunFaults.{at_write, no_text}
 use Rattle.lp_trace.proofs.checks.check.Goals as goal
 
 pub returns-in-Ok-clause-sound : goal.returns-in-Ok-clause-sound
 returns-in-Ok-clause-sound g c = λ accepted.
-    let none : c.in_ok-answer.answer ≡ None = none_is c.in_ok-answer.answer c.is_none.result c.is_none.ensures accepted in
-    (c.in_ok-input.input, c.in_ok-input.ensures.found.0, c.in_ok-input.ensures.found.1, c.in_ok-answer.ensures.sound none)
+    (c.in_ok-input.input, c.in_ok-input.ensures.found.0, c.in_ok-input.ensures.found.1, c.in-Ok.ensures.sound accepted)
 
-pub returns-clause-front : goal.returns-clause-front
-returns-clause-front g c =
-    let model = g.M.Consistency.rules in
-    let old = g.W.Write.contents c.args.writer.now in
-    let new = g.W.Write.contents c.write_answer.new.writer in
-    let Front : List ℕ → Type 0 = AppendsFront old new in
-    let Answered : Option CertFault → Type 0 = λ answer. Front (line_of (answer_words answer)) in
-    let held : Answered c.in_ok-answer.answer = subst Front (ap (λ l. l ++ line_of (answer_words c.in_ok-answer.answer)) c.in_ok-page.ensures) c.in-Err.ensures in
-    let written : Answered (answer_to model c.in_ok-input.input) = subst Answered c.in_ok-answer.ensures.answer held in
-    (c.in_ok-input.input, c.in_ok-input.ensures.found.0, c.in_ok-input.ensures.found.1, written)
+pub returns-clause-prefix : goal.returns-clause-prefix
+returns-clause-prefix g c =
+    at_write c.in-Err.fault _ _ (λ h. (c.in_ok-input.input, c.in_ok-input.ensures.found.0, c.in_ok-input.ensures.found.1, h)) c.in-Err.ensures.prefix
+
+pub returns-clause-trace : goal.returns-clause-trace
+returns-clause-trace g c = no_text c.in-Err.fault _ c.in-Err.ensures.late

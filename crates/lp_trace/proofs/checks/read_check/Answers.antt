@@ -1,8 +1,11 @@
-use Rattle.lp_trace.specs.CheckReading.{check_reading}
-use Rattle.lp_trace.proofs.CheckInputs.{too_long}
-use Rattle.lp_trace.proofs.RunFaults.{input_fault_of}
+use Rattle.std.proofs.Common.{◌≡◌, IfSome, Err}
+use Rattle.lp_text.specs.CheckReading.{check_reading}
+use Rattle.lp_trace.proofs.RunFaults.{stream_fault_of, unwritten_of}
 use Rattle.lp_trace.proofs.checks.read_check.Goals as goal
 
-pub returns-in_err-text-clause-trace : goal.returns-in_err-text-clause-trace
-returns-in_err-text-clause-trace g c =
-    input_fault_of check_reading too_long (g.R.Read.remaining c.args.reader.now) (g.R.Read.remaining c.read_input.new.reader) c.in_err-text.field-0.0 c.from_residual.result c.in_err-text.ensures.fault c.from_residual.ensures.1
+pub returns-in_err-input-clause-trace : goal.returns-in_err-input-clause-trace
+returns-in_err-input-clause-trace g c =
+    stream_fault_of (λ why. IfSome (g.R.Read.remaining c.args.reader.now) (λ text. check_reading text ≡ Err why)) c.in_err-input.field-0.0 c.from_residual.result c.in_err-input.ensures.trace c.from_residual.ensures.1
+
+pub returns-in_err-input-clause-early : goal.returns-in_err-input-clause-early
+returns-in_err-input-clause-early g c = unwritten_of ⊥ c.in_err-input.field-0.0 c.from_residual.result c.from_residual.ensures.1

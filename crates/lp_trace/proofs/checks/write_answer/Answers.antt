@@ -1,7 +1,7 @@
 use Rattle.std.proofs.Common.{◌++◌, refl}
 use Rattle.lp_trace.specs.Answer.{answer_words}
-use Rattle.lp_trace.specs.Words.{line_of}
-use Rattle.lp_trace.proofs.Writing.{left_last}
+use Rattle.lp_text.specs.Words.{line_of}
+use Rattle.lp_text.proofs.Writing.{left_last}
 use Rattle.lp_trace.proofs.checks.write_answer.Goals as goal
 
 pub returns : goal.returns

@@ -1,7 +1,7 @@
 use Rattle.std.proofs.Common.{◌++◌, ◌∙◌, ap, sym, decimal, List, ℕ}
-use Rattle.lp_trace.specs.Replies.{what_of}
+use Rattle.lp_replay.specs.Replies.{what_of}
 use Rattle.lp_trace.specs.Report.{what_words, complete_words}
-use Rattle.lp_trace.proofs.Writing.{line_split}
+use Rattle.lp_text.proofs.Writing.{line_split}
 use Rattle.lp_trace.proofs.report.hold_event.Goals as goal
 
 pub returns-clause-taken : goal.returns-clause-taken

@@ -1,11 +1,11 @@
 use Rattle.std.proofs.Common.{◌≡◌, ◌++◌, ◌∷◌, [], ◌∙◌, ap, sym, subst, codes, decimal, List, ℕ}
 use Rattle.std.specs.List.{flat_map}
 use Rattle.lp_transition.specs.Events.{group_numbers}
-use Rattle.lp_trace.specs.declared.replies.ShortWhat.{ShortWhat}
-use Rattle.lp_trace.specs.Replies.{what_of}
-use Rattle.lp_trace.specs.Words.{line_of}
+use Rattle.lp_replay.specs.declared.replies.ShortWhat.{ShortWhat}
+use Rattle.lp_replay.specs.Replies.{what_of}
+use Rattle.lp_text.specs.Words.{line_of}
 use Rattle.lp_trace.specs.Report.{what_words, complete_words}
-use Rattle.lp_trace.specs.Writing.{Puts}
+use Rattle.lp_text.specs.inside.Writing.{Puts}
 use Rattle.lp_trace.proofs.Reports.{over_line}
 use Rattle.lp_trace.proofs.report.put_event.Goals as goal
 

@@ -1,10 +1,10 @@
-use Rattle.lp_trace.proofs.Pages.{puts_err, held_front, held_start, held_err, held_next, held_last}
+use Rattle.lp_trace.proofs.Pages.{puts_err, held_prefix, held_start, held_err, held_next, held_last}
 use Rattle.lp_trace.proofs.Reports.{groups_at, groups_end, over_split}
 use Rattle.lp_trace.proofs.report.put_over.Goals as goal
 
 pub returns-in_err-put_all : goal.returns-in_err-put_all
 returns-in_err-put_all g c =
-    puts_err _ _ c.args.page.now.held.items _ _ c.from_residual.result c.from_residual.ensures.0 (held_front _ _ c.args.page.now.held.items _ _ _ (over_split c.args.event.now c.args.groups.now c.args.end.now) c.in_err-put_all.ensures)
+    puts_err _ _ c.args.page.now.held.items _ _ c.from_residual.result c.from_residual.ensures.0 (held_prefix _ _ c.args.page.now.held.items _ _ _ (over_split c.args.event.now c.args.groups.now c.args.end.now) c.in_err-put_all.ensures)
 
 pub loop-group-init : goal.loop-group-init
 loop-group-init g c =

@@ -1,7 +1,7 @@
 use Rattle.std.proofs.Common.{◌++◌, ◌∷◌, drop, codes, decimal}
 use Rattle.std.specs.List.{flat_map}
 use Rattle.lp_transition.specs.Events.{group_numbers}
-use Rattle.lp_trace.specs.Writing.{Left}
+use Rattle.lp_text.specs.inside.Writing.{Left}
 use Rattle.lp_trace.proofs.report.put_over.Given as goal
 
 abbrev pub invariant-loop-group : goal.invariant-loop-group

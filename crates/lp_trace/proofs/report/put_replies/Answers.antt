@@ -1,9 +1,9 @@
 use Rattle.std.proofs.Common.{◌+◌, List, ℕ, [], ◌∷◌, ◌++◌, drop, refl, sym, subst, arith}
 use Rattle.std.specs.List.{flat_map}
-use Rattle.lp_trace.specs.Words.{line_of}
-use Rattle.lp_trace.specs.Replies.{first_groups, replies_of}
+use Rattle.lp_text.specs.Words.{line_of}
+use Rattle.lp_replay.specs.Replies.{first_groups, replies_of}
 use Rattle.lp_trace.specs.Report.{event_lines}
-use Rattle.lp_trace.specs.Writing.{Left}
+use Rattle.lp_text.specs.inside.Writing.{Left}
 use Rattle.lp_trace.proofs.Pages.{puts_err, held_err, held_next, held_taken, held_end}
 use Rattle.lp_trace.proofs.Reports.{events_next, events_end}
 use Rattle.lp_trace.proofs.report.put_replies.Goals as goal

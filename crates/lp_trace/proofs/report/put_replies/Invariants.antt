@@ -1,9 +1,9 @@
 use Rattle.std.proofs.Common.{◌≤◌, ◌++◌, ◌+◌, drop}
 use Rattle.std.specs.List.{flat_map}
-use Rattle.lp_trace.specs.Words.{line_of}
-use Rattle.lp_trace.specs.Replies.{replies_of}
+use Rattle.lp_text.specs.Words.{line_of}
+use Rattle.lp_replay.specs.Replies.{replies_of}
 use Rattle.lp_trace.specs.Report.{event_lines}
-use Rattle.lp_trace.specs.Writing.{Left}
+use Rattle.lp_text.specs.inside.Writing.{Left}
 use Rattle.lp_trace.proofs.report.put_replies.Given as goal
 
 abbrev pub invariant-loop-i : goal.invariant-loop-i

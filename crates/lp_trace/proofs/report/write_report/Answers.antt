@@ -1,8 +1,7 @@
-use Rattle.std.proofs.Common.{◌++◌}
+use Rattle.std.proofs.Common.{◌++◌, refl}
 use Rattle.lp_trace.specs.Report.{report}
-use Rattle.lp_trace.proofs.Writing.{left_last}
+use Rattle.lp_text.proofs.Writing.{left_last}
 use Rattle.lp_trace.proofs.report.write_report.Goals as goal
-use Rattle.std.proofs.Common.{refl}
 
 pub returns : goal.returns
 returns g c =

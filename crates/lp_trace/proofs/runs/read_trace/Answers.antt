@@ -1,15 +1,11 @@
-use Rattle.std.proofs.Common.{subst}
-use Rattle.lp_trace.specs.Input.{ReadsAll}
-use Rattle.lp_trace.proofs.Sound.{sound}
+use Rattle.std.proofs.Common.{◌≡◌, IfSome, Err}
+use Rattle.lp_text.specs.Reading.{reading}
+use Rattle.lp_trace.proofs.RunFaults.{stream_fault_of, unwritten_of}
 use Rattle.lp_trace.proofs.runs.read_trace.Goals as goal
 
-pub into_trace-requires : goal.into_trace-requires
-into_trace-requires g c =
-    let found = c.in_ok-draft.ensures.found in
-    (sound found.0 c.in_ok-draft.draft found.2).0
+pub returns-in_err-trace-clause-trace : goal.returns-in_err-trace-clause-trace
+returns-in_err-trace-clause-trace g c =
+    stream_fault_of (λ why. IfSome (g.R.Read.remaining c.args.reader.now) (λ text. reading text ≡ Err why)) c.in_err-trace.field-0.0 c.from_residual.result c.in_err-trace.ensures.trace c.from_residual.ensures.1
 
-pub returns-clause-found : goal.returns-clause-found
-returns-clause-found g c =
-    let found = c.in_ok-draft.ensures.found in
-    let trace = sound found.0 c.in_ok-draft.draft found.2 in
-    rw c.into_trace.ensures (trace.0, subst (λ text. ReadsAll (g.R.Read.remaining c.args.reader.now) (g.R.Read.remaining c.read_draft.new.reader) text) trace.1 found.1)
+pub returns-in_err-trace-clause-early : goal.returns-in_err-trace-clause-early
+returns-in_err-trace-clause-early g c = unwritten_of ⊥ c.in_err-trace.field-0.0 c.from_residual.result c.from_residual.ensures.1

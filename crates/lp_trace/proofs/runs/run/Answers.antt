@@ -1,7 +1,15 @@
-use Rattle.lp_trace.proofs.Headline.{headline_of_text}
+use Rattle.lp_trace.proofs.RunFaults.{at_write, headline_of_text, no_text}
 use Rattle.lp_trace.proofs.runs.run.Goals as goal
 
 pub returns-in-Ok-clause-headline : goal.returns-in-Ok-clause-headline
 returns-in-Ok-clause-headline g c =
     let read = c.in_ok-trace.ensures.found in
     headline_of_text g.M.Consistency.rules g.met.M.Consistency.lawful _ _ _ read.0 read.1
+
+pub returns-clause-prefix : goal.returns-clause-prefix
+returns-clause-prefix g c =
+    let read = c.in_ok-trace.ensures.found in
+    at_write c.in-Err.fault _ _ (λ h. (c.in_ok-trace.trace, read.0, read.1, h)) c.in-Err.ensures.prefix
+
+pub returns-clause-trace : goal.returns-clause-trace
+returns-clause-trace g c = no_text c.in-Err.fault _ c.in-Err.ensures.late

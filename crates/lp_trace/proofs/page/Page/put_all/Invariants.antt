@@ -1,6 +1,6 @@
 use Rattle.std.proofs.Common.{◌++◌, map, drop}
 use Rattle.std.specs.List.{concat}
-use Rattle.lp_trace.specs.Writing.{Left}
+use Rattle.lp_text.specs.inside.Writing.{Left}
 use Rattle.lp_trace.proofs.page.Page.put_all.Given as goal
 
 abbrev pub invariant-loop-piece : goal.invariant-loop-piece

@@ -1,14 +1,14 @@
 use Rattle.std.proofs.Common.{◌∷◌, [], map, List, ℕ, Bor}
-use Rattle.lp_trace.specs.Words.{line_of}
-use Rattle.lp_trace.specs.Writing.{line_rest}
-use Rattle.lp_trace.proofs.Writing.{line_split, rest_end}
-use Rattle.lp_trace.proofs.Pages.{puts_err, held_front, held_start, held_err, held_next, held_last, words_at}
+use Rattle.lp_text.specs.Words.{line_of}
+use Rattle.lp_text.specs.inside.Writing.{line_rest}
+use Rattle.lp_text.proofs.Writing.{line_split, rest_end}
+use Rattle.lp_trace.proofs.Pages.{puts_err, held_prefix, held_start, held_err, held_next, held_last, words_at}
 use Rattle.lp_trace.proofs.page.Page.put_line.Goals as goal
 
 pub returns-in_err-put : goal.returns-in_err-put
 returns-in_err-put g c =
     let words : List (List ℕ) = map (λ (word : Bor (List ℕ)). word.now) c.args.words.now in
-    puts_err _ _ c.args.self.now.held.items _ _ c.from_residual.result c.from_residual.ensures.0 (held_front _ _ c.args.self.now.held.items c.args.first.now (line_rest words) _ (line_split c.args.first.now words) c.in_err-put.ensures)
+    puts_err _ _ c.args.self.now.held.items _ _ c.from_residual.result c.from_residual.ensures.0 (held_prefix _ _ c.args.self.now.held.items c.args.first.now (line_rest words) _ (line_split c.args.first.now words) c.in_err-put.ensures)
 
 pub loop-word-init : goal.loop-word-init
 loop-word-init g c =

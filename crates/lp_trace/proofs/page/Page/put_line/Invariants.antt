@@ -1,6 +1,6 @@
 use Rattle.std.proofs.Common.{◌++◌, ◌∷◌, map, drop}
-use Rattle.lp_trace.specs.Words.{line_of}
-use Rattle.lp_trace.specs.Writing.{Left, line_rest}
+use Rattle.lp_text.specs.Words.{line_of}
+use Rattle.lp_text.specs.inside.Writing.{Left, line_rest}
 use Rattle.lp_trace.proofs.page.Page.put_line.Given as goal
 
 abbrev pub invariant-loop-word : goal.invariant-loop-word

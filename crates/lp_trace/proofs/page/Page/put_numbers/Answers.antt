@@ -1,8 +1,8 @@
 use Rattle.std.proofs.Common.{◌≡◌, ◌∷◌, [], ◌++◌, ◌∙◌, List, ℕ, ap, sym, decimal, map}
 use Rattle.std.specs.List.{concat}
 use Rattle.std.proofs.lemmas.List.{append-nil}
-use Rattle.lp_trace.specs.Words.{line_of}
-use Rattle.lp_trace.proofs.Writing.{line_split}
+use Rattle.lp_text.specs.Words.{line_of}
+use Rattle.lp_text.proofs.Writing.{line_split}
 use Rattle.lp_trace.proofs.Pages.{puts_along}
 use Rattle.lp_trace.proofs.page.Page.put_numbers.Goals as goal
 

@@ -1,8 +1,8 @@
 use Rattle.std.proofs.Common.{◌++◌, drop}
 use Rattle.std.specs.List.{flat_map}
-use Rattle.lp_trace.specs.Words.{line_of}
+use Rattle.lp_text.specs.Words.{line_of}
 use Rattle.lp_trace.specs.Report.{leg_lines}
-use Rattle.lp_trace.specs.Writing.{Left}
+use Rattle.lp_text.specs.inside.Writing.{Left}
 use Rattle.lp_trace.proofs.report.legs.put_legs.Given as goal
 
 abbrev pub invariant-loop-leg : goal.invariant-loop-leg

@@ -1,8 +1,8 @@
 use Rattle.std.proofs.Common.{◌++◌, length, map}
 use Rattle.std.specs.List.{flat_map}
 use Rattle.lp_cert.specs.Text.{reason_words}
-use Rattle.lp_trace.specs.Words.{line_of}
-use Rattle.lp_trace.specs.Writing.{Left}
+use Rattle.lp_text.specs.Words.{line_of}
+use Rattle.lp_text.specs.inside.Writing.{Left}
 use Rattle.lp_trace.proofs.report.legs.put_reasons.Given as goal
 
 abbrev pub invariant-loop-reason : goal.invariant-loop-reason

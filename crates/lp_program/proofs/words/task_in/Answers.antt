@@ -1,0 +1,35 @@
+use Rattle.std.proofs.Common.{◌∙◌, ap₂, sym, Some}
+use Rattle.clap.proofs.TakesLemmas.{passed_up}
+use Rattle.lp_program.proofs.Matched.{asked_of, no_task_of}
+use Rattle.lp_program.proofs.words.task_in.Goals as goal
+
+pub returns-in_ok-model_of-in-Some-run-default-clause-task :
+    goal.returns-in_ok-model_of-in-Some-run-default-clause-task
+returns-in_ok-model_of-in-Some-run-default-clause-task c =
+    let found = c.in-Some-run-default in
+    asked_of c.args.matches.now found.run'.now _ (sym found.ensures.name) (sym found.ensures.rows)
+    ∙ ap₂ (λ name model. Some (name, model)) found.is-run c.in_ok-model_of-in-Some-run-default.ensures.model
+
+pub returns-in_ok-model_of-in-Some-check-default-clause-task :
+    goal.returns-in_ok-model_of-in-Some-check-default-clause-task
+returns-in_ok-model_of-in-Some-check-default-clause-task c =
+    let found = c.in-Some-check-default in
+    asked_of c.args.matches.now found.check.now _ (sym found.ensures.name) (sym found.ensures.rows)
+    ∙ ap₂ (λ name model. Some (name, model)) found.is-check c.in_ok-model_of-in-Some-check-default.ensures.model
+
+pub returns-in_err-model_of-in-Some-run-default-clause-fault :
+    goal.returns-in_err-model_of-in-Some-run-default-clause-fault
+returns-in_err-model_of-in-Some-run-default-clause-fault c =
+    let found = c.in-Some-run-default in
+    let fault = c.in_err-model_of-in-Some-run-default in
+    passed_up c.from_residual.result fault.field-0.0 _ c.from_residual.ensures.1
+    (no_task_of _ _ _ _ (asked_of c.args.matches.now found.run'.now _ (sym found.ensures.name) (sym found.ensures.rows)) fault.ensures.fault)
+
+pub returns-in_err-model_of-in-Some-check-default-clause-fault :
+    goal.returns-in_err-model_of-in-Some-check-default-clause-fault
+returns-in_err-model_of-in-Some-check-default-clause-fault c =
+    let found = c.in-Some-check-default in
+    let fault = c.in_err-model_of-in-Some-check-default in
+    let returned = c.from_residual-in_err-model_of-in-Some-check-default in
+    passed_up returned.result fault.field-0.0 _ returned.ensures.1
+    (no_task_of _ _ _ _ (asked_of c.args.matches.now found.check.now _ (sym found.ensures.name) (sym found.ensures.rows)) fault.ensures.fault)

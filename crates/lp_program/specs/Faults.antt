@@ -1,0 +1,42 @@
+-- How the program ends: its exit status, and its line on standard error.
+use Rattle.std.specs.Prelude.{ℕ, List, [], ◌++◌, codes, decimal}
+use Rattle.lp_trace.specs.declared.runs.RunFault.{RunFault}
+use Rattle.lp_trace.specs.declared.runs.RunFault.TheVariants as run
+use Rattle.lp_text.specs.Faults.{cause_number}
+use Rattle.lp_program.specs.declared.fault.Fault.{Fault}
+use Rattle.lp_program.specs.declared.fault.Fault.TheVariants as fault
+use Rattle.lp_program.specs.declared.words.WordsFault.{WordsFault}
+use Rattle.lp_program.specs.declared.words.WordsFault.TheVariants as words
+
+-- the exit status
+abbrev pub status_of : Fault → ℕ
+status_of fault.Read = 1
+status_of fault.Write = 1
+status_of fault.Usage = 2
+status_of fault.UnknownModel = 2
+status_of (fault.Trace why) = 3
+status_of fault.Refused = 4
+status_of fault.NoMemory = 5
+
+-- the line on standard error; none where standard output says why
+abbrev pub line_for : Fault → List ℕ
+line_for fault.Read = codes "lpt: read fault\n"
+line_for fault.Write = codes "lpt: write fault\n"
+line_for fault.Usage = codes "lpt: usage\n"
+line_for fault.UnknownModel = codes "lpt: unknown model\n"
+line_for (fault.Trace why) = codes "lpt: line " ++ (decimal why.line ++ (codes ": L" ++ (decimal (cause_number why.cause) ++ codes "\n")))
+line_for fault.Refused = []
+line_for fault.NoMemory = codes "lpt: out of memory\n"
+
+-- how the program ends where its words ask for nothing
+abbrev pub of_words : WordsFault → Fault
+of_words words.Usage = fault.Usage
+of_words words.UnknownModel = fault.UnknownModel
+of_words words.NoMemory = fault.NoMemory
+
+-- how it ends where a run or a check doesn't write its output
+abbrev pub of_run : RunFault → Fault
+of_run (run.Read error) = fault.Read
+of_run (run.Trace why) = fault.Trace why
+of_run run.NoMemory = fault.NoMemory
+of_run (run.Write error) = fault.Write

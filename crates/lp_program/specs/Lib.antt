@@ -1,0 +1,4 @@
+pub mod Asked
+pub mod Faults
+pub mod Named
+pub mod Performed

@@ -1,0 +1,81 @@
+-- What the program reads and writes.
+use Rattle.std.specs.Prelude.{◌≡◌, ◌⊎◌, ℕ, List, Option, None, IsSome, IfSome, Err}
+use Rattle.std.specs.Io.KnownBytes.{Appends}
+use Rattle.lp_models.specs.declared.name.ModelName.{ModelName}
+use Rattle.lp_models.specs.Names.{name_of}
+use Rattle.lp_checker.specs.declared.fault.CertFault.{CertFault}
+use Rattle.lp_text.specs.declared.check_input.CheckInput.{CheckInput}
+use Rattle.lp_text.specs.declared.fault.TraceFault.{TraceFault}
+use Rattle.lp_trace.specs.Answer.{ReadsInput, answer_to, answer_words}
+use Rattle.lp_text.specs.CheckReading.{check_reading}
+use Rattle.lp_replay.specs.Outcome.{outcome}
+use Rattle.lp_text.specs.Reading.{reading}
+use Rattle.lp_trace.specs.Report.{report}
+use Rattle.lp_trace.specs.Runs.{ReadsTrace}
+use Rattle.lp_text.specs.Traces.{TraceValue}
+use Rattle.lp_text.specs.Words.{line_of}
+use Rattle.lp_text.specs.Writing.{AppendsPrefix}
+use Rattle.lp_program.specs.Asked.{Asks, AsksNothing}
+use Rattle.lp_program.specs.Faults.{of_words}
+use Rattle.lp_program.specs.Named.{rules_named}
+use Rattle.lp_program.specs.declared.fault.Fault.{Fault}
+use Rattle.lp_program.specs.declared.fault.Fault.TheVariants as fault
+use Rattle.lp_program.specs.declared.words.Task.{Task}
+use Rattle.lp_program.specs.declared.words.Task.TheVariants.{Run, Check}
+use Rattle.lp_program.specs.declared.words.WordsFault.{WordsFault}
+
+-- the report of a trace under the model of a name
+abbrev pub report_under : ModelName → TraceValue → List ℕ
+report_under model trace = report trace.form (name_of model) (outcome (rules_named model) trace)
+
+-- the answer to a certificate under the model of a name, and its line
+abbrev pub answer_under : ModelName → CheckInput → Option CertFault
+answer_under model input = answer_to (rules_named model) input
+
+abbrev pub answer_line : ModelName → CheckInput → List ℕ
+answer_line model input = line_of (answer_words (answer_under model input))
+
+-- what was to be read before and after, and what was written before and after
+module _ (before after old new : Option (List ℕ)) where
+  -- a task is done
+  abbrev pub IsDone : Task → Type 0
+  IsDone (Run model) = ReadsTrace before after (λ trace. Appends old new (report_under model trace))
+  IsDone (Check model) =
+      ReadsInput before after (λ input. (answer_under model input ≡ None) × Appends old new (answer_line model input))
+
+  -- the certificate is refused, and the answer is written
+  abbrev pub IsRefused : Task → Type 0
+  IsRefused (Run model) = ⊥
+  IsRefused (Check model) =
+      ReadsInput before after (λ input. IsSome (answer_under model input) × Appends old new (answer_line model input))
+
+  -- a prefix of what was to be written is
+  abbrev pub WritesPrefix : Task → Type 0
+  WritesPrefix (Run model) = ReadsTrace before after (λ trace. AppendsPrefix old new (report_under model trace))
+  WritesPrefix (Check model) = ReadsInput before after (λ input. AppendsPrefix old new (answer_line model input))
+
+-- a text is no input of the task, for this reason
+abbrev pub IsTextFault : Task → TraceFault → List ℕ → Type 0
+IsTextFault (Run model) why text = reading text ≡ Err why
+IsTextFault (Check model) why text = check_reading text ≡ Err why
+
+module _ (before after old new : Option (List ℕ)) where
+  -- how a task ends by a fault; `same` says that the writer is as it was
+  abbrev pub EndsBy : Type 0 → Task → Fault → Type 0
+  EndsBy same task fault.Read = same
+  EndsBy same task fault.Write = WritesPrefix before after old new task
+  EndsBy same task fault.Usage = ⊥
+  EndsBy same task fault.UnknownModel = ⊥
+  EndsBy same task (fault.Trace why) = IfSome before (IsTextFault task why) × same
+  EndsBy same task fault.Refused = IsRefused before after old new task
+  EndsBy same task fault.NoMemory = same
+
+  -- the words ask for a task, and it is done
+  abbrev pub Performs : List (List ℕ) → Type 0
+  Performs words = (task : Task) × Asks words task × IsDone before after old new task
+
+  -- the words ask for nothing, and nothing is read or written; or they ask for a task, and it ends by the fault
+  abbrev pub Fails : Type 0 → Type 0 → List (List ℕ) → Fault → Type 0
+  Fails unread same words fault =
+      ((why : WordsFault) × AsksNothing words why × (fault ≡ of_words why) × unread × same)
+      ⊎ ((task : Task) × Asks words task × EndsBy same task fault)

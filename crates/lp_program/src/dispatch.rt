@@ -1,0 +1,73 @@
+//! A run and a check under the model of a name.
+ghost use Rattle.std.specs.Prelude.{◌≡◌, Err, IfErr, IfOk, IfSome, IsTrue, OnOk, is_none};
+ghost use Rattle.std.specs.Io.KnownBytes.{Appends};
+ghost use Rattle.lp_models.specs.Names.{name_of};
+ghost use Rattle.lp_trace.specs.Answer.{HoldsInTrace, ReadsInput, answer_to, answer_words};
+ghost use Rattle.lp_text.specs.CheckReading.{check_reading};
+ghost use Rattle.lp_replay.specs.Headline.{Headline, whole_run};
+ghost use Rattle.lp_replay.specs.Outcome.{outcome};
+ghost use Rattle.lp_text.specs.Reading.{reading};
+ghost use Rattle.lp_trace.specs.Report.{report};
+ghost use Rattle.lp_trace.specs.Runs.{AtTrace, AtWrite, BeforeWriting, ReadsTrace};
+ghost use Rattle.lp_text.specs.Words.{line_of};
+ghost use Rattle.lp_text.specs.Writing.{AppendsPrefix};
+ghost use Rattle.lp_program.specs.Named.{rules_named};
+
+use lp_models::{AllAtOnce, Hybrid, Immediate, LeaveKernel, ModelName};
+use lp_process::ProcessGroup;
+use lp_trace::RunFault;
+use std::alloc::Global;
+use std::io::{Read, Write};
+
+/// Reads a trace and writes the report of its run under a model, as [`lp_trace::run`].
+pub fn run<R: Read, W: Write>(
+    alloc: Global,
+    model: ModelName,
+    reader: &mut R,
+    writer: &mut W,
+) -> Result<(), RunFault>
+    // The report has the model's name, and is that of its rules.
+    ensures report { OnOk result (ReadsTrace (R.remaining reader.old) (R.remaining reader.new)
+        (λ trace. Appends (W.contents writer.old) (W.contents writer.new) (report trace.form (name_of model) (outcome (rules_named model) trace)))) }
+    ensures headline { OnOk result (ReadsTrace (R.remaining reader.old) (R.remaining reader.new)
+        (λ trace. Headline (rules_named model) (whole_run trace) (outcome (rules_named model) trace))) }
+    ensures prefix { IfErr result (λ fault. AtWrite fault (ReadsTrace (R.remaining reader.old) (R.remaining reader.new)
+        (λ trace. AppendsPrefix (W.contents writer.old) (W.contents writer.new) (report trace.form (name_of model) (outcome (rules_named model) trace))))) }
+    ensures untouched { IfErr result (λ fault. BeforeWriting fault (writer.new ≡ writer.old)) }
+    ensures trace { IfErr result (λ fault. AtTrace fault (λ why. IfSome (R.remaining reader.old) (λ text. reading text ≡ Err why))) }
+{
+    let name = model.name();
+    match model {
+        ModelName::Hybrid => lp_trace::run(alloc, name, Hybrid, reader, writer),
+        ModelName::LeaveKernel => lp_trace::run(alloc, name, LeaveKernel, reader, writer),
+        ModelName::AllAtOnce => lp_trace::run(alloc, name, AllAtOnce, reader, writer),
+        ModelName::Immediate => lp_trace::run(alloc, name, Immediate, reader, writer),
+        ModelName::ProcessGroup => lp_trace::run(alloc, name, ProcessGroup, reader, writer),
+    }
+}
+
+/// Reads a trace and a certificate, writes the answer to it under a model, and says whether it was
+/// accepted, as [`lp_trace::check`].
+pub fn check<R: Read, W: Write>(
+    alloc: Global,
+    model: ModelName,
+    reader: &mut R,
+    writer: &mut W,
+) -> Result<bool, RunFault>
+    // The answer is that of the model's rules.
+    ensures answer { IfOk result (λ accepted. ReadsInput (R.remaining reader.old) (R.remaining reader.new)
+        (λ input. (accepted ≡ is_none (answer_to (rules_named model) input)) × Appends (W.contents writer.old) (W.contents writer.new) (line_of (answer_words (answer_to (rules_named model) input))))) }
+    ensures sound { IfOk result (λ accepted. IsTrue accepted → ReadsInput (R.remaining reader.old) (R.remaining reader.new) (λ input. HoldsInTrace (rules_named model) input)) }
+    ensures prefix { IfErr result (λ fault. AtWrite fault (ReadsInput (R.remaining reader.old) (R.remaining reader.new)
+        (λ input. AppendsPrefix (W.contents writer.old) (W.contents writer.new) (line_of (answer_words (answer_to (rules_named model) input)))))) }
+    ensures untouched { IfErr result (λ fault. BeforeWriting fault (writer.new ≡ writer.old)) }
+    ensures trace { IfErr result (λ fault. AtTrace fault (λ why. IfSome (R.remaining reader.old) (λ text. check_reading text ≡ Err why))) }
+{
+    match model {
+        ModelName::Hybrid => lp_trace::check(alloc, Hybrid, reader, writer),
+        ModelName::LeaveKernel => lp_trace::check(alloc, LeaveKernel, reader, writer),
+        ModelName::AllAtOnce => lp_trace::check(alloc, AllAtOnce, reader, writer),
+        ModelName::Immediate => lp_trace::check(alloc, Immediate, reader, writer),
+        ModelName::ProcessGroup => lp_trace::check(alloc, ProcessGroup, reader, writer),
+    }
+}

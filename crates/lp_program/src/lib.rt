@@ -1,0 +1,14 @@
+//! The program `lpt`: what its words ask for, what it does then, and how it ends.
+#![tactic(auto)]
+
+mod dispatch;
+mod fault;
+mod process;
+mod program;
+mod words;
+
+pub use dispatch::{check, run};
+pub use fault::Fault;
+pub use process::start;
+pub use program::{act, perform};
+pub use words::{Task, WordsFault, task_of};

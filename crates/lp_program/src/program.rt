@@ -1,0 +1,76 @@
+//! What the program does at its words.
+ghost use Rattle.std.specs.Prelude.{◌≡◌, IfErr, OnOk, map};
+ghost use Rattle.lp_program.specs.Performed.{EndsBy, Fails, IsDone, Performs};
+
+use crate::dispatch::{check, run};
+use crate::fault::Fault;
+use crate::words::{Task, task_of};
+use lp_models::ModelName;
+use std::alloc::Global;
+use std::convert::AsStr;
+use std::io::{Read, Write};
+
+/// Does what the words ask for, the first of which is the program's name. The words are looked at
+/// first, then the model's name, and only then is anything read.
+pub fn perform<S: AsStr, R: Read, W: Write>(
+    alloc: Global,
+    words: &[S],
+    reader: &mut R,
+    writer: &mut W,
+) -> Result<(), Fault>
+    ensures done { OnOk result (Performs (R.remaining reader.old) (R.remaining reader.new) (W.contents writer.old) (W.contents writer.new) (map S.text words.now)) }
+    ensures fails { IfErr result (Fails (R.remaining reader.old) (R.remaining reader.new) (W.contents writer.old) (W.contents writer.new)
+        (reader.new ≡ reader.old) (writer.new ≡ writer.old) (map S.text words.now)) }
+{
+    let task = task_of(alloc, words)?;
+    act(alloc, task, reader, writer)
+}
+
+/// Does a task.
+pub fn act<R: Read, W: Write>(
+    alloc: Global,
+    task: Task,
+    reader: &mut R,
+    writer: &mut W,
+) -> Result<(), Fault>
+    ensures done { OnOk result (IsDone (R.remaining reader.old) (R.remaining reader.new) (W.contents writer.old) (W.contents writer.new) task) }
+    ensures ends { IfErr result (EndsBy (R.remaining reader.old) (R.remaining reader.new) (W.contents writer.old) (W.contents writer.new) (writer.new ≡ writer.old) task) }
+{
+    match task {
+        Task::Run(model) => act_run(alloc, model, reader, writer),
+        Task::Check(model) => act_check(alloc, model, reader, writer),
+    }
+}
+
+/// Writes the report of a trace.
+fn act_run<R: Read, W: Write>(
+    alloc: Global,
+    model: ModelName,
+    reader: &mut R,
+    writer: &mut W,
+) -> Result<(), Fault>
+    ensures done { OnOk result (IsDone (R.remaining reader.old) (R.remaining reader.new) (W.contents writer.old) (W.contents writer.new) (Task.Run model)) }
+    ensures ends { IfErr result (EndsBy (R.remaining reader.old) (R.remaining reader.new) (W.contents writer.old) (W.contents writer.new) (writer.new ≡ writer.old) (Task.Run model)) }
+{
+    match run(alloc, model, reader, writer) {
+        Ok(()) => Ok(()),
+        Err(fault) => Err(Fault::from(fault)),
+    }
+}
+
+/// Writes the answer to a certificate.
+fn act_check<R: Read, W: Write>(
+    alloc: Global,
+    model: ModelName,
+    reader: &mut R,
+    writer: &mut W,
+) -> Result<(), Fault>
+    ensures done { OnOk result (IsDone (R.remaining reader.old) (R.remaining reader.new) (W.contents writer.old) (W.contents writer.new) (Task.Check model)) }
+    ensures ends { IfErr result (EndsBy (R.remaining reader.old) (R.remaining reader.new) (W.contents writer.old) (W.contents writer.new) (writer.new ≡ writer.old) (Task.Check model)) }
+{
+    match check(alloc, model, reader, writer) {
+        Ok(true) => Ok(()),
+        Ok(false) => Err(Fault::Refused),
+        Err(fault) => Err(Fault::from(fault)),
+    }
+}

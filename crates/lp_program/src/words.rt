@@ -1,0 +1,100 @@
+//! The words that the program is given.
+ghost use Rattle.std.specs.Prelude.{◌≡◌, IfOk, IfErr, Some, None, codes, map};
+ghost use Rattle.clap.specs.Words.{app_of, first_value, found_of, kind_of, subcommand_rows_of};
+ghost use Rattle.lp_models.specs.Names.{name_of};
+ghost use Rattle.lp_program.specs.Asked.{Asks, AsksNothing, IsRefusal, NamesNoModel, NamesNoTask, asked_in, lpt, words_of};
+
+use clap::error::ErrorKind;
+use clap::{Arg, ArgAction, ArgMatches, Command, Error};
+use lp_models::ModelName;
+use std::alloc::{AllocError, Global};
+use std::convert::AsStr;
+
+/// What the program is asked to do.
+#[derive(Clone, Copy, Debug, PartialEq, Eq)]
+pub enum Task {
+    /// `run MODEL`: reads a trace and writes the report of its run under the model.
+    Run(ModelName),
+    /// `check MODEL`: reads a trace and a certificate, and writes the answer to it under the model.
+    Check(ModelName),
+}
+
+/// Why the words ask for nothing that the program does.
+#[derive(Clone, Copy, Debug, PartialEq, Eq)]
+pub enum WordsFault {
+    /// No line of the program's table, or a call for help.
+    Usage,
+    /// The words are right but for the model's name.
+    UnknownModel,
+    /// An allocation failed.
+    NoMemory,
+}
+
+impl From<AllocError> for WordsFault {
+    ghost use Rattle.lp_program.specs.declared.words.WordsFault.TheVariants.{NoMemory};
+
+    ghost from_gives = { λ _ e. e ≡ NoMemory };
+
+    fn from(_e: AllocError) -> WordsFault {
+        WordsFault::NoMemory
+    }
+}
+
+/// Why clap refuses the words.
+fn refused(error: &Error) -> WordsFault
+    ensures { IsRefusal (kind_of error.now) result }
+{
+    match error.kind() {
+        ErrorKind::OutOfMemory => WordsFault::NoMemory,
+        _ => WordsFault::Usage,
+    }
+}
+
+/// The words of the program: one of the subcommands, with a model.
+fn command<'a>(alloc: Global) -> Result<Command<'a>, AllocError>
+    ensures { IfOk result (λ command. app_of command ≡ lpt) }
+{
+    let first = Arg::new(alloc, "MODEL")
+        .required(true)
+        .action(ArgAction::Set);
+    let second = Arg::new(alloc, "MODEL")
+        .required(true)
+        .action(ArgAction::Set);
+    let run = Command::new(alloc, "run").arg(first)?;
+    let check = Command::new(alloc, "check").arg(second)?;
+    Command::new(alloc, "lpt")
+        .subcommand(run)?
+        .subcommand(check)
+}
+
+/// The model that a subcommand names.
+fn model_of(matches: &ArgMatches<'_>) -> Result<ModelName, WordsFault>
+    ensures model { IfOk result (λ model. first_value (found_of matches.now) (codes "MODEL") ≡ Some (name_of model)) }
+    ensures fault { IfErr result (λ fault. NamesNoModel (first_value (found_of matches.now) (codes "MODEL")) fault) }
+{
+    let name = matches.get_str("MODEL").ok_or(WordsFault::Usage)?;
+    ModelName::read(name).ok_or(WordsFault::UnknownModel)
+}
+
+/// What the words ask for that clap has matched.
+fn task_in(matches: &ArgMatches<'_>) -> Result<Task, WordsFault>
+    ensures task { IfOk result (λ task. asked_in (subcommand_rows_of matches.now) ≡ Some (words_of task)) }
+    ensures fault { IfErr result (λ fault. NamesNoTask (asked_in (subcommand_rows_of matches.now)) fault) }
+{
+    match matches.subcommand() {
+        Some(("run", run)) => Ok(Task::Run(model_of(run)?)),
+        Some(("check", check)) => Ok(Task::Check(model_of(check)?)),
+        _ => Err(WordsFault::Usage),
+    }
+}
+
+/// What these words ask for, the first of which is the program's name.
+pub fn task_of<S: AsStr>(alloc: Global, words: &[S]) -> Result<Task, WordsFault>
+    ensures task { IfOk result (Asks (map S.text words.now)) }
+    ensures fault { IfErr result (AsksNothing (map S.text words.now)) }
+{
+    match command(alloc)?.try_get_matches_from(words) {
+        Ok(matches) => task_in(&matches),
+        Err(error) => Err(refused(&error)),
+    }
+}

@@ -1,0 +1,8 @@
+pub mod ReplyLists
+pub mod Starting
+pub mod Recording
+pub mod Legs
+pub mod Moved
+pub mod GroupsInRange
+pub mod LegByLeg
+pub mod Headline

@@ -1,0 +1,16 @@
+use Rattle.std.proofs.Common.{◌∙◌, subst, sym}
+use Rattle.lp_cert.proofs.Tellings.{legs_made}
+use Rattle.lp_replay.specs.inside.Recording.{IsRecorded, Recorded}
+use Rattle.lp_replay.proofs.replays.recorder.Recorder.finish.Goals as goal
+
+pub returns : goal.returns
+returns g c = λ run is.
+    let model = g.M.Consistency.rules in
+    let kept : Recorded = record { core = c.self.inside.core; made = c.self.inside.maker; replies = c.self.inside.replies; stays = c.self.inside.stays } in
+    let is_kept : IsRecorded model run kept = subst (IsRecorded model run) (sym c.self.view_is) is in
+    record {
+      replied = is_kept.replied;
+      legs = c.from_vec.ensures ∙ (c.in_ok-into_ends.ensures ∙ legs_made model run kept.made is_kept.made);
+      stays = c.stays-2.ensures ∙ is_kept.counts.stays;
+      mixed = c.mixed.ensures ∙ is_kept.counts.mixed;
+    }

@@ -1,0 +1,36 @@
+use Rattle.std.proofs.Common.{List, [], ◌∷◌, ◌++◌, refl, sym, ap, ◌∙◌}
+use Rattle.lp_transition.specs.declared.reply.What.{What}
+use Rattle.lp_transition.specs.declared.reply.Reply.{Reply}
+use Rattle.lp_replay.specs.declared.replies.ShortReply.{ShortReply}
+use Rattle.lp_replay.specs.declared.replies.ShortWhat.TheVariants.{Ran, Done, Refused}
+use Rattle.lp_transition.specs.declared.reply.What.TheVariants as what
+use Rattle.lp_replay.proofs.ReplyLists.{pushed-plain, pushed-over}
+use Rattle.lp_replay.proofs.replies.ReplyList.push.Goals as goal
+use Rattle.lp_replay.proofs.replies.ReplyList.push.Goals.{in-Ran, in-Done, in-Refused, in-Switched+in_ok-push-in-Switched}
+
+pub invariant_of-self-2 : goal.invariant_of-self-2
+invariant_of-self-2 c =
+    let i = c.self.inside in
+    let one : List ShortReply → List ShortReply = λ l. l ++ record { what = c.match-what-2.what; completed = c.args.reply.completed } ∷ [] in
+    elim c.match-what-2.branch [
+      | in-Ran w ↦ (pushed-plain i.short.items c.push_reserved.new.self.items i.groups.items c.match-what-2.self-inside.groups.items c.match-what-2.what (Ran w.in-Ran.level) (what.Ran w.in-Ran.level) c.args.reply.completed c.self.invariant (c.push_reserved.ensures.items ∙ ap (λ s. one s.short.items) w.self-inside-is ∙ ap one c.reserve.ensures.items) (ap (λ s. s.groups.items) w.self-inside-is) w.what-is refl (λ some. refl)).0
+      | in-Done w ↦ (pushed-plain i.short.items c.push_reserved.new.self.items i.groups.items c.match-what-2.self-inside.groups.items c.match-what-2.what Done what.Done c.args.reply.completed c.self.invariant (c.push_reserved.ensures.items ∙ ap (λ s. one s.short.items) w.self-inside-is ∙ ap one c.reserve.ensures.items) (ap (λ s. s.groups.items) w.self-inside-is) w.what-is refl (λ some. refl)).0
+      | in-Refused w ↦ (pushed-plain i.short.items c.push_reserved.new.self.items i.groups.items c.match-what-2.self-inside.groups.items c.match-what-2.what (Refused w.in-Refused.why) (what.Refused w.in-Refused.why) c.args.reply.completed c.self.invariant (c.push_reserved.ensures.items ∙ ap (λ s. one s.short.items) w.self-inside-is ∙ ap one c.reserve.ensures.items) (ap (λ s. s.groups.items) w.self-inside-is) w.what-is refl (λ some. refl)).0
+      | in-Switched+in_ok-push-in-Switched w ↦ (pushed-over i.short.items c.push_reserved.new.self.items i.groups.items c.match-what-2.self-inside.groups.items c.match-what-2.what w.in-Switched.groups c.args.reply.completed c.self.invariant (c.push_reserved.ensures.items ∙ ap (λ s. one s.short.items) w.self-inside-is ∙ ap one c.reserve.ensures.items) (ap (λ s. s.groups.items) w.self-inside-is ∙ w.in_ok-push-in-Switched.ensures.items) w.what-is).0
+    ]
+
+pub returns : goal.returns
+returns c =
+    let i = c.self.inside in
+    let one : List ShortReply → List ShortReply = λ l. l ++ record { what = c.match-what-2.what; completed = c.args.reply.completed } ∷ [] in
+    let whole : What → List Reply = λ said. c.args.self.now ++ record { what = said; completed = c.args.reply.completed } ∷ [] in
+    elim c.match-what-2.branch [
+      | in-Ran w ↦ (pushed-plain i.short.items c.push_reserved.new.self.items i.groups.items c.match-what-2.self-inside.groups.items c.match-what-2.what (Ran w.in-Ran.level) (what.Ran w.in-Ran.level) c.args.reply.completed c.self.invariant (c.push_reserved.ensures.items ∙ ap (λ s. one s.short.items) w.self-inside-is ∙ ap one c.reserve.ensures.items) (ap (λ s. s.groups.items) w.self-inside-is) w.what-is refl (λ some. refl)).1
+          ∙ ap (λ l. l ++ record { what = what.Ran w.in-Ran.level; completed = c.args.reply.completed } ∷ []) c.self.view_is ∙ ap whole (sym w.in-Ran.is)
+      | in-Done w ↦ (pushed-plain i.short.items c.push_reserved.new.self.items i.groups.items c.match-what-2.self-inside.groups.items c.match-what-2.what Done what.Done c.args.reply.completed c.self.invariant (c.push_reserved.ensures.items ∙ ap (λ s. one s.short.items) w.self-inside-is ∙ ap one c.reserve.ensures.items) (ap (λ s. s.groups.items) w.self-inside-is) w.what-is refl (λ some. refl)).1
+          ∙ ap (λ l. l ++ record { what = what.Done; completed = c.args.reply.completed } ∷ []) c.self.view_is ∙ ap whole (sym w.in-Done.is)
+      | in-Refused w ↦ (pushed-plain i.short.items c.push_reserved.new.self.items i.groups.items c.match-what-2.self-inside.groups.items c.match-what-2.what (Refused w.in-Refused.why) (what.Refused w.in-Refused.why) c.args.reply.completed c.self.invariant (c.push_reserved.ensures.items ∙ ap (λ s. one s.short.items) w.self-inside-is ∙ ap one c.reserve.ensures.items) (ap (λ s. s.groups.items) w.self-inside-is) w.what-is refl (λ some. refl)).1
+          ∙ ap (λ l. l ++ record { what = what.Refused w.in-Refused.why; completed = c.args.reply.completed } ∷ []) c.self.view_is ∙ ap whole (sym w.in-Refused.is)
+      | in-Switched+in_ok-push-in-Switched w ↦ (pushed-over i.short.items c.push_reserved.new.self.items i.groups.items c.match-what-2.self-inside.groups.items c.match-what-2.what w.in-Switched.groups c.args.reply.completed c.self.invariant (c.push_reserved.ensures.items ∙ ap (λ s. one s.short.items) w.self-inside-is ∙ ap one c.reserve.ensures.items) (ap (λ s. s.groups.items) w.self-inside-is ∙ w.in_ok-push-in-Switched.ensures.items) w.what-is).1
+          ∙ ap (λ l. l ++ record { what = what.Switched w.in-Switched.groups; completed = c.args.reply.completed } ∷ []) c.self.view_is ∙ ap whole (sym w.in-Switched.is)
+    ]

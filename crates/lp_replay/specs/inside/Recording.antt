@@ -1,0 +1,41 @@
+-- What is kept of a run while it goes on, and when it is that of the run.
+use Rattle.std.specs.Prelude.{◌≡◌, Bool, true, false, not, ◌&&◌, List}
+use Rattle.lp_model.specs.Rules.{Rules}
+use Rattle.lp_transition.specs.declared.event.Event.{Event}
+use Rattle.lp_transition.specs.declared.reply.What.{What}
+use Rattle.lp_transition.specs.declared.reply.What.TheVariants.{Refused}
+use Rattle.lp_transition.specs.declared.reply.Reply.{Reply}
+use Rattle.lp_transition.specs.Events.{is_control}
+use Rattle.lp_transition.specs.Run.{Run, first_leg, replies}
+use Rattle.lp_transition.specs.Steps.{StandsIn}
+use Rattle.lp_transition.specs.Table.{Engine, state_in}
+use Rattle.lp_stays.specs.Kept.{Counted}
+use Rattle.lp_stays.specs.Counts.{Counts}
+use Rattle.lp_cert.specs.Ends.{Made, IsMadeOf}
+
+-- ---- What is kept of a run
+
+-- the engine, what is made of its legs, and what the run came to beside
+pub record Recorded : Type 0 where
+  pub core : Engine
+  pub made : Made
+  pub replies : List Reply
+  pub stays : Counted
+
+abbrev pub is_refused : What → Bool
+is_refused (Refused why) = true
+is_refused _ = false
+
+-- a control event that was accepted opens a leg
+abbrev pub is_opened : Event → What → Bool
+is_opened event what = is_control event && not (is_refused what)
+
+-- ---- When it is that of the run
+
+module _ (model : Rules) where
+  -- what is kept is that of the run
+  pub record IsRecorded (run : Run) (kept : Recorded) : Type 0 where
+    pub stands : StandsIn model run (state_in kept.core)
+    pub made : IsMadeOf model run kept.made
+    pub replied : kept.replies ≡ replies model (first_leg model run) run.events
+    pub counts : Counts model run kept.stays

@@ -1,0 +1,13 @@
+//! The replay of a trace under a model: the outcome, its legs, and the headline.
+#![tactic(auto)]
+
+pub mod laws;
+mod leg_end;
+mod outcome;
+mod replays;
+mod replies;
+
+pub use leg_end::LegList;
+pub use outcome::Outcome;
+pub use replays::{ReplayFault, TraceLeg, leg_numbered, replay};
+pub use replies::{ReplyList, ShortReply, ShortWhat, groups_at};

@@ -1,0 +1,140 @@
+//! The legs of a trace.
+ghost use Rattle.std.specs.Prelude.{◌≡◌, ◌≤◌, ◌<◌, ◌+◌, ◌++◌, length, take, IfOk, OnOk};
+ghost use Rattle.std.specs.Option.{option_map};
+ghost use Rattle.lp_checker.specs.Folds.{leg_with};
+ghost use Rattle.lp_transition.specs.Run.{Run, leg_of, opens, plus};
+ghost use Rattle.lp_transition.specs.Steps.{StandsIn};
+ghost use Rattle.lp_transition.specs.Table.{state_in};
+ghost use Rattle.lp_replay.specs.Legs.{leg_numbered, opened_by, to_end};
+ghost use Rattle.lp_replay.specs.inside.Recording.{is_opened};
+
+use super::fault::ReplayFault;
+use super::start;
+use lp_model::Consistency;
+use lp_text::Trace;
+use lp_transition::{Core, Event, Halt, Opening, What};
+use std::alloc::Global;
+
+/// A leg of a trace.
+#[derive(Drop)]
+pub struct TraceLeg<'a> {
+    /// The engine as the opening event left it.
+    pub opening: Opening,
+    /// The events after it, up to the next that opens a leg.
+    pub events: &'a [Event],
+}
+
+/// The leg of a trace that the event of a number opens; None where it opens none.
+pub fn leg_numbered<M: Consistency>(
+    alloc: Global,
+    model: M,
+    trace: &Trace,
+    number: u64,
+) -> Result<Option<TraceLeg<'_>>, ReplayFault>
+    ensures { IfOk result (λ found. option_map (λ leg. leg_with leg.opening leg.events.now) found ≡ leg_numbered M.rules trace.now number) }
+{
+    let events = trace.events();
+    if number == 0 || number > events.len() as u64 {
+        return Ok(None);
+    }
+    let (before, rest) = events.split_at(number as usize - 1);
+    let mut core = start::engine(alloc, model, trace)?;
+    let leg = opened_after(alloc, &mut core, before, rest)?;
+    Ok(leg)
+}
+
+/// Takes the events before these, and gives the leg that the first of these opens; None where it
+/// opens none.
+fn opened_after<'a, M: Consistency>(
+    alloc: Global,
+    core: &mut Core<M>,
+    before: &[Event],
+    events: &'a [Event],
+) -> Result<Option<TraceLeg<'a>>, ReplayFault>
+    requires { (run : Run) × StandsIn M.rules run (state_in core.old) × (length run.events + (length before.now + length events.now) ≤ 1000000) }
+    ensures { IfOk result (λ found. (run : Run) → StandsIn M.rules run (state_in core.old) → option_map (λ leg. leg_with leg.opening leg.events.now) found ≡ opened_by M.rules (leg_of M.rules (record run { events = run.events ++ before.now })) events.now) }
+{
+    play(alloc, core, before)?;
+    let leg = opened_by(alloc, core, events)?;
+    Ok(leg)
+}
+
+/// Takes these events.
+fn play<M: Consistency>(
+    alloc: Global,
+    core: &mut Core<M>,
+    events: &[Event],
+) -> Result<(), ReplayFault>
+    requires { (run : Run) × StandsIn M.rules run (state_in core.old) × (length run.events + length events.now ≤ 1000000) }
+    ensures { OnOk result ((run : Run) → StandsIn M.rules run (state_in core.old) → StandsIn M.rules (record run { events = run.events ++ events.now }) (state_in core.new)) }
+{
+    for event in events {
+        step(alloc, core, *event)?;
+    }
+    Ok(())
+}
+
+/// Takes one event, and says whether it opened a leg.
+fn step<M: Consistency>(
+    alloc: Global,
+    core: &mut Core<M>,
+    event: Event,
+) -> Result<bool, ReplayFault>
+    requires { core.old.number < 1000000 }
+    ensures { IfOk result (λ opened. (run : Run) → StandsIn M.rules run (state_in core.old) → (opened ≡ opens M.rules (leg_of M.rules run) event) × StandsIn M.rules (plus run event) (state_in core.new)) }
+{
+    match core.step(alloc, event) {
+        Ok(reply) => Ok(opens(event, &reply.what)),
+        Err(Halt::NoMemory) => Err(ReplayFault::NoMemory),
+        Err(Halt::JournalFull) => unreachable!(),
+    }
+}
+
+/// The leg that the first of these events opens; None where it opens none.
+fn opened_by<'a, M: Consistency>(
+    alloc: Global,
+    core: &mut Core<M>,
+    events: &'a [Event],
+) -> Result<Option<TraceLeg<'a>>, ReplayFault>
+    requires { (run : Run) × StandsIn M.rules run (state_in core.old) × (length run.events + length events.now ≤ 1000000) }
+    ensures { IfOk result (λ found. (run : Run) → StandsIn M.rules run (state_in core.old) → option_map (λ leg. leg_with leg.opening leg.events.now) found ≡ opened_by M.rules (leg_of M.rules run) events.now) }
+{
+    let Some((event, rest)) = events.split_first() else {
+        return Ok(None);
+    };
+    if !step(alloc, core, *event)? {
+        return Ok(None);
+    }
+    let opening = core.standing(alloc)?;
+    let count = to_end(alloc, core, rest)?;
+    Ok(Some(TraceLeg {
+        opening,
+        events: &rest[..count],
+    }))
+}
+
+/// How many of these events come before the next that opens a leg.
+fn to_end<M: Consistency>(
+    alloc: Global,
+    core: &mut Core<M>,
+    events: &[Event],
+) -> Result<usize, ReplayFault>
+    requires { (run : Run) × StandsIn M.rules run (state_in core.old) × (length run.events + length events.now ≤ 1000000) }
+    ensures few { IfOk result (λ count. count ≤ length events.now) }
+    ensures leg { IfOk result (λ count. (run : Run) → StandsIn M.rules run (state_in core.old) → to_end M.rules (leg_of M.rules run) events.now ≡ record (leg_of M.rules run) { events = (leg_of M.rules run).events ++ take count events.now }) }
+{
+    for (count, event) in events.iter().enumerate() {
+        if step(alloc, core, *event)? {
+            return Ok(count);
+        }
+    }
+    Ok(events.len())
+}
+
+/// Whether an event opened a leg: it is a control event, and was accepted.
+#[inline(always)]
+fn opens(event: Event, what: &What) -> bool
+    ensures { result ≡ is_opened event what.now }
+{
+    event.is_control() && !matches!(what, What::Refused(_))
+}

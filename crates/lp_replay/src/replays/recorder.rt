@@ -1,0 +1,178 @@
+//! What a run comes to, event by event.
+ghost use Rattle.std.specs.Prelude.{◌≡◌, ◌≤◌, ◌<◌, ◌+◌, ◌++◌, length, IfOk, OnOk};
+ghost use Rattle.lp_transition.specs.Run.{Run, leg_of, plus};
+ghost use Rattle.lp_stack.specs.declared.number.TaskId.{TaskId};
+ghost use Rattle.lp_stays.specs.Counts.{top_of};
+ghost use Rattle.lp_transition.specs.Stays.{stack};
+ghost use Rattle.lp_transition.specs.Steps.{IsStep, StandsIn};
+ghost use Rattle.lp_transition.specs.Table.{state_in};
+ghost use Rattle.lp_cert.specs.Ends.{IsMadeOf, is_plain};
+ghost use Rattle.lp_replay.specs.Outcome.{run_of, IsOutcome};
+ghost use Rattle.lp_replay.specs.inside.Recording.{IsRecorded};
+
+use super::fault::ReplayFault;
+use super::start;
+use crate::leg_end::LegList;
+use crate::outcome::Outcome;
+use crate::replies::ReplyList;
+use lp_cert::Maker;
+use lp_model::Consistency;
+use lp_stays::StayCount;
+use lp_symbols::SymId;
+use lp_text::Trace;
+use lp_transition::{Core, Event, Halt, Reply};
+use std::alloc::Global;
+use std::marker::Model;
+
+/// A run under way: the engine, and what the run came to so far.
+#[derive(Drop)]
+pub(super) struct Recorder<M: Consistency> {
+    core: Core<M>,
+    maker: Maker,
+    replies: ReplyList,
+    stays: StayCount,
+}
+
+impl<M: Consistency> Model for Recorder<M> {
+    ghost use Rattle.lp_replay.specs.inside.Recording.{Recorded};
+
+    ghost Value = { Recorded };
+
+    ghost view = { λ r. record { core = r.core; made = r.maker; replies = r.replies; stays = r.stays } };
+}
+
+impl<M: Consistency> Recorder<M> {
+    /// The run of a trace before its first event, with room for the replies.
+    pub(super) fn new(alloc: Global, model: M, trace: &Trace) -> Result<Recorder<M>, ReplayFault>
+        ensures { IfOk result (λ recorder. IsRecorded M.rules (run_of trace.now) recorder) }
+    {
+        // The engine comes last: it is the largest, and nothing can fail behind it.
+        let patches = start::stack(alloc, trace)?;
+        let stays = StayCount::new(alloc, &patches)?;
+        let replies = ReplyList::with_capacity(alloc, trace.events().len())?;
+        let maker = Maker::new(alloc)?;
+        let core = start::boot(alloc, model, patches, trace)?;
+        Ok(Recorder {
+            core,
+            maker,
+            replies,
+            stays,
+        })
+    }
+
+    /// These events, one after the other.
+    pub(super) fn record_all(&mut self, alloc: Global, events: &[Event]) -> Result<(), ReplayFault>
+        requires { (run : Run) × IsRecorded M.rules run self.old × (length run.events + length events.now ≤ 1000000) }
+        ensures { OnOk result ((run : Run) → IsRecorded M.rules run self.old → IsRecorded M.rules (record run { events = run.events ++ events.now }) self.new) }
+    {
+        for event in events {
+            self.event(alloc, *event)?;
+        }
+        Ok(())
+    }
+
+    /// The next event.
+    #[inline(always)]
+    fn event(&mut self, alloc: Global, event: Event) -> Result<(), ReplayFault>
+        requires numbered { self.old.core.number < 1000000 }
+        requires noted { self.old.stays.noted < 1000000 }
+        requires recorded { (run : Run) × IsRecorded M.rules run self.old }
+        ensures { OnOk result ((run : Run) → IsRecorded M.rules run self.old → IsRecorded M.rules (plus run event) self.new) }
+    {
+        let top = last_function(&self.core, event);
+        let reply = take(alloc, &mut self.core, &mut self.maker, event)?;
+        self.stays.note(event, &reply, top);
+        self.replies.push(reply)?;
+        Ok(())
+    }
+
+    /// What the run came to, with the last event behind it.
+    pub(super) fn finish(self, alloc: Global) -> Result<Outcome, ReplayFault>
+        ensures { IfOk result (λ found. (run : Run) → IsRecorded M.rules run self → IsOutcome M.rules run found) }
+    {
+        let Self {
+            core: _,
+            maker,
+            replies,
+            stays,
+        } = self;
+        Ok(Outcome {
+            replies,
+            legs: LegList::from_vec(maker.into_ends(alloc)?),
+            stays: stays.stays(),
+            mixed: stays.mixed(),
+        })
+    }
+}
+
+/// Takes an event, which the maker of certificates notes before the engine takes it.
+#[inline(always)]
+fn take<M: Consistency>(
+    alloc: Global,
+    core: &mut Core<M>,
+    maker: &mut Maker,
+    event: Event,
+) -> Result<Reply, ReplayFault>
+    requires room { core.old.number < 1000000 }
+    requires made { (run : Run) × StandsIn M.rules run (state_in core.old) × IsMadeOf M.rules run maker.old }
+    ensures step { IfOk result (λ reply. IsStep M.rules (state_in core.old) event reply (state_in core.new)) }
+    ensures made { OnOk result ((run : Run) → StandsIn M.rules run (state_in core.old) → IsMadeOf M.rules run maker.old → IsMadeOf M.rules (plus run event) maker.new) }
+{
+    if !is_plain(event) {
+        return take_weighed(alloc, core, maker, event);
+    }
+    maker.pass(core, event);
+    match core.step(alloc, event) {
+        Ok(reply) => Ok(reply),
+        Err(Halt::NoMemory) => Err(ReplayFault::NoMemory),
+        Err(Halt::JournalFull) => unreachable!(),
+    }
+}
+
+/// Takes an event of any kind: it is weighed, a scan by those alone that have to be asked, and noted
+/// as it was weighed.
+#[inline(never)]
+fn take_weighed<M: Consistency>(
+    alloc: Global,
+    core: &mut Core<M>,
+    maker: &mut Maker,
+    event: Event,
+) -> Result<Reply, ReplayFault>
+    requires room { core.old.number < 1000000 }
+    requires made { (run : Run) × StandsIn M.rules run (state_in core.old) × IsMadeOf M.rules run maker.old }
+    ensures step { IfOk result (λ reply. IsStep M.rules (state_in core.old) event reply (state_in core.new)) }
+    ensures made { OnOk result ((run : Run) → StandsIn M.rules run (state_in core.old) → IsMadeOf M.rules run maker.old → IsMadeOf M.rules (plus run event) maker.new) }
+{
+    let step = match maker.weigh(alloc, core, event) {
+        Ok(step) => step,
+        Err(Halt::NoMemory) => return Err(ReplayFault::NoMemory),
+        Err(Halt::JournalFull) => unreachable!(),
+    };
+    maker.ready(alloc, core, &step)?;
+    maker.note(core, &step);
+    Ok(core.take(step))
+}
+
+/// Whether an event is a call, a return, a sleep, a wake-up or an entry into the kernel.
+#[inline(always)]
+fn is_plain(event: Event) -> bool
+    ensures { result ≡ is_plain event }
+{
+    matches!(
+        event,
+        Event::Call(..) | Event::Ret(_) | Event::Sleep(_) | Event::Wake(_) | Event::Enter(_)
+    )
+}
+
+/// The function of the last frame of the task that returns at an event; None at any other event.
+#[inline(always)]
+fn last_function<M: Consistency>(core: &Core<M>, event: Event) -> Option<SymId>
+    ensures { (run : Run) → StandsIn M.rules run (state_in core.now) → (t : TaskId) → event ≡ Event.Ret t → result ≡ top_of (stack M.rules (leg_of M.rules run) t.0) }
+{
+    let Event::Ret(task) = event else {
+        return None;
+    };
+    let view = core.task(task)?;
+    let frame = view.frames.last()?;
+    Some(frame.func)
+}

@@ -1,0 +1,156 @@
+//! The replies of a run.
+ghost use Rattle.std.specs.Prelude.{◌≡◌, ◌≤◌, ◌↔◌, ◌∷◌, ◌++◌, [], drop, length, IsTrue, IfOk, OnOk};
+ghost use Rattle.lp_transition.specs.Events.{group_numbers};
+ghost use Rattle.lp_replay.specs.Replies.{first_groups, lists_in, replies_of, what_of};
+
+use lp_stack::{GroupId, Level};
+use lp_transition::{GroupList, Refusal, Reply, What};
+use std::alloc::{AllocError, Global};
+use std::marker::Model;
+
+/// What an event did, without the groups that it switched.
+#[derive(Clone, Copy)]
+pub enum ShortWhat {
+    Ran(Level),
+    Done,
+    Switched,
+    Refused(Refusal),
+}
+
+/// A reply without its groups.
+#[derive(Clone, Copy)]
+pub struct ShortReply {
+    pub what: ShortWhat,
+    pub completed: bool,
+}
+
+impl ShortReply {
+    /// How many lists of groups belong to it: one if the event switched groups.
+    #[inline(always)]
+    pub fn lists(&self) -> usize
+        ensures value { result ≡ lists_in self.now.what }
+        ensures few { result ≤ 1 }
+    {
+        match self.what {
+            ShortWhat::Switched => 1,
+            _ => 0,
+        }
+    }
+}
+
+/// A list of replies. Contracts see the list.
+///
+/// A reply takes three bytes, and those that switched groups take the memory of these beside.
+#[derive(Drop)]
+pub struct ReplyList {
+    short: Vec<ShortReply>,
+    /// The groups of each event that switched some, in the order of the events.
+    groups: Vec<GroupList>,
+}
+
+impl Model for ReplyList {
+    ghost use Rattle.std.specs.Prelude.{◌≡◌, List, length};
+    ghost use Rattle.lp_transition.specs.declared.reply.Reply.{Reply};
+    ghost use Rattle.lp_replay.specs.Replies.{lists_of, replies_of};
+
+    ghost Value = { List Reply };
+
+    ghost view = { λ l. replies_of l.short.items l.groups.items };
+
+    ghost invariant = { λ l. lists_of l.short.items ≡ length l.groups.items };
+}
+
+impl ReplyList {
+    /// No reply, with room for so many; AllocError where an allocation failed.
+    pub fn with_capacity(alloc: Global, replies: usize) -> Result<ReplyList, AllocError>
+        ensures { IfOk result (λ list. list ≡ []) }
+    {
+        Ok(ReplyList {
+            short: Vec::with_capacity(alloc, replies)?,
+            groups: Vec::new(alloc),
+        })
+    }
+
+    /// Adds a reply; AllocError where an allocation failed.
+    #[inline(always)]
+    pub fn push(&mut self, reply: Reply) -> Result<(), AllocError>
+        ensures { OnOk result (self.new ≡ self.old ++ reply ∷ []) }
+    {
+        let Reply { what, completed } = reply;
+        self.short.reserve(1)?;
+        let what = match what {
+            What::Ran(level) => ShortWhat::Ran(level),
+            What::Done => ShortWhat::Done,
+            What::Refused(why) => ShortWhat::Refused(why),
+            What::Switched(groups) => {
+                self.groups.push(groups)?;
+                ShortWhat::Switched
+            }
+        };
+        self.short.push_reserved(ShortReply { what, completed });
+        Ok(())
+    }
+
+    /// The replies, each by itself; AllocError where an allocation failed.
+    pub fn to_vec(&self, alloc: Global) -> Result<Vec<Reply>, AllocError>
+        ensures { IfOk result (λ replies. replies.items ≡ self.now) }
+    {
+        let mut replies = Vec::with_capacity(alloc, self.short.len())?;
+        let mut next = 0;
+        for reply in self.short.as_slice() {
+            let what = what_of(alloc, reply.what, groups_at(self.groups.as_slice(), next))?;
+            replies.push(Reply {
+                what,
+                completed: reply.completed,
+            })?;
+            next += reply.lists();
+        }
+        Ok(replies)
+    }
+
+    /// How many replies there are.
+    pub fn len(&self) -> usize
+        ensures { result ≡ length self.now }
+    {
+        self.short.as_slice().len()
+    }
+
+    /// Whether there is no reply.
+    pub fn is_empty(&self) -> bool
+        ensures { IsTrue result ↔ (self.now ≡ []) }
+    {
+        self.len() == 0
+    }
+
+    /// The replies in short, and the groups of those events that switched some.
+    pub fn parts(&self) -> (&[ShortReply], &[GroupList])
+        ensures { replies_of result.0.now result.1.now ≡ self.now }
+    {
+        (self.short.as_slice(), self.groups.as_slice())
+    }
+}
+
+/// The groups of a list at a place; none past the last one.
+pub fn groups_at(lists: &[GroupList], place: usize) -> &[GroupId]
+    ensures { group_numbers result.now ≡ first_groups (drop place lists.now) }
+{
+    match lists.get(place) {
+        Some(groups) => groups.as_slice(),
+        None => &[],
+    }
+}
+
+/// What an event did that switched these groups, if it did so.
+fn what_of(alloc: Global, what: ShortWhat, groups: &[GroupId]) -> Result<What, AllocError>
+    ensures { IfOk result (λ found. found ≡ what_of what (group_numbers groups.now ∷ [])) }
+{
+    match what {
+        ShortWhat::Ran(level) => Ok(What::Ran(level)),
+        ShortWhat::Done => Ok(What::Done),
+        ShortWhat::Refused(why) => Ok(What::Refused(why)),
+        ShortWhat::Switched => {
+            let groups = Vec::from_slice(alloc, groups)?;
+            Ok(What::Switched(GroupList::from_vec(alloc, groups)?))
+        }
+    }
+}

@@ -1,0 +1,159 @@
+//! A trace's engine, given one event after the other, with its stays counted beside it.
+ghost use Rattle.std.specs.Prelude.{IfOk};
+ghost use Rattle.lp_patch.specs.Patches.{ShareSymbols};
+
+use crate::trouble::Trouble;
+use lp_model::Consistency;
+use lp_patch::{PatchSet, PatchStack};
+use lp_stack::Level;
+use lp_stays::StayCount;
+use lp_symbols::{SymId, Symbols};
+use lp_trace::{Trace, TraceForm};
+use lp_transition::{Core, Event, Reply, What};
+use std::alloc::{AllocError, Global};
+
+/// The functions of each patch of a trace.
+pub fn lists_of<'a>(alloc: Global, trace: &'a Trace) -> Result<Vec<&'a [SymId]>, AllocError> {
+    let mut lists = Vec::new(alloc);
+    for number in 1..=trace.patches() {
+        lists.push(trace.patch(number))?;
+    }
+    Ok(lists)
+}
+
+/// A patch of each of these lists of symbols.
+fn sets(alloc: Global, symbols: &Symbols, lists: &[&[SymId]]) -> Result<Vec<PatchSet>, Trouble>
+    ensures { IfOk result (λ sets. ShareSymbols sets.items) }
+{
+    let mut sets = Vec::new(alloc);
+    for ids in lists {
+        sets.push(PatchSet::build(alloc, symbols, ids)?)?;
+    }
+    Ok(sets)
+}
+
+/// The patches of a trace, on one another.
+pub fn stack(alloc: Global, trace: &Trace) -> Result<PatchStack, Trouble> {
+    let lists = lists_of(alloc, trace)?;
+    let sets = sets(alloc, trace.symbols(), lists.as_slice())?;
+    Ok(PatchStack::new(alloc, sets)?)
+}
+
+/// The engine of a trace before its first event.
+pub fn boot<M: Consistency>(
+    alloc: Global,
+    model: M,
+    patches: PatchStack,
+    trace: &Trace,
+) -> Result<Box<Core<M>>, Trouble> {
+    let core = Core::boot(alloc, model, patches, trace.boots())?;
+    Ok(Box::new(alloc, core)?)
+}
+
+/// The count of stays before the first event.
+fn count(alloc: Global, patches: &PatchStack) -> Result<Box<StayCount>, Trouble> {
+    Ok(Box::new(alloc, StayCount::new(alloc, patches)?)?)
+}
+
+/// The function of the last frame of the task that returns at an event; None at any other event.
+fn last_function<M: Consistency>(core: &Core<M>, event: Event) -> Option<SymId> {
+    let Event::Ret(task) = event else {
+        return None;
+    };
+    let view = core.task(task)?;
+    let frame = view.frames.last()?;
+    Some(frame.func)
+}
+
+/// The reply to an event, with which the stays are counted.
+fn step<M: Consistency>(
+    alloc: Global,
+    core: &mut Core<M>,
+    stays: &mut StayCount,
+    event: Event,
+) -> Result<Reply, Trouble> {
+    let top = last_function(core, event);
+    let reply = core.step(alloc, event)?;
+    if stays.noted() < 1_000_000 {
+        stays.note(event, &reply, top);
+    }
+    Ok(reply)
+}
+
+/// Adds what a call ran.
+fn add_level(text: &mut String, form: TraceForm, level: Level) -> Result<(), AllocError> {
+    match (form, level.0) {
+        (TraceForm::Single, 0) => text.push_str("ran old"),
+        (TraceForm::Single, _) => text.push_str("ran new"),
+        (TraceForm::Stacked, number) => write!(text, "ran {number}"),
+    }
+}
+
+/// Adds the words of a reply.
+fn add_what(text: &mut String, form: TraceForm, what: &What) -> Result<(), AllocError> {
+    match what {
+        What::Ran(level) => add_level(text, form, *level),
+        What::Done => text.push_str("done"),
+        What::Refused(why) => write!(text, "refused E{}", why.number()),
+        What::Switched(groups) => {
+            text.push_str("over")?;
+            for group in groups.as_slice() {
+                write!(text, " {}", group.0)?;
+            }
+            Ok(())
+        }
+    }
+}
+
+/// Adds the line of a reply.
+fn add_reply(
+    text: &mut String,
+    form: TraceForm,
+    number: usize,
+    reply: &Reply,
+) -> Result<(), AllocError> {
+    write!(text, "{number} ")?;
+    add_what(text, form, &reply.what)?;
+    text.push_str(if reply.completed { " complete\n" } else { "\n" })
+}
+
+/// Adds the lines of the replies to a trace's events.
+fn add_replies<M: Consistency>(
+    alloc: Global,
+    core: &mut Core<M>,
+    stays: &mut StayCount,
+    trace: &Trace,
+    text: &mut String,
+) -> Result<(), Trouble> {
+    for (index, event) in trace.events().iter().enumerate() {
+        let reply = step(alloc, core, stays, *event)?;
+        add_reply(text, trace.form(), index.saturating_add(1), &reply)?;
+    }
+    Ok(())
+}
+
+/// The lines of a trace's events and of its stays, as its report has them.
+pub fn event_lines<M: Consistency>(
+    alloc: Global,
+    model: M,
+    trace: &Trace,
+) -> Result<String, Trouble> {
+    let patches = stack(alloc, trace)?;
+    let mut stays = count(alloc, &patches)?;
+    let mut core = boot(alloc, model, patches, trace)?;
+    let mut text = String::new(alloc);
+    add_replies(alloc, &mut core, &mut stays, trace, &mut text)?;
+    writeln!(text, "stays {} mixed {}", stays.stays(), stays.mixed())?;
+    Ok(text)
+}
+
+/// Those lines of a report.
+pub fn event_lines_of(alloc: Global, report: &str) -> Result<String, AllocError> {
+    let mut text = String::new(alloc);
+    for line in report.lines() {
+        if line.starts_with("stays ") || line.starts_with(|byte: char| byte.is_ascii_digit()) {
+            writeln!(text, "{line}")?;
+        }
+    }
+    Ok(text)
+}

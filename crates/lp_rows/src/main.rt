@@ -1,0 +1,105 @@
+//! Plays the worked rows of its data files, each under its model, and counts them.
+#![tactic(auto)]
+
+mod certificates;
+mod difference;
+mod engine;
+mod play;
+mod rows;
+mod streams;
+#[cfg(test)]
+mod tests;
+mod trouble;
+
+use difference::Difference;
+use play::play;
+use rows::{Row, rows_of};
+use std::alloc::Global;
+use std::process::ExitCode;
+use std::rt::Files;
+use std::{fs, io};
+use trouble::Trouble;
+
+const FILES: [&str; 10] = [
+    "models.rows",
+    "legs.rows",
+    "tasks.rows",
+    "stacked.rows",
+    "faults.rows",
+    "inputs.rows",
+    "frames.rows",
+    "births.rows",
+    "floors.rows",
+    "numbers.rows",
+];
+
+/// What was played.
+#[derive(Drop)]
+struct Tally {
+    rows: usize,
+    certificates: usize,
+    differing: usize,
+}
+
+/// Plays a row, and says where something differs.
+fn play_row(rt: &impl Print, alloc: Global, row: &Row, tally: &mut Tally) -> Result<(), Trouble> {
+    match play(alloc, row) {
+        Ok(certificates) => {
+            tally.certificates = tally.certificates.saturating_add(certificates);
+        }
+        Err(Trouble::Differs(difference)) => {
+            tally.differing = tally.differing.saturating_add(1);
+            tell(rt, row.name(), &difference)?;
+        }
+        Err(trouble) => return Err(trouble),
+    }
+    tally.rows = tally.rows.saturating_add(1);
+    Ok(())
+}
+
+/// Says where a row differs.
+fn tell(rt: &impl Print, name: &str, difference: &Difference) -> io::Result<()> {
+    println!(rt; "{name}: {} differs", difference.part())?;
+    println!(rt; "  wanted: {}", difference.wanted())?;
+    println!(rt; "  given: {}", difference.given())
+}
+
+/// The rows of a file.
+fn read_rows<R: Files + AllocGlobal>(rt: &R, file: &str) -> Result<Vec<Row>, Trouble> {
+    let text = fs::read_to_string(rt, file)?;
+    rows_of(rt.alloc(), text.as_str())
+}
+
+/// Plays the rows of a file.
+fn play_file<R: Files + AllocGlobal + Print>(
+    rt: &R,
+    file: &str,
+    tally: &mut Tally,
+) -> Result<(), Trouble> {
+    let rows = read_rows(rt, file)?;
+    for row in rows.as_slice() {
+        play_row(rt, rt.alloc(), row, tally)?;
+    }
+    Ok(())
+}
+
+/// Plays all rows.
+fn play_all(rt: &HostRuntime) -> Result<ExitCode, Trouble> {
+    let mut tally = Tally {
+        rows: 0,
+        certificates: 0,
+        differing: 0,
+    };
+    for file in FILES {
+        play_file(rt, file, &mut tally)?;
+    }
+    if tally.differing > 0 {
+        return Ok(ExitCode::FAILURE);
+    }
+    println!(rt; "{} rows, {} certificates", tally.rows, tally.certificates)?;
+    Ok(ExitCode::SUCCESS)
+}
+
+fn main(rt: HostRuntime) -> Result<ExitCode, Trouble> {
+    play_all(&rt)
+}

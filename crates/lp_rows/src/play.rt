@@ -1,0 +1,197 @@
+//! A row, played in each way that gives what it wants.
+
+use crate::certificates::accept_all;
+use crate::difference::compare;
+use crate::engine::{event_lines, event_lines_of, lists_of};
+use crate::rows::{Row, Task};
+use crate::streams::{Sink, Source};
+use crate::trouble::Trouble;
+use lp_model::Consistency;
+use lp_models::{AllAtOnce, Hybrid, Immediate, LeaveKernel, ModelName};
+use lp_process::ProcessGroup;
+use lp_trace::{CheckInput, ReadFault, RunFault, Trace, TraceFault, TraceForm, check, run};
+use std::alloc::{AllocError, Global};
+use std::str;
+
+/// How many bytes are read and written at a time.
+const SIZES: [usize; 3] = [1, 5, 1_000_000];
+
+/// The line of a fault, as a data file has it.
+fn fault_line(alloc: Global, fault: TraceFault) -> Result<String, AllocError> {
+    format!(in alloc; "fault {} L{}\n", fault.line, fault.cause.number())
+}
+
+/// Adds the line of a fault to what was written.
+fn add_fault(alloc: Global, given: &mut Vec<u8>, fault: RunFault) -> Result<(), Trouble> {
+    let RunFault::Trace(fault) = fault else {
+        return Err(Trouble::NoMemory);
+    };
+    let line = fault_line(alloc, fault)?;
+    given.extend_from_slice(line.as_bytes())?;
+    Ok(())
+}
+
+/// What the run of a text writes, by so many bytes at a time, and the line of its fault behind it.
+fn reported<M: Consistency>(
+    alloc: Global,
+    name: &str,
+    model: M,
+    text: &[u8],
+    most: usize,
+) -> Result<Vec<u8>, Trouble> {
+    let mut sink = Sink::new(alloc, most);
+    let ended = run(alloc, name, model, &mut Source::new(text, most), &mut sink);
+    let mut given = sink.into_taken();
+    if let Err(fault) = ended {
+        add_fault(alloc, &mut given, fault)?;
+    }
+    Ok(given)
+}
+
+/// What the check of a text writes, by so many bytes at a time, and behind it the line of its fault,
+/// or a line where it says other than it writes.
+pub fn checked<M: Consistency>(
+    alloc: Global,
+    model: M,
+    text: &[u8],
+    most: usize,
+) -> Result<Vec<u8>, Trouble> {
+    let mut sink = Sink::new(alloc, most);
+    let ended = check(alloc, model, &mut Source::new(text, most), &mut sink);
+    let mut given = sink.into_taken();
+    match ended {
+        Ok(accepted) if accepted == given.starts_with(b"accepted") => {}
+        Ok(_) => given.extend_from_slice(b"but not as it says\n")?,
+        Err(fault) => add_fault(alloc, &mut given, fault)?,
+    }
+    Ok(given)
+}
+
+/// A trace made anew of the parts of this one.
+fn made_again(alloc: Global, trace: &Trace) -> Result<Box<Trace>, Trouble> {
+    let lists = lists_of(alloc, trace)?;
+    let (symbols, boots, events) = (trace.symbols(), trace.boots(), trace.events());
+    let made = match trace.form() {
+        TraceForm::Single => Trace::of(alloc, symbols, trace.patch(1), boots, events)?,
+        TraceForm::Stacked => Trace::of_stack(alloc, symbols, lists.as_slice(), boots, events)?,
+    };
+    Ok(Box::new(alloc, made)?)
+}
+
+/// The text of a trace that is made anew of the parts of this one.
+fn written_again(alloc: Global, trace: &Trace) -> Result<Vec<u8>, Trouble> {
+    let made = made_again(alloc, trace)?;
+    let mut text = Vec::new(alloc);
+    match made.write(&mut text) {
+        Ok(()) => Ok(text),
+        Err(_) => Err(Trouble::NoMemory),
+    }
+}
+
+/// Plays a trace of a row: its events one by one, its text made again, and its certificates.
+fn play_trace<M: Consistency + Copy>(
+    alloc: Global,
+    model: M,
+    row: &Row,
+    trace: &Trace,
+) -> Result<usize, Trouble> {
+    let report = str::from_utf8(row.wanted()).unwrap_or("");
+    let wanted = event_lines_of(alloc, report)?;
+    let given = event_lines(alloc, model, trace)?;
+    compare(
+        alloc,
+        "the engine's reply",
+        wanted.as_bytes(),
+        given.as_bytes(),
+    )?;
+    let again = written_again(alloc, trace)?;
+    compare(
+        alloc,
+        "its trace written again",
+        row.input(),
+        again.as_slice(),
+    )?;
+    accept_all(alloc, model, row.input(), report)
+}
+
+/// The trace of a text, or the line of its first fault.
+fn read(alloc: Global, text: &[u8]) -> Result<Result<Box<Trace>, String>, Trouble> {
+    match Trace::read(alloc, text) {
+        Ok(trace) => Ok(Ok(Box::new(alloc, trace)?)),
+        Err(ReadFault::Trace(fault)) => Ok(Err(fault_line(alloc, fault)?)),
+        Err(ReadFault::NoMemory) => Err(Trouble::NoMemory),
+    }
+}
+
+/// Plays a row whose input is a trace, and says how many certificates its report has.
+fn play_run<M: Consistency + Copy>(
+    alloc: Global,
+    name: &str,
+    model: M,
+    row: &Row,
+) -> Result<usize, Trouble> {
+    for most in SIZES {
+        let given = reported(alloc, name, model, row.input(), most)?;
+        compare(alloc, "its report", row.wanted(), given.as_slice())?;
+    }
+    match read(alloc, row.input())? {
+        Ok(trace) => play_trace(alloc, model, row, &trace),
+        Err(fault) => {
+            compare(alloc, "the reader's fault", row.wanted(), fault.as_bytes())?;
+            Ok(0)
+        }
+    }
+}
+
+/// Reads a row's input, whose fault has to be the wanted one.
+fn read_input(alloc: Global, row: &Row) -> Result<(), Trouble> {
+    match CheckInput::read(alloc, row.input()) {
+        Ok(_) => Ok(()),
+        Err(ReadFault::Trace(fault)) => {
+            let line = fault_line(alloc, fault)?;
+            compare(alloc, "the reader's fault", row.wanted(), line.as_bytes())
+        }
+        Err(ReadFault::NoMemory) => Err(Trouble::NoMemory),
+    }
+}
+
+/// Plays a row whose input is a trace with a certificate behind it.
+fn play_check<M: Consistency + Copy>(alloc: Global, model: M, row: &Row) -> Result<usize, Trouble> {
+    for most in SIZES {
+        let given = checked(alloc, model, row.input(), most)?;
+        compare(alloc, "its answer", row.wanted(), given.as_slice())?;
+    }
+    read_input(alloc, row)?;
+    Ok(0)
+}
+
+/// Plays a row under its model, and says how many certificates of its report were accepted.
+fn play_under<M: Consistency + Copy>(
+    alloc: Global,
+    name: ModelName,
+    model: M,
+    is_run: bool,
+    row: &Row,
+) -> Result<usize, Trouble> {
+    if is_run {
+        play_run(alloc, name.name(), model, row)
+    } else {
+        play_check(alloc, model, row)
+    }
+}
+
+/// Plays a row, and says how many certificates of its report were accepted.
+pub fn play(alloc: Global, row: &Row) -> Result<usize, Trouble> {
+    let (name, is_run) = match row.task() {
+        Some(Task::Run(name)) => (name, true),
+        Some(Task::Check(name)) => (name, false),
+        None => return Err(Trouble::NoRow),
+    };
+    match name {
+        ModelName::Hybrid => play_under(alloc, name, Hybrid, is_run, row),
+        ModelName::LeaveKernel => play_under(alloc, name, LeaveKernel, is_run, row),
+        ModelName::AllAtOnce => play_under(alloc, name, AllAtOnce, is_run, row),
+        ModelName::Immediate => play_under(alloc, name, Immediate, is_run, row),
+        ModelName::ProcessGroup => play_under(alloc, name, ProcessGroup, is_run, row),
+    }
+}

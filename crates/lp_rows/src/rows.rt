@@ -1,0 +1,173 @@
+//! The rows of a data file. The head of data/models.rows says how they are written.
+
+use crate::trouble::Trouble;
+use lp_models::ModelName;
+use std::alloc::Global;
+
+/// What is done with the input, under a model.
+#[derive(Clone, Copy, Debug, PartialEq, Eq)]
+pub enum Task {
+    Run(ModelName),
+    Check(ModelName),
+}
+
+impl Task {
+    /// The task of some words.
+    fn read(words: &str) -> Option<Task> {
+        let (verb, model) = words.split_once(' ')?;
+        let model = ModelName::read(model)?;
+        match verb {
+            "run" => Some(Task::Run(model)),
+            "check" => Some(Task::Check(model)),
+            _ => None,
+        }
+    }
+}
+
+/// A row.
+#[derive(Drop)]
+pub struct Row {
+    name: String,
+    task: Option<Task>,
+    input: Vec<u8>,
+    wanted: Vec<u8>,
+}
+
+impl Row {
+    /// A row whose input begins with a head.
+    fn new(alloc: Global, name: &str, head: &[u8]) -> Result<Row, Trouble> {
+        let mut input = Vec::new(alloc);
+        input.extend_from_slice(head)?;
+        Ok(Row {
+            name: String::from_str(alloc, name)?,
+            task: None,
+            input,
+            wanted: Vec::new(alloc),
+        })
+    }
+
+    pub fn name(&self) -> &str {
+        self.name.as_str()
+    }
+
+    /// What is done with the input.
+    pub fn task(&self) -> Option<Task> {
+        self.task
+    }
+
+    pub fn input(&self) -> &[u8] {
+        self.input.as_slice()
+    }
+
+    /// The output that is wanted, or a line of the fault as the data file has it.
+    pub fn wanted(&self) -> &[u8] {
+        self.wanted.as_slice()
+    }
+
+    /// Takes in a line of the row: its first word, and what stands behind it.
+    fn add(&mut self, word: &str, rest: &str) -> Result<(), Trouble> {
+        match word {
+            "words" => self.task = Task::read(rest),
+            "in" => add_lines(&mut self.input, rest)?,
+            "out" => add_lines(&mut self.wanted, rest)?,
+            "fault" => {
+                self.wanted.extend_from_slice(b"fault ")?;
+                add_lines(&mut self.wanted, rest)?;
+            }
+            "unended" => {
+                self.input.pop();
+            }
+            _ => return Err(Trouble::NoRow),
+        }
+        Ok(())
+    }
+}
+
+/// Adds lines between which ` / ` stands, each with its end.
+fn add_lines(text: &mut Vec<u8>, lines: &str) -> Result<(), Trouble> {
+    for line in lines.split(" / ") {
+        add_line(text, line)?;
+    }
+    Ok(())
+}
+
+/// Adds a line, in which `\x` and two digits are a byte.
+fn add_line(text: &mut Vec<u8>, line: &str) -> Result<(), Trouble> {
+    for (place, part) in line.split("\\x").enumerate() {
+        if place == 0 {
+            text.extend_from_slice(part.as_bytes())?;
+        } else {
+            add_byte(text, part)?;
+        }
+    }
+    text.push(b'\n')?;
+    Ok(())
+}
+
+/// Adds the byte whose two digits a part of a line begins with, and the part's rest.
+fn add_byte(text: &mut Vec<u8>, part: &str) -> Result<(), Trouble> {
+    let Some((digits, rest)) = part.split_at_checked(2) else {
+        return Err(Trouble::NoRow);
+    };
+    let Ok(byte) = u8::from_str_radix(digits, 16) else {
+        return Err(Trouble::NoRow);
+    };
+    text.push(byte)?;
+    text.extend_from_slice(rest.as_bytes())?;
+    Ok(())
+}
+
+/// The head that rows have, and the rows so far.
+#[derive(Drop)]
+struct Rows {
+    head: Vec<u8>,
+    /// Whether the head may go on.
+    is_head: bool,
+    rows: Vec<Row>,
+}
+
+impl Rows {
+    /// Takes in a line of a file: its first word, and what stands behind it.
+    fn add(&mut self, alloc: Global, word: &str, rest: &str) -> Result<(), Trouble> {
+        if word == "head" {
+            return self.add_head(rest);
+        }
+        self.is_head = false;
+        if word == "row" {
+            self.rows
+                .push(Row::new(alloc, rest, self.head.as_slice())?)?;
+            return Ok(());
+        }
+        match self.rows.last_mut() {
+            Some(row) => row.add(word, rest),
+            None => Err(Trouble::NoRow),
+        }
+    }
+
+    /// Takes in a line of a head, which is a new one behind a row.
+    fn add_head(&mut self, lines: &str) -> Result<(), Trouble> {
+        if !self.is_head {
+            self.head.clear();
+        }
+        self.is_head = true;
+        add_lines(&mut self.head, lines)
+    }
+}
+
+/// The rows of a file.
+pub fn rows_of(alloc: Global, text: &str) -> Result<Vec<Row>, Trouble> {
+    let mut rows = Rows {
+        head: Vec::new(alloc),
+        is_head: false,
+        rows: Vec::new(alloc),
+    };
+    for line in text.lines() {
+        if line.is_empty() || line.starts_with('#') {
+            continue;
+        }
+        let (word, rest) = line.split_once(' ').unwrap_or((line, ""));
+        rows.add(alloc, word, rest)?;
+    }
+    let Rows { rows, .. } = rows;
+    Ok(rows)
+}

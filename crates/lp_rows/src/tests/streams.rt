@@ -1,0 +1,112 @@
+//! Readers and writers that fail, or have no end.
+ghost use Rattle.std.specs.Prelude.{◌≡◌, IfOk};
+
+use super::*;
+use std::io::{self, ErrorKind, Read, Write};
+
+/// How a stream ends.
+#[derive(Clone, Copy)]
+pub(super) enum End {
+    /// It fails.
+    Fails,
+    /// It is interrupted.
+    Interrupted,
+    /// It gives or takes nothing more.
+    Nothing,
+}
+
+impl End {
+    fn answer(self) -> io::Result<usize>
+        ensures { IfOk result (λ count. count ≡ 0) }
+    {
+        match self {
+            End::Fails => Err(io::Error::from(ErrorKind::BrokenPipe)),
+            End::Interrupted => Err(io::Error::from(ErrorKind::Interrupted)),
+            End::Nothing => Ok(0),
+        }
+    }
+}
+
+/// Gives its bytes, at most so many a read, for some reads, and then ends.
+#[derive(Drop)]
+pub(super) struct Broken<'a> {
+    source: Source<'a>,
+    reads: usize,
+    end: End,
+}
+
+impl<'a> Broken<'a> {
+    pub(super) fn new(bytes: &'a [u8], most: usize, reads: usize, end: End) -> Broken<'a> {
+        Broken {
+            source: Source::new(bytes, most),
+            reads,
+            end,
+        }
+    }
+}
+
+impl<'a> Read for Broken<'a> {
+    fn read(&mut self, buf: &mut [u8]) -> io::Result<usize> {
+        if self.reads == 0 {
+            return self.end.answer();
+        }
+        self.reads -= 1;
+        self.source.read(buf)
+    }
+}
+
+/// Gives so many bytes, in pieces of 65,536: what the buffers hold already.
+#[derive(Drop)]
+pub(super) struct Zeros {
+    pub(super) left: u64,
+}
+
+impl Read for Zeros {
+    fn read(&mut self, buf: &mut [u8]) -> io::Result<usize> {
+        let most = buf.len().min(65_536);
+        let count = if self.left < most as u64 {
+            self.left as usize
+        } else {
+            most
+        };
+        self.left -= count as u64;
+        Ok(count)
+    }
+}
+
+/// Keeps what it takes, a byte a write, for some writes, and then ends.
+#[derive(Drop)]
+pub(super) struct Full {
+    sink: Sink,
+    writes: usize,
+    end: End,
+}
+
+impl Full {
+    pub(super) fn new(alloc: Global, writes: usize, end: End) -> Full {
+        Full {
+            sink: Sink::new(alloc, 1),
+            writes,
+            end,
+        }
+    }
+
+    /// What it took.
+    pub(super) fn taken(&self) -> &[u8] {
+        self.sink.taken()
+    }
+}
+
+impl Write for Full {
+    fn write(&mut self, buf: &[u8]) -> io::Result<usize> {
+        if self.writes == 0 {
+            return self.end.answer();
+        }
+        self.writes -= 1;
+        self.sink.write(buf)
+    }
+
+    fn flush(&mut self) -> io::Result<()> {
+        Ok(())
+    }
+}

@@ -1,0 +1,62 @@
+//! Why a row was not played to its end.
+
+use crate::difference::Difference;
+use lp_patch::PatchFault;
+use lp_trace::{OfFault, RunFault, TraceFault};
+use lp_transition::{BootFault, Halt};
+use std::alloc::{AllocError, AllocFailed};
+use std::io;
+
+#[derive(Debug, Drop)]
+pub enum Trouble {
+    /// Something differs from what the row wants.
+    Differs(Box<Difference>),
+    /// A data file can't be read, or a line can't be written.
+    File(io::Error),
+    /// A line of a data file says nothing that a row has.
+    NoRow,
+    /// An allocation failed.
+    NoMemory,
+}
+
+impl From<AllocError> for Trouble {
+    fn from(_error: AllocError) -> Trouble {
+        Trouble::NoMemory
+    }
+}
+
+impl<T: Drop> From<AllocFailed<T>> for Trouble {
+    fn from(_failed: AllocFailed<T>) -> Trouble {
+        Trouble::NoMemory
+    }
+}
+
+impl From<io::Error> for Trouble {
+    fn from(error: io::Error) -> Trouble {
+        Trouble::File(error)
+    }
+}
+
+impl From<PatchFault> for Trouble {
+    fn from(_fault: PatchFault) -> Trouble {
+        Trouble::NoMemory
+    }
+}
+
+impl From<BootFault> for Trouble {
+    fn from(_fault: BootFault) -> Trouble {
+        Trouble::NoMemory
+    }
+}
+
+impl From<Halt> for Trouble {
+    fn from(_halt: Halt) -> Trouble {
+        Trouble::NoMemory
+    }
+}
+
+impl From<OfFault> for Trouble {
+    fn from(_fault: OfFault) -> Trouble {
+        Trouble::NoMemory
+    }
+}

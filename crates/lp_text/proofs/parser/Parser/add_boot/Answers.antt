@@ -1,0 +1,10 @@
+use Rattle.lp_text.proofs.Parsers.{boot_taken, boot_free}
+use Rattle.lp_text.proofs.parser.Parser.add_boot.Goals as goal
+
+pub returns-then-index : goal.returns-then-index
+returns-then-index c =
+    rw (← c.self.view_is) (boot_taken _ c.self.inside.booted.items c.args.number c.args.class c.in_ok-task.task c.from-place.result c.index.result.now c.self.invariant.1 c.in_ok-task.ensures c.from-place.ensures c.index.ensures c.if-index.true)
+
+pub returns : goal.returns
+returns c =
+    rw (← c.self.view_is, c.in_ok-push.ensures.items) (boot_free _ c.self.inside.booted.items c.args.number c.args.class c.in_ok-task.task c.from-place.result c.index.result.now c.self.invariant.1 c.in_ok-task.ensures c.from-place.ensures c.index.ensures c.if-index.false)

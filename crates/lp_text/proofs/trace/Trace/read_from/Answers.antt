@@ -1,0 +1,15 @@
+use Rattle.std.proofs.Common.{subst}
+use Rattle.lp_text.specs.Input.{ReadsAll}
+use Rattle.lp_text.proofs.Sound.{sound}
+use Rattle.lp_text.proofs.trace.Trace.read_from.Goals as goal
+
+pub into_trace-requires : goal.into_trace-requires
+into_trace-requires g c =
+    let found = c.in_ok-parser.ensures.found in
+    (sound found.0 c.in_ok-parser.parser found.2).0
+
+pub returns-clause-found : goal.returns-clause-found
+returns-clause-found g c =
+    let found = c.in_ok-parser.ensures.found in
+    let trace = sound found.0 c.in_ok-parser.parser found.2 in
+    rw c.into_trace.ensures (trace.0, subst (λ text. ReadsAll (g.R.Read.remaining c.args.reader.now) (g.R.Read.remaining c.parse_all.new.reader) text) trace.1 found.1)

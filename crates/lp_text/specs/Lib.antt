@@ -1,0 +1,14 @@
+pub mod Words
+pub mod Traces
+pub mod Reading
+pub mod Faults
+pub mod Rows
+pub mod Writing
+pub mod Laws
+pub mod Build
+pub mod BuildRows
+pub mod Input
+pub mod CheckReading
+pub mod CheckTexts
+pub mod CheckRows
+pub mod inside

@@ -1,0 +1,109 @@
+//! Reading an input to its end.
+ghost use Rattle.std.specs.Prelude.{◌≡◌, ℕ, ◌+◌, ◌<◌, ◌≤◌, List, length, take, IfOk, IfErr, OnOk};
+ghost use Rattle.std.specs.Io.KnownBytes.{Consumes, IsAtEnd};
+ghost use Rattle.lp_text.specs.declared.input.InputFault.TheVariants.{NoMemory as InputNoMemory};
+ghost use Rattle.lp_text.specs.Input.{ReadsAll};
+ghost use Rattle.lp_text.specs.inside.Streams.{IsFaultBehind, IsInputFault};
+
+use crate::read::MOST_BYTES;
+use std::alloc::{AllocError, Global};
+use std::io::{self, Read};
+
+/// How many bytes one read asks for.
+pub(crate) const PIECE: usize = 131_072;
+
+/// Why an input was not read to its end.
+#[derive(Debug, Drop)]
+pub(crate) enum InputFault {
+    /// The reader failed, or was interrupted.
+    Failed(io::Error),
+    /// There are more bytes than a text may have.
+    Long,
+    /// An allocation failed.
+    NoMemory,
+}
+
+impl From<AllocError> for InputFault {
+    ghost from_gives = { λ _ e. e ≡ InputNoMemory };
+
+    fn from(_e: AllocError) -> InputFault {
+        InputFault::NoMemory
+    }
+}
+
+/// All that a reader has, if it has no more than a text may have.
+///
+/// Each read but the last gives a byte at least, so there are at most 134,217,729.
+pub(crate) fn read_input<R: Read>(alloc: Global, reader: &mut R) -> Result<Vec<u8>, InputFault>
+    ensures whole { IfOk result (λ text. ReadsAll (R.remaining reader.old) (R.remaining reader.new) text.items) }
+    ensures few { IfOk result (λ text. length text.items ≤ 134217728) }
+    ensures fault { IfErr result (λ fault. IsInputFault (R.remaining reader.old) (R.remaining reader.new) fault) }
+{
+    let mut piece = vec![in alloc; 0; PIECE]?;
+    read_pieces(alloc, reader, piece.as_mut_slice())
+}
+
+/// The same, by reads into this piece.
+fn read_pieces<R: Read>(
+    alloc: Global,
+    reader: &mut R,
+    piece: &mut [u8],
+) -> Result<Vec<u8>, InputFault>
+    requires { 0 < length piece.old }
+    ensures whole { IfOk result (λ text. ReadsAll (R.remaining reader.old) (R.remaining reader.new) text.items) }
+    ensures few { IfOk result (λ text. length text.items ≤ 134217728) }
+    ensures fault { IfErr result (λ fault. IsInputFault (R.remaining reader.old) (R.remaining reader.new) fault) }
+{
+    let mut text = Vec::new(alloc);
+    loop {
+        let count = match read_piece(reader, piece, text.len()) {
+            Ok(0) => return Ok(text),
+            Ok(count) => count,
+            Err(fault) => return Err(fault),
+        };
+        text.extend_from_slice(&piece[..count])?;
+    }
+}
+
+/// Reads what is left behind so many bytes, and keeps nothing of it.
+pub(crate) fn skip_rest<R: Read>(
+    reader: &mut R,
+    piece: &mut [u8],
+    before: usize,
+) -> Result<(), InputFault>
+    requires some { 0 < length piece.old }
+    requires few { before ≤ 134217728 }
+    ensures end { OnOk result ((rest : List ℕ) × ReadsAll (R.remaining reader.old) (R.remaining reader.new) rest × (before + length rest ≤ 134217728)) }
+    ensures fault { IfErr result (λ fault. IsFaultBehind before (R.remaining reader.old) (R.remaining reader.new) fault) }
+{
+    let mut total = before;
+    loop {
+        match read_piece(reader, piece, total) {
+            Ok(0) => return Ok(()),
+            Ok(count) => total += count,
+            Err(fault) => return Err(fault),
+        }
+    }
+}
+
+/// Reads a piece behind so many bytes, and gives how many it has: none at the end.
+pub(crate) fn read_piece<R: Read>(
+    reader: &mut R,
+    piece: &mut [u8],
+    before: usize,
+) -> Result<usize, InputFault>
+    requires some { 0 < length piece.old }
+    requires few { before ≤ 134217728 }
+    ensures bytes { IfOk result (λ count. Consumes (R.remaining reader.old) (R.remaining reader.new) (take count piece.new)) }
+    ensures size { length piece.new ≡ length piece.old }
+    ensures within { IfOk result (λ count. count ≤ length piece.new) }
+    ensures few { IfOk result (λ count. before + count ≤ 134217728) }
+    ensures end { IfOk result (λ count. count ≡ 0 → IsAtEnd (R.remaining reader.new)) }
+    ensures fault { IfErr result (λ fault. IsFaultBehind before (R.remaining reader.old) (R.remaining reader.new) fault) }
+{
+    match reader.read(piece) {
+        Ok(count) if count > MOST_BYTES - before => Err(InputFault::Long),
+        Ok(count) => Ok(count),
+        Err(error) => Err(InputFault::Failed(error)),
+    }
+}

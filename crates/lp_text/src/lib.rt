@@ -1,0 +1,31 @@
+//! Traces of events and certificates as texts: the grammar, the readers and the writer.
+#![tactic(auto)]
+
+mod builder;
+mod check_input;
+mod check_lines;
+mod fault;
+mod form;
+mod input;
+mod keyword;
+pub mod laws;
+mod length;
+mod line;
+mod number;
+mod of;
+mod parser;
+mod read;
+mod split;
+mod stream;
+mod stream_fault;
+mod symbol_cache;
+mod trace;
+mod write;
+
+pub use check_input::CheckInput;
+pub use fault::{Cause, ReadFault, TraceFault};
+pub use form::TraceForm;
+pub use of::OfFault;
+pub use stream_fault::StreamFault;
+pub use trace::Trace;
+pub use write::{WriteFault, put};

@@ -1,0 +1,310 @@
+//! What the lines of a trace text have given so far.
+ghost use Rattle.std.specs.Prelude.{◌≡◌, ◌≤◌, ◌+◌, ◌-◌, ◌<◌, ◌++◌, ◌∷◌, [], ◌==◌, ℕ, length, take, map, OnOk, IfOk, Ok, false, slice_index_or};
+ghost use Rattle.lp_text.specs.inside.Parsers.{IsTable};
+ghost use Rattle.lp_text.specs.Traces.{functions, IsTrace};
+ghost use Rattle.lp_text.specs.inside.LineFaults.{GivesLine};
+ghost use Rattle.lp_text.specs.Reading.{add_boot, add_event, add_function, add_symbol, at_end, begun, empty, first_word, grown, part_of, part_reached, with_line};
+ghost use Rattle.lp_text.specs.Words.{words};
+
+use crate::fault::{Cause, LineFault};
+use crate::form::TraceForm;
+use crate::keyword::LineKeyword;
+use crate::line::{boot_line, event_line, patch_line, symbol_of, task_of};
+use crate::split::{cut_word, last_word};
+use crate::symbol_cache::SymbolCache;
+use crate::trace::Trace;
+use lp_stack::{Class, TaskId};
+use lp_symbols::{SymFault, SymId, Symbols};
+use lp_transition::Event;
+use std::alloc::{AllocError, Global};
+use std::marker::Model;
+use std::str;
+
+/// The most functions of a patch.
+const MOST_FUNCTIONS: usize = 256;
+
+/// The most patches on one another.
+const MOST_PATCHES: u32 = 16;
+
+/// The most events of a trace.
+const MOST_EVENTS: usize = 1_000_000;
+
+/// One more than the greatest task number.
+const TASK_NUMBERS: usize = 65_536;
+
+/// What the lines so far have given. Contracts see it as a trace.
+#[derive(Drop)]
+pub(crate) struct Parser {
+    form: TraceForm,
+    symbols: Symbols,
+    cache: SymbolCache,
+    patches: Vec<Vec<SymId>>,
+    boots: Vec<(TaskId, Class)>,
+    /// For each task number, whether a boot line has it.
+    booted: Vec<bool>,
+    events: Vec<Event>,
+}
+
+impl Model for Parser {
+    ghost use Rattle.lp_text.specs.Traces.{TraceValue, AreNames, functions};
+    ghost use Rattle.lp_text.specs.inside.Parsers.{IsTable};
+
+    ghost Value = { TraceValue };
+
+    ghost view = { λ d. record { form = d.form; symbols = d.symbols; patches = functions d.patches.items; boots = d.boots.items; events = d.events.items } };
+
+    ghost invariant = { λ d. AreNames d.symbols × IsTable d.boots.items d.booted.items };
+}
+
+impl Parser {
+    /// Nothing but the first line.
+    pub(crate) fn new(alloc: Global, form: TraceForm) -> Result<Parser, LineFault>
+        ensures { GivesLine (λ parser. parser) result (Ok (empty form)) }
+    {
+        let Ok(symbols) = Symbols::new(alloc) else {
+            return Err(LineFault::NoMemory);
+        };
+        Ok(Parser {
+            form,
+            symbols,
+            cache: SymbolCache::new(),
+            patches: Vec::new(alloc),
+            boots: Vec::new(alloc),
+            booted: all_false(alloc, TASK_NUMBERS)?,
+            events: Vec::new(alloc),
+        })
+    }
+
+    /// Which of the two texts it is.
+    pub(crate) fn form(&self) -> TraceForm
+        ensures { result ≡ self.now.form }
+    {
+        self.form
+    }
+
+    /// One line more, without its end.
+    #[inline(always)]
+    #[tactic(auto, unfolding(crate::specs::Reading::with_line, crate::specs::Reading::line_by_word))]
+    pub(crate) fn add_line(&mut self, alloc: Global, line: &[u8]) -> Result<(), LineFault>
+        ensures { GivesLine (λ _. self.new) result (with_line self.old (words line.now)) }
+    {
+        let (word, left) = cut_word(line);
+        match self.first_word(word)? {
+            LineKeyword::Sym => {
+                let name = last_word(left)?;
+                self.add_symbol(name)
+            }
+            LineKeyword::Patch => {
+                let (number, name) = patch_line(self.form, left)?;
+                self.add_function(alloc, number, name)
+            }
+            LineKeyword::Boot => {
+                let (number, class) = boot_line(left)?;
+                self.add_boot(number, class)
+            }
+            LineKeyword::Event(word) => {
+                let event = event_line(&self.symbols, &mut self.cache, word, left)?;
+                self.add_event(event)
+            }
+        }
+    }
+
+    /// The end of the text, where these bytes stand after the last line end.
+    #[tactic(auto, unfolding(crate::specs::Reading::at_end))]
+    pub(crate) fn at_end(&self, rest: &[u8]) -> Result<(), LineFault>
+        ensures { GivesLine (λ _. self.now) result (at_end self.now rest.now) }
+    {
+        if !rest.is_empty() {
+            return Err(LineFault::Cause(Cause::Unended));
+        }
+        if self.patches.is_empty() {
+            return Err(LineFault::Cause(Cause::Patch));
+        }
+        Ok(())
+    }
+
+    /// The trace that the lines spell.
+    pub(crate) fn into_trace(self) -> Trace
+        requires { IsTrace self }
+        ensures { result ≡ self }
+    {
+        let Self {
+            form,
+            symbols,
+            cache: _,
+            patches,
+            boots,
+            booted: _,
+            events,
+        } = self;
+        Trace::from_parts(form, symbols, patches, boots, events)
+    }
+
+    /// The first word of the next line.
+    #[inline(always)]
+    #[tactic(auto, unfolding(crate::specs::Reading::first_word))]
+    fn first_word(&self, word: &[u8]) -> Result<LineKeyword, LineFault>
+        ensures { GivesLine (λ first. first) result (first_word self.now word.now) }
+    {
+        let first = LineKeyword::of(word).ok_or(LineFault::Cause(Cause::Word))?;
+        if part_of(first) < self.part_reached() {
+            return Err(LineFault::Cause(Cause::Word));
+        }
+        if part_of(first) > 2 && self.patches.is_empty() {
+            return Err(LineFault::Cause(Cause::Patch));
+        }
+        Ok(first)
+    }
+
+    /// The last part that has a line.
+    #[inline(always)]
+    fn part_reached(&self) -> u8
+        ensures { result ≡ part_reached self.now }
+    {
+        if !self.events.is_empty() {
+            4
+        } else if !self.boots.is_empty() {
+            3
+        } else if !self.patches.is_empty() {
+            2
+        } else {
+            1
+        }
+    }
+
+    /// One symbol more.
+    #[tactic(auto, using(crate::proofs::Symbols::odd_symbol), unfolding(crate::specs::Reading::add_symbol))]
+    pub(crate) fn add_symbol(&mut self, name: &[u8]) -> Result<(), LineFault>
+        ensures { GivesLine (λ _. self.new) result (add_symbol self.old name.now) }
+    {
+        let Ok(text) = str::from_utf8(name) else {
+            return Err(LineFault::Cause(Cause::Name));
+        };
+        match self.symbols.add(text) {
+            Ok(_) => Ok(()),
+            Err(SymFault::BadName) => Err(LineFault::Cause(Cause::Name)),
+            Err(SymFault::Doubled) => Err(LineFault::Cause(Cause::Doubled)),
+            Err(SymFault::TooMany) => Err(LineFault::Cause(Cause::Many)),
+            Err(SymFault::NoMemory) => Err(LineFault::NoMemory),
+        }
+    }
+
+    /// One function more of the patch of a number.
+    #[tactic(auto, unfolding(crate::specs::Reading::add_function))]
+    pub(crate) fn add_function(
+        &mut self,
+        alloc: Global,
+        number: u32,
+        name: &[u8],
+    ) -> Result<(), LineFault>
+        ensures { GivesLine (λ _. self.new) result (add_function self.old (number, name.now)) }
+    {
+        let func = symbol_of(&self.symbols, name)?;
+        check_function(self.patches.as_slice(), number, func)?;
+        put_function(alloc, &mut self.patches, number as usize, func)?;
+        Ok(())
+    }
+
+    /// One boot task more.
+    #[tactic(auto, unfolding(crate::specs::Reading::add_boot))]
+    pub(crate) fn add_boot(&mut self, number: u32, class: Class) -> Result<(), LineFault>
+        ensures { GivesLine (λ _. self.new) result (add_boot self.old (number, class)) }
+    {
+        let task = task_of(number)?;
+        let place = usize::from(task.0);
+        if self.booted[place] {
+            return Err(LineFault::Cause(Cause::Task));
+        }
+        self.boots.push((task, class))?;
+        self.booted[place] = true;
+        Ok(())
+    }
+
+    /// One event more.
+    #[inline(always)]
+    #[tactic(auto, unfolding(crate::specs::Reading::add_event))]
+    pub(crate) fn add_event(&mut self, event: Event) -> Result<(), LineFault>
+        ensures { GivesLine (λ _. self.new) result (add_event self.old event) }
+    {
+        if self.events.len() == MOST_EVENTS {
+            return Err(LineFault::Cause(Cause::Many));
+        }
+        self.events.push(event)?;
+        Ok(())
+    }
+}
+
+/// A table of a size, of which no entry is set.
+fn all_false(alloc: Global, size: usize) -> Result<Vec<bool>, AllocError>
+    ensures size { IfOk result (λ table. length table.items ≡ size) }
+    ensures unset { IfOk result (λ table. (i : ℕ) → slice_index_or table.items i false ≡ false) }
+{
+    vec![in alloc; false; size]
+}
+
+/// The part of a text that a line of this word belongs to, from 1.
+#[inline(always)]
+fn part_of(word: LineKeyword) -> u8
+    ensures { result ≡ part_of word }
+{
+    match word {
+        LineKeyword::Sym => 1,
+        LineKeyword::Patch => 2,
+        LineKeyword::Boot => 3,
+        LineKeyword::Event(_) => 4,
+    }
+}
+
+/// What the patch of a number has so far, where a line may add to it.
+#[tactic(auto, unfolding(crate::specs::Reading::begun))]
+fn begun(patches: &[Vec<SymId>], number: u32) -> Result<&[SymId], LineFault>
+    ensures { GivesLine (λ had. had.now) result (begun (functions patches.now) number) }
+{
+    if number == 0 {
+        return Err(LineFault::Cause(Cause::Patch));
+    }
+    let at = number as usize - 1;
+    match patches.get(at) {
+        Some(patch) if at + 1 == patches.len() => Ok(patch.as_slice()),
+        None if at == patches.len() && number <= MOST_PATCHES => Ok(&[]),
+        _ => Err(LineFault::Cause(Cause::Patch)),
+    }
+}
+
+/// What the patch of a number has with one function more.
+#[tactic(auto, unfolding(crate::specs::Reading::grown))]
+fn check_function(patches: &[Vec<SymId>], number: u32, func: SymId) -> Result<(), LineFault>
+    ensures grown { GivesLine (λ _. slice_index_or (functions patches.now) (number - 1) [] ++ func ∷ []) result (grown (functions patches.now) number func) }
+    ensures place { OnOk result ((1 ≤ number) × (number ≤ length patches.now + 1) × (length patches.now ≤ number)) }
+{
+    let had = begun(patches, number)?;
+    if had.contains(&func) {
+        return Err(LineFault::Cause(Cause::Patch));
+    }
+    if had.len() == MOST_FUNCTIONS {
+        return Err(LineFault::Cause(Cause::Many));
+    }
+    Ok(())
+}
+
+/// Adds a function to the patch of a number, the last one or one more.
+fn put_function(
+    alloc: Global,
+    patches: &mut Vec<Vec<SymId>>,
+    number: usize,
+    func: SymId,
+) -> Result<(), AllocError>
+    requires some { 1 ≤ number }
+    requires last { length patches.old.items ≤ number }
+    requires more { number ≤ length patches.old.items + 1 }
+    ensures { OnOk result (functions patches.new.items ≡ take (number - 1) (functions patches.old.items) ++ (slice_index_or (functions patches.old.items) (number - 1) [] ++ func ∷ []) ∷ []) }
+{
+    if number > patches.len() {
+        let mut patch = Vec::new(alloc);
+        patch.push(func)?;
+        patches.push(patch)?;
+        return Ok(());
+    }
+    patches[number - 1].push(func)?;
+    Ok(())
+}

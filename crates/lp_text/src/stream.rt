@@ -1,0 +1,245 @@
+//! Reading a trace from a reader piece by piece: of the text only the line that goes on is kept.
+ghost use Rattle.std.specs.Prelude.{◌≡◌, ◌+◌, ◌≤◌, ◌<◌, ◌++◌, ℕ, List, [], None, Ok, Err, length, IfOk, IfErr, IfSome, IfNone, OnOk};
+ghost use Rattle.lp_text.specs.Faults.{Gives, IsReadFault};
+ghost use Rattle.lp_text.specs.Input.{AtText, ReadsAll};
+ghost use Rattle.lp_text.specs.inside.Streams.{reading_after, reading_on};
+ghost use Rattle.lp_text.specs.Reading.{reading, reading_from, reading_lines};
+ghost use Rattle.lp_text.specs.Traces.{IsTrace, text_of};
+ghost use Rattle.lp_text.specs.Words.{lines};
+
+use crate::fault::ReadFault;
+use crate::input::{PIECE, read_piece, skip_rest};
+use crate::parser::Parser;
+use crate::read::{begun, read_all_lines, read_lines};
+use crate::split::cut;
+use crate::stream_fault::StreamFault;
+use crate::trace::Trace;
+use memchr::memchr;
+use std::alloc::Global;
+use std::io::Read;
+use std::marker::Model;
+use std::mem;
+
+/// What came of a text so far.
+#[derive(Drop)]
+struct Stream {
+    /// What the whole lines have given, once the first one came.
+    parser: Option<Parser>,
+    /// The number of the next line.
+    number: u64,
+    /// What came of the next line.
+    held: Vec<u8>,
+    /// Memory for what is held next.
+    next: Vec<u8>,
+}
+
+impl Model for Stream {
+    ghost use Rattle.lp_text.specs.inside.Streams.{Stream};
+
+    ghost Value = { Stream };
+
+    ghost view = { λ i. record { parser = i.parser; number = i.number; held = i.held.items } };
+}
+
+impl Stream {
+    /// Nothing of a text.
+    fn new(alloc: Global) -> Stream
+        ensures { result ≡ record { parser = None; number = 1; held = [] } }
+    {
+        Stream {
+            parser: None,
+            number: 1,
+            held: Vec::new(alloc),
+            next: Vec::new(alloc),
+        }
+    }
+
+    /// One piece more.
+    fn add(&mut self, alloc: Global, piece: &[u8]) -> Result<(), ReadFault>
+        requires some { 1 ≤ self.old.number }
+        requires few { self.old.number + length self.old.held + length piece.now ≤ 134217729 }
+        ensures some { OnOk result (1 ≤ self.new.number) }
+        ensures read { OnOk result ((bytes : List ℕ) → reading_after self.old (piece.now ++ bytes) ≡ reading_after self.new bytes) }
+        ensures few { OnOk result (self.new.number + length self.new.held ≤ self.old.number + length self.old.held + length piece.now) }
+        ensures fault { IfErr result (λ fault. (bytes : List ℕ) → IsReadFault fault (reading_after self.old (piece.now ++ bytes))) }
+    {
+        self.held.extend_from_slice(piece)?;
+        if memchr(b'\n', piece).is_none() {
+            return Ok(());
+        }
+        self.take_lines(alloc)
+    }
+
+    /// Takes the lines that are whole.
+    fn take_lines(&mut self, alloc: Global) -> Result<(), ReadFault>
+        requires some { 1 ≤ self.old.number }
+        requires few { self.old.number + length self.old.held ≤ 134217729 }
+        ensures some { OnOk result (1 ≤ self.new.number) }
+        ensures read { OnOk result ((bytes : List ℕ) → reading_after self.old bytes ≡ reading_after self.new bytes) }
+        ensures few { OnOk result (self.new.number + length self.new.held ≤ self.old.number + length self.old.held) }
+        ensures fault { IfErr result (λ fault. (bytes : List ℕ) → IsReadFault fault (reading_after self.old bytes)) }
+    {
+        let rest = take_whole_lines(
+            alloc,
+            &mut self.parser,
+            &mut self.number,
+            self.held.as_slice(),
+        )?;
+        self.next.clear();
+        self.next.extend_from_slice(rest)?;
+        mem::swap(&mut self.held, &mut self.next);
+        Ok(())
+    }
+
+    /// What the text has given, at its end.
+    fn finish(self, alloc: Global) -> Result<Parser, ReadFault>
+        requires some { 1 ≤ self.number }
+        requires few { self.number + length self.held ≤ 134217729 }
+        ensures { Gives (λ parser. parser) result (reading_after self []) }
+    {
+        let Self {
+            parser,
+            number,
+            held,
+            ..
+        } = self;
+        match parser {
+            None => read_all_lines(alloc, held.as_slice()),
+            Some(parser) => read_lines(alloc, number, parser, held.as_slice()),
+        }
+    }
+}
+
+/// Takes the whole lines of a text, the first of all where there was none before, and gives what
+/// stands after them.
+fn take_whole_lines<'a>(
+    alloc: Global,
+    parser: &mut Option<Parser>,
+    number: &mut u64,
+    text: &'a [u8],
+) -> Result<&'a [u8], ReadFault>
+    requires begun { 1 ≤ number.old }
+    requires few { number.old + length text.now ≤ 134217729 }
+    ensures read { IfOk result (λ rest. (bytes : List ℕ) → reading_on parser.old number.old (lines (text.now ++ bytes)) ≡ reading_on parser.new number.new (lines (rest.now ++ bytes))) }
+    ensures few { IfOk result (λ rest. number.new + length rest.now ≤ number.old + length text.now) }
+    ensures more { IfOk result (λ rest. 1 ≤ number.old → 1 ≤ number.new) }
+    ensures fault { IfErr result (λ fault. (bytes : List ℕ) → IsReadFault fault (reading_on parser.old number.old (lines (text.now ++ bytes)))) }
+{
+    match parser {
+        Some(parser) => take_lines(alloc, parser, number, text),
+        None => match take_first(alloc, number, text)? {
+            Some((begun, rest)) => {
+                *parser = Some(begun);
+                Ok(rest)
+            }
+            None => Ok(text),
+        },
+    }
+}
+
+/// The same where the first line is still to come: what the whole lines give, and what stands after
+/// them; None where the first isn't whole.
+fn take_first<'a>(
+    alloc: Global,
+    number: &mut u64,
+    text: &'a [u8],
+) -> Result<Option<(Parser, &'a [u8])>, ReadFault>
+    requires few { length text.now ≤ 134217728 }
+    ensures read { IfOk result (λ found. IfSome found (λ x. (bytes : List ℕ) → reading_lines (lines (text.now ++ bytes)) ≡ reading_from number.new x.0 (lines (x.1.now ++ bytes)))) }
+    ensures few { IfOk result (λ found. IfSome found (λ x. number.new + length x.1.now ≤ 1 + length text.now)) }
+    ensures more { IfOk result (λ found. IfSome found (λ x. 2 ≤ number.new)) }
+    ensures none { IfOk result (λ found. IfNone found (number.new ≡ number.old)) }
+    ensures fault { IfErr result (λ fault. (bytes : List ℕ) → IsReadFault fault (reading_lines (lines (text.now ++ bytes)))) }
+{
+    let (first, left) = cut(b'\n', text);
+    let Some(rest) = left else {
+        return Ok(None);
+    };
+    let mut parser = begun(alloc, first)?;
+    *number = 2;
+    let rest = take_lines(alloc, &mut parser, number, rest)?;
+    Ok(Some((parser, rest)))
+}
+
+/// Takes the whole lines of a text, of which the first has this number, and gives what stands after
+/// them.
+fn take_lines<'a>(
+    alloc: Global,
+    parser: &mut Parser,
+    number: &mut u64,
+    text: &'a [u8],
+) -> Result<&'a [u8], ReadFault>
+    requires few { number.old + length text.now ≤ 134217730 }
+    ensures read { IfOk result (λ rest. (bytes : List ℕ) → reading_from number.old parser.old (lines (text.now ++ bytes)) ≡ reading_from number.new parser.new (lines (rest.now ++ bytes))) }
+    ensures few { IfOk result (λ rest. number.new + length rest.now ≤ number.old + length text.now) }
+    ensures more { IfOk result (λ rest. number.old ≤ number.new) }
+    ensures fault { IfErr result (λ fault. (bytes : List ℕ) → IsReadFault fault (reading_from number.old parser.old (lines (text.now ++ bytes)))) }
+{
+    let mut next = *number;
+    let mut rest = text;
+    loop {
+        let (line, left) = cut(b'\n', rest);
+        let Some(more) = left else {
+            *number = next;
+            return Ok(rest);
+        };
+        if let Err(fault) = parser.add_line(alloc, line) {
+            return Err(fault.at(next));
+        }
+        rest = more;
+        next += 1;
+    }
+}
+
+impl Trace {
+    /// The trace that a reader has, read to its end.
+    ///
+    /// It makes at most 134,217,729 reads. A read that fails or is interrupted ends it.
+    pub fn read_from<R: Read>(alloc: Global, reader: &mut R) -> Result<Trace, StreamFault>
+        // What was read spells a trace, and nothing is left.
+        ensures found { IfOk result (λ trace. IsTrace trace × ReadsAll (R.remaining reader.old) (R.remaining reader.new) (text_of trace)) }
+        // The fault of a text is the one that the definitions give.
+        ensures trace { IfErr result (λ fault. AtText fault (λ why. IfSome (R.remaining reader.old) (λ text. reading text ≡ Err why))) }
+    {
+        let parser = parse_all(alloc, reader)?;
+        Ok(parser.into_trace())
+    }
+}
+
+/// What a reader's text gives, read to its end.
+fn parse_all<R: Read>(alloc: Global, reader: &mut R) -> Result<Parser, StreamFault>
+    ensures found { IfOk result (λ parser. (text : List ℕ) × ReadsAll (R.remaining reader.old) (R.remaining reader.new) text × (reading text ≡ Ok parser)) }
+    ensures trace { IfErr result (λ fault. AtText fault (λ why. IfSome (R.remaining reader.old) (λ text. reading text ≡ Err why))) }
+{
+    let mut piece = vec![in alloc; 0; PIECE]?;
+    read_by(alloc, reader, piece.as_mut_slice())
+}
+
+/// The same, by reads into this piece.
+fn read_by<R: Read>(alloc: Global, reader: &mut R, piece: &mut [u8]) -> Result<Parser, StreamFault>
+    requires { 0 < length piece.old }
+    ensures found { IfOk result (λ parser. (text : List ℕ) × ReadsAll (R.remaining reader.old) (R.remaining reader.new) text × (reading text ≡ Ok parser)) }
+    ensures trace { IfErr result (λ fault. AtText fault (λ why. IfSome (R.remaining reader.old) (λ text. reading text ≡ Err why))) }
+{
+    let mut stream = Stream::new(alloc);
+    let mut total = 0;
+    loop {
+        let count = match read_piece(reader, piece, total) {
+            Ok(count) => count,
+            Err(fault) => return Err(StreamFault::from(fault)),
+        };
+        if count == 0 {
+            return match stream.finish(alloc) {
+                Ok(parser) => Ok(parser),
+                Err(fault) => Err(StreamFault::from(fault)),
+            };
+        }
+        total += count;
+        if let Err(fault) = stream.add(alloc, &piece[..count]) {
+            return match skip_rest(reader, piece, total) {
+                Ok(()) => Err(StreamFault::from(fault)),
+                Err(later) => Err(StreamFault::from(later)),
+            };
+        }
+    }
+}

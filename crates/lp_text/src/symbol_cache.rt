@@ -1,0 +1,84 @@
+//! Symbols that were looked up last: most names of a trace come again and again.
+ghost use Rattle.std.specs.Prelude.{◌≡◌, Ok, IsTrue, option_copied};
+ghost use Rattle.lp_text.specs.inside.LineFaults.{GivesLine};
+ghost use Rattle.lp_text.specs.inside.Parsers.{last_symbol};
+ghost use Rattle.lp_text.specs.inside.Cut.{words_left};
+ghost use Rattle.lp_text.specs.Words.{words};
+ghost use Rattle.lp_text.specs.Traces.{AreNames};
+
+use crate::fault::{Cause, LineFault};
+use crate::line::symbol_of;
+use crate::split::last_word;
+use lp_symbols::{SymId, Symbols};
+
+/// At each place the symbol that was found last of the names that belong there. A name is compared
+/// with it before it is looked up.
+#[derive(Drop)]
+pub(crate) struct SymbolCache {
+    ids: [SymId; 256],
+}
+
+impl SymbolCache {
+    /// The first symbol at each place.
+    pub(crate) fn new() -> SymbolCache {
+        SymbolCache {
+            ids: [SymId(0); 256],
+        }
+    }
+
+    /// The symbol of a name, which is to be the last word of a line. A name has no space in it, so
+    /// it is all that is left.
+    #[inline(always)]
+    #[tactic(auto, unfolding(crate::specs::Reading::last_word))]
+    pub(crate) fn last_symbol(
+        &mut self,
+        symbols: &Symbols,
+        left: Option<&[u8]>,
+    ) -> Result<SymId, LineFault>
+        requires names { AreNames symbols.now }
+        ensures { GivesLine (λ id. id) result (last_symbol symbols.now (words_left (option_copied left.entry))) }
+    {
+        let Some(rest) = left else {
+            return Err(LineFault::Cause(Cause::Shape));
+        };
+        let place = usize::from(place_of(rest));
+        let cached = self.ids[place];
+        if is_name_of(symbols, cached, rest) {
+            return Ok(cached);
+        }
+        let name = last_word(left)?;
+        let id = symbol_of(symbols, name)?;
+        self.ids[place] = id;
+        Ok(id)
+    }
+}
+
+/// The place of a name, by its length and its first, middle and last byte.
+#[inline(always)]
+fn place_of(name: &[u8]) -> u8 {
+    let [first, .., last] = name else {
+        return 0;
+    };
+    let middle = name[name.len() / 2];
+    let length = (name.len() % 256) as u8;
+    first
+        .wrapping_mul(53)
+        .wrapping_add(middle.wrapping_mul(113))
+        .wrapping_add(length.wrapping_mul(89))
+        .wrapping_add(*last)
+}
+
+/// Whether a symbol has this name.
+#[inline(always)]
+fn is_name_of(symbols: &Symbols, id: SymId, name: &[u8]) -> bool
+    requires names { AreNames symbols.now }
+    ensures { IsTrue result → last_symbol symbols.now (words name.now) ≡ Ok id }
+{
+    if id.index() >= symbols.len() {
+        return false;
+    }
+    match symbols.name(id) {
+        Some(text) => text.as_bytes() == name,
+        None => false,
+    }
+}

@@ -1,9 +1,0 @@
-use Rattle.std.proofs.Common.{length}
-use Rattle.lp_trace.proofs.Divided.{IsAt}
-use Rattle.lp_trace.proofs.check_input.divide.Given as goal
-
-abbrev pub invariant-loop-more : goal.invariant-loop-more
-invariant-loop-more l = IsAt l.fn.text l.line l.rest
-
-abbrev pub decreases-loop-more : goal.decreases-loop-more
-decreases-loop-more l = length l.rest

@@ -1,5 +1,0 @@
-use Rattle.lp_trace.proofs.Complete.{one_value}
-use Rattle.lp_trace.proofs.laws.one_trace_a_text.Goals as goal
-
-pub returns : goal.returns
-returns c = one_value

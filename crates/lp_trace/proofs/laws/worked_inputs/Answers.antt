@@ -1,5 +1,0 @@
-use Rattle.lp_trace.proofs.CheckRows.{inputs_compute}
-use Rattle.lp_trace.proofs.laws.worked_inputs.Goals as goal
-
-pub returns : goal.returns
-returns c = inputs_compute

@@ -1,8 +1,0 @@
-use Rattle.std.proofs.Common.{◌≡◌, length, map, take}
-use Rattle.lp_trace.specs.Drafts.{functions}
-use Rattle.lp_trace.specs.Outcome.{patch_of}
-use Rattle.lp_trace.proofs.replays.start.sets.Given as goal
-
--- the patches so far
-abbrev pub invariant-loop-functions : goal.invariant-loop-functions
-invariant-loop-functions l = l.sets.items ≡ map (patch_of (length l.symbols)) (functions (take l.functions-index l.patches))

@@ -1,0 +1,61 @@
+-- The worked certificates compute.
+use Rattle.std.proofs.Common.{refl}
+use Rattle.lp_patch.specs.Patches.{version}
+use Rattle.lp_transition.specs.Tasks.{refusal, effect}
+use Rattle.lp_transition.specs.Leg.{tasks_after, each_live, some_live, check}
+use Rattle.lp_transition.specs.Schedule.{level_by, waits, allowed, complete, first_checks}
+use Rattle.lp_transition.specs.Run.{is_settled, refused_by, shown, next_leg, leg_after}
+use Rattle.lp_checker.specs.Verdict.{first_bad, verdict_on}
+use Rattle.lp_worked_laws.specs.VerdictRows.{verdict, VerdictsCompute}
+
+pub verdicts_compute : VerdictsCompute
+unfolding version refusal effect tasks_after each_live some_live check level_by waits allowed complete first_checks is_settled refused_by shown next_leg leg_after first_bad verdict_on verdict
+verdicts_compute =
+    record {
+      sleeper = refl;
+      stopped = refl;
+      child = refl;
+      reversed = refl;
+      walked = refl;
+      in_two_frames = refl;
+      in_any_order = refl;
+      thread = refl;
+      sleeps_through = refl;
+      at_the_opening = refl;
+      parent_claimed = refl;
+      stray_line = refl;
+      not_there_at_the_opening = refl;
+      dead_at_the_end = refl;
+      stray_and_no_blame = refl;
+      frame_left = refl;
+      frame_left_at_last = refl;
+      left_and_no_blame = refl;
+      on_no_cpu = refl;
+      asleep_at_last = refl;
+      turned_round = refl;
+      at_no_check = refl;
+      past_its_time = refl;
+      busy_past_its_time = refl;
+      another_frame = refl;
+      another_groups_task = refl;
+      no_blame_and_gap = refl;
+      first_frame_alone = refl;
+      no_line = refl;
+      busy_once = refl;
+      parents_check_left_out = refl;
+      childs_check_left_out = refl;
+      went_over = refl;
+      no_fork = refl;
+      before_the_leg = refl;
+      past_the_end = refl;
+      born_twice = refl;
+      other_parent = refl;
+      parent_of_other_group = refl;
+      thread_is_no_birth = refl;
+      no_fork_and_parent_claimed = refl;
+      wrong_leg = refl;
+      wrong_leg_and_no_fork = refl;
+      ends_too_late = refl;
+      ends_too_early = refl;
+      other_claim = refl;
+    }

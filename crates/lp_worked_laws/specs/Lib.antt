@@ -1,0 +1,3 @@
+pub mod CertRows
+pub mod HeadlineRows
+pub mod VerdictRows
