@@ -81,8 +81,8 @@ impl Waiters {
         }
     }
 
-    /// An accepted fork: a child in a group of its own waits with its parent's reasons. Takes no
-    /// memory.
+    /// A child of a group that waits was born on its level, so what kept its parent's group back is
+    /// why it waits too. Takes no memory.
     fn fork<M: Consistency>(
         &mut self,
         core: &Core<M>,

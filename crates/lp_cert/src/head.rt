@@ -155,7 +155,7 @@ impl Head {
     }
 }
 
-/// Whether the newest reason goes on with a refusal.
+/// A hold continues while its frame stands, whoever is refused now: that frame alone keeps the group.
 fn goes_on(ongoing: Ongoing, refused: &Refused) -> bool
     ensures { result ≡ stays ongoing refused.now }
 {

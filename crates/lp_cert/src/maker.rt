@@ -26,7 +26,7 @@ use lp_transition::{Core, Event, Halt, Step, What};
 use std::alloc::{AllocError, Global};
 use std::marker::Model;
 
-/// What a leg leaves where it ends: copies, with no room to spare.
+/// What a leg leaves where it ends: copies, as the maker's own room is for the greatest scan.
 #[derive(Drop)]
 pub(crate) struct Closing {
     /// The groups that have a certificate.
@@ -37,7 +37,7 @@ pub(crate) struct Closing {
     pub(crate) scans: Vec<u64>,
 }
 
-/// An event for which there is room.
+/// An event for which there is room: `note` may not fail once the engine is to take it.
 #[derive(Drop)]
 pub(crate) struct Ready {
     /// The event.
@@ -320,7 +320,7 @@ fn end_leg(ended: &mut Vec<LegEnd>, noted: u64, current: Option<OpenLeg>, closin
     }
 }
 
-/// Whether an event opens a leg: it is a control event, and was accepted.
+/// A refused control event ends no leg: its tasks wait on as before.
 fn opens(step: &Step) -> bool
     ensures { result ≡ is_opening step.now }
 {

@@ -233,7 +233,7 @@ fn judge_all<M: Consistency>(
     }
 }
 
-/// Notes one verdict of a scan, if its group wasn't refused before.
+/// Of the members that a scan refuses, the first has the least number: it alone is a group's reason.
 fn judge<M: Consistency>(
     core: &Core<M>,
     at: u64,

@@ -85,8 +85,7 @@ fn is_birth<M: Consistency>(
     Ok(is_own_fork(model, event, own, from, birth))
 }
 
-/// Whether an event is a fork by the birth's parent, which is in its own group and in the one given, if one is,
-/// of a child with the birth's number and group.
+/// A fork into the parent's own group is no birth: the child's waiting is the group's.
 fn is_own_fork<M: Consistency>(
     model: M,
     event: Option<Event>,
@@ -114,7 +113,7 @@ fn is_own_fork<M: Consistency>(
     model.child_group(home, child, how).0 == birth.group.0
 }
 
-/// Whether a group is the one given, if one is.
+/// Of the first birth no group is given: its parent's group is the first group, whichever it is.
 fn is_same_group(group: GroupId, given: Option<GroupId>) -> bool
     ensures { result ≡ nat_eq group.0 (group_now given group.0) }
 {

@@ -75,7 +75,7 @@ fn check<M: Consistency>(
     }
 }
 
-/// The first fault of a certificate that is to make a claim.
+/// Each part may lean on those before it: lines are tested only against sections that births gave.
 fn fault_of<M: Consistency>(
     alloc: Global,
     model: M,

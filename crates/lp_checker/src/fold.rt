@@ -53,7 +53,7 @@ impl Fold {
         })
     }
 
-    /// Takes an event, and answers it where it is accepted.
+    /// No group switches here: a certificate speaks of a group that waits, which sees no other's level.
     pub(crate) fn pass<M: Consistency>(
         &mut self,
         alloc: Global,

@@ -36,8 +36,8 @@ impl Walk {
         })
     }
 
-    /// Goes to just after an event, counted from 1: on to a later one, or again from the opening to an
-    /// earlier one.
+    /// Events can't be taken back, so an earlier one is reached from the opening again. Lines come sorted,
+    /// so that hardly happens.
     pub(crate) fn go_to<M: Consistency>(
         &mut self,
         alloc: Global,

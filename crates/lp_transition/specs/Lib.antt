@@ -20,3 +20,4 @@ pub mod Scan
 pub mod ScanSteps
 pub mod Boot
 pub mod Openings
+pub mod inside

@@ -1,7 +1,7 @@
 //! Which events are accepted. Control events are: in a leg they change nothing.
-ghost use Rattle.std.specs.Prelude.{◌≡◌, is_none};
+ghost use Rattle.std.specs.Prelude.{◌≡◌, [], ◌∷◌, is_none};
 ghost use Rattle.lp_transition.specs.Table.{task_numbers, standings};
-ghost use Rattle.lp_transition.specs.Tasks.{first_of, tests, same_mode, same_class};
+ghost use Rattle.lp_transition.specs.Tasks.{first_of, tests, same_mode, same_class, unknown_task, not_of, not_in, stack_not_empty};
 ghost use Rattle.lp_transition.specs.Machine.{outlines_of};
 
 use super::table::FoldedTable;
@@ -17,13 +17,13 @@ pub(crate) fn accepts(tasks: &FoldedTable, symbols: usize, event: Event) -> bool
     match event {
         Event::Call(task, func) => accepts_call(tasks, symbols, task, func),
         Event::Ret(task) => accepts_ret(tasks, symbols, task),
-        Event::Sleep(task) => accepts_sleep(tasks, symbols, task),
-        Event::Wake(task) => accepts_wake(tasks, symbols, task),
+        Event::Sleep(task) => accepts_mode(tasks, task, Mode::Kernel),
+        Event::Wake(task) => accepts_mode(tasks, task, Mode::Asleep),
         Event::Enter(task) => accepts_enter(tasks, symbols, task),
-        Event::Exit(task) => accepts_exit(tasks, symbols, task),
-        Event::Idle(task) => accepts_idle(tasks, symbols, task),
+        Event::Exit(task) => accepts_empty(tasks, task, Class::Normal),
+        Event::Idle(task) => accepts_empty(tasks, task, Class::Idle),
         Event::Fork(parent, child, how) => accepts_fork(tasks, symbols, parent, child, how),
-        Event::Die(task) => accepts_die(tasks, symbols, task),
+        Event::Die(task) => accepts_empty(tasks, task, Class::Normal),
         Event::Walk | Event::Stop | Event::Enable | Event::Disable | Event::Reverse => true,
     }
 }
@@ -63,30 +63,14 @@ fn accepts_ret(tasks: &FoldedTable, symbols: usize, task: TaskId) -> bool
     true
 }
 
-/// Whether going to sleep is accepted.
-fn accepts_sleep(tasks: &FoldedTable, symbols: usize, task: TaskId) -> bool
-    ensures { result ≡ is_none (first_of (tests (task_numbers symbols) (outlines_of (standings tasks.now)) (Event.Sleep task))) }
+/// Whether an event that needs no more than a mode is accepted: a sleep, a wake-up.
+fn accepts_mode(tasks: &FoldedTable, task: TaskId, mode: Mode) -> bool
+    ensures { let now = outlines_of (standings tasks.now) in result ≡ is_none (first_of (unknown_task now task.0 ∷ not_in mode now task.0 ∷ [])) }
 {
     let Some(live) = tasks.get(task) else {
         return false;
     };
-    if !same_mode(live.mode(), Mode::Kernel) {
-        return false;
-    }
-    true
-}
-
-/// Whether waking up is accepted.
-fn accepts_wake(tasks: &FoldedTable, symbols: usize, task: TaskId) -> bool
-    ensures { result ≡ is_none (first_of (tests (task_numbers symbols) (outlines_of (standings tasks.now)) (Event.Wake task))) }
-{
-    let Some(live) = tasks.get(task) else {
-        return false;
-    };
-    if !same_mode(live.mode(), Mode::Asleep) {
-        return false;
-    }
-    true
+    same_mode(live.mode(), mode)
 }
 
 /// Whether entering the kernel is accepted.
@@ -105,61 +89,21 @@ fn accepts_enter(tasks: &FoldedTable, symbols: usize, task: TaskId) -> bool
     true
 }
 
-/// Whether leaving the kernel is accepted.
-fn accepts_exit(tasks: &FoldedTable, symbols: usize, task: TaskId) -> bool
-    ensures { result ≡ is_none (first_of (tests (task_numbers symbols) (outlines_of (standings tasks.now)) (Event.Exit task))) }
+/// Whether an event is accepted at which a task of this class leaves the kernel or is done with it:
+/// an exit, an idle point, an end.
+fn accepts_empty(tasks: &FoldedTable, task: TaskId, class: Class) -> bool
+    ensures { let now = outlines_of (standings tasks.now) in result ≡ is_none (first_of (unknown_task now task.0 ∷ not_of class now task.0 ∷ not_in Mode.Kernel now task.0 ∷ stack_not_empty now task.0 ∷ [])) }
 {
     let Some(live) = tasks.get(task) else {
         return false;
     };
-    if !same_class(live.class(), Class::Normal) {
+    if !same_class(live.class(), class) {
         return false;
     }
     if !same_mode(live.mode(), Mode::Kernel) {
         return false;
     }
-    if live.depth() != 0 {
-        return false;
-    }
-    true
-}
-
-/// Whether an idle point is accepted.
-fn accepts_idle(tasks: &FoldedTable, symbols: usize, task: TaskId) -> bool
-    ensures { result ≡ is_none (first_of (tests (task_numbers symbols) (outlines_of (standings tasks.now)) (Event.Idle task))) }
-{
-    let Some(live) = tasks.get(task) else {
-        return false;
-    };
-    if !same_class(live.class(), Class::Idle) {
-        return false;
-    }
-    if !same_mode(live.mode(), Mode::Kernel) {
-        return false;
-    }
-    if live.depth() != 0 {
-        return false;
-    }
-    true
-}
-
-/// Whether a task's end is accepted.
-fn accepts_die(tasks: &FoldedTable, symbols: usize, task: TaskId) -> bool
-    ensures { result ≡ is_none (first_of (tests (task_numbers symbols) (outlines_of (standings tasks.now)) (Event.Die task))) }
-{
-    let Some(live) = tasks.get(task) else {
-        return false;
-    };
-    if !same_class(live.class(), Class::Normal) {
-        return false;
-    }
-    if !same_mode(live.mode(), Mode::Kernel) {
-        return false;
-    }
-    if live.depth() != 0 {
-        return false;
-    }
-    true
+    live.depth() == 0
 }
 
 /// Whether a fork is accepted.

@@ -58,7 +58,8 @@ impl<M: Consistency> Core<M> {
         views_in(alloc, &self.tasks, &self.waiting, &members)
     }
 
-    /// Whether each of some groups has no other live member than the task of its number.
+    /// Most groups have one member, of their own number: then the groups are the tasks to look at, and
+    /// no set of members has to be made.
     fn are_own(&self, groups: &NumberSet) -> bool
         ensures { IsTrue result → (group : ℕ) → group < 65536 → has groups.now group ≡ true → IsOwnGroup self.now.table group }
     {

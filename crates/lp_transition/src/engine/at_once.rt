@@ -1,4 +1,5 @@
-//! Events of one task that never want memory: each is answered and taken at once.
+//! Plain events of one task, which never allocate: each is weighed and taken in one, as no step has
+//! to stand between. They are nearly all events of a recording.
 ghost use Rattle.std.specs.Prelude.{◌<◌};
 ghost use Rattle.lp_transition.specs.Steps.{IsStep};
 ghost use Rattle.lp_transition.specs.Table.{state_in};
@@ -11,7 +12,7 @@ use lp_stack::TaskId;
 use lp_symbols::SymId;
 
 impl<M: Consistency> Core<M> {
-    /// A call.
+    /// The reply names the level before the call is taken: a call never switches its task.
     #[inline(always)]
     pub(super) fn step_call(&mut self, task: TaskId, func: SymId) -> Reply
         requires { self.old.number < 1000000 }

@@ -76,7 +76,7 @@ impl<M: Consistency> Core<M> {
     }
 }
 
-/// The fault of the first task whose number is 0, or is that of one before it. Takes no memory.
+/// On the stack, not the heap: a fault in the list has to come before any failed allocation.
 fn first_fault(tasks: &[(TaskId, Class)]) -> Option<BootFault>
     ensures { result ≡ boot_refusal tasks.now }
 {

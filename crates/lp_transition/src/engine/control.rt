@@ -1,5 +1,5 @@
 //! The events that begin a transition or turn it round.
-ghost use Rattle.std.specs.Prelude.{◌≡◌, ◌≤◌, ◌<◌, ◌↔◌, ℕ, None, true, false, IsTrue, length};
+ghost use Rattle.std.specs.Prelude.{◌≡◌, ◌≤◌, ◌<◌, ◌↔◌, ℕ, None, true, false, IsTrue, if◌then◌else◌, length, nat_eq};
 ghost use Rattle.lp_numbers.specs.Numbers.{has};
 ghost use Rattle.lp_transition.specs.Events.{is_control};
 ghost use Rattle.lp_transition.specs.Tasks.{first_of};
@@ -8,7 +8,6 @@ ghost use Rattle.lp_transition.specs.Table.{slot, state_in, is_off};
 ghost use Rattle.lp_transition.specs.Machine.{at_rest, refusal_of, answer, next};
 
 use super::Core;
-use super::parts::put_number;
 use super::task_table::TaskTable;
 use crate::{Event, Refusal, Reply, What};
 use lp_model::Consistency;
@@ -72,7 +71,7 @@ impl<M: Consistency> Core<M> {
         }
     }
 
-    /// An accepted control event.
+    /// The set of waiting tasks is made anew: against another target others wait, or none.
     pub(super) fn take_control(&mut self, event: Event)
         requires room { self.old.number < 1000000 }
         requires accepted { refusal_of M.rules (state_in self.old) event ≡ None }
@@ -107,7 +106,7 @@ fn is_off_level(tasks: &TaskTable, number: u16, level: Level) -> bool
     }
 }
 
-/// Makes the live tasks that are off a level the members of a set.
+/// Over the live tasks alone: 65,536 numbers for a handful of tasks would make a control event dear.
 fn collect_off(tasks: &TaskTable, waiting: &mut NumberSet, level: Level)
     ensures members { (t : ℕ) → has waiting.new t ≡ is_off level.0 (slot tasks.now t) }
     ensures numbers { length waiting.new ≡ 65536 }
@@ -132,4 +131,16 @@ fn all_on(tasks: &TaskTable, level: Level) -> bool
         from = u32::from(number) + 1;
     }
     true
+}
+
+/// Makes a number a member of a set, or no member.
+pub(super) fn put_number(set: &mut NumberSet, number: u16, is_member: bool)
+    ensures after { (n : ℕ) → has set.new n ≡ (if nat_eq n number then is_member else has set.old n) }
+    ensures numbers { length set.new ≡ 65536 }
+{
+    if is_member {
+        set.insert(number);
+    } else {
+        set.remove(number);
+    }
 }

@@ -1,6 +1,8 @@
 //! A live task.
 ghost use Rattle.std.specs.Prelude.{◌≡◌, ◌<◌, ◌≤◌, [], length};
 
+use super::point::point_mode;
+use lp_model::CheckKind;
 use lp_stack::{Class, Frame, GroupId, Level, Mode, TaskId, TaskStack, View};
 use lp_symbols::SymId;
 use std::marker::Model;
@@ -26,6 +28,7 @@ impl LiveTask {
     ghost use Rattle.lp_stack.specs.TaskView.{seen};
     ghost use Rattle.lp_transition.specs.Leg.{Standing};
     ghost use Rattle.lp_transition.specs.Machine.{view_of, put_in, calling, returning};
+    ghost use Rattle.lp_transition.specs.inside.Points.{at_point};
 
     /// A task with an empty stack.
     pub(crate) fn new(task: TaskId, class: Class, mode: Mode, group: GroupId, level: Level) -> Self
@@ -131,6 +134,14 @@ impl LiveTask {
         ensures { self.new ≡ put_in mode self.old }
     {
         self.stack.set_mode(mode);
+    }
+
+    /// The task is checked alone.
+    pub(crate) fn reach_point(&mut self, kind: CheckKind)
+        ensures { self.new ≡ at_point kind self.old }
+    {
+        let mode = point_mode(kind, self.mode());
+        self.set_mode(mode);
     }
 
     /// Puts the task on a level.

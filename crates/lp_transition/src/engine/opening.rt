@@ -17,10 +17,8 @@ use lp_stack::{GroupId, Level, TaskId, View};
 use std::alloc::{AllocError, Global};
 use std::marker::Model;
 
-/// What an engine kept at some moment: the number of events so far, the levels from which and to which it went,
-/// the patches, and the tasks by their numbers.
-///
-/// Taken just after an accepted control event, it is the opening of that event's leg.
+/// What an engine kept at some moment. Taken just after an accepted control event it is the opening
+/// of that event's leg, which a checker needs long afterwards.
 #[derive(Drop)]
 pub struct Opening {
     number: u32,

@@ -1,7 +1,7 @@
 //! Which events are refused.
-ghost use Rattle.std.specs.Prelude.{◌≡◌, None, not};
+ghost use Rattle.std.specs.Prelude.{◌≡◌, [], ◌∷◌, None, not};
 ghost use Rattle.lp_transition.specs.Table.{state_in, task_numbers, standings};
-ghost use Rattle.lp_transition.specs.Tasks.{first_of, tests, same_mode, same_class};
+ghost use Rattle.lp_transition.specs.Tasks.{first_of, tests, same_mode, same_class, unknown_task, not_of, not_in, stack_not_empty};
 ghost use Rattle.lp_transition.specs.Machine.{refusal_of, outlines_of};
 
 use super::Core;
@@ -22,15 +22,15 @@ impl<M: Consistency> Core<M> {
         match event {
             Event::Call(task, func) => call_refusal(&self.tasks, symbols, task, func),
             Event::Ret(task) => ret_refusal(&self.tasks, symbols, task),
-            Event::Sleep(task) => sleep_refusal(&self.tasks, symbols, task),
-            Event::Wake(task) => wake_refusal(&self.tasks, symbols, task),
+            Event::Sleep(task) => mode_refusal(&self.tasks, task, Mode::Kernel),
+            Event::Wake(task) => mode_refusal(&self.tasks, task, Mode::Asleep),
             Event::Enter(task) => enter_refusal(&self.tasks, symbols, task),
-            Event::Exit(task) => exit_refusal(&self.tasks, symbols, task),
-            Event::Idle(task) => idle_refusal(&self.tasks, symbols, task),
+            Event::Exit(task) => empty_refusal(&self.tasks, task, Class::Normal),
+            Event::Idle(task) => empty_refusal(&self.tasks, task, Class::Idle),
             Event::Fork(parent, child, how) => {
                 fork_refusal(&self.tasks, symbols, parent, child, how)
             }
-            Event::Die(task) => die_refusal(&self.tasks, symbols, task),
+            Event::Die(task) => empty_refusal(&self.tasks, task, Class::Normal),
             Event::Walk | Event::Stop => None,
             Event::Enable => self.enable_refusal(),
             Event::Disable => self.disable_refusal(),
@@ -76,29 +76,15 @@ fn ret_refusal(tasks: &TaskTable, symbols: usize, task: TaskId) -> Option<Refusa
     None
 }
 
-/// Why going to sleep is refused.
+/// Why an event that needs no more than a mode is refused: a sleep, a wake-up.
 #[inline(always)]
-fn sleep_refusal(tasks: &TaskTable, symbols: usize, task: TaskId) -> Option<Refusal>
-    ensures { result ≡ first_of (tests (task_numbers symbols) (outlines_of (standings tasks.now)) (Event.Sleep task)) }
+fn mode_refusal(tasks: &TaskTable, task: TaskId, mode: Mode) -> Option<Refusal>
+    ensures { let now = outlines_of (standings tasks.now) in result ≡ first_of (unknown_task now task.0 ∷ not_in mode now task.0 ∷ []) }
 {
     let Some(live) = tasks.get(task) else {
         return Some(Refusal::UnknownTask);
     };
-    if !same_mode(live.mode(), Mode::Kernel) {
-        return Some(Refusal::WrongMode);
-    }
-    None
-}
-
-/// Why waking up is refused.
-#[inline(always)]
-fn wake_refusal(tasks: &TaskTable, symbols: usize, task: TaskId) -> Option<Refusal>
-    ensures { result ≡ first_of (tests (task_numbers symbols) (outlines_of (standings tasks.now)) (Event.Wake task)) }
-{
-    let Some(live) = tasks.get(task) else {
-        return Some(Refusal::UnknownTask);
-    };
-    if !same_mode(live.mode(), Mode::Asleep) {
+    if !same_mode(live.mode(), mode) {
         return Some(Refusal::WrongMode);
     }
     None
@@ -121,52 +107,15 @@ fn enter_refusal(tasks: &TaskTable, symbols: usize, task: TaskId) -> Option<Refu
     None
 }
 
-/// Why leaving the kernel is refused.
-fn exit_refusal(tasks: &TaskTable, symbols: usize, task: TaskId) -> Option<Refusal>
-    ensures { result ≡ first_of (tests (task_numbers symbols) (outlines_of (standings tasks.now)) (Event.Exit task)) }
+/// Why an event is refused at which a task of this class leaves the kernel or is done with it: an
+/// exit, an idle point, an end. A frame left there would be a call that never returns.
+fn empty_refusal(tasks: &TaskTable, task: TaskId, class: Class) -> Option<Refusal>
+    ensures { let now = outlines_of (standings tasks.now) in result ≡ first_of (unknown_task now task.0 ∷ not_of class now task.0 ∷ not_in Mode.Kernel now task.0 ∷ stack_not_empty now task.0 ∷ []) }
 {
     let Some(live) = tasks.get(task) else {
         return Some(Refusal::UnknownTask);
     };
-    if !same_class(live.class(), Class::Normal) {
-        return Some(Refusal::WrongClass);
-    }
-    if !same_mode(live.mode(), Mode::Kernel) {
-        return Some(Refusal::WrongMode);
-    }
-    if live.depth() != 0 {
-        return Some(Refusal::StackNotEmpty);
-    }
-    None
-}
-
-/// Why an idle point is refused.
-fn idle_refusal(tasks: &TaskTable, symbols: usize, task: TaskId) -> Option<Refusal>
-    ensures { result ≡ first_of (tests (task_numbers symbols) (outlines_of (standings tasks.now)) (Event.Idle task)) }
-{
-    let Some(live) = tasks.get(task) else {
-        return Some(Refusal::UnknownTask);
-    };
-    if !same_class(live.class(), Class::Idle) {
-        return Some(Refusal::WrongClass);
-    }
-    if !same_mode(live.mode(), Mode::Kernel) {
-        return Some(Refusal::WrongMode);
-    }
-    if live.depth() != 0 {
-        return Some(Refusal::StackNotEmpty);
-    }
-    None
-}
-
-/// Why a task's end is refused.
-fn die_refusal(tasks: &TaskTable, symbols: usize, task: TaskId) -> Option<Refusal>
-    ensures { result ≡ first_of (tests (task_numbers symbols) (outlines_of (standings tasks.now)) (Event.Die task)) }
-{
-    let Some(live) = tasks.get(task) else {
-        return Some(Refusal::UnknownTask);
-    };
-    if !same_class(live.class(), Class::Normal) {
+    if !same_class(live.class(), class) {
         return Some(Refusal::WrongClass);
     }
     if !same_mode(live.mode(), Mode::Kernel) {

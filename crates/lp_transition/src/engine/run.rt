@@ -45,7 +45,7 @@ impl<M: Consistency> Core<M> {
         }
     }
 
-    /// Any event: it is weighed, and then taken.
+    /// Out of line, so that a plain event pays nothing for what scans, forks and legs need.
     #[inline(never)]
     fn step_weighed(&mut self, alloc: Global, event: Event) -> Result<Reply, Halt>
         ensures full { (result ≡ Err JournalFull) ↔ (1000000 ≤ self.old.number) }
@@ -95,7 +95,7 @@ impl<M: Consistency> Core<M> {
         reply
     }
 
-    /// Whether a number is left for one more event.
+    /// Without room a plain event has to fail as any other does, so it goes the long way.
     #[inline(always)]
     fn has_room(&self) -> bool
         ensures { IsTrue result ↔ (self.now.number < 1000000) }
@@ -141,7 +141,7 @@ impl<M: Consistency> Core<M> {
         self.weigh_scan(alloc, kind, verdicts.as_slice())
     }
 
-    /// A refused event: it is numbered, and changes nothing else.
+    /// It takes a number too: else the numbers of a run's events would depend on its replies.
     #[inline(always)]
     pub(super) fn take_refused(&mut self, event: Event, why: Refusal)
         requires room { self.old.number < 1000000 }
@@ -151,7 +151,7 @@ impl<M: Consistency> Core<M> {
         self.events += 1;
     }
 
-    /// An accepted event that is no scan. Over says whether it takes a group over.
+    /// What was weighed is handed in, so that nothing here can fail once the engine has begun to change.
     fn take_accepted(&mut self, event: Event, over: bool, born: Option<Box<LiveTask>>)
         requires room { self.old.number < 1000000 }
         requires accepted { refusal_of M.rules (state_in self.old) event ≡ None }
@@ -167,8 +167,8 @@ impl<M: Consistency> Core<M> {
             Event::Sleep(task) => self.take_sleep(task),
             Event::Wake(task) => self.take_wake(task),
             Event::Enter(task) => self.take_enter(task),
-            Event::Exit(task) => self.leave(task, over),
-            Event::Idle(task) => self.pause(task, over),
+            Event::Exit(task) => self.take_point(CheckKind::KernelExit, task, over),
+            Event::Idle(task) => self.take_point(CheckKind::IdlePoint, task, over),
             Event::Fork(parent, child, how) => {
                 let Some(live) = born else { unreachable!() };
                 self.take_fork(parent, child, how, live);
@@ -198,7 +198,7 @@ pub fn verdicts<M: Consistency>(
     Ok(found)
 }
 
-/// Whether groups went over.
+/// The reply alone tells: it was weighed on this very engine.
 fn is_switched(what: &What) -> bool
     ensures { result ≡ is_switched what.now }
 {

@@ -63,7 +63,7 @@ impl<M: Consistency> Core<M> {
         self.weigh_found(alloc, kind, verdicts)
     }
 
-    /// The answer to a walk or a stop, by verdicts that are enough to answer it.
+    /// Shared by scans that look at all and scans that leave out whom they would only refuse again.
     pub(super) fn weigh_found(
         &self,
         alloc: Global,
@@ -214,7 +214,7 @@ fn groups_over(
     Ok(over)
 }
 
-/// Takes in the groups with a member that is admitted.
+/// A group of which no member was looked at must not switch, so the admitted come first.
 fn add_admitted(groups: &mut NumberSet, tasks: &TaskTable, verdicts: &[Verdict])
     ensures { (group : ℕ) → has groups.new group ≡ (has groups.old group || list_any (is_found tasks.now false group) verdicts.now) }
 {
@@ -225,7 +225,7 @@ fn add_admitted(groups: &mut NumberSet, tasks: &TaskTable, verdicts: &[Verdict])
     }
 }
 
-/// Takes out the groups with a member that is refused.
+/// One refused member keeps its whole group: else the group would run two versions.
 fn remove_refused(groups: &mut NumberSet, tasks: &TaskTable, verdicts: &[Verdict])
     ensures { (group : ℕ) → has groups.new group ≡ (has groups.old group && not (list_any (is_found tasks.now true group) verdicts.now)) }
 {
@@ -271,7 +271,7 @@ fn remove_group(groups: &mut NumberSet, tasks: &TaskTable, task: TaskId)
     }
 }
 
-/// Whether some task waits, each was looked at, and each was admitted.
+/// The verdicts may be of some waiting tasks alone, and then others still wait.
 fn completes(waiting: &NumberSet, verdicts: &[Verdict]) -> bool
     ensures { IsTrue result ↔ ((all_admit verdicts.now ≡ true) × (tasks_of verdicts.now ≡ passing 0 65536 (has waiting.now))) }
 {

@@ -37,7 +37,7 @@ impl<T: Drop> From<AllocFailed<T>> for Halt {
     }
 }
 
-/// An event with its answer, ready to be taken without memory.
+/// An event with its answer. All that can fail is done: taking it never allocates.
 #[derive(Drop)]
 pub struct Step {
     event: Event,

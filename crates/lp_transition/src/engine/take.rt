@@ -5,15 +5,16 @@ ghost use Rattle.lp_transition.specs.Table.{state_in};
 ghost use Rattle.lp_transition.specs.Machine.{refusal_of, next};
 
 use super::Core;
+use super::control::put_number;
 use super::live_task::LiveTask;
-use super::parts::{group_of, put_number};
+use super::weigh::group_of;
 use crate::Event;
 use lp_model::{Consistency, ForkKind};
 use lp_stack::{Mode, TaskId};
 use lp_symbols::SymId;
 
 impl<M: Consistency> Core<M> {
-    /// An accepted call.
+    /// The event's number is the frame's serial, so no serial comes twice in a run.
     #[inline(always)]
     pub(super) fn take_call(&mut self, task: TaskId, func: SymId)
         requires room { self.old.number < 1000000 }
@@ -68,7 +69,7 @@ impl<M: Consistency> Core<M> {
         self.tasks.set_mode(task, Mode::Kernel);
     }
 
-    /// An accepted fork, with the child's record.
+    /// A child of a parent that switched is on the target already, and waits for nothing.
     pub(super) fn take_fork(
         &mut self,
         parent: TaskId,
@@ -89,7 +90,7 @@ impl<M: Consistency> Core<M> {
         self.tasks.put(child, live);
     }
 
-    /// An accepted end of a task.
+    /// The number stays used: a name that meant two tasks would make certificates ambiguous.
     pub(super) fn take_die(&mut self, task: TaskId)
         requires room { self.old.number < 1000000 }
         requires accepted { refusal_of M.rules (state_in self.old) (Event.Die task) ≡ None }

@@ -5,8 +5,10 @@ ghost use Rattle.lp_numbers.specs.Numbers.{has, IsNextFrom};
 ghost use Rattle.lp_transition.specs.Slots.{slots_of};
 ghost use Rattle.lp_transition.specs.Tasks.{is_unused};
 ghost use Rattle.lp_transition.specs.Machine.{put_in, calling, returning};
+ghost use Rattle.lp_transition.specs.inside.Points.{at_point};
 
 use super::live_task::LiveTask;
+use lp_model::CheckKind;
 use lp_numbers::{NUMBERS, NumberSet};
 use lp_stack::{GroupId, Level, Mode, TaskId};
 use lp_symbols::SymId;
@@ -155,6 +157,15 @@ impl TaskTable {
     {
         if let Some(live) = &mut self.slots[usize::from(task.0)] {
             live.set_mode(mode);
+        }
+    }
+
+    /// The task is checked alone, if it is live.
+    pub(crate) fn reach_point(&mut self, kind: CheckKind, task: TaskId)
+        ensures { self.new ≡ changed task.0 (at_point kind) self.old }
+    {
+        if let Some(live) = &mut self.slots[usize::from(task.0)] {
+            live.reach_point(kind);
         }
     }
 

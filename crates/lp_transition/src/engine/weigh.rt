@@ -1,19 +1,23 @@
 //! The answers to events of one task.
-ghost use Rattle.std.specs.Prelude.{◌≡◌, ◌≤◌, ◌<◌, ◌↔◌, [], ◌∷◌, true, false, None, Some, Err, IfOk, IsErr, IsTrue};
+ghost use Rattle.std.specs.Prelude.{◌≡◌, ◌≢◌, ◌≤◌, ◌<◌, ◌↔◌, ℕ, [], ◌∷◌, true, false, None, Some, Err, IfOk, IsErr, IsTrue};
 ghost use Rattle.lp_transition.specs.declared.engine.step.Halt.TheVariants.{NoMemory, JournalFull};
 ghost use Rattle.lp_transition.specs.Events.{is_scan};
-ghost use Rattle.lp_transition.specs.Table.{state_in};
+ghost use Rattle.std.specs.Option.{ForSome};
+ghost use Rattle.lp_numbers.specs.Numbers.{has};
+ghost use Rattle.lp_transition.specs.Tasks.{on_live};
+ghost use Rattle.lp_transition.specs.Table.{slot, standings, state_in};
 ghost use Rattle.lp_transition.specs.Weigh.{IsWeighed, born_of, may_want_memory, moves, task_of, is_fork};
 ghost use Rattle.lp_transition.specs.Steps.{IsReply};
 ghost use Rattle.lp_transition.specs.Machine.{refusal_of, answer};
 
 use super::live_task::LiveTask;
-use super::parts::{group_of, is_only, level_of};
 use super::step::{Halt, Step};
+use super::task_table::TaskTable;
 use super::{Core, MOST_EVENTS};
 use crate::{Event, GroupList, Refusal, Reply, What};
-use lp_model::{Consistency, ForkKind};
-use lp_stack::{Class, GroupId, Mode, TaskId};
+use lp_model::{CheckKind, Consistency, ForkKind};
+use lp_numbers::NumberSet;
+use lp_stack::{Class, GroupId, Level, Mode, TaskId};
 use lp_symbols::SymId;
 use std::alloc::{AllocError, Global};
 
@@ -59,8 +63,8 @@ impl<M: Consistency> Core<M> {
             Event::Sleep(task) => Ok(self.answer_moves(event, task)),
             Event::Wake(task) => Ok(self.answer_moves(event, task)),
             Event::Enter(task) => Ok(self.answer_moves(event, task)),
-            Event::Exit(task) => self.answer_exit(alloc, task),
-            Event::Idle(task) => self.answer_idle(alloc, task),
+            Event::Exit(task) => self.answer_point(alloc, CheckKind::KernelExit, task),
+            Event::Idle(task) => self.answer_point(alloc, CheckKind::IdlePoint, task),
             Event::Die(task) => Ok(self.answer_die(task)),
             Event::Enable | Event::Disable | Event::Reverse => Ok(self.answer_control(event)),
             Event::Fork(..) | Event::Walk | Event::Stop => unreachable!(),
@@ -80,7 +84,8 @@ impl<M: Consistency> Core<M> {
         }
     }
 
-    /// The answer to an accepted return, sleep, wake-up or entry into the kernel.
+    /// A return, a sleep, a wake-up or an entry into the kernel is no check and ends no task, so there
+    /// is nothing to look at.
     #[inline(always)]
     pub(super) fn answer_moves(&self, event: Event, task: TaskId) -> Reply
         requires room { self.now.number < 1000000 }
@@ -93,7 +98,7 @@ impl<M: Consistency> Core<M> {
         done()
     }
 
-    /// The answer to an accepted end of a task.
+    /// A task that ends may have been the last that waited: then its end completes the transition.
     fn answer_die(&self, task: TaskId) -> Reply
         requires room { self.now.number < 1000000 }
         requires accepted { refusal_of M.rules (state_in self.now) (Event.Die task) ≡ None }
@@ -105,7 +110,7 @@ impl<M: Consistency> Core<M> {
         }
     }
 
-    /// The child that an accepted fork brings.
+    /// It is made here and not where the fork is taken: its box is the one allocation of a fork.
     fn child(&self, parent: TaskId, child: TaskId, how: ForkKind) -> LiveTask
         requires { refusal_of M.rules (state_in self.now) (Event.Fork parent child how) ≡ None }
         ensures { Some result ≡ born_of M.rules (state_in self.now) (Event.Fork parent child how) }
@@ -147,4 +152,38 @@ pub(super) fn one_group(alloc: Global, group: GroupId) -> Result<GroupList, Allo
     let mut groups = Vec::with_capacity(alloc, 1)?;
     groups.push(group)?;
     GroupList::from_vec(alloc, groups)
+}
+
+/// The group of a live task.
+pub(super) fn group_of(tasks: &TaskTable, task: TaskId) -> GroupId
+    ensures { ForSome (slot tasks.now task.0) (λ x. result.0 ≡ x.group) }
+{
+    match tasks.group_of(task) {
+        Some(group) => group,
+        None => GroupId(0),
+    }
+}
+
+/// The level of a live task; 0 for any other.
+#[inline(always)]
+pub(super) fn level_of(tasks: &TaskTable, task: TaskId) -> Level
+    ensures { result.0 ≡ on_live 0 (λ x. x.level) (standings tasks.now task.0) }
+{
+    match tasks.level_of(task) {
+        Some(level) => level,
+        None => Level(0),
+    }
+}
+
+/// Whether a number is the only member of a set.
+pub(super) fn is_only(set: &NumberSet, number: u16) -> bool
+    ensures { IsTrue result ↔ ((has set.now number ≡ true) × ((n : ℕ) → n ≢ number → has set.now n ≡ false)) }
+{
+    if !set.contains(number) {
+        return false;
+    }
+    if set.next(0) != Some(number) {
+        return false;
+    }
+    number == u16::MAX || set.next(number + 1).is_none()
 }

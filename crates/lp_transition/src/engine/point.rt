@@ -1,0 +1,97 @@
+//! Checks that a task makes alone: where it returns to user space, and at an idle task's point.
+ghost use Rattle.std.specs.Prelude.{◌≡◌, ◌<◌, None, true, false, IfOk, IsErr, IsTrue};
+ghost use Rattle.std.specs.Option.{ForSome};
+ghost use Rattle.lp_transition.specs.Weigh.{is_switched};
+ghost use Rattle.lp_transition.specs.Table.{slot, state_in};
+ghost use Rattle.lp_transition.specs.Machine.{affected, goes_over, refusal_of, answer, next};
+ghost use Rattle.lp_transition.specs.inside.Points.{is_point_kind, point_event, point_mode};
+
+use super::Core;
+use super::weigh::{done, group_of, is_only, one_group};
+use crate::{Reply, What};
+use lp_model::{CheckKind, Consistency};
+use lp_stack::{Mode, TaskId, View};
+use std::alloc::{AllocError, Global};
+
+impl<M: Consistency> Core<M> {
+    /// The answer to an accepted exit or idle point; AllocError where a growth was refused, which
+    /// there is only where the task's group goes over.
+    pub(super) fn answer_point(
+        &self,
+        alloc: Global,
+        kind: CheckKind,
+        task: TaskId,
+    ) -> Result<Reply, AllocError>
+        requires point { is_point_kind kind ≡ true }
+        requires room { self.now.number < 1000000 }
+        requires accepted { refusal_of M.rules (state_in self.now) (point_event kind task) ≡ None }
+        ensures memory { IsErr result → IsTrue (is_switched (answer M.rules (state_in self.now) (point_event kind task)).what) }
+        ensures answer { IfOk result (λ reply. reply ≡ answer M.rules (state_in self.now) (point_event kind task)) }
+    {
+        let waits_alone = is_only(&self.waiting, task.0);
+        if !self.point_goes(kind, task) {
+            return Ok(done());
+        }
+        let groups = one_group(alloc, group_of(&self.tasks, task))?;
+        Ok(Reply {
+            what: What::Switched(groups),
+            completed: waits_alone,
+        })
+    }
+
+    /// Only the last member is asked here: with another one in the kernel the group's stacks aren't
+    /// all known, and a switch would split it. An exit finds its task in user space already.
+    fn point_goes(&self, kind: CheckKind, task: TaskId) -> bool
+        requires point { is_point_kind kind ≡ true }
+        requires accepted { refusal_of M.rules (state_in self.now) (point_event kind task) ≡ None }
+        ensures { ForSome (slot self.now.table task.0) (λ x. result ≡ goes_over M.rules (affected M.rules (state_in self.now) (point_event kind task)) (point_event kind task) x.group) }
+    {
+        let Some(live) = self.tasks.get(task) else {
+            return false;
+        };
+        let members = self.members[usize::from(live.group().0)];
+        if !self.waiting.contains(task.0) {
+            return false;
+        }
+        if members != 1 {
+            return false;
+        }
+        let view = live.view(task);
+        let found = View {
+            task,
+            class: view.class,
+            mode: point_mode(kind, view.mode),
+            frames: view.frames,
+        };
+        let aim = self.aim();
+        self.model.admits(kind, &found, &aim)
+    }
+
+    /// The answer says whether the group goes over, so the model isn't asked twice: its second
+    /// answer could only be the same, at the cost of the task's frames.
+    pub(super) fn take_point(&mut self, kind: CheckKind, task: TaskId, over: bool)
+        requires point { is_point_kind kind ≡ true }
+        requires room { self.old.number < 1000000 }
+        requires accepted { refusal_of M.rules (state_in self.old) (point_event kind task) ≡ None }
+        requires over { over ≡ is_switched (answer M.rules (state_in self.old) (point_event kind task)).what }
+        ensures { state_in self.new ≡ next M.rules (state_in self.old) (point_event kind task) }
+    {
+        self.events += 1;
+        self.tasks.reach_point(kind, task);
+        if !over {
+            return;
+        }
+        self.waiting.remove(task.0);
+        self.tasks.set_level(task, self.target);
+    }
+}
+
+/// The mode in which a check that a task makes alone finds it.
+pub(super) fn point_mode(kind: CheckKind, mode: Mode) -> Mode
+    ensures { result ≡ point_mode kind mode }
+{
+    match kind {
+        CheckKind::KernelExit => Mode::User,
+        _ => mode,
+    }
+}
