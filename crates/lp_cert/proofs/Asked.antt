@@ -12,8 +12,10 @@ use Rattle.lp_cert.specs.declared.line.Line.{Line}
 use Rattle.lp_cert.specs.declared.open_leg.OpenLeg.{OpenLeg}
 use Rattle.lp_cert.specs.declared.open_leg.Completion.{Completion}
 use Rattle.lp_cert.specs.Ends.{waiting_in, floor_in}
-use Rattle.lp_cert.specs.Kept.{open_end, waiting_cert}
-use Rattle.lp_cert.specs.Waiters.{WaitingGroups, lines_in, lines_at, kept_cert, waiter_in, waiters_of}
+use Rattle.lp_cert.specs.Invariant.{open_end}
+use Rattle.lp_cert.specs.inside.Invariant.{waiting_cert}
+use Rattle.lp_cert.specs.Waiters.{WaitingGroups, kept_cert, waiter_in, waiters_of}
+use Rattle.lp_cert.specs.inside.Waiters.{lines_in, lines_at}
 use Rattle.lp_cert.proofs.Making.{kept, kept_map, least_waiter}
 
 -- ---- The certificate of a group

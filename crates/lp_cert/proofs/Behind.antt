@@ -15,22 +15,23 @@ use Rattle.lp_transition.specs.Tasks.{Fate, on_live, first_of, change}
 use Rattle.lp_transition.specs.Leg.{Standing, State, Leg, some_live}
 use Rattle.lp_transition.specs.Run.{and_then, switched}
 use Rattle.lp_transition.specs.Scan.{is_scan_kind, scan_event, verdicts_of}
-use Rattle.lp_transition.specs.ScanSteps.{groups_of, is_found, goes_by}
+use Rattle.lp_transition.specs.inside.ScanSteps.{groups_of, is_found, switches_by}
 use Rattle.lp_transition.specs.Sound.{IsSound}
-use Rattle.lp_transition.specs.Machine.{is_behind, goes_over, going, moved_task, affected, switched_over, told, state_of, view_of}
-use Rattle.lp_transition.specs.Table.{Table, Engine, slot, fate_at, standings, state_in, is_in}
+use Rattle.lp_transition.specs.Machine.{waits_in, switches_at, switched_groups, switched_task, affected, with_switches, told, state_of, view_of}
+use Rattle.lp_transition.specs.Table.{Table, Engine, slot, fate_at, standings, state_in}
+use Rattle.lp_transition.specs.inside.Table.{is_in}
 use Rattle.lp_transition.specs.Weigh.{is_fork}
 use Rattle.lp_transition.proofs.Alone.{behind-same}
 use Rattle.lp_transition.proofs.EngineLemmas.{and-false, quiet-stays}
 use Rattle.lp_transition.proofs.Passing.{passing-any}
 use Rattle.lp_transition.proofs.Quantifiers.{some_live-is, some_live-map}
-use Rattle.lp_transition.proofs.ScanAnswers.{groups_of-switched, going_by}
+use Rattle.lp_transition.proofs.ScanAnswers.{groups_of-switched, switching_by}
 use Rattle.lp_transition.proofs.ScanLists.{verdict-from}
 use Rattle.lp_transition.proofs.TableLemmas.{slot_from_live}
 use Rattle.lp_cert.specs.declared.line.Line.{Line}
-use Rattle.lp_cert.specs.Made.{lines, after_check, after_refusal}
-use Rattle.lp_cert.specs.Steps.{has_frame_in, member_verdict, first_refused, first_blamed_in, lines_after_scan}
-use Rattle.lp_cert.specs.Waiters.{after_scan}
+use Rattle.lp_cert.specs.Certificates.{lines, after_check, after_refusal}
+use Rattle.lp_cert.specs.EventLines.{has_frame_in, member_verdict, first_refused, first_blamed_in, lines_after_scan}
+use Rattle.lp_cert.specs.inside.Waiters.{after_scan}
 use Rattle.lp_cert.proofs.NextLines.{lines_at_scan, lines_at_unused_scan}
 use Rattle.lp_cert.proofs.OtherEvents.{lines_at_others}
 use Rattle.lp_cert.proofs.VerdictLines.{verdicts_tell}
@@ -48,24 +49,24 @@ module _ (model : Rules) (s : State) (event : Event) where
   abbrev off : ℕ → ℕ → Standing → Bool
   off g t x = nat_eq x.group g && not (nat_eq x.level s.target)
 
-  moved_off : (g t : ℕ) (x : Standing) (goes : Bool) → goes_over model now event x.group ≡ goes → (mine : Bool) → nat_eq x.group g ≡ mine
-      → off g t (moved_task model now event x) ≡ (off g t x && not (goes_over model now event g))
+  moved_off : (g t : ℕ) (x : Standing) (goes : Bool) → switches_at model now event x.group ≡ goes → (mine : Bool) → nat_eq x.group g ≡ mine
+      → off g t (switched_task model now event x) ≡ (off g t x && not (switches_at model now event g))
   moved_off g t x true e true mine =
-      let same : goes_over model now event g ≡ true = ap (goes_over model now event) (sym (eqb-true x.group g mine)) ∙ e in
-      ap (off g t) (cond-true (goes_over model now event x.group) (record x { level = s.target }) x e)
+      let same : switches_at model now event g ≡ true = ap (switches_at model now event) (sym (eqb-true x.group g mine)) ∙ e in
+      ap (off g t) (cond-true (switches_at model now event x.group) (record x { level = s.target }) x e)
       ∙ (ap (λ b. nat_eq x.group g && not b) (eq-eqb s.target s.target refl)
       ∙ (and-false (nat_eq x.group g)
       ∙ (sym (and-false (off g t x)) ∙ ap (λ b. off g t x && not b) (sym same))))
   moved_off g t x true e false mine =
-      ap (off g t) (cond-true (goes_over model now event x.group) (record x { level = s.target }) x e)
-      ∙ (ap (λ b. b && not (nat_eq s.target s.target)) mine ∙ ap (λ b. (b && not (nat_eq x.level s.target)) && not (goes_over model now event g)) (sym mine))
+      ap (off g t) (cond-true (switches_at model now event x.group) (record x { level = s.target }) x e)
+      ∙ (ap (λ b. b && not (nat_eq s.target s.target)) mine ∙ ap (λ b. (b && not (nat_eq x.level s.target)) && not (switches_at model now event g)) (sym mine))
   moved_off g t x false e true mine =
-      let same : goes_over model now event g ≡ false = ap (goes_over model now event) (sym (eqb-true x.group g mine)) ∙ e in
-      ap (off g t) (cond-false (goes_over model now event x.group) (record x { level = s.target }) x e)
+      let same : switches_at model now event g ≡ false = ap (switches_at model now event) (sym (eqb-true x.group g mine)) ∙ e in
+      ap (off g t) (cond-false (switches_at model now event x.group) (record x { level = s.target }) x e)
       ∙ (sym (and_true (off g t x)) ∙ ap (λ b. off g t x && not b) (sym same))
   moved_off g t x false e false mine =
-      ap (off g t) (cond-false (goes_over model now event x.group) (record x { level = s.target }) x e)
-      ∙ (ap (λ b. b && not (nat_eq x.level s.target)) mine ∙ ap (λ b. (b && not (nat_eq x.level s.target)) && not (goes_over model now event g)) (sym mine))
+      ap (off g t) (cond-false (switches_at model now event x.group) (record x { level = s.target }) x e)
+      ∙ (ap (λ b. b && not (nat_eq x.level s.target)) mine ∙ ap (λ b. (b && not (nat_eq x.level s.target)) && not (switches_at model now event g)) (sym mine))
 
   off_and : (g : ℕ) (c : Bool) → some_live now.bounds now.tasks (λ t x. off g t x && c) ≡ (some_live now.bounds now.tasks (off g) && c)
   off_and g true =
@@ -77,20 +78,20 @@ module _ (model : Rules) (s : State) (event : Event) where
       ∙ sym (and-false (some_live now.bounds now.tasks (off g)))
 
   -- who waits after the event's own effect, and doesn't go over
-  pub behind_after : (g : ℕ) → is_behind (switched_over model s event) g ≡ (is_behind now g && not (goes_over model now event g))
+  pub behind_after : (g : ℕ) → waits_in (with_switches model s event) g ≡ (waits_in now g && not (switches_at model now event g))
   behind_after g =
-      some_live-map now.bounds (moved_task model now event) now.tasks (off g)
-      ∙ (ap (some_live now.bounds now.tasks) (fun_ext (λ t. fun_ext (λ x. moved_off g t x (goes_over model now event x.group) refl (nat_eq x.group g) refl)))
-      ∙ off_and g (not (goes_over model now event g)))
+      some_live-map now.bounds (switched_task model now event) now.tasks (off g)
+      ∙ (ap (some_live now.bounds now.tasks) (fun_ext (λ t. fun_ext (λ x. moved_off g t x (switches_at model now event x.group) refl (nat_eq x.group g) refl)))
+      ∙ off_and g (not (switches_at model now event g)))
 
   module _ (g : ℕ) (below : g < 65536) (wide : suc now.bounds.tasks ≡ 65536) where
-    in_going : list_any (nat_eq g) (groups_of (switched (going model now event))) ≡ goes_over model now event g
+    in_going : list_any (nat_eq g) (groups_of (switched (switched_groups model now event))) ≡ switches_at model now event g
     in_going =
-        ap (list_any (nat_eq g)) (groups_of-switched (going model now event) ∙ going_by model 65536 now event (goes_over model now event) wide (λ k. refl))
-        ∙ passing-any 65536 (goes_over model now event) g below
+        ap (list_any (nat_eq g)) (groups_of-switched (switched_groups model now event) ∙ switching_by model 65536 now event (switches_at model now event) wide (λ k. refl))
+        ∙ passing-any 65536 (switches_at model now event) g below
 
 -- the groups that an event's answer tells are those that go over
-pub told_over : (model : Rules) (s : State) (event : Event) (g : ℕ) → g < 65536 → suc s.bounds.tasks ≡ 65536 → is_control event ≡ false → list_any (nat_eq g) (groups_of (told model s event)) ≡ goes_over model (affected model s event) event g
+pub told_over : (model : Rules) (s : State) (event : Event) (g : ℕ) → g < 65536 → suc s.bounds.tasks ≡ 65536 → is_control event ≡ false → list_any (nat_eq g) (groups_of (told model s event)) ≡ switches_at model (affected model s event) event g
 told_over model s (Call t f) g below wide plain = sym (quiet-stays model (affected model s (Call t f)) (Call t f) g refl)
 told_over model s (Ret t) g below wide plain = in_going model s (Ret t) g below wide
 told_over model s (Sleep t) g below wide plain = in_going model s (Sleep t) g below wide
@@ -140,9 +141,9 @@ found_first s table there g (v ∷ vs) =
     ap₂ (λ a b. a || b) (found_member s table there g v) (found_first s table there g vs)
     ∙ sym (first_some-any (member_verdict s g v) (map (member_verdict s g) vs) (is_some (first_refused s g vs)) refl)
 
-module _ (model : Rules) (lawful : IsLawful model) (e : Engine) (sound : IsSound (state_in e)) (on : CheckKind) (g : ℕ) (behind : is_behind (state_in e) g ≡ true) where
+module _ (model : Rules) (lawful : IsLawful model) (e : Engine) (sound : IsSound (state_in e)) (on : CheckKind) (g : ℕ) (behind : waits_in (state_in e) g ≡ true) where
   -- where nobody is refused, a waiting member is admitted
-  pub none_refused : first_refused (state_in e) g (verdicts_of model on (state_in e)) ≡ None → goes_by e.table (verdicts_of model on (state_in e)) g ≡ true
+  pub none_refused : first_refused (state_in e) g (verdicts_of model on (state_in e)) ≡ None → switches_by e.table (verdicts_of model on (state_in e)) g ≡ true
   none_refused none =
       let s = state_in e in
       let vs = verdicts_of model on s in
@@ -171,15 +172,15 @@ module _ (model : Rules) (lawful : IsLawful model) (e : Engine) (sound : IsSound
 -- ---- The lines of who waits
 
 module _ (model : Rules) (lawful : IsLawful model) (e : Engine) (sound : IsSound (state_in e)) (leg : Leg) (leg_sound : IsSound leg.opening) (there : state_in e ≡ state_of model leg)
-    (g : ℕ) (old : Option (List Line)) (is : old ≡ (if is_behind (state_in e) g then Some (lines model leg (length leg.events) g) else None)) where
+    (g : ℕ) (old : Option (List Line)) (is : old ≡ (if waits_in (state_in e) g then Some (lines model leg (length leg.events) g) else None)) where
   abbrev n : ℕ
   n = length leg.events
 
   -- those of the longer leg, if the group waits after the event's own effect
   abbrev pub Own : Event → Option (List Line) → Type 0
-  Own event new = new ≡ (if is_behind (affected model (state_in e) event) g then Some (lines model (and_then leg event) (suc n) g) else None)
+  Own event new = new ≡ (if waits_in (affected model (state_in e) event) g then Some (lines model (and_then leg event) (suc n) g) else None)
 
-  pub same_own : (event : Event) → is_behind (affected model (state_in e) event) g ≡ is_behind (state_in e) g → lines model (and_then leg event) (suc n) g ≡ lines model leg n g → Own event old
+  pub same_own : (event : Event) → waits_in (affected model (state_in e) event) g ≡ waits_in (state_in e) g → lines model (and_then leg event) (suc n) g ≡ lines model leg n g → Own event old
   same_own event waits same =
       is ∙ ap₂ (λ (b : Bool) (ls : List Line). if b then Some ls else None) (sym waits) (sym same)
 
@@ -187,23 +188,23 @@ module _ (model : Rules) (lawful : IsLawful model) (e : Engine) (sound : IsSound
   others event scan fork = lines_at_others model lawful leg leg_sound event g scan fork
 
   pub changed_own : (event : Event) (t : ℕ) (f : Standing → Standing) → ((x : Standing) → (f x).level ≡ x.level) → ((x : Standing) → (f x).group ≡ x.group)
-      → is_behind (affected model (state_in e) event) g ≡ some_live (state_in e).bounds (change t f (state_in e).tasks) (λ u x. nat_eq x.group g && not (nat_eq x.level (state_in e).target))
+      → waits_in (affected model (state_in e) event) g ≡ some_live (state_in e).bounds (change t f (state_in e).tasks) (λ u x. nat_eq x.group g && not (nat_eq x.level (state_in e).target))
       → is_scan event ≡ false → is_fork event ≡ false → Own event old
   changed_own event t f levels groups change_is scan fork =
       same_own event (change_is ∙ behind-same t f levels groups (state_in e).bounds (state_in e).target g (state_in e).tasks) (others event scan fork)
 
   -- ---- Scans
 
-  scan_lines : (on : CheckKind) → is_scan_kind on ≡ true → IsTrue (model.uses on) → is_behind (state_in e) g ≡ true
+  scan_lines : (on : CheckKind) → is_scan_kind on ≡ true → IsTrue (model.uses on) → waits_in (state_in e) g ≡ true
       → lines model (and_then leg (scan_event on)) (suc n) g ≡ lines_after_scan model (state_in e) on g (lines model leg n g)
   scan_lines on scan used waits =
-      lines_at_scan model leg on g scan used (ap (λ s. is_behind s g) (sym there) ∙ waits) ∙ ap (λ s. lines_after_scan model s on g (lines model leg n g)) (sym there)
+      lines_at_scan model leg on g scan used (ap (λ s. waits_in s g) (sym there) ∙ waits) ∙ ap (λ s. lines_after_scan model s on g (lines model leg n g)) (sym there)
 
-  scan_used : (on : CheckKind) → is_scan_kind on ≡ true → IsTrue (model.uses on) → goes_over model (affected model (state_in e) (scan_event on)) (scan_event on) g ≡ false
-      → goes_over model (affected model (state_in e) (scan_event on)) (scan_event on) g ≡ goes_by e.table (verdicts_of model on (state_in e)) g
-      → is_behind (affected model (state_in e) (scan_event on)) g ≡ is_behind (state_in e) g
+  scan_used : (on : CheckKind) → is_scan_kind on ≡ true → IsTrue (model.uses on) → switches_at model (affected model (state_in e) (scan_event on)) (scan_event on) g ≡ false
+      → switches_at model (affected model (state_in e) (scan_event on)) (scan_event on) g ≡ switches_by e.table (verdicts_of model on (state_in e)) g
+      → waits_in (affected model (state_in e) (scan_event on)) g ≡ waits_in (state_in e) g
       → Own (scan_event on) (after_scan (has_frame_in (state_in e)) g (suc e.number) (first_refused (state_in e) g (verdicts_of model on (state_in e))) old)
-  scan_used on scan used stays by_verdicts waits = by (is_behind (state_in e) g) refl (first_refused (state_in e) g (verdicts_of model on (state_in e))) refl
+  scan_used on scan used stays by_verdicts waits = by (waits_in (state_in e) g) refl (first_refused (state_in e) g (verdicts_of model on (state_in e))) refl
     where
       s : State
       s = state_in e
@@ -215,24 +216,24 @@ module _ (model : Rules) (lawful : IsLawful model) (e : Engine) (sound : IsSound
       none None = refl
       none (Some b) = refl
 
-      by : (b : Bool) → is_behind (state_in e) g ≡ b → (o : Option (ℕ × Blame)) → first_refused (state_in e) g (verdicts_of model on (state_in e)) ≡ o
+      by : (b : Bool) → waits_in (state_in e) g ≡ b → (o : Option (ℕ × Blame)) → first_refused (state_in e) g (verdicts_of model on (state_in e)) ≡ o
           → Own (scan_event on) (after_scan (has_frame_in (state_in e)) g (suc e.number) (first_refused (state_in e) g (verdicts_of model on (state_in e))) old)
       by false calm o first =
-          ap (after_scan (has_frame_in (state_in e)) g (suc e.number) (first_refused (state_in e) g (verdicts_of model on (state_in e)))) (is ∙ cond-false (is_behind (state_in e) g) (Some (lines model leg n g)) None calm)
+          ap (after_scan (has_frame_in (state_in e)) g (suc e.number) (first_refused (state_in e) g (verdicts_of model on (state_in e)))) (is ∙ cond-false (waits_in (state_in e) g) (Some (lines model leg n g)) None calm)
           ∙ (none (first_refused (state_in e) g (verdicts_of model on (state_in e)))
-          ∙ sym (cond-false (is_behind (affected model (state_in e) (scan_event on)) g) (Some (lines model (and_then leg (scan_event on)) (suc n) g)) None (waits ∙ calm)))
+          ∙ sym (cond-false (waits_in (affected model (state_in e) (scan_event on)) g) (Some (lines model (and_then leg (scan_event on)) (suc n) g)) None (waits ∙ calm)))
       by true busy None first = absurd (false≢true (sym stays ∙ (by_verdicts ∙ none_refused model lawful e sound on g busy first)))
       by true busy (Some b) first =
           let blamed : first_blamed_in model (state_in e) on g ≡ Some b = sym (verdicts_tell model (state_in e) sound on g busy) ∙ first in
           let line : lines model (and_then leg (scan_event on)) (suc n) g ≡ after_refusal (has_frame_in (state_in e)) g (suc e.number) b (lines model leg n g) =
           scan_lines on scan used busy ∙ ap (λ o. after_check (has_frame_in (state_in e)) g (suc e.number) o (lines model leg n g)) blamed in
-          ap₂ (λ o ls. after_scan (has_frame_in (state_in e)) g (suc e.number) o ls) first (is ∙ cond-true (is_behind (state_in e) g) (Some (lines model leg n g)) None busy)
+          ap₂ (λ o ls. after_scan (has_frame_in (state_in e)) g (suc e.number) o ls) first (is ∙ cond-true (waits_in (state_in e) g) (Some (lines model leg n g)) None busy)
           ∙ (ap {A = List Line} {B = Option (List Line)} Some (sym line)
-          ∙ sym (cond-true (is_behind (affected model (state_in e) (scan_event on)) g) (Some (lines model (and_then leg (scan_event on)) (suc n) g)) None (waits ∙ busy)))
+          ∙ sym (cond-true (waits_in (affected model (state_in e) (scan_event on)) g) (Some (lines model (and_then leg (scan_event on)) (suc n) g)) None (waits ∙ busy)))
 
-  pub scan_own : (on : CheckKind) → is_scan_kind on ≡ true → goes_over model (affected model (state_in e) (scan_event on)) (scan_event on) g ≡ false
-      → goes_over model (affected model (state_in e) (scan_event on)) (scan_event on) g ≡ goes_by e.table (verdicts_of model on (state_in e)) g
-      → is_behind (affected model (state_in e) (scan_event on)) g ≡ is_behind (state_in e) g
+  pub scan_own : (on : CheckKind) → is_scan_kind on ≡ true → switches_at model (affected model (state_in e) (scan_event on)) (scan_event on) g ≡ false
+      → switches_at model (affected model (state_in e) (scan_event on)) (scan_event on) g ≡ switches_by e.table (verdicts_of model on (state_in e)) g
+      → waits_in (affected model (state_in e) (scan_event on)) g ≡ waits_in (state_in e) g
       → (b : Bool) → model.uses on ≡ b
       → Own (scan_event on) (if b then after_scan (has_frame_in (state_in e)) g (suc e.number) (first_refused (state_in e) g (verdicts_of model on (state_in e))) old else old)
   scan_own on scan stays by_verdicts waits true used = scan_used on scan used stays by_verdicts waits

@@ -10,7 +10,7 @@ use Rattle.lp_transition.specs.declared.event.Event.{Event}
 use Rattle.lp_transition.specs.Leg.{Leg}
 use Rattle.lp_transition.specs.Schedule.{Schedule, complete, first_check, waits}
 use Rattle.lp_transition.specs.Sound.{IsSound}
-use Rattle.lp_transition.specs.Run.{and_then, is_settled, opened}
+use Rattle.lp_transition.specs.Run.{and_then, is_complete_now, opened}
 use Rattle.lp_transition.proofs.First.{Agree, agree_back, level_agrees, waits_agrees}
 use Rattle.lp_transition.proofs.Plain.{come_from, from_later}
 use Rattle.lp_transition.proofs.Prefix.{complete_same, waits_same, past_same}
@@ -20,7 +20,7 @@ use Rattle.lp_cert.specs.declared.cert.Claim.{Claim}
 use Rattle.lp_cert.specs.declared.cert.Claim.TheVariants.{Floor}
 use Rattle.lp_cert.specs.declared.cert.Cert.{Cert}
 use Rattle.lp_cert.specs.declared.line.Line.{Line}
-use Rattle.lp_cert.specs.Made.{group_id, cert, waiting_groups, floor_certs, completion, certs_by}
+use Rattle.lp_cert.specs.Certificates.{group_id, cert, waiting_groups, floor_certs, completion, certs_by}
 use Rattle.lp_cert.proofs.Past.{lines_past}
 
 -- ---- The first number that passes
@@ -101,15 +101,15 @@ module _ (model : Rules) where
 
   -- ---- The first moment at which a leg is complete
 
-  settled_moment : (leg : Leg) → is_settled model leg ≡ true → (k : ℕ) × (completion model leg ≡ Some k)
-  unfolding is_settled completion
+  settled_moment : (leg : Leg) → is_complete_now model leg ≡ true → (k : ℕ) × (completion model leg ≡ Some k)
+  unfolding is_complete_now completion
   settled_moment leg e =
       let n = length leg.events in
       let there = or_some (find (passes leg) (range_with_len 0 n)) n in
       (there.0, ap (find (passes leg)) (range_up n) ∙ (find-append (passes leg) (range_with_len 0 n) (n ∷ []) ∙ (ap (option_or (find (passes leg) (range_with_len 0 n))) (cond-true (passes leg n) (Some n) None e) ∙ there.1)))
 
-  completion_up : (leg : Leg) (event : Event) → completion model (and_then leg event) ≡ option_or (completion model leg) (if is_settled model (and_then leg event) then Some (suc (length leg.events)) else None)
-  unfolding is_settled completion
+  completion_up : (leg : Leg) (event : Event) → completion model (and_then leg event) ≡ option_or (completion model leg) (if is_complete_now model (and_then leg event) then Some (suc (length leg.events)) else None)
+  unfolding is_complete_now completion
   completion_up leg event =
       let n = length leg.events in
       let more = and_then leg event in
@@ -119,8 +119,8 @@ module _ (model : Rules) where
       ∙ (find-append (passes more) (range_with_len 0 (suc n)) (suc n ∷ [])
       ∙ ap₂ option_or (find_same (passes more) (passes leg) 0 (suc n) (λ k low high. past_complete leg event k (omega arith))) (ap (λ m. if passes more m then Some (suc n) else None) (sym long))))
 
-  pub completion_opened : (leg : Leg) (event : Event) → completion model (opened model leg event) ≡ (if is_settled model (opened model leg event) then Some 0 else None)
-  unfolding completion is_settled
+  pub completion_opened : (leg : Leg) (event : Event) → completion model (opened model leg event) ≡ (if is_complete_now model (opened model leg event) then Some 0 else None)
+  unfolding completion is_complete_now
   completion_opened leg event = refl
 
   pub completion_below : (leg : Leg) (k : ℕ) → completion model leg ≡ Some k → k ≤ length leg.events
@@ -133,8 +133,8 @@ module _ (model : Rules) where
   certs_kept leg event (suc k) le = past_floor leg event k (omega arith)
 
   module _ (lawful : IsLawful model) (leg : Leg) (sound : IsSound leg.opening) where
-    pub unsettled_moment : is_settled model leg ≡ false → completion model leg ≡ None
-    unfolding is_settled completion
+    pub unsettled_moment : is_complete_now model leg ≡ false → completion model leg ≡ None
+    unfolding is_complete_now completion
     unsettled_moment e =
         let n = length leg.events in
         find_none (passes leg) 0 (suc n) (λ k low high.
@@ -142,16 +142,16 @@ module _ (model : Rules) where
 
     -- a leg that is complete stays so from the same moment on
     pub completion_stays : (event : Event) (k : ℕ) → completion model leg ≡ Some k → completion model (and_then leg event) ≡ Some k
-    completion_stays event k e = completion_up leg event ∙ ap (λ o. option_or o (if is_settled model (and_then leg event) then Some (suc (length leg.events)) else None)) e
+    completion_stays event k e = completion_up leg event ∙ ap (λ o. option_or o (if is_complete_now model (and_then leg event) then Some (suc (length leg.events)) else None)) e
 
-    pub completion_now : (event : Event) → completion model leg ≡ None → (b : Bool) → is_settled model (and_then leg event) ≡ b → completion model (and_then leg event) ≡ (if b then Some (suc (length leg.events)) else None)
+    pub completion_now : (event : Event) → completion model leg ≡ None → (b : Bool) → is_complete_now model (and_then leg event) ≡ b → completion model (and_then leg event) ≡ (if b then Some (suc (length leg.events)) else None)
     completion_now event e b now =
         completion_up leg event ∙ ap₂ (λ o c. option_or o (if c then Some (suc (length leg.events)) else None)) e now
 
     -- where no moment came the leg isn't complete
-    pub unsettled_if : completion model leg ≡ None → is_settled model leg ≡ false
+    pub unsettled_if : completion model leg ≡ None → is_complete_now model leg ≡ false
     unsettled_if e =
-        false_from_ne_true (is_settled model leg) (λ done. let there = settled_moment leg done in some_none there.0 (sym there.1 ∙ e))
+        false_from_ne_true (is_complete_now model leg) (λ done. let there = settled_moment leg done in some_none there.0 (sym there.1 ∙ e))
       where
         some_none : (k : ℕ) → Some k ≡ None → ⊥
         some_none k h = absurd (cc)

@@ -17,9 +17,10 @@ use Rattle.lp_cert.specs.declared.ongoing.Ongoing.{Ongoing}
 use Rattle.lp_cert.specs.declared.ongoing.Ongoing.TheVariants.{Nothing, Hold, Busy}
 use Rattle.lp_cert.specs.declared.head.Head.{Head}
 use Rattle.lp_cert.specs.declared.head.Refused.{Refused}
-use Rattle.lp_cert.specs.declared.head.Birth.{Birth}
-use Rattle.lp_cert.specs.Made.{refusal_line, after_refusal}
-use Rattle.lp_cert.specs.Heads.{busy_lines, reason_lines, lines_of, ongoing_reasons, FitsIn, GoesOnIn, IsUnchecked, IsHead, Keeps, IsUsed, HasFrameAs, is_busy, stays, begun_by, IsRefusedBy, IsBornBy}
+use Rattle.lp_cert.specs.declared.head.OwnFork.{OwnFork}
+use Rattle.lp_cert.specs.Certificates.{refusal_line, after_refusal}
+use Rattle.lp_cert.specs.Heads.{busy_lines, reason_lines, lines_of, ongoing_reasons}
+use Rattle.lp_cert.specs.inside.Heads.{FitsIn, ContinuesIn, IsUnchecked, IsHead, Keeps, IsUsed, HasFrameAs, is_busy, continues_after, reason_begun_by, IsRefusedBy, IsBornBy}
 
 -- ---- A further scan
 
@@ -52,7 +53,7 @@ pub all_fit_further : (n : ℕ) (rs : List Reason) → AllByRecursion (FitsIn n)
 all_fit_further n [] fits = tt
 all_fit_further n (r ∷ rs) fits = (fit_further n r fits.0, all_fit_further n rs fits.1)
 
-goes_on_further : (n : ℕ) (o : Ongoing) → GoesOnIn n o → GoesOnIn (n + 1) o
+goes_on_further : (n : ℕ) (o : Ongoing) → ContinuesIn n o → ContinuesIn (n + 1) o
 goes_on_further n Nothing h = tt
 goes_on_further n (Hold t serial from) h = tt
 goes_on_further n (Busy t first) h = omega arith
@@ -93,26 +94,26 @@ no_hold_unchecked scans (reason.Busy g t first end ∷ rs) h = absurd h
 -- ---- What begins with a refusal
 
 begun_lines : (scans : List ℕ) (g : GroupId) (t : TaskId) (at : ℕ) (b : Blame) (rs : List Reason) → IsUsed b
-    → lines_of (more scans at) (ongoing_reasons (more scans at) g (begun_by (length scans) t at b) ++ rs) ≡ refusal_line g.0 at (t.0, b) ++ lines_of (more scans at) rs
+    → lines_of (more scans at) (ongoing_reasons (more scans at) g (reason_begun_by (length scans) t at b) ++ rs) ≡ refusal_line g.0 at (t.0, b) ++ lines_of (more scans at) rs
 unfolding lines_of
 begun_lines scans g t at (blame.Frame serial) rs used = ap (λ to. line.Hold g t serial at to ∷ lines_of (more scans at) rs) (last-more scans at)
 begun_lines scans g t at blame.Busy rs used =
     ap (λ xs. busy_lines g t xs ++ lines_of (more scans at) rs) (ap (drop (length scans)) (all_scans (more scans at)) ∙ drop-append_seam scans (at ∷ []))
 begun_lines scans g t at blame.Unused rs used = absurd used
 
-begun_goes_on : (n : ℕ) (t : TaskId) (at : ℕ) (b : Blame) → IsUsed b → GoesOnIn (n + 1) (begun_by n t at b)
+begun_goes_on : (n : ℕ) (t : TaskId) (at : ℕ) (b : Blame) → IsUsed b → ContinuesIn (n + 1) (reason_begun_by n t at b)
 begun_goes_on n t at (blame.Frame serial) used = tt
 begun_goes_on n t at blame.Busy used = omega arith
 begun_goes_on n t at blame.Unused used = absurd used
 
-begun_something : (n : ℕ) (t : TaskId) (at : ℕ) (b : Blame) → IsUsed b → begun_by n t at b ≡ Nothing → ⊥
+begun_something : (n : ℕ) (t : TaskId) (at : ℕ) (b : Blame) → IsUsed b → reason_begun_by n t at b ≡ Nothing → ⊥
 begun_something n t at (blame.Frame serial) used e = absurd (cc)
 begun_something n t at blame.Busy used e = absurd (cc)
 begun_something n t at blame.Unused used e = used
 
 -- ---- A refusal
 
-pub ongoing_fits : (scans : List ℕ) (g : GroupId) (o : Ongoing) (rs : List Reason) → GoesOnIn (length scans) o → AllByRecursion (FitsIn (length scans)) rs → AllByRecursion (FitsIn (length scans)) (ongoing_reasons scans g o ++ rs)
+pub ongoing_fits : (scans : List ℕ) (g : GroupId) (o : Ongoing) (rs : List Reason) → ContinuesIn (length scans) o → AllByRecursion (FitsIn (length scans)) rs → AllByRecursion (FitsIn (length scans)) (ongoing_reasons scans g o ++ rs)
 ongoing_fits scans g Nothing rs goes fits = fits
 ongoing_fits scans g (Hold t serial from) rs goes fits = (tt, fits)
 ongoing_fits scans g (Busy t first) rs goes fits = ((omega arith, omega arith), fits)
@@ -126,15 +127,15 @@ busy_some scans first h =
 
 -- a refusal that nothing goes on with brings a new line
 new_in_front : (has_frame : (task serial : ℕ) → Bool) (scans : List ℕ) (g : GroupId) (o : Ongoing) (rs : List Reason) (refused : Refused)
-    → GoesOnIn (length scans) o → (o ≡ Nothing → IsUnchecked rs) → HasFrameAs has_frame o refused.held → stays o refused ≡ false
+    → ContinuesIn (length scans) o → (o ≡ Nothing → IsUnchecked rs) → HasFrameAs has_frame o refused.frame_stands → continues_after o refused ≡ false
     → after_refusal has_frame g.0 refused.at (refused.task.0, refused.blame) (lines_of scans (ongoing_reasons scans g o ++ rs))
     ≡ refusal_line g.0 refused.at (refused.task.0, refused.blame) ++ lines_of scans (ongoing_reasons scans g o ++ rs)
 unfolding lines_of
-new_in_front has_frame scans g Nothing rs refused goes unchecked held not_on =
+new_in_front has_frame scans g Nothing rs refused goes unchecked frame_stands not_on =
     new_line has_frame g.0 refused.at (refused.task.0, refused.blame) (lines_of scans rs) (no_hold_unchecked scans rs (unchecked refl))
-new_in_front has_frame scans g (Hold t serial from) rs refused goes unchecked held not_on =
-    cond-false (has_frame t.0 serial) _ _ (held ∙ not_on)
-new_in_front has_frame scans g (Busy t first) rs refused goes unchecked held not_on =
+new_in_front has_frame scans g (Hold t serial from) rs refused goes unchecked frame_stands not_on =
+    cond-false (has_frame t.0 serial) _ _ (frame_stands ∙ not_on)
+new_in_front has_frame scans g (Busy t first) rs refused goes unchecked frame_stands not_on =
     new_line has_frame g.0 refused.at (refused.task.0, refused.blame) _
     (mapped_busy g t (reverse (drop first (take (length scans) scans))) (lines_of scans rs) (busy_some scans first goes))
 
@@ -159,15 +160,15 @@ busy_more g t scans first at h =
 
 -- a refusal that the newest reason goes on with makes it longer
 longer_in_front : (has_frame : (task serial : ℕ) → Bool) (scans : List ℕ) (g : GroupId) (o : Ongoing) (rs : List Reason) (refused : Refused)
-    → GoesOnIn (length scans) o → AllByRecursion (FitsIn (length scans)) rs → HasFrameAs has_frame o refused.held → stays o refused ≡ true
+    → ContinuesIn (length scans) o → AllByRecursion (FitsIn (length scans)) rs → HasFrameAs has_frame o refused.frame_stands → continues_after o refused ≡ true
     → lines_of (more scans refused.at) (ongoing_reasons (more scans refused.at) g o ++ rs)
     ≡ after_refusal has_frame g.0 refused.at (refused.task.0, refused.blame) (lines_of scans (ongoing_reasons scans g o ++ rs))
 unfolding lines_of
-longer_in_front has_frame scans g Nothing rs refused goes fits held on = absurd (cc)
-longer_in_front has_frame scans g (Hold t serial from) rs refused goes fits held on =
+longer_in_front has_frame scans g Nothing rs refused goes fits frame_stands on = absurd (cc)
+longer_in_front has_frame scans g (Hold t serial from) rs refused goes fits frame_stands on =
     ap₂ (λ to older. line.Hold g t serial from to ∷ older) (last-more scans refused.at) (lines_more scans refused.at rs fits)
-    ∙ sym (cond-true (has_frame t.0 serial) _ _ (held ∙ on))
-longer_in_front has_frame scans g (Busy t first) rs refused goes fits held on =
+    ∙ sym (cond-true (has_frame t.0 serial) _ _ (frame_stands ∙ on))
+longer_in_front has_frame scans g (Busy t first) rs refused goes fits frame_stands on =
     let parts = both_true (is_busy refused.blame) (nat_eq refused.task.0 t.0) on in
     let same : refused.task.0 ≡ t.0 = eqb-true refused.task.0 t.0 parts.1 in
     let calm = mapped_busy g t (reverse (drop first (take (length scans) scans))) (lines_of scans rs) (busy_some scans first goes) in
@@ -178,37 +179,37 @@ longer_in_front has_frame scans g (Busy t first) rs refused goes fits held on =
 
 module _ (scans : List ℕ) (group : GroupId) (refused : Refused) (head : Head) (old : List (List Reason)) (is_head : IsHead old (length scans) head) where
   -- the newest reason goes on
-  pub refused_on : stays head.ongoing refused ≡ true → IsRefusedBy refused group scans head head old old
+  pub refused_on : continues_after head.ongoing refused ≡ true → IsRefusedBy refused group scans head head old old
   refused_on on = record {
-    lines = λ has_frame held. longer_in_front has_frame scans group head.ongoing (get_or old head.older.0 []) refused is_head.goes_on is_head.fits held on;
+    lines = λ has_frame frame_stands. longer_in_front has_frame scans group head.ongoing (get_or old head.older.0 []) refused is_head.continues is_head.fits frame_stands on;
     stands = record {
       known = is_head.known;
       fits = all_fit_further (length scans) (get_or old head.older.0 []) is_head.fits;
-      goes_on = goes_on_further (length scans) head.ongoing is_head.goes_on;
+      continues = goes_on_further (length scans) head.ongoing is_head.continues;
       unchecked = is_head.unchecked;
     };
     kept = record { no_less = omega arith; same = λ i h. refl };
   }
 
   -- it is closed, and another begins
-  pub refused_new : (next : Head) (new : List (List Reason)) → IsUsed refused.blame → stays head.ongoing refused ≡ false
-      → next.ongoing ≡ begun_by (length scans) refused.task refused.at refused.blame
+  pub refused_new : (next : Head) (new : List (List Reason)) → IsUsed refused.blame → continues_after head.ongoing refused ≡ false
+      → next.ongoing ≡ reason_begun_by (length scans) refused.task refused.at refused.blame
       → get_or new next.older.0 [] ≡ ongoing_reasons scans group head.ongoing ++ get_or old head.older.0 []
       → next.older.0 < length new → Keeps old new
       → IsRefusedBy refused group scans head next old new
   refused_new next new used not_on begins list known kept =
       let closed : List Reason = ongoing_reasons scans group head.ongoing ++ get_or old head.older.0 [] in
-      let fits : AllByRecursion (FitsIn (length scans)) closed = ongoing_fits scans group head.ongoing (get_or old head.older.0 []) is_head.goes_on is_head.fits in
+      let fits : AllByRecursion (FitsIn (length scans)) closed = ongoing_fits scans group head.ongoing (get_or old head.older.0 []) is_head.continues is_head.fits in
       record {
-        lines = λ has_frame held.
+        lines = λ has_frame frame_stands.
             ap₂ (λ o rs. lines_of (more scans refused.at) (ongoing_reasons (more scans refused.at) group o ++ rs)) begins list
             ∙ (begun_lines scans group refused.task refused.at refused.blame closed used
             ∙ (ap (λ ls. refusal_line group.0 refused.at (refused.task.0, refused.blame) ++ ls) (lines_more scans refused.at closed fits)
-            ∙ sym (new_in_front has_frame scans group head.ongoing (get_or old head.older.0 []) refused is_head.goes_on is_head.unchecked held not_on)));
+            ∙ sym (new_in_front has_frame scans group head.ongoing (get_or old head.older.0 []) refused is_head.continues is_head.unchecked frame_stands not_on)));
         stands = record {
           known = known;
           fits = subst (AllByRecursion (FitsIn (length scans + 1))) (sym list) (all_fit_further (length scans) closed fits);
-          goes_on = subst (GoesOnIn (length scans + 1)) (sym begins) (begun_goes_on (length scans) refused.task refused.at refused.blame used);
+          continues = subst (ContinuesIn (length scans + 1)) (sym begins) (begun_goes_on (length scans) refused.task refused.at refused.blame used);
           unchecked = λ e. absurd (begun_something (length scans) refused.task refused.at refused.blame used (sym begins ∙ e));
         };
         kept = kept;
@@ -219,7 +220,7 @@ pub head_further : (lists : List (List Reason)) (n : ℕ) (head : Head) → IsHe
 head_further lists n head is = record {
   known = is.known;
   fits = all_fit_further n (get_or lists head.older.0 []) is.fits;
-  goes_on = goes_on_further n head.ongoing is.goes_on;
+  continues = goes_on_further n head.ongoing is.continues;
   unchecked = is.unchecked;
 }
 
@@ -232,7 +233,7 @@ keeps_push old mid list kept = record {
   same = λ i h. get_or-append mid (list ∷ []) [] i (omega (arith, kept.no_less)) ∙ kept.same i h;
 }
 
-module _ (scans : List ℕ) (group : GroupId) (birth : Birth) (head : Head) (old : List (List Reason)) (is_head : IsHead old (length scans) head) where
+module _ (scans : List ℕ) (group : GroupId) (birth : OwnFork) (head : Head) (old : List (List Reason)) (is_head : IsHead old (length scans) head) where
   pub born_by : (next : Head) (mid new : List (List Reason)) (before : ℕ) → next.ongoing ≡ Nothing
       → get_or mid before [] ≡ ongoing_reasons scans group head.ongoing ++ get_or old head.older.0 []
       → Keeps old mid
@@ -252,8 +253,8 @@ module _ (scans : List ℕ) (group : GroupId) (birth : Birth) (head : Head) (old
         lines = ap₂ (λ o rs. lines_of scans (ongoing_reasons scans birth.child o ++ rs)) calm list;
         stands = record {
           known = omega (arith, at, longer);
-          fits = subst (AllByRecursion (FitsIn (length scans))) (sym list) (tt, ongoing_fits scans group head.ongoing (get_or old head.older.0 []) is_head.goes_on is_head.fits);
-          goes_on = subst (GoesOnIn (length scans)) (sym calm) tt;
+          fits = subst (AllByRecursion (FitsIn (length scans))) (sym list) (tt, ongoing_fits scans group head.ongoing (get_or old head.older.0 []) is_head.continues is_head.fits);
+          continues = subst (ContinuesIn (length scans)) (sym calm) tt;
           unchecked = λ e. subst IsUnchecked (sym list) tt;
         };
         kept = subst (Keeps old) (sym is) (keeps_push old mid (reason.One (line.Born birth.child birth.parent birth.at) ∷ get_or mid before []) kept);

@@ -4,7 +4,8 @@ use Rattle.std.specs.List.{range_with_len}
 use Rattle.std.proofs.lemmas.Bool.{cond-true, cond-false}
 use Rattle.lp_numbers.specs.Numbers.{Numbers, has}
 use Rattle.lp_transition.specs.Scan.{passing}
-use Rattle.lp_cert.specs.Waiters.{LegReasons, AreHeads, StandsAt, waiter_in}
+use Rattle.lp_cert.specs.Waiters.{LegReasons, waiter_in}
+use Rattle.lp_cert.specs.inside.Waiters.{AreHeads, StandsAt}
 
 pub ok_weaker : {A E : Type 0} (P Q : A → Type 0) → ((x : A) → P x → Q x) → (r : Result A E) → IfOk r P → IfOk r Q
 ok_weaker P Q f (Ok x) h = f x h

@@ -2,7 +2,7 @@ pub mod ChainLemmas
 pub mod PartLemmas
 pub mod LineLemmas
 pub mod HeadLemmas
-pub mod Settling
+pub mod UnchangedLines
 pub mod WrittenLemmas
 pub mod Past
 pub mod NextLines
@@ -13,11 +13,11 @@ pub mod MoreWaiters
 pub mod Behind
 pub mod BehindTasks
 pub mod ScanTold
-pub mod SettledSteps
+pub mod UnchangedSteps
 pub mod StepLines
-pub mod SettlingEvents
+pub mod UnchangedEvents
 pub mod Touching
-pub mod SettlingScans
+pub mod UnchangedScans
 pub mod Completions
 pub mod Keeping
 pub mod Making

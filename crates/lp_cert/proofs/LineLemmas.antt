@@ -9,7 +9,8 @@ use Rattle.lp_cert.specs.declared.line.Line.{Line}
 use Rattle.lp_cert.specs.declared.line.Line.TheVariants as line
 use Rattle.lp_cert.specs.declared.reason.Reason.{Reason}
 use Rattle.lp_cert.specs.declared.reason.Reason.TheVariants as reason
-use Rattle.lp_cert.specs.Heads.{reason_lines, lines_of, FitsIn}
+use Rattle.lp_cert.specs.Heads.{reason_lines, lines_of}
+use Rattle.lp_cert.specs.inside.Heads.{FitsIn}
 use Rattle.lp_cert.proofs.PartLemmas.{all_front, all_last}
 use Rattle.lp_cert.proofs.WrittenLemmas.{oldest_busy}
 

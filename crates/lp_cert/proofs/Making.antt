@@ -17,9 +17,10 @@ use Rattle.lp_cert.specs.declared.line.Line.{Line}
 use Rattle.lp_cert.specs.declared.leg_end.LegEnd.{LegEnd}
 use Rattle.lp_cert.specs.declared.open_leg.Completion.{Completion}
 use Rattle.lp_cert.specs.declared.open_leg.OpenLeg.{OpenLeg}
-use Rattle.lp_cert.specs.Made.{group_id}
-use Rattle.lp_cert.specs.Kept.{open_end, floor_waiters}
-use Rattle.lp_cert.specs.Waiters.{WaitingGroups, lines_in, lines_at, kept_cert, waiter_in, waiters_of}
+use Rattle.lp_cert.specs.Certificates.{group_id}
+use Rattle.lp_cert.specs.Invariant.{open_end, floor_waiters}
+use Rattle.lp_cert.specs.Waiters.{WaitingGroups, kept_cert, waiter_in, waiters_of}
+use Rattle.lp_cert.specs.inside.Waiters.{lines_in, lines_at}
 
 pub none_is : {A : Type 0} (o : Option A) → is_none o ≡ true → o ≡ None
 none_is None h = refl

@@ -8,16 +8,19 @@ use Rattle.lp_stack.specs.declared.number.GroupId.{GroupId}
 use Rattle.lp_numbers.specs.Numbers.{Numbers, has, IsEmpty, IsLeastFrom}
 use Rattle.lp_transition.specs.Leg.{Standing}
 use Rattle.lp_transition.specs.Sound.{IsSound}
-use Rattle.lp_transition.specs.Table.{Table, Engine, slot, state_in, is_in, is_off}
+use Rattle.lp_transition.specs.Table.{Table, Engine, slot, state_in}
+use Rattle.lp_transition.specs.inside.Table.{is_in, is_off}
 use Rattle.lp_transition.proofs.Quantifiers.{some_live-is, some_live-from}
 use Rattle.lp_transition.proofs.TableLemmas.{slot_from_live, live_from_slot}
 use Rattle.lp_cert.specs.declared.line.Line.{Line}
 use Rattle.lp_cert.specs.declared.reason.Reason.{Reason}
 use Rattle.lp_cert.specs.declared.head.Head.{Head}
-use Rattle.lp_cert.specs.declared.head.Birth.{Birth}
-use Rattle.lp_cert.specs.Made.{group_id, birth_line}
-use Rattle.lp_cert.specs.Heads.{head_lines, lines_of, IsHead, IsBornBy}
-use Rattle.lp_cert.specs.Waiters.{WaitingGroups, LegReasons, no_head, head_of, is_off_here, has_off, IsTakenIn, AreTakenIn, lines_in, StandsAt, lines_at, after_birth, after_switch}
+use Rattle.lp_cert.specs.declared.head.OwnFork.{OwnFork}
+use Rattle.lp_cert.specs.Certificates.{group_id, birth_line}
+use Rattle.lp_cert.specs.Heads.{head_lines, lines_of}
+use Rattle.lp_cert.specs.inside.Heads.{IsHead, IsBornBy}
+use Rattle.lp_cert.specs.Waiters.{WaitingGroups, LegReasons, no_head, head_of}
+use Rattle.lp_cert.specs.inside.Waiters.{is_off_here, has_off, IsTakenIn, AreTakenIn, lines_in, StandsAt, lines_at, after_birth, after_switch}
 use Rattle.lp_patch.specs.Patches.{Goal}
 use Rattle.lp_model.specs.Rules.{Rules, IsLawful}
 use Rattle.lp_model.specs.declared.check.CheckKind.{CheckKind}
@@ -27,14 +30,14 @@ use Rattle.lp_stack.specs.TaskView.{TaskView}
 use Rattle.lp_transition.specs.Leg.{State}
 use Rattle.lp_transition.specs.Scan.{AreEnough, is_asked, verdict_of, verdicts_of, views_of}
 use Rattle.lp_model.specs.declared.verdict.Verdict.{Verdict}
-use Rattle.lp_cert.specs.Heads.{IsUsed}
-use Rattle.lp_cert.specs.Waiters.{IsUsedVerdict}
+use Rattle.lp_cert.specs.inside.Heads.{IsUsed}
+use Rattle.lp_cert.specs.inside.Waiters.{IsUsedVerdict}
 use Rattle.std.proofs.Common.{IfSome, IsTrue, map}
 use Rattle.lp_cert.proofs.WaiterLemmas.{head_kept, lines_kept}
 
 -- ---- A birth
 
-module _ (birth : Birth) (parent : GroupId) (groups left : Numbers) (old new : LegReasons)
+module _ (birth : OwnFork) (parent : GroupId) (groups left : Numbers) (old new : LegReasons)
     (stand : (g : ℕ) → has groups g ≡ true → StandsAt (length old.scans) old g)
     (waits : has groups parent.0 ≡ true)
     (born : IsBornBy birth parent old.scans (head_of old parent.0) (head_of new birth.child.0) old.lists new.lists)
@@ -182,7 +185,7 @@ pub calm_head : (lists : List (List Reason)) (scans : List ℕ) (h : Head) → l
 calm_head lists scans h one none calm =
     subst (λ ls. IsHead ls (length scans) h) (sym one)
     (subst (λ (xs : List ℕ). IsHead ([] ∷ []) (length xs) h) (sym none)
-    (subst (IsHead ([] ∷ []) 0) (sym calm) (record { known = omega arith; fits = tt; goes_on = tt; unchecked = λ e. tt })))
+    (subst (IsHead ([] ∷ []) 0) (sym calm) (record { known = omega arith; fits = tt; continues = tt; unchecked = λ e. tt })))
 
 calm_nothing : (g : GroupId) → head_lines ([] ∷ []) [] g no_head ≡ []
 unfolding lines_of

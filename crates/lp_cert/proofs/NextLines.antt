@@ -18,14 +18,14 @@ use Rattle.lp_transition.specs.Leg.{Standing, Leg, after, accept, accepted, chec
 use Rattle.lp_transition.specs.Schedule.{standing, view, first_check}
 use Rattle.lp_transition.specs.Run.{and_then, refused_by, shown}
 use Rattle.lp_transition.specs.Scan.{is_scan_kind, scan_event}
-use Rattle.lp_transition.specs.Machine.{outline_of, outlines_of, is_behind, state_of}
+use Rattle.lp_transition.specs.Machine.{outline_of, outlines_of, waits_in, state_of}
 use Rattle.lp_transition.proofs.Quantifiers.{some_live-is, some_live-from}
 use Rattle.lp_transition.proofs.Cut.{outlines_same}
 use Rattle.lp_transition.proofs.Prefix.{after_same}
 use Rattle.lp_transition.proofs.Steps.{accepted_is, after_is, check_is, plain_refusal}
 use Rattle.lp_cert.specs.declared.line.Line.{Line}
-use Rattle.lp_cert.specs.Made.{after_check, birth_line, has_frame, first_blamed, member_blame, with_birth, lines}
-use Rattle.lp_cert.specs.Steps.{has_frame_in, blame_in, first_blamed_in, lines_after_scan, lines_after_fork}
+use Rattle.lp_cert.specs.Certificates.{after_check, birth_line, has_frame, first_blamed, member_blame, with_birth, lines}
+use Rattle.lp_cert.specs.EventLines.{has_frame_in, blame_in, first_blamed_in, lines_after_scan, lines_after_fork}
 use Rattle.lp_cert.proofs.Past.{on_live_same, seen_same, lines_past}
 
 on_live_map : {A B C : Type 0} (other : C) (f : B → C) (g : A → B) (fate : Fate A) → on_live other f (map_live g fate) ≡ on_live other (λ x. f (g x)) fate
@@ -67,7 +67,7 @@ module _ (model : Rules) (leg : Leg) (event : Event) where
         ap {A = ℕ → Option (ℕ × Blame)} (λ at. first_of (map at (range_with_len 1 leg.bounds.tasks))) (fun_ext (λ t. ap (option_map (λ why. (t, why))) (blame_is on group t)))
 
   -- a group that waits has a live member
-  waiting_member : (group : ℕ) → IsTrue (is_behind (state_of model leg) group) → has_member leg.bounds (outlines now) group ≡ true
+  waiting_member : (group : ℕ) → IsTrue (waits_in (state_of model leg) group) → has_member leg.bounds (outlines now) group ≡ true
   unfolding shown
   waiting_member group behind =
       let w = some_live-is leg.bounds (shown model leg) (λ t x. nat_eq x.group group && not (nat_eq x.level leg.target)) behind in
@@ -97,7 +97,7 @@ module _ (model : Rules) (leg : Leg) (event : Event) where
         ap (λ o. with_birth model longer k group o (lines model longer k)) (accepted_is model leg event ∙ told)
         ∙ (no_birth group (lines model longer k) ∙ lines_past model leg event k group (omega arith))
 
-    used_scan : (group : ℕ) → IsTrue (model.uses on) → IsTrue (is_behind (state_of model leg) group)
+    used_scan : (group : ℕ) → IsTrue (model.uses on) → IsTrue (waits_in (state_of model leg) group)
         → lines model longer (suc k) group ≡ lines_after_scan model (state_of model leg) on group (lines model leg k group)
     unfolding lines
     used_scan group used behind =
@@ -128,7 +128,7 @@ module _ (model : Rules) (leg : Leg) where
   scan_same kind.KernelExit e = absurd (cc)
   scan_same kind.IdlePoint e = absurd (cc)
 
-  pub lines_at_scan : (on : CheckKind) (group : ℕ) → is_scan_kind on ≡ true → IsTrue (model.uses on) → IsTrue (is_behind (state_of model leg) group)
+  pub lines_at_scan : (on : CheckKind) (group : ℕ) → is_scan_kind on ≡ true → IsTrue (model.uses on) → IsTrue (waits_in (state_of model leg) group)
       → lines model (and_then leg (scan_event on)) (suc (length leg.events)) group ≡ lines_after_scan model (state_of model leg) on group (lines model leg (length leg.events) group)
   unfolding refusal
   lines_at_scan kind.Walk group e used behind = used_scan model leg Walk kind.Walk refl (scan_same kind.Walk e) (λ g. refl) (λ g ls. refl) group used behind

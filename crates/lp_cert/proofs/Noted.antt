@@ -10,7 +10,7 @@ use Rattle.lp_transition.specs.declared.reply.Reply.{Reply}
 use Rattle.lp_transition.specs.Events.{is_control}
 use Rattle.lp_transition.specs.Leg.{State, Leg, after}
 use Rattle.lp_transition.specs.Schedule.{standing, waits, first_check}
-use Rattle.lp_transition.specs.Run.{Run, plus, first_leg, leg_of, and_then, is_settled, opened, opens, next_leg, reply, new_target, shown, leg_after}
+use Rattle.lp_transition.specs.Run.{Run, plus, first_leg, leg_of, and_then, is_complete_now, opened, opens, next_leg, reply, new_target, shown, leg_after}
 use Rattle.lp_transition.specs.Run.{refused_by as why_refused}
 use Rattle.lp_transition.specs.Sound.{IsSound}
 use Rattle.lp_transition.specs.Steps.{StandsIn}
@@ -18,9 +18,9 @@ use Rattle.lp_transition.proofs.Runs.{leg_after-plus}
 use Rattle.lp_transition.proofs.States.{state_sound}
 use Rattle.lp_transition.proofs.WholeRun.{run_sound, start_sound}
 use Rattle.std.proofs.lemmas.List.{map-append}
-use Rattle.lp_transition.specs.Machine.{is_behind, next, turned, answer, refusal_of, state_of}
+use Rattle.lp_transition.specs.Machine.{waits_in, next, turned, answer, refusal_of, state_of}
 use Rattle.lp_transition.specs.Table.{Engine, state_in}
-use Rattle.lp_transition.specs.Weigh.{Weighed, IsWeighed, refused_by}
+use Rattle.lp_transition.specs.Weigh.{Weighed, IsWeighed, refusal_in}
 use Rattle.lp_transition.proofs.EngineLemmas.{next-turned}
 use Rattle.lp_transition.proofs.Quantifiers.{some_live-map}
 use Rattle.lp_transition.proofs.Steps.{refusal_is, does}
@@ -32,19 +32,21 @@ use Rattle.lp_cert.specs.declared.leg_end.LegEnd.{LegEnd}
 use Rattle.lp_cert.specs.declared.open_leg.Completion.{Completion}
 use Rattle.lp_cert.specs.declared.open_leg.OpenLeg.{OpenLeg}
 use Rattle.lp_cert.specs.declared.maker.Ready.{Ready}
-use Rattle.lp_cert.specs.Made.{lines, waiting_groups, waiting_certs, floor_certs, completion, certs_by}
+use Rattle.lp_cert.specs.Certificates.{lines, waiting_groups, waiting_certs, floor_certs, completion, certs_by}
 use Rattle.lp_cert.specs.Ends.{Made, IsMadeOf, Room, end_of, ended_legs, is_opening, under_way}
-use Rattle.lp_cert.specs.Kept.{open_end, ends_with, current_waiters, IfReady, IsReady, floor_waiters, room_of, leg_at, IsGoneOn, IsSettledOn}
-use Rattle.lp_cert.specs.Waiters.{WaitingGroups, HasFewGroups, has_off, lines_at, kept_cert, waiters_of}
+use Rattle.lp_cert.specs.Invariant.{open_end, floor_waiters, room_of}
+use Rattle.lp_cert.specs.inside.Invariant.{ends_with, current_waiters, IfReady, IsReady, leg_at, IsStepped, IsUnchangedOn}
+use Rattle.lp_cert.specs.Waiters.{WaitingGroups, kept_cert, waiters_of}
+use Rattle.lp_cert.specs.inside.Waiters.{HasFewGroups, has_off, lines_at}
 use Rattle.lp_cert.proofs.Completions.{past_floor, completion_opened, completion_below, certs_kept, completion_stays, completion_now, unsettled_if}
 use Rattle.lp_cert.proofs.Making.{none_is, cert_for, certs_from, certs_tell, floor_from}
-use Rattle.lp_cert.specs.Settling.{Settling, AreSettledBy, Suffices}
-use Rattle.lp_cert.proofs.SettledSteps.{none_settled, settled_on}
+use Rattle.lp_cert.specs.LastScan.{LastScan, AreUnchangedBy, Suffices}
+use Rattle.lp_cert.proofs.UnchangedSteps.{none_settled, settled_on}
 use Rattle.lp_cert.proofs.StepLines.{IsFew, step_lines}
 
 -- ---- Who waits in a leg, and its certificates
 
-behind_waits : (model : Rules) (leg : Leg) (g : ℕ) → is_behind (state_of model leg) g ≡ waits model leg (first_check model leg) (length leg.events) g
+behind_waits : (model : Rules) (leg : Leg) (g : ℕ) → waits_in (state_of model leg) g ≡ waits model leg (first_check model leg) (length leg.events) g
 unfolding shown waits
 behind_waits model leg g = some_live-map leg.bounds (standing leg (first_check model leg) (length leg.events)) (after model leg (length leg.events)) (λ t y. nat_eq y.group g && not (nat_eq y.level leg.target))
 
@@ -52,14 +54,14 @@ module _ (model : Rules) (leg : Leg) (tasks : leg.bounds.tasks ≡ 65535) where
   abbrev n : ℕ
   n = length leg.events
 
-  groups_are : waiting_groups model leg n ≡ filter (is_behind (state_of model leg)) (range_with_len 0 65536)
+  groups_are : waiting_groups model leg n ≡ filter (waits_in (state_of model leg)) (range_with_len 0 65536)
   groups_are =
       ap₂ (λ test m. filter test (range_with_len 0 (suc m))) (fun_ext (λ g. sym (behind_waits model leg g))) tasks
 
-  waiting_are : waiting_certs model leg n ≡ map (cert_for Waiting leg.number (leg.number + n) (lines model leg n)) (filter (is_behind (state_of model leg)) (range_with_len 0 65536))
+  waiting_are : waiting_certs model leg n ≡ map (cert_for Waiting leg.number (leg.number + n) (lines model leg n)) (filter (waits_in (state_of model leg)) (range_with_len 0 65536))
   waiting_are = ap (map (cert_for Waiting leg.number (leg.number + n) (lines model leg n))) groups_are
 
-  floor_are : floor_certs model leg n ≡ map (cert_for Floor leg.number (leg.number + n) (lines model leg n)) (take 1 (filter (is_behind (state_of model leg)) (range_with_len 0 65536)))
+  floor_are : floor_certs model leg n ≡ map (cert_for Floor leg.number (leg.number + n) (lines model leg n)) (take 1 (filter (waits_in (state_of model leg)) (range_with_len 0 65536)))
   floor_are = ap (λ gs. map (cert_for Floor leg.number (leg.number + n) (lines model leg n)) (take 1 gs)) groups_are
 
 -- ---- The end of a leg that isn't complete
@@ -92,10 +94,10 @@ module _ (model : Rules) (lawful : IsLawful model) (e : Engine) (sound : IsSound
   number_is : e.number ≡ leg.number + k
   number_is = ap (λ (s : State). s.number) there
 
-  refused_is : refused_by step.reply.what ≡ refusal_of model (state_in e) event
-  refused_is = ap (λ (r : Reply). refused_by r.what) weighed.reply ∙ refused-as model (state_in e) event
+  refused_is : refusal_in step.reply.what ≡ refusal_of model (state_in e) event
+  refused_is = ap (λ (r : Reply). refusal_in r.what) weighed.reply ∙ refused-as model (state_in e) event
 
-  why_is : refused_by step.reply.what ≡ why_refused model leg event
+  why_is : refusal_in step.reply.what ≡ why_refused model leg event
   why_is = refused_is ∙ (ap (λ (s : State). refusal_of model s event) there ∙ refusal_is model leg event)
 
   pub opening_is : is_opening step ≡ opens model leg event
@@ -124,12 +126,12 @@ module _ (model : Rules) (lawful : IsLawful model) (e : Engine) (sound : IsSound
             let open_it : opens model leg event ≡ true = ap₂ (λ a b. a && b) is (ap is_none (sym why_is ∙ (refused_is ∙ ok))) in
             absurd (false≢true (sym stays ∙ open_it))
 
-    completes_is : is_settled model leg ≡ false → step.reply.completed ≡ is_settled model (and_then leg event)
+    completes_is : is_complete_now model leg ≡ false → step.reply.completed ≡ is_complete_now model (and_then leg event)
     unfolding reply
     completes_is calm =
         ap (λ (r : Reply). r.completed) reply_is
-        ∙ (ap₂ (λ (l : Leg) (b : Bool). is_settled model l && (b || not (is_settled model leg))) next_is stays
-        ∙ (ap (λ b. is_settled model (and_then leg event) && not b) calm ∙ and_one (is_settled model (and_then leg event))))
+        ∙ (ap₂ (λ (l : Leg) (b : Bool). is_complete_now model l && (b || not (is_complete_now model leg))) next_is stays
+        ∙ (ap (λ b. is_complete_now model (and_then leg event) && not b) calm ∙ and_one (is_complete_now model (and_then leg event))))
       where
         and_one : (b : Bool) → (b && true) ≡ b
         and_one true = refl
@@ -138,8 +140,8 @@ module _ (model : Rules) (lawful : IsLawful model) (e : Engine) (sound : IsSound
     length_is : length (and_then leg event).events ≡ suc k
     length_is = length-append leg.events (event ∷ []) ∙ omega arith
 
-    module _ (noted number : ℕ) (old new : OpenLeg) (before later : WaitingGroups) (settling settled : Settling) (numbered : number ≡ e.number + 1) (was : open_end noted before old ≡ end_of model leg) (gone : IsGoneOn model e step number old new before later)
-        (calm : AreSettledBy model (state_in e) (lines model leg k) settling) (suffices : Suffices model (state_in e) step settling) where
+    module _ (noted number : ℕ) (old new : OpenLeg) (before later : WaitingGroups) (last_scan unchanged : LastScan) (numbered : number ≡ e.number + 1) (was : open_end noted before old ≡ end_of model leg) (gone : IsStepped model e step number old new before later)
+        (calm : AreUnchangedBy model (state_in e) (lines model leg k) last_scan) (suffices : Suffices model (state_in e) step last_scan) where
       -- a complete leg stays as it is
       complete_stays : (done : Completion) → old.completed ≡ Some done → open_end number later new ≡ end_of model (and_then leg event)
       complete_stays done is =
@@ -169,24 +171,24 @@ module _ (model : Rules) (lawful : IsLawful model) (e : Engine) (sound : IsSound
         target_same = ap (λ (l : LegEnd). l.target.0) was_still
 
         -- the lines of who waits
-        lines_before : (g : ℕ) → g < 65536 → lines_at before g ≡ (if is_behind (state_in e) g then Some (lines model leg k g) else None)
+        lines_before : (g : ℕ) → g < 65536 → lines_at before g ≡ (if waits_in (state_in e) g then Some (lines model leg k g) else None)
         lines_before g below =
-            certs_tell Waiting old.opened noted before Waiting leg.number (leg.number + k) (is_behind (state_of model leg)) (lines model leg k)
+            certs_tell Waiting old.opened noted before Waiting leg.number (leg.number + k) (waits_in (state_of model leg)) (lines model leg k)
             (ap (λ (l : LegEnd). l.certs) was_still ∙ (ap (certs_by model leg) no_moment ∙ waiting_are model leg tasks_are)) g below
-            ∙ ap (λ (s : State). if is_behind s g then Some (lines model leg k g) else None) (sym there)
+            ∙ ap (λ (s : State). if waits_in s g then Some (lines model leg k g) else None) (sym there)
 
         completes_now : step.reply.completed ≡ true → open_end number later new ≡ end_of model (and_then leg event)
         completes_now now =
             let done = gone.completes unended now in
             let floor = done.0 in
-            let settled : is_settled model (and_then leg event) ≡ true = sym (completes_is (unsettled_if model lawful leg leg_sound no_moment)) ∙ now in
-            let moment : completion model (and_then leg event) ≡ Some (suc k) = completion_now model lawful leg leg_sound event no_moment true settled in
+            let unchanged : is_complete_now model (and_then leg event) ≡ true = sym (completes_is (unsettled_if model lawful leg leg_sound no_moment)) ∙ now in
+            let moment : completion model (and_then leg event) ≡ Some (suc k) = completion_now model lawful leg leg_sound event no_moment true unchanged in
             let at : number ≡ leg.number + suc k = omega (arith, numbered, number_is) in
             let upto : number - 1 ≡ leg.number + k = omega (arith, at) in
             let certs : map (kept_cert Floor old.opened (number - 1) before.reasons.lists before.reasons.scans) (floor_waiters before.reasons floor) ≡ certs_by model (and_then leg event) (Some (suc k)) =
             ap₂ (λ a b. map (kept_cert Floor a b before.reasons.lists before.reasons.scans) (floor_waiters before.reasons floor)) opened_same upto
-            ∙ (floor_from leg.number (leg.number + k) before floor done.3 done.4 (is_behind (state_in e)) (lines model leg k) lines_before
-            ∙ (ap (λ (s : State). map (cert_for Floor leg.number (leg.number + k) (lines model leg k)) (take 1 (filter (is_behind s) (range_with_len 0 65536)))) there
+            ∙ (floor_from leg.number (leg.number + k) before floor done.3 done.4 (waits_in (state_in e)) (lines model leg k) lines_before
+            ∙ (ap (λ (s : State). map (cert_for Floor leg.number (leg.number + k) (lines model leg k)) (take 1 (filter (waits_in s) (range_with_len 0 65536)))) there
             ∙ (sym (floor_are model leg tasks_are) ∙ sym (past_floor model leg event k (omega arith))))) in
             ap₂ (λ (w : WaitingGroups) (l : OpenLeg). open_end number w l) done.2 done.1
             ∙ (ap₂ (λ (a b : ℕ). let l : LegEnd = record { opened = a; target = record { 0 = b }; completed = Some number; certs = map (kept_cert Floor old.opened (number - 1) before.reasons.lists before.reasons.scans) (floor_waiters before.reasons floor) } in l) opened_same target_same
@@ -194,24 +196,24 @@ module _ (model : Rules) (lawful : IsLawful model) (e : Engine) (sound : IsSound
             (ap {A = ℕ} {B = Option ℕ} Some at ∙ ap (option_map (λ m. leg.number + m)) (sym moment))
             (certs ∙ ap (certs_by model (and_then leg event)) (sym moment)))
 
-        pub after_lines : step.reply.completed ≡ false → (g : ℕ) → g < 65536 → lines_at later g ≡ (if is_behind (state_of model (and_then leg event)) g then Some (lines model (and_then leg event) (length (and_then leg event).events) g) else None)
+        pub after_lines : step.reply.completed ≡ false → (g : ℕ) → g < 65536 → lines_at later g ≡ (if waits_in (state_of model (and_then leg event)) g then Some (lines model (and_then leg event) (length (and_then leg event).events) g) else None)
         after_lines now g below =
-            let on = gone.goes_on unended now in
+            let on = gone.continues unended now in
             let few : refusal_of model (state_in e) event ≡ None → IsFew model lawful e sound leg leg_sound there before lines_before event =
             λ ok p c how is. subst (HasFewGroups e) is (on.2 (refused_is ∙ ok)) in
             on.1 g
-            ∙ (step_lines model lawful e sound leg leg_sound there before lines_before step weighed settling calm suffices on.3 plain few g below
-            ∙ ap₂ (λ (s : State) (m : ℕ). if is_behind s g then Some (lines model (and_then leg event) m g) else None) state_is (sym length_is))
+            ∙ (step_lines model lawful e sound leg leg_sound there before lines_before step weighed last_scan calm suffices on.3 plain few g below
+            ∙ ap₂ (λ (s : State) (m : ℕ). if waits_in s g then Some (lines model (and_then leg event) m g) else None) state_is (sym length_is))
 
         goes_on_now : step.reply.completed ≡ false → open_end number later new ≡ end_of model (and_then leg event)
         goes_on_now now =
-            let on = gone.goes_on unended now in
-            let unsettled : is_settled model (and_then leg event) ≡ false = sym (completes_is (unsettled_if model lawful leg leg_sound no_moment)) ∙ now in
-            let moment : completion model (and_then leg event) ≡ None = completion_now model lawful leg leg_sound event no_moment false unsettled in
+            let on = gone.continues unended now in
+            let changed_since : is_complete_now model (and_then leg event) ≡ false = sym (completes_is (unsettled_if model lawful leg leg_sound no_moment)) ∙ now in
+            let moment : completion model (and_then leg event) ≡ None = completion_now model lawful leg leg_sound event no_moment false changed_since in
             let upto : number ≡ leg.number + length (and_then leg event).events = omega (arith, numbered, number_is, length_is) in
             let certs : map (kept_cert Waiting old.opened number later.reasons.lists later.reasons.scans) (waiters_of later) ≡ waiting_certs model (and_then leg event) (length (and_then leg event).events) =
             ap₂ (λ a b. map (kept_cert Waiting a b later.reasons.lists later.reasons.scans) (waiters_of later)) opened_same upto
-            ∙ (certs_from Waiting leg.number (leg.number + length (and_then leg event).events) later (is_behind (state_of model (and_then leg event))) (lines model (and_then leg event) (length (and_then leg event).events)) (after_lines now)
+            ∙ (certs_from Waiting leg.number (leg.number + length (and_then leg event).events) later (waits_in (state_of model (and_then leg event))) (lines model (and_then leg event) (length (and_then leg event).events)) (after_lines now)
             ∙ sym (waiting_are model (and_then leg event) tasks_are)) in
             ap (open_end number later) (on.0 ∙ still_is old unended)
             ∙ (ap₂ (λ (a b : ℕ). let l : LegEnd = record { opened = a; target = record { 0 = b }; completed = None; certs = map (kept_cert Waiting old.opened number later.reasons.lists later.reasons.scans) (waiters_of later) } in l) opened_same target_same
@@ -221,13 +223,13 @@ module _ (model : Rules) (lawful : IsLawful model) (e : Engine) (sound : IsSound
 
       -- who is settled
       abbrev settled_at : ℕ → Type 0
-      settled_at m = AreSettledBy model (state_of model (and_then leg event)) (lines model (and_then leg event) m) settled
+      settled_at m = AreUnchangedBy model (state_of model (and_then leg event)) (lines model (and_then leg event) m) unchanged
 
-      pub still_settled : IsSettledOn model e step old later settling settled → settled_at (length (and_then leg event).events)
+      pub still_settled : IsUnchangedOn model e step old later last_scan unchanged → settled_at (length (and_then leg event).events)
       still_settled on = by old.completed refl
         where
-          none : settled.kind ≡ None → settled_at (length (and_then leg event).events)
-          none kind_is = none_settled model (state_of model (and_then leg event)) (lines model (and_then leg event) (length (and_then leg event).events)) settled kind_is
+          none : unchanged.kind ≡ None → settled_at (length (and_then leg event).events)
+          none kind_is = none_settled model (state_of model (and_then leg event)) (lines model (and_then leg event) (length (and_then leg event).events)) unchanged kind_is
 
           by : (o : Option Completion) → old.completed ≡ o → settled_at (length (and_then leg event).events)
           by (Some done) is = none (on.complete done is)
@@ -235,10 +237,10 @@ module _ (model : Rules) (lawful : IsLawful model) (e : Engine) (sound : IsSound
               ⊎_elim
               (λ (now : step.reply.completed ≡ true). none (on.completes is now))
               (λ (now : step.reply.completed ≡ false).
-              let further = on.goes_on is now in
+              let further = on.continues is now in
               subst settled_at (sym length_is)
-              (settled_on model lawful e sound leg leg_sound there step stays settling settled later further.1 suffices calm further.0
-              (λ g below. after_lines is now g below ∙ ap (λ m. if is_behind (state_of model (and_then leg event)) g then Some (lines model (and_then leg event) m g) else None) length_is)))
+              (settled_on model lawful e sound leg leg_sound there step stays last_scan unchanged later further.1 suffices calm further.0
+              (λ g below. after_lines is now g below ∙ ap (λ m. if waits_in (state_of model (and_then leg event)) g then Some (lines model (and_then leg event) m g) else None) length_is)))
               (cases_Bool step.reply.completed)
 
       pub went_on : open_end number later new ≡ end_of model (and_then leg event)
@@ -270,12 +272,12 @@ module _ (model : Rules) (lawful : IsLawful model) (e : Engine) (sound : IsSound
         sym (next-turned model (state_in e) event accepted (and_parts (is_control event) (is_none (why_refused model leg event)) turns).0)
         ∙ (ap (λ (s : State). next model s event) there ∙ ((does model leg event lawful leg_sound).goes_on ∙ ap (state_of model) next_opened))
 
-    completed_is : step.reply.completed ≡ is_settled model (opened model leg event)
+    completed_is : step.reply.completed ≡ is_complete_now model (opened model leg event)
     unfolding reply
     completed_is =
         ap (λ (r : Reply). r.completed) reply_is
-        ∙ (ap₂ (λ (l : Leg) (b : Bool). is_settled model l && (b || not (is_settled model leg))) next_opened turns
-        ∙ and_one (is_settled model (opened model leg event)))
+        ∙ (ap₂ (λ (l : Leg) (b : Bool). is_complete_now model l && (b || not (is_complete_now model leg))) next_opened turns
+        ∙ and_one (is_complete_now model (opened model leg event)))
       where
         and_one : (b : Bool) → (b && true) ≡ b
         and_one true = refl
@@ -288,7 +290,7 @@ module _ (model : Rules) (lawful : IsLawful model) (e : Engine) (sound : IsSound
     pub opened_anew : (number : ℕ) (later : WaitingGroups) → number ≡ e.number + 1
         → ((g : ℕ) → lines_at later g ≡ (if has_off (state_in e) (new_target (state_in e) event) g then Some [] else None))
         → open_end number later (leg_at number (new_target (state_in e) event) step.reply.completed) ≡ end_of model (opened model leg event)
-    opened_anew number later numbered is = by (is_settled model (opened model leg event)) refl
+    opened_anew number later numbered is = by (is_complete_now model (opened model leg event)) refl
       where
         opening : Leg
         opening = opened model leg event
@@ -302,24 +304,24 @@ module _ (model : Rules) (lawful : IsLawful model) (e : Engine) (sound : IsSound
         end_with : ℕ → ℕ → Option ℕ → List Cert → LegEnd
         end_with a b o cs = record { opened = a; target = record { 0 = b }; completed = o; certs = cs }
 
-        by : (b : Bool) → is_settled model (opened model leg event) ≡ b → open_end number later (leg_at number (new_target (state_in e) event) step.reply.completed) ≡ end_of model (opened model leg event)
-        by true settled =
-            let moment : completion model (opened model leg event) ≡ Some 0 = completion_opened model leg event ∙ cond-true (is_settled model (opened model leg event)) (Some 0) None settled in
-            ap (λ b. open_end number later (leg_at number (new_target (state_in e) event) b)) (completed_is ∙ settled)
+        by : (b : Bool) → is_complete_now model (opened model leg event) ≡ b → open_end number later (leg_at number (new_target (state_in e) event) step.reply.completed) ≡ end_of model (opened model leg event)
+        by true unchanged =
+            let moment : completion model (opened model leg event) ≡ Some 0 = completion_opened model leg event ∙ cond-true (is_complete_now model (opened model leg event)) (Some 0) None unchanged in
+            ap (λ b. open_end number later (leg_at number (new_target (state_in e) event) b)) (completed_is ∙ unchanged)
             ∙ (ap₂ (λ a t. let l : LegEnd = record { opened = a; target = record { 0 = t }; completed = Some number; certs = [] } in l) at target
             ∙ ap₂ (λ (o : Option ℕ) (cs : List Cert). let l : LegEnd = record { opened = leg.number + suc k; target = record { 0 = (opened model leg event).target }; completed = o; certs = cs } in l)
             (ap {A = ℕ} {B = Option ℕ} Some (omega (arith, at)) ∙ ap (option_map (λ m. (leg.number + suc k) + m)) (sym moment))
             (ap (certs_by model (opened model leg event)) (sym moment)))
-        by false unsettled =
-            let moment : completion model (opened model leg event) ≡ None = completion_opened model leg event ∙ cond-false (is_settled model (opened model leg event)) (Some 0) None unsettled in
+        by false changed_since =
+            let moment : completion model (opened model leg event) ≡ None = completion_opened model leg event ∙ cond-false (is_complete_now model (opened model leg event)) (Some 0) None changed_since in
             let upto : number ≡ (leg.number + suc k) + 0 = omega (arith, at) in
-            let after_lines : (g : ℕ) → g < 65536 → lines_at later g ≡ (if is_behind (state_of model (opened model leg event)) g then Some (lines model (opened model leg event) 0 g) else None) =
-            λ g below. is g ∙ ap₂ (λ (s : State) (ls : List Line). if is_behind s g then Some ls else None) turned_is (sym (no_lines g)) in
+            let after_lines : (g : ℕ) → g < 65536 → lines_at later g ≡ (if waits_in (state_of model (opened model leg event)) g then Some (lines model (opened model leg event) 0 g) else None) =
+            λ g below. is g ∙ ap₂ (λ (s : State) (ls : List Line). if waits_in s g then Some ls else None) turned_is (sym (no_lines g)) in
             let certs : map (kept_cert Waiting number number later.reasons.lists later.reasons.scans) (waiters_of later) ≡ waiting_certs model (opened model leg event) 0 =
             ap₂ (λ a b. map (kept_cert Waiting a b later.reasons.lists later.reasons.scans) (waiters_of later)) at upto
-            ∙ (certs_from Waiting (leg.number + suc k) ((leg.number + suc k) + 0) later (is_behind (state_of model (opened model leg event))) (lines model (opened model leg event) 0) after_lines
+            ∙ (certs_from Waiting (leg.number + suc k) ((leg.number + suc k) + 0) later (waits_in (state_of model (opened model leg event))) (lines model (opened model leg event) 0) after_lines
             ∙ sym (waiting_are model (opened model leg event) tasks_are)) in
-            ap (λ b. open_end number later (leg_at number (new_target (state_in e) event) b)) (completed_is ∙ unsettled)
+            ap (λ b. open_end number later (leg_at number (new_target (state_in e) event) b)) (completed_is ∙ changed_since)
             ∙ (ap₂ (λ a t. let l : LegEnd = record { opened = a; target = record { 0 = t }; completed = None; certs = map (kept_cert Waiting number number later.reasons.lists later.reasons.scans) (waiters_of later) } in l) at target
             ∙ ap₂ (λ (o : Option ℕ) (cs : List Cert). let l : LegEnd = record { opened = leg.number + suc k; target = record { 0 = (opened model leg event).target }; completed = option_map (λ m. (leg.number + suc k) + m) o; certs = cs } in l)
             (sym moment)
@@ -397,29 +399,29 @@ module _ (model : Rules) (lawful : IsLawful model) (run : Run) (e : Engine) (sta
       -- who is settled in the run's leg with the event more
       abbrev pub settled_next : Type 0
       settled_next =
-          AreSettledBy model (state_of model (and_then (leg_of model run) step.event)) (lines model (and_then (leg_of model run) step.event) (length (and_then (leg_of model run) step.event).events)) new.settling
+          AreUnchangedBy model (state_of model (and_then (leg_of model run) step.event)) (lines model (and_then (leg_of model run) step.event) (length (and_then (leg_of model run) step.event).events)) new.last_scan
 
-      settled_longer : settled_next → AreSettledBy model (state_of model (leg_of model (plus run step.event))) (lines model (leg_of model (plus run step.event)) (length (leg_of model (plus run step.event)).events)) new.settling
-      settled_longer settled = subst (λ (l : Leg). AreSettledBy model (state_of model l) (lines model l (length l.events)) new.settling) (sym longer_is) settled
+      settled_longer : settled_next → AreUnchangedBy model (state_of model (leg_of model (plus run step.event))) (lines model (leg_of model (plus run step.event)) (length (leg_of model (plus run step.event)).events)) new.last_scan
+      settled_longer unchanged = subst (λ (l : Leg). AreUnchangedBy model (state_of model l) (lines model l (length l.events)) new.last_scan) (sym longer_is) unchanged
 
-      pub was_settled : AreSettledBy model (state_in e) (lines model (leg_of model run) (length (leg_of model run).events)) made.settling
-      was_settled = subst (λ (st : State). AreSettledBy model st (lines model (leg_of model run) (length (leg_of model run).events)) made.settling) (sym stands.there) is.settled
+      pub was_settled : AreUnchangedBy model (state_in e) (lines model (leg_of model run) (length (leg_of model run).events)) made.last_scan
+      was_settled = subst (λ (st : State). AreUnchangedBy model st (lines model (leg_of model run) (length (leg_of model run).events)) made.last_scan) (sym stands.there) is.unchanged
 
       pub none_made : made.current ≡ None → new.current ≡ None → settled_next → IsMadeOf model (plus run step.event) new
-      none_made old now settled =
+      none_made old now unchanged =
           let none = none_before model (ended_legs model (first_leg model run) run.events) (leg_of model run) (sym old ∙ is.current) in
           record {
             ended = ends;
             current = now ∙ ap (λ ls. option_map (end_of model) (under_way model ls (leg_of model (plus run step.event)))) (sym (same_ended ∙ none));
-            settled = settled_longer settled;
+            unchanged = settled_longer unchanged;
           }
 
-      pub still_made : (noted number : ℕ) (leg later_leg : OpenLeg) (before later : WaitingGroups) → number ≡ e.number + 1 → IsGoneOn model e step number leg later_leg before later
-          → Suffices model (state_in e) step made.settling → (settled_next ⊎ IsSettledOn model e step leg later made.settling new.settling) → made.current ≡ Some (open_end noted before leg) → new.current ≡ Some (open_end number later later_leg) → IsMadeOf model (plus run step.event) new
-      still_made noted number leg later_leg before later numbered gone suffices settled old now =
+      pub still_made : (noted number : ℕ) (leg later_leg : OpenLeg) (before later : WaitingGroups) → number ≡ e.number + 1 → IsStepped model e step number leg later_leg before later
+          → Suffices model (state_in e) step made.last_scan → (settled_next ⊎ IsUnchangedOn model e step leg later made.last_scan new.last_scan) → made.current ≡ Some (open_end noted before leg) → new.current ≡ Some (open_end number later later_leg) → IsMadeOf model (plus run step.event) new
+      still_made noted number leg later_leg before later numbered gone suffices unchanged old now =
           let was = some_before model (ended_legs model (first_leg model run) run.events) (leg_of model run) (open_end noted before leg) (sym old ∙ is.current) in
-          let went = went_on model lawful e engine_sound (leg_of model run) present_sound stands.there step weighed (opens_if false stays) noted number leg later_leg before later made.settling new.settling numbered was.0 gone was_settled suffices in
-          let by_event = still_settled model lawful e engine_sound (leg_of model run) present_sound stands.there step weighed (opens_if false stays) noted number leg later_leg before later made.settling new.settling numbered was.0 gone was_settled suffices in
+          let went = went_on model lawful e engine_sound (leg_of model run) present_sound stands.there step weighed (opens_if false stays) noted number leg later_leg before later made.last_scan new.last_scan numbered was.0 gone was_settled suffices in
+          let by_event = still_settled model lawful e engine_sound (leg_of model run) present_sound stands.there step weighed (opens_if false stays) noted number leg later_leg before later made.last_scan new.last_scan numbered was.0 gone was_settled suffices in
           record {
             ended = ends;
             current =
@@ -427,18 +429,18 @@ module _ (model : Rules) (lawful : IsLawful model) (run : Run) (e : Engine) (sta
                 ∙ (ap {A = LegEnd} {B = Option LegEnd} Some went
                 ∙ (sym (ap (option_map (end_of model)) (was.1 (and_then (leg_of model run) step.event)))
                 ∙ ap₂ (λ ls (l : Leg). option_map (end_of model) (under_way model ls l)) (sym same_ended) (sym longer_is)));
-            settled = settled_longer (⊎_elim (λ (is_so : settled_next). is_so) (λ (on : IsSettledOn model e step leg later made.settling new.settling). by_event on) settled);
+            unchanged = settled_longer (⊎_elim (λ (is_so : settled_next). is_so) (λ (on : IsUnchangedOn model e step leg later made.last_scan new.last_scan). by_event on) unchanged);
           }
 
       -- the lines of who waits in the run's leg with the event more
-      pub lines_after : (noted number : ℕ) (leg later_leg : OpenLeg) (before later : WaitingGroups) → number ≡ e.number + 1 → IsGoneOn model e step number leg later_leg before later
-          → Suffices model (state_in e) step made.settling → made.current ≡ Some (open_end noted before leg) → leg.completed ≡ None → step.reply.completed ≡ false
+      pub lines_after : (noted number : ℕ) (leg later_leg : OpenLeg) (before later : WaitingGroups) → number ≡ e.number + 1 → IsStepped model e step number leg later_leg before later
+          → Suffices model (state_in e) step made.last_scan → made.current ≡ Some (open_end noted before leg) → leg.completed ≡ None → step.reply.completed ≡ false
           → (g : ℕ) → g < 65536 → lines_at later g
-          ≡ (if is_behind (state_of model (and_then (leg_of model run) step.event)) g then Some (lines model (and_then (leg_of model run) step.event) (suc (length (leg_of model run).events)) g) else None)
+          ≡ (if waits_in (state_of model (and_then (leg_of model run) step.event)) g then Some (lines model (and_then (leg_of model run) step.event) (suc (length (leg_of model run).events)) g) else None)
       lines_after noted number leg later_leg before later numbered gone suffices old unended incomplete g below =
           let was = some_before model (ended_legs model (first_leg model run) run.events) (leg_of model run) (open_end noted before leg) (sym old ∙ is.current) in
-          after_lines model lawful e engine_sound (leg_of model run) present_sound stands.there step weighed (opens_if false stays) noted number leg later_leg before later made.settling new.settling numbered was.0 gone was_settled suffices unended incomplete g below
-          ∙ ap (λ m. if is_behind (state_of model (and_then (leg_of model run) step.event)) g then Some (lines model (and_then (leg_of model run) step.event) m g) else None)
+          after_lines model lawful e engine_sound (leg_of model run) present_sound stands.there step weighed (opens_if false stays) noted number leg later_leg before later made.last_scan new.last_scan numbered was.0 gone was_settled suffices unended incomplete g below
+          ∙ ap (λ m. if waits_in (state_of model (and_then (leg_of model run) step.event)) g then Some (lines model (and_then (leg_of model run) step.event) m g) else None)
           (length-append (leg_of model run).events (step.event ∷ []) ∙ omega arith)
 
     module _ (turns : is_opening step ≡ true) where
@@ -450,9 +452,9 @@ module _ (model : Rules) (lawful : IsLawful model) (run : Run) (e : Engine) (sta
           → (IsSound (state_in e) → (g : ℕ) → lines_at later g ≡ (if has_off (state_in e) (new_target (state_in e) step.event) g then Some [] else None))
           → new.ended ≡ made.ended ++ option_to_list made.current
           → new.current ≡ Some (open_end number later (leg_at number (new_target (state_in e) step.event) step.reply.completed))
-          → new.settling.kind ≡ None
+          → new.last_scan.kind ≡ None
           → IsMadeOf model (plus run step.event) new
-      turned_made number later numbered lines_are ended now unsettled =
+      turned_made number later numbered lines_are ended now changed_since =
           let more : ended_legs model (first_leg model run) (run.events ++ step.event ∷ []) ≡ ended_legs model (first_leg model run) run.events ++ leg_of model run ∷ [] =
           ended_next ∙ ap (λ ls. ended_legs model (first_leg model run) run.events ++ ls) (cond-true (opens model (leg_of model run) step.event) (leg_of model run ∷ []) [] (opens_if true turns)) in
           let anew = opened_anew model lawful e engine_sound (leg_of model run) present_sound stands.there step weighed (opens_if true turns) number later numbered (lines_are engine_sound) in
@@ -464,7 +466,7 @@ module _ (model : Rules) (lawful : IsLawful model) (run : Run) (e : Engine) (sta
                 ∙ (ap {A = LegEnd} {B = Option LegEnd} Some anew
                 ∙ (sym (ap (option_map (end_of model)) (under_way-plus model (ended_legs model (first_leg model run) run.events) (leg_of model run) (opened model (leg_of model run) step.event)))
                 ∙ ap₂ (λ ls (l : Leg). option_map (end_of model) (under_way model ls l)) (sym more) (sym next_is)));
-            settled = none_settled model _ _ new.settling unsettled;
+            unchanged = none_settled model _ _ new.last_scan changed_since;
           }
 
 -- ---- What the maker needs of what it keeps

@@ -25,7 +25,7 @@ use Rattle.lp_transition.proofs.Quantifiers.{each_live-at}
 use Rattle.lp_transition.proofs.Plain.{none_first, unfit, numbered}
 use Rattle.lp_transition.proofs.Steps.{accepted_is, after_is, check_is}
 use Rattle.lp_cert.specs.declared.line.Line.{Line}
-use Rattle.lp_cert.specs.Made.{after_check, has_frame, first_blamed, member_blame, with_birth, lines}
+use Rattle.lp_cert.specs.Certificates.{after_check, has_frame, first_blamed, member_blame, with_birth, lines}
 use Rattle.lp_cert.proofs.Past.{lines_past}
 
 -- ---- What an accepted exit and an accepted idle point tell

@@ -5,7 +5,7 @@ use Rattle.std.proofs.lemmas.Grind.{flat_map-append}
 use Rattle.std.proofs.lemmas.List.{append-nil, append_assoc, length-drop, take_all}
 use Rattle.lp_cert.specs.declared.reason.Reason.{Reason}
 use Rattle.lp_cert.specs.declared.oldest_first.Part.{Part}
-use Rattle.lp_cert.specs.Parts.{IsPart, part_reasons, parts_reasons}
+use Rattle.lp_cert.specs.inside.Parts.{IsPart, part_reasons, parts_reasons}
 
 pub all_and : {A : Type 0} (P : A → Type 0) (xs : List A) (x : A) → AllByRecursion P xs → P x → AllByRecursion P (xs ++ x ∷ [])
 all_and P [] x all one = (one, tt)

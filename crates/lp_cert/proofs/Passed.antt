@@ -14,24 +14,27 @@ use Rattle.lp_transition.specs.Events.{is_control}
 use Rattle.lp_transition.specs.Tasks.{change}
 use Rattle.lp_transition.specs.Leg.{Standing, State, each_live, each_task}
 use Rattle.lp_transition.specs.Run.{Run, and_then, leg_of, opens, switched, plus}
-use Rattle.lp_transition.specs.Machine.{at_rest, affected, answer, calling, goes_over, put_in, refusal_of, returning, state_of, switched_over, told}
-use Rattle.lp_transition.specs.ScanSteps.{groups_of}
+use Rattle.lp_transition.specs.Machine.{complete_in, affected, answer, calling, switches_at, put_in, refusal_of, returning, state_of, with_switches, told}
+use Rattle.lp_transition.specs.inside.ScanSteps.{groups_of}
 use Rattle.lp_transition.specs.Steps.{StandsIn}
 use Rattle.lp_transition.specs.Table.{Engine, state_in}
-use Rattle.lp_transition.specs.Weigh.{Weighed, IsWeighed, born_of, refused_by, AreVerdictsFor}
+use Rattle.lp_transition.specs.Weigh.{Weighed, IsWeighed, born_of, refusal_in, AreVerdictsFor}
 use Rattle.lp_transition.proofs.Alone.{same-after}
 use Rattle.lp_transition.proofs.EngineLemmas.{answer-refused, answer-accepted, is_quiet, quiet-control, quiet-stays, switched-still}
-use Rattle.lp_transition.proofs.Going.{going-none}
+use Rattle.lp_transition.proofs.SwitchedGroups.{going-none}
 use Rattle.lp_model.specs.declared.check.CheckKind.{CheckKind}
 use Rattle.lp_cert.specs.declared.line.Line.{Line}
-use Rattle.lp_cert.specs.Made.{lines}
+use Rattle.lp_cert.specs.Certificates.{lines}
 use Rattle.lp_cert.specs.declared.open_leg.OpenLeg.{OpenLeg}
 use Rattle.lp_cert.specs.Ends.{Made, IsMadeOf, is_opening, is_plain}
-use Rattle.lp_cert.specs.Kept.{IsGoneOn, open_end}
-use Rattle.lp_cert.specs.Waiters.{WaitingGroups, AreStanding, lines_at, HasFewGroups, own_lines}
-use Rattle.lp_cert.specs.Noting.{noted_by, noted_lines}
-use Rattle.lp_cert.specs.Settling.{AreSettledBy, AreThoseOf, IsTouched, Suffices, used_scan}
-use Rattle.lp_cert.proofs.SettledSteps.{no_scan, none_settled}
+use Rattle.lp_cert.specs.Invariant.{open_end}
+use Rattle.lp_cert.specs.inside.Invariant.{IsStepped}
+use Rattle.lp_cert.specs.Waiters.{WaitingGroups}
+use Rattle.lp_cert.specs.inside.Waiters.{AreStanding, lines_at, HasFewGroups, own_lines}
+use Rattle.lp_cert.specs.inside.StepLines.{noted_by, noted_lines}
+use Rattle.lp_cert.specs.LastScan.{AreUnchangedBy, AreThoseOf, Suffices, used_scan}
+use Rattle.lp_cert.specs.inside.LastScan.{IsTouched}
+use Rattle.lp_cert.proofs.UnchangedSteps.{no_scan, none_settled}
 use Rattle.lp_cert.proofs.Touching.{touched_settled}
 use Rattle.lp_cert.proofs.Noted.{lines_after, none_made, opens_if, present_sound, settled_next, still_made}
 
@@ -49,14 +52,14 @@ and_not false = refl
 
 module _ (model : Rules) (s : State) where
   -- who is off the target stays so
-  rests : (t : ℕ) (f : Standing → Standing) → ((x : Standing) → (f x).level ≡ x.level) → ((x : Standing) → (f x).group ≡ x.group) → at_rest (record s { number = suc s.number; tasks = change t f s.tasks }) ≡ at_rest s
+  rests : (t : ℕ) (f : Standing → Standing) → ((x : Standing) → (f x).level ≡ x.level) → ((x : Standing) → (f x).group ≡ x.group) → complete_in (record s { number = suc s.number; tasks = change t f s.tasks }) ≡ complete_in s
   unfolding each_live
   rests t f levels groups = ap (each_task s.bounds.tasks) (fun_ext (same-after t f levels groups true (λ u level group. nat_eq level s.target) s.tasks))
 
-  stays : (event : Event) → is_plain event ≡ true → (group : ℕ) → goes_over model (affected model s event) event group ≡ false
+  stays : (event : Event) → is_plain event ≡ true → (group : ℕ) → switches_at model (affected model s event) event group ≡ false
   stays event plain group = quiet-stays model (affected model s event) event group (quiet event plain)
 
-  rests_after : (event : Event) → is_plain event ≡ true → at_rest (affected model s event) ≡ at_rest s
+  rests_after : (event : Event) → is_plain event ≡ true → complete_in (affected model s event) ≡ complete_in s
   rests_after (Call t f) plain = rests t.0 (calling (suc s.number) f) (λ x. refl) (λ x. refl)
   rests_after (Ret t) plain = rests t.0 returning (λ x. refl) (λ x. refl)
   rests_after (Sleep t) plain = rests t.0 (put_in Asleep) (λ x. refl) (λ x. refl)
@@ -80,9 +83,9 @@ module _ (model : Rules) (s : State) where
   still_by event plain (Some why) e = rw (answer-refused model s event why e) (refl, refl)
   still_by event plain None e =
       let control : is_control event ≡ false = quiet-control model event (quiet event plain) in
-      let is : answer model s event ≡ record { what = told model s event; completed = at_rest (switched_over model s event) && not (at_rest s) } = answer-accepted model s event e ∙ cond-false _ _ _ control in
-      let same : at_rest (switched_over model s event) ≡ at_rest s = ap at_rest (switched-still model s event (stays event plain)) ∙ rests_after event plain in
-      rw is (ap (λ b. b && not (at_rest s)) same ∙ and_not (at_rest s), no_groups event plain)
+      let is : answer model s event ≡ record { what = told model s event; completed = complete_in (with_switches model s event) && not (complete_in s) } = answer-accepted model s event e ∙ cond-false _ _ _ control in
+      let same : complete_in (with_switches model s event) ≡ complete_in s = ap complete_in (switched-still model s event (stays event plain)) ∙ rests_after event plain in
+      rw is (ap (λ b. b && not (complete_in s)) same ∙ and_not (complete_in s), no_groups event plain)
 
   pub still : (event : Event) → is_plain event ≡ true → IsStill (answer model s event)
   still event plain = still_by event plain (refusal_of model s event) refl
@@ -127,17 +130,17 @@ module _ (model : Rules) (lawful : IsLawful model) (run : Run) (e : Engine) (sta
   weighed = record { room = room; reply = refl; born = refl; verdicts = no_verdicts model (state_in e) event plain }
 
   opens_none : is_opening step ≡ false
-  opens_none = ap (λ b. b && is_none (refused_by step.reply.what)) (quiet-control model event (quiet event plain))
+  opens_none = ap (λ b. b && is_none (refusal_in step.reply.what)) (quiet-control model event (quiet event plain))
 
-  goes_on : (number : ℕ) (leg : OpenLeg) (waiters : WaitingGroups) → IsGoneOn model e step number leg leg waiters waiters
-  goes_on number leg waiters =
+  continues : (number : ℕ) (leg : OpenLeg) (waiters : WaitingGroups) → IsStepped model e step number leg leg waiters waiters
+  continues number leg waiters =
       let answered = still model (state_in e) event plain in
       record {
         complete = λ done is. (refl, refl);
         completes = λ unfinished completed. absurd (false≢true (sym answered.0 ∙ completed));
-        goes_on = λ unfinished incomplete. (
+        continues = λ unfinished incomplete. (
           refl,
-          λ group. same (is_none (refused_by step.reply.what)) (lines_at waiters) group ∙ noted (is_none (refused_by step.reply.what)) group,
+          λ group. same (is_none (refusal_in step.reply.what)) (lines_at waiters) group ∙ noted (is_none (refusal_in step.reply.what)) group,
           λ accepted. few e event plain,
           λ used accepted. absurd (false≢true (subst IsSome (no_used model event plain) used)),
         );
@@ -157,31 +160,31 @@ module _ (model : Rules) (lawful : IsLawful model) (run : Run) (e : Engine) (sta
           ap (λ (o : Option CheckKind). if accepted then (if list_any (nat_eq group) (groups_of step.reply.what) then None else noted_by model e o event [] waiters group) else lines_at waiters group) (sym (no_used model event plain))
 
   module _ (made new : Made) (is : IsMadeOf model run made) (ended : new.ended ≡ made.ended) (noted number : ℕ) (waiters : WaitingGroups) (numbered : number ≡ e.number + 1) where
-    suffices : Suffices model (state_in e) step made.settling
-    suffices = subst (λ (o : Option CheckKind). AreThoseOf model (state_in e) o [] made.settling) (sym (no_used model event plain)) tt
+    suffices : Suffices model (state_in e) step made.last_scan
+    suffices = subst (λ (o : Option CheckKind). AreThoseOf model (state_in e) o [] made.last_scan) (sym (no_used model event plain)) tt
 
     -- what is made of the run with the event more
     with_settled : settled_next model lawful run e stands step weighed made new is opens_none ended → (current : Option OpenLeg) → made.current ≡ option_map (open_end noted waiters) current → new.current ≡ option_map (open_end number waiters) current
         → IsMadeOf model (plus run event) new
-    with_settled settled None was later = none_made model lawful run e stands step weighed made new is opens_none ended was later settled
-    with_settled settled (Some leg) was later =
-        still_made model lawful run e stands step weighed made new is opens_none ended noted number leg leg waiters waiters numbered (goes_on number leg waiters) suffices (inl settled) was later
+    with_settled unchanged None was later = none_made model lawful run e stands step weighed made new is opens_none ended was later unchanged
+    with_settled unchanged (Some leg) was later =
+        still_made model lawful run e stands step weighed made new is opens_none ended noted number leg leg waiters waiters numbered (continues number leg waiters) suffices (inl unchanged) was later
 
     -- where no group is settled any longer
-    pub passed_over : new.settling.kind ≡ None → (current : Option OpenLeg) → made.current ≡ option_map (open_end noted waiters) current → new.current ≡ option_map (open_end number waiters) current → IsMadeOf model (plus run event) new
-    passed_over calm current was later = with_settled (none_settled model _ _ new.settling calm) current was later
+    pub passed_over : new.last_scan.kind ≡ None → (current : Option OpenLeg) → made.current ≡ option_map (open_end noted waiters) current → new.current ≡ option_map (open_end number waiters) current → IsMadeOf model (plus run event) new
+    passed_over calm current was later = with_settled (none_settled model _ _ new.last_scan calm) current was later
 
     -- where a leg goes on
-    pub passed_on : AreStanding waiters → IsTouched e waiters.reasons event made.settling new.settling → (leg : OpenLeg) → leg.completed ≡ None → made.current ≡ Some (open_end noted waiters leg) → new.current ≡ Some (open_end number waiters leg)
+    pub passed_on : AreStanding waiters → IsTouched e waiters.reasons event made.last_scan new.last_scan → (leg : OpenLeg) → leg.completed ≡ None → made.current ≡ Some (open_end noted waiters leg) → new.current ≡ Some (open_end number waiters leg)
         → IsMadeOf model (plus run event) new
-    passed_on stand touched leg unended was later = with_settled settled (Some leg) was later
+    passed_on stand touched leg unended was later = with_settled unchanged (Some leg) was later
       where
         stays_open : opens model (leg_of model run) event ≡ false
         stays_open = opens_if model lawful run e stands step weighed made new is false opens_none
 
-        settled : settled_next model lawful run e stands step weighed made new is opens_none ended
-        settled =
-            subst (λ m. AreSettledBy model (state_of model (and_then (leg_of model run) event)) (lines model (and_then (leg_of model run) event) m) new.settling) (sym (length-append (leg_of model run).events (event ∷ []) ∙ omega arith))
-            (touched_settled model lawful e (leg_of model run) (present_sound model lawful run e stands) stands.there event stays_open (no_scan model event (no_used model event plain)) made.settling new.settling waiters touched stand
-            (lines_after model lawful run e stands step weighed made new is opens_none ended noted number leg leg waiters waiters numbered (goes_on number leg waiters) suffices was unended (still model (state_in e) event plain).0)
-            is.settled)
+        unchanged : settled_next model lawful run e stands step weighed made new is opens_none ended
+        unchanged =
+            subst (λ m. AreUnchangedBy model (state_of model (and_then (leg_of model run) event)) (lines model (and_then (leg_of model run) event) m) new.last_scan) (sym (length-append (leg_of model run).events (event ∷ []) ∙ omega arith))
+            (touched_settled model lawful e (leg_of model run) (present_sound model lawful run e stands) stands.there event stays_open (no_scan model event (no_used model event plain)) made.last_scan new.last_scan waiters touched stand
+            (lines_after model lawful run e stands step weighed made new is opens_none ended noted number leg leg waiters waiters numbered (continues number leg waiters) suffices was unended (still model (state_in e) event plain).0)
+            is.unchanged)

@@ -18,7 +18,7 @@ use Rattle.lp_transition.proofs.First.{Agree, view_agrees}
 use Rattle.lp_transition.proofs.Plain.{IsMadeBefore, made_later, from_later, made_before, come_from}
 use Rattle.lp_transition.proofs.Prefix.{after_same, accepted_same, check_same, past_same}
 use Rattle.lp_cert.specs.declared.line.Line.{Line}
-use Rattle.lp_cert.specs.Made.{after_check, birth_line, has_frame, member_blame, first_blamed, with_birth, lines}
+use Rattle.lp_cert.specs.Certificates.{after_check, birth_line, has_frame, member_blame, first_blamed, with_birth, lines}
 
 -- what is the same of each live task is the same of a fate
 pub on_live_same : {A B : Type 0} (other : B) (f g : A → B) (fate : Fate A) → ((x : A) → fate ≡ Live x → f x ≡ g x) → on_live other f fate ≡ on_live other g fate

@@ -10,18 +10,19 @@ use Rattle.lp_model.specs.declared.check.CheckKind.{CheckKind}
 use Rattle.lp_model.specs.declared.verdict.Verdict.{Verdict}
 use Rattle.lp_transition.specs.Tasks.{Live, on_live, first_of}
 use Rattle.lp_transition.specs.Leg.{Standing, State}
-use Rattle.lp_transition.specs.Machine.{view_of, is_behind}
+use Rattle.lp_transition.specs.Machine.{view_of, waits_in}
 use Rattle.lp_transition.specs.Scan.{is_asked, verdict_of, verdicts_among, verdicts_of}
 use Rattle.lp_transition.specs.Sound.{IsSound}
 use Rattle.lp_transition.proofs.Quantifiers.{some_live-is}
 use Rattle.lp_transition.proofs.ScanLists.{verdict-is}
 use Rattle.lp_cert.specs.declared.line.Line.{Line}
-use Rattle.lp_cert.specs.Made.{group_id, after_refusal}
-use Rattle.lp_cert.specs.Settled.{IsSettled, AreSettled}
-use Rattle.lp_cert.specs.Steps.{has_frame_in, member_verdict, first_refused}
-use Rattle.lp_cert.specs.Waiters.{WaitingGroups, AreStanding, after_verdict, head_of, lines_in}
-use Rattle.lp_cert.proofs.Settling.{lines_again}
-use Rattle.lp_cert.proofs.SettlingScans.{blamed_alike}
+use Rattle.lp_cert.specs.Certificates.{group_id, after_refusal}
+use Rattle.lp_cert.specs.Unchanged.{IsUnchanged, AreUnchanged}
+use Rattle.lp_cert.specs.EventLines.{has_frame_in, member_verdict, first_refused}
+use Rattle.lp_cert.specs.Waiters.{WaitingGroups, head_of}
+use Rattle.lp_cert.specs.inside.Waiters.{AreStanding, after_verdict, lines_in}
+use Rattle.lp_cert.proofs.UnchangedLines.{lines_again}
+use Rattle.lp_cert.proofs.UnchangedScans.{blamed_alike}
 use Rattle.lp_cert.proofs.VerdictLines.{verdicts_tell}
 
 or_parts : (a b : Bool) → (a || b) ≡ false → (a ≡ false) × (b ≡ false)
@@ -83,8 +84,8 @@ is_member s g t x why live h = eqb-true x.group g (by (nat_eq x.group g) refl)
         let out : on_live false (λ y. nat_eq y.group g) (s.tasks t) ≡ false = ap (on_live false (λ y. nat_eq y.group g)) live ∙ e in
         absurd (false≢true (sym (ap is_some (cond-false (on_live false (λ y. nat_eq y.group g) (s.tasks t)) (option_map (λ (w : Blame). (t, w)) why) None out)) ∙ h))
 
-module _ (model : Rules) (s : State) (sound : IsSound s) (on : CheckKind) (lines : ℕ → List Line) (p : ℕ → Bool) (settled : AreSettled model s lines on p)
-    (waiters : WaitingGroups) (stand : AreStanding waiters) (at g : ℕ) (there : has waiters.groups g ≡ true) (same : lines_in waiters.reasons g ≡ lines g) (behind : IsTrue (is_behind s g))
+module _ (model : Rules) (s : State) (sound : IsSound s) (on : CheckKind) (lines : ℕ → List Line) (p : ℕ → Bool) (unchanged : AreUnchanged model s lines on p)
+    (waiters : WaitingGroups) (stand : AreStanding waiters) (at g : ℕ) (there : has waiters.groups g ≡ true) (same : lines_in waiters.reasons g ≡ lines g) (behind : IsTrue (waits_in s g))
     (blamed : ℕ × Blame) (first : first_refused s g (verdicts_of model on s) ≡ Some blamed) where
   abbrev asked : Verdict → Bool
   asked v = is_asked s p v.task.0
@@ -113,20 +114,20 @@ module _ (model : Rules) (s : State) (sound : IsSound s) (on : CheckKind) (lines
       false≢true (sym out ∙ (sym (asked_as j.number j.task (model.blame on (view_of j.number j.task) s.aim) j.live both.1) ∙ both.0)))
 
   -- and it is settled
-  is_settled : p g ≡ false → IsSettled model on s (lines_in waiters.reasons g) g
+  is_settled : p g ≡ false → IsUnchanged model on s (lines_in waiters.reasons g) g
   is_settled out =
       let w = some_live-is s.bounds s.tasks (λ u y. nat_eq y.group g && not (nat_eq y.level s.target)) behind in
       let both = and_parts (nat_eq w.life.group g) (not (nat_eq w.life.level s.target)) w.passed in
       let mine : w.life.group ≡ g = eqb-true w.life.group g both.0 in
       let off : nat_eq w.life.level s.target ≡ false = not-true (nat_eq w.life.level s.target) both.1 in
-      subst (λ ls. IsSettled model on s ls g) (sym same)
-      (subst (λ k. IsSettled model on s (lines k) k) mine (settled w.task w.life w.live off (ap p mine ∙ out)))
+      subst (λ ls. IsUnchanged model on s ls g) (sym same)
+      (subst (λ k. IsUnchanged model on s (lines k) k) mine (unchanged w.task w.life w.live off (ap p mine ∙ out)))
 
   left : p g ≡ false → after_verdict s at (first_refused s g (filter asked all)) waiters.reasons g ≡ after_refusal (has_frame_in s) g at blamed (lines_in waiters.reasons g)
   left out =
       let is = is_settled out in
       ap (λ o. after_verdict s at o waiters.reasons g) (first_left s g asked all (none_asked out))
-      ∙ (lines_again (has_frame_in s) is.member is.why waiters.reasons.lists waiters.reasons.scans (group_id g) (head_of waiters.reasons g) (stand g there) at is.goes_on
+      ∙ (lines_again (has_frame_in s) is.member is.why waiters.reasons.lists waiters.reasons.scans (group_id g) (head_of waiters.reasons g) (stand g there) at is.continues
       ∙ sym (blamed_alike model s sound on g (lines_in waiters.reasons g) is at blamed (sym (verdicts_tell model s sound on g behind) ∙ first)))
 
   -- the lines of the group are those after a scan of all

@@ -21,24 +21,25 @@ use Rattle.lp_transition.specs.Leg.{Standing, State, Leg, some_live}
 use Rattle.lp_transition.specs.Run.{and_then}
 use Rattle.lp_transition.specs.Sound.{IsSound}
 use Rattle.lp_transition.specs.Scan.{verdicts_among, verdicts_of}
-use Rattle.lp_transition.specs.ScanSteps.{goes_by, groups_of}
-use Rattle.lp_transition.specs.Machine.{is_behind, goes_over, affected, next, told, state_of, refusal_of, calling, returning, put_in}
+use Rattle.lp_transition.specs.inside.ScanSteps.{switches_by, groups_of}
+use Rattle.lp_transition.specs.Machine.{waits_in, switches_at, affected, next, told, state_of, refusal_of, calling, returning, put_in}
 use Rattle.lp_transition.specs.Table.{Engine, slot, fate_at, state_in}
-use Rattle.lp_transition.specs.Weigh.{Weighed, IsWeighed, is_fork, refused_by}
+use Rattle.lp_transition.specs.Weigh.{Weighed, IsWeighed, is_fork, refusal_in}
 use Rattle.lp_stack.specs.declared.view.Mode.TheVariants.{User, Kernel, Asleep}
 use Rattle.lp_transition.proofs.Accept.{fork-live, fork-new, fork-positive, fork-within, die-live}
 use Rattle.lp_transition.proofs.EngineLemmas.{and-false, answer-accepted, next-accepted, next-refused}
-use Rattle.lp_transition.proofs.ScanAnswers.{goes-walk, goes-stop}
+use Rattle.lp_transition.proofs.ScanAnswers.{switches-walk, switches-stop}
 use Rattle.lp_transition.proofs.Steps.{plain_refusal, refusal_is}
 use Rattle.lp_transition.proofs.TableLemmas.{live_from_slot, slot_from_live}
 use Rattle.lp_transition.proofs.Weighing.{refused-as}
 use Rattle.lp_cert.specs.declared.line.Line.{Line}
-use Rattle.lp_cert.specs.Made.{lines, birth_line, after_refusal}
-use Rattle.lp_cert.specs.Steps.{lines_after_fork}
-use Rattle.lp_cert.specs.Noting.{advanced_lines, noted_by, noted_lines}
-use Rattle.lp_cert.specs.Settling.{Settling, AreSettledBy, AreSettledSince, AreThoseOf, Suffices, used_kind, used_scan}
-use Rattle.lp_cert.specs.Steps.{has_frame_in, first_refused}
-use Rattle.lp_cert.specs.Waiters.{WaitingGroups, AreStanding, own_lines, after_scan, after_scan_of, after_switch, after_verdict, after_fork, after_death, is_lone, lines_at, lines_in, scanned_lines}
+use Rattle.lp_cert.specs.Certificates.{lines, birth_line, after_refusal}
+use Rattle.lp_cert.specs.EventLines.{lines_after_fork}
+use Rattle.lp_cert.specs.inside.StepLines.{stepped_lines, noted_by, noted_lines}
+use Rattle.lp_cert.specs.LastScan.{LastScan, AreUnchangedBy, AreUnchangedSince, AreThoseOf, Suffices, used_kind, used_scan}
+use Rattle.lp_cert.specs.EventLines.{has_frame_in, first_refused}
+use Rattle.lp_cert.specs.Waiters.{WaitingGroups}
+use Rattle.lp_cert.specs.inside.Waiters.{AreStanding, own_lines, after_scan, after_scan_of, after_switch, after_verdict, after_fork, after_death, is_lone, lines_at, lines_in, scanned_lines}
 use Rattle.lp_cert.proofs.NextLines.{lines_at_fork}
 use Rattle.lp_cert.proofs.OtherEvents.{lines_at_refused, lines_at_others}
 use Rattle.lp_cert.proofs.Behind.{and_true, behind_after, none_refused, told_over, same_own, others, changed_own, scan_own}
@@ -52,7 +53,7 @@ all_for model s Stop = verdicts_of model kind.Stop s
 all_for model s _ = []
 
 module _ (model : Rules) (lawful : IsLawful model) (e : Engine) (sound : IsSound (state_in e)) (leg : Leg) (leg_sound : IsSound leg.opening) (there : state_in e ≡ state_of model leg)
-    (waiters : WaitingGroups) (is : (g : ℕ) → g < 65536 → lines_at waiters g ≡ (if is_behind (state_in e) g then Some (lines model leg (length leg.events) g) else None)) where
+    (waiters : WaitingGroups) (is : (g : ℕ) → g < 65536 → lines_at waiters g ≡ (if waits_in (state_in e) g then Some (lines model leg (length leg.events) g) else None)) where
   abbrev s : State
   s = state_in e
 
@@ -70,7 +71,7 @@ module _ (model : Rules) (lawful : IsLawful model) (e : Engine) (sound : IsSound
 
   -- the lines that a group has after the event's own effect, if it waits then
   abbrev IsOwn : Event → ℕ → Option (List Line) → Type 0
-  IsOwn event g new = new ≡ (if is_behind (affected model s event) g then Some (lines model (and_then leg event) (suc n) g) else None)
+  IsOwn event g new = new ≡ (if waits_in (affected model s event) g then Some (lines model (and_then leg event) (suc n) g) else None)
 
   fork_own : (p c : TaskId) (how : ForkKind) (vs : List Verdict) (g : ℕ) → g < 65536 → IsFew (Fork p c how) → refusal_of model s (Fork p c how) ≡ None → IsOwn (Fork p c how) g (own_lines model e (Fork p c how) vs old g)
   fork_own p c how vs g below few ok =
@@ -96,11 +97,11 @@ module _ (model : Rules) (lawful : IsLawful model) (e : Engine) (sound : IsSound
       ∙ die_lines model s sound t x dying g (lines model leg n) (lines model (and_then leg (Die t)) (suc n)) old (is g below) (others model lawful e sound leg leg_sound there g (old g) (is g below) (Die t) refl refl)
 
   change_own : (event : Event) (t : ℕ) (f : Standing → Standing) (g : ℕ) → g < 65536 → ((x : Standing) → (f x).level ≡ x.level) → ((x : Standing) → (f x).group ≡ x.group)
-      → is_behind (affected model s event) g ≡ some_live s.bounds (change t f s.tasks) (λ u x. nat_eq x.group g && not (nat_eq x.level s.target))
+      → waits_in (affected model s event) g ≡ some_live s.bounds (change t f s.tasks) (λ u x. nat_eq x.group g && not (nat_eq x.level s.target))
       → is_scan event ≡ false → is_fork event ≡ false → IsOwn event g (old g)
   change_own event t f g below levels groups changed scan fork = changed_own model lawful e sound leg leg_sound there g (old g) (is g below) event t f levels groups changed scan fork
 
-  own_step : (event : Event) (g : ℕ) → g < 65536 → IsFew event → refusal_of model s event ≡ None → is_control event ≡ false → goes_over model (affected model s event) event g ≡ false
+  own_step : (event : Event) (g : ℕ) → g < 65536 → IsFew event → refusal_of model s event ≡ None → is_control event ≡ false → switches_at model (affected model s event) event g ≡ false
       → IsOwn event g (own_lines model e event (all_for model s event) old g)
   own_step (Call t f) g below few ok plain stays = change_own (Call t f) t.0 (calling (suc e.number) f) g below (λ x. refl) (λ x. refl) refl refl refl
   own_step (Ret t) g below few ok plain stays = change_own (Ret t) t.0 returning g below (λ x. refl) (λ x. refl) refl refl refl
@@ -113,9 +114,9 @@ module _ (model : Rules) (lawful : IsLawful model) (e : Engine) (sound : IsSound
   own_step (Fork p c how) g below few ok plain stays = fork_own p c how [] g below few ok
   own_step (Die t) g below few ok plain stays = die_own t [] g below ok
   own_step Walk g below few ok plain stays =
-      scan_own model lawful e sound leg leg_sound there g (old g) (is g below) kind.Walk refl stays (goes-walk model lawful 65536 s refl sound e.table (λ t x live. slot_from_live e.table t x live) g) refl (model.uses kind.Walk) refl
+      scan_own model lawful e sound leg leg_sound there g (old g) (is g below) kind.Walk refl stays (switches-walk model lawful 65536 s refl sound e.table (λ t x live. slot_from_live e.table t x live) g) refl (model.uses kind.Walk) refl
   own_step Stop g below few ok plain stays =
-      scan_own model lawful e sound leg leg_sound there g (old g) (is g below) kind.Stop refl stays (goes-stop model lawful 65536 s refl sound e.table (λ t x live. slot_from_live e.table t x live) g) refl (model.uses kind.Stop) refl
+      scan_own model lawful e sound leg leg_sound there g (old g) (is g below) kind.Stop refl stays (switches-stop model lawful 65536 s refl sound e.table (λ t x live. slot_from_live e.table t x live) g) refl (model.uses kind.Stop) refl
   own_step Enable g below few ok plain stays = absurd (false≢true (sym plain))
   own_step Disable g below few ok plain stays = absurd (false≢true (sym plain))
   own_step Reverse g below few ok plain stays = absurd (false≢true (sym plain))
@@ -201,48 +202,48 @@ module _ (model : Rules) (lawful : IsLawful model) (e : Engine) (sound : IsSound
       by false unused = cond-false (model.uses kind.Stop) _ (old g) unused ∙ sym (cond-false (model.uses kind.Stop) _ (old g) unused)
       by true used = absurd (some_none kind.Stop (sym (cond-true (model.uses kind.Stop) (Some kind.Stop) None used) ∙ none))
 
-  module _ (settling : Settling) (calm : AreSettledBy model s (lines model leg n) settling) (on : CheckKind) (vs : List Verdict) (told : AreThoseOf model s (Some on) vs settling) (stand : AreStanding waiters)
-      (g : ℕ) (below : g < 65536) (not_over : goes_by e.table (verdicts_of model on s) g ≡ false) where
-    since : (o : Option CheckKind) → settling.kind ≡ o → AreSettledSince model s (lines model leg n) o (has settling.unsettled)
-    since o e2 = subst (λ (k : Option CheckKind). AreSettledSince model s (lines model leg n) k (has settling.unsettled)) e2 calm
+  module _ (last_scan : LastScan) (calm : AreUnchangedBy model s (lines model leg n) last_scan) (on : CheckKind) (vs : List Verdict) (told : AreThoseOf model s (Some on) vs last_scan) (stand : AreStanding waiters)
+      (g : ℕ) (below : g < 65536) (not_over : switches_by e.table (verdicts_of model on s) g ≡ false) where
+    since : (o : Option CheckKind) → last_scan.kind ≡ o → AreUnchangedSince model s (lines model leg n) o (has last_scan.changed_since)
+    since o e2 = subst (λ (k : Option CheckKind). AreUnchangedSince model s (lines model leg n) k (has last_scan.changed_since)) e2 calm
 
     -- the group is refused
-    refused_case : has waiters.groups g ≡ true → is_behind s g ≡ true → lines_in waiters.reasons g ≡ lines model leg n g → (blamed : ℕ × Blame) → first_refused s g (verdicts_of model on s) ≡ Some blamed
+    refused_case : has waiters.groups g ≡ true → waits_in s g ≡ true → lines_in waiters.reasons g ≡ lines model leg n g → (blamed : ℕ × Blame) → first_refused s g (verdicts_of model on s) ≡ Some blamed
         → after_verdict s (suc e.number) (first_refused s g vs) waiters.reasons g ≡ after_refusal (has_frame_in s) g (suc e.number) blamed (lines_in waiters.reasons g)
     refused_case there behind same blamed first =
         ⊎_elim
         (λ (all : vs ≡ verdicts_of model on s). ap (λ o. after_verdict s (suc e.number) o waiters.reasons g) (ap (first_refused s g) all ∙ first))
-        (λ (some : (settling.kind ≡ Some on) × (vs ≡ verdicts_among model on s (has settling.unsettled))).
+        (λ (some : (last_scan.kind ≡ Some on) × (vs ≡ verdicts_among model on s (has last_scan.changed_since))).
         ap (λ ws. after_verdict s (suc e.number) (first_refused s g ws) waiters.reasons g) some.1
-        ∙ scan_told model s sound on (lines model leg n) (has settling.unsettled) (since (Some on) some.0) waiters stand (suc e.number) g there same behind blamed first)
+        ∙ scan_told model s sound on (lines model leg n) (has last_scan.changed_since) (since (Some on) some.0) waiters stand (suc e.number) g there same behind blamed first)
         told
 
     scan_noted : scanned_lines s (suc e.number) vs waiters g ≡ after_scan (has_frame_in s) g (suc e.number) (first_refused s g (verdicts_of model on s)) (old g)
-    scan_noted = by (has waiters.groups g) refl (is_behind s g) refl (first_refused s g (verdicts_of model on s)) refl
+    scan_noted = by (has waiters.groups g) refl (waits_in s g) refl (first_refused s g (verdicts_of model on s)) refl
       where
         nothing : (o : Option (ℕ × Blame)) → after_scan (has_frame_in s) g (suc e.number) o None ≡ None
         nothing None = refl
         nothing (Some b) = refl
 
-        by : (w : Bool) → has waiters.groups g ≡ w → (b : Bool) → is_behind s g ≡ b → (o : Option (ℕ × Blame)) → first_refused s g (verdicts_of model on s) ≡ o
+        by : (w : Bool) → has waiters.groups g ≡ w → (b : Bool) → waits_in s g ≡ b → (o : Option (ℕ × Blame)) → first_refused s g (verdicts_of model on s) ≡ o
             → scanned_lines s (suc e.number) vs waiters g ≡ after_scan (has_frame_in s) g (suc e.number) (first_refused s g (verdicts_of model on s)) (old g)
         by false out b behind o first =
             cond-false (has waiters.groups g) _ None out
             ∙ (sym (nothing (first_refused s g (verdicts_of model on s)))
             ∙ ap (after_scan (has_frame_in s) g (suc e.number) (first_refused s g (verdicts_of model on s))) (sym (cond-false (has waiters.groups g) (Some (lines_in waiters.reasons g)) None out)))
         by true there false behind o first =
-            absurd (some_none (lines_in waiters.reasons g) (sym (cond-true (has waiters.groups g) (Some (lines_in waiters.reasons g)) None there) ∙ (is g below ∙ cond-false (is_behind s g) _ None behind)))
+            absurd (some_none (lines_in waiters.reasons g) (sym (cond-true (has waiters.groups g) (Some (lines_in waiters.reasons g)) None there) ∙ (is g below ∙ cond-false (waits_in s g) _ None behind)))
         by true there true behind None first = absurd (false≢true (sym not_over ∙ none_refused model lawful e sound on g behind first))
         by true there true behind (Some blamed) first =
-            let held : Some (lines_in waiters.reasons g) ≡ Some (lines model leg n g) = sym (cond-true (has waiters.groups g) (Some (lines_in waiters.reasons g)) None there) ∙ (is g below ∙ cond-true (is_behind s g) _ None behind) in
+            let frame_stands : Some (lines_in waiters.reasons g) ≡ Some (lines model leg n g) = sym (cond-true (has waiters.groups g) (Some (lines_in waiters.reasons g)) None there) ∙ (is g below ∙ cond-true (waits_in s g) _ None behind) in
             let same : lines_in waiters.reasons g ≡ lines model leg n g = cc in
             cond-true (has waiters.groups g) _ None there
             ∙ (ap {A = List Line} {B = Option (List Line)} Some (refused_case there behind same blamed first)
             ∙ ap₂ (after_scan (has_frame_in s) g (suc e.number)) (sym first) (sym (cond-true (has waiters.groups g) (Some (lines_in waiters.reasons g)) None there)))
 
   -- the lines that a scan leaves by what it found of those that it looked at are those that it leaves by what it finds of all
-  module _ (settling : Settling) (calm : AreSettledBy model s (lines model leg n) settling) (g : ℕ) (below : g < 65536) where
-    noted_scan : (on : CheckKind) (vs : List Verdict) → AreThoseOf model s (used_kind model on) vs settling → (IsSome (used_kind model on) → AreStanding waiters) → goes_by e.table (verdicts_of model on s) g ≡ false → (event : Event)
+  module _ (last_scan : LastScan) (calm : AreUnchangedBy model s (lines model leg n) last_scan) (g : ℕ) (below : g < 65536) where
+    noted_scan : (on : CheckKind) (vs : List Verdict) → AreThoseOf model s (used_kind model on) vs last_scan → (IsSome (used_kind model on) → AreStanding waiters) → switches_by e.table (verdicts_of model on s) g ≡ false → (event : Event)
         → ((ws : List Verdict) → own_lines model e event ws old g ≡ after_scan_of model s on ws old g) → used_scan model event ≡ used_kind model on
         → noted_by model e (used_kind model on) event vs waiters g ≡ own_lines model e event (verdicts_of model on s) old g
     noted_scan on vs told stand not_over event own is_used = by (model.uses on) refl
@@ -251,18 +252,18 @@ module _ (model : Rules) (lawful : IsLawful model) (e : Engine) (sound : IsSound
         by true used =
             let kind_is : used_kind model on ≡ Some on = cond-true (model.uses on) (Some on) None used in
             ap (λ o. noted_by model e o event vs waiters g) kind_is
-            ∙ (scan_noted settling calm on vs (subst (λ (o : Option CheckKind). AreThoseOf model s o vs settling) kind_is told) (stand (subst IsSome (sym kind_is) refl)) g below not_over
+            ∙ (scan_noted last_scan calm on vs (subst (λ (o : Option CheckKind). AreThoseOf model s o vs last_scan) kind_is told) (stand (subst IsSome (sym kind_is) refl)) g below not_over
             ∙ (sym (cond-true (model.uses on) (after_scan (has_frame_in s) g (suc e.number) (first_refused s g (verdicts_of model on s)) (old g)) (old g) used) ∙ sym (own (verdicts_of model on s))))
         by false unused =
             let kind_is : used_kind model on ≡ None = cond-false (model.uses on) (Some on) None unused in
             ap (λ o. noted_by model e o event vs waiters g) kind_is ∙ own_any event vs (verdicts_of model on s) g (is_used ∙ kind_is)
 
-    noted_is : (event : Event) (vs : List Verdict) → AreThoseOf model s (used_scan model event) vs settling → (IsSome (used_scan model event) → AreStanding waiters) → goes_over model (affected model s event) event g ≡ false
+    noted_is : (event : Event) (vs : List Verdict) → AreThoseOf model s (used_scan model event) vs last_scan → (IsSome (used_scan model event) → AreStanding waiters) → switches_at model (affected model s event) event g ≡ false
         → noted_lines model e event vs waiters g ≡ own_lines model e event (all_for model s event) old g
     noted_is Walk vs told stand stays =
-        noted_scan kind.Walk vs told stand (sym (goes-walk model lawful 65536 s refl sound e.table (λ t x live. slot_from_live e.table t x live) g) ∙ stays) Walk (λ ws. refl) refl
+        noted_scan kind.Walk vs told stand (sym (switches-walk model lawful 65536 s refl sound e.table (λ t x live. slot_from_live e.table t x live) g) ∙ stays) Walk (λ ws. refl) refl
     noted_is Stop vs told stand stays =
-        noted_scan kind.Stop vs told stand (sym (goes-stop model lawful 65536 s refl sound e.table (λ t x live. slot_from_live e.table t x live) g) ∙ stays) Stop (λ ws. refl) refl
+        noted_scan kind.Stop vs told stand (sym (switches-stop model lawful 65536 s refl sound e.table (λ t x live. slot_from_live e.table t x live) g) ∙ stays) Stop (λ ws. refl) refl
     noted_is (Call t f) vs told stand stays = refl
     noted_is (Ret t) vs told stand stays = refl
     noted_is (Sleep t) vs told stand stays = refl
@@ -277,11 +278,11 @@ module _ (model : Rules) (lawful : IsLawful model) (e : Engine) (sound : IsSound
     noted_is Reverse vs told stand stays = refl
 
   -- the lines that a group has after the event, if it waits then
-  pub step_lines : (step : Weighed) → IsWeighed model e step → (settling : Settling) → AreSettledBy model s (lines model leg n) settling → Suffices model s step settling
-      → (IsSome (used_scan model step.event) → refused_by step.reply.what ≡ None → AreStanding waiters)
+  pub step_lines : (step : Weighed) → IsWeighed model e step → (last_scan : LastScan) → AreUnchangedBy model s (lines model leg n) last_scan → Suffices model s step last_scan
+      → (IsSome (used_scan model step.event) → refusal_in step.reply.what ≡ None → AreStanding waiters)
       → (refusal_of model s step.event ≡ None → is_control step.event ≡ false) → (refusal_of model s step.event ≡ None → IsFew step.event) → (g : ℕ) → g < 65536
-      → advanced_lines model e step waiters g ≡ (if is_behind (next model s step.event) g then Some (lines model (and_then leg step.event) (suc n) g) else None)
-  step_lines step weighed settling calm enough stand plain few g below = by (refusal_of model s step.event) refl
+      → stepped_lines model e step waiters g ≡ (if waits_in (next model s step.event) g then Some (lines model (and_then leg step.event) (suc n) g) else None)
+  step_lines step weighed last_scan calm enough stand plain few g below = by (refusal_of model s step.event) refl
     where
       event : Event
       event = step.event
@@ -289,27 +290,27 @@ module _ (model : Rules) (lawful : IsLawful model) (e : Engine) (sound : IsSound
       new : ℕ → List Line
       new k = lines model (and_then leg event) (suc n) k
 
-      refused_is : refused_by step.reply.what ≡ refusal_of model s event
-      refused_is = ap (λ (r : Reply). refused_by r.what) weighed.reply ∙ refused-as model s event
+      refused_is : refusal_in step.reply.what ≡ refusal_of model s event
+      refused_is = ap (λ (r : Reply). refusal_in r.what) weighed.reply ∙ refused-as model s event
 
-      gone : (ok : refusal_of model s event ≡ None) → (b : Bool) → goes_over model (affected model s event) event g ≡ b → list_any (nat_eq g) (groups_of step.reply.what) ≡ b
-          → after_switch (groups_of step.reply.what) (noted_lines model e event step.verdicts waiters) g ≡ (if is_behind (next model s event) g then Some (new g) else None)
+      gone : (ok : refusal_of model s event ≡ None) → (b : Bool) → switches_at model (affected model s event) event g ≡ b → list_any (nat_eq g) (groups_of step.reply.what) ≡ b
+          → after_switch (groups_of step.reply.what) (noted_lines model e event step.verdicts waiters) g ≡ (if waits_in (next model s event) g then Some (new g) else None)
       gone ok true goes told =
           cond-true (list_any (nat_eq g) (groups_of step.reply.what)) None (noted_lines model e event step.verdicts waiters g) told
-          ∙ sym (cond-false (is_behind (next model s event) g) (Some (new g)) None (ap (λ (st : State). is_behind st g) (next-accepted model s event ok (plain ok)) ∙ (behind_after model s event g ∙ (ap (λ b. is_behind (affected model s event) g && not b) goes ∙ and-false (is_behind (affected model s event) g)))))
+          ∙ sym (cond-false (waits_in (next model s event) g) (Some (new g)) None (ap (λ (st : State). waits_in st g) (next-accepted model s event ok (plain ok)) ∙ (behind_after model s event g ∙ (ap (λ b. waits_in (affected model s event) g && not b) goes ∙ and-false (waits_in (affected model s event) g)))))
       gone ok false goes told =
           cond-false (list_any (nat_eq g) (groups_of step.reply.what)) None (noted_lines model e event step.verdicts waiters g) told
-          ∙ (noted_is settling calm g below event step.verdicts enough (λ used. stand used (refused_is ∙ ok)) goes
+          ∙ (noted_is last_scan calm g below event step.verdicts enough (λ used. stand used (refused_is ∙ ok)) goes
           ∙ (own_step event g below (few ok) ok (plain ok) goes
-          ∙ ap (λ b. if b then Some (new g) else None) (sym (ap (λ (st : State). is_behind st g) (next-accepted model s event ok (plain ok)) ∙ (behind_after model s event g ∙ (ap (λ b. is_behind (affected model s event) g && not b) goes ∙ and_true (is_behind (affected model s event) g)))))))
+          ∙ ap (λ b. if b then Some (new g) else None) (sym (ap (λ (st : State). waits_in st g) (next-accepted model s event ok (plain ok)) ∙ (behind_after model s event g ∙ (ap (λ b. waits_in (affected model s event) g && not b) goes ∙ and_true (waits_in (affected model s event) g)))))))
 
-      by : (why : Option Refusal) → refusal_of model s event ≡ why → advanced_lines model e step waiters g ≡ (if is_behind (next model s event) g then Some (new g) else None)
+      by : (why : Option Refusal) → refusal_of model s event ≡ why → stepped_lines model e step waiters g ≡ (if waits_in (next model s event) g then Some (new g) else None)
       by (Some why) turned_down =
-          cond-false (is_none (refused_by step.reply.what)) (after_switch (groups_of step.reply.what) (noted_lines model e event step.verdicts waiters) g) (old g) (ap is_none (refused_is ∙ turned_down))
-          ∙ (is g below ∙ ap₂ (λ (b : Bool) (ls : List Line). if b then Some ls else None) (sym (ap (λ (st : State). is_behind st g) (next-refused model s event why turned_down))) (sym (refused_same event g why turned_down)))
+          cond-false (is_none (refusal_in step.reply.what)) (after_switch (groups_of step.reply.what) (noted_lines model e event step.verdicts waiters) g) (old g) (ap is_none (refused_is ∙ turned_down))
+          ∙ (is g below ∙ ap₂ (λ (b : Bool) (ls : List Line). if b then Some ls else None) (sym (ap (λ (st : State). waits_in st g) (next-refused model s event why turned_down))) (sym (refused_same event g why turned_down)))
       by None ok =
           let what : step.reply.what ≡ told model s event =
           ap (λ (r : Reply). r.what) (weighed.reply ∙ answer-accepted model s event ok)
           ∙ ap (λ (r : Reply). r.what) (cond-false (is_control event) _ _ (plain ok)) in
-          cond-true (is_none (refused_by step.reply.what)) (after_switch (groups_of step.reply.what) (noted_lines model e event step.verdicts waiters) g) (old g) (ap is_none (refused_is ∙ ok))
-          ∙ gone ok (goes_over model (affected model s event) event g) refl (ap (λ (w : What). list_any (nat_eq g) (groups_of w)) what ∙ told_over model s event g below refl (plain ok))
+          cond-true (is_none (refusal_in step.reply.what)) (after_switch (groups_of step.reply.what) (noted_lines model e event step.verdicts waiters) g) (old g) (ap is_none (refused_is ∙ ok))
+          ∙ gone ok (switches_at model (affected model s event) event g) refl (ap (λ (w : What). list_any (nat_eq g) (groups_of w)) what ∙ told_over model s event g below refl (plain ok))

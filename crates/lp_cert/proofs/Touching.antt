@@ -10,20 +10,23 @@ use Rattle.lp_transition.specs.Tasks.{Live}
 use Rattle.lp_transition.specs.Leg.{Standing, State, Leg}
 use Rattle.lp_transition.specs.Run.{and_then, opens}
 use Rattle.lp_transition.specs.Sound.{IsSound}
-use Rattle.lp_transition.specs.Machine.{is_behind, state_of}
+use Rattle.lp_transition.specs.Machine.{waits_in, state_of}
 use Rattle.lp_transition.specs.Table.{Engine, slot, state_in}
 use Rattle.lp_transition.proofs.Quantifiers.{some_live-from}
 use Rattle.lp_transition.proofs.States.{state_sound}
 use Rattle.lp_transition.proofs.TableLemmas.{slot_from_live}
 use Rattle.lp_cert.specs.declared.ongoing.Ongoing.{Ongoing}
 use Rattle.lp_cert.specs.declared.ongoing.Ongoing.TheVariants.{Nothing, Hold, Busy}
-use Rattle.lp_cert.specs.Made.{lines, group_id}
-use Rattle.lp_cert.specs.Settled.{GoesOn, IsSettled, AreSettled, touched, is_childs}
-use Rattle.lp_cert.specs.Settling.{Settling, AreSettledBy, AreSettledSince, IsTouched, disturbs, is_named_task, names, names_member}
-use Rattle.lp_cert.specs.Steps.{has_frame_in}
-use Rattle.lp_cert.specs.Waiters.{WaitingGroups, LegReasons, AreStanding, head_of, lines_at, lines_in}
-use Rattle.lp_cert.proofs.Settling.{OngoingGoesOn, head_ongoing}
-use Rattle.lp_cert.proofs.SettlingEvents.{IsNoUsedScan, AreLeftAlone, lines_same, settled_by}
+use Rattle.lp_cert.specs.Certificates.{lines, group_id}
+use Rattle.lp_cert.specs.Unchanged.{Continues, IsUnchanged, AreUnchanged}
+use Rattle.lp_cert.specs.inside.Touched.{touched, is_childs}
+use Rattle.lp_cert.specs.LastScan.{LastScan, AreUnchangedBy, AreUnchangedSince}
+use Rattle.lp_cert.specs.inside.LastScan.{IsTouched, disturbs, is_named_task, names, names_member}
+use Rattle.lp_cert.specs.EventLines.{has_frame_in}
+use Rattle.lp_cert.specs.Waiters.{WaitingGroups, LegReasons, head_of}
+use Rattle.lp_cert.specs.inside.Waiters.{AreStanding, lines_at, lines_in}
+use Rattle.lp_cert.proofs.UnchangedLines.{OngoingGoesOn, head_ongoing}
+use Rattle.lp_cert.proofs.UnchangedEvents.{IsNoUsedScan, AreLeftAlone, lines_same, unchanged_by}
 
 -- ---- What a reason names
 
@@ -43,7 +46,7 @@ some_none a e = absurd (cc)
 -- ---- A group that waits has its lines
 
 module _ (model : Rules) (lawful : IsLawful model) (leg : Leg) (leg_sound : IsSound leg.opening) (later : WaitingGroups) (n : ℕ)
-    (told : (g : ℕ) → g < 65536 → lines_at later g ≡ (if is_behind (state_of model leg) g then Some (lines model leg n g) else None)) where
+    (told : (g : ℕ) → g < 65536 → lines_at later g ≡ (if waits_in (state_of model leg) g then Some (lines model leg n g) else None)) where
   abbrev present : State
   present = state_of model leg
 
@@ -51,13 +54,13 @@ module _ (model : Rules) (lawful : IsLawful model) (leg : Leg) (leg_sound : IsSo
   pub lines_held : (t : ℕ) (x : Standing) → present.tasks t ≡ Live x → nat_eq x.level present.target ≡ false → x.group < 65536 → (has later.groups x.group ≡ true) × (lines model leg n x.group ≡ lines_in later.reasons x.group)
   lines_held t x live off few =
       let bounds = (state_sound model lawful leg leg_sound).numbered t x live in
-      let behind : is_behind present x.group ≡ true =
+      let behind : waits_in present x.group ≡ true =
       some_live-from present.bounds present.tasks (λ u y. nat_eq y.group x.group && not (nat_eq y.level present.target))
       (record { task = t; life = x; positive = bounds.0; within = bounds.1; live = live; passed = ap₂ (λ c d. c && not d) (eq-eqb x.group x.group refl) off }) in
-      held x.group (told x.group few ∙ cond-true (is_behind present x.group) (Some (lines model leg n x.group)) None behind)
+      frame_stands x.group (told x.group few ∙ cond-true (waits_in present x.group) (Some (lines model leg n x.group)) None behind)
     where
-      held : (g : ℕ) → lines_at later g ≡ Some (lines model leg n g) → (has later.groups g ≡ true) × (lines model leg n g ≡ lines_in later.reasons g)
-      held g h = by (has later.groups g) refl
+      frame_stands : (g : ℕ) → lines_at later g ≡ Some (lines model leg n g) → (has later.groups g ≡ true) × (lines model leg n g ≡ lines_in later.reasons g)
+      frame_stands g h = by (has later.groups g) refl
         where
           by : (b : Bool) → has later.groups g ≡ b → (has later.groups g ≡ true) × (lines model leg n g ≡ lines_in later.reasons g)
           by true f = let same : Some (lines_in later.reasons g) ≡ Some (lines model leg n g) = sym (cond-true (has later.groups g) (Some (lines_in later.reasons g)) None f) ∙ h in (f, cc)
@@ -66,9 +69,9 @@ module _ (model : Rules) (lawful : IsLawful model) (leg : Leg) (leg_sound : IsSo
 -- ---- The event
 
 module _ (model : Rules) (lawful : IsLawful model) (e : Engine) (leg : Leg) (leg_sound : IsSound leg.opening) (there : state_in e ≡ state_of model leg) (event : Event) (stays : opens model leg event ≡ false) (calm : IsNoUsedScan model event)
-    (old new : Settling) (later : WaitingGroups) (is_touched : IsTouched e later.reasons event old new) (stand : AreStanding later)
-    (after_lines : (g : ℕ) → g < 65536 → lines_at later g ≡ (if is_behind (state_of model (and_then leg event)) g then Some (lines model (and_then leg event) (suc (length leg.events)) g) else None))
-    (was : AreSettledBy model (state_of model leg) (lines model leg (length leg.events)) old) where
+    (old new : LastScan) (later : WaitingGroups) (is_touched : IsTouched e later.reasons event old new) (stand : AreStanding later)
+    (after_lines : (g : ℕ) → g < 65536 → lines_at later g ≡ (if waits_in (state_of model (and_then leg event)) g then Some (lines model (and_then leg event) (suc (length leg.events)) g) else None))
+    (was : AreUnchangedBy model (state_of model leg) (lines model leg (length leg.events)) old) where
   abbrev s : State
   s = state_of model leg
 
@@ -79,41 +82,41 @@ module _ (model : Rules) (lawful : IsLawful model) (e : Engine) (leg : Leg) (leg
   longer = and_then leg event
 
   -- the event doesn't touch the member that the newest line of a settled group names
-  module _ (t : ℕ) (x : Standing) (live : (state_of model longer).tasks t ≡ Live x) (off : nat_eq x.level (state_of model longer).target ≡ false) (on : CheckKind) (settled : IsSettled model on s (lines model leg n x.group) x.group) where
-    stands_there : slot e.table settled.member ≡ Some settled.life
-    stands_there = slot_from_live e.table settled.member settled.life (ap (λ (st : State). st.tasks settled.member) there ∙ settled.live)
+  module _ (t : ℕ) (x : Standing) (live : (state_of model longer).tasks t ≡ Live x) (off : nat_eq x.level (state_of model longer).target ≡ false) (on : CheckKind) (unchanged : IsUnchanged model on s (lines model leg n x.group) x.group) where
+    stands_there : slot e.table unchanged.member ≡ Some unchanged.life
+    stands_there = slot_from_live e.table unchanged.member unchanged.life (ap (λ (st : State). st.tasks unchanged.member) there ∙ unchanged.live)
 
-    goes_on : x.group < 65536 → OngoingGoesOn (has_frame_in s) settled.member settled.why (head_of later.reasons x.group).ongoing
-    goes_on few =
+    continues : x.group < 65536 → OngoingGoesOn (has_frame_in s) unchanged.member unchanged.why (head_of later.reasons x.group).ongoing
+    continues few =
         let kept = lines_held model lawful longer leg_sound later (suc n) after_lines t x live off few in
-        let same = subst (λ g. lines model longer (suc n) g ≡ lines model leg n g) settled.grouped (lines_same model lawful leg leg_sound event calm settled.member settled.life settled.live) in
-        head_ongoing (has_frame_in s) settled.member settled.why later.reasons.lists later.reasons.scans (group_id x.group) (head_of later.reasons x.group) (stand x.group kept.0)
-        (subst (GoesOn (has_frame_in s) settled.member settled.why) (sym same ∙ kept.1) settled.goes_on)
+        let same = subst (λ g. lines model longer (suc n) g ≡ lines model leg n g) unchanged.grouped (lines_same model lawful leg leg_sound event calm unchanged.member unchanged.life unchanged.live) in
+        head_ongoing (has_frame_in s) unchanged.member unchanged.why later.reasons.lists later.reasons.scans (group_id x.group) (head_of later.reasons x.group) (stand x.group kept.0)
+        (subst (Continues (has_frame_in s) unchanged.member unchanged.why) (sym same ∙ kept.1) unchanged.continues)
 
-    not_touched : is_some old.kind ≡ true → is_named_task e later.reasons (touched event) x.group ≡ false → touched event ≡ Some settled.member → ⊥
+    not_touched : is_some old.kind ≡ true → is_named_task e later.reasons (touched event) x.group ≡ false → touched event ≡ Some unchanged.member → ⊥
     not_touched scanned apart at =
-        let told : names_member later.reasons settled.member x.group (Some settled.life) ≡ false =
-        ap (names_member later.reasons settled.member x.group) (sym stands_there) ∙ (ap (λ o. is_named_task e later.reasons o x.group) (sym at) ∙ apart) in
-        let few : x.group < 65536 = subst (λ g. g < 65536) settled.grouped (is_touched.few scanned settled.member settled.life at stands_there) in
-        false≢true (sym (not_named later.reasons settled.member x.group settled.life settled.grouped told) ∙ names_task (has_frame_in s) settled.member settled.why (head_of later.reasons x.group).ongoing (goes_on few))
+        let told : names_member later.reasons unchanged.member x.group (Some unchanged.life) ≡ false =
+        ap (names_member later.reasons unchanged.member x.group) (sym stands_there) ∙ (ap (λ o. is_named_task e later.reasons o x.group) (sym at) ∙ apart) in
+        let few : x.group < 65536 = subst (λ g. g < 65536) unchanged.grouped (is_touched.few scanned unchanged.member unchanged.life at stands_there) in
+        false≢true (sym (not_named later.reasons unchanged.member x.group unchanged.life unchanged.grouped told) ∙ names_task (has_frame_in s) unchanged.member unchanged.why (head_of later.reasons x.group).ongoing (continues few))
 
-  left_alone : (on : CheckKind) → old.kind ≡ Some on → AreLeftAlone model lawful leg leg_sound event stays (state_of model longer) on (has old.unsettled) (has new.unsettled)
+  left_alone : (on : CheckKind) → old.kind ≡ Some on → AreLeftAlone model lawful leg leg_sound event stays (state_of model longer) on (has old.changed_since) (has new.changed_since)
   left_alone on kind_is t x live off out =
-      let told : (has old.unsettled x.group || disturbs e later.reasons event x.group) ≡ false =
-      ap (λ (o : Option CheckKind). has old.unsettled x.group || (is_some o && disturbs e later.reasons event x.group)) (sym kind_is) ∙ (sym (is_touched.groups x.group) ∙ out) in
-      let parts = or_parts (has old.unsettled x.group) (disturbs e later.reasons event x.group) told in
+      let told : (has old.changed_since x.group || disturbs e later.reasons event x.group) ≡ false =
+      ap (λ (o : Option CheckKind). has old.changed_since x.group || (is_some o && disturbs e later.reasons event x.group)) (sym kind_is) ∙ (sym (is_touched.groups x.group) ∙ out) in
+      let parts = or_parts (has old.changed_since x.group) (disturbs e later.reasons event x.group) told in
       let apart = or_parts (is_named_task e later.reasons (touched event) x.group) (is_childs event x.group) parts.1 in
-      (parts.0, apart.1, λ settled. not_touched t x live off on settled (ap is_some kind_is) apart.0)
+      (parts.0, apart.1, λ unchanged. not_touched t x live off on unchanged (ap is_some kind_is) apart.0)
 
   abbrev IsSettledSince : Option CheckKind → Type 0
-  IsSettledSince o = AreSettledSince model (state_of model longer) (lines model longer (suc n)) o (has new.unsettled)
+  IsSettledSince o = AreUnchangedSince model (state_of model longer) (lines model longer (suc n)) o (has new.changed_since)
 
   -- groups that are settled stay so where the event doesn't disturb them
-  pub touched_settled : AreSettledBy model (state_of model longer) (lines model longer (suc n)) new
+  pub touched_settled : AreUnchangedBy model (state_of model longer) (lines model longer (suc n)) new
   touched_settled = by old.kind refl
     where
-      by : (o : Option CheckKind) → old.kind ≡ o → AreSettledBy model (state_of model longer) (lines model longer (suc n)) new
+      by : (o : Option CheckKind) → old.kind ≡ o → AreUnchangedBy model (state_of model longer) (lines model longer (suc n)) new
       by None k = subst IsSettledSince (sym (is_touched.kind ∙ k)) tt
       by (Some on) k =
-          let before : AreSettled model s (lines model leg n) on (has old.unsettled) = subst (λ (o : Option CheckKind). AreSettledSince model s (lines model leg n) o (has old.unsettled)) k was in
-          subst IsSettledSince (sym (is_touched.kind ∙ k)) (settled_by model lawful leg leg_sound event stays calm on (has old.unsettled) (has new.unsettled) before (left_alone on k))
+          let before : AreUnchanged model s (lines model leg n) on (has old.changed_since) = subst (λ (o : Option CheckKind). AreUnchangedSince model s (lines model leg n) o (has old.changed_since)) k was in
+          subst IsSettledSince (sym (is_touched.kind ∙ k)) (unchanged_by model lawful leg leg_sound event stays calm on (has old.changed_since) (has new.changed_since) before (left_alone on k))

@@ -18,10 +18,12 @@ use Rattle.lp_cert.specs.declared.line.Line.{Line}
 use Rattle.lp_cert.specs.declared.reason.Reason.{Reason}
 use Rattle.lp_cert.specs.declared.head.Head.{Head}
 use Rattle.lp_cert.specs.declared.ongoing.Ongoing.TheVariants.{Nothing}
-use Rattle.lp_cert.specs.Made.{group_id, after_refusal}
-use Rattle.lp_cert.specs.Heads.{ongoing_reasons, head_lines, lines_of, FitsIn, IsUnchecked, IsHead, Keeps, HasFrameAs, IsRefusedBy}
-use Rattle.lp_cert.specs.Steps.{has_frame_in, member_verdict, first_refused}
-use Rattle.lp_cert.specs.Waiters.{LegReasons, head_of, lines_in, StandsAt, IsRefusedOnce, IsJudged, AreJudged, lines_at, after_verdict, scanned_lines}
+use Rattle.lp_cert.specs.Certificates.{group_id, after_refusal}
+use Rattle.lp_cert.specs.Heads.{ongoing_reasons, head_lines, lines_of}
+use Rattle.lp_cert.specs.inside.Heads.{FitsIn, IsUnchecked, IsHead, Keeps, HasFrameAs, IsRefusedBy}
+use Rattle.lp_cert.specs.EventLines.{has_frame_in, member_verdict, first_refused}
+use Rattle.lp_cert.specs.Waiters.{LegReasons, head_of}
+use Rattle.lp_cert.specs.inside.Waiters.{lines_in, StandsAt, IsRefusedOnce, IsJudged, AreJudged, lines_at, after_verdict, scanned_lines}
 use Rattle.lp_cert.proofs.HeadLemmas.{head_further}
 
 -- ---- Lists that stay
@@ -38,7 +40,7 @@ head_kept old new scans h kept is =
     record {
       known = omega (arith, is.known, kept.no_less);
       fits = subst (AllByRecursion (FitsIn scans)) (sym e) is.fits;
-      goes_on = is.goes_on;
+      continues = is.continues;
       unchecked = λ (o : h.ongoing ≡ Nothing). subst IsUnchecked (sym e) (is.unchecked o);
     }
 
@@ -84,12 +86,12 @@ module _ (s : State) (verdict : Verdict) (why : Blame) (group : GroupId) (mine :
 
 -- ---- One verdict
 
-module _ (s : State) (at : ℕ) (verdict : Verdict) (why : Blame) (group : GroupId) (held : Bool) (groups left : Numbers) (old new : LegReasons)
+module _ (s : State) (at : ℕ) (verdict : Verdict) (why : Blame) (group : GroupId) (frame_stands : Bool) (groups left : Numbers) (old new : LegReasons)
     (mine : (g : ℕ) → on_live false (λ x. nat_eq x.group g) (s.tasks verdict.task.0) ≡ nat_eq group.0 g)
     (blamed_is : verdict.blame ≡ Some why)
     (waits : has groups group.0 ≡ true)
-    (has_frame : HasFrameAs (has_frame_in s) (head_of old group.0).ongoing held)
-    (after : IsRefusedBy (record { at = at; task = verdict.task; blame = why; held = held }) group old.scans (head_of old group.0) (head_of new group.0) old.lists new.lists)
+    (has_frame : HasFrameAs (has_frame_in s) (head_of old group.0).ongoing frame_stands)
+    (after : IsRefusedBy (record { at = at; task = verdict.task; blame = why; frame_stands = frame_stands }) group old.scans (head_of old group.0) (head_of new group.0) old.lists new.lists)
     (rest : (other : ℕ) → other ≢ group.0 → head_of new other ≡ head_of old other)
     (scans : new.scans ≡ old.scans) (room : old.room ≤ new.room + 1) (scan_room : new.scan_room ≡ old.scan_room)
     (left_is : left ≡ set groups group.0 false) (wide : length left ≡ 65536) (few : group.0 < 65536) where

@@ -6,7 +6,7 @@ use Rattle.lp_model.specs.Rules.{Rules}
 use Rattle.lp_transition.specs.declared.event.Event.{Event}
 use Rattle.lp_transition.specs.declared.event.Event.TheVariants.{Call}
 use Rattle.lp_transition.specs.Events.{is_control}
-use Rattle.lp_transition.specs.Weigh.{Weighed, moves, refused_by}
+use Rattle.lp_transition.specs.Weigh.{Weighed, is_silent, refusal_in}
 use Rattle.lp_transition.specs.Leg.{Leg}
 use Rattle.lp_transition.specs.Run.{Run, first_leg, leg_of, opens, next_leg}
 use Rattle.lp_transition.specs.Machine.{state_of}
@@ -14,12 +14,12 @@ use Rattle.lp_cert.specs.declared.cert.Claim.TheVariants.{Floor}
 use Rattle.lp_cert.specs.declared.cert.Cert.{Cert}
 use Rattle.lp_cert.specs.declared.cert.CertHead.{CertHead}
 use Rattle.lp_cert.specs.declared.leg_end.LegEnd.{LegEnd}
-use Rattle.lp_cert.specs.Made.{completion, certs_of, lines}
-use Rattle.lp_cert.specs.Settling.{Settling, AreSettledBy}
+use Rattle.lp_cert.specs.Certificates.{completion, certs_of, lines}
+use Rattle.lp_cert.specs.LastScan.{LastScan, AreUnchangedBy}
 
 -- the event opens a leg: it is a control event, and was accepted
 abbrev pub is_opening : Weighed → Bool
-is_opening step = is_control step.event && is_none (refused_by step.reply.what)
+is_opening step = is_control step.event && is_none (refusal_in step.reply.what)
 
 -- room for an event, with so many verdicts, that may open a leg
 pub record Room : Type 0 where
@@ -37,14 +37,14 @@ pub record Made : Type 0 where
   pub ended : List LegEnd
   pub current : Option LegEnd
   pub ready : Option Room
-  pub settling : Settling
+  pub last_scan : LastScan
 
 -- nothing is made yet
 pub record IsFresh (made : Made) : Type 0 where
   pub ended : made.ended ≡ []
   pub current : made.current ≡ None
   pub ready : made.ready ≡ None
-  pub settling : made.settling.kind ≡ None
+  pub last_scan : made.last_scan.kind ≡ None
 
 -- a certificate without its lines
 abbrev pub cert_head : Cert → CertHead
@@ -67,7 +67,7 @@ floor_in (Some leg) = if is_none leg.completed then option_map (λ (cert : Cert)
 -- an event that changes no certificate but how far it goes: a call, a return, a sleep, a wake-up or an entry into the kernel
 abbrev pub is_plain : Event → Bool
 is_plain (Call t f) = true
-is_plain event = moves event
+is_plain event = is_silent event
 
 module _ (model : Rules) where
   -- how a leg ended
@@ -94,6 +94,6 @@ module _ (model : Rules) where
   pub record IsMadeOf (run : Run) (made : Made) : Type 0 where
     pub ended : made.ended ≡ map end_of (drop 1 (ended_legs (first_leg model run) run.events))
     pub current : made.current ≡ option_map end_of (under_way (ended_legs (first_leg model run) run.events) (leg_of model run))
-    pub settled :
-        AreSettledBy model (state_of model (leg_of model run)) (lines model (leg_of model run) (length (leg_of model run).events))
-        made.settling
+    pub unchanged :
+        AreUnchangedBy model (state_of model (leg_of model run)) (lines model (leg_of model run) (length (leg_of model run).events))
+        made.last_scan

@@ -14,11 +14,11 @@ use Rattle.lp_transition.specs.Leg.{State, Leg}
 use Rattle.lp_transition.specs.Run.{Run, and_then, first_leg, refused_by}
 use Rattle.lp_transition.specs.Schedule.{waits, first_check}
 use Rattle.lp_transition.specs.Scan.{is_scan_kind, scan_event, verdicts_of}
-use Rattle.lp_transition.specs.Machine.{is_behind, state_of}
+use Rattle.lp_transition.specs.Machine.{waits_in, state_of}
 use Rattle.lp_cert.specs.declared.cert.Claim.TheVariants.{Waiting}
-use Rattle.lp_cert.specs.Made.{lines, cert, completion, floor_certs, opened_legs}
+use Rattle.lp_cert.specs.Certificates.{lines, cert, completion, floor_certs, opened_legs}
 use Rattle.lp_cert.specs.Ends.{Made, IsFresh, IsMadeOf, end_of, waiting_in, floor_in}
-use Rattle.lp_cert.specs.Steps.{first_refused, first_blamed_in, lines_after_scan, lines_after_fork}
+use Rattle.lp_cert.specs.EventLines.{first_refused, first_blamed_in, lines_after_scan, lines_after_fork}
 
 -- the lines of a group come with the events of its leg: each leaves those before it as they are, or goes by the state
 -- in which an engine is before it
@@ -30,12 +30,12 @@ pub record LinesComeWithEvents (model : Rules) : Type 0 where
   -- a scan of a kind that the model uses, for a group that waits
   pub scan :
       (leg : Leg) (kind : CheckKind) (group : ℕ) → is_scan_kind kind ≡ true → IsTrue (model.uses kind) →
-      IsTrue (is_behind (state_of model leg) group) →
+      IsTrue (waits_in (state_of model leg) group) →
       lines model (and_then leg (scan_event kind)) (suc (length leg.events)) group
       ≡ lines_after_scan model (state_of model leg) kind group (lines model leg (length leg.events) group)
   -- the verdicts of a scan tell whom it refuses first
   pub verdicts :
-      (s : State) → IsSound s → (kind : CheckKind) (group : ℕ) → IsTrue (is_behind s group) →
+      (s : State) → IsSound s → (kind : CheckKind) (group : ℕ) → IsTrue (waits_in s group) →
       first_refused s group (verdicts_of model kind s) ≡ first_blamed_in model s kind group
   -- a scan of any other kind
   pub unused_scan :

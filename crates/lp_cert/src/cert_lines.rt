@@ -1,8 +1,9 @@
 //! The lines of a certificate, one at a time.
 ghost use Rattle.std.specs.Prelude.{◌≡◌, ◌<◌, ◌≤◌, ◌++◌, [], drop, length, option_to_list, reverse, slice_get, take, IfNone};
 ghost use Rattle.std.specs.List.{AllByRecursion};
-ghost use Rattle.lp_cert.specs.Heads.{lines_of, FitsIn};
-ghost use Rattle.lp_cert.specs.Parts.{run_lines};
+ghost use Rattle.lp_cert.specs.Heads.{lines_of};
+ghost use Rattle.lp_cert.specs.inside.Heads.{FitsIn};
+ghost use Rattle.lp_cert.specs.Parts.{busy_scan_lines};
 
 use crate::line::Line;
 use crate::oldest_first::OldestFirst;
@@ -12,17 +13,17 @@ use std::marker::Model;
 
 /// The scans that are left at which a member is busy.
 #[derive(Clone, Copy)]
-pub(crate) struct Run<'a> {
+pub(crate) struct BusyScans<'a> {
     pub(crate) group: GroupId,
     pub(crate) task: TaskId,
     pub(crate) scans: &'a [u64],
 }
 
-impl Run<'_> {
+impl BusyScans<'_> {
     /// The next line, if one is left.
     fn next(&mut self) -> Option<Line>
-        ensures lines { run_lines self.old ≡ option_to_list result ++ run_lines self.new }
-        ensures none { IfNone result (run_lines self.old ≡ []) }
+        ensures lines { busy_scan_lines self.old ≡ option_to_list result ++ busy_scan_lines self.new }
+        ensures none { IfNone result (busy_scan_lines self.old ≡ []) }
     {
         let (at, later) = self.scans.split_first()?;
         self.scans = later;
@@ -34,13 +35,13 @@ impl Run<'_> {
     }
 }
 
-/// The lines of a certificate that are left, the oldest first. No call takes memory.
+/// The lines of a certificate that are left, the oldest first. No call allocates.
 ///
 /// Contracts see the list of these lines.
 #[derive(Drop)]
 pub struct CertLines<'a> {
     scans: &'a [u64],
-    run: Run<'a>,
+    run: BusyScans<'a>,
     reasons: OldestFirst<'a>,
 }
 
@@ -48,12 +49,13 @@ impl<'a> Model for CertLines<'a> {
     ghost use Rattle.std.specs.Prelude.{◌++◌, List, length, reverse};
     ghost use Rattle.std.specs.List.{AllByRecursion};
     ghost use Rattle.lp_cert.specs.declared.line.Line.{Line};
-    ghost use Rattle.lp_cert.specs.Heads.{lines_of, FitsIn};
-    ghost use Rattle.lp_cert.specs.Parts.{run_lines};
+    ghost use Rattle.lp_cert.specs.Heads.{lines_of};
+    ghost use Rattle.lp_cert.specs.inside.Heads.{FitsIn};
+    ghost use Rattle.lp_cert.specs.Parts.{busy_scan_lines};
 
     ghost Value = { List Line };
 
-    ghost view = { λ c. run_lines c.run ++ reverse (lines_of c.scans.now c.reasons) };
+    ghost view = { λ c. busy_scan_lines c.run ++ reverse (lines_of c.scans.now c.reasons) };
 
     ghost invariant = { λ c. AllByRecursion (FitsIn (length c.scans.now)) c.reasons };
 }
@@ -67,7 +69,7 @@ impl<'a> CertLines<'a> {
         let (none, _) = scans.split_at(0);
         CertLines {
             scans,
-            run: Run {
+            run: BusyScans {
                 group,
                 task: TaskId(0),
                 scans: none,
@@ -93,7 +95,7 @@ impl<'a> CertLines<'a> {
                 end,
             } => {
                 let scans = part_of(self.scans, first, end);
-                self.run = Run { group, task, scans };
+                self.run = BusyScans { group, task, scans };
                 self.run.next()
             }
         }

@@ -27,7 +27,7 @@ pub(crate) struct Chains {
 
 impl Model for Chains {
     ghost use Rattle.std.specs.Prelude.{◌-◌, vec_len, vec_capacity};
-    ghost use Rattle.lp_cert.specs.Chains.{Lists, lists_of, AreLinked};
+    ghost use Rattle.lp_cert.specs.inside.Chains.{Lists, lists_of, AreLinked};
 
     ghost Value = { Lists };
 
@@ -37,7 +37,7 @@ impl Model for Chains {
 }
 
 impl Chains {
-    /// The empty list alone. Takes no memory.
+    /// The empty list alone. Never allocates.
     pub(crate) fn new(alloc: Global) -> Chains
         ensures { result.lists ≡ [] ∷ [] }
     {
@@ -46,14 +46,14 @@ impl Chains {
         }
     }
 
-    /// Takes every list out but the empty one. Takes no memory.
+    /// Takes every list out but the empty one. Never allocates.
     pub(crate) fn clear(&mut self)
         ensures { self.new.lists ≡ [] ∷ [] }
     {
         self.entries.clear();
     }
 
-    /// Makes room for so many more lists; AllocError where a growth was refused.
+    /// Makes room for so many more lists; AllocError where an allocation failed.
     pub(crate) fn reserve(&mut self, more: usize) -> Result<(), AllocError>
         ensures lists { self.new.lists ≡ self.old.lists }
         ensures room { OnOk result (more ≤ self.new.room) }
@@ -62,7 +62,7 @@ impl Chains {
         self.entries.reserve(more)
     }
 
-    /// A copy of the lists; AllocError where a growth was refused.
+    /// A copy of the lists; AllocError where an allocation failed.
     pub(crate) fn copy(&self, alloc: Global) -> Result<Chains, AllocError>
         ensures { IfOk result (λ copied. copied.lists ≡ self.now.lists) }
     {
@@ -71,7 +71,7 @@ impl Chains {
         })
     }
 
-    /// A list with one reason more in front, for which there is room. Takes no memory.
+    /// A list with one reason more in front, for which there is room. Never allocates.
     pub(crate) fn push(&mut self, reason: Reason, older: ChainId) -> ChainId
         requires known { older.0 < length self.old.lists }
         requires room { 0 < self.old.room }
@@ -83,7 +83,7 @@ impl Chains {
         ChainId(self.entries.len())
     }
 
-    /// The reasons of a list, the newest in front; AllocError where a growth was refused.
+    /// The reasons of a list, the newest in front; AllocError where an allocation failed.
     pub(crate) fn reasons(&self, alloc: Global, id: ChainId) -> Result<Vec<Reason>, AllocError>
         requires { id.0 < length self.now.lists }
         ensures { IfOk result (λ reasons. reasons.items ≡ slice_index_or self.now.lists id.0 []) }

@@ -1,6 +1,7 @@
 //! The reasons of a group as it waits.
 ghost use Rattle.std.specs.Prelude.{◌≡◌, ◌+◌, ◌<◌, ◌≤◌, [], ◌++◌, length, reverse, slice_index_or, option_to_list, IfOk};
-ghost use Rattle.lp_cert.specs.Heads.{ongoing_reasons, head_lines, stays, begun_by, IsHead, IsUsed, IsRefusedBy, IsBornBy, Keeps};
+ghost use Rattle.lp_cert.specs.Heads.{ongoing_reasons, head_lines};
+ghost use Rattle.lp_cert.specs.inside.Heads.{continues_after, reason_begun_by, IsHead, IsUsed, IsRefusedBy, IsBornBy, Keeps};
 
 use crate::chains::{ChainId, Chains};
 use crate::line::{Line, LineList};
@@ -12,7 +13,7 @@ use lp_model::Blame;
 use lp_stack::{GroupId, TaskId};
 use std::alloc::{AllocError, Global};
 
-/// The reasons of a group: the one that still goes on, in front of a list.
+/// The reasons of a group: the one that continues, in front of a list.
 #[derive(Clone, Copy)]
 pub(crate) struct Head {
     pub(crate) ongoing: Ongoing,
@@ -28,13 +29,13 @@ pub(crate) struct Refused {
     pub(crate) task: TaskId,
     /// Why it isn't admitted.
     pub(crate) blame: Blame,
-    /// Whether the frame of a hold that goes on is still on its task's stack.
-    pub(crate) held: bool,
+    /// Whether the frame of a hold that continues is still on its task's stack.
+    pub(crate) frame_stands: bool,
 }
 
 /// A fork of a task into a group of its own.
 #[derive(Clone, Copy)]
-pub(crate) struct Birth {
+pub(crate) struct OwnFork {
     /// The child's group.
     pub(crate) child: GroupId,
     /// The task that forked.
@@ -53,8 +54,8 @@ pub(crate) struct Waiter {
 }
 
 impl Head {
-    /// The lines of the reasons as they stand, the oldest first; AllocError where a growth was
-    /// refused.
+    /// The lines of the reasons as they stand, the oldest first; AllocError where an allocation
+    /// failed.
     pub(crate) fn lines(
         self,
         alloc: Global,
@@ -73,7 +74,7 @@ impl Head {
         Ok(LineList::from_vec(lines))
     }
 
-    /// The reasons as they stand, of which the oldest comes first. Takes no memory.
+    /// The reasons as they stand, of which the oldest comes first. Never allocates.
     pub(crate) fn oldest_first<'a>(
         self,
         chains: &'a Chains,
@@ -90,7 +91,7 @@ impl Head {
         )
     }
 
-    /// The reasons as they stand, as a list. Takes no memory.
+    /// The reasons as they stand, as a list. Never allocates.
     pub(crate) fn close(self, chains: &mut Chains, scans: &[u64], group: GroupId) -> ChainId
         requires known { self.older.0 < length chains.old.lists }
         requires room { 0 < chains.old.room }
@@ -106,13 +107,13 @@ impl Head {
     }
 
     /// The reasons of a group of its own that a member of this one gives birth to, as they begin:
-    /// this one's as they stand, and the birth. Takes no memory.
+    /// this one's as they stand, and the birth. Never allocates.
     pub(crate) fn bear(
         self,
         chains: &mut Chains,
         scans: &[u64],
         group: GroupId,
-        birth: &Birth,
+        birth: &OwnFork,
     ) -> Head
         requires head { IsHead chains.old.lists (length scans.now) self }
         requires room { 1 < chains.old.room }
@@ -130,8 +131,8 @@ impl Head {
         }
     }
 
-    /// The reasons once a scan, which isn't among `scans` yet, has refused the group. Takes no
-    /// memory.
+    /// The reasons once a scan, which isn't among `scans` yet, has refused the group. Never
+    /// allocates.
     pub(crate) fn refuse(
         self,
         chains: &mut Chains,
@@ -145,30 +146,30 @@ impl Head {
         ensures lines { IsRefusedBy refused.now group scans.now self result chains.old.lists chains.new.lists }
         ensures room { chains.old.room ≤ chains.new.room + 1 }
     {
-        if goes_on(self.ongoing, refused) {
+        if continues(self.ongoing, refused) {
             return self;
         }
         Head {
-            ongoing: begun(scans, refused),
+            ongoing: reason_begun(scans, refused),
             older: self.close(chains, scans, group),
         }
     }
 }
 
 /// A hold continues while its frame stands, whoever is refused now: that frame alone keeps the group.
-fn goes_on(ongoing: Ongoing, refused: &Refused) -> bool
-    ensures { result ≡ stays ongoing refused.now }
+fn continues(ongoing: Ongoing, refused: &Refused) -> bool
+    ensures { result ≡ continues_after ongoing refused.now }
 {
     match ongoing {
         Ongoing::Nothing => false,
-        Ongoing::Hold { .. } => refused.held,
+        Ongoing::Hold { .. } => refused.frame_stands,
         Ongoing::Busy { task, .. } => refused.blame == Blame::Busy && refused.task == task,
     }
 }
 
 /// The reason that begins with a refusal.
-fn begun(scans: &[u64], refused: &Refused) -> Ongoing
-    ensures { result ≡ begun_by (length scans.now) refused.now.task refused.now.at refused.now.blame }
+fn reason_begun(scans: &[u64], refused: &Refused) -> Ongoing
+    ensures { result ≡ reason_begun_by (length scans.now) refused.now.task refused.now.at refused.now.blame }
 {
     match refused.blame {
         Blame::Frame(serial) => Ongoing::Hold {
@@ -184,7 +185,7 @@ fn begun(scans: &[u64], refused: &Refused) -> Ongoing
     }
 }
 
-/// The reason that goes on, as it stands.
+/// The reason that continues, as it stands.
 fn ongoing_reason(scans: &[u64], group: GroupId, ongoing: Ongoing) -> Option<Reason>
     ensures { option_to_list result ≡ ongoing_reasons scans.now group ongoing }
 {

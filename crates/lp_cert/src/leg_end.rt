@@ -2,7 +2,8 @@
 ghost use Rattle.std.specs.Prelude.{◌≡◌, ◌<◌, ◌↔◌, [], Some, length, map, slice_get, IfOk, IsTrue};
 ghost use Rattle.std.specs.Option.{option_map};
 ghost use Rattle.lp_cert.specs.Ends.{cert_head};
-ghost use Rattle.lp_cert.specs.Waiters.{AreHeads, kept_cert};
+ghost use Rattle.lp_cert.specs.Waiters.{kept_cert};
+ghost use Rattle.lp_cert.specs.inside.Waiters.{AreHeads};
 
 use crate::cert::{Cert, CertHead, Claim};
 use crate::cert_lines::CertLines;
@@ -45,7 +46,8 @@ pub struct CertList {
 impl Model for CertList {
     ghost use Rattle.std.specs.Prelude.{List, length, map};
     ghost use Rattle.lp_cert.specs.declared.cert.Cert.{Cert};
-    ghost use Rattle.lp_cert.specs.Waiters.{AreHeads, kept_cert};
+    ghost use Rattle.lp_cert.specs.Waiters.{kept_cert};
+    ghost use Rattle.lp_cert.specs.inside.Waiters.{AreHeads};
 
     ghost Value = { List Cert };
 
@@ -55,8 +57,8 @@ impl Model for CertList {
 }
 
 impl CertList {
-    /// The certificates of these groups, over their older reasons and the scans of the leg. Takes
-    /// no memory.
+    /// The certificates of these groups, over their older reasons and the scans of the leg. Never
+    /// allocates.
     pub(crate) fn new(
         claim: Claim,
         leg: u64,
@@ -92,8 +94,8 @@ impl CertList {
         self.waiters.is_empty()
     }
 
-    /// The certificate at a place, from 0, if there are so many; AllocError where a growth was
-    /// refused.
+    /// The certificate at a place, from 0, if there are so many; AllocError where an allocation
+    /// failed.
     pub fn cert(&self, alloc: Global, place: usize) -> Result<Option<Cert>, AllocError>
         ensures { IfOk result (λ found. found ≡ slice_get self.now place) }
     {
@@ -126,7 +128,7 @@ impl CertList {
         }
     }
 
-    /// The lines of the certificate at a place, from 0, one at a time. Takes no memory.
+    /// The lines of the certificate at a place, from 0, one at a time. Never allocates.
     pub fn lines(&self, place: usize) -> CertLines<'_>
         requires { place < length self.now }
         ensures { option_map (λ cert. cert.lines) (slice_get self.now place) ≡ Some result }

@@ -1,7 +1,6 @@
 //! Certificates: why a group still waits.
 #![tactic(auto)]
 
-mod advance;
 mod cert;
 mod cert_lines;
 mod chains;
@@ -15,7 +14,8 @@ mod ongoing;
 mod open_leg;
 mod reason;
 mod reasons;
-mod settled;
+mod unchanged;
+mod waiter_steps;
 mod waiters;
 mod written;
 

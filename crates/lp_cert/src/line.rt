@@ -57,14 +57,14 @@ impl Model for LineList {
 }
 
 impl LineList {
-    /// The list of these lines. Takes no memory.
+    /// The list of these lines. Never allocates.
     pub fn from_vec(lines: Vec<Line>) -> LineList
         ensures { result ≡ lines.items }
     {
         LineList { lines }
     }
 
-    /// The lines, lent.
+    /// The lines, borrowed.
     pub fn as_slice(&self) -> &[Line]
         ensures { result.now ≡ self.now }
     {

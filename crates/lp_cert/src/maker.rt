@@ -4,13 +4,14 @@ ghost use Rattle.lp_transition.specs.Events.{is_control};
 ghost use Rattle.lp_transition.specs.Run.{Run, new_target, plus};
 ghost use Rattle.lp_transition.specs.Steps.{StandsIn};
 ghost use Rattle.lp_transition.specs.Table.{state_in};
-ghost use Rattle.lp_transition.specs.Weigh.{IsWeighed, may_want_memory};
+ghost use Rattle.lp_transition.specs.Weigh.{IsWeighed, may_allocate};
 ghost use Rattle.lp_transition.specs.Machine.{answer};
 ghost use Rattle.lp_transition.specs.declared.engine.step.Halt.TheVariants.{NoMemory, JournalFull};
 ghost use Rattle.lp_cert.specs.Ends.{IsFresh, IsMadeOf, floor_in, is_opening, is_plain, room_for, waiting_in};
-ghost use Rattle.lp_cert.specs.Settling.{Suffices};
-ghost use Rattle.lp_cert.specs.Kept.{HasFloor, HasFloors, IsClosing, IsGoneOn, IsSettledOn, end_waiters, ends_with, leg_at, waiting_cert};
-ghost use Rattle.lp_cert.specs.Waiters.{AreHeads, lines_at};
+ghost use Rattle.lp_cert.specs.LastScan.{Suffices};
+ghost use Rattle.lp_cert.specs.Invariant.{end_waiters};
+ghost use Rattle.lp_cert.specs.inside.Invariant.{HasFloor, HasFloors, IsClosing, IsStepped, IsUnchangedOn, ends_with, leg_at, waiting_cert};
+ghost use Rattle.lp_cert.specs.inside.Waiters.{AreHeads, lines_at};
 ghost use Rattle.std.specs.Option.{option_map};
 
 use crate::cert::{Cert, Claim};
@@ -18,7 +19,7 @@ use crate::chains::Chains;
 use crate::head::Waiter;
 use crate::leg_end::LegEnd;
 use crate::open_leg::{Completion, OpenLeg};
-use crate::settled::Settled;
+use crate::unchanged::Unchanged;
 use crate::waiters::Waiters;
 use lp_model::{CheckKind, Consistency};
 use lp_stack::GroupId;
@@ -58,7 +59,7 @@ pub struct Maker {
     ended: Vec<LegEnd>,
     current: Option<OpenLeg>,
     waiters: Waiters,
-    settled: Settled,
+    unchanged: Unchanged,
     /// The number of the last event noted.
     noted: u64,
     ready: Option<Ready>,
@@ -68,17 +69,18 @@ impl Model for Maker {
     ghost use Rattle.std.specs.Prelude.{◌-◌, vec_len, vec_capacity};
     ghost use Rattle.std.specs.Option.{option_map};
     ghost use Rattle.lp_cert.specs.Ends.{Made};
-    ghost use Rattle.lp_cert.specs.Kept.{IsMaker, open_end, room_of};
+    ghost use Rattle.lp_cert.specs.Invariant.{open_end, room_of};
+    ghost use Rattle.lp_cert.specs.inside.Invariant.{IsMaker};
 
     ghost Value = { Made };
 
-    ghost view = { λ m. record { ended = m.ended.items; current = option_map (open_end m.noted m.waiters) m.current; ready = option_map room_of m.ready; settling = m.settled } };
+    ghost view = { λ m. record { ended = m.ended.items; current = option_map (open_end m.noted m.waiters) m.current; ready = option_map room_of m.ready; last_scan = m.unchanged } };
 
     ghost invariant = { λ m. IsMaker m.current m.waiters (vec_capacity m.ended - vec_len m.ended) m.ready };
 }
 
 impl Maker {
-    /// No leg; AllocError where a growth was refused.
+    /// No leg; AllocError where an allocation failed.
     pub fn new(alloc: Global) -> Result<Maker, AllocError>
         ensures { IfOk result IsFresh }
     {
@@ -86,15 +88,15 @@ impl Maker {
             ended: Vec::new(alloc),
             current: None,
             waiters: Waiters::new(alloc)?,
-            settled: Settled::new(alloc)?,
+            unchanged: Unchanged::new(alloc)?,
             noted: 0,
             ready: None,
         })
     }
 
-    /// An event, weighed on the engine of which all is noted here; a walk or a stop after a look at the
-    /// waiting tasks of those groups alone that a scan of its kind may judge otherwise than before.
-    /// NoMemory where a growth was refused, JournalFull where no event is left.
+    /// An event, weighed on the engine of which all is noted here; a walk or a stop after a look at
+    /// the waiting tasks of those groups alone that a scan of its kind may judge otherwise than
+    /// before. NoMemory where an allocation failed, JournalFull where no event is left.
     pub fn weigh<M: Consistency>(
         &self,
         alloc: Global,
@@ -103,24 +105,24 @@ impl Maker {
     ) -> Result<Step, Halt>
         requires made { (run : Run) × StandsIn M.rules run (state_in core.now) × IsMadeOf M.rules run self.now }
         ensures full { (result ≡ Err JournalFull) ↔ (1000000 ≤ core.now.number) }
-        ensures memory { result ≡ Err NoMemory → IsTrue (may_want_memory event (answer M.rules (state_in core.now) event).what) }
+        ensures memory { result ≡ Err NoMemory → IsTrue (may_allocate event (answer M.rules (state_in core.now) event).what) }
         ensures weighed { IfOk result (λ step. IsWeighed M.rules core.now step) }
         ensures event { IfOk result (λ step. step.event ≡ event) }
-        ensures suffices { IfOk result (λ step. Suffices M.rules (state_in core.now) step self.now.settling) }
+        ensures suffices { IfOk result (λ step. Suffices M.rules (state_in core.now) step self.now.last_scan) }
     {
         let kind = match event {
             Event::Walk => CheckKind::Walk,
             Event::Stop => CheckKind::Stop,
             _ => return core.weigh_any(alloc, event),
         };
-        match self.settled.asked(kind) {
+        match self.unchanged.asked(kind) {
             Some(asked) => core.weigh_asked(alloc, kind, asked),
             None => core.weigh_any(alloc, event),
         }
     }
 
     /// Makes room for an event that was weighed on the engine, which takes all the memory that
-    /// `note` needs; AllocError where a growth was refused. The certificates stay the same.
+    /// `note` needs; AllocError where an allocation failed. The certificates stay the same.
     pub fn ready<M: Consistency>(
         &mut self,
         alloc: Global,
@@ -130,7 +132,7 @@ impl Maker {
         ensures ended { self.new.ended ≡ self.old.ended }
         ensures current { self.new.current ≡ self.old.current }
         ensures ready { OnOk result (self.new.ready ≡ Some (room_for step.now)) }
-        ensures settling { self.new.settling ≡ self.old.settling }
+        ensures last_scan { self.new.last_scan ≡ self.old.last_scan }
     {
         self.ready = None;
         let verdicts = step.verdicts().len();
@@ -145,11 +147,11 @@ impl Maker {
         Ok(())
     }
 
-    /// Notes an event that was weighed on the engine, before the engine takes it. Takes no memory.
+    /// Notes an event that was weighed on the engine, before the engine takes it. Never allocates.
     pub fn note<M: Consistency>(&mut self, core: &Core<M>, step: &Step)
         requires weighed { IsWeighed M.rules core.now step.now }
         requires ready { self.old.ready ≡ Some (room_for step.now) }
-        ensures made { (run : Run) → StandsIn M.rules run (state_in core.now) → IsMadeOf M.rules run self.old → Suffices M.rules (state_in core.now) step.now self.old.settling → IsMadeOf M.rules (plus run step.now.event) self.new }
+        ensures made { (run : Run) → StandsIn M.rules run (state_in core.now) → IsMadeOf M.rules run self.old → Suffices M.rules (state_in core.now) step.now self.old.last_scan → IsMadeOf M.rules (plus run step.now.event) self.new }
     {
         let number = core.events() + 1;
         let Some(ready) = self.ready.take() else {
@@ -159,28 +161,28 @@ impl Maker {
         self.noted = number;
         let Some(closing) = ready.closing else {
             let Some(leg) = &mut self.current else {
-                self.settled.reset();
+                self.unchanged.reset();
                 return;
             };
-            go_on(
+            step_leg(
                 core,
                 step,
                 number,
                 leg,
                 &mut self.waiters,
-                &mut self.settled,
+                &mut self.unchanged,
             );
             return;
         };
-        self.settled.reset();
+        self.unchanged.reset();
         let next = opened(core, step, number);
         self.waiters.open(core, next.target);
         end_leg(&mut self.ended, noted, self.current, closing);
         self.current = Some(next);
     }
 
-    /// The certificate that a group waits in the leg under way, if it does; AllocError where a growth
-    /// was refused.
+    /// The certificate that a group waits in the leg under way, if it does; AllocError where an
+    /// allocation failed.
     pub fn waiting(&self, alloc: Global, group: GroupId) -> Result<Option<Cert>, AllocError>
         ensures { IfOk result (λ found. found ≡ waiting_in self.now.current group.0) }
     {
@@ -194,7 +196,7 @@ impl Maker {
     }
 
     /// The certificate that the leg under way isn't complete, if there is one that isn't: the least
-    /// group that waits. AllocError where a growth was refused.
+    /// group that waits. AllocError where an allocation failed.
     pub fn floor(&self, alloc: Global) -> Result<Option<Cert>, AllocError>
         ensures { IfOk result (λ found. found ≡ floor_in self.now.current) }
     {
@@ -210,10 +212,10 @@ impl Maker {
         cert_of(alloc, Claim::Floor, leg, self.noted, &self.waiters, group)
     }
 
-    /// Notes a call, a return, a sleep, a wake-up or an entry into the kernel, before the engine takes
-    /// it. Such an event takes no group over and is no check, so nothing has to be weighed. Takes no
-    /// memory.
-    pub fn pass<M: Consistency>(&mut self, core: &Core<M>, event: Event)
+    /// Notes a call, a return, a sleep, a wake-up or an entry into the kernel, before the engine
+    /// takes it. Such an event switches no group and is no check, so nothing has to be weighed.
+    /// Never allocates.
+    pub fn note_plain<M: Consistency>(&mut self, core: &Core<M>, event: Event)
         requires plain { is_plain event ≡ true }
         requires room { core.now.number < 1000000 }
         ensures made { (run : Run) → StandsIn M.rules run (state_in core.now) → IsMadeOf M.rules run self.old → IsMadeOf M.rules (plus run event) self.new }
@@ -221,18 +223,18 @@ impl Maker {
     {
         self.noted = core.events() + 1;
         let Some(leg) = self.current else {
-            self.settled.reset();
+            self.unchanged.reset();
             return;
         };
         if leg.completed.is_some() {
-            self.settled.reset();
+            self.unchanged.reset();
             return;
         }
-        self.settled.touch(core, event, self.waiters.reasons());
+        self.unchanged.touch(core, event, self.waiters.reasons());
     }
 
-    /// The end of the leg under way as it stands, if there is one; AllocError where a growth was
-    /// refused.
+    /// The end of the leg under way as it stands, if there is one; AllocError where an allocation
+    /// failed.
     pub fn current(&self, alloc: Global) -> Result<Option<LegEnd>, AllocError>
         ensures { IfOk result (λ found. found ≡ self.now.current) }
     {
@@ -244,8 +246,8 @@ impl Maker {
         Ok(Some(leg.end(self.noted, waiters, chains, scans)))
     }
 
-    /// The ends of all legs, given up, the last one as it stands; AllocError where a growth was
-    /// refused. What is kept of the legs is moved.
+    /// The ends of all legs, given up, the last one as it stands; AllocError where an allocation
+    /// failed. What is kept of the legs is moved.
     pub fn into_ends(self, alloc: Global) -> Result<Vec<LegEnd>, AllocError>
         ensures { IfOk result (λ ends. ends.items ≡ self.ended ++ option_to_list self.current) }
     {
@@ -264,7 +266,7 @@ impl Maker {
         Ok(ended)
     }
 
-    /// The ends of the legs that ended, lent.
+    /// The ends of the legs that ended, borrowed.
     pub fn ended(&self) -> &[LegEnd]
         ensures { result.now ≡ self.now.ended }
     {
@@ -272,39 +274,39 @@ impl Maker {
     }
 }
 
-/// The leg under way after an event that opens none. Takes no memory.
-fn go_on<M: Consistency>(
+/// The leg under way after an event that opens none. Never allocates.
+fn step_leg<M: Consistency>(
     core: &Core<M>,
     step: &Step,
     number: u64,
     leg: &mut OpenLeg,
     waiters: &mut Waiters,
-    settled: &mut Settled,
+    unchanged: &mut Unchanged,
 )
     requires weighed { IsWeighed M.rules core.now step.now }
     requires floor { HasFloor waiters.old leg.old.completed }
     requires room { length step.now.verdicts + 1 < waiters.old.reasons.room }
     requires scan_room { 0 < waiters.old.reasons.scan_room }
-    ensures gone_on { IsGoneOn M.rules core.now step.now number leg.old leg.new waiters.old waiters.new }
-    ensures settled { IsSettledOn M.rules core.now step.now leg.old waiters.new settled.old settled.new }
+    ensures gone_on { IsStepped M.rules core.now step.now number leg.old leg.new waiters.old waiters.new }
+    ensures unchanged { IsUnchangedOn M.rules core.now step.now leg.old waiters.new unchanged.old unchanged.new }
     ensures floor { HasFloor waiters.new leg.new.completed }
 {
     if leg.completed.is_some() {
-        settled.reset();
+        unchanged.reset();
         return;
     }
     if step.reply().completed {
-        settled.reset();
+        unchanged.reset();
         leg.completed = Some(Completion {
             at: number,
             floor: waiters.least(),
         });
         return;
     }
-    waiters.advance(core, step, settled);
+    waiters.step_waiters(core, step, unchanged);
 }
 
-/// Ends the leg under way after so many events, if there is one. Takes no memory.
+/// Ends the leg under way after so many events, if there is one. Never allocates.
 fn end_leg(ended: &mut Vec<LegEnd>, noted: u64, current: Option<OpenLeg>, closing: Closing)
     requires room { 0 < vec_capacity ended.old - vec_len ended.old }
     requires heads { AreHeads closing.chains.lists (length closing.scans.items) closing.waiters.items }
@@ -349,7 +351,7 @@ fn opened<M: Consistency>(core: &Core<M>, step: &Step, number: u64) -> OpenLeg
 }
 
 /// What the leg under way leaves where an event opens another; None where it opens none. AllocError
-/// where a growth was refused.
+/// where an allocation failed.
 fn closing_for(
     alloc: Global,
     step: &Step,
@@ -375,7 +377,7 @@ fn closing_for(
     }))
 }
 
-/// The groups that have a certificate, in increasing order; AllocError where a growth was refused.
+/// The groups that have a certificate, in increasing order; AllocError where an allocation failed.
 fn end_waiters(
     alloc: Global,
     completed: Option<Completion>,
@@ -394,8 +396,8 @@ fn end_waiters(
     }
 }
 
-/// The certificate of a group after so many events, if it waits; AllocError where a growth was
-/// refused.
+/// The certificate of a group after so many events, if it waits; AllocError where an allocation
+/// failed.
 fn cert_of(
     alloc: Global,
     claim: Claim,

@@ -2,7 +2,7 @@
 ghost use Rattle.std.specs.Prelude.{◌≡◌, ◌+◌, ◌<◌, ◌≤◌, [], ◌∷◌, ◌++◌, length, option_to_list, slice_index_or, IfNone};
 ghost use Rattle.std.specs.List.{AllByRecursion};
 ghost use Rattle.arrayvec.specs.ArrayVec.{array_vec_len};
-ghost use Rattle.lp_cert.specs.Parts.{AreParts, IsPart, part_reasons, parts_reasons};
+ghost use Rattle.lp_cert.specs.inside.Parts.{AreParts, IsPart, part_reasons, parts_reasons};
 
 use crate::chains::{ChainId, Chains};
 use crate::reason::Reason;
@@ -20,8 +20,8 @@ pub(crate) struct Part {
     pub(crate) count: usize,
 }
 
-/// The reasons of a group that are left, of which the oldest comes next. No call takes memory, and
-/// all calls together follow a link some `log n` times for each of `n` reasons.
+/// The reasons of a group that are left, of which the oldest comes next. No call allocates, and all
+/// calls together follow a link some `log n` times for each of `n` reasons.
 ///
 /// Contracts see these reasons, the newest in front.
 #[derive(Drop)]
@@ -35,7 +35,7 @@ pub(crate) struct OldestFirst<'a> {
 impl<'a> Model for OldestFirst<'a> {
     ghost use Rattle.std.specs.Prelude.{◌++◌, List, option_to_list};
     ghost use Rattle.lp_cert.specs.declared.reason.Reason.{Reason};
-    ghost use Rattle.lp_cert.specs.Parts.{AreParts, parts_reasons};
+    ghost use Rattle.lp_cert.specs.inside.Parts.{AreParts, parts_reasons};
 
     ghost Value = { List Reason };
 
@@ -45,7 +45,7 @@ impl<'a> Model for OldestFirst<'a> {
 }
 
 impl<'a> OldestFirst<'a> {
-    /// All reasons of a list, and the one in front of it that goes on.
+    /// All reasons of a list, and the one in front of it that continues.
     pub(crate) fn new(chains: &'a Chains, list: ChainId, ongoing: Option<Reason>) -> OldestFirst<'a>
         requires { list.0 < length chains.now.lists }
         ensures { result ≡ option_to_list ongoing ++ slice_index_or chains.now.lists list.0 [] }

@@ -1,8 +1,8 @@
-//! The newest reason of a group, while it goes on.
+//! The newest reason of a group, while it continues.
 
 use lp_stack::TaskId;
 
-/// What goes on with each scan at which the group waits.
+/// What continues with each scan at which the group waits.
 #[derive(Clone, Copy)]
 pub(crate) enum Ongoing {
     /// The group wasn't checked since its birth, or since the leg opened.

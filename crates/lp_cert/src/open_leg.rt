@@ -1,8 +1,9 @@
 //! The leg under way.
 ghost use Rattle.std.specs.Prelude.{◌≡◌, length, map};
 ghost use Rattle.std.specs.Option.{option_map};
-ghost use Rattle.lp_cert.specs.Kept.{claim_of, upto_of};
-ghost use Rattle.lp_cert.specs.Waiters.{AreHeads, kept_cert};
+ghost use Rattle.lp_cert.specs.Invariant.{claim_of, upto_of};
+ghost use Rattle.lp_cert.specs.Waiters.{kept_cert};
+ghost use Rattle.lp_cert.specs.inside.Waiters.{AreHeads};
 
 use crate::cert::Claim;
 use crate::chains::Chains;
@@ -31,8 +32,8 @@ pub(crate) struct OpenLeg {
 }
 
 impl OpenLeg {
-    /// The end of the leg after so many events, with the groups that have a certificate. Takes no
-    /// memory.
+    /// The end of the leg after so many events, with the groups that have a certificate. Never
+    /// allocates.
     pub(crate) fn end(
         self,
         noted: u64,

@@ -1,11 +1,12 @@
 //! The reasons of each group in a leg.
 ghost use Rattle.std.specs.Prelude.{◌≡◌, ◌≢◌, ◌+◌, ◌<◌, ◌≤◌, ℕ, [], ◌∷◌, ◌++◌, length, reverse, slice_index_or, IfOk, OnOk};
-ghost use Rattle.lp_cert.specs.Heads.{IsUsed, IsRefusedBy, IsBornBy};
-ghost use Rattle.lp_cert.specs.Made.{group_id};
-ghost use Rattle.lp_cert.specs.Waiters.{no_head, head_of, lines_in, StandsAt};
+ghost use Rattle.lp_cert.specs.inside.Heads.{IsUsed, IsRefusedBy, IsBornBy};
+ghost use Rattle.lp_cert.specs.Certificates.{group_id};
+ghost use Rattle.lp_cert.specs.Waiters.{no_head, head_of};
+ghost use Rattle.lp_cert.specs.inside.Waiters.{lines_in, StandsAt};
 
 use crate::chains::{ChainId, Chains};
-use crate::head::{Birth, Head, Refused};
+use crate::head::{Head, OwnFork, Refused};
 use crate::line::LineList;
 use crate::ongoing::Ongoing;
 use lp_numbers::NUMBERS;
@@ -43,7 +44,7 @@ impl Model for Reasons {
 }
 
 impl Reasons {
-    /// No reason of any group; AllocError where a growth was refused.
+    /// No reason of any group; AllocError where an allocation failed.
     pub(crate) fn new(alloc: Global) -> Result<Reasons, AllocError>
         ensures heads { IfOk result (λ reasons. (group : ℕ) → head_of reasons group ≡ no_head) }
         ensures lists { IfOk result (λ reasons. reasons.lists ≡ [] ∷ []) }
@@ -56,8 +57,8 @@ impl Reasons {
         })
     }
 
-    /// Makes room for so many more reasons, and for one more scan; AllocError where a growth was
-    /// refused.
+    /// Makes room for so many more reasons, and for one more scan; AllocError where an allocation
+    /// failed.
     pub(crate) fn reserve(&mut self, more: usize) -> Result<(), AllocError>
         ensures heads { self.new.heads ≡ self.old.heads }
         ensures lists { self.new.lists ≡ self.old.lists }
@@ -76,7 +77,7 @@ impl Reasons {
         self.heads[usize::from(group.0)]
     }
 
-    /// The lines of a group, the oldest first; AllocError where a growth was refused.
+    /// The lines of a group, the oldest first; AllocError where an allocation failed.
     pub(crate) fn lines(&self, alloc: Global, group: GroupId) -> Result<LineList, AllocError>
         requires { StandsAt (length self.now.scans) self.now group.0 }
         ensures { IfOk result (λ lines. lines ≡ reverse (lines_in self.now group.0)) }
@@ -85,7 +86,7 @@ impl Reasons {
         head.lines(alloc, &self.chains, self.scans.as_slice(), group)
     }
 
-    /// A group without any reason. Takes no memory.
+    /// A group without any reason. Never allocates.
     pub(crate) fn begin(&mut self, group: GroupId)
         ensures head { head_of self.new group.0 ≡ no_head }
         ensures others { (other : ℕ) → other ≢ group.0 → head_of self.new other ≡ head_of self.old other }
@@ -95,7 +96,7 @@ impl Reasons {
         self.heads[usize::from(group.0)] = NO_REASON;
     }
 
-    /// A scan, which isn't noted yet, has refused a group. Takes no memory.
+    /// A scan, which isn't noted yet, has refused a group. Never allocates.
     pub(crate) fn refuse(&mut self, group: GroupId, refused: &Refused)
         requires head { StandsAt (length self.old.scans) self.old group.0 }
         requires room { 0 < self.old.room }
@@ -111,8 +112,8 @@ impl Reasons {
         self.heads[usize::from(group.0)] = next;
     }
 
-    /// A group gives birth to another. Takes no memory.
-    pub(crate) fn bear(&mut self, group: GroupId, birth: &Birth)
+    /// A group gives birth to another. Never allocates.
+    pub(crate) fn bear(&mut self, group: GroupId, birth: &OwnFork)
         requires head { StandsAt (length self.old.scans) self.old group.0 }
         requires room { 1 < self.old.room }
         ensures born { IsBornBy birth.now group self.old.scans (head_of self.old group.0) (head_of self.new birth.now.child.0) self.old.lists self.new.lists }
@@ -124,7 +125,7 @@ impl Reasons {
         self.heads[usize::from(birth.child.0)] = next;
     }
 
-    /// A copy of the older reasons, and of the scans; AllocError where a growth was refused.
+    /// A copy of the older reasons, and of the scans; AllocError where an allocation failed.
     pub(crate) fn copy_past(&self, alloc: Global) -> Result<(Chains, Vec<u64>), AllocError>
         ensures lists { IfOk result (λ past. past.0.lists ≡ self.now.lists) }
         ensures scans { IfOk result (λ past. past.1.items ≡ self.now.scans) }
@@ -134,7 +135,7 @@ impl Reasons {
         Ok((chains, scans))
     }
 
-    /// The older reasons, and the scans. Takes no memory.
+    /// The older reasons, and the scans. Never allocates.
     pub(crate) fn into_past(self) -> (Chains, Vec<u64>)
         ensures lists { result.0.lists ≡ self.lists }
         ensures scans { result.1.items ≡ self.scans }
@@ -142,7 +143,7 @@ impl Reasons {
         (self.chains, self.scans)
     }
 
-    /// Takes all older reasons and scans out. Takes no memory.
+    /// Takes all older reasons and scans out. Never allocates.
     pub(crate) fn clear_past(&mut self)
         ensures heads { self.new.heads ≡ self.old.heads }
         ensures lists { self.new.lists ≡ [] ∷ [] }
@@ -152,7 +153,7 @@ impl Reasons {
         self.scans.clear();
     }
 
-    /// A scan has refused the groups that were noted. Takes no memory.
+    /// A scan has refused the groups that were noted. Never allocates.
     pub(crate) fn scanned(&mut self, at: u64)
         requires { 0 < self.old.scan_room }
         ensures heads { self.new.heads ≡ self.old.heads }

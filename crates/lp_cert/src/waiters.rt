@@ -5,15 +5,16 @@ ghost use Rattle.std.specs.Option.{option_map};
 ghost use Rattle.lp_numbers.specs.Numbers.{Numbers, has, IsEmpty, IsNextFrom};
 ghost use Rattle.lp_transition.specs.Sound.{IsSound};
 ghost use Rattle.lp_transition.specs.Scan.{passing};
-ghost use Rattle.lp_transition.specs.ScanSteps.{IsNextBelow};
+ghost use Rattle.lp_transition.specs.inside.ScanSteps.{IsNextBelow};
 ghost use Rattle.lp_transition.specs.Table.{state_in};
-ghost use Rattle.lp_cert.specs.Heads.{HasFrameAs};
-ghost use Rattle.lp_cert.specs.Steps.{has_frame_in, first_refused};
-ghost use Rattle.lp_cert.specs.Kept.{floor_waiters};
-ghost use Rattle.lp_cert.specs.Waiters.{AreHeads, AreStanding, StandsAt, IsJudged, AreJudged, IsUsedVerdict, after_birth, has_off, lines_at, scanned_lines, waiter_in, waiters_of, AreTakenIn, IsTakenIn};
+ghost use Rattle.lp_cert.specs.inside.Heads.{HasFrameAs};
+ghost use Rattle.lp_cert.specs.EventLines.{has_frame_in, first_refused};
+ghost use Rattle.lp_cert.specs.Invariant.{floor_waiters};
+ghost use Rattle.lp_cert.specs.Waiters.{waiter_in, waiters_of};
+ghost use Rattle.lp_cert.specs.inside.Waiters.{AreHeads, AreStanding, StandsAt, IsJudged, AreJudged, IsUsedVerdict, after_birth, has_off, lines_at, scanned_lines, AreTakenIn, IsTakenIn};
 
 use crate::chains::Chains;
-use crate::head::{Birth, Refused, Waiter};
+use crate::head::{OwnFork, Refused, Waiter};
 use crate::line::LineList;
 use crate::ongoing::Ongoing;
 use crate::reasons::Reasons;
@@ -36,7 +37,8 @@ pub(crate) struct Waiters {
 }
 
 impl Model for Waiters {
-    ghost use Rattle.lp_cert.specs.Waiters.{WaitingGroups, AreStanding};
+    ghost use Rattle.lp_cert.specs.Waiters.{WaitingGroups};
+    ghost use Rattle.lp_cert.specs.inside.Waiters.{AreStanding};
 
     ghost Value = { WaitingGroups };
 
@@ -46,7 +48,7 @@ impl Model for Waiters {
 }
 
 impl Waiters {
-    /// No group; AllocError where a growth was refused.
+    /// No group; AllocError where an allocation failed.
     pub(crate) fn new(alloc: Global) -> Result<Waiters, AllocError>
         ensures none { IfOk result (λ waiters. IsEmpty waiters.groups) }
     {
@@ -57,8 +59,8 @@ impl Waiters {
         })
     }
 
-    /// Makes room for so many more reasons, and for one more scan; AllocError where a growth was
-    /// refused.
+    /// Makes room for so many more reasons, and for one more scan; AllocError where an allocation
+    /// failed.
     pub(crate) fn reserve(&mut self, more: usize) -> Result<(), AllocError>
         ensures groups { self.new.groups ≡ self.old.groups }
         ensures heads { self.new.reasons.heads ≡ self.old.reasons.heads }
@@ -87,7 +89,7 @@ impl Waiters {
         Some(GroupId(number))
     }
 
-    /// The lines of a group, the oldest first, if it waits; AllocError where a growth was refused.
+    /// The lines of a group, the oldest first, if it waits; AllocError where an allocation failed.
     pub(crate) fn lines(
         &self,
         alloc: Global,
@@ -101,7 +103,7 @@ impl Waiters {
         Ok(Some(self.reasons.lines(alloc, group)?))
     }
 
-    /// The groups that wait, in increasing order; AllocError where a growth was refused.
+    /// The groups that wait, in increasing order; AllocError where an allocation failed.
     pub(crate) fn list(&self, alloc: Global) -> Result<Vec<Waiter>, AllocError>
         ensures list { IfOk result (λ list. list.items ≡ waiters_of self.now) }
         ensures stands { IfOk result (λ list. AreHeads self.now.reasons.lists (length self.now.reasons.scans) list.items) }
@@ -109,7 +111,7 @@ impl Waiters {
         listed(alloc, &self.groups, &self.reasons)
     }
 
-    /// A copy of the older reasons, and of the scans; AllocError where a growth was refused.
+    /// A copy of the older reasons, and of the scans; AllocError where an allocation failed.
     pub(crate) fn copy_past(&self, alloc: Global) -> Result<(Chains, Vec<u64>), AllocError>
         ensures lists { IfOk result (λ past. past.0.lists ≡ self.now.reasons.lists) }
         ensures scans { IfOk result (λ past. past.1.items ≡ self.now.reasons.scans) }
@@ -117,7 +119,7 @@ impl Waiters {
         self.reasons.copy_past(alloc)
     }
 
-    /// The older reasons, and the scans. Takes no memory.
+    /// The older reasons, and the scans. Never allocates.
     pub(crate) fn into_past(self) -> (Chains, Vec<u64>)
         ensures lists { result.0.lists ≡ self.reasons.lists }
         ensures scans { result.1.items ≡ self.reasons.scans }
@@ -135,16 +137,16 @@ impl Waiters {
         }
     }
 
-    /// A group waits no longer. Takes no memory.
-    pub(crate) fn leave(&mut self, group: GroupId)
+    /// A group waits no longer. Never allocates.
+    pub(crate) fn switch_one(&mut self, group: GroupId)
         ensures groups { self.new.groups ≡ slice_set self.old.groups group.0 false }
         ensures reasons { self.new.reasons ≡ self.old.reasons }
     {
         self.groups.remove(group.0);
     }
 
-    /// A group that waits gives birth to another, which waits too. Takes no memory.
-    pub(crate) fn bear(&mut self, parent: GroupId, birth: &Birth)
+    /// A group that waits gives birth to another, which waits too. Never allocates.
+    pub(crate) fn bear(&mut self, parent: GroupId, birth: &OwnFork)
         requires waits { has self.old.groups parent.0 ≡ true }
         requires room { 1 < self.old.reasons.room }
         ensures { (group : ℕ) → lines_at self.new group ≡ after_birth birth.now parent.0 (lines_at self.old) group }
@@ -154,7 +156,7 @@ impl Waiters {
     }
 
     /// A leg opens that takes the tasks to a level: the groups of the live tasks off it wait,
-    /// without any reason. Takes no memory.
+    /// without any reason. Never allocates.
     pub(crate) fn open<M: Consistency>(&mut self, core: &Core<M>, level: Level)
         ensures { IsSound (state_in core.now) → (group : ℕ) → lines_at self.new group ≡ (if has_off (state_in core.now) level.0 group then Some [] else None) }
     {
@@ -163,8 +165,9 @@ impl Waiters {
         take_in_all(core, level, &mut self.groups, &mut self.reasons);
     }
 
-    /// A scan, with what it found of the tasks that it looked at, by increasing number: the reasons of
-    /// the groups that it refuses go on, and so do those that go on by themselves. Takes no memory.
+    /// A scan, with what it found of the tasks that it looked at, by increasing number: the reasons
+    /// of the groups that it refuses continue, and so do those that continue by themselves. Never
+    /// allocates.
     pub(crate) fn scan<M: Consistency>(&mut self, core: &Core<M>, at: u64, verdicts: &[Verdict])
         requires used { AllByRecursion IsUsedVerdict verdicts.now }
         requires room { length verdicts.now ≤ self.old.reasons.room }
@@ -259,14 +262,14 @@ fn judge<M: Consistency>(
         at,
         task: verdict.task,
         blame,
-        held: is_held(core, reasons.head(group).ongoing),
+        frame_stands: has_standing_frame(core, reasons.head(group).ongoing),
     };
     reasons.refuse(group, &refusal);
     groups.remove(group.0);
 }
 
-/// Of a hold that goes on, whether its frame is still on its task's stack.
-pub(crate) fn is_held<M: Consistency>(core: &Core<M>, ongoing: Ongoing) -> bool
+/// Of a hold that continues, whether its frame is still on its task's stack.
+pub(crate) fn has_standing_frame<M: Consistency>(core: &Core<M>, ongoing: Ongoing) -> bool
     ensures { HasFrameAs (has_frame_in (state_in core.now)) ongoing result }
 {
     let Ongoing::Hold { task, serial, .. } = ongoing else {

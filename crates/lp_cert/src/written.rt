@@ -1,14 +1,15 @@
 //! Reasons written out as lines.
 ghost use Rattle.std.specs.Prelude.{◌≡◌, ◌++◌, length, reverse, IfOk, OnOk};
 ghost use Rattle.std.specs.List.{AllByRecursion};
-ghost use Rattle.lp_cert.specs.Heads.{reason_lines, lines_of, FitsIn};
+ghost use Rattle.lp_cert.specs.Heads.{reason_lines, lines_of};
+ghost use Rattle.lp_cert.specs.inside.Heads.{FitsIn};
 
 use crate::line::Line;
 use crate::reason::Reason;
 use std::alloc::{AllocError, Global};
 
-/// The lines of reasons of which the newest is in front, the oldest line first; AllocError where a
-/// growth was refused.
+/// The lines of reasons of which the newest is in front, the oldest line first; AllocError where an
+/// allocation failed.
 pub(crate) fn lines_of(
     alloc: Global,
     reasons: &[Reason],
@@ -26,7 +27,7 @@ pub(crate) fn lines_of(
     Ok(lines)
 }
 
-/// Adds the lines of a reason, the oldest first; AllocError where a growth was refused.
+/// Adds the lines of a reason, the oldest first; AllocError where an allocation failed.
 pub(crate) fn add_lines(
     lines: &mut Vec<Line>,
     reason: &Reason,

@@ -12,7 +12,7 @@ use Rattle.lp_transition.specs.Table.{Engine, slot, fate_at, standings}
 use Rattle.lp_transition.specs.Tasks.{Life, Live, map_live}
 use Rattle.lp_transition.proofs.Waiting.{Waiter, waits-is, waits-from}
 use Rattle.lp_checker.specs.Folds.{leg_with}
-use Rattle.lp_checker.specs.Sections.{is_behind}
+use Rattle.lp_checker.specs.inside.Sections.{is_waiting_member}
 
 off_is : (level target : ℕ) → not (nat_eq level target) ≡ true → level ≢ target
 off_is level target h e = let same = ap not (eq-eqb level target e) in absurd (cc)
@@ -32,7 +32,7 @@ module _ (model : Rules) (opening : Engine) (events : List Event) (is : IsOpenin
   unfolding level_by
   level_there x = refl
 
-  waits_if : (group t : ℕ) (o : Option Standing) → slot opening.table t ≡ o → is_behind opening.target group o ≡ true → waits model leg nobody 0 group ≡ true
+  waits_if : (group t : ℕ) (o : Option Standing) → slot opening.table t ≡ o → is_waiting_member opening.target group o ≡ true → waits model leg nobody 0 group ≡ true
   waits_if group t None e h = absurd (cc)
   waits_if group t (Some x) e h =
       let live : standings opening.table t ≡ Live x = ap (λ o. fate_at o (has opening.table.used t)) e in
@@ -49,10 +49,10 @@ module _ (model : Rules) (opening : Engine) (events : List Event) (is : IsOpenin
       })
 
   -- a task that is off the target at the opening
-  pub waits_by : (group t : ℕ) → is_behind opening.target group (slot opening.table t) ≡ true → waits model leg nobody 0 group ≡ true
+  pub waits_by : (group t : ℕ) → is_waiting_member opening.target group (slot opening.table t) ≡ true → waits model leg nobody 0 group ≡ true
   waits_by group t h = waits_if group t (slot opening.table t) refl h
 
-  behind_if : (group t : ℕ) (life : Life) (o : Option Standing) (used : Bool) → map_live begin (fate_at o used) ≡ Live life → life.group ≡ group → level leg nobody 0 life ≢ opening.target → is_behind opening.target group o ≡ true
+  behind_if : (group t : ℕ) (life : Life) (o : Option Standing) (used : Bool) → map_live begin (fate_at o used) ≡ Live life → life.group ≡ group → level leg nobody 0 life ≢ opening.target → is_waiting_member opening.target group o ≡ true
   behind_if group t life (Some x) used e member off =
       let same : begin x ≡ life = cc in
       let own : x.group ≡ group = ap (λ v. v.group) same ∙ member in
@@ -60,12 +60,12 @@ module _ (model : Rules) (opening : Engine) (events : List Event) (is : IsOpenin
   behind_if group t life None true e member off = absurd (cc)
   behind_if group t life None false e member off = absurd (cc)
 
-  behind_by : (group : ℕ) (w : Waiter model leg nobody 0 group) → is_behind opening.target group (slot opening.table w.task) ≡ true
+  behind_by : (group : ℕ) (w : Waiter model leg nobody 0 group) → is_waiting_member opening.target group (slot opening.table w.task) ≡ true
   unfolding tasks_after
   behind_by group w = behind_if group w.task w.life (slot opening.table w.task) (has opening.table.used w.task) w.live w.member w.off
 
   -- nobody is
-  pub waits_not : (group : ℕ) → ((t : ℕ) → t < 65536 → is_behind opening.target group (slot opening.table t) ≡ false) → waits model leg nobody 0 group ≡ false
+  pub waits_not : (group : ℕ) → ((t : ℕ) → t < 65536 → is_waiting_member opening.target group (slot opening.table t) ≡ false) → waits model leg nobody 0 group ≡ false
   waits_not group none =
       false_from_ne_true _ (λ h.
       let w = waits-is model leg nobody 0 group h in

@@ -13,7 +13,7 @@ use Rattle.lp_cert.specs.declared.line.Line.{Line}
 use Rattle.lp_cert.specs.declared.line.Line.TheVariants.{Born}
 use Rattle.lp_checker.specs.declared.fault.CertFault.{CertFault}
 use Rattle.lp_checker.specs.declared.fault.CertFault.TheVariants.{BadBirth}
-use Rattle.lp_checker.specs.Births.{group_in, group_or_0, is_own_fork, group_now}
+use Rattle.lp_checker.specs.inside.Births.{group_in, group_or_0, is_own_fork, group_now}
 use Rattle.lp_checker.specs.Verdict.{Birth, births, first_lines, moment_of, forks_group, is_birth, birth_tests, first_group}
 
 -- a group as code has it, or 0

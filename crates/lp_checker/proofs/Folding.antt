@@ -10,10 +10,11 @@ use Rattle.lp_transition.specs.Leg.{Standing, Leg, unless_refused, accept, accep
 use Rattle.lp_transition.specs.Schedule.{standing, view}
 use Rattle.lp_transition.specs.Sound.{IsSound}
 use Rattle.lp_transition.specs.Chain.{nobody}
-use Rattle.lp_transition.specs.Machine.{Standings, outlines_of, view_of, accept_standing, take_own_effect, unmoved}
+use Rattle.lp_transition.specs.Machine.{Standings, outlines_of, view_of}
+use Rattle.lp_transition.specs.inside.Unmoved.{accept_standing, take_own_effect, unmoved}
 use Rattle.lp_transition.proofs.Cut.{outlines_same}
 use Rattle.lp_transition.proofs.Unmoved.{unmoved_is}
-use Rattle.lp_checker.specs.Births.{group_in}
+use Rattle.lp_checker.specs.inside.Births.{group_in}
 use Rattle.lp_checker.specs.Verdict.{blame_by, is_on_stack}
 
 module _ (model : Rules) (leg : Leg) (lawful : IsLawful model) (sound : IsSound leg.opening) where

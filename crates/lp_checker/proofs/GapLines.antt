@@ -9,7 +9,7 @@ use Rattle.lp_transition.specs.Leg.{Leg, check}
 use Rattle.lp_cert.specs.declared.line.Line.{Line}
 use Rattle.lp_checker.specs.declared.fault.CertFault.TheVariants.{Gap}
 use Rattle.lp_checker.specs.declared.sections.Section.{Section as Part}
-use Rattle.lp_checker.specs.Sections.{with_lines}
+use Rattle.lp_checker.specs.inside.Sections.{with_lines}
 use Rattle.lp_checker.specs.Verdict.{covers, first_bad, gap_test, is_covered}
 use Rattle.lp_checker.proofs.FirstBad.{first_bad_same, bad_within}
 

@@ -20,7 +20,7 @@ use Rattle.lp_transition.proofs.Plain.{Came, Stayed, Born, came, unused_before}
 use Rattle.lp_transition.proofs.SoundAfter.{serials}
 use Rattle.lp_cert.specs.declared.line.Line.TheVariants.{Hold}
 use Rattle.lp_checker.specs.declared.fault.CertFault.TheVariants.{NotOnStack, NoBlame}
-use Rattle.lp_checker.specs.Marks.{is_blamed}
+use Rattle.lp_checker.specs.inside.Marks.{is_blamed}
 use Rattle.lp_checker.specs.Verdict.{Section, blame_at, first_bad, is_held_by, is_on_stack, lies_in, line_test, moment_of}
 use Rattle.lp_checker.proofs.Accepted.{blamed-is, held-is}
 use Rattle.lp_checker.proofs.FirstBad.{all_good, first_none}

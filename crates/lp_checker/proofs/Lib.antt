@@ -4,7 +4,7 @@ pub mod Accepting
 pub mod Members
 pub mod OpeningTasks
 pub mod Folding
-pub mod Advancing
+pub mod Stepping
 pub mod BirthLines
 pub mod Accepted
 pub mod LawProofs

@@ -21,7 +21,7 @@ use Rattle.lp_transition.proofs.NoEarlier.{waits_too}
 use Rattle.lp_transition.proofs.Plain.{forks, no_member}
 use Rattle.lp_transition.proofs.Waiting.{Waiter, waits-from, Waited, InGroup, InParent, waited}
 use Rattle.lp_cert.specs.declared.line.Line.{Line}
-use Rattle.lp_cert.specs.Made.{group_id, task_id, birth_line, refusal_line, after_refusal, after_check, has_frame, first_blamed, with_birth, lines}
+use Rattle.lp_cert.specs.Certificates.{group_id, task_id, birth_line, refusal_line, after_refusal, after_check, has_frame, first_blamed, with_birth, lines}
 use Rattle.lp_checker.specs.Verdict.{Birth, births, first_lines, first_group, is_birth, forks_group, moment_of}
 use Rattle.lp_checker.proofs.LeadingTo.{IsFaultless, plain_lines, plain_births, first_before, one_birth_more, Leads, leads_first, leads_on}
 use Rattle.lp_checker.proofs.MadeParts.{IsRight, IsPart, part_plain, part_well, part_later}

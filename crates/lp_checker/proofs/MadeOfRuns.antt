@@ -9,7 +9,7 @@ use Rattle.lp_transition.specs.Leg.{Leg}
 use Rattle.lp_transition.specs.Run.{Run, AreInRange, and_then, first_leg, next_leg, opened, opens}
 use Rattle.lp_transition.specs.Sound.{IsSound}
 use Rattle.lp_transition.proofs.WholeRun.{next_sound, start_sound}
-use Rattle.lp_cert.specs.Made.{completion, certs_of, legs, opened_legs}
+use Rattle.lp_cert.specs.Certificates.{completion, certs_of, legs, opened_legs}
 use Rattle.lp_checker.specs.Laws.{AcceptsWhatIsMade}
 use Rattle.lp_checker.specs.Verdict.{verdict_on}
 use Rattle.lp_checker.proofs.MadeVerdicts.{accepted, at_end}

@@ -22,7 +22,7 @@ use Rattle.lp_transition.proofs.Plain.{numbered}
 use Rattle.lp_transition.proofs.Waiting.{Waiter, waits-from}
 use Rattle.lp_cert.specs.declared.line.Line.{Line}
 use Rattle.lp_cert.specs.declared.line.Line.TheVariants.{Hold, Busy as OnCpu, Born}
-use Rattle.lp_cert.specs.Made.{group_id, task_id, refusal_line, after_refusal, has_frame, member_blame, first_blamed}
+use Rattle.lp_cert.specs.Certificates.{group_id, task_id, refusal_line, after_refusal, has_frame, member_blame, first_blamed}
 use Rattle.lp_checker.specs.Verdict.{blame_by, blame_at, is_on_stack, covers, moment_of}
 use Rattle.lp_checker.proofs.Accepted.{group_stays, blamed-is}
 use Rattle.lp_checker.proofs.Held.{between, blamed_stands}

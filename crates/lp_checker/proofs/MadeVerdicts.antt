@@ -14,7 +14,7 @@ use Rattle.lp_transition.proofs.Waiting.{Waiter, waits-is}
 use Rattle.lp_cert.specs.declared.cert.Cert.{Cert}
 use Rattle.lp_cert.specs.declared.cert.Claim.{Claim}
 use Rattle.lp_cert.specs.declared.cert.Claim.TheVariants.{Waiting, Floor}
-use Rattle.lp_cert.specs.Made.{lines, cert, waiting_groups, completion, certs_by}
+use Rattle.lp_cert.specs.Certificates.{lines, cert, waiting_groups, completion, certs_by}
 use Rattle.lp_cert.proofs.Completions.{find_below}
 use Rattle.lp_checker.specs.declared.fault.CertFault.TheVariants.{NoSuchGroup, NoLeg}
 use Rattle.lp_checker.specs.Verdict.{Section, births, first_lines, last_group, same_claim, moment_of, no_leg, birth_tests, first_group, sections, has_stray, no_such_group, line_tests, gap_test, verdict_on}

@@ -9,7 +9,7 @@ use Rattle.lp_transition.specs.Tasks.{first_of}
 use Rattle.lp_cert.specs.declared.line.Line.{Line}
 use Rattle.lp_checker.specs.declared.marks.Mark.{Mark}
 use Rattle.lp_checker.specs.declared.marks.Mark.TheVariants.{Sound}
-use Rattle.lp_checker.specs.Marks.{IsMarked, AreMarked}
+use Rattle.lp_checker.specs.inside.Marks.{IsMarked, AreMarked}
 use Rattle.lp_checker.specs.Verdict.{Section, line_test}
 use Rattle.lp_checker.proofs.FirstBad.{first_none}
 

@@ -4,7 +4,8 @@ use Rattle.std.proofs.lemmas.Bool.{eqb-true, eq-eqb, ltb-true, lt-ltb}
 use Rattle.lp_patch.specs.Patches.{Patches}
 use Rattle.lp_transition.specs.Leg.{Standing, has_member, is_alone}
 use Rattle.lp_transition.specs.Machine.{outlines_of}
-use Rattle.lp_transition.specs.Table.{Table, slot, standings, bounds_of, IsWide, is_in}
+use Rattle.lp_transition.specs.Table.{Table, slot, standings, bounds_of, IsWide}
+use Rattle.lp_transition.specs.inside.Table.{is_in}
 use Rattle.lp_transition.proofs.MemberLemmas.{Member, has_member-is, has_member-from, alone-is, alone-from}
 
 -- two answers that come to the same

@@ -10,7 +10,7 @@ use Rattle.lp_cert.specs.declared.line.Line.TheVariants.{Hold, Busy as OnCpu, Bo
 use Rattle.lp_checker.specs.declared.fault.CertFault.{CertFault}
 use Rattle.lp_checker.specs.declared.sections.Section.{Section as Part}
 use Rattle.lp_checker.specs.Verdict.{line_test, line_tests, gap_test}
-use Rattle.lp_checker.specs.Sections.{section_of, timed, FollowOn}
+use Rattle.lp_checker.specs.inside.Sections.{section_of, timed, FollowOn}
 use Rattle.lp_checker.proofs.FirstBad.{first_of_append, first_of_found, first_none, first_some}
 
 -- what comes behind the first of them

@@ -9,7 +9,7 @@ use Rattle.lp_cert.specs.declared.line.Line.{Line}
 use Rattle.lp_cert.specs.declared.line.Line.TheVariants.{Hold, Busy as OnCpu, Born}
 use Rattle.lp_checker.specs.declared.sections.Section.{Section as Part}
 use Rattle.lp_checker.specs.Verdict.{Birth, Section, births, first_lines, sections}
-use Rattle.lp_checker.specs.Sections.{section_of, AreInOrder, FollowOn}
+use Rattle.lp_checker.specs.inside.Sections.{section_of, AreInOrder, FollowOn}
 
 -- what is in order ends no later than the last moment
 pub ends_in_time : (leg : Leg) (last begin : ℕ) (rest : List Birth) → AreInOrder leg last begin rest → begin ≤ last

@@ -8,7 +8,7 @@ use Rattle.lp_transition.specs.Leg.{Leg}
 use Rattle.lp_cert.specs.declared.line.Line.{Line}
 use Rattle.lp_cert.specs.declared.line.Line.TheVariants.{Hold, Busy, Born}
 use Rattle.lp_checker.specs.declared.gaps.Span.{Span}
-use Rattle.lp_checker.specs.Spans.{span_of, lasts, some_lasts, AreEnds}
+use Rattle.lp_checker.specs.inside.Spans.{span_of, spans_to, some_spans_to, AreEnds}
 use Rattle.lp_checker.proofs.Members.{same_answer}
 use Rattle.lp_checker.specs.Verdict.{covers}
 
@@ -85,9 +85,9 @@ any_or p q r same (x ∷ xs) = swap (p x) (q x) (list_any p xs) (list_any q xs) 
 
 module _ (number begin last : ℕ) (lines : List Line) (ends : List ℕ) (all : length ends ≡ last + 1) (own : AreEnds number begin last (λ place at. nat_eq at place) lines ends) (moment : ℕ) (positive : 0 < moment) where
   abbrev by : ℕ → Bool
-  by n = some_lasts number begin (λ at. nat_lt at n) moment lines
+  by n = some_spans_to number begin (λ at. nat_lt at n) moment lines
 
-  earlier : (n : ℕ) (span : Option Span) → (lasts number begin (λ at. nat_lt at n) moment span || lasts number begin (λ at. nat_eq at n) moment span) ≡ lasts number begin (λ at. nat_lt at (suc n)) moment span
+  earlier : (n : ℕ) (span : Option Span) → (spans_to number begin (λ at. nat_lt at n) moment span || spans_to number begin (λ at. nat_eq at n) moment span) ≡ spans_to number begin (λ at. nat_lt at (suc n)) moment span
   earlier n None = refl
   earlier n (Some s) =
       let at : ℕ = s.from - number - begin in
@@ -103,11 +103,11 @@ module _ (number begin last : ℕ) (lines : List Line) (ends : List ℕ) (all : 
           (λ (ne : at ≡ n → ⊥). or_left (nat_lt at n) (nat_eq at n) (lt-ltb at n (omega (arith, less, ne))))
           (cases_eq at n))
 
-  none_before : (lines : List Line) → false ≡ some_lasts number begin (λ at. nat_lt at 0) moment lines
+  none_before : (lines : List Line) → false ≡ some_spans_to number begin (λ at. nat_lt at 0) moment lines
   none_before [] = refl
   none_before (line ∷ more) = ap₂ (λ a b. a || b) (none (span_of line)) (none_before more)
     where
-      none : (span : Option Span) → false ≡ lasts number begin (λ at. nat_lt at 0) moment span
+      none : (span : Option Span) → false ≡ spans_to number begin (λ at. nat_lt at 0) moment span
       none None = refl
       none (Some s) = sym (ap (λ b. b && nat_le moment (s.to - number)) (le-ltb (s.from - number - begin) 0 (omega arith)))
 
@@ -118,7 +118,7 @@ module _ (number begin last : ℕ) (lines : List Line) (ends : List ℕ) (all : 
       ap (λ k. list_any (nat_le moment) (take k ends)) (sym (add-one n))
       ∙ list_any_more (nat_le moment) ends n 0 (omega (arith, le, all))
       ∙ ap₂ (λ a b. a || b) (ends_so_far n (omega (arith, le))) (own n moment (omega (arith, le)) positive)
-      ∙ any_or (λ line. lasts number begin (λ at. nat_lt at n) moment (span_of line)) (λ line. lasts number begin (λ at. nat_eq at n) moment (span_of line)) (λ line. lasts number begin (λ at. nat_lt at (suc n)) moment (span_of line)) (λ line. earlier n (span_of line)) lines
+      ∙ any_or (λ line. spans_to number begin (λ at. nat_lt at n) moment (span_of line)) (λ line. spans_to number begin (λ at. nat_eq at n) moment (span_of line)) (λ line. spans_to number begin (λ at. nat_lt at (suc n)) moment (span_of line)) (λ line. earlier n (span_of line)) lines
 
 -- ---- What the lines cover
 
@@ -138,11 +138,11 @@ module _ (model : Rules) (leg : Leg) (begin moment : ℕ) (later : begin < momen
       eq-eqb a moment (omega (arith, low, high)))
       (λ h. let same = eqb-true a moment h in and_from _ _ (le-leb a moment (omega (arith, same))) (le-leb moment a (omega (arith, same))))
 
-  one_covers : (line : Line) → lasts leg.number begin (λ at. nat_lt at (suc (moment - begin))) moment (span_of line) ≡ covers model leg moment line
+  one_covers : (line : Line) → spans_to leg.number begin (λ at. nat_lt at (suc (moment - begin))) moment (span_of line) ≡ covers model leg moment line
   one_covers (Hold g t s from to) = ap (λ b. b && nat_le moment (to - leg.number)) (begins (from - leg.number))
   one_covers (Busy g t at) = ap (λ b. b && nat_le moment (at - leg.number)) (begins (at - leg.number)) ∙ both (at - leg.number)
   one_covers (Born g p at) = refl
 
-  pub lines_cover : (lines : List Line) → some_lasts leg.number begin (λ at. nat_lt at (suc (moment - begin))) moment lines ≡ list_any (covers model leg moment) lines
+  pub lines_cover : (lines : List Line) → some_spans_to leg.number begin (λ at. nat_lt at (suc (moment - begin))) moment lines ≡ list_any (covers model leg moment) lines
   lines_cover [] = refl
   lines_cover (line ∷ more) = ap₂ (λ a b. a || b) (one_covers line) (lines_cover more)

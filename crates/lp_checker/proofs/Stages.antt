@@ -12,7 +12,7 @@ use Rattle.lp_cert.specs.declared.line.Line.{Line}
 use Rattle.lp_checker.specs.declared.fault.CertFault.{CertFault}
 use Rattle.lp_checker.specs.declared.fault.CertFault.TheVariants.{NoSuchGroup, BadBirth, NoLeg}
 use Rattle.lp_checker.specs.Verdict.{Birth, Section, births, birth_tests, first_group, first_lines, gap_test, is_birth, line_tests, moment_of, no_leg, no_such_group, sections, verdict_on}
-use Rattle.lp_checker.specs.Sections.{AreInOrder}
+use Rattle.lp_checker.specs.inside.Sections.{AreInOrder}
 use Rattle.lp_checker.proofs.FirstBad.{first_of_append, first_of_found, first_none, first_some}
 
 pub fit_none : {A : Type 0} (b : Bool) (x : A) → b ≡ false → fits b x ≡ None

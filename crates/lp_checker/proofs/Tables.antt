@@ -10,13 +10,14 @@ use Rattle.std.specs.Option.{option_map}
 use Rattle.lp_numbers.specs.Numbers.{Numbers, has}
 use Rattle.lp_transition.specs.Tasks.{Dead, change}
 use Rattle.lp_transition.specs.Leg.{Standing}
-use Rattle.lp_transition.specs.Table.{Table, slot, fate_at, standings, is_in, changed, with_task, without_task}
+use Rattle.lp_transition.specs.Table.{Table, slot, fate_at, standings}
+use Rattle.lp_transition.specs.inside.Table.{is_in, changed, with_task, without_task}
 use Rattle.lp_transition.proofs.TableLemmas.{standings-changed, slot-changed, slot-changed_other, slot-with_task_other, used-with_task, used-with_task_other, slot-without_task, slot-without_task_other, IsWide-changed, IsWide-with_task, IsWide-without_task}
-use Rattle.lp_transition.specs.Slots.{slots_of}
+use Rattle.lp_transition.specs.inside.Slots.{slots_of}
 use Rattle.lp_transition.proofs.SlotLemmas.{boxed, slots_of-change}
 use Rattle.lp_transition.proofs.CountLemmas.{count-changed, count-with_task, count-without_task}
 use Rattle.lp_transition.proofs.MemberLemmas.{count-blank}
-use Rattle.lp_checker.specs.Tables.{IsCounted}
+use Rattle.lp_checker.specs.inside.Tables.{IsCounted}
 
 is_some-map : {A B : Type 0} (f : A → B) (o : Option A) → is_some (option_map f o) ≡ is_some o
 is_some-map f None = refl

@@ -1,21 +1,9 @@
 -- Where the fold of a leg stands.
-use Rattle.std.specs.Prelude.{◌≡◌, ℕ, ◌+◌, List}
-use Rattle.lp_model.specs.Rules.{Rules}
+use Rattle.std.specs.Prelude.{List}
 use Rattle.lp_transition.specs.declared.event.Event.{Event}
 use Rattle.lp_transition.specs.Leg.{Leg}
-use Rattle.lp_transition.specs.Machine.{unmoved}
-use Rattle.lp_transition.specs.Openings.{IsOpening}
-use Rattle.lp_transition.specs.Table.{Engine, state_in, standings}
-use Rattle.lp_checker.specs.declared.fold.Fold.{Fold}
+use Rattle.lp_transition.specs.Table.{Engine, state_in}
 
 -- the leg with this opening and these events
 abbrev pub leg_with : Engine → List Event → Leg
 leg_with opening events = record { opening = state_in opening; events = events }
-
--- the fold has taken the first k events, with nobody going over
-pub record IsAt (model : Rules) (opening : Engine) (events : List Event) (k : ℕ) (fold : Fold) : Type 0 where
-  pub sound : IsOpening opening
-  pub number : fold.number ≡ opening.number + k
-  pub target : fold.target.0 ≡ opening.target
-  pub patches : fold.patches ≡ opening.patches
-  pub tasks : standings fold.tasks ≡ unmoved model.child_group (leg_with opening events) k

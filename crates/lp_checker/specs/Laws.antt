@@ -7,7 +7,7 @@ use Rattle.lp_transition.specs.Run.{Run, AreInRange, first_leg}
 use Rattle.lp_transition.specs.Sound.{IsSound}
 use Rattle.lp_cert.specs.declared.cert.Cert.{Cert}
 use Rattle.lp_cert.specs.declared.cert.Claim.{Claim}
-use Rattle.lp_cert.specs.Made.{cert, certs_of, opened_legs}
+use Rattle.lp_cert.specs.Certificates.{cert, certs_of, opened_legs}
 use Rattle.lp_checker.specs.Verdict.{verdict_on}
 
 -- what a certificate claims of a leg. Event `upto` of the run is event k of the leg

@@ -1,10 +1,5 @@
 pub mod Faults
 pub mod Verdict
-pub mod Tables
-pub mod Births
 pub mod Folds
-pub mod Sections
-pub mod Spans
-pub mod Walks
-pub mod Marks
 pub mod Laws
+pub mod inside

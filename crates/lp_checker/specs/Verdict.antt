@@ -1,6 +1,6 @@
--- The answer to a certificate: its first fault, if it has one. The events of the leg are taken with nobody going over,
--- so that what a check sees of a group that waits is what it sees under every schedule under which the group waits.
--- Certificates number events as the run does; the definitions count from the opening of the leg, as `moment_of` does.
+-- The answer to a certificate: its first fault, if it has one. The events of the leg are taken with nobody switching, so that
+-- what a check sees of a group that waits is what it sees under every schedule under which the group waits. Certificates number
+-- events as the run does; the definitions count from the opening of the leg, as `moment_of` does.
 use Rattle.std.specs.Prelude.{ℕ, zero, suc, pred, ◌+◌, ◌-◌, Bool, true, false, not, ◌&&◌, ◌||◌, List, [], ◌∷◌, ◌++◌, length, map, Option, Some, None, is_none, if◌then◌else◌, nat_eq, nat_le, nat_lt}
 use Rattle.std.specs.List.{list_any, flat_map}
 use Rattle.std.specs.Option.{option_map}

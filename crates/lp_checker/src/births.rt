@@ -3,13 +3,14 @@ ghost use Rattle.std.specs.Prelude.{◌≡◌, ℕ, ◌+◌, ◌<◌, ◌≤◌,
 ghost use Rattle.std.specs.Option.{option_map};
 ghost use Rattle.lp_transition.specs.Tasks.{first_of};
 ghost use Rattle.lp_transition.specs.Leg.{accepted, after};
-ghost use Rattle.lp_checker.specs.Births.{group_in, group_or_0, is_own_fork, group_now};
-ghost use Rattle.lp_checker.specs.Folds.{leg_with, IsAt};
+ghost use Rattle.lp_checker.specs.inside.Births.{group_in, group_or_0, is_own_fork, group_now};
+ghost use Rattle.lp_checker.specs.Folds.{leg_with};
+ghost use Rattle.lp_checker.specs.inside.Folds.{IsAt};
 ghost use Rattle.lp_checker.specs.Verdict.{births, birth_tests, first_group};
 
 use crate::CertFault;
 use crate::fold::Fold;
-use crate::leg::Leg;
+use crate::given_leg::GivenLeg;
 use lp_cert::Line;
 use lp_model::Consistency;
 use lp_stack::{GroupId, TaskId};
@@ -18,7 +19,7 @@ use std::alloc::{AllocError, Global};
 
 /// A `born` line, with the place of its event in the leg, from 1.
 #[derive(Clone, Copy)]
-struct Birth {
+struct BornLine {
     group: GroupId,
     parent: TaskId,
     moment: usize,
@@ -28,7 +29,7 @@ struct Birth {
 pub(crate) fn birth_fault<M: Consistency>(
     alloc: Global,
     model: M,
-    leg: &Leg<'_>,
+    leg: &GivenLeg<'_>,
     lines: &[Line],
     last: usize,
 ) -> Result<Option<CertFault>, AllocError>
@@ -46,7 +47,7 @@ pub(crate) fn birth_fault<M: Consistency>(
         let Some(moment) = leg.moment_within(at, begin, last) else {
             return Ok(Some(CertFault::BadBirth(at)));
         };
-        let birth = Birth {
+        let birth = BornLine {
             group,
             parent,
             moment,
@@ -65,11 +66,11 @@ pub(crate) fn birth_fault<M: Consistency>(
 fn is_birth<M: Consistency>(
     alloc: Global,
     model: M,
-    leg: &Leg<'_>,
+    leg: &GivenLeg<'_>,
     fold: &mut Fold,
     begin: usize,
     from: Option<GroupId>,
-    birth: Birth,
+    birth: BornLine,
 ) -> Result<bool, AllocError>
     requires at { IsAt M.rules leg.now.opening.now leg.now.events.now begin fold.old }
     requires order { begin < birth.moment }
@@ -79,9 +80,9 @@ fn is_birth<M: Consistency>(
     ensures birth { IfOk result (λ b. b ≡ is_own_fork M.rules (accepted M.rules (leg_with leg.now.opening.now leg.now.events.now) (pred birth.moment)) (group_in (after M.rules (leg_with leg.now.opening.now leg.now.events.now) (pred birth.moment) birth.parent.0)) (group_now from (group_or_0 (after M.rules (leg_with leg.now.opening.now leg.now.events.now) (pred birth.moment) birth.parent.0))) birth.group.0 birth.parent.0) }
 {
     let place = birth.moment - 1;
-    leg.advance_to(alloc, model, fold, begin, place)?;
+    leg.step_to(alloc, model, fold, begin, place)?;
     let own = leg.group_at(model, fold, place, birth.parent);
-    let event = leg.advance(alloc, model, fold, place)?;
+    let event = leg.step(alloc, model, fold, place)?;
     Ok(is_own_fork(model, event, own, from, birth))
 }
 
@@ -91,7 +92,7 @@ fn is_own_fork<M: Consistency>(
     event: Option<Event>,
     own: Option<GroupId>,
     from: Option<GroupId>,
-    birth: Birth,
+    birth: BornLine,
 ) -> bool
     ensures { result ≡ is_own_fork M.rules event (option_map (λ g. g.0) own) (group_now from (group_now own 0)) birth.group.0 birth.parent.0 }
 {

@@ -7,8 +7,8 @@ ghost use Rattle.lp_checker.specs.Verdict.{no_leg, same_claim, verdict_on};
 use crate::CertFault;
 use crate::births::birth_fault;
 use crate::gaps::gap_fault;
+use crate::given_leg::GivenLeg;
 use crate::groups::{first_group, is_no_such_group};
-use crate::leg::Leg;
 use crate::lines::line_fault;
 use crate::sections::sections;
 use lp_cert::{Cert, Claim, Line};
@@ -26,7 +26,7 @@ const MOST_EVENTS: u64 = 1_000_000;
 /// The first fault: C6 for another claim or leg, or an end outside of the leg or past event
 /// 1,000,000; C5 for the first `born` line at fault; C1 for a group that is none; C3 or C2 for the
 /// first other line at fault; C4 for the first check that no line covers. C7 (`NoMemory`) comes in
-/// place of any answer, only where a growth was refused.
+/// place of any answer, only where an allocation failed.
 pub fn check_waiting<M: Consistency>(
     alloc: Global,
     model: M,
@@ -68,7 +68,7 @@ fn check<M: Consistency>(
     ensures sound { IfOk result (λ _. Holds M.rules (leg_with opening.now events.now) cert.now) }
 {
     let _ = opening.number();
-    let leg = Leg { opening, events };
+    let leg = GivenLeg { opening, events };
     match fault_of(alloc, model, &leg, claim, cert)? {
         None => Ok(()),
         Some(fault) => Err(fault),
@@ -79,7 +79,7 @@ fn check<M: Consistency>(
 fn fault_of<M: Consistency>(
     alloc: Global,
     model: M,
-    leg: &Leg<'_>,
+    leg: &GivenLeg<'_>,
     claim: Claim,
     cert: &Cert,
 ) -> Result<Option<CertFault>, AllocError>
@@ -108,7 +108,7 @@ fn fault_of<M: Consistency>(
 
 /// Whether a certificate makes another claim or is of another leg, or its end lies outside of the
 /// leg or past the events that a run can have.
-fn is_no_leg<M: Consistency>(_model: M, leg: &Leg<'_>, claim: Claim, cert: &Cert) -> bool
+fn is_no_leg<M: Consistency>(_model: M, leg: &GivenLeg<'_>, claim: Claim, cert: &Cert) -> bool
     ensures { result ≡ no_leg M.rules (leg_with leg.now.opening.now leg.now.events.now) claim cert.now }
 {
     if !is_same_claim(cert.claim, claim) {

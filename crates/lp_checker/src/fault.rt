@@ -19,7 +19,7 @@ pub enum CertFault {
     BadBirth(u64),
     /// C6: the certificate is for another claim or another leg, or ends outside of it.
     NoLeg,
-    /// C7: a growth was refused.
+    /// C7: an allocation failed.
     NoMemory,
 }
 

@@ -1,11 +1,12 @@
-//! The events of a leg, taken with nobody going over: a call has its task's level, a child its
+//! The events of a leg, taken with nobody switching: a call has its task's level, a child its
 //! parent's.
 ghost use Rattle.std.specs.Prelude.{◌≡◌, ℕ, suc, ◌<◌, ◌≤◌, false, Some, None, if◌then◌else◌, nat_eq, IfOk, OnOk};
 ghost use Rattle.std.specs.List.{list_any};
 ghost use Rattle.std.specs.Option.{option_map};
 ghost use Rattle.lp_transition.specs.Tasks.{first_of, tests, on_live, Unused, Dead};
 ghost use Rattle.lp_transition.specs.Leg.{check_by, if_used, is_alone, has_member};
-ghost use Rattle.lp_transition.specs.Machine.{view_of, outlines_of, own_effect, accept_standing, take_own_effect};
+ghost use Rattle.lp_transition.specs.Machine.{view_of, outlines_of, own_effect};
+ghost use Rattle.lp_transition.specs.inside.Unmoved.{accept_standing, take_own_effect};
 ghost use Rattle.lp_transition.specs.Openings.{IsOpening};
 ghost use Rattle.lp_transition.specs.Table.{slot, standings, bounds_of};
 
@@ -54,7 +55,7 @@ impl Fold {
     }
 
     /// No group switches here: a certificate speaks of a group that waits, which sees no other's level.
-    pub(crate) fn pass<M: Consistency>(
+    pub(crate) fn step<M: Consistency>(
         &mut self,
         alloc: Global,
         model: M,

@@ -4,14 +4,15 @@ ghost use Rattle.std.specs.List.{list_any};
 ghost use Rattle.lp_model.specs.Rules.{Rules};
 ghost use Rattle.lp_transition.specs.Tasks.{first_of};
 ghost use Rattle.lp_transition.specs.Leg.{check};
-ghost use Rattle.lp_checker.specs.Folds.{leg_with, IsAt};
+ghost use Rattle.lp_checker.specs.Folds.{leg_with};
+ghost use Rattle.lp_checker.specs.inside.Folds.{IsAt};
 ghost use Rattle.lp_checker.specs.Verdict.{covers, first_bad, gap_test};
-ghost use Rattle.lp_checker.specs.Sections.{section_of, with_lines, FollowOn};
-ghost use Rattle.lp_checker.specs.Spans.{span_of, AreEnds};
+ghost use Rattle.lp_checker.specs.inside.Sections.{section_of, with_lines, FollowOn};
+ghost use Rattle.lp_checker.specs.inside.Spans.{span_of, AreEnds};
 
 use crate::CertFault;
 use crate::fold::Fold;
-use crate::leg::Leg;
+use crate::given_leg::GivenLeg;
 use crate::sections::Section;
 use lp_cert::Line;
 use lp_model::Consistency;
@@ -21,7 +22,7 @@ use std::alloc::{AllocError, Global};
 pub(crate) fn gap_fault<M: Consistency>(
     alloc: Global,
     model: M,
-    leg: &Leg<'_>,
+    leg: &GivenLeg<'_>,
     lines: &[Line],
     sections: &[Section],
     last: usize,
@@ -47,7 +48,7 @@ pub(crate) fn gap_fault<M: Consistency>(
 fn gap_in<M: Consistency>(
     alloc: Global,
     model: M,
-    leg: &Leg<'_>,
+    leg: &GivenLeg<'_>,
     fold: &mut Fold,
     section: Section,
     lines: &[Line],
@@ -74,7 +75,7 @@ fn gap_in<M: Consistency>(
 fn first_gap<M: Consistency>(
     alloc: Global,
     model: M,
-    leg: &Leg<'_>,
+    leg: &GivenLeg<'_>,
     fold: &mut Fold,
     section: Section,
     ends: &[u64],
@@ -88,7 +89,7 @@ fn first_gap<M: Consistency>(
     ensures gap { IfOk result (λ gap. gap ≡ first_bad (section.until - section.begin) section.begin (λ place. is_none (check M.rules (leg_with leg.now.opening.now leg.now.events.now) place section.group.0) || nat_le (suc place) (slice_index ends.now (suc place - section.begin)))) }
 {
     for place in section.begin..section.until {
-        let event = leg.advance(alloc, model, fold, place)?;
+        let event = leg.step(alloc, model, fold, place)?;
         let check = leg.check(model, fold, place, event, section.group);
         if check.is_some() && ends[place + 1 - section.begin] <= place as u64 {
             return Ok(Some(place));
@@ -119,7 +120,7 @@ fn span_of(line: Line) -> Option<Span>
 /// begin by then.
 fn ends_by(
     alloc: Global,
-    leg: &Leg<'_>,
+    leg: &GivenLeg<'_>,
     section: Section,
     lines: &[Line],
 ) -> Result<Vec<u64>, AllocError>
@@ -155,7 +156,7 @@ fn greater(one: u64, other: u64) -> u64
 /// begin at it. Those that begin earlier stand at the beginning.
 fn own_ends(
     alloc: Global,
-    leg: &Leg<'_>,
+    leg: &GivenLeg<'_>,
     section: Section,
     lines: &[Line],
 ) -> Result<Vec<u64>, AllocError>

@@ -3,17 +3,17 @@ ghost use Rattle.std.specs.Prelude.{◌≡◌, ℕ, ◌+◌, ◌-◌, ◌≤◌,
 ghost use Rattle.std.specs.List.{list_any};
 ghost use Rattle.std.specs.Option.{option_map};
 ghost use Rattle.lp_transition.specs.Chain.{nobody};
-ghost use Rattle.lp_transition.specs.Leg.{Leg as SpecLeg, after, has_member};
+ghost use Rattle.lp_transition.specs.Leg.{Leg, after, has_member};
 ghost use Rattle.lp_transition.specs.Schedule.{waits};
 ghost use Rattle.lp_transition.specs.Table.{slot};
 ghost use Rattle.lp_transition.specs.Tasks.{outlines};
 ghost use Rattle.lp_model.specs.Rules.{Rules};
-ghost use Rattle.lp_checker.specs.Births.{group_or_0};
+ghost use Rattle.lp_checker.specs.inside.Births.{group_or_0};
 ghost use Rattle.lp_checker.specs.Folds.{leg_with};
-ghost use Rattle.lp_checker.specs.Sections.{AreInOrder, is_behind};
+ghost use Rattle.lp_checker.specs.inside.Sections.{AreInOrder, is_waiting_member};
 ghost use Rattle.lp_checker.specs.Verdict.{births, first_group, first_lines, has_stray, last_group, no_such_group, sections};
 
-use crate::leg::Leg;
+use crate::given_leg::GivenLeg;
 use lp_cert::Line;
 use lp_model::Consistency;
 use lp_numbers::NUMBERS;
@@ -37,7 +37,7 @@ pub(crate) fn last_group(lines: &[Line], first: GroupId) -> GroupId
 /// Whether a line names another group than its section's; the first section is that of the first
 /// group.
 pub(crate) fn has_stray(lines: &[Line], first: GroupId) -> bool
-    ensures { (model : Rules) (leg : SpecLeg) (last begin : ℕ) → result ≡ list_any (has_stray model leg) (sections model leg last first.0 begin (first_lines lines.now) (births lines.now)) }
+    ensures { (model : Rules) (leg : Leg) (last begin : ℕ) → result ≡ list_any (has_stray model leg) (sections model leg last first.0 begin (first_lines lines.now) (births lines.now)) }
 {
     let mut section = first;
     for line in lines {
@@ -59,7 +59,7 @@ pub(crate) fn has_stray(lines: &[Line], first: GroupId) -> bool
 pub(crate) fn is_no_such_group<M: Consistency>(
     alloc: Global,
     model: M,
-    leg: &Leg<'_>,
+    leg: &GivenLeg<'_>,
     lines: &[Line],
     first: GroupId,
     claimed: GroupId,
@@ -86,7 +86,7 @@ pub(crate) fn is_no_such_group<M: Consistency>(
 fn has_member_at<M: Consistency>(
     alloc: Global,
     model: M,
-    leg: &Leg<'_>,
+    leg: &GivenLeg<'_>,
     moment: usize,
     group: GroupId,
 ) -> Result<bool, AllocError>
@@ -95,17 +95,17 @@ fn has_member_at<M: Consistency>(
     ensures { let its = leg_with leg.now.opening.now leg.now.events.now in IfOk result (λ some. some ≡ has_member its.bounds (outlines (after M.rules its moment)) group.0) }
 {
     let mut fold = leg.open(alloc, model)?;
-    leg.advance_to(alloc, model, &mut fold, 0, moment)?;
+    leg.step_to(alloc, model, &mut fold, 0, moment)?;
     Ok(leg.has_member(model, &fold, moment, group))
 }
 
 /// Whether a group has a live member off the target at the opening.
-fn waits_at_opening<M: Consistency>(_model: M, leg: &Leg<'_>, group: GroupId) -> bool
+fn waits_at_opening<M: Consistency>(_model: M, leg: &GivenLeg<'_>, group: GroupId) -> bool
     ensures { result ≡ waits M.rules (leg_with leg.now.opening.now leg.now.events.now) nobody 0 group.0 }
 {
     let _ = leg.opening.number();
     for number in 0..NUMBERS {
-        if is_behind(leg.opening, TaskId(number as u16), group) {
+        if is_waiting_member(leg.opening, TaskId(number as u16), group) {
             return true;
         }
     }
@@ -113,8 +113,8 @@ fn waits_at_opening<M: Consistency>(_model: M, leg: &Leg<'_>, group: GroupId) ->
 }
 
 /// Whether a number is a live member of a group at the opening, and off the target.
-fn is_behind(opening: &Opening, task: TaskId, group: GroupId) -> bool
-    ensures { result ≡ is_behind opening.now.target group.0 (slot opening.now.table task.0) }
+fn is_waiting_member(opening: &Opening, task: TaskId, group: GroupId) -> bool
+    ensures { result ≡ is_waiting_member opening.now.target group.0 (slot opening.now.table task.0) }
 {
     let Some(own) = opening.group_of(task) else {
         return false;
@@ -129,7 +129,7 @@ fn is_behind(opening: &Opening, task: TaskId, group: GroupId) -> bool
 pub(crate) fn first_group<M: Consistency>(
     alloc: Global,
     model: M,
-    leg: &Leg<'_>,
+    leg: &GivenLeg<'_>,
     lines: &[Line],
     claimed: GroupId,
     last: usize,
@@ -151,7 +151,7 @@ pub(crate) fn first_group<M: Consistency>(
 fn group_before<M: Consistency>(
     alloc: Global,
     model: M,
-    leg: &Leg<'_>,
+    leg: &GivenLeg<'_>,
     moment: usize,
     task: TaskId,
 ) -> Result<GroupId, AllocError>
@@ -161,7 +161,7 @@ fn group_before<M: Consistency>(
 {
     let place = moment.saturating_sub(1);
     let mut fold = leg.open(alloc, model)?;
-    leg.advance_to(alloc, model, &mut fold, 0, place)?;
+    leg.step_to(alloc, model, &mut fold, 0, place)?;
     match leg.group_at(model, &fold, place, task) {
         Some(group) => Ok(group),
         None => Ok(GroupId(0)),

@@ -4,16 +4,16 @@
 
 mod births;
 mod check;
+mod cursor;
 mod fault;
 mod fold;
 mod gaps;
+mod given_leg;
 mod groups;
 pub mod laws;
-mod leg;
 mod lines;
 mod marks;
 mod sections;
-mod walk;
 
 pub use check::{check_floor, check_waiting};
 pub use fault::CertFault;

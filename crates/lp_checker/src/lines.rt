@@ -2,19 +2,20 @@
 ghost use Rattle.std.specs.Prelude.{◌≡◌, ℕ, true, suc, ◌+◌, ◌-◌, ◌≤◌, length, map, IfOk};
 ghost use Rattle.std.specs.List.{flat_map};
 ghost use Rattle.lp_transition.specs.Tasks.{first_of};
-ghost use Rattle.lp_checker.specs.Folds.{leg_with, IsAt};
+ghost use Rattle.lp_checker.specs.Folds.{leg_with};
+ghost use Rattle.lp_checker.specs.inside.Folds.{IsAt};
 ghost use Rattle.lp_cert.specs.declared.line.Line.{Line};
 ghost use Rattle.lp_checker.specs.Verdict.{first_bad, is_busy, is_held_by, is_on_stack, line_test, line_tests};
-ghost use Rattle.lp_checker.specs.Marks.{AreMarked};
-ghost use Rattle.lp_checker.specs.Walks.{IsWalk};
-ghost use Rattle.lp_checker.specs.Sections.{section_of, timed, FollowOn};
+ghost use Rattle.lp_checker.specs.inside.Marks.{AreMarked};
+ghost use Rattle.lp_checker.specs.inside.Cursors.{IsCursor};
+ghost use Rattle.lp_checker.specs.inside.Sections.{section_of, timed, FollowOn};
 
 use crate::CertFault;
+use crate::cursor::Cursor;
 use crate::fold::Fold;
-use crate::leg::Leg;
+use crate::given_leg::GivenLeg;
 use crate::marks::{Mark, marks_of};
 use crate::sections::Section;
-use crate::walk::Walk;
 use lp_cert::Line;
 use lp_model::{Blame, Consistency};
 use lp_stack::{GroupId, TaskId};
@@ -24,7 +25,7 @@ use std::alloc::{AllocError, Global};
 pub(crate) fn line_fault<M: Consistency>(
     alloc: Global,
     model: M,
-    leg: &Leg<'_>,
+    leg: &GivenLeg<'_>,
     lines: &[Line],
     sections: &[Section],
     last: usize,
@@ -34,10 +35,10 @@ pub(crate) fn line_fault<M: Consistency>(
     requires room { leg.now.opening.now.number + last ≤ 1000000 }
     ensures { IfOk result (λ fault. fault ≡ first_of (flat_map (line_tests M.rules (leg_with leg.now.opening.now leg.now.events.now)) (map (section_of lines.now) sections.now))) }
 {
-    let mut walk = Walk::open(alloc, model, leg)?;
+    let mut cursor = Cursor::open(alloc, model, leg)?;
     for section in sections {
         let own = &lines[section.start..section.end];
-        let marks = marks_of(alloc, model, leg, &mut walk, *section, own)?;
+        let marks = marks_of(alloc, model, leg, &mut cursor, *section, own)?;
         let fault = fault_in(alloc, model, leg, *section, own, marks.as_slice())?;
         if fault.is_some() {
             return Ok(fault);
@@ -51,7 +52,7 @@ pub(crate) fn line_fault<M: Consistency>(
 fn fault_in<M: Consistency>(
     alloc: Global,
     model: M,
-    leg: &Leg<'_>,
+    leg: &GivenLeg<'_>,
     section: Section,
     lines: &[Line],
     marks: &[Mark],
@@ -84,7 +85,7 @@ fn is_sound(mark: Mark) -> bool
 fn fault_of<M: Consistency>(
     alloc: Global,
     model: M,
-    leg: &Leg<'_>,
+    leg: &GivenLeg<'_>,
     section: Section,
     line: Line,
 ) -> Result<Option<CertFault>, AllocError>
@@ -126,7 +127,7 @@ pub(crate) struct Hold {
 fn hold_fault<M: Consistency>(
     alloc: Global,
     model: M,
-    leg: &Leg<'_>,
+    leg: &GivenLeg<'_>,
     section: Section,
     hold: Hold,
 ) -> Result<Option<CertFault>, AllocError>
@@ -162,7 +163,7 @@ fn hold_fault<M: Consistency>(
 fn busy_fault<M: Consistency>(
     alloc: Global,
     model: M,
-    leg: &Leg<'_>,
+    leg: &GivenLeg<'_>,
     section: Section,
     task: TaskId,
     at: u64,
@@ -201,7 +202,7 @@ pub(crate) fn is_busy(blame: Option<Blame>) -> bool
 fn first_off<M: Consistency>(
     alloc: Global,
     model: M,
-    leg: &Leg<'_>,
+    leg: &GivenLeg<'_>,
     fold: &mut Fold,
     begin: usize,
     end: usize,
@@ -217,7 +218,7 @@ fn first_off<M: Consistency>(
         if !leg.has_frame(model, fold, moment, hold.task, hold.serial) {
             return Ok(Some(moment));
         }
-        leg.advance(alloc, model, fold, moment)?;
+        leg.step(alloc, model, fold, moment)?;
     }
     if leg.has_frame(model, fold, end, hold.task, hold.serial) {
         Ok(None)

@@ -1,16 +1,16 @@
-//! Which lines of a section have no fault, found in one walk through its time.
+//! Which lines of a section have no fault, found in one pass through its time.
 ghost use Rattle.std.specs.Prelude.{◌≡◌, ℕ, All, ◌+◌, ◌<◌, ◌≤◌, true, length, IfOk, OnOk};
 ghost use Rattle.lp_stack.specs.declared.number.GroupId.{GroupId};
 ghost use Rattle.lp_cert.specs.declared.line.Line.{Line};
 ghost use Rattle.lp_checker.specs.Folds.{leg_with};
-ghost use Rattle.lp_checker.specs.Marks.{is_blamed, IsMarked, AreMarked};
-ghost use Rattle.lp_checker.specs.Sections.{timed};
-ghost use Rattle.lp_checker.specs.Walks.{IsWalk};
+ghost use Rattle.lp_checker.specs.inside.Marks.{is_blamed, IsMarked, AreMarked};
+ghost use Rattle.lp_checker.specs.inside.Sections.{timed};
+ghost use Rattle.lp_checker.specs.inside.Cursors.{IsCursor};
 
-use crate::leg::Leg;
+use crate::cursor::Cursor;
+use crate::given_leg::GivenLeg;
 use crate::lines::{Hold, is_busy, is_held_by};
 use crate::sections::Section;
-use crate::walk::Walk;
 use lp_cert::Line;
 use lp_model::Consistency;
 use lp_stack::TaskId;
@@ -40,24 +40,24 @@ struct Look {
 pub(crate) fn marks_of<M: Consistency>(
     alloc: Global,
     model: M,
-    leg: &Leg<'_>,
-    walk: &mut Walk,
+    leg: &GivenLeg<'_>,
+    cursor: &mut Cursor,
     section: Section,
     lines: &[Line],
 ) -> Result<Vec<Mark>, AllocError>
-    requires walk { IsWalk M.rules leg.now.opening.now leg.now.events.now walk.old }
+    requires cursor { IsCursor M.rules leg.now.opening.now leg.now.events.now cursor.old }
     requires within { section.until ≤ length leg.now.events.now }
     requires room { leg.now.opening.now.number + section.until ≤ 1000000 }
-    ensures walk { OnOk result (IsWalk M.rules leg.now.opening.now leg.now.events.now walk.new) }
+    ensures cursor { OnOk result (IsCursor M.rules leg.now.opening.now leg.now.events.now cursor.new) }
     ensures marks { IfOk result (λ marks. AreMarked M.rules (leg_with leg.now.opening.now leg.now.events.now) (timed section) lines.now marks.items) }
 {
     let mut marks = vec![in alloc; Mark::Open; lines.len()]?;
     for look in &looks_at(alloc, leg, lines)? {
         let i = look.line;
         let mark = if look.ends {
-            at_end(alloc, model, leg, walk, section, lines[i], marks[i])?
+            at_end(alloc, model, leg, cursor, section, lines[i], marks[i])?
         } else {
-            at_begin(alloc, model, leg, walk, section, lines[i])?
+            at_begin(alloc, model, leg, cursor, section, lines[i])?
         };
         marks[i] = mark;
     }
@@ -65,7 +65,7 @@ pub(crate) fn marks_of<M: Consistency>(
 }
 
 /// The looks at lines, in the order of the events.
-fn looks_at(alloc: Global, leg: &Leg<'_>, lines: &[Line]) -> Result<Vec<Look>, AllocError>
+fn looks_at(alloc: Global, leg: &GivenLeg<'_>, lines: &[Line]) -> Result<Vec<Look>, AllocError>
     ensures { IfOk result (λ looks. All (λ look. look.line < length lines.now) looks.items) }
 {
     let mut looks = Vec::new(alloc);
@@ -99,15 +99,15 @@ fn looks_at(alloc: Global, leg: &Leg<'_>, lines: &[Line]) -> Result<Vec<Look>, A
 fn at_begin<M: Consistency>(
     alloc: Global,
     model: M,
-    leg: &Leg<'_>,
-    walk: &mut Walk,
+    leg: &GivenLeg<'_>,
+    cursor: &mut Cursor,
     section: Section,
     line: Line,
 ) -> Result<Mark, AllocError>
-    requires walk { IsWalk M.rules leg.now.opening.now leg.now.events.now walk.old }
+    requires cursor { IsCursor M.rules leg.now.opening.now leg.now.events.now cursor.old }
     requires within { section.until ≤ length leg.now.events.now }
     requires room { leg.now.opening.now.number + section.until ≤ 1000000 }
-    ensures walk { OnOk result (IsWalk M.rules leg.now.opening.now leg.now.events.now walk.new) }
+    ensures cursor { OnOk result (IsCursor M.rules leg.now.opening.now leg.now.events.now cursor.new) }
     ensures marked { IfOk result (λ mark. IsMarked M.rules (leg_with leg.now.opening.now leg.now.events.now) (timed section) line mark) }
 {
     match line {
@@ -124,9 +124,9 @@ fn at_begin<M: Consistency>(
                 from,
                 to,
             };
-            held_at_first(alloc, model, leg, walk, section, hold)
+            held_at_first(alloc, model, leg, cursor, section, hold)
         }
-        Line::Busy { task, at, .. } => was_busy(alloc, model, leg, walk, section, task, at),
+        Line::Busy { task, at, .. } => was_busy(alloc, model, leg, cursor, section, task, at),
         Line::Born { .. } => Ok(Mark::Sound),
     }
 }
@@ -135,17 +135,17 @@ fn at_begin<M: Consistency>(
 fn at_end<M: Consistency>(
     alloc: Global,
     model: M,
-    leg: &Leg<'_>,
-    walk: &mut Walk,
+    leg: &GivenLeg<'_>,
+    cursor: &mut Cursor,
     section: Section,
     line: Line,
     mark: Mark,
 ) -> Result<Mark, AllocError>
-    requires walk { IsWalk M.rules leg.now.opening.now leg.now.events.now walk.old }
+    requires cursor { IsCursor M.rules leg.now.opening.now leg.now.events.now cursor.old }
     requires within { section.until ≤ length leg.now.events.now }
     requires room { leg.now.opening.now.number + section.until ≤ 1000000 }
     requires marked { IsMarked M.rules (leg_with leg.now.opening.now leg.now.events.now) (timed section) line mark }
-    ensures walk { OnOk result (IsWalk M.rules leg.now.opening.now leg.now.events.now walk.new) }
+    ensures cursor { OnOk result (IsCursor M.rules leg.now.opening.now leg.now.events.now cursor.new) }
     ensures marked { IfOk result (λ mark. IsMarked M.rules (leg_with leg.now.opening.now leg.now.events.now) (timed section) line mark) }
 {
     let Line::Hold {
@@ -167,22 +167,22 @@ fn at_end<M: Consistency>(
         from,
         to,
     };
-    held_to_end(alloc, model, leg, walk, section, hold)
+    held_to_end(alloc, model, leg, cursor, section, hold)
 }
 
 /// The mark of a `hold` line by its first event.
 fn held_at_first<M: Consistency>(
     alloc: Global,
     model: M,
-    leg: &Leg<'_>,
-    walk: &mut Walk,
+    leg: &GivenLeg<'_>,
+    cursor: &mut Cursor,
     section: Section,
     hold: Hold,
 ) -> Result<Mark, AllocError>
-    requires walk { IsWalk M.rules leg.now.opening.now leg.now.events.now walk.old }
+    requires cursor { IsCursor M.rules leg.now.opening.now leg.now.events.now cursor.old }
     requires within { section.until ≤ length leg.now.events.now }
     requires room { leg.now.opening.now.number + section.until ≤ 1000000 }
-    ensures walk { OnOk result (IsWalk M.rules leg.now.opening.now leg.now.events.now walk.new) }
+    ensures cursor { OnOk result (IsCursor M.rules leg.now.opening.now leg.now.events.now cursor.new) }
     ensures marked { IfOk result (λ mark. (group : GroupId) → IsMarked M.rules (leg_with leg.now.opening.now leg.now.events.now) (timed section) (Line.Hold group hold.task hold.serial hold.from hold.to) mark) }
 {
     if hold.from > hold.to {
@@ -194,9 +194,9 @@ fn held_at_first<M: Consistency>(
     let Some(_) = leg.moment_within(hold.to, section.begin, section.until) else {
         return Ok(Mark::Open);
     };
-    walk.go_to(alloc, model, leg, begin)?;
+    cursor.go_to(alloc, model, leg, begin)?;
     if is_held_by(
-        walk.blame(model, leg, section.group, hold.task),
+        cursor.blame(model, leg, section.group, hold.task),
         hold.serial,
     ) {
         Ok(Mark::Blamed)
@@ -210,23 +210,23 @@ fn held_at_first<M: Consistency>(
 fn held_to_end<M: Consistency>(
     alloc: Global,
     model: M,
-    leg: &Leg<'_>,
-    walk: &mut Walk,
+    leg: &GivenLeg<'_>,
+    cursor: &mut Cursor,
     section: Section,
     hold: Hold,
 ) -> Result<Mark, AllocError>
-    requires walk { IsWalk M.rules leg.now.opening.now leg.now.events.now walk.old }
+    requires cursor { IsCursor M.rules leg.now.opening.now leg.now.events.now cursor.old }
     requires within { section.until ≤ length leg.now.events.now }
     requires room { leg.now.opening.now.number + section.until ≤ 1000000 }
     requires blamed { (group : GroupId) → is_blamed M.rules (leg_with leg.now.opening.now leg.now.events.now) (timed section) (Line.Hold group hold.task hold.serial hold.from hold.to) ≡ true }
-    ensures walk { OnOk result (IsWalk M.rules leg.now.opening.now leg.now.events.now walk.new) }
+    ensures cursor { OnOk result (IsCursor M.rules leg.now.opening.now leg.now.events.now cursor.new) }
     ensures marked { IfOk result (λ mark. (group : GroupId) → IsMarked M.rules (leg_with leg.now.opening.now leg.now.events.now) (timed section) (Line.Hold group hold.task hold.serial hold.from hold.to) mark) }
 {
     let Some(end) = leg.moment_within(hold.to, section.begin, section.until) else {
         return Ok(Mark::Open);
     };
-    walk.go_to(alloc, model, leg, end)?;
-    if walk.has_frame(model, leg, hold.task, hold.serial) {
+    cursor.go_to(alloc, model, leg, end)?;
+    if cursor.has_frame(model, leg, hold.task, hold.serial) {
         Ok(Mark::Sound)
     } else {
         Ok(Mark::Open)
@@ -237,23 +237,23 @@ fn held_to_end<M: Consistency>(
 fn was_busy<M: Consistency>(
     alloc: Global,
     model: M,
-    leg: &Leg<'_>,
-    walk: &mut Walk,
+    leg: &GivenLeg<'_>,
+    cursor: &mut Cursor,
     section: Section,
     task: TaskId,
     at: u64,
 ) -> Result<Mark, AllocError>
-    requires walk { IsWalk M.rules leg.now.opening.now leg.now.events.now walk.old }
+    requires cursor { IsCursor M.rules leg.now.opening.now leg.now.events.now cursor.old }
     requires within { section.until ≤ length leg.now.events.now }
     requires room { leg.now.opening.now.number + section.until ≤ 1000000 }
-    ensures walk { OnOk result (IsWalk M.rules leg.now.opening.now leg.now.events.now walk.new) }
+    ensures cursor { OnOk result (IsCursor M.rules leg.now.opening.now leg.now.events.now cursor.new) }
     ensures marked { IfOk result (λ mark. (group : GroupId) → IsMarked M.rules (leg_with leg.now.opening.now leg.now.events.now) (timed section) (Line.Busy group task at) mark) }
 {
     let Some(moment) = leg.moment_within(at, section.begin, section.until) else {
         return Ok(Mark::Open);
     };
-    walk.go_to(alloc, model, leg, moment)?;
-    if is_busy(walk.blame(model, leg, section.group, task)) {
+    cursor.go_to(alloc, model, leg, moment)?;
+    if is_busy(cursor.blame(model, leg, section.group, task)) {
         Ok(Mark::Sound)
     } else {
         Ok(Mark::Open)

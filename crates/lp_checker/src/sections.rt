@@ -3,9 +3,9 @@ ghost use Rattle.std.specs.Prelude.{◌≡◌, ℕ, map, length, IfOk};
 ghost use Rattle.lp_model.specs.Rules.{Rules};
 ghost use Rattle.lp_checker.specs.Folds.{leg_with};
 ghost use Rattle.lp_checker.specs.Verdict.{births, first_lines, sections};
-ghost use Rattle.lp_checker.specs.Sections.{section_of, AreInOrder, FollowOn};
+ghost use Rattle.lp_checker.specs.inside.Sections.{section_of, AreInOrder, FollowOn};
 
-use crate::leg::Leg;
+use crate::given_leg::GivenLeg;
 use lp_cert::Line;
 use lp_stack::GroupId;
 use std::alloc::{AllocError, Global};
@@ -28,7 +28,7 @@ pub(crate) struct Section {
 /// one and begins the next.
 pub(crate) fn sections(
     alloc: Global,
-    leg: &Leg<'_>,
+    leg: &GivenLeg<'_>,
     lines: &[Line],
     first: GroupId,
     last: usize,

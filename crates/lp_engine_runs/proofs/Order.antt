@@ -6,9 +6,9 @@ use Rattle.lp_stack.specs.TaskView.{TaskView}
 use Rattle.lp_patch.specs.Patches.{Goal, is_stale}
 use Rattle.lp_model.specs.declared.check.CheckKind.{CheckKind}
 use Rattle.lp_model.specs.declared.check.CheckKind.TheVariants.{KernelExit, IdlePoint, Walk, Stop}
-use Rattle.lp_model.specs.Table.{admits_of, rules_of}
+use Rattle.lp_model.specs.Row.{admits_of, rules_of}
 use Rattle.lp_models.specs.Models.{hybrid, leave_kernel, immediate}
-use Rattle.lp_models.specs.ModelLaws.{admits_all}
+use Rattle.lp_models.specs.inside.ModelLaws.{admits_all}
 use Rattle.lp_transition.specs.Order.{IsAtLeastAsPermissive}
 
 -- who has no frame has none that a test keeps back

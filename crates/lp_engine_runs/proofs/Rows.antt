@@ -5,15 +5,15 @@ use Rattle.lp_transition.specs.Tasks.{refusal, effect}
 use Rattle.lp_transition.specs.Leg.{tasks_after, each_live, some_live, check}
 use Rattle.lp_transition.specs.Schedule.{level_by, waits, allowed, complete, first_checks}
 use Rattle.lp_transition.specs.Stays.{moments, stays, all_stays}
-use Rattle.lp_transition.specs.Run.{is_settled, refused_by, shown, next_leg, reply, replies, leg_after}
-use Rattle.lp_transition.specs.Machine.{goes_over, going, refusal_of, next, answer, answers}
-use Rattle.lp_model.specs.Table.{rules_of}
+use Rattle.lp_transition.specs.Run.{is_complete_now, refused_by, shown, next_leg, reply, replies, leg_after}
+use Rattle.lp_transition.specs.Machine.{switches_at, switched_groups, refusal_of, next, answer, answers}
+use Rattle.lp_model.specs.Row.{rules_of}
 use Rattle.lp_models.specs.Models.{hybrid, leave_kernel, all_at_once, immediate}
 use Rattle.lp_process.specs.Models.{process_group}
 use Rattle.lp_transition.specs.Rows.{RowsCompute}
 
 pub rows_compute : RowsCompute (rules_of hybrid) (rules_of leave_kernel) (rules_of all_at_once) (rules_of immediate) (rules_of process_group)
-unfolding version refusal effect tasks_after each_live some_live check level_by waits allowed complete first_checks is_settled refused_by shown next_leg reply replies leg_after moments stays all_stays goes_over going refusal_of next answer answers
+unfolding version refusal effect tasks_after each_live some_live check level_by waits allowed complete first_checks is_complete_now refused_by shown next_leg reply replies leg_after moments stays all_stays switches_at switched_groups refusal_of next answer answers
 rows_compute =
     record {
       leaving_switches = record { by_definition = refl; by_machine = refl; stays_there = refl; mixed_there = refl };

@@ -1,3 +1,3 @@
 pub mod Rules
-pub mod Table
-pub mod TableLaws
+pub mod Row
+pub mod inside

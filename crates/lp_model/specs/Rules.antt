@@ -11,8 +11,8 @@ use Rattle.lp_model.specs.declared.check.ForkKind.{ForkKind}
 use Rattle.lp_model.specs.declared.check.Blame.{Blame}
 use Rattle.lp_model.specs.declared.check.Blame.TheVariants.{Unused, Frame as Held}
 
--- a consistency model: the kinds of checks that it uses, whom it admits, whom it blames, and who goes over together.
--- It is a record of functions, so each answer follows from the model and the arguments alone
+-- a consistency model: the kinds of checks that it uses, whom it admits, whom it blames, and who switches together. It is a
+-- record of functions, so each answer follows from the model and the arguments alone
 pub record Rules : Type 0 where
   pub uses : CheckKind → Bool
   pub admits : CheckKind → TaskView → Goal → Bool

@@ -8,12 +8,12 @@ use crate::{Blame, CheckKind, ForkKind};
 use lp_patch::Aim;
 use lp_stack::{GroupId, TaskId, View};
 
-/// A consistency model: which checks it uses, what must be left before a task goes over,
-/// and who goes over together.
+/// A consistency model: which checks it uses, what must be left before a task switches, and who
+/// switches together.
 ///
 /// `rules` is the model as contracts see it. It belongs to the type, so two values of one type
 /// answer alike. `lawful` is what every engine over the model relies on, and all that it relies on.
-/// No call takes memory.
+/// No call allocates.
 pub trait Consistency: Copy {
     ghost rules: { Rules };
 
@@ -37,7 +37,7 @@ pub trait Consistency: Copy {
     fn child_group(&self, group: GroupId, child: TaskId, how: ForkKind) -> GroupId
         ensures { result.0 ≡ rules.child_group group.0 child.0 how };
 
-    /// Whether no task goes over with a stale frame on its stack.
+    /// Whether no task switches with a stale frame on its stack.
     fn whole_call(&self) -> bool
         ensures { result ≡ rules.whole_call };
 

@@ -3,7 +3,7 @@ ghost use Rattle.std.specs.Prelude.{◌≡◌};
 ghost use Rattle.lp_stack.specs.TaskView.{seen};
 ghost use Rattle.lp_patch.specs.Aimed.{aimed};
 ghost use Rattle.lp_patch.specs.Patches.{is_stale};
-ghost use Rattle.lp_model.specs.Table.{lowest};
+ghost use Rattle.lp_model.specs.Row.{lowest};
 
 use lp_patch::Aim;
 use lp_stack::View;

@@ -1,3 +1,3 @@
 pub mod Models
-pub mod ModelLaws
 pub mod Names
+pub mod inside

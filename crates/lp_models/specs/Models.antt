@@ -5,7 +5,7 @@ use Rattle.lp_stack.specs.declared.view.Mode.TheVariants.{Asleep}
 use Rattle.lp_patch.specs.Patches.{is_stale}
 use Rattle.lp_model.specs.declared.check.CheckKind.{CheckKind}
 use Rattle.lp_model.specs.declared.check.CheckKind.TheVariants.{KernelExit, IdlePoint, Stop}
-use Rattle.lp_model.specs.Table.{Table, is_no_stop, at_walk}
+use Rattle.lp_model.specs.Row.{ModelRow, is_no_stop, at_walk}
 
 -- a task's way out of the kernel, or an idle task's idle point
 abbrev pub is_exit_or_idle : CheckKind → Bool
@@ -24,7 +24,7 @@ is_awake _ = true
 -- each task by itself.
 -- Admits, at any kind but Stop, a task without a stale frame, and at Walk only one that is asleep.
 -- Blames a kind not used, then the lowest stale frame, then at Walk a task that isn't asleep
-abbrev pub hybrid : Table
+abbrev pub hybrid : ModelRow
 hybrid =
     record {
       uses = is_no_stop;
@@ -38,7 +38,7 @@ hybrid =
 -- each task by itself.
 -- Admits, at KernelExit and IdlePoint, a task without a frame.
 -- Blames a kind not used, then the lowest frame
-abbrev pub leave_kernel : Table
+abbrev pub leave_kernel : ModelRow
 leave_kernel =
     record {
       uses = is_exit_or_idle;
@@ -52,7 +52,7 @@ leave_kernel =
 -- all tasks together.
 -- Admits, at Stop, a task without a stale frame.
 -- Blames a kind not used, then the lowest stale frame
-abbrev pub all_at_once : Table
+abbrev pub all_at_once : ModelRow
 all_at_once =
     record {
       uses = is_stop;
@@ -65,7 +65,7 @@ all_at_once =
 
 -- each task by itself.
 -- Admits everybody at any kind, and blames nobody
-abbrev pub immediate : Table
+abbrev pub immediate : ModelRow
 immediate =
     record {
       uses = λ kind. true;

@@ -4,7 +4,7 @@ use lp_model::{Blame, CheckKind, Consistency, ForkKind, lowest_stale};
 use lp_patch::Aim;
 use lp_stack::{GroupId, TaskId, View};
 
-/// All tasks go over together, while all CPUs are stopped, once no function on any stack changes.
+/// All tasks switch together, while all CPUs are stopped, once no function on any stack changes.
 ///
 /// This is the model of Ksplice (EuroSys 2009): it stops all CPUs, and goes on only if no thread's
 /// instruction pointer or return address is in a replaced function.
@@ -12,9 +12,9 @@ use lp_stack::{GroupId, TaskId, View};
 pub struct AllAtOnce;
 
 impl Consistency for AllAtOnce {
-    ghost use Rattle.lp_model.specs.Table.{rules_of};
+    ghost use Rattle.lp_model.specs.Row.{rules_of};
     ghost use Rattle.lp_models.specs.Models.{all_at_once};
-    ghost use Rattle.lp_models.specs.ModelLaws.{all_at_once_lawful};
+    ghost use Rattle.lp_models.specs.inside.ModelLaws.{all_at_once_lawful};
 
     ghost rules = { rules_of all_at_once };
 

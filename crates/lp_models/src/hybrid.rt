@@ -4,7 +4,7 @@ use lp_model::{Blame, CheckKind, Consistency, ForkKind, lowest_stale};
 use lp_patch::Aim;
 use lp_stack::{GroupId, Mode, TaskId, View};
 
-/// Each task goes over by itself, once no function on its stack changes.
+/// Each task switches by itself, once no function on its stack changes.
 ///
 /// This is Linux livepatch's consistency model, a hybrid of kGraft's switching of each task by
 /// itself and kpatch's check of stacks: tasks are checked when they return to user space, idle
@@ -13,9 +13,9 @@ use lp_stack::{GroupId, Mode, TaskId, View};
 pub struct Hybrid;
 
 impl Consistency for Hybrid {
-    ghost use Rattle.lp_model.specs.Table.{rules_of};
+    ghost use Rattle.lp_model.specs.Row.{rules_of};
     ghost use Rattle.lp_models.specs.Models.{hybrid};
-    ghost use Rattle.lp_models.specs.ModelLaws.{hybrid_lawful};
+    ghost use Rattle.lp_models.specs.inside.ModelLaws.{hybrid_lawful};
 
     ghost rules = { rules_of hybrid };
 

@@ -4,7 +4,7 @@ use lp_model::{Blame, CheckKind, Consistency, ForkKind};
 use lp_patch::Aim;
 use lp_stack::{GroupId, TaskId, View};
 
-/// Each task goes over by itself, at its first check, whatever is on its stack.
+/// Each task switches by itself, at its first check, whatever is on its stack.
 ///
 /// No system should switch tasks so where calls have to be consistent: a call may begin in one
 /// version and go on in another. The model shows what a whole-call model excludes.
@@ -12,9 +12,9 @@ use lp_stack::{GroupId, TaskId, View};
 pub struct Immediate;
 
 impl Consistency for Immediate {
-    ghost use Rattle.lp_model.specs.Table.{rules_of};
+    ghost use Rattle.lp_model.specs.Row.{rules_of};
     ghost use Rattle.lp_models.specs.Models.{immediate};
-    ghost use Rattle.lp_models.specs.ModelLaws.{immediate_lawful};
+    ghost use Rattle.lp_models.specs.inside.ModelLaws.{immediate_lawful};
 
     ghost rules = { rules_of immediate };
 

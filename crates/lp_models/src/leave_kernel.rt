@@ -4,7 +4,7 @@ use lp_model::{Blame, CheckKind, Consistency, ForkKind};
 use lp_patch::Aim;
 use lp_stack::{GroupId, TaskId, View};
 
-/// Each task goes over by itself, when its stack is empty.
+/// Each task switches by itself, when its stack is empty.
 ///
 /// This is kGraft's model: a task is switched when it leaves the kernel, an idle task at its idle
 /// point, and no stack is searched for the functions that change.
@@ -12,9 +12,9 @@ use lp_stack::{GroupId, TaskId, View};
 pub struct LeaveKernel;
 
 impl Consistency for LeaveKernel {
-    ghost use Rattle.lp_model.specs.Table.{rules_of};
+    ghost use Rattle.lp_model.specs.Row.{rules_of};
     ghost use Rattle.lp_models.specs.Models.{leave_kernel};
-    ghost use Rattle.lp_models.specs.ModelLaws.{leave_kernel_lawful};
+    ghost use Rattle.lp_models.specs.inside.ModelLaws.{leave_kernel_lawful};
 
     ghost rules = { rules_of leave_kernel };
 

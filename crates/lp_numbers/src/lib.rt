@@ -1,4 +1,4 @@
-//! Sets of 16-bit numbers that take no memory once they are made.
+//! Sets of 16-bit numbers that never allocate once they are made.
 #![tactic(auto)]
 
 mod levels;

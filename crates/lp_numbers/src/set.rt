@@ -12,9 +12,9 @@ use std::marker::Model;
 /// How many numbers there are: 0 to 65,535.
 pub const NUMBERS: usize = 65_536;
 
-/// A set of 16-bit numbers, such as task numbers. Only `new` and `copy` take memory.
+/// A set of 16-bit numbers, such as task numbers. Only `new` and `copy` allocate.
 ///
-/// A walk over the members, in increasing order, asks for the `next` from 0, and then from one
+/// A loop over the members, in increasing order, asks for the `next` from 0, and then from one
 /// above each member that it was given. So it costs what the members cost.
 ///
 /// Contracts see a list that says of each number whether it is a member.
@@ -38,7 +38,7 @@ impl Model for NumberSet {
 }
 
 impl NumberSet {
-    /// The empty set; an `Err` only where a growth was refused.
+    /// The empty set; an `Err` only where an allocation failed.
     pub fn new(alloc: Global) -> Result<NumberSet, AllocError>
         ensures empty { IfOk result (λ set. IsEmpty set) }
         ensures numbers { IfOk result (λ set. length set ≡ 65536) }
@@ -49,7 +49,7 @@ impl NumberSet {
         })
     }
 
-    /// A copy of the set; an `Err` only where a growth was refused.
+    /// A copy of the set; an `Err` only where an allocation failed.
     pub fn copy(&self, alloc: Global) -> Result<NumberSet, AllocError>
         ensures same { IfOk result (λ copied. copied ≡ self.now) }
         ensures numbers { length self.now ≡ 65536 }

@@ -4,7 +4,7 @@ use Rattle.std.proofs.lemmas.Bool.Decides.{nat_tests}
 use Rattle.std.proofs.Math.ListN.{get_or-append}
 use Rattle.std.proofs.Math.Seq.{get_or-append_seam}
 use Rattle.std.proofs.lemmas.List.Elements.{All-nil, All-head, All-get_or}
-use Rattle.lp_patch.specs.Stacks.{IsRow}
+use Rattle.lp_patch.specs.inside.Stacks.{IsRow}
 use Rattle.lp_patch.specs.Patches.{Patch, Patches, ShareSymbols, symbols_of, has, patch_has, version}
 
 patch-past : (patches : Patches) (k : ℕ) → length patches ≤ k → slice_index_or patches k [] ≡ []

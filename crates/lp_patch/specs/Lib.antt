@@ -1,3 +1,3 @@
 pub mod Patches
-pub mod Stacks
 pub mod Aimed
+pub mod inside

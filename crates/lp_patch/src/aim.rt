@@ -6,7 +6,7 @@ ghost use Rattle.lp_patch.specs.Patches.{is_stale};
 use crate::PatchStack;
 use lp_stack::{Frame, Level};
 
-/// The patches, lent, and the level to which a transition takes the tasks.
+/// The patches, borrowed, and the level to which a transition takes the tasks.
 #[derive(Clone, Copy)]
 pub struct Aim<'a> {
     /// The patches.

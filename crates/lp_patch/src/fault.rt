@@ -15,7 +15,7 @@ pub enum PatchFault {
     Doubled(SymId),
     /// P4: more than 256 symbols.
     TooMany,
-    /// P5: a growth was refused.
+    /// P5: an allocation failed.
     NoMemory,
     /// P6: more than 16 patches.
     TooManyPatches,

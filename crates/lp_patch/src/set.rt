@@ -31,7 +31,7 @@ impl PatchSet {
     /// The patch of 1 to 256 symbols, none of them twice.
     ///
     /// Refused as P1 for none and P4 for more than 256, then P2 or P3 at the first symbol that is
-    /// unknown or there twice, else P5 where a growth was refused.
+    /// unknown or there twice, else P5 where an allocation failed.
     pub fn build(alloc: Global, symbols: &Symbols, ids: &[SymId]) -> Result<PatchSet, PatchFault>
         ensures refused { IfSome (patch_refusal (length symbols.now) ids.now) (λ e. result ≡ Err e) }
         ensures memory { patch_refusal (length symbols.now) ids.now ≡ None → OnErr result (result ≡ Err PatchFault.NoMemory) }
@@ -61,7 +61,7 @@ impl PatchSet {
         self.members.get(id.index()).copied().unwrap_or(false)
     }
 
-    /// A copy of the patch; an `Err` only where a growth was refused.
+    /// A copy of the patch; an `Err` only where an allocation failed.
     pub fn copy(&self, alloc: Global) -> Result<PatchSet, AllocError>
         ensures { IfOk result (λ copied. copied ≡ self.now) }
     {

@@ -1,7 +1,7 @@
 //! Patches stacked on one another.
 ghost use Rattle.std.specs.Prelude.{◌≡◌, ℕ, ◌≤◌, ◌↔◌, length, None, IsTrue, IfSome, IfOk, MatchResult};
 ghost use Rattle.lp_patch.specs.Patches.{ShareSymbols, version, patch_has, stack_refusal, symbols_of};
-ghost use Rattle.lp_patch.specs.Stacks.{AreRows, IsRow};
+ghost use Rattle.lp_patch.specs.inside.Stacks.{AreRows, IsRow};
 
 use crate::{PatchFault, PatchSet};
 use lp_stack::Level;
@@ -28,7 +28,7 @@ pub struct PatchStack {
 
 impl Model for PatchStack {
     ghost use Rattle.lp_patch.specs.Patches.{Patches};
-    ghost use Rattle.lp_patch.specs.Stacks.{IsStack};
+    ghost use Rattle.lp_patch.specs.inside.Stacks.{IsStack};
 
     ghost Value = { Patches };
 
@@ -40,7 +40,7 @@ impl Model for PatchStack {
 impl PatchStack {
     /// The stack of these patches, the lowest in front.
     ///
-    /// Refused as P1 for none, P6 for more than 16, else P5 where a growth was refused.
+    /// Refused as P1 for none, P6 for more than 16, else P5 where an allocation failed.
     pub fn new(alloc: Global, sets: Vec<PatchSet>) -> Result<PatchStack, PatchFault>
         requires { ShareSymbols sets.items }
         ensures refused { IfSome (stack_refusal sets.items) (λ e. result ≡ Err e) }
@@ -56,7 +56,7 @@ impl PatchStack {
         Ok(PatchStack { sets, versions })
     }
 
-    /// A copy of the stack; an `Err` only where a growth was refused.
+    /// A copy of the stack; an `Err` only where an allocation failed.
     pub fn copy(&self, alloc: Global) -> Result<PatchStack, AllocError>
         ensures { IfOk result (λ copied. copied ≡ self.now) }
     {

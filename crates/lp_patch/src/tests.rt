@@ -124,9 +124,10 @@ fn a_stack_has_1_to_16_patches(rt: HostRuntime) -> Result<(), Fail> {
     Ok(())
 }
 
-/// For `scripts/refuse-memory`: after a refused growth no patch is there, and the same call makes it.
+/// For `scripts/refuse-memory`: after a failed allocation no patch is there, and the same call
+/// makes it.
 #[test]
-fn builds_again_after_a_refused_growth(rt: HostRuntime) -> Result<(), Fail> {
+fn builds_again_after_a_failed_allocation(rt: HostRuntime) -> Result<(), Fail> {
     let symbols = three(rt.alloc()).or_else(|_| three(rt.alloc()))?;
     let ids = [C, A];
     let set = match PatchSet::build(rt.alloc(), &symbols, &ids) {
@@ -146,7 +147,7 @@ fn a_then_b(alloc: Global, symbols: &Symbols) -> Result<PatchStack, PatchFault> 
 
 /// Likewise for a stack. The refused call has taken the patches, so they are built anew.
 #[test]
-fn stacks_again_after_a_refused_growth(rt: HostRuntime) -> Result<(), Fail> {
+fn stacks_again_after_a_failed_allocation(rt: HostRuntime) -> Result<(), Fail> {
     let symbols = three(rt.alloc()).or_else(|_| three(rt.alloc()))?;
     let stack = match a_then_b(rt.alloc(), &symbols) {
         Err(PatchFault::NoMemory) => a_then_b(rt.alloc(), &symbols)?,

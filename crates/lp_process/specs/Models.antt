@@ -5,7 +5,7 @@ use Rattle.lp_stack.specs.declared.view.Mode.TheVariants.{Kernel}
 use Rattle.lp_patch.specs.Patches.{is_stale}
 use Rattle.lp_model.specs.declared.check.ForkKind.{ForkKind}
 use Rattle.lp_model.specs.declared.check.ForkKind.TheVariants.{Own, Share}
-use Rattle.lp_model.specs.Table.{Table, is_no_stop, at_walk}
+use Rattle.lp_model.specs.Row.{ModelRow, is_no_stop, at_walk}
 
 -- in the kernel on a CPU
 abbrev pub is_in_kernel : Mode → Bool
@@ -20,7 +20,7 @@ group_by_fork group child Share = group
 -- the tasks of a process together.
 -- Admits, at any kind but Stop, a task without a stale frame, and at Walk none that is in the kernel on a CPU.
 -- Blames a kind not used, then the lowest stale frame, then at Walk a task in the kernel on a CPU
-abbrev pub process_group : Table
+abbrev pub process_group : ModelRow
 process_group =
     record {
       uses = is_no_stop;

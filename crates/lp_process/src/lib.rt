@@ -1,4 +1,4 @@
-//! A consistency model in which the tasks of a process go over together.
+//! A consistency model in which the tasks of a process switch together.
 #![tactic(auto)]
 
 mod process_group;

@@ -4,7 +4,7 @@ use lp_model::{Blame, CheckKind, Consistency, ForkKind, lowest_stale};
 use lp_patch::Aim;
 use lp_stack::{GroupId, Mode, TaskId, View};
 
-/// The tasks of a process go over together, once no function on their stacks changes.
+/// The tasks of a process switch together, once no function on their stacks changes.
 ///
 /// This model is this project's own. A child forked as a process of its own has a group of its own,
 /// and a thread joins the group of its parent, so that threads which share memory run one version.
@@ -13,9 +13,9 @@ use lp_stack::{GroupId, Mode, TaskId, View};
 pub struct ProcessGroup;
 
 impl Consistency for ProcessGroup {
-    ghost use Rattle.lp_model.specs.Table.{rules_of};
+    ghost use Rattle.lp_model.specs.Row.{rules_of};
     ghost use Rattle.lp_process.specs.Models.{process_group};
-    ghost use Rattle.lp_process.specs.ModelLaws.{process_group_lawful};
+    ghost use Rattle.lp_process.specs.inside.ModelLaws.{process_group_lawful};
 
     ghost rules = { rules_of process_group };
 

@@ -1,6 +1,6 @@
 -- The models by their names.
 use Rattle.lp_model.specs.Rules.{Rules}
-use Rattle.lp_model.specs.Table.{rules_of}
+use Rattle.lp_model.specs.Row.{rules_of}
 use Rattle.lp_models.specs.declared.name.ModelName.{ModelName}
 use Rattle.lp_models.specs.declared.name.ModelName.TheVariants as called
 use Rattle.lp_models.specs.Models.{hybrid, leave_kernel, all_at_once, immediate}

@@ -21,7 +21,7 @@ use Rattle.lp_transition.proofs.Waiting.{waits-is, waits-from, complete-is, comp
 use Rattle.lp_cert.specs.declared.cert.Cert.{Cert}
 use Rattle.lp_cert.specs.declared.cert.Claim.TheVariants.{Waiting, Floor}
 use Rattle.lp_cert.specs.Ends.{end_of}
-use Rattle.lp_cert.specs.Made.{cert, certs_by, completion, opened_legs, waiting_groups}
+use Rattle.lp_cert.specs.Certificates.{cert, certs_by, completion, opened_legs, waiting_groups}
 use Rattle.lp_cert.proofs.Completions.{completion_below}
 use Rattle.lp_checker.proofs.MadeOfRuns.{accepts_what_is_made}
 use Rattle.lp_replay.specs.declared.outcome.Outcome.{Outcome}

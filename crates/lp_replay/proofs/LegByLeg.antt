@@ -11,9 +11,9 @@ use Rattle.lp_transition.specs.declared.reply.Reply.{Reply}
 use Rattle.lp_transition.specs.Leg.{Leg}
 use Rattle.lp_transition.specs.Schedule.{first_check}
 use Rattle.lp_transition.specs.Sound.{IsSound}
-use Rattle.lp_transition.specs.Run.{Run, AreInRange, and_then, first_leg, movers, opened, opens, next_leg, reply, replies}
+use Rattle.lp_transition.specs.Run.{Run, AreInRange, and_then, first_leg, switched_at, opened, opens, next_leg, reply, replies}
 use Rattle.lp_transition.proofs.WholeRun.{next_sound, start_sound}
-use Rattle.lp_cert.specs.Made.{legs, opened_legs}
+use Rattle.lp_cert.specs.Certificates.{legs, opened_legs}
 use Rattle.lp_replay.specs.Headline.{switched_groups, replies_in}
 use Rattle.lp_replay.proofs.GroupsInRange.{GroupsAreInRange, next_in_range, start_in_range}
 use Rattle.lp_replay.proofs.Moved.{control_moves_none, none_at_opening, past_movers, reply_names}
@@ -29,7 +29,7 @@ drop_whole (x ∷ xs) ys = drop_whole xs ys
 module _ (model : Rules) (lawful : IsLawful model) where
   -- whom the first-check schedule of a leg moves, at its opening and at each of its events
   abbrev moves : Leg → List (List ℕ)
-  moves leg = map (movers leg (first_check model leg)) (range_with_len 0 (suc (length leg.events)))
+  moves leg = map (switched_at leg (first_check model leg)) (range_with_len 0 (suc (length leg.events)))
 
   -- a leg of a run, with the replies to the run
   pub record IsLeg (answered : List Reply) (leg : Leg) : Type 0 where
@@ -95,7 +95,7 @@ module _ (model : Rules) (lawful : IsLawful model) where
             let long : length longer.events ≡ suc n = omega (arith, length-append leg.events (event ∷ [])) in
             let at = pred leg.number in
             let r = reply model leg event ∷ [] in
-            let f = movers longer (first_check model longer) in
+            let f = switched_at longer (first_check model longer) in
             let same_end : suc n + 1 ≡ suc (length longer.events) = omega (arith, long) in
             ap names (drop-append-le at before r (omega (arith, h.numbered)))
             ∙ (map-append (λ (reply : Reply). switched_groups reply.what) (drop at before) r
@@ -103,7 +103,7 @@ module _ (model : Rules) (lawful : IsLawful model) where
             ∙ (sym (map-range_with_len_more f 0 (suc n) (suc n) (omega arith)) ∙ ap (λ m. map f (range_with_len 0 m)) same_end)));
       })
     where
-      before_same : (a m : ℕ) → a + m ≤ suc (length leg.events) → map (movers leg (first_check model leg)) (range_with_len a m) ≡ map (movers (and_then leg event) (first_check model (and_then leg event))) (range_with_len a m)
+      before_same : (a m : ℕ) → a + m ≤ suc (length leg.events) → map (switched_at leg (first_check model leg)) (range_with_len a m) ≡ map (switched_at (and_then leg event) (first_check model (and_then leg event))) (range_with_len a m)
       before_same a zero le = refl
       before_same a (suc m) le = ap₂ (λ groups rest. groups ∷ rest) (sym (past_movers model leg event a (omega arith))) (before_same (a + 1) m (omega arith))
 

@@ -13,7 +13,7 @@ use Rattle.lp_transition.specs.Events.{is_control}
 use Rattle.lp_transition.specs.Tasks.{Bounds, Outlines, outlines, refusal}
 use Rattle.lp_transition.specs.Leg.{Leg, after, check, check_by, if_used, unless_refused}
 use Rattle.lp_transition.specs.Schedule.{has_come, allowed, first_check}
-use Rattle.lp_transition.specs.Run.{and_then, is_at, movers, switched, refused_by, done, unless_why, reply}
+use Rattle.lp_transition.specs.Run.{and_then, is_at, switched_at, switched, refused_by, done, unless_why, reply}
 use Rattle.lp_transition.proofs.First.{first_check_is}
 use Rattle.lp_transition.proofs.Prefix.{past_same}
 use Rattle.lp_transition.proofs.ScanGroups.{same_bool}
@@ -51,7 +51,7 @@ filter_none test (x ∷ xs) h = cond-false _ _ _ (h x) ∙ filter_none test xs h
 
 module _ (model : Rules) where
   -- nobody goes over at an opening
-  pub none_at_opening : (leg : Leg) → movers leg (first_check model leg) zero ≡ []
+  pub none_at_opening : (leg : Leg) → switched_at leg (first_check model leg) zero ≡ []
   none_at_opening leg =
       filter_none (λ group. is_at zero (first_check model leg group)) (range_with_len 0 (suc leg.bounds.tasks)) (λ group.
       false_from_ne_true _ (λ e.
@@ -66,7 +66,7 @@ module _ (model : Rules) where
     longer = and_then leg event
 
     -- a further event changes nobody's moment so far
-    pub past_movers : (k : ℕ) → k ≤ n → movers longer (first_check model longer) k ≡ movers leg (first_check model leg) k
+    pub past_movers : (k : ℕ) → k ≤ n → switched_at longer (first_check model longer) k ≡ switched_at leg (first_check model leg) k
     past_movers k le =
         ap (λ test. filter test (range_with_len 0 (suc leg.bounds.tasks))) (fun_ext (λ group.
         let new = first_check model longer group in
@@ -75,7 +75,7 @@ module _ (model : Rules) where
         same_bool (is_at k new) (is_at k old) (at_alike new old k same) (at_alike old new k (λ j less. sym (same j less)))))
 
     -- where an event is no check, nobody goes over
-    quiet : ((group : ℕ) → check model longer n group ≡ None) → movers longer (first_check model longer) (suc n) ≡ []
+    quiet : ((group : ℕ) → check model longer n group ≡ None) → switched_at longer (first_check model longer) (suc n) ≡ []
     quiet unchecked =
         filter_none (λ group. is_at (suc n) (first_check model longer group)) (range_with_len 0 (suc leg.bounds.tasks)) (λ group.
         false_from_ne_true _ (λ e.
@@ -108,10 +108,10 @@ module _ (model : Rules) where
     unchecked : ((group : ℕ) → check_by leg.bounds (outlines (after model longer (suc n))) (unless_refused plain event) group ≡ None) → (group : ℕ) → check model longer n group ≡ None
     unchecked h group = check_is model leg event group ∙ ap (if_used model.uses) (h group)
 
-    pub control_moves_none : is_control event ≡ true → movers longer (first_check model longer) (suc n) ≡ []
+    pub control_moves_none : is_control event ≡ true → switched_at longer (first_check model longer) (suc n) ≡ []
     control_moves_none c = quiet (unchecked (λ group. control_no_check leg.bounds (outlines (after model longer (suc n))) group plain event c))
 
-    refused_moves_none : (why : Refusal) → refused_by model leg event ≡ Some why → movers longer (first_check model longer) (suc n) ≡ []
+    refused_moves_none : (why : Refusal) → refused_by model leg event ≡ Some why → switched_at longer (first_check model longer) (suc n) ≡ []
     refused_moves_none why e =
         ⊎_elim
         (λ (c : is_control event ≡ true). control_moves_none c)
@@ -125,14 +125,14 @@ module _ (model : Rules) where
   switched_names [] = refl
   switched_names (group ∷ groups) = refl
 
-  done_names : (leg : Leg) (event : Event) → switched_groups (done model leg event) ≡ movers (and_then leg event) (first_check model (and_then leg event)) (suc (length leg.events))
+  done_names : (leg : Leg) (event : Event) → switched_groups (done model leg event) ≡ switched_at (and_then leg event) (first_check model (and_then leg event)) (suc (length leg.events))
   done_names leg (Call t f) = sym (quiet leg (Call t f) (unchecked leg (Call t f) (λ group. call_no_check leg (Call t f) leg.bounds _ group _ t f)))
-  done_names leg event = switched_names (movers (and_then leg event) (first_check model (and_then leg event)) (suc (length leg.events)))
+  done_names leg event = switched_names (switched_at (and_then leg event) (first_check model (and_then leg event)) (suc (length leg.events)))
 
-  pub reply_names : (leg : Leg) (event : Event) → switched_groups (reply model leg event).what ≡ movers (and_then leg event) (first_check model (and_then leg event)) (suc (length leg.events))
+  pub reply_names : (leg : Leg) (event : Event) → switched_groups (reply model leg event).what ≡ switched_at (and_then leg event) (first_check model (and_then leg event)) (suc (length leg.events))
   unfolding reply
   reply_names leg event = by (refused_by model leg event) refl
     where
-      by : (why : Option Refusal) → refused_by model leg event ≡ why → switched_groups (unless_why model why (done model leg event)) ≡ movers (and_then leg event) (first_check model (and_then leg event)) (suc (length leg.events))
+      by : (why : Option Refusal) → refused_by model leg event ≡ why → switched_groups (unless_why model why (done model leg event)) ≡ switched_at (and_then leg event) (first_check model (and_then leg event)) (suc (length leg.events))
       by None e = done_names leg event
       by (Some why) e = sym (refused_moves_none leg event why e)

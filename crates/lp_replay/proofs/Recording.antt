@@ -10,10 +10,10 @@ use Rattle.lp_transition.specs.declared.reply.Reply.{Reply}
 use Rattle.lp_transition.specs.Events.{is_control}
 use Rattle.lp_transition.specs.Leg.{Leg, State}
 use Rattle.lp_transition.specs.Schedule.{first_check}
-use Rattle.lp_transition.specs.Run.{Run, and_then, switched, movers, refused_by, opened, opens, next_leg, done, unless_why, reply, replies, leg_after, first_leg, leg_of, plus}
+use Rattle.lp_transition.specs.Run.{Run, and_then, switched, switched_at, refused_by, opened, opens, next_leg, done, unless_why, reply, replies, leg_after, first_leg, leg_of, plus}
 use Rattle.lp_transition.specs.Steps.{StandsIn, IsStep}
 use Rattle.lp_transition.specs.Table.{Engine, state_in}
-use Rattle.lp_stays.specs.Kept.{Counted}
+use Rattle.lp_stays.specs.Invariant.{Counted}
 use Rattle.lp_stays.specs.Counts.{Counts}
 use Rattle.lp_cert.specs.Ends.{Made, IsFresh, IsMadeOf}
 use Rattle.lp_cert.proofs.Tellings.{begins}
@@ -31,7 +31,7 @@ module _ (model : Rules) where
 
   not_refused : (leg : Leg) (event : Event) → is_refused (done model leg event) ≡ false
   not_refused leg (Call t f) = refl
-  not_refused leg event = by (movers (and_then leg event) (first_check model (and_then leg event)) (suc (length leg.events)))
+  not_refused leg event = by (switched_at (and_then leg event) (first_check model (and_then leg event)) (suc (length leg.events)))
     where
       by : (groups : List ℕ) → is_refused (switched groups) ≡ false
       by [] = refl

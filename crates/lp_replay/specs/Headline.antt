@@ -1,7 +1,7 @@
--- The headline. For every list of events and every lawful model: in each leg every group switched at its first check that
--- the model allows; no legal schedule from that leg's opening moves any group, or completes the leg, earlier; each waiting
--- group has a certificate that the checker accepts, refusing every check so far; and under a whole-call model each stay in
--- the patched set runs one version.
+-- The headline. For every list of events and every lawful model: in each leg every group switched at its first check that the
+-- model allows; no legal schedule from that leg's opening switches any group, or completes the leg, earlier; each waiting group
+-- has a certificate that the checker accepts, refusing every check so far; and under a whole-call model each stay in the patched
+-- set runs one version.
 use Rattle.std.specs.Prelude.{◌≡◌, ℕ, zero, suc, pred, ◌+◌, ◌≤◌, List, [], map, length, take, drop, All, Contains, Some, None, IsTrue, IsFalse}
 use Rattle.std.specs.List.{AllZip, range_with_len}
 use Rattle.lp_model.specs.Rules.{Rules}
@@ -11,11 +11,11 @@ use Rattle.lp_transition.specs.declared.reply.Reply.{Reply}
 use Rattle.lp_transition.specs.Leg.{Leg}
 use Rattle.lp_transition.specs.Schedule.{Schedule, waits, complete, IsLegal, IsFirstCheck, CompletesAt}
 use Rattle.lp_transition.specs.Chain.{IsRefusedBetween}
-use Rattle.lp_transition.specs.Run.{Run, AreInRange, first_leg, movers}
+use Rattle.lp_transition.specs.Run.{Run, AreInRange, first_leg, switched_at}
 use Rattle.lp_transition.specs.Stays.{moments, stays, is_mixed}
 use Rattle.lp_cert.specs.declared.cert.Claim.TheVariants.{Waiting, Floor}
 use Rattle.lp_cert.specs.declared.leg_end.LegEnd.{LegEnd}
-use Rattle.lp_cert.specs.Made.{cert, opened_legs}
+use Rattle.lp_cert.specs.Certificates.{cert, opened_legs}
 use Rattle.lp_checker.specs.Verdict.{verdict_on}
 use Rattle.lp_replay.specs.declared.outcome.Outcome.{Outcome}
 use Rattle.lp_replay.specs.Outcome.{run_of, IsOutcome}
@@ -37,9 +37,9 @@ module _ (model : Rules) (leg : Leg) (first : Schedule) where
   abbrev pub SwitchAtFirstChecks : List Reply → Type 0
   SwitchAtFirstChecks replies =
       map (λ reply. switched_groups reply.what) (replies_in leg replies)
-      ≡ map (movers leg first) (range_with_len 0 (suc (length leg.events)))
+      ≡ map (switched_at leg first) (range_with_len 0 (suc (length leg.events)))
 
-  -- no legal schedule moves any group, or completes the leg, earlier: who waits waits under each of them, and where one of
+  -- no legal schedule switches any group, or completes the leg, earlier: who waits waits under each of them, and where one of
   -- them has completed the leg, the answer says that it was complete by then
   pub record NoneIsEarlier (end : LegEnd) : Type 0 where
     pub moves :

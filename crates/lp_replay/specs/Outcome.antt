@@ -11,7 +11,7 @@ use Rattle.lp_transition.specs.Stays.{stay_count, mixed_count}
 use Rattle.lp_transition.specs.Table.{task_numbers}
 use Rattle.lp_cert.specs.declared.leg_end.LegEnd.{LegEnd}
 use Rattle.lp_cert.specs.Ends.{end_of}
-use Rattle.lp_cert.specs.Made.{opened_legs}
+use Rattle.lp_cert.specs.Certificates.{opened_legs}
 use Rattle.lp_replay.specs.declared.outcome.Outcome.{Outcome}
 use Rattle.lp_text.specs.Traces.{TraceValue}
 

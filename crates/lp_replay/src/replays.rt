@@ -14,10 +14,10 @@ mod start;
 use crate::outcome::Outcome;
 pub use fault::ReplayFault;
 pub use leg::{TraceLeg, leg_numbered};
-pub use start::stack;
 use lp_model::Consistency;
 use lp_text::Trace;
 use recorder::Recorder;
+pub use start::stack;
 use std::alloc::Global;
 
 /// What the run of a trace under a model comes to; NoMemory where an allocation failed.

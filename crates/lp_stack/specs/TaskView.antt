@@ -12,6 +12,6 @@ pub record TaskView : Type 0 where
   pub mode : Mode
   pub frames : List Frame
 
--- the task that a lent view shows
+-- the task that a borrowed view shows
 abbrev pub seen : View → TaskView
 seen v = record { task = v.task.0; class = v.class; mode = v.mode; frames = v.frames.now }

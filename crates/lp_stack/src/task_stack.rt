@@ -8,7 +8,7 @@ use std::marker::Model;
 /// The most frames that the stack of a task has.
 pub const MOST_FRAMES: usize = 100;
 
-/// A task with its class, its mode and its stack of at most 100 frames. No call takes memory.
+/// A task with its class, its mode and its stack of at most 100 frames. No call allocates.
 #[derive(Drop)]
 pub struct TaskStack {
     task: TaskId,
@@ -88,7 +88,7 @@ impl TaskStack {
         }
     }
 
-    /// The task as it stands, lent without copying.
+    /// The task as it stands, borrowed without copying.
     pub fn view(&self) -> View<'_>
         ensures { seen result ≡ self.now }
     {

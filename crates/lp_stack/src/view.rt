@@ -23,7 +23,8 @@ pub enum Class {
     Idle,
 }
 
-/// A task as it stands, lent: its number, its class, its mode and its stack of at most 100 frames.
+/// A task as it stands, borrowed: its number, its class, its mode and its stack of at most 100
+/// frames.
 ///
 /// The stack is reliable, and its top frame stands for the instruction pointer
 /// (Linux livepatch documentation, consistency model: sleeping tasks are checked by their stacks).

@@ -5,7 +5,7 @@ use crate::{Class, Frame, MOST_FRAMES, Mode, TaskId, View};
 use arrayvec::ArrayVec;
 use std::marker::Model;
 
-/// A copy of a task as it stood, which borrows nothing. No call takes memory.
+/// A copy of a task as it stood, which borrows nothing. No call allocates.
 #[derive(Drop)]
 pub struct ViewCopy {
     task: TaskId,
@@ -43,7 +43,7 @@ impl ViewCopy {
         }
     }
 
-    /// The task as it stood, lent.
+    /// The task as it stood, borrowed.
     pub fn view(&self) -> View<'_>
         ensures { seen result ≡ self.now }
     {

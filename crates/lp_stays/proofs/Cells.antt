@@ -6,8 +6,8 @@ use Rattle.std.proofs.lemmas.List.Folds.{list_any-append}
 use Rattle.std.proofs.lemmas.List.Sums.{sum_by_push}
 use Rattle.std.proofs.Math.Bool.{and-not_self}
 use Rattle.lp_transition.specs.Stays.{stays, is_mixed}
-use Rattle.lp_stays.specs.Kept.{Ongoing, outside}
-use Rattle.lp_stays.specs.Steps.{is_both, called, returned, one_if, begins, mixes}
+use Rattle.lp_stays.specs.Invariant.{Ongoing, outside}
+use Rattle.lp_stays.specs.inside.Calls.{is_both, called, returned, one_if, begins, mixes}
 use Rattle.lp_stays.specs.Counts.{last_of, if_inside, under_way, Shows}
 use Rattle.lp_stays.proofs.OneMore.{last_push, ended, begun, UnderWay, under_way_still}
 

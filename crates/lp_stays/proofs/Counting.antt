@@ -14,8 +14,8 @@ use Rattle.lp_transition.specs.Stays.{sides, moments, stays, is_mixed, all_stays
 use Rattle.lp_transition.proofs.Steps.{does}
 use Rattle.lp_transition.proofs.Runs.{leg_after-plus}
 use Rattle.lp_transition.proofs.WholeRun.{run_sound, start_sound}
-use Rattle.lp_stays.specs.Kept.{Counted, kept}
-use Rattle.lp_stays.specs.Steps.{called, returned, begins, mixes, calls, returns, one_more}
+use Rattle.lp_stays.specs.Invariant.{Counted, kept}
+use Rattle.lp_stays.specs.inside.Calls.{called, returned, begins, mixes, calls, returns, one_more}
 use Rattle.lp_stays.specs.Counts.{last_of, Shows, Counts}
 use Rattle.lp_stays.proofs.Cells.{IsAfter, after_still, after_called, after_returned}
 use Rattle.lp_stays.proofs.Sums.{sum_from, sum_none, rows-one}

@@ -7,8 +7,8 @@ use Rattle.lp_transition.specs.declared.event.Event.{Event}
 use Rattle.lp_transition.specs.declared.event.Event.TheVariants.{Call, Ret}
 use Rattle.lp_transition.specs.declared.reply.What.{What}
 use Rattle.lp_transition.specs.declared.reply.What.TheVariants.{Ran, Refused}
-use Rattle.lp_stays.specs.Kept.{Ongoing, Counted, outside, place, kept}
-use Rattle.lp_stays.specs.Steps.{is_outside, is_both, called, returned, one_if, begins, mixes, after_call, after_return, calls, returns, one_more, by_call, by_return, after_event}
+use Rattle.lp_stays.specs.Invariant.{Ongoing, Counted, outside, place, kept}
+use Rattle.lp_stays.specs.inside.Calls.{is_outside, is_both, called, returned, one_if, begins, mixes, after_call, after_return, calls, returns, one_more, by_call, by_return, after_event}
 use Rattle.lp_stays.proofs.Sums.{sum_from, sum_last}
 
 -- ---- Numbers

@@ -17,14 +17,14 @@ use Rattle.lp_transition.specs.Tasks.{Fate, Live}
 use Rattle.lp_transition.specs.Leg.{Standing, State}
 use Rattle.lp_transition.specs.Sound.{IsSound}
 use Rattle.lp_transition.specs.Run.{Run, AreInRange, plus, first_leg, leg_of, switched, at_boot, booted}
-use Rattle.lp_transition.specs.Machine.{affected, going, refusal_of, level_of, answer, state_of}
+use Rattle.lp_transition.specs.Machine.{affected, switched_groups, refusal_of, level_of, answer, state_of}
 use Rattle.lp_transition.specs.Stays.{sides, stack, moments, stays, is_mixed, all_stays, stay_count, mixed_count}
 use Rattle.lp_transition.proofs.EngineLemmas.{answer-refused, answer-accepted}
 use Rattle.lp_transition.proofs.States.{state_sound}
 use Rattle.lp_transition.proofs.Steps.{open_shown, does}
 use Rattle.lp_transition.proofs.WholeRun.{run_sound, start_sound}
-use Rattle.lp_stays.specs.Kept.{Counted, outside, kept}
-use Rattle.lp_stays.specs.Steps.{returns, one_more, by_return, after_event}
+use Rattle.lp_stays.specs.Invariant.{Counted, outside, kept}
+use Rattle.lp_stays.specs.inside.Calls.{returns, one_more, by_return, after_event}
 use Rattle.lp_stays.specs.Counts.{Shows, Counts, IsNext}
 use Rattle.lp_stays.proofs.Stacks.{frames_in, refused_still, other_still, call_live, call_pushes, ret_live, ret_pops}
 use Rattle.lp_stays.proofs.Moments.{run_bounds}
@@ -80,7 +80,7 @@ module _ (model : Rules) (lawful : IsLawful model) (run : Run) (count : Counted)
       let live = ret_live model now t ok in
       let n = numbered h.in_range t.0 live.0 live.1 in
       let pop = ret_pops model now t ok in
-      let groups = going model (affected model now (Ret t)) (Ret t) in
+      let groups = switched_groups model (affected model now (Ret t)) (Ret t) in
       let is : given.what ≡ switched groups = ap (λ r. r.what) (answered h.in_range (Ret t) h ∙ answer-accepted model now (Ret t) ok) in
       let left : top ≡ Some pop.frame.func = h.leaves t refl ∙ pop.func_is in
       let same : after_event (Ret t) given.what top count ≡ returns (length count.patches) t.0 pop.frame.func.0 (one_more count) =

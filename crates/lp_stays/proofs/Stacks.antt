@@ -15,7 +15,7 @@ use Rattle.lp_transition.specs.Run.{control_tests}
 use Rattle.lp_transition.specs.Events.{is_control}
 use Rattle.lp_transition.specs.Tasks.{Fate, Unused, Live, Dead, on_live, map_live, is_unused, fits, first_of, depth, tests, change}
 use Rattle.lp_transition.specs.Leg.{Standing, State}
-use Rattle.lp_transition.specs.Machine.{Standings, outline_of, outlines_of, at_rest, own_effect, moved_task, refusal_of, affected, next, level_of}
+use Rattle.lp_transition.specs.Machine.{Standings, outline_of, outlines_of, complete_in, own_effect, switched_task, refusal_of, affected, next, level_of}
 use Rattle.lp_transition.proofs.EngineLemmas.{next-refused, next-accepted, next-turned}
 use Rattle.lp_stays.specs.Counts.{top_of}
 
@@ -97,7 +97,7 @@ change_still t f same now u =
     cond_both (nat_eq u t) (map_live f (now u)) (now u) (λ fate. frames_in fate ≡ frames_in (now u)) (λ e. same_frames f same (now u)) (λ e. refl)
 
 -- who goes over keeps the frames
-moved_frames : (model : Rules) (s : State) (event : Event) (x : Standing) → (moved_task model s event x).frames ≡ x.frames
+moved_frames : (model : Rules) (s : State) (event : Event) (x : Standing) → (switched_task model s event x).frames ≡ x.frames
 moved_frames model s event x = cond_both {A = Standing} _ _ _ (λ y. y.frames ≡ x.frames) (λ e. refl) (λ e. refl)
 
 -- ---- One event
@@ -113,14 +113,14 @@ module _ (model : Rules) (s : State) where
   own event = own_effect model.child_group (suc s.number) event s.tasks
 
   -- no test of an accepted event fits
-  free : (event : Event) (k : ℕ) → refusal_of model s event ≡ None → slice_index_or (tests s.bounds (outlines_of s.tasks) event ++ control_tests s (at_rest s) event) k None ≡ None
+  free : (event : Event) (k : ℕ) → refusal_of model s event ≡ None → slice_index_or (tests s.bounds (outlines_of s.tasks) event ++ control_tests s (complete_in s) event) k None ≡ None
   unfolding refusal_of
-  free event k ok = free_at (tests s.bounds (outlines_of s.tasks) event ++ control_tests s (at_rest s) event) k ok
+  free event k ok = free_at (tests s.bounds (outlines_of s.tasks) event ++ control_tests s (complete_in s) event) k ok
 
   -- an accepted event that is no control event leaves the stacks as its own effect does
   accepted : (event : Event) → refusal_of model s event ≡ None → is_control event ≡ false → (t : ℕ) → frames_at (next model s event) t ≡ frames_in (own event t)
   accepted event ok plain t =
-      ap (λ st. frames_at st t) (next-accepted model s event ok plain) ∙ same_frames (moved_task model (affected model s event) event) (moved_frames model (affected model s event) event) (own event t)
+      ap (λ st. frames_at st t) (next-accepted model s event ok plain) ∙ same_frames (switched_task model (affected model s event) event) (moved_frames model (affected model s event) event) (own event t)
 
   pub refused_still : (event : Event) (why : Refusal) → refusal_of model s event ≡ Some why → IsStill s (next model s event)
   refused_still event why e t = ap (λ st. frames_at st t) (next-refused model s event why e)

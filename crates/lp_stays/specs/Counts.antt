@@ -12,7 +12,7 @@ use Rattle.lp_transition.specs.declared.event.Event.TheVariants.{Ret}
 use Rattle.lp_transition.specs.declared.reply.Reply.{Reply}
 use Rattle.lp_transition.specs.Run.{Run, AreInRange, plus, first_leg, leg_of, reply}
 use Rattle.lp_transition.specs.Stays.{stack, moments, stays, stay_count, mixed_count}
-use Rattle.lp_stays.specs.Kept.{Ongoing, Counted, kept}
+use Rattle.lp_stays.specs.Invariant.{Ongoing, Counted, kept}
 
 -- ---- The stay under way
 
@@ -66,7 +66,7 @@ pub record IsNext (model : Rules) (run : Run) (event : Event) (given : Reply) (t
   pub leaves : (t : TaskId) → event ≡ Ret t → top ≡ top_of (stack model (leg_of model run) t.0)
 
 -- of whichever run the one was the count, the other is that of the run with the event
-abbrev pub GoesOn : Event → Reply → Option SymId → Counted → Counted → Type 0
-GoesOn event given top before after =
+abbrev pub CountsOne : Event → Reply → Option SymId → Counted → Counted → Type 0
+CountsOne event given top before after =
     (model : Rules) → IsLawful model → (run : Run) →
     Counts model run before → IsNext model run event given top → Counts model (plus run event) after

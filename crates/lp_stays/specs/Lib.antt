@@ -1,3 +1,3 @@
-pub mod Kept
-pub mod Steps
+pub mod Invariant
 pub mod Counts
+pub mod inside

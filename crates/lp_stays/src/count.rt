@@ -1,9 +1,9 @@
 //! The count of stays.
 ghost use Rattle.std.specs.Prelude.{◌≡◌, ◌+◌, ◌*◌, ◌<◌, ◌≤◌, nat_le, length, replicate, IfOk};
 ghost use Rattle.lp_patch.specs.Patches.{patch_has};
-ghost use Rattle.lp_stays.specs.Kept.{outside};
-ghost use Rattle.lp_stays.specs.Steps.{after_call, after_return, calls, returns, by_call, by_return, after_event};
-ghost use Rattle.lp_stays.specs.Counts.{IsFirst, GoesOn};
+ghost use Rattle.lp_stays.specs.Invariant.{outside};
+ghost use Rattle.lp_stays.specs.inside.Calls.{after_call, after_return, calls, returns, by_call, by_return, after_event};
+ghost use Rattle.lp_stays.specs.Counts.{IsFirst, CountsOne};
 
 use crate::present::Present;
 use lp_patch::PatchStack;
@@ -34,7 +34,7 @@ pub struct StayCount {
 }
 
 impl Model for StayCount {
-    ghost use Rattle.lp_stays.specs.Kept.{Counted, IsKept};
+    ghost use Rattle.lp_stays.specs.Invariant.{Counted, IsKept};
 
     ghost Value = { Counted };
 
@@ -44,8 +44,8 @@ impl Model for StayCount {
 }
 
 impl StayCount {
-    /// The count before any event, for a run with these patches; an `Err` only where a growth was
-    /// refused.
+    /// The count before any event, for a run with these patches; an `Err` only where an allocation
+    /// failed.
     pub fn new(alloc: Global, patches: &PatchStack) -> Result<StayCount, AllocError>
         ensures first { IfOk result (λ count. IsFirst patches.now count) }
         ensures noted { IfOk result (λ count. count.noted ≡ 0) }
@@ -67,7 +67,7 @@ impl StayCount {
     #[inline(always)]
     pub fn note(&mut self, event: Event, reply: &Reply, top: Option<SymId>)
         requires { self.old.noted < 1000000 }
-        ensures goes_on { GoesOn event reply.now top self.old self.new }
+        ensures counts { CountsOne event reply.now top self.old self.new }
         ensures noted { self.new.noted ≡ self.old.noted + 1 }
     {
         let _ = &self.patches;

@@ -1,7 +1,7 @@
 //! The stay that one task is in, for one patch.
 ghost use Rattle.std.specs.Prelude.{◌≡◌};
-ghost use Rattle.lp_stays.specs.Kept.{outside};
-ghost use Rattle.lp_stays.specs.Steps.{is_outside, is_both, called, returned};
+ghost use Rattle.lp_stays.specs.Invariant.{outside};
+ghost use Rattle.lp_stays.specs.inside.Calls.{is_outside, is_both, called, returned};
 
 use std::marker::Model;
 
@@ -17,7 +17,7 @@ pub(crate) struct Present {
 }
 
 impl Model for Present {
-    ghost use Rattle.lp_stays.specs.Kept.{Ongoing};
+    ghost use Rattle.lp_stays.specs.Invariant.{Ongoing};
 
     ghost Value = { Ongoing };
 

@@ -21,7 +21,7 @@ pub enum SymFault {
     Doubled,
     /// S3: 4,096 names are there.
     TooMany,
-    /// S4: a growth was refused.
+    /// S4: an allocation failed.
     NoMemory,
 }
 
@@ -69,7 +69,7 @@ impl Model for Symbols {
 }
 
 impl Symbols {
-    /// An empty list. It takes no memory yet, so it is never refused.
+    /// An empty list. It allocates nothing yet, so it is never refused.
     pub fn new(alloc: Global) -> Result<Self, SymFault>
         ensures { result ≡ Ok [] }
     {
@@ -97,7 +97,7 @@ impl Symbols {
         self.names.is_empty()
     }
 
-    /// The number of a name; None where it isn't there. Hashes once and takes no memory.
+    /// The number of a name; None where it isn't there. Hashes once and never allocates.
     #[tactic(auto, using(crate::proofs::Maps::maps))]
     pub fn find(&self, name: &str) -> Option<SymId>
         ensures { option_map (λ id. id.0) result ≡ position (bytes_eq name.now) self.now }

@@ -56,9 +56,10 @@ fn refuses_in_order_where_4096_names_are_there(rt: HostRuntime) -> Result<(), Fa
     Ok(())
 }
 
-/// For `scripts/refuse-memory`: a refused growth changes nothing, and the same call succeeds after it.
+/// For `scripts/refuse-memory`: a failed allocation changes nothing, and the same call succeeds
+/// after it.
 #[test]
-fn adds_again_after_a_refused_growth(rt: HostRuntime) -> Result<(), Fail> {
+fn adds_again_after_a_failed_allocation(rt: HostRuntime) -> Result<(), Fail> {
     let mut symbols = Symbols::new(rt.alloc())?;
     for (number, name) in ["schedule", "do_exit", "vfs_read", "vfs_write", "kthread"]
         .iter()

@@ -10,6 +10,7 @@ mod runs;
 pub use checks::check;
 pub use lp_replay::{LegList, Outcome, ReplayFault, ReplyList, replay, stack};
 pub use lp_text::{
-    Cause, CheckInput, OfFault, ReadFault, StreamFault, Trace, TraceFault, TraceForm, WriteFault, put,
+    Cause, CheckInput, OfFault, ReadFault, StreamFault, Trace, TraceFault, TraceForm, WriteFault,
+    put,
 };
 pub use runs::{RunFault, run};

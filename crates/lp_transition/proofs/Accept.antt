@@ -14,7 +14,7 @@ use Rattle.lp_transition.specs.declared.refusal.Refusal.TheVariants.{UnknownTask
 use Rattle.lp_numbers.specs.Numbers.{has}
 use Rattle.lp_transition.specs.Tasks.{on_live, map_live, is_unused, fits, first_of, unknown_task, unknown_symbol, out_of_range, used, not_of, not_in, stack_full, stack_not_empty}
 use Rattle.lp_transition.specs.Leg.{Standing}
-use Rattle.lp_transition.specs.Machine.{at_rest, outline_of, outlines_of, refusal_of}
+use Rattle.lp_transition.specs.Machine.{complete_in, outline_of, outlines_of, refusal_of}
 use Rattle.lp_transition.specs.Table.{Engine, bounds_of, slot, fate_at, standings, state_in}
 
 -- no test fits, the first neither
@@ -122,7 +122,7 @@ module _ (model : Rules) (e : Engine) where
   pub enable-below : refusal_of model (state_in e) Enable ≡ None → e.target ≢ length e.patches
   unfolding refusal_of
   enable-below h same =
-      let a = fits (not (at_rest (state_in e))) InTransition in
+      let a = fits (not (complete_in (state_in e))) InTransition in
       let b = fits (nat_eq e.target (length e.patches)) AlreadyThere in
       let free = fits-free (nat_eq e.target (length e.patches)) AlreadyThere (first_free b [] (others_free a (b ∷ []) h)) in
       let there = eq-eqb e.target (length e.patches) same in

@@ -8,7 +8,7 @@ use Rattle.lp_model.specs.declared.check.CheckKind.{CheckKind}
 use Rattle.lp_transition.specs.declared.event.Event.{Event}
 use Rattle.lp_transition.specs.Tasks.{Fate, Unused, Live, Dead, Bounds, on_live, map_live, change}
 use Rattle.lp_transition.specs.Leg.{Standing, State, each_live, some_live, each_task, some_task, is_alone, check_by, when, if_used}
-use Rattle.lp_transition.specs.Machine.{Standings, outlines_of, outline_of, view_of, is_behind, admits_all, goes_over}
+use Rattle.lp_transition.specs.Machine.{Standings, outlines_of, outline_of, view_of, waits_in, admits_all, switches_at}
 use Rattle.lp_transition.proofs.EngineLemmas.{and-false}
 use Rattle.lp_transition.proofs.Quantifiers.{each_live-at, each_live-from}
 
@@ -88,26 +88,26 @@ ChecksAlone bounds now event t kind = (group : ℕ) → check_by bounds (outline
 
 module _ (model : Rules) (lawful : IsLawful model) (now : State) (event : Event) (t : ℕ) (kind : CheckKind) (x : Standing) (checks : ChecksAlone now.bounds now.tasks event t kind) (live : now.tasks t ≡ Live x) (positive : 0 < t) (within : t ≤ now.bounds.tasks) where
   -- a group of which the task isn't the only live member stays
-  pub alone-stays : (group : ℕ) → is_alone now.bounds (outlines_of now.tasks) group t ≡ false → goes_over model now event group ≡ false
-  unfolding goes_over
+  pub alone-stays : (group : ℕ) → is_alone now.bounds (outlines_of now.tasks) group t ≡ false → switches_at model now event group ≡ false
+  unfolding switches_at
   alone-stays group crowd =
       let none : if_used model.uses (check_by now.bounds (outlines_of now.tasks) (Some event) group) ≡ None = ap (if_used model.uses) (checks group ∙ ap (λ b. when b kind) crowd) in
-      ap (λ o. is_behind now group && admits_all model now o group) none ∙ and-false (is_behind now group)
+      ap (λ o. waits_in now group && admits_all model now o group) none ∙ and-false (waits_in now group)
 
   -- so does every group but the task's own
-  pub other-stays : (group : ℕ) → x.group ≢ group → goes_over model now event group ≡ false
+  pub other-stays : (group : ℕ) → x.group ≢ group → switches_at model now event group ≡ false
   other-stays group ne =
       alone-stays group (ap (λ b. b && each_live now.bounds (outlines_of now.tasks) (λ other y. not (nat_eq y.group group) || nat_eq other t)) (ap (λ f. on_live false (λ y. nat_eq y.group group) (map_live outline_of f)) live ∙ ne_eqb x.group group ne))
 
   -- a group that doesn't wait stays
-  pub calm-stays : (group : ℕ) → is_behind now group ≡ false → goes_over model now event group ≡ false
-  unfolding goes_over
+  pub calm-stays : (group : ℕ) → waits_in now group ≡ false → switches_at model now event group ≡ false
+  unfolding switches_at
   calm-stays group calm = ap (λ b. b && admits_all model now (if_used model.uses (check_by now.bounds (outlines_of now.tasks) (Some event) group)) group) calm
 
   -- a waiting group of the task alone goes over where the model admits the task
-  pub alone-goes : IsTrue (is_behind now x.group) → IsTrue (is_alone now.bounds (outlines_of now.tasks) x.group t) → goes_over model now event x.group ≡ model.admits kind (view_of t x) now.aim
-  unfolding goes_over
-  alone-goes behind alone =
+  pub alone-switches : IsTrue (waits_in now x.group) → IsTrue (is_alone now.bounds (outlines_of now.tasks) x.group t) → switches_at model now event x.group ≡ model.admits kind (view_of t x) now.aim
+  unfolding switches_at
+  alone-switches behind alone =
       ap (λ b. b && admits_all model now (if_used model.uses (check_by now.bounds (outlines_of now.tasks) (Some event) x.group)) x.group) behind
       ∙ ap (λ o. admits_all model now (if_used model.uses o) x.group) (checks x.group ∙ ap (λ b. when b kind) alone)
       ∙ by (model.uses kind) refl

@@ -11,10 +11,11 @@ use Rattle.lp_transition.specs.Tasks.{Fate, Unused, Live, Dead, on_live}
 use Rattle.lp_transition.specs.Leg.{Standing, State}
 use Rattle.lp_transition.specs.Sound.{IsSound}
 use Rattle.lp_transition.specs.Machine.{view_of}
-use Rattle.lp_transition.specs.Table.{Table, Engine, slot, state_in, is_in}
-use Rattle.lp_transition.specs.Kept.{IsKept}
+use Rattle.lp_transition.specs.Table.{Table, Engine, slot, state_in}
+use Rattle.lp_transition.specs.inside.Table.{is_in}
+use Rattle.lp_transition.specs.inside.Invariant.{IsEngine}
 use Rattle.lp_transition.specs.Scan.{waiting_view, views_of, verdict_of, verdicts_of, IsHeldBack, MayLeaveOut, is_asked, verdicts_among, AreEnough, passing}
-use Rattle.lp_transition.specs.ScanSteps.{tasks_of, is_judged, is_found, goes_by, all_admit}
+use Rattle.lp_transition.specs.inside.ScanSteps.{tasks_of, is_judged, is_found, switches_by, all_admit}
 use Rattle.lp_transition.proofs.ScanLists.{any-map, verdict-is, verdict-from}
 use Rattle.lp_transition.proofs.ScanGroups.{same_bool, found-from, found-is}
 use Rattle.lp_transition.proofs.ScanLemmas.{tasks-waiting}
@@ -172,21 +173,21 @@ module _ (model : Rules) (lawful : IsLawful model) (kind : CheckKind) (s : State
     held_back group h = found-from model lawful kind s sound table there true group h.member h.life h.live h.off h.grouped h.refused
 
     -- a group that goes over is asked
-    pub goes-asked : (t : ℕ) (x : Standing) → s.tasks t ≡ Live x → nat_eq x.level s.target ≡ false → goes_by table (verdicts_of model kind s) x.group ≡ true → asked x.group ≡ true
-    goes-asked t x live off goes =
+    pub switches-asked : (t : ℕ) (x : Standing) → s.tasks t ≡ Live x → nat_eq x.level s.target ≡ false → switches_by table (verdicts_of model kind s) x.group ≡ true → asked x.group ≡ true
+    switches-asked t x live off switches =
         let whole = verdicts_of model kind s in
-        let parts = and_parts (list_any (is_found table false x.group) whole) (not (list_any (is_found table true x.group) whole)) goes in
+        let parts = and_parts (list_any (is_found table false x.group) whole) (not (list_any (is_found table true x.group) whole)) switches in
         ⊎_elim
         (λ (yes : asked x.group ≡ true). yes)
         (λ (out : asked x.group ≡ false). let refusal = held_back x.group (others t x live off out) in let free = not-true (list_any (is_found table true x.group) whole) parts.1 in absurd (cc))
         (cases_Bool (asked x.group))
 
     -- the groups that go over are told by those that are asked
-    pub goes-among : (group : ℕ) → goes_by table (verdicts_among model kind s asked) group ≡ goes_by table (verdicts_of model kind s) group
-    goes-among group =
+    pub switches-among : (group : ℕ) → switches_by table (verdicts_among model kind s asked) group ≡ switches_by table (verdicts_of model kind s) group
+    switches-among group =
         let part = verdicts_among model kind s asked in
         let whole = verdicts_of model kind s in
-        same_bool (goes_by table part group) (goes_by table whole group)
+        same_bool (switches_by table part group) (switches_by table whole group)
         (λ h.
         let parts = and_parts (list_any (is_found table false group) part) (not (list_any (is_found table true group) part)) h in
         let f = among-is false group parts.0 in
@@ -200,7 +201,7 @@ module _ (model : Rules) (lawful : IsLawful model) (kind : CheckKind) (s : State
         (λ h.
         let parts = and_parts (list_any (is_found table false group) whole) (not (list_any (is_found table true group) whole)) h in
         let f = found-is model lawful kind s sound table there false group parts.0 in
-        let taken = ap asked (sym f.grouped) ∙ goes-asked f.number f.task f.live f.off (ap (goes_by table whole) f.grouped ∙ h) in
+        let taken = ap asked (sym f.grouped) ∙ switches-asked f.number f.task f.live f.off (ap (switches_by table whole) f.grouped ∙ h) in
         and_from (list_any (is_found table false group) part) (not (list_any (is_found table true group) part))
         (among-from false group f.number f.task f.live f.off f.grouped taken f.told)
         (not_from_false (list_any (is_found table true group) part) (false_from_ne_true (list_any (is_found table true group) part) (λ refused.
@@ -274,7 +275,7 @@ pub asked-among : (model : Rules) (kind : CheckKind) (s : State) (asked : ℕ �
 asked-among model kind s asked views vs seen found = found ∙ ap (map (verdict_of model kind s.aim)) seen ∙ sym (among_views model kind s (is_asked s asked))
 
 -- the verdicts of all are of the members of the waiting set
-pub tasks-judged : (model : Rules) (kind : CheckKind) (e : Engine) (waiting : Numbers) (members : List ℕ) → IsKept e waiting members → tasks_of (verdicts_of model kind (state_in e)) ≡ passing 0 65536 (has waiting)
+pub tasks-judged : (model : Rules) (kind : CheckKind) (e : Engine) (waiting : Numbers) (members : List ℕ) → IsEngine e waiting members → tasks_of (verdicts_of model kind (state_in e)) ≡ passing 0 65536 (has waiting)
 tasks-judged model kind e waiting members kept =
     map-map (λ (v : Verdict). v.task.0) (verdict_of model kind (state_in e).aim) (views_of (state_in e)) ∙ tasks-waiting e waiting members kept
 
@@ -295,9 +296,9 @@ module _ (model : Rules) (lawful : IsLawful model) (kind : CheckKind) (s : State
       (j.task, ap s.tasks (eqb-true t j.number parts.1) ∙ j.live, j.off)
 
   -- who waits and goes over is judged
-  pub goes-judged : (table : Table) → ((u : ℕ) (y : Standing) → s.tasks u ≡ Live y → slot table u ≡ Some y) → (t : ℕ) (x : Standing) → s.tasks t ≡ Live x → nat_eq x.level s.target ≡ false → goes_by table (verdicts_of model kind s) x.group ≡ true → is_judged vs t ≡ true
-  goes-judged table there t x live off goes =
-      let taken = ap (on_live false (λ (y : Standing). enough.asked y.group)) live ∙ goes-asked model lawful kind s sound enough.asked enough.others table there t x live off goes in
+  pub switches-judged : (table : Table) → ((u : ℕ) (y : Standing) → s.tasks u ≡ Live y → slot table u ≡ Some y) → (t : ℕ) (x : Standing) → s.tasks t ≡ Live x → nat_eq x.level s.target ≡ false → switches_by table (verdicts_of model kind s) x.group ≡ true → is_judged vs t ≡ true
+  switches-judged table there t x live off switches =
+      let taken = ap (on_live false (λ (y : Standing). enough.asked y.group)) live ∙ switches-asked model lawful kind s sound enough.asked enough.others table there t x live off switches in
       let bounds = sound.numbered t x live in
       judged_by t
       ∙ verdict-from model kind s (λ v. is_asked s enough.asked v.task.0 && nat_eq t v.task.0) (record {

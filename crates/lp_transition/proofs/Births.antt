@@ -13,8 +13,9 @@ use Rattle.lp_transition.specs.declared.event.Event.TheVariants.{Fork, Die}
 use Rattle.lp_transition.specs.Tasks.{Live, map_live}
 use Rattle.lp_transition.specs.Leg.{Standing}
 use Rattle.lp_transition.specs.Machine.{refusal_of, own_effect, bearing, affected}
-use Rattle.lp_transition.specs.Table.{Table, Engine, IsWide, slot, standings, with_task, without_task, state_in, is_off, is_in}
-use Rattle.lp_transition.specs.Kept.{IsKept}
+use Rattle.lp_transition.specs.Table.{Table, Engine, IsWide, slot, standings, state_in}
+use Rattle.lp_transition.specs.inside.Table.{with_task, without_task, is_off, is_in}
+use Rattle.lp_transition.specs.inside.Invariant.{IsEngine}
 use Rattle.lp_transition.specs.Weigh.{born_of, born_by, child_of}
 use Rattle.lp_transition.proofs.EngineLemmas.{quiet-control, quiet-stays, next-still}
 use Rattle.lp_transition.proofs.Accept.{fork-live, fork-new}
@@ -52,14 +53,14 @@ counted-fewer members group h n within is =
     (cases_eq h group)
 
 -- a live task is counted in its group
-pub counted-some : (e : Engine) (waiting : Numbers) (members : List ℕ) (t group : ℕ) (x : Standing) → IsKept e waiting members → t < 65536 → slot e.table t ≡ Some x → group ≡ x.group → group < 65536 → 1 ≤ get_or members group 0
+pub counted-some : (e : Engine) (waiting : Numbers) (members : List ℕ) (t group : ℕ) (x : Standing) → IsEngine e waiting members → t < 65536 → slot e.table t ≡ Some x → group ≡ x.group → group < 65536 → 1 ≤ get_or members group 0
 counted-some e waiting members t group x kept h there same within =
     let less = count-without_task e.table t x group kept.wide h there in
     let one : ◌≡◌ {A = ℕ} (if nat_eq x.group group then 1 else 0) 1 = cond-true _ _ _ (eq-eqb x.group group (sym same)) in
     omega (arith, less, one, kept.counted group within)
 
 -- and no group has more members than there are numbers
-pub counted-few : (e : Engine) (waiting : Numbers) (members : List ℕ) (group : ℕ) → IsKept e waiting members → group < 65536 → get_or members group 0 ≤ 65536
+pub counted-few : (e : Engine) (waiting : Numbers) (members : List ℕ) (group : ℕ) → IsEngine e waiting members → group < 65536 → get_or members group 0 ≤ 65536
 counted-few e waiting members group kept within = omega (arith, kept.counted group within, count_by-le-length (is_in group) e.table.slots, kept.wide.slots)
 
 -- an entry, whatever stands past the end
@@ -85,7 +86,7 @@ off-without_task table waiting t target wide long h waits u =
     (cases_eq u t)
 
 module _ (model : Rules) (lawful : IsLawful model) where
-  by_birth : (e : Engine) (waiting now : Numbers) (members : List ℕ) (p c : TaskId) (how : ForkKind) (x : Standing) (group : ℕ) → IsKept e waiting members → length now ≡ 65536 → c.0 < 65536 → e.number < 1000000 → refusal_of model (state_in e) (Fork p c how) ≡ None
+  by_birth : (e : Engine) (waiting now : Numbers) (members : List ℕ) (p c : TaskId) (how : ForkKind) (x : Standing) (group : ℕ) → IsEngine e waiting members → length now ≡ 65536 → c.0 < 65536 → e.number < 1000000 → refusal_of model (state_in e) (Fork p c how) ≡ None
       → born_of model (state_in e) (Fork p c how) ≡ Some x → group ≡ x.group → group < 65536 → ((t : ℕ) → has now t ≡ (if nat_eq t c.0 then not (nat_eq x.level e.target) else has waiting t))
       → HasTaken model e (Fork p c how) (with_table (with_task c.0 x e.table) e) now (set members group (get_or members group 0 + 1))
   by_birth e waiting now members p c how x group kept wide_now h room accepted born same within put =
@@ -119,7 +120,7 @@ module _ (model : Rules) (lawful : IsLawful model) where
       }
 
   -- an accepted fork, of the engine that code holds
-  pub takes_birth : (e old : Engine) (table : Table) (waiting now : Numbers) (members : List ℕ) (p c : TaskId) (how : ForkKind) (x : Standing) (group count : ℕ) → e ≡ old → table ≡ with_task c.0 x e.table → count ≡ get_or members group 0 → IsKept e waiting members → length now ≡ 65536 → c.0 < 65536 → old.number < 1000000 → refusal_of model (state_in old) (Fork p c how) ≡ None
+  pub takes_birth : (e old : Engine) (table : Table) (waiting now : Numbers) (members : List ℕ) (p c : TaskId) (how : ForkKind) (x : Standing) (group count : ℕ) → e ≡ old → table ≡ with_task c.0 x e.table → count ≡ get_or members group 0 → IsEngine e waiting members → length now ≡ 65536 → c.0 < 65536 → old.number < 1000000 → refusal_of model (state_in old) (Fork p c how) ≡ None
       → born_of model (state_in old) (Fork p c how) ≡ Some x → group ≡ x.group → group < 65536 → ((t : ℕ) → has now t ≡ (if nat_eq t c.0 then not (nat_eq x.level e.target) else has waiting t))
       → HasTaken model old (Fork p c how) (with_table table e) now (set members group (count + 1))
   takes_birth e old table waiting now members p c how x group count was is counted kept wide_now h room accepted born same within put =
@@ -128,7 +129,7 @@ module _ (model : Rules) (lawful : IsLawful model) where
       (subst (λ t. HasTaken model e (Fork p c how) (with_table t e) now (set members group (get_or members group 0 + 1))) (sym is)
       (by_birth e waiting now members p c how x group kept wide_now h (subst (λ o. o.number < 1000000) (sym was) room) (subst (λ o. refusal_of model (state_in o) (Fork p c how) ≡ None) (sym was) accepted) (subst (λ o. born_of model (state_in o) (Fork p c how) ≡ Some x) (sym was) born) same within put)))
 
-  by_death : (e : Engine) (waiting : Numbers) (members : List ℕ) (t : TaskId) (x : Standing) (group : ℕ) → IsKept e waiting members → length waiting ≡ 65536 → t.0 < 65536 → e.number < 1000000 → refusal_of model (state_in e) (Die t) ≡ None
+  by_death : (e : Engine) (waiting : Numbers) (members : List ℕ) (t : TaskId) (x : Standing) (group : ℕ) → IsEngine e waiting members → length waiting ≡ 65536 → t.0 < 65536 → e.number < 1000000 → refusal_of model (state_in e) (Die t) ≡ None
       → slot e.table t.0 ≡ Some x → has e.table.used t.0 ≡ true → group ≡ x.group → group < 65536
       → HasTaken model e (Die t) (with_table (without_task t.0 e.table) e) (set waiting t.0 false) (set members group (get_or members group 0 - 1))
   by_death e waiting members t x group kept long h room accepted there known same within =
@@ -154,7 +155,7 @@ module _ (model : Rules) (lawful : IsLawful model) where
       }
 
   -- an accepted end of a task, of the engine that code holds
-  pub takes_death : (e old : Engine) (table : Table) (waiting now : Numbers) (members : List ℕ) (t : TaskId) (x : Standing) (group count : ℕ) → e ≡ old → table ≡ without_task t.0 e.table → count ≡ get_or members group 0 → IsKept e waiting members → length now ≡ 65536 → now ≡ set waiting t.0 false → t.0 < 65536 → old.number < 1000000 → refusal_of model (state_in old) (Die t) ≡ None
+  pub takes_death : (e old : Engine) (table : Table) (waiting now : Numbers) (members : List ℕ) (t : TaskId) (x : Standing) (group count : ℕ) → e ≡ old → table ≡ without_task t.0 e.table → count ≡ get_or members group 0 → IsEngine e waiting members → length now ≡ 65536 → now ≡ set waiting t.0 false → t.0 < 65536 → old.number < 1000000 → refusal_of model (state_in old) (Die t) ≡ None
       → slot e.table t.0 ≡ Some x → has e.table.used t.0 ≡ true → group ≡ x.group → group < 65536
       → HasTaken model old (Die t) (with_table table e) now (set members group (count - 1))
   takes_death e old table waiting now members t x group count was is counted kept long removed h room accepted there known same within =

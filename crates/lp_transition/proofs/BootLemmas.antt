@@ -20,9 +20,10 @@ use Rattle.lp_transition.specs.Leg.{Standing, State}
 use Rattle.lp_transition.specs.Run.{Run, at_boot, booted, AreInRange, start, leg_after}
 use Rattle.lp_transition.specs.Sound.{IsSound}
 use Rattle.lp_transition.specs.Steps.{StandsIn}
-use Rattle.lp_transition.specs.Kept.{IsKept}
+use Rattle.lp_transition.specs.inside.Invariant.{IsEngine}
 use Rattle.lp_transition.specs.Boot.{boot_fault, boot_refusal}
-use Rattle.lp_transition.specs.Table.{Table, Engine, state_in, bounds_of, slot, fate_at, standings, IsWide, IsBlank, with_task, is_off, is_in}
+use Rattle.lp_transition.specs.Table.{Table, Engine, state_in, bounds_of, slot, fate_at, standings, IsWide}
+use Rattle.lp_transition.specs.inside.Table.{IsBlank, with_task, is_off, is_in}
 use Rattle.lp_transition.proofs.Runs.{started}
 use Rattle.lp_transition.proofs.WholeRun.{start_sound}
 use Rattle.lp_transition.proofs.TableLemmas.{standings-blank, standings-with_task, IsWide-with_task}
@@ -202,7 +203,7 @@ new_run patches boots = record { bounds = bounds_of patches; patches = patches; 
 
 -- an engine keeps what it has to, and stands at the start of a run over these patches
 pub record HasStarted (model : Rules) (patches : Patches) (boots : List (TaskId × Class)) (engine : Engine) (waiting : Numbers) (members : List ℕ) : Type 0 where
-  pub kept : IsKept engine waiting members
+  pub kept : IsEngine engine waiting members
   pub state : state_in engine ≡ (start model (bounds_of patches) patches boots).opening
   pub stands : StandsIn model (new_run patches boots) (state_in engine)
 

@@ -8,49 +8,49 @@ use Rattle.lp_transition.specs.declared.event.Event.{Event}
 use Rattle.lp_transition.specs.declared.reply.Reply.{Reply}
 use Rattle.lp_transition.specs.Events.{is_control}
 use Rattle.lp_transition.specs.Leg.{State}
-use Rattle.lp_transition.specs.Machine.{at_rest, refusal_of, switched_over, next, told, answer}
+use Rattle.lp_transition.specs.Machine.{complete_in, refusal_of, with_switches, next, told, answer}
 use Rattle.lp_transition.specs.Table.{Engine, state_in}
-use Rattle.lp_transition.specs.Kept.{IsKept}
+use Rattle.lp_transition.specs.inside.Invariant.{IsEngine}
 use Rattle.lp_transition.proofs.EngineLemmas.{next-accepted, answer-accepted}
 use Rattle.lp_transition.proofs.TableLemmas.{slot-zero}
 use Rattle.lp_transition.proofs.MemberLemmas.{rest}
 
 -- nobody waits exactly where the machine is at rest
-pub resting : (e : Engine) (waiting : Numbers) (members : List ℕ) → IsKept e waiting members → IsEmpty waiting ↔ IsTrue (at_rest (state_in e))
+pub resting : (e : Engine) (waiting : Numbers) (members : List ℕ) → IsEngine e waiting members → IsEmpty waiting ↔ IsTrue (complete_in (state_in e))
 resting e waiting members kept = rest e.table e.patches kept.wide (slot-zero e kept.sound) waiting e.target kept.waits
 
 module _ (model : Rules) where
   -- the answer to an accepted event that is no control event
   pub answer-taken : (e new : Engine) (event : Event) → refusal_of model (state_in e) event ≡ None → is_control event ≡ false → state_in new ≡ next model (state_in e) event
-      → answer model (state_in e) event ≡ record { what = told model (state_in e) event; completed = at_rest (state_in new) && not (at_rest (state_in e)) }
+      → answer model (state_in e) event ≡ record { what = told model (state_in e) event; completed = complete_in (state_in new) && not (complete_in (state_in e)) }
   answer-taken e new event accepted plain is =
       let s = state_in e in
-      let there : switched_over model s event ≡ state_in new = sym (next-accepted model s event accepted plain) ∙ sym is in
+      let there : with_switches model s event ≡ state_in new = sym (next-accepted model s event accepted plain) ∙ sym is in
       answer-accepted model s event accepted ∙ cond-false _ _ _ plain
-      ∙ ap {A = State} {B = Reply} (λ now. record { what = told model s event; completed = at_rest now && not (at_rest s) }) there
+      ∙ ap {A = State} {B = Reply} (λ now. record { what = told model s event; completed = complete_in now && not (complete_in s) }) there
 
 -- ---- Whether it completes
 
-settled : (e : Engine) (waiting : Numbers) (members : List ℕ) → IsKept e waiting members → IsEmpty waiting → at_rest (state_in e) ≡ true
+settled : (e : Engine) (waiting : Numbers) (members : List ℕ) → IsEngine e waiting members → IsEmpty waiting → complete_in (state_in e) ≡ true
 settled e waiting members kept empty = (resting e waiting members kept).0 empty
 
 -- not, where it was settled already if it is settled afterwards
-pub not-completed : (e new : Engine) (waiting now : Numbers) (members counts : List ℕ) → IsKept e waiting members → IsKept new now counts → (IsEmpty now → IsEmpty waiting) → false ≡ (at_rest (state_in new) && not (at_rest (state_in e)))
-not-completed e new waiting now members counts kept kept' back = by (at_rest (state_in new)) refl
+pub not-completed : (e new : Engine) (waiting now : Numbers) (members counts : List ℕ) → IsEngine e waiting members → IsEngine new now counts → (IsEmpty now → IsEmpty waiting) → false ≡ (complete_in (state_in new) && not (complete_in (state_in e)))
+not-completed e new waiting now members counts kept kept' back = by (complete_in (state_in new)) refl
   where
-    by : (b : Bool) → at_rest (state_in new) ≡ b → false ≡ (b && not (at_rest (state_in e)))
+    by : (b : Bool) → complete_in (state_in new) ≡ b → false ≡ (b && not (complete_in (state_in e)))
     by false e' = refl
     by true e' = ap not (sym (settled e waiting members kept (back ((resting new now counts kept').1 e'))))
 
 -- where a task leaves, the others are what is left to wait
-pub completed_by : (e : Engine) (waiting : Numbers) (members : List ℕ) (t : ℕ) (last after : Bool) → IsKept e waiting members → IsTrue after ↔ ((u : ℕ) → u ≢ t → has waiting u ≡ false)
-    → IsTrue last ↔ ((has waiting t ≡ true) × ((u : ℕ) → u ≢ t → has waiting u ≡ false)) → last ≡ (after && not (at_rest (state_in e)))
-completed_by e waiting members t last after kept others lone = by after refl (at_rest (state_in e)) refl
+pub completed_by : (e : Engine) (waiting : Numbers) (members : List ℕ) (t : ℕ) (last after : Bool) → IsEngine e waiting members → IsTrue after ↔ ((u : ℕ) → u ≢ t → has waiting u ≡ false)
+    → IsTrue last ↔ ((has waiting t ≡ true) × ((u : ℕ) → u ≢ t → has waiting u ≡ false)) → last ≡ (after && not (complete_in (state_in e)))
+completed_by e waiting members t last after kept others lone = by after refl (complete_in (state_in e)) refl
   where
     emptied_all : ((u : ℕ) → u ≢ t → has waiting u ≡ false) → has waiting t ≡ false → IsEmpty waiting
     emptied_all alone none u = ⊎_elim (λ (same : u ≡ t). subst (λ v. has waiting v ≡ false) (sym same) none) (λ (ne : u ≡ t → ⊥). alone u ne) (cases_eq u t)
 
-    by : (b : Bool) → after ≡ b → (a : Bool) → at_rest (state_in e) ≡ a → last ≡ (b && not a)
+    by : (b : Bool) → after ≡ b → (a : Bool) → complete_in (state_in e) ≡ a → last ≡ (b && not a)
     by true e' true e'' = never last refl
       where
         never : (l : Bool) → last ≡ l → last ≡ false
@@ -73,10 +73,10 @@ completed_by e waiting members t last after kept others lone = by after refl (at
         never true h = let calm = others.1 (lone.0 h).1 in absurd (cc)
 
 -- so where the last task that waits goes over
-pub completed : (e new : Engine) (waiting now : Numbers) (members counts : List ℕ) (t : ℕ) (last : Bool) → IsKept e waiting members → IsKept new now counts → t < 65536 → now ≡ set waiting t false
-    → IsTrue last ↔ ((has waiting t ≡ true) × ((u : ℕ) → u ≢ t → has waiting u ≡ false)) → last ≡ (at_rest (state_in new) && not (at_rest (state_in e)))
+pub completed : (e new : Engine) (waiting now : Numbers) (members counts : List ℕ) (t : ℕ) (last : Bool) → IsEngine e waiting members → IsEngine new now counts → t < 65536 → now ≡ set waiting t false
+    → IsTrue last ↔ ((has waiting t ≡ true) × ((u : ℕ) → u ≢ t → has waiting u ≡ false)) → last ≡ (complete_in (state_in new) && not (complete_in (state_in e)))
 completed e new waiting now members counts t last kept kept' small removed lone =
-    completed_by e waiting members t last (at_rest (state_in new)) kept
+    completed_by e waiting members t last (complete_in (state_in new)) kept
     ((λ rests. others ((resting new now counts kept').1 rests)), (λ alone. (resting new now counts kept').0 (emptied alone)))
     lone
   where

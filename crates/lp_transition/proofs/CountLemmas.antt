@@ -3,7 +3,8 @@ use Rattle.std.proofs.Common.{◌≡◌, ℕ, ◌+◌, ◌<◌, count_by, set, O
 use Rattle.std.proofs.lemmas.List.Sums.{sum_by-set}
 use Rattle.std.specs.Option.{option_map}
 use Rattle.lp_transition.specs.Leg.{Standing}
-use Rattle.lp_transition.specs.Table.{Table, slot, IsWide, changed, with_task, without_task, is_in}
+use Rattle.lp_transition.specs.Table.{Table, slot, IsWide}
+use Rattle.lp_transition.specs.inside.Table.{changed, with_task, without_task, is_in}
 
 -- ---- After a change
 

@@ -10,9 +10,10 @@ use Rattle.lp_transition.specs.Events.{is_control}
 use Rattle.lp_transition.specs.Tasks.{Fate, change}
 use Rattle.lp_transition.specs.Leg.{Standing, State}
 use Rattle.lp_transition.specs.Sound.{IsSound}
-use Rattle.lp_transition.specs.Machine.{refusal_of, goes_over, affected, next, own_effect}
-use Rattle.lp_transition.specs.Table.{Table, Engine, IsWide, slot, standings, changed, state_in, is_off}
-use Rattle.lp_transition.specs.Kept.{IsKept}
+use Rattle.lp_transition.specs.Machine.{refusal_of, switches_at, affected, next, own_effect}
+use Rattle.lp_transition.specs.Table.{Table, Engine, IsWide, slot, standings, state_in}
+use Rattle.lp_transition.specs.inside.Table.{changed, is_off}
+use Rattle.lp_transition.specs.inside.Invariant.{IsEngine}
 use Rattle.lp_transition.proofs.States.{next_keeps_sound}
 use Rattle.lp_transition.proofs.EngineLemmas.{is_quiet, quiet-control, quiet-stays, next-still, next-refused}
 use Rattle.lp_transition.proofs.TableLemmas.{standings-changed, slot-changed, slot-changed_other, IsWide-changed}
@@ -24,7 +25,7 @@ with_table table e = record e { number = e.number + 1; table = table }
 
 -- an engine has taken an event: it keeps what it has to, and is where the machine goes
 pub record HasTaken (model : Rules) (old : Engine) (event : Event) (new : Engine) (waiting : Numbers) (members : List ℕ) : Type 0 where
-  pub kept : IsKept new waiting members
+  pub kept : IsEngine new waiting members
   pub state : state_in new ≡ next model (state_in old) event
 
 -- the state of an engine whose table stands for these tasks
@@ -51,7 +52,7 @@ is_off-changed table t u target f wide h keeps =
 
 module _ (model : Rules) (lawful : IsLawful model) where
   -- an event at which no group goes over, and whose own effect is a change of one live task, which keeps its level and its group
-  by_change : (e : Engine) (waiting : Numbers) (members : List ℕ) (event : Event) (t : ℕ) (f : Standing → Standing) → IsKept e waiting members → t < 65536 → e.number < 1000000 → is_control event ≡ false → ((group : ℕ) → goes_over model (affected model (state_in e) event) event group ≡ false) → refusal_of model (state_in e) event ≡ None
+  by_change : (e : Engine) (waiting : Numbers) (members : List ℕ) (event : Event) (t : ℕ) (f : Standing → Standing) → IsEngine e waiting members → t < 65536 → e.number < 1000000 → is_control event ≡ false → ((group : ℕ) → switches_at model (affected model (state_in e) event) event group ≡ false) → refusal_of model (state_in e) event ≡ None
       → own_effect model.child_group (suc e.number) event (standings e.table) ≡ change t f (standings e.table) → ((x : Standing) → (f x).level ≡ x.level) → ((x : Standing) → (f x).group ≡ x.group)
       → HasTaken model e event (with_table (changed t f e.table) e) waiting members
   by_change e waiting members event t f kept h room plain none accepted own levels groups =
@@ -72,30 +73,30 @@ module _ (model : Rules) (lawful : IsLawful model) where
       }
 
   -- the same, of the engine that code holds
-  pub takes_change_still : (e old : Engine) (table : Table) (waiting : Numbers) (members : List ℕ) (event : Event) (t : ℕ) (f : Standing → Standing) → e ≡ old → table ≡ changed t f e.table → IsKept e waiting members → t < 65536 → old.number < 1000000
-      → is_control event ≡ false → ((group : ℕ) → goes_over model (affected model (state_in old) event) event group ≡ false) → refusal_of model (state_in old) event ≡ None
+  pub takes_change_still : (e old : Engine) (table : Table) (waiting : Numbers) (members : List ℕ) (event : Event) (t : ℕ) (f : Standing → Standing) → e ≡ old → table ≡ changed t f e.table → IsEngine e waiting members → t < 65536 → old.number < 1000000
+      → is_control event ≡ false → ((group : ℕ) → switches_at model (affected model (state_in old) event) event group ≡ false) → refusal_of model (state_in old) event ≡ None
       → own_effect model.child_group (suc e.number) event (standings e.table) ≡ change t f (standings e.table) → ((x : Standing) → (f x).level ≡ x.level) → ((x : Standing) → (f x).group ≡ x.group)
       → HasTaken model old event (with_table table e) waiting members
   takes_change_still e old table waiting members event t f was is kept h room plain none accepted own levels groups =
       subst (λ o. HasTaken model o event (with_table table e) waiting members) was
       (subst (λ now. HasTaken model e event (with_table now e) waiting members) (sym is)
-      (by_change e waiting members event t f kept h (subst (λ o. o.number < 1000000) (sym was) room) plain (subst (λ o. (group : ℕ) → goes_over model (affected model (state_in o) event) event group ≡ false) (sym was) none) (subst (λ o. refusal_of model (state_in o) event ≡ None) (sym was) accepted) own levels groups))
+      (by_change e waiting members event t f kept h (subst (λ o. o.number < 1000000) (sym was) room) plain (subst (λ o. (group : ℕ) → switches_at model (affected model (state_in o) event) event group ≡ false) (sym was) none) (subst (λ o. refusal_of model (state_in o) event ≡ None) (sym was) accepted) own levels groups))
 
   -- and for a quiet event
-  pub takes_change : (e old : Engine) (table : Table) (waiting : Numbers) (members : List ℕ) (event : Event) (t : ℕ) (f : Standing → Standing) → e ≡ old → table ≡ changed t f e.table → IsKept e waiting members → t < 65536 → old.number < 1000000 → is_quiet event ≡ true → refusal_of model (state_in old) event ≡ None
+  pub takes_change : (e old : Engine) (table : Table) (waiting : Numbers) (members : List ℕ) (event : Event) (t : ℕ) (f : Standing → Standing) → e ≡ old → table ≡ changed t f e.table → IsEngine e waiting members → t < 65536 → old.number < 1000000 → is_quiet event ≡ true → refusal_of model (state_in old) event ≡ None
       → own_effect model.child_group (suc e.number) event (standings e.table) ≡ change t f (standings e.table) → ((x : Standing) → (f x).level ≡ x.level) → ((x : Standing) → (f x).group ≡ x.group)
       → HasTaken model old event (with_table table e) waiting members
   takes_change e old table waiting members event t f was is kept h room quiet accepted own levels groups =
       takes_change_still e old table waiting members event t f was is kept h room (quiet-control model event quiet) (λ group. quiet-stays model (affected model (state_in old) event) event group quiet) accepted own levels groups
 
   -- an event that leaves the tasks alone, and at which no group goes over
-  pub takes_nothing : (e old : Engine) (waiting : Numbers) (members : List ℕ) (event : Event) → e ≡ old → IsKept e waiting members → old.number < 1000000
-      → is_control event ≡ false → ((group : ℕ) → goes_over model (affected model (state_in old) event) event group ≡ false) → refusal_of model (state_in old) event ≡ None
+  pub takes_nothing : (e old : Engine) (waiting : Numbers) (members : List ℕ) (event : Event) → e ≡ old → IsEngine e waiting members → old.number < 1000000
+      → is_control event ≡ false → ((group : ℕ) → switches_at model (affected model (state_in old) event) event group ≡ false) → refusal_of model (state_in old) event ≡ None
       → own_effect model.child_group (suc e.number) event (standings e.table) ≡ standings e.table
       → HasTaken model old event (with_table e.table e) waiting members
   takes_nothing e old waiting members event was kept room plain none accepted own =
       let there = state-with_table e e.table (own_effect model.child_group (suc e.number) event (standings e.table)) (sym own)
-      ∙ sym (next-still model (state_in e) event (subst (λ o. refusal_of model (state_in o) event ≡ None) (sym was) accepted) plain (subst (λ o. (group : ℕ) → goes_over model (affected model (state_in o) event) event group ≡ false) (sym was) none)) in
+      ∙ sym (next-still model (state_in e) event (subst (λ o. refusal_of model (state_in o) event ≡ None) (sym was) accepted) plain (subst (λ o. (group : ℕ) → switches_at model (affected model (state_in o) event) event group ≡ false) (sym was) none)) in
       let fits : e.number < 1000000 = subst (λ o. o.number < 1000000) (sym was) room in
       subst (λ o. HasTaken model o event (with_table e.table e) waiting members) was (record {
         kept = record {
@@ -113,7 +114,7 @@ module _ (model : Rules) (lawful : IsLawful model) where
       })
 
   -- a refused event
-  pub takes_refused : (e old : Engine) (waiting : Numbers) (members : List ℕ) (event : Event) (why : Refusal) → e ≡ old → IsKept e waiting members → old.number < 1000000 → refusal_of model (state_in old) event ≡ Some why
+  pub takes_refused : (e old : Engine) (waiting : Numbers) (members : List ℕ) (event : Event) (why : Refusal) → e ≡ old → IsEngine e waiting members → old.number < 1000000 → refusal_of model (state_in old) event ≡ Some why
       → HasTaken model old event (with_table e.table e) waiting members
   takes_refused e old waiting members event why was kept room refused =
       let there = state-with_table e e.table (standings e.table) refl ∙ sym (next-refused model (state_in e) event why (subst (λ o. refusal_of model (state_in o) event ≡ Some why) (sym was) refused)) in

@@ -9,7 +9,7 @@ use Rattle.lp_transition.specs.declared.refusal.Refusal.{Refusal}
 use Rattle.lp_transition.specs.Events.{is_control}
 use Rattle.lp_transition.specs.Tasks.{Fate, Unused, Live, Dead, on_live, map_live, is_unused}
 use Rattle.lp_transition.specs.Leg.{Standing, State}
-use Rattle.lp_transition.specs.Machine.{is_behind, goes_over, moved_task, refusal_of, counted, affected, switched_over, turned, next_by, next, answer_by, answer}
+use Rattle.lp_transition.specs.Machine.{waits_in, switches_at, switched_task, refusal_of, counted, affected, with_switches, turned, next_by, next, answer_by, answer}
 use Rattle.lp_transition.specs.Table.{fate_at}
 
 -- who lives has a number that was used
@@ -35,15 +35,15 @@ is_quiet _ = true
 
 module _ (model : Rules) where
   -- a quiet event takes no group over
-  pub quiet-stays : (now : State) (event : Event) (group : ℕ) → is_quiet event ≡ true → goes_over model now event group ≡ false
-  unfolding goes_over
-  quiet-stays now (Call t f) group q = and-false (is_behind now group)
-  quiet-stays now (Ret t) group q = and-false (is_behind now group)
-  quiet-stays now (Sleep t) group q = and-false (is_behind now group)
-  quiet-stays now (Wake t) group q = and-false (is_behind now group)
-  quiet-stays now (Enter t) group q = and-false (is_behind now group)
-  quiet-stays now (Fork p c how) group q = and-false (is_behind now group)
-  quiet-stays now (Die t) group q = and-false (is_behind now group)
+  pub quiet-stays : (now : State) (event : Event) (group : ℕ) → is_quiet event ≡ true → switches_at model now event group ≡ false
+  unfolding switches_at
+  quiet-stays now (Call t f) group q = and-false (waits_in now group)
+  quiet-stays now (Ret t) group q = and-false (waits_in now group)
+  quiet-stays now (Sleep t) group q = and-false (waits_in now group)
+  quiet-stays now (Wake t) group q = and-false (waits_in now group)
+  quiet-stays now (Enter t) group q = and-false (waits_in now group)
+  quiet-stays now (Fork p c how) group q = and-false (waits_in now group)
+  quiet-stays now (Die t) group q = and-false (waits_in now group)
   quiet-stays now (Exit t) group q = cc
   quiet-stays now (Idle t) group q = cc
   quiet-stays now Walk group q = cc
@@ -69,13 +69,13 @@ module _ (model : Rules) where
   quiet-control Disable q = cc
   quiet-control Reverse q = cc
 
-  still-task : (now : State) (event : Event) → ((group : ℕ) → goes_over model now event group ≡ false) → (fate : Fate Standing) → map_live (moved_task model now event) fate ≡ fate
+  still-task : (now : State) (event : Event) → ((group : ℕ) → switches_at model now event group ≡ false) → (fate : Fate Standing) → map_live (switched_task model now event) fate ≡ fate
   still-task now event none Unused = refl
   still-task now event none (Live x) = ap Live (cond-false _ _ _ (none x.group))
   still-task now event none Dead = refl
 
   -- where no group goes over the tasks stay as the event's own effect left them
-  pub switched-still : (s : State) (event : Event) → ((group : ℕ) → goes_over model (affected model s event) event group ≡ false) → switched_over model s event ≡ affected model s event
+  pub switched-still : (s : State) (event : Event) → ((group : ℕ) → switches_at model (affected model s event) event group ≡ false) → with_switches model s event ≡ affected model s event
   switched-still s event none =
       let now = affected model s event in
       ap {A = ℕ → Fate Standing} {B = State} (λ tasks. record now { tasks = tasks }) (fun_ext (λ t. still-task now event none (now.tasks t)))
@@ -94,7 +94,7 @@ module _ (model : Rules) where
   answer-accepted s event e = ap (answer_by model s event) e
 
   -- an accepted event that is no control event
-  pub next-accepted : (s : State) (event : Event) → refusal_of model s event ≡ None → is_control event ≡ false → next model s event ≡ switched_over model s event
+  pub next-accepted : (s : State) (event : Event) → refusal_of model s event ≡ None → is_control event ≡ false → next model s event ≡ with_switches model s event
   unfolding next
   next-accepted s event e c = ap (next_by model s event) e ∙ cond-false _ _ _ c
 
@@ -104,7 +104,7 @@ module _ (model : Rules) where
   next-turned s event e c = ap (next_by model s event) e ∙ cond-true _ _ _ c
 
   -- an event at which no group goes over has its own effect alone
-  pub next-still : (s : State) (event : Event) → refusal_of model s event ≡ None → is_control event ≡ false → ((group : ℕ) → goes_over model (affected model s event) event group ≡ false) → next model s event ≡ affected model s event
+  pub next-still : (s : State) (event : Event) → refusal_of model s event ≡ None → is_control event ≡ false → ((group : ℕ) → switches_at model (affected model s event) event group ≡ false) → next model s event ≡ affected model s event
   next-still s event e c none = next-accepted s event e c ∙ switched-still s event none
 
 -- a change that keeps levels keeps who is off the target

@@ -56,26 +56,26 @@ module _ (model : Rules) (leg : Leg) where
   abbrev pub so_far : ℕ → Schedule
   so_far n = first_checks model leg n
 
-  abbrev pub goes : ℕ → ℕ → Bool
-  goes n group = waits model leg (so_far n) n group && allowed model leg (so_far n) n group
+  abbrev pub switches : ℕ → ℕ → Bool
+  switches n group = waits model leg (so_far n) n group && allowed model leg (so_far n) n group
 
-  pub goes_now : (n group : ℕ) → goes n group ≡ true → so_far (suc n) group ≡ Some (suc n)
+  pub switches_now : (n group : ℕ) → switches n group ≡ true → so_far (suc n) group ≡ Some (suc n)
   unfolding first_checks
-  goes_now n group e = cond-true _ _ _ e
+  switches_now n group e = cond-true _ _ _ e
 
-  pub goes_not : (n group : ℕ) → goes n group ≡ false → so_far (suc n) group ≡ so_far n group
+  pub switches_not : (n group : ℕ) → switches n group ≡ false → so_far (suc n) group ≡ so_far n group
   unfolding first_checks
-  goes_not n group e = cond-false _ _ _ e
+  switches_not n group e = cond-false _ _ _ e
 
   pub agree_next : (n : ℕ) → Agree n (so_far n) (so_far (suc n))
   unfolding Agree
   agree_next n group j le =
       ⊎_elim
-      (λ (e : goes n group ≡ true).
+      (λ (e : switches n group ≡ true).
       let w = waits-is model leg (so_far n) n group (and_parts _ _ e).0 in
-      still_before (so_far n group) j n le (not_gone model leg (so_far n) n group w) ∙ sym (ap (λ m. has_come m j) (goes_now n group e) ∙ lt-leb (suc n) j (omega arith)))
-      (λ (e : goes n group ≡ false). ap (λ m. has_come m j) (sym (goes_not n group e)))
-      (cases_Bool (goes n group))
+      still_before (so_far n group) j n le (not_gone model leg (so_far n) n group w) ∙ sym (ap (λ m. has_come m j) (switches_now n group e) ∙ lt-leb (suc n) j (omega arith)))
+      (λ (e : switches n group ≡ false). ap (λ m. has_come m j) (sym (switches_not n group e)))
+      (cases_Bool (switches n group))
 
   -- a moment of the schedule so far
   pub record Moved (n group moment : ℕ) : Type 0 where
@@ -98,12 +98,12 @@ module _ (model : Rules) (leg : Leg) where
   moved zero group moment e = absurd (none_at_first group moment e)
   moved (suc n) group moment e =
       ⊎_elim
-      (λ (now : goes n group ≡ true).
+      (λ (now : switches n group ≡ true).
       let both = and_parts _ _ now in
-      let same : Some moment ≡ Some (suc n) = sym e ∙ goes_now n group now in
+      let same : Some moment ≡ Some (suc n) = sym e ∙ switches_now n group now in
       record { place = n; is = cc; early = omega arith; waited = waits_agrees n group _ _ (agree_next n) both.0; was_allowed = allowed_agrees n group _ _ (agree_next n) both.1 })
-      (λ (not_now : goes n group ≡ false). moved_on n group moment (moved n group moment (sym (goes_not n group not_now) ∙ e)))
-      (cases_Bool (goes n group))
+      (λ (not_now : switches n group ≡ false). moved_on n group moment (moved n group moment (sym (switches_not n group not_now) ∙ e)))
+      (cases_Bool (switches n group))
 
   -- who waits just before an event that allows it goes over in it
   first_so_far : (n k group : ℕ) → k < n → IsTrue (waits model leg (so_far n) k group) → IsTrue (allowed model leg (so_far n) k group) → so_far n group ≡ Some (suc k)
@@ -113,10 +113,10 @@ module _ (model : Rules) (leg : Leg) where
       let w_before = waits_agrees k group (so_far (suc n)) (so_far n) agree w in
       let a_before = allowed_agrees k group (so_far (suc n)) (so_far n) agree a in
       ⊎_elim
-      (λ (e : k ≡ n). goes_now n group (subst (λ i. goes_at i n group ≡ true) e (and_from _ _ w_before a_before)) ∙ ap (λ i. Some (suc i)) (sym e))
+      (λ (e : k ≡ n). switches_now n group (subst (λ i. goes_at i n group ≡ true) e (and_from _ _ w_before a_before)) ∙ ap (λ i. Some (suc i)) (sym e))
       (λ (ne : k ≡ n → ⊥).
       let gone = first_so_far n k group (omega (arith, ne)) w_before a_before in
-      goes_not n group (false_from_ne_true _ (λ e.
+      switches_not n group (false_from_ne_true _ (λ e.
       let v = not_gone model leg (so_far n) n group (waits-is model leg (so_far n) n group (and_parts _ _ e).0) in
       let come : has_come (so_far n group) n ≡ true = ap (λ m. has_come m n) gone ∙ le-leb (suc k) n (omega (arith, ne)) in
       cc)) ∙ gone)

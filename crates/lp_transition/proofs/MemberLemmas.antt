@@ -7,7 +7,8 @@ use Rattle.lp_patch.specs.Patches.{Patches}
 use Rattle.lp_transition.specs.Tasks.{on_live, map_live}
 use Rattle.lp_transition.specs.Leg.{Standing, each_live, some_live, has_member, is_alone}
 use Rattle.lp_transition.specs.Machine.{outline_of, outlines_of}
-use Rattle.lp_transition.specs.Table.{Table, slot, standings, bounds_of, IsWide, IsBlank, without_task, is_off, is_in}
+use Rattle.lp_transition.specs.Table.{Table, slot, standings, bounds_of, IsWide}
+use Rattle.lp_transition.specs.inside.Table.{IsBlank, without_task, is_off, is_in}
 use Rattle.lp_transition.proofs.Quantifiers.{each_live-at, each_live-from, some_live-is, some_live-from, each_live-map, some_live-map}
 use Rattle.lp_transition.proofs.TableLemmas.{slot_from_live, live_from_slot, slot-without_task, slot-without_task_other, IsWide-without_task}
 use Rattle.lp_transition.proofs.CountLemmas.{count-without_task}

@@ -10,7 +10,7 @@ use Rattle.lp_transition.specs.Leg.{Standing, State, Leg}
 use Rattle.lp_transition.specs.Run.{plus, first_leg, leg_of, next_leg, opens, opened, and_then}
 use Rattle.lp_transition.specs.Machine.{state_of}
 use Rattle.lp_transition.specs.Steps.{OpensLegs}
-use Rattle.lp_transition.specs.Slots.{slots_of}
+use Rattle.lp_transition.specs.inside.Slots.{slots_of}
 use Rattle.lp_transition.proofs.SlotLemmas.{boxed}
 use Rattle.lp_transition.proofs.Steps.{open_shown}
 use Rattle.lp_transition.proofs.Runs.{leg_after-plus}

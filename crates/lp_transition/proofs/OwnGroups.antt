@@ -7,10 +7,11 @@ use Rattle.lp_numbers.specs.Numbers.{Numbers, has}
 use Rattle.lp_transition.specs.Tasks.{Live, on_live}
 use Rattle.lp_transition.specs.Leg.{Standing}
 use Rattle.lp_transition.specs.Machine.{view_of}
-use Rattle.lp_transition.specs.Table.{Engine, slot, standings, bounds_of, state_in, is_off}
-use Rattle.lp_transition.specs.Kept.{IsKept}
+use Rattle.lp_transition.specs.Table.{Engine, slot, standings, bounds_of, state_in}
+use Rattle.lp_transition.specs.inside.Table.{is_off}
+use Rattle.lp_transition.specs.inside.Invariant.{IsEngine}
 use Rattle.lp_transition.specs.Scan.{views_of, is_asked, passing}
-use Rattle.lp_transition.specs.ScanSteps.{IsOwnGroup, task_goes, waiting_slot}
+use Rattle.lp_transition.specs.inside.ScanSteps.{IsOwnGroup, task_switches, waiting_slot}
 use Rattle.lp_transition.proofs.Alone.{alone-other}
 use Rattle.lp_transition.proofs.AskedScans.{views-agree}
 use Rattle.lp_transition.proofs.Births.{counted-some}
@@ -21,7 +22,7 @@ use Rattle.lp_transition.proofs.ScanLemmas.{views-asked}
 use Rattle.lp_transition.proofs.ScanTakes.{group_fits}
 use Rattle.lp_transition.proofs.TableLemmas.{live_from_slot, slot_from_live, slot-zero}
 
-module _ (e : Engine) (waiting : Numbers) (members : List ℕ) (kept : IsKept e waiting members) where
+module _ (e : Engine) (waiting : Numbers) (members : List ℕ) (kept : IsEngine e waiting members) where
   -- the only member of a group has its number
   pub own-some : (number : ℕ) (x : Standing) → number < 65536 → slot e.table number ≡ Some x → x.group ≡ number → get_or members number 0 ≡ 1 → IsOwnGroup e.table number
   own-some number x few there mine one t y at = (λ same. only same, λ same. group same)
@@ -64,27 +65,27 @@ module _ (e : Engine) (waiting : Numbers) (members : List ℕ) (kept : IsKept e 
       ∙ views-agree (state_in e) (has groups) (is_asked (state_in e) (has groups)) (λ t x live off. own_agree groups own t x live)
 
   -- else the waiting tasks of these groups
-  member_agrees : (groups set : Numbers) → ((task : ℕ) → has set task ≡ list_any (λ t. nat_eq t task && task_goes (has groups) (slot e.table t)) (passing 0 65536 (has waiting))) → (t : ℕ) (x : Standing) → standings e.table t ≡ Live x → nat_eq x.level e.target ≡ false → has set t ≡ is_asked (state_in e) (has groups) t
+  member_agrees : (groups set : Numbers) → ((task : ℕ) → has set task ≡ list_any (λ t. nat_eq t task && task_switches (has groups) (slot e.table t)) (passing 0 65536 (has waiting))) → (t : ℕ) (x : Standing) → standings e.table t ≡ Live x → nat_eq x.level e.target ≡ false → has set t ≡ is_asked (state_in e) (has groups) t
   member_agrees groups set told t x live off =
       let at = slot_from_live e.table t x live in
-      let p = λ (u : ℕ). nat_eq u t && task_goes (has groups) (slot e.table u) in
-      let taken : task_goes (has groups) (slot e.table t) ≡ has groups x.group = ap (task_goes (has groups)) at in
+      let p = λ (u : ℕ). nat_eq u t && task_switches (has groups) (slot e.table u) in
+      let taken : task_switches (has groups) (slot e.table t) ≡ has groups x.group = ap (task_switches (has groups)) at in
       same_bool (has set t) (has groups x.group)
       (λ h.
       let b = passing-both_is 65536 (has waiting) p (sym (told t) ∙ h) in
-      let parts = and_parts (nat_eq b.number t) (task_goes (has groups) (slot e.table b.number)) b.passed in
-      sym taken ∙ ap (λ u. task_goes (has groups) (slot e.table u)) (sym (eqb-true b.number t parts.0)) ∙ parts.1)
+      let parts = and_parts (nat_eq b.number t) (task_switches (has groups) (slot e.table b.number)) b.passed in
+      sym taken ∙ ap (λ u. task_switches (has groups) (slot e.table u)) (sym (eqb-true b.number t parts.0)) ∙ parts.1)
       (λ h.
       told t
       ∙ passing-both_from 65536 (has waiting) p (record {
         number = t;
         below = slot-below e.table t x kept.wide at;
         member = kept.waits t ∙ ap (is_off e.target) at ∙ not_from_false (nat_eq x.level e.target) off;
-        passed = and_from (nat_eq t t) (task_goes (has groups) (slot e.table t)) (eq-eqb t t refl) (taken ∙ h);
+        passed = and_from (nat_eq t t) (task_switches (has groups) (slot e.table t)) (eq-eqb t t refl) (taken ∙ h);
       }))
       ∙ sym (ap (on_live false (λ (y : Standing). has groups y.group)) live)
 
-  pub member-views : (groups set : Numbers) → ((task : ℕ) → has set task ≡ list_any (λ t. nat_eq t task && task_goes (has groups) (slot e.table t)) (passing 0 65536 (has waiting)))
+  pub member-views : (groups set : Numbers) → ((task : ℕ) → has set task ≡ list_any (λ t. nat_eq t task && task_switches (has groups) (slot e.table t)) (passing 0 65536 (has waiting)))
       → filter_map (λ t. option_map (view_of t) (waiting_slot e.table waiting t)) (passing 0 65536 (has set)) ≡ filter (λ view. is_asked (state_in e) (has groups) view.task) (views_of (state_in e))
   member-views groups set told =
       views-asked e waiting members kept (has set)

@@ -5,7 +5,7 @@ use Rattle.std.proofs.lemmas.List.{append-nil}
 use Rattle.std.specs.List.{filter, filter_map, cons_option, list_any, range_with_len}
 use Rattle.std.specs.Option.{option_eq}
 use Rattle.lp_transition.specs.Scan.{passing}
-use Rattle.lp_transition.specs.ScanSteps.{passing_at, IsNextBelow}
+use Rattle.lp_transition.specs.inside.ScanSteps.{passing_at, IsNextBelow}
 
 -- ---- By the count of numbers
 

@@ -8,12 +8,12 @@ use Rattle.lp_transition.specs.Events.{is_control}
 use Rattle.lp_transition.specs.Tasks.{Bounds, Grouping, change}
 use Rattle.lp_transition.specs.Leg.{Standing, State}
 use Rattle.lp_transition.specs.Run.{switched}
-use Rattle.lp_transition.specs.Machine.{Standings, refusal_of, own_effect, affected, told, going}
+use Rattle.lp_transition.specs.Machine.{Standings, refusal_of, own_effect, affected, told, switched_groups}
 use Rattle.lp_transition.specs.Table.{Engine, state_in}
 use Rattle.lp_transition.specs.inside.Points.{is_point_kind, point_event, at_point}
 use Rattle.lp_transition.proofs.Accept.{IsLive, exit-live, idle-live}
 use Rattle.lp_transition.proofs.Alone.{ChecksAlone}
-use Rattle.lp_transition.proofs.Leaving.{same-after_nothing}
+use Rattle.lp_transition.proofs.LoneChecks.{same-after_nothing}
 
 pub point-level : (kind : CheckKind) (x : Standing) → (at_point kind x).level ≡ x.level
 point-level kind x = refl
@@ -48,7 +48,7 @@ point-live model e Walk t accepted = idle-live model e t accepted
 point-live model e Stop t accepted = idle-live model e t accepted
 
 -- and it is answered by who goes over
-pub point-told : (model : Rules) (s : State) (kind : CheckKind) (t : TaskId) → told model s (point_event kind t) ≡ switched (going model (affected model s (point_event kind t)) (point_event kind t))
+pub point-told : (model : Rules) (s : State) (kind : CheckKind) (t : TaskId) → told model s (point_event kind t) ≡ switched (switched_groups model (affected model s (point_event kind t)) (point_event kind t))
 point-told model s KernelExit t = refl
 point-told model s IdlePoint t = refl
 point-told model s Walk t = refl

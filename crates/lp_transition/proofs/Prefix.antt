@@ -53,7 +53,7 @@ module _ (model : Rules) (leg : Leg) (event : Event) where
   first_checks_same zero le = refl
   first_checks_same (suc k) le =
       let before = first_checks_same k (omega arith) in
-      fun_ext (λ group. ap₂ (λ goes s. if goes then Some (suc k) else s group) (ap₂ (λ w a. w && a) (waits_same (first_checks model longer k) k group (omega arith) ∙ ap (λ s. waits model leg s k group) before) (allowed_same (first_checks model longer k) k group (omega arith) ∙ ap (λ s. allowed model leg s k group) before)) before)
+      fun_ext (λ group. ap₂ (λ switches s. if switches then Some (suc k) else s group) (ap₂ (λ w a. w && a) (waits_same (first_checks model longer k) k group (omega arith) ∙ ap (λ s. waits model leg s k group) before) (allowed_same (first_checks model longer k) k group (omega arith) ∙ ap (λ s. allowed model leg s k group) before)) before)
 
   -- a later event moves nobody earlier
   pub past_same : (group k : ℕ) → k ≤ length leg.events → has_come (first_check model longer group) k ≡ has_come (first_check model leg group) k

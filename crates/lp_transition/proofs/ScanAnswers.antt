@@ -17,16 +17,17 @@ use Rattle.lp_transition.specs.Tasks.{Live}
 use Rattle.lp_transition.specs.Leg.{Standing, State}
 use Rattle.lp_transition.specs.Run.{switched}
 use Rattle.lp_transition.specs.Sound.{IsSound}
-use Rattle.lp_transition.specs.Machine.{goes_over, going, affected, refusal_of, answer}
-use Rattle.lp_transition.specs.Table.{Table, Engine, slot, state_in, is_in}
-use Rattle.lp_transition.specs.Kept.{IsKept}
+use Rattle.lp_transition.specs.Machine.{switches_at, switched_groups, affected, refusal_of, answer}
+use Rattle.lp_transition.specs.Table.{Table, Engine, slot, state_in}
+use Rattle.lp_transition.specs.inside.Table.{is_in}
+use Rattle.lp_transition.specs.inside.Invariant.{IsEngine}
 use Rattle.lp_transition.specs.Weigh.{Weighed, IsWeighed, AreVerdictsFor, born_of}
 use Rattle.lp_transition.specs.Scan.{is_scan_kind, scan_event, verdicts_of, AreEnough, passing}
-use Rattle.lp_transition.specs.ScanSteps.{tasks_of, is_found, goes_by, all_admit, groups_of}
+use Rattle.lp_transition.specs.inside.ScanSteps.{tasks_of, is_found, switches_by, all_admit, groups_of}
 use Rattle.lp_transition.proofs.TableLemmas.{slot_from_live}
 use Rattle.lp_transition.proofs.Passing.{passing-none, passing-any}
 use Rattle.lp_transition.proofs.ScanGroups.{told, completes}
-use Rattle.lp_transition.proofs.AskedScans.{goes-among, completes-among, tasks-judged}
+use Rattle.lp_transition.proofs.AskedScans.{switches-among, completes-among, tasks-judged}
 
 -- ---- The reply by verdicts
 
@@ -38,9 +39,9 @@ none_found table group (v ∷ vs) h =
     ap₂ (λ a b. (a && is_in group (slot table v.task.0)) || b) first (none_found table group vs later)
 
 -- where no verdict admits, no group goes over
-pub still : (table : Table) (limit : ℕ) (vs : List Verdict) → list_any (λ v. is_none v.blame) vs ≡ false → Done ≡ switched (passing 0 limit (goes_by table vs))
+pub still : (table : Table) (limit : ℕ) (vs : List Verdict) → list_any (λ v. is_none v.blame) vs ≡ false → Done ≡ switched (passing 0 limit (switches_by table vs))
 still table limit vs none =
-    sym (ap switched (passing-none 0 limit (goes_by table vs) (λ n low high. ap (λ b. b && not (list_any (is_found table true n) vs)) (none_found table n vs none))))
+    sym (ap switched (passing-none 0 limit (switches_by table vs) (λ n low high. ap (λ b. b && not (list_any (is_found table true n) vs)) (none_found table n vs none))))
 
 -- what an event did lists the groups that it took over
 pub groups_of-switched : (groups : List ℕ) → groups_of (switched groups) ≡ groups
@@ -55,40 +56,40 @@ listed limit set groups what group e w h =
 -- ---- The machine's answer
 
 -- the groups that go over, by a test that says which
-pub going_by : (model : Rules) (limit : ℕ) (now : State) (event : Event) (goes : ℕ → Bool) → suc now.bounds.tasks ≡ limit → ((group : ℕ) → goes_over model now event group ≡ goes group) → going model now event ≡ passing 0 limit goes
-unfolding going passing
-going_by model limit now event goes e same =
+pub switching_by : (model : Rules) (limit : ℕ) (now : State) (event : Event) (switches : ℕ → Bool) → suc now.bounds.tasks ≡ limit → ((group : ℕ) → switches_at model now event group ≡ switches group) → switched_groups model now event ≡ passing 0 limit switches
+unfolding switched_groups passing
+switching_by model limit now event switches e same =
     let count : suc now.bounds.tasks ≡ limit - 0 = omega arith in
     ap₂ (λ (test : ℕ → Bool) (n : ℕ). filter test (range_with_len 0 n)) (fun_ext same) count
 
 module _ (model : Rules) (lawful : IsLawful model) (limit : ℕ) (s : State) (wide : suc s.bounds.tasks ≡ limit) (sound : IsSound s) (table : Table) (there : (t : ℕ) (x : Standing) → s.tasks t ≡ Live x → slot table t ≡ Some x) where
   -- the groups that go over are those that the verdicts tell
-  pub goes-walk : (group : ℕ) → goes_over model (affected model s Walk) Walk group ≡ goes_by table (verdicts_of model Walk s) group
-  unfolding goes_over
-  goes-walk group = told model lawful Walk s sound table there Walk (λ g. refl) group
+  pub switches-walk : (group : ℕ) → switches_at model (affected model s Walk) Walk group ≡ switches_by table (verdicts_of model Walk s) group
+  unfolding switches_at
+  switches-walk group = told model lawful Walk s sound table there Walk (λ g. refl) group
 
-  pub goes-stop : (group : ℕ) → goes_over model (affected model s Stop) Stop group ≡ goes_by table (verdicts_of model Stop s) group
-  unfolding goes_over
-  goes-stop group = told model lawful Stop s sound table there Stop (λ g. refl) group
+  pub switches-stop : (group : ℕ) → switches_at model (affected model s Stop) Stop group ≡ switches_by table (verdicts_of model Stop s) group
+  unfolding switches_at
+  switches-stop group = told model lawful Stop s sound table there Stop (λ g. refl) group
 
-  answer-walk : answer model s Walk ≡ record { what = switched (passing 0 limit (goes_by table (verdicts_of model Walk s))); completed = all_admit (verdicts_of model Walk s) }
+  answer-walk : answer model s Walk ≡ record { what = switched (passing 0 limit (switches_by table (verdicts_of model Walk s))); completed = all_admit (verdicts_of model Walk s) }
   unfolding answer refusal_of
   answer-walk =
       let now = affected model s Walk in
       ap₂ (λ (groups : List ℕ) (b : Bool). let r : Reply = record { what = switched groups; completed = b } in r)
-      (going_by model limit now Walk (goes_by table (verdicts_of model Walk s)) wide goes-walk)
-      (completes model lawful Walk s sound table there (goes_over model now Walk) goes-walk)
+      (switching_by model limit now Walk (switches_by table (verdicts_of model Walk s)) wide switches-walk)
+      (completes model lawful Walk s sound table there (switches_at model now Walk) switches-walk)
 
-  answer-stop : answer model s Stop ≡ record { what = switched (passing 0 limit (goes_by table (verdicts_of model Stop s))); completed = all_admit (verdicts_of model Stop s) }
+  answer-stop : answer model s Stop ≡ record { what = switched (passing 0 limit (switches_by table (verdicts_of model Stop s))); completed = all_admit (verdicts_of model Stop s) }
   unfolding answer refusal_of
   answer-stop =
       let now = affected model s Stop in
       ap₂ (λ (groups : List ℕ) (b : Bool). let r : Reply = record { what = switched groups; completed = b } in r)
-      (going_by model limit now Stop (goes_by table (verdicts_of model Stop s)) wide goes-stop)
-      (completes model lawful Stop s sound table there (goes_over model now Stop) goes-stop)
+      (switching_by model limit now Stop (switches_by table (verdicts_of model Stop s)) wide switches-stop)
+      (completes model lawful Stop s sound table there (switches_at model now Stop) switches-stop)
 
   -- the answer to a scan
-  pub answer-scan : (kind : CheckKind) → is_scan_kind kind ≡ true → answer model s (scan_event kind) ≡ record { what = switched (passing 0 limit (goes_by table (verdicts_of model kind s))); completed = all_admit (verdicts_of model kind s) }
+  pub answer-scan : (kind : CheckKind) → is_scan_kind kind ≡ true → answer model s (scan_event kind) ≡ record { what = switched (passing 0 limit (switches_by table (verdicts_of model kind s))); completed = all_admit (verdicts_of model kind s) }
   answer-scan KernelExit scan = absurd (cc)
   answer-scan IdlePoint scan = absurd (cc)
   answer-scan Walk scan = answer-walk
@@ -104,7 +105,7 @@ born-scan model s Stop = refl
 
 -- what the verdicts tell
 abbrev pub reply_by : Table → List Verdict → Bool → Reply
-reply_by table vs completed = record { what = switched (passing 0 65536 (goes_by table vs)); completed = completed }
+reply_by table vs completed = record { what = switched (passing 0 65536 (switches_by table vs)); completed = completed }
 
 abbrev pub step_by : CheckKind → Table → List Verdict → Bool → Weighed
 step_by kind table vs completed = record { event = scan_event kind; reply = reply_by table vs completed; verdicts = vs; born = None }
@@ -121,17 +122,17 @@ verdicts-scan model s Walk vs h enough = enough
 verdicts-scan model s Stop vs h enough = enough
 
 -- the reply by verdicts that are enough is that by all
-reply-enough : (model : Rules) → IsLawful model → (e : Engine) (waiting : Numbers) (members : List ℕ) (kind : CheckKind) (vs : List Verdict) (completed : Bool) → IsKept e waiting members → AreEnough model kind (state_in e) vs → Completes waiting vs completed
+reply-enough : (model : Rules) → IsLawful model → (e : Engine) (waiting : Numbers) (members : List ℕ) (kind : CheckKind) (vs : List Verdict) (completed : Bool) → IsEngine e waiting members → AreEnough model kind (state_in e) vs → Completes waiting vs completed
     → reply_by e.table vs completed ≡ reply_by e.table (verdicts_of model kind (state_in e)) (all_admit (verdicts_of model kind (state_in e)))
 reply-enough model lawful e waiting members kind vs completed kept enough tells =
     let s = state_in e in
     let among = subst (λ (ws : List Verdict). (completed ≡ true) ↔ ((all_admit ws ≡ true) × (tasks_of ws ≡ tasks_of (verdicts_of model kind s)))) enough.found
     (subst (λ (ts : List ℕ). (completed ≡ true) ↔ ((all_admit vs ≡ true) × (tasks_of vs ≡ ts))) (sym (tasks-judged model kind e waiting members kept)) tells) in
-    ap₂ (λ (goes : ℕ → Bool) (b : Bool). let r : Reply = record { what = switched (passing 0 65536 goes); completed = b } in r)
-    (fun_ext (λ (group : ℕ). ap (λ (ws : List Verdict). goes_by e.table ws group) enough.found ∙ goes-among model lawful kind s kept.sound enough.asked enough.others e.table (λ t x live. slot_from_live e.table t x live) group))
+    ap₂ (λ (switches : ℕ → Bool) (b : Bool). let r : Reply = record { what = switched (passing 0 65536 switches); completed = b } in r)
+    (fun_ext (λ (group : ℕ). ap (λ (ws : List Verdict). switches_by e.table ws group) enough.found ∙ switches-among model lawful kind s kept.sound enough.asked enough.others e.table (λ t x live. slot_from_live e.table t x live) group))
     (completes-among model lawful kind s kept.sound enough.asked enough.others completed among)
 
-weighs_here : (model : Rules) → IsLawful model → (e : Engine) (waiting : Numbers) (members : List ℕ) (kind : CheckKind) (vs : List Verdict) (completed : Bool) → IsKept e waiting members → is_scan_kind kind ≡ true → AreEnough model kind (state_in e) vs → e.number < 1000000 → Completes waiting vs completed
+weighs_here : (model : Rules) → IsLawful model → (e : Engine) (waiting : Numbers) (members : List ℕ) (kind : CheckKind) (vs : List Verdict) (completed : Bool) → IsEngine e waiting members → is_scan_kind kind ≡ true → AreEnough model kind (state_in e) vs → e.number < 1000000 → Completes waiting vs completed
     → IsWeighed model e (step_by kind e.table vs completed)
 weighs_here model lawful e waiting members kind vs completed kept scan enough room tells =
     let there = answer-scan model lawful 65536 (state_in e) (omega arith) kept.sound e.table (λ t x live. slot_from_live e.table t x live) kind scan in
@@ -143,7 +144,7 @@ weighs_here model lawful e waiting members kind vs completed kept scan enough ro
     }
 
 -- a scan is weighed by what its verdicts tell
-pub weighs : (model : Rules) → IsLawful model → (e old : Engine) (waiting : Numbers) (members : List ℕ) (kind : CheckKind) (vs : List Verdict) (completed : Bool) (step : Weighed) → e ≡ old → IsKept e waiting members → is_scan_kind kind ≡ true → AreEnough model kind (state_in old) vs → e.number < 1000000
+pub weighs : (model : Rules) → IsLawful model → (e old : Engine) (waiting : Numbers) (members : List ℕ) (kind : CheckKind) (vs : List Verdict) (completed : Bool) (step : Weighed) → e ≡ old → IsEngine e waiting members → is_scan_kind kind ≡ true → AreEnough model kind (state_in old) vs → e.number < 1000000
     → Completes waiting vs completed → step ≡ step_by kind e.table vs completed → IsWeighed model old step
 weighs model lawful e old waiting members kind vs completed step was kept scan enough room tells is =
     subst (λ (o : Engine). IsWeighed model o step) was

@@ -10,10 +10,11 @@ use Rattle.lp_transition.specs.declared.event.Event.{Event}
 use Rattle.lp_transition.specs.Tasks.{Live, map_live}
 use Rattle.lp_transition.specs.Leg.{Standing, State, each_live, has_member, check_by, when, if_used}
 use Rattle.lp_transition.specs.Sound.{IsSound}
-use Rattle.lp_transition.specs.Machine.{view_of, outline_of, outlines_of, at_rest, is_behind, admits_all, goes_over}
-use Rattle.lp_transition.specs.Table.{Table, slot, is_in}
+use Rattle.lp_transition.specs.Machine.{view_of, outline_of, outlines_of, complete_in, waits_in, admits_all, switches_at}
+use Rattle.lp_transition.specs.Table.{Table, slot}
+use Rattle.lp_transition.specs.inside.Table.{is_in}
 use Rattle.lp_transition.specs.Scan.{verdict_of, verdicts_of}
-use Rattle.lp_transition.specs.ScanSteps.{is_found, goes_by, all_admit}
+use Rattle.lp_transition.specs.inside.ScanSteps.{is_found, switches_by, all_admit}
 use Rattle.lp_transition.proofs.Quantifiers.{each_live-at, each_live-from, some_live-is, some_live-from, some_live-map, each_live-map}
 use Rattle.lp_transition.proofs.States.{waiting_suffice}
 use Rattle.lp_transition.proofs.ScanLists.{verdict-is, verdict-from}
@@ -93,11 +94,11 @@ module _ (model : Rules) (lawful : IsLawful model) (kind : CheckKind) (s : State
     check_is : (group : ℕ) (other : CheckKind) → if_used model.uses (check_by s.bounds (outlines_of s.tasks) (Some event) group) ≡ Some other → other ≡ kind
     check_is group other e = kind_is model.uses (has_member s.bounds (outlines_of s.tasks) group) kind other (sym (ap (if_used model.uses) (checks group)) ∙ e)
 
-    told-from : (group : ℕ) → goes_over model s event group ≡ true → goes_by table (verdicts_of model kind s) group ≡ true
-    unfolding goes_over
+    told-from : (group : ℕ) → switches_at model s event group ≡ true → switches_by table (verdicts_of model kind s) group ≡ true
+    unfolding switches_at
     told-from group h =
         let check = if_used model.uses (check_by s.bounds (outlines_of s.tasks) (Some event) group) in
-        let parts = and_parts (is_behind s group) (admits_all model s check group) h in
+        let parts = and_parts (waits_in s group) (admits_all model s check group) h in
         let each = each_of group check (check_is group) parts.1 in
         let w = some_live-is s.bounds s.tasks (λ t x. nat_eq x.group group && not (nat_eq x.level s.target)) parts.0 in
         let both = and_parts (nat_eq w.life.group group) (not (nat_eq w.life.level s.target)) w.passed in
@@ -135,8 +136,8 @@ module _ (model : Rules) (lawful : IsLawful model) (kind : CheckKind) (s : State
         (λ (out : nat_eq x.group group ≡ false). or_left (not (nat_eq x.group group)) (nat_eq x.level s.target || admits) (not_from_false (nat_eq x.group group) out))
         (cases_Bool (nat_eq x.group group))
 
-    told-is : (group : ℕ) → goes_by table (verdicts_of model kind s) group ≡ true → goes_over model s event group ≡ true
-    unfolding goes_over
+    told-is : (group : ℕ) → switches_by table (verdicts_of model kind s) group ≡ true → switches_at model s event group ≡ true
+    unfolding switches_at
     told-is group h =
         let parts = and_parts (list_any (is_found table false group) (verdicts_of model kind s)) (not (list_any (is_found table true group) (verdicts_of model kind s))) h in
         let j = found-is false group parts.0 in
@@ -161,14 +162,14 @@ module _ (model : Rules) (lawful : IsLawful model) (kind : CheckKind) (s : State
           passed = eq-eqb j.task.group group j.grouped;
         }) in
         let check = ap (if_used model.uses) (checks group) ∙ kind_from model.uses (has_member s.bounds (outlines_of s.tasks) group) kind member used in
-        and_from (is_behind s group) (admits_all model s (if_used model.uses (check_by s.bounds (outlines_of s.tasks) (Some event) group)) group) behind
+        and_from (waits_in s group) (admits_all model s (if_used model.uses (check_by s.bounds (outlines_of s.tasks) (Some event) group)) group) behind
         (ap (λ k. admits_all model s k group) check
         ∙ waiting_suffice s sound group behind (λ t x. model.admits kind (view_of t x) s.aim)
         ∙ each_live-from s.bounds s.tasks (λ t x. not (nat_eq x.group group) || (nat_eq x.level s.target || model.admits kind (view_of t x) s.aim)) (λ t x positive within live. member_passes group no_refusal t x live))
 
     -- the groups that go over are those that the verdicts tell
-    pub told : (group : ℕ) → goes_over model s event group ≡ goes_by table (verdicts_of model kind s) group
-    told group = same_bool (goes_over model s event group) (goes_by table (verdicts_of model kind s) group) (told-from group) (told-is group)
+    pub told : (group : ℕ) → switches_at model s event group ≡ switches_by table (verdicts_of model kind s) group
+    told group = same_bool (switches_at model s event group) (switches_by table (verdicts_of model kind s) group) (told-from group) (told-is group)
 
   -- ---- When a scan completes the transition
 
@@ -186,7 +187,7 @@ module _ (model : Rules) (lawful : IsLawful model) (kind : CheckKind) (s : State
   long_any (v ∷ vs) h = refl
 
   -- at rest no task is looked at
-  rest-is : at_rest s ≡ true → nat_eq (length (verdicts_of model kind s)) 0 ≡ true
+  rest-is : complete_in s ≡ true → nat_eq (length (verdicts_of model kind s)) 0 ≡ true
   rest-is rest =
       not-false (nat_eq (length (verdicts_of model kind s)) 0)
       (not_from_true (nat_eq (length (verdicts_of model kind s)) 0)
@@ -201,7 +202,7 @@ module _ (model : Rules) (lawful : IsLawful model) (kind : CheckKind) (s : State
       (cases_Bool (nat_eq (length (verdicts_of model kind s)) 0))))
 
   -- where some task waits, it is looked at
-  rest-from : at_rest s ≡ false → nat_eq (length (verdicts_of model kind s)) 0 ≡ false
+  rest-from : complete_in s ≡ false → nat_eq (length (verdicts_of model kind s)) 0 ≡ false
   rest-from busy =
       ⊎_elim
       (λ (none : nat_eq (length (verdicts_of model kind s)) 0 ≡ true).
@@ -214,23 +215,23 @@ module _ (model : Rules) (lawful : IsLawful model) (kind : CheckKind) (s : State
       (λ (some : nat_eq (length (verdicts_of model kind s)) 0 ≡ false). some)
       (cases_Bool (nat_eq (length (verdicts_of model kind s)) 0))
 
-  module _ (goes : ℕ → Bool) (by : (group : ℕ) → goes group ≡ goes_by table (verdicts_of model kind s) group) where
+  module _ (switches : ℕ → Bool) (by : (group : ℕ) → switches group ≡ switches_by table (verdicts_of model kind s) group) where
     -- a task after the groups that go over went
     abbrev pub moved : Standing → Standing
-    moved x = if goes x.group then record x { level = s.target } else x
+    moved x = if switches x.group then record x { level = s.target } else x
 
-    moved_off : (x : Standing) → goes x.group ≡ false → (moved x).level ≡ x.level
-    moved_off x stays = ap (λ (y : Standing). y.level) (cond-false (goes x.group) (record x { level = s.target }) x stays)
+    moved_off : (x : Standing) → switches x.group ≡ false → (moved x).level ≡ x.level
+    moved_off x stays = ap (λ (y : Standing). y.level) (cond-false (switches x.group) (record x { level = s.target }) x stays)
 
-    moved_on : (x : Standing) → goes x.group ≡ true → (moved x).level ≡ s.target
-    moved_on x went = ap (λ (y : Standing). y.level) (cond-true (goes x.group) (record x { level = s.target }) x went)
+    moved_on : (x : Standing) → switches x.group ≡ true → (moved x).level ≡ s.target
+    moved_on x went = ap (λ (y : Standing). y.level) (cond-true (switches x.group) (record x { level = s.target }) x went)
 
     on_after : (x : Standing) → nat_eq x.level s.target ≡ true → nat_eq (moved x).level s.target ≡ true
     on_after x on =
         ⊎_elim
-        (λ (went : goes x.group ≡ true). eq-eqb (moved x).level s.target (moved_on x went))
-        (λ (stays : goes x.group ≡ false). ap (λ l. nat_eq l s.target) (moved_off x stays) ∙ on)
-        (cases_Bool (goes x.group))
+        (λ (went : switches x.group ≡ true). eq-eqb (moved x).level s.target (moved_on x went))
+        (λ (stays : switches x.group ≡ false). ap (λ l. nat_eq l s.target) (moved_off x stays) ∙ on)
+        (cases_Bool (switches x.group))
 
     -- where each looked at was admitted, each task is on the target after
     admitted_rests : list_any (λ v. is_some v.blame) (verdicts_of model kind s) ≡ false → each_live s.bounds s.tasks (λ t x. nat_eq (moved x).level s.target) ≡ true
@@ -259,31 +260,31 @@ module _ (model : Rules) (lawful : IsLawful model) (kind : CheckKind) (s : State
         let bounds = sound.numbered j.number j.task j.live in
         let on = each_live-at s.bounds s.tasks (λ t x. nat_eq (moved x).level s.target) rests j.number j.task bounds.0 bounds.1 j.live in
         ⊎_elim
-        (λ (went : goes j.task.group ≡ true).
+        (λ (went : switches j.task.group ≡ true).
         let parts = and_parts (list_any (is_found table false j.task.group) (verdicts_of model kind s)) (not (list_any (is_found table true j.task.group) (verdicts_of model kind s))) (sym (by j.task.group) ∙ went) in
         let unblocked = not-true (list_any (is_found table true j.task.group) (verdicts_of model kind s)) parts.1 in
         let blocked = found-from true j.task.group j.number j.task j.live j.off refl j.passed in
         absurd (cc))
-        (λ (stays : goes j.task.group ≡ false).
+        (λ (stays : switches j.task.group ≡ false).
         let off = ap (λ l. nat_eq l s.target) (moved_off j.task stays) ∙ j.off in
         absurd (cc))
-        (cases_Bool (goes j.task.group)))
+        (cases_Bool (switches j.task.group)))
 
     -- a scan completes the transition where some task waits and each is admitted
-    pub completes : (each_live s.bounds (λ t. map_live moved (s.tasks t)) (λ t x. nat_eq x.level s.target) && not (at_rest s)) ≡ all_admit (verdicts_of model kind s)
+    pub completes : (each_live s.bounds (λ t. map_live moved (s.tasks t)) (λ t x. nat_eq x.level s.target) && not (complete_in s)) ≡ all_admit (verdicts_of model kind s)
     completes =
         let rests = each_live-map s.bounds moved s.tasks (λ t x. nat_eq x.level s.target) in
-        same_bool (each_live s.bounds (λ t. map_live moved (s.tasks t)) (λ t x. nat_eq x.level s.target) && not (at_rest s)) (all_admit (verdicts_of model kind s))
+        same_bool (each_live s.bounds (λ t. map_live moved (s.tasks t)) (λ t x. nat_eq x.level s.target) && not (complete_in s)) (all_admit (verdicts_of model kind s))
         (λ h.
-        let parts = and_parts (each_live s.bounds (λ t. map_live moved (s.tasks t)) (λ t x. nat_eq x.level s.target)) (not (at_rest s)) h in
+        let parts = and_parts (each_live s.bounds (λ t. map_live moved (s.tasks t)) (λ t x. nat_eq x.level s.target)) (not (complete_in s)) h in
         and_from (not (nat_eq (length (verdicts_of model kind s)) 0)) (not (list_any (λ v. is_some v.blame) (verdicts_of model kind s)))
-        (not_from_false (nat_eq (length (verdicts_of model kind s)) 0) (rest-from (not-true (at_rest s) parts.1)))
+        (not_from_false (nat_eq (length (verdicts_of model kind s)) 0) (rest-from (not-true (complete_in s) parts.1)))
         (not_from_false (list_any (λ v. is_some v.blame) (verdicts_of model kind s)) (rests_admitted (sym rests ∙ parts.0))))
         (λ h.
         let parts = and_parts (not (nat_eq (length (verdicts_of model kind s)) 0)) (not (list_any (λ v. is_some v.blame) (verdicts_of model kind s))) h in
-        and_from (each_live s.bounds (λ t. map_live moved (s.tasks t)) (λ t x. nat_eq x.level s.target)) (not (at_rest s))
+        and_from (each_live s.bounds (λ t. map_live moved (s.tasks t)) (λ t x. nat_eq x.level s.target)) (not (complete_in s))
         (rests ∙ admitted_rests (not-true (list_any (λ v. is_some v.blame) (verdicts_of model kind s)) parts.1))
-        (not_from_false (at_rest s) (false_from_ne_true (at_rest s) (λ rest.
+        (not_from_false (complete_in s) (false_from_ne_true (complete_in s) (λ rest.
         let none = rest-is rest in
         let some = not-true (nat_eq (length (verdicts_of model kind s)) 0) parts.0 in
         absurd (cc)))))

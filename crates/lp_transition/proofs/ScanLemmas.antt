@@ -8,11 +8,12 @@ use Rattle.lp_stack.specs.TaskView.{TaskView}
 use Rattle.lp_numbers.specs.Numbers.{Numbers, has}
 use Rattle.lp_transition.specs.Tasks.{Fate, Unused, Live, Dead}
 use Rattle.lp_transition.specs.Leg.{Standing, State}
-use Rattle.lp_transition.specs.Machine.{view_of, is_behind}
-use Rattle.lp_transition.specs.Table.{Engine, slot, fate_at, standings, state_in, is_off, is_in}
-use Rattle.lp_transition.specs.Kept.{IsKept}
+use Rattle.lp_transition.specs.Machine.{view_of, waits_in}
+use Rattle.lp_transition.specs.Table.{Engine, slot, fate_at, standings, state_in}
+use Rattle.lp_transition.specs.inside.Table.{is_off, is_in}
+use Rattle.lp_transition.specs.inside.Invariant.{IsEngine}
 use Rattle.lp_transition.specs.Scan.{waiting_view, views_of, passing}
-use Rattle.lp_transition.specs.ScanSteps.{waiting_slot}
+use Rattle.lp_transition.specs.inside.ScanSteps.{waiting_slot}
 use Rattle.lp_transition.proofs.Passing.{passing-skip, passing-both_is, passing-both_from}
 use Rattle.lp_transition.proofs.MemberLemmas.{slot-below, member-is, member-from, behind-is, behind-from}
 use Rattle.lp_transition.proofs.ScanGroups.{same_bool}
@@ -130,7 +131,7 @@ tasks_by limit s test wide none is =
     ∙ ap (λ n. filter test (range_with_len 1 n)) (sym count)
     ∙ sym (passing-skip 0 1 limit test (omega arith) (omega arith) (λ k low high. let zero_is : k ≡ 0 = omega arith in rw zero_is none))
 
-module _ (e : Engine) (waiting : Numbers) (members : List ℕ) (kept : IsKept e waiting members) where
+module _ (e : Engine) (waiting : Numbers) (members : List ℕ) (kept : IsEngine e waiting members) where
   -- the waiting set says who has a view
   pub view-waiting : (t : ℕ) → waiting_view e.target t (standings e.table t) ≡ option_map (view_of t) (waiting_slot e.table waiting t)
   view-waiting t =
@@ -160,10 +161,10 @@ module _ (e : Engine) (waiting : Numbers) (members : List ℕ) (kept : IsKept e 
 -- ---- The groups that wait
 
 -- a group waits where a waiting task is a member
-pub behind-walked : (e : Engine) (waiting : Numbers) (members : List ℕ) → IsKept e waiting members → (group : ℕ) → list_any (λ t. is_in group (slot e.table t)) (passing 0 65536 (has waiting)) ≡ is_behind (state_in e) group
+pub behind-walked : (e : Engine) (waiting : Numbers) (members : List ℕ) → IsEngine e waiting members → (group : ℕ) → list_any (λ t. is_in group (slot e.table t)) (passing 0 65536 (has waiting)) ≡ waits_in (state_in e) group
 behind-walked e waiting members kept group =
     let empty = slot-zero e kept.sound in
-    same_bool (list_any (λ t. is_in group (slot e.table t)) (passing 0 65536 (has waiting))) (is_behind (state_in e) group)
+    same_bool (list_any (λ t. is_in group (slot e.table t)) (passing 0 65536 (has waiting))) (waits_in (state_in e) group)
     (λ h.
     let b = passing-both_is 65536 (has waiting) (λ t. is_in group (slot e.table t)) h in
     behind-from e.table e.patches kept.wide empty waiting e.target kept.waits group (record { number = b.number; waits = b.member; member = member-is e.table group b.number b.passed }))

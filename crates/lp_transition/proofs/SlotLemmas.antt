@@ -6,7 +6,7 @@ use Rattle.std.specs.Global.{Box}
 use Rattle.std.specs.Option.{option_map}
 use Rattle.lp_numbers.specs.Numbers.{Numbers, has}
 use Rattle.lp_transition.specs.Leg.{Standing}
-use Rattle.lp_transition.specs.Slots.{slots_of, IsTable}
+use Rattle.lp_transition.specs.inside.Slots.{slots_of, IsTable}
 
 -- the live task in a box
 abbrev pub boxed : Option (Box Standing) → Option Standing

@@ -9,7 +9,7 @@ use Rattle.lp_transition.specs.Leg.{Standing, Leg, each_task, each_live, State}
 use Rattle.lp_transition.specs.Schedule.{first_check}
 use Rattle.lp_transition.specs.Sound.{IsSound}
 use Rattle.lp_transition.specs.Run.{shown, next_leg, replies}
-use Rattle.lp_transition.specs.Machine.{is_behind, next, answers, state_of}
+use Rattle.lp_transition.specs.Machine.{waits_in, next, answers, state_of}
 use Rattle.lp_transition.specs.Steps.{opening_at}
 use Rattle.lp_transition.specs.Laws.{StatesAreSound}
 use Rattle.lp_transition.proofs.Quantifiers.{some_live-is}
@@ -20,7 +20,7 @@ use Rattle.lp_transition.proofs.Steps.{open_shown, does}
 use Rattle.lp_transition.proofs.Runs.{all_answers}
 
 -- at a group that waits each member is off the target, so only those that are have to be admitted
-module _ (s : State) (sound : IsSound s) (group : ℕ) (behind : IsTrue (is_behind s group)) (admits : ℕ → Standing → Bool) where
+module _ (s : State) (sound : IsSound s) (group : ℕ) (behind : IsTrue (waits_in s group)) (admits : ℕ → Standing → Bool) where
   at_fate : (t : ℕ) (fate : Fate Standing) → s.tasks t ≡ fate → on_live true (λ x. not (nat_eq x.group group) || admits t x) fate ≡ on_live true (λ x. not (nat_eq x.group group) || (nat_eq x.level s.target || admits t x)) fate
   at_fate t Unused e = refl
   at_fate t (Live x) e =

@@ -15,12 +15,12 @@ use Rattle.lp_transition.specs.Leg.{Standing, State, Leg, begin, unless_refused,
 use Rattle.lp_transition.specs.Schedule.{Schedule, has_come, level_by, level, frame_of, standing, waits, admits_each, allowed, complete, first_checks, first_check}
 use Rattle.lp_transition.specs.Sound.{IsSound}
 use Rattle.lp_transition.specs.declared.reply.What.TheVariants.{Done, Refused}
-use Rattle.lp_transition.specs.Run.{and_then, is_at, movers, switched, control_tests, new_target, is_settled, refused_by, shown, opened, opens, next_leg, done, reply, unless_why}
-use Rattle.lp_transition.specs.Machine.{Standings, view_of, own_effect, at_rest, admits_all, goes_over, going, moved_task, refusal_of, counted, affected, switched_over, turned, next_by, next, told, answer_by, answer, state_of}
+use Rattle.lp_transition.specs.Run.{and_then, is_at, switched_at, switched, control_tests, new_target, is_complete_now, refused_by, shown, opened, opens, next_leg, done, reply, unless_why}
+use Rattle.lp_transition.specs.Machine.{Standings, view_of, own_effect, complete_in, admits_all, switches_at, switched_groups, switched_task, refusal_of, counted, affected, with_switches, turned, next_by, next, told, answer_by, answer, state_of}
 use Rattle.lp_transition.proofs.Quantifiers.{some_live-map, each_live-map}
 use Rattle.lp_transition.proofs.Plain.{IsFrom, from_later, come_from, made_before}
 use Rattle.lp_transition.proofs.Waiting.{level_before, level_gone, level_still, come_later, comes_now, come_at}
-use Rattle.lp_transition.proofs.First.{Agree, agree_back, level_agrees, view_agrees, so_far, goes, goes_now, goes_not, agree_next, moved, first_check_is}
+use Rattle.lp_transition.proofs.First.{Agree, agree_back, level_agrees, view_agrees, so_far, switches, switches_now, switches_not, agree_next, moved, first_check_is}
 use Rattle.lp_transition.proofs.Prefix.{after_same, waits_same, first_checks_same}
 use Rattle.lp_transition.proofs.OneVersion.{frames_kept}
 use Rattle.lp_transition.proofs.Cut.{outlines_same, effect_same, checked_same}
@@ -43,23 +43,23 @@ module _ (model : Rules) (leg : Leg) (n : ℕ) where
       let m = moved model leg n group (suc n) (comes_now (so_far model leg n group) n still come) in
       absurd (omega (arith, m.is, m.early)))
 
-  level_next : (x : Life) → IsFrom (suc n) x.origin → level leg (so_far model leg (suc n)) (suc n) x ≡ (if goes model leg n x.group then leg.target else level leg (so_far model leg n) n x)
+  level_next : (x : Life) → IsFrom (suc n) x.origin → level leg (so_far model leg (suc n)) (suc n) x ≡ (if switches model leg n x.group then leg.target else level leg (so_far model leg n) n x)
   level_next x from =
       let g = x.group in
       let s = so_far model leg n in
       let r = so_far model leg (suc n) in
       ⊎_elim
-      (λ (now : goes model leg n g ≡ true).
-      level_gone leg.target r (suc n) g x.origin (ap (λ m. has_come m (suc n)) (goes_now model leg n g now) ∙ come_at (suc n)) ∙ sym (cond-true _ _ _ now))
-      (λ (stays : goes model leg n g ≡ false).
-      let same = goes_not model leg n g stays in
+      (λ (now : switches model leg n g ≡ true).
+      level_gone leg.target r (suc n) g x.origin (ap (λ m. has_come m (suc n)) (switches_now model leg n g now) ∙ come_at (suc n)) ∙ sym (cond-true _ _ _ now))
+      (λ (stays : switches model leg n g ≡ false).
+      let same = switches_not model leg n g stays in
       ⊎_elim
       (λ (gone : has_come (s g) n ≡ true).
       level_gone leg.target r (suc n) g x.origin (ap (λ m. has_come m (suc n)) same ∙ come_later (s g) n (suc n) (omega arith) gone) ∙ sym (level_gone leg.target s n g x.origin gone))
       (λ (still : has_come (s g) n ≡ false).
       level_still leg.target r (suc n) g x.origin (ap (λ m. has_come m (suc n)) same ∙ not_yet g still) ∙ (before_agrees r s (agree_back n s r (agree_next model leg n)) x.origin from ∙ sym (level_still leg.target s n g x.origin still)))
       (cases_Bool (has_come (s g) n)) ∙ sym (cond-false _ _ _ stays))
-      (cases_Bool (goes model leg n g))
+      (cases_Bool (switches model leg n g))
 
   frames_next : (t : ℕ) (x : Life) → after model leg (suc n) t ≡ Live x → map (frame_of leg (so_far model leg (suc n)) x) x.calls ≡ map (frame_of leg (so_far model leg n) x) x.calls
   frames_next t x live =
@@ -71,28 +71,28 @@ module _ (model : Rules) (leg : Leg) (n : ℕ) where
   lifted_is true x = refl
   lifted_is false x = refl
 
-  standing_next : (t : ℕ) (x : Life) → after model leg (suc n) t ≡ Live x → standing leg (so_far model leg (suc n)) (suc n) x ≡ lifted leg.target (goes model leg n x.group) (standing leg (so_far model leg n) n x)
+  standing_next : (t : ℕ) (x : Life) → after model leg (suc n) t ≡ Live x → standing leg (so_far model leg (suc n)) (suc n) x ≡ lifted leg.target (switches model leg n x.group) (standing leg (so_far model leg n) n x)
   standing_next t x live =
-      ap₂ (λ l frames. record { class = x.class; mode = x.mode; group = x.group; level = l; frames = frames }) (level_next x (come_from model.child_group leg (suc n) t x live)) (frames_next t x live) ∙ lifted_is (goes model leg n x.group) (standing leg (so_far model leg n) n x)
+      ap₂ (λ l frames. record { class = x.class; mode = x.mode; group = x.group; level = l; frames = frames }) (level_next x (come_from model.child_group leg (suc n) t x live)) (frames_next t x live) ∙ lifted_is (switches model leg n x.group) (standing leg (so_far model leg n) n x)
 
-  fate_next : (t : ℕ) (fate : Fate Life) → after model leg (suc n) t ≡ fate → map_live (standing leg (so_far model leg (suc n)) (suc n)) fate ≡ map_live (λ y. lifted leg.target (goes model leg n y.group) y) (map_live (standing leg (so_far model leg n) n) fate)
+  fate_next : (t : ℕ) (fate : Fate Life) → after model leg (suc n) t ≡ fate → map_live (standing leg (so_far model leg (suc n)) (suc n)) fate ≡ map_live (λ y. lifted leg.target (switches model leg n y.group) y) (map_live (standing leg (so_far model leg n) n) fate)
   fate_next t Unused e = refl
   fate_next t (Live x) e = ap Live (standing_next t x e)
   fate_next t Dead e = refl
 
   -- a group's moment is the present one if it goes over now
-  is_at_next : (group : ℕ) → is_at (suc n) (so_far model leg (suc n) group) ≡ goes model leg n group
+  is_at_next : (group : ℕ) → is_at (suc n) (so_far model leg (suc n) group) ≡ switches model leg n group
   is_at_next group =
       ⊎_elim
-      (λ (now : goes model leg n group ≡ true). ap (is_at (suc n)) (goes_now model leg n group now) ∙ (eq-eqb (suc n) (suc n) refl ∙ sym now))
-      (λ (stays : goes model leg n group ≡ false). ap (is_at (suc n)) (goes_not model leg n group stays) ∙ (not_at (so_far model leg n group) refl ∙ sym stays))
-      (cases_Bool (goes model leg n group))
+      (λ (now : switches model leg n group ≡ true). ap (is_at (suc n)) (switches_now model leg n group now) ∙ (eq-eqb (suc n) (suc n) refl ∙ sym now))
+      (λ (stays : switches model leg n group ≡ false). ap (is_at (suc n)) (switches_not model leg n group stays) ∙ (not_at (so_far model leg n group) refl ∙ sym stays))
+      (cases_Bool (switches model leg n group))
     where
       not_at : (m : Option ℕ) → so_far model leg n group ≡ m → is_at (suc n) m ≡ false
       not_at None e = refl
       not_at (Some i) e = let m = moved model leg n group i e in ne_eqb i (suc n) (λ same. omega (arith, m.is, m.early))
 
-  no_check_no_move : (group : ℕ) → check model leg n group ≡ None → goes model leg n group ≡ false
+  no_check_no_move : (group : ℕ) → check model leg n group ≡ None → switches model leg n group ≡ false
   unfolding allowed
   no_check_no_move group e =
       ap (λ o. waits model leg (so_far model leg n) n group && admits_each model leg (so_far model leg n) o (after model leg (suc n)) group) e ∙ and-false (waits model leg (so_far model leg n) n group)
@@ -161,7 +161,7 @@ module _ (model : Rules) (leg : Leg) (event : Event) where
   unfolding check
   check_is group = ap (λ o. if_used model.uses (check_by leg.bounds (outlines (after model longer (suc k))) o group)) accepted_is
 
-  goes_is : (group : ℕ) → goes model longer k group ≡ (waits model leg s k group && admits_each model longer s (check model longer k group) (after model longer (suc k)) group)
+  goes_is : (group : ℕ) → switches model longer k group ≡ (waits model leg s k group && admits_each model longer s (check model longer k group) (after model longer (suc k)) group)
   unfolding allowed
   goes_is group =
       ap (λ r. waits model longer r k group && allowed model longer r k group) (first_checks_same model leg event k (omega arith)) ∙ ap (λ w. w && allowed model longer s k group) (waits_same model leg event s k group (omega arith))
@@ -170,31 +170,31 @@ module _ (model : Rules) (leg : Leg) (event : Event) where
   abbrev mid : Standings
   mid t = map_live (standing leg s k) (after model longer (suc k) t)
 
-  shown_longer : shown model longer ≡ (λ t. map_live (λ y. lifted leg.target (goes model longer k y.group) y) (mid t))
+  shown_longer : shown model longer ≡ (λ t. map_live (λ y. lifted leg.target (switches model longer k y.group) y) (mid t))
   unfolding shown
   shown_longer =
       fun_ext (λ t.
-      ap (λ n. map_live (standing longer (first_checks model longer n) n) (after model longer n t)) long ∙ (fate_next model longer k t (after model longer (suc k) t) refl ∙ ap (λ r. map_live (λ y. lifted leg.target (goes model longer k y.group) y) (map_live (standing longer r k) (after model longer (suc k) t))) (first_checks_same model leg event k (omega arith))))
+      ap (λ n. map_live (standing longer (first_checks model longer n) n) (after model longer n t)) long ∙ (fate_next model longer k t (after model longer (suc k) t) refl ∙ ap (λ r. map_live (λ y. lifted leg.target (switches model longer k y.group) y) (map_live (standing longer r k) (after model longer (suc k) t))) (first_checks_same model leg event k (omega arith))))
 
-  movers_is : movers longer (first_check model longer) (suc k) ≡ filter (goes model longer k) (range_with_len 0 (suc leg.bounds.tasks))
+  movers_is : switched_at longer (first_check model longer) (suc k) ≡ filter (switches model longer k) (range_with_len 0 (suc leg.bounds.tasks))
   movers_is =
       ap (λ test. filter test (range_with_len 0 (suc leg.bounds.tasks))) (fun_ext (λ group. ap (λ n. is_at (suc k) (first_checks model longer n group)) long ∙ is_at_next model longer k group))
 
   -- ---- At rest, and refused
 
-  rest_is : at_rest (state_of model leg) ≡ is_settled model leg
-  unfolding is_settled shown complete
+  rest_is : complete_in (state_of model leg) ≡ is_complete_now model leg
+  unfolding is_complete_now shown complete
   rest_is = each_live-map leg.bounds (standing leg s k) now (λ t y. nat_eq y.level leg.target)
 
   pub refusal_is : refusal_of model (state_of model leg) event ≡ refused_by model leg event
   unfolding refusal_of refused_by shown
   refusal_is =
-      ap₂ (λ seen tests_of_control. first_of (tests leg.bounds seen event ++ tests_of_control)) (outlines_same leg s k now) (ap (λ b. control_tests (state_of model leg) b event) rest_is ∙ control_tests_same (state_of model leg) leg.opening (is_settled model leg) event refl)
+      ap₂ (λ seen tests_of_control. first_of (tests leg.bounds seen event ++ tests_of_control)) (outlines_same leg s k now) (ap (λ b. control_tests (state_of model leg) b event) rest_is ∙ control_tests_same (state_of model leg) leg.opening (is_complete_now model leg) event refl)
 
   pub plain_refusal : is_control event ≡ false → refused_by model leg event ≡ refusal leg.bounds now event
   unfolding refused_by refusal
   plain_refusal e =
-      ap (λ more. first_of (tests leg.bounds (outlines now) event ++ more)) (no_control_tests leg.opening (is_settled model leg) event e) ∙ ap first_of (append-nil (tests leg.bounds (outlines now) event))
+      ap (λ more. first_of (tests leg.bounds (outlines now) event ++ more)) (no_control_tests leg.opening (is_complete_now model leg) event e) ∙ ap first_of (append-nil (tests leg.bounds (outlines now) event))
 
   -- ---- Nobody goes over at a refused event and at a control event
 
@@ -208,11 +208,11 @@ module _ (model : Rules) (leg : Leg) (event : Event) where
       (cases_Bool (is_control event))
 
   module _ (quiet : (group : ℕ) → IsQuiet model k now (outlines (after model longer (suc k))) told_event group leg.bounds) where
-    quiet_goes : (group : ℕ) → goes model longer k group ≡ false
-    quiet_goes group = no_check_no_move model longer k group (check_is group ∙ (quiet group).unchecked)
+    quiet_switches : (group : ℕ) → switches model longer k group ≡ false
+    quiet_switches group = no_check_no_move model longer k group (check_is group ∙ (quiet group).unchecked)
 
-    quiet_movers : movers longer (first_check model longer) (suc k) ≡ []
-    quiet_movers = movers_is ∙ filter_none (goes model longer k) (range_with_len 0 (suc leg.bounds.tasks)) quiet_goes
+    quiet_movers : switched_at longer (first_check model longer) (suc k) ≡ []
+    quiet_movers = movers_is ∙ filter_none (switches model longer k) (range_with_len 0 (suc leg.bounds.tasks)) quiet_switches
 
     map_same_live : (f : Standing → Standing) → ((y : Standing) → f y ≡ y) → (fate : Fate Standing) → map_live f fate ≡ fate
     map_same_live f same Unused = refl
@@ -223,7 +223,7 @@ module _ (model : Rules) (leg : Leg) (event : Event) where
     unfolding shown
     quiet_shown =
         shown_longer ∙ fun_ext (λ t.
-        map_same_live (λ y. lifted leg.target (goes model longer k y.group) y) (λ y. ap (λ b. lifted leg.target b y) (quiet_goes y.group)) (mid t) ∙ ap (λ ts. map_live (standing leg s k) (ts t)) (after_is ∙ (quiet zero).calm))
+        map_same_live (λ y. lifted leg.target (switches model longer k y.group) y) (λ y. ap (λ b. lifted leg.target b y) (quiet_switches y.group)) (mid t) ∙ ap (λ ts. map_live (standing leg s k) (ts t)) (after_is ∙ (quiet zero).calm))
 
     quiet_state : counted model (state_of model leg) ≡ state_of model longer
     quiet_state =
@@ -257,8 +257,8 @@ module _ (model : Rules) (leg : Leg) (event : Event) where
     check_ok : (group : ℕ) → check model longer k group ≡ kind_of (outlines later) group
     check_ok group = check_is group ∙ ap (λ o. if_used model.uses (check_by leg.bounds (outlines later) o group)) told_ok
 
-    goes_mid : (group : ℕ) → goes_over model (with_tasks mid) event group ≡ goes model longer k group
-    unfolding goes_over waits
+    goes_mid : (group : ℕ) → switches_at model (with_tasks mid) event group ≡ switches model longer k group
+    unfolding switches_at waits
     goes_mid group =
         ap₂ (λ w seen. w && admits_all model (with_tasks mid) (kind_of seen group) group) (some_live-map leg.bounds (standing leg s k) later (λ t y. nat_eq y.group group && not (nat_eq y.level leg.target))) (outlines_same leg s k later) ∙ (ap (λ ts. some_live leg.bounds ts (behind group) && admits_all model (with_tasks mid) (kind_of (outlines later) group) group) after_ok ∙ (checked_same model.child_group k leg.bounds now (behind group) (λ t mode x. refl) (λ o. admits_all model (with_tasks mid) o group) refl model.uses (outlines later) group event ∙ (ap (λ b. some_live leg.bounds now (behind group) && b) (admits_same (kind_of (outlines later) group) group ∙ ap (λ o. admits_each model longer s o later group) (sym (check_ok group))) ∙ sym (goes_is group))))
 
@@ -270,14 +270,14 @@ module _ (model : Rules) (leg : Leg) (event : Event) where
     affected_is : affected model (state_of model leg) event ≡ with_tasks mid
     affected_is = ap with_tasks tasks_mid
 
-    going_is : going model (affected model (state_of model leg) event) event ≡ movers longer (first_check model longer) (suc k)
-    unfolding going
+    going_is : switched_groups model (affected model (state_of model leg) event) event ≡ switched_at longer (first_check model longer) (suc k)
+    unfolding switched_groups
     going_is =
-        ap (λ st. going model st event) affected_is ∙ (ap (λ test. filter test (range_with_len 0 (suc leg.bounds.tasks))) (fun_ext goes_mid) ∙ sym movers_is)
+        ap (λ st. switched_groups model st event) affected_is ∙ (ap (λ test. filter test (range_with_len 0 (suc leg.bounds.tasks))) (fun_ext goes_mid) ∙ sym movers_is)
 
-    switched_state : switched_over model (state_of model leg) event ≡ state_of model longer
+    switched_state : with_switches model (state_of model leg) event ≡ state_of model longer
     switched_state =
-        ap {A = State} {B = State} (λ st. record st { tasks = λ t. map_live (moved_task model st event) (st.tasks t) }) affected_is ∙ ap₂ (λ n ts. record { number = n; bounds = leg.bounds; from = leg.from; aim = leg.aim; tasks = ts }) (omega (arith, long)) (ap {B = Standings} (λ (g : ℕ → Bool). λ t. map_live (λ y. lifted leg.target (g y.group) y) (mid t)) (fun_ext goes_mid) ∙ sym shown_longer)
+        ap {A = State} {B = State} (λ st. record st { tasks = λ t. map_live (switched_task model st event) (st.tasks t) }) affected_is ∙ ap₂ (λ n ts. record { number = n; bounds = leg.bounds; from = leg.from; aim = leg.aim; tasks = ts }) (omega (arith, long)) (ap {B = Standings} (λ (g : ℕ → Bool). λ t. map_live (λ y. lifted leg.target (g y.group) y) (mid t)) (fun_ext goes_mid) ∙ sym shown_longer)
 
 -- ---- A leg that opens
 
@@ -315,14 +315,14 @@ and_true : (b : Bool) → (b && true) ≡ b
 and_true true = refl
 and_true false = refl
 
-control_done : (model : Rules) (leg : Leg) (event : Event) → is_control event ≡ true → movers (and_then leg event) (first_check model (and_then leg event)) (suc (length leg.events)) ≡ [] → done model leg event ≡ Done
+control_done : (model : Rules) (leg : Leg) (event : Event) → is_control event ≡ true → switched_at (and_then leg event) (first_check model (and_then leg event)) (suc (length leg.events)) ≡ [] → done model leg event ≡ Done
 control_done model leg Enable e none = ap switched none
 control_done model leg Disable e none = ap switched none
 control_done model leg Reverse e none = ap switched none
 control_done model leg _ e none = absurd (cc)
 
 module _ (model : Rules) (leg : Leg) where
-  told_same : (event : Event) → going model (affected model (state_of model leg) event) event ≡ movers (and_then leg event) (first_check model (and_then leg event)) (suc (length leg.events)) → told model (state_of model leg) event ≡ done model leg event
+  told_same : (event : Event) → switched_groups model (affected model (state_of model leg) event) event ≡ switched_at (and_then leg event) (first_check model (and_then leg event)) (suc (length leg.events)) → told model (state_of model leg) event ≡ done model leg event
   told_same (Call t f) e = refl
   told_same _ e = ap switched e
 
@@ -330,10 +330,10 @@ module _ (model : Rules) (leg : Leg) (event : Event) where
   abbrev st : State
   st = state_of model leg
 
-  reply_is : (why : Option Refusal) (b : Bool) → refused_by model leg event ≡ why → opens model leg event ≡ b → reply model leg event ≡ record { what = unless_why model why (done model leg event); completed = is_settled model (if b then opened model leg event else and_then leg event) && (b || not (is_settled model leg)) }
+  reply_is : (why : Option Refusal) (b : Bool) → refused_by model leg event ≡ why → opens model leg event ≡ b → reply model leg event ≡ record { what = unless_why model why (done model leg event); completed = is_complete_now model (if b then opened model leg event else and_then leg event) && (b || not (is_complete_now model leg)) }
   unfolding reply next_leg
   reply_is why b e o =
-      ap₂ (λ r c. record { what = unless_why model r (done model leg event); completed = is_settled model (if c then opened model leg event else and_then leg event) && (c || not (is_settled model leg)) }) e o
+      ap₂ (λ r c. record { what = unless_why model r (done model leg event); completed = is_complete_now model (if c then opened model leg event else and_then leg event) && (c || not (is_complete_now model leg)) }) e o
 
   next_leg_is : (b : Bool) → opens model leg event ≡ b → next_leg model leg event ≡ (if b then opened model leg event else and_then leg event)
   unfolding next_leg
@@ -352,9 +352,9 @@ module _ (model : Rules) (leg : Leg) (event : Event) where
       let quiet = λ (group : ℕ). refused_quiet model leg event why group e in
       let o : opens model leg event ≡ false = ap (λ r. is_control event && is_none r) e ∙ and-false (is_control event) in
       let same = quiet_state model leg event quiet in
-      let settled : is_settled model (and_then leg event) ≡ is_settled model leg = sym (rest_is model (and_then leg event) event) ∙ (ap at_rest (sym same) ∙ rest_is model leg event) in
+      let settled : is_complete_now model (and_then leg event) ≡ is_complete_now model leg = sym (rest_is model (and_then leg event) event) ∙ (ap complete_in (sym same) ∙ rest_is model leg event) in
       record {
-        answers = answer_is (Some why) e ∙ (ap (λ b. record { what = Refused why; completed = b }) (sym (ap (λ b. b && not (is_settled model leg)) settled ∙ and-not_self (is_settled model leg))) ∙ sym (reply_is (Some why) false e o));
+        answers = answer_is (Some why) e ∙ (ap (λ b. record { what = Refused why; completed = b }) (sym (ap (λ b. b && not (is_complete_now model leg)) settled ∙ and-not_self (is_complete_now model leg))) ∙ sym (reply_is (Some why) false e o));
         goes_on = next_is (Some why) e ∙ (same ∙ ap (state_of model) (sym (next_leg_is false o)));
       }
 
@@ -363,9 +363,9 @@ module _ (model : Rules) (leg : Leg) (event : Event) where
       let quiet = λ (group : ℕ). control_quiet model (length leg.events) (after model leg (length leg.events)) (outlines (after model (and_then leg event) (suc (length leg.events)))) event group leg.bounds control in
       let o : opens model leg event ≡ true = ap₂ (λ c r. c && is_none r) control e in
       let same = turned_state model leg event in
-      let settled : at_rest (turned model st event) ≡ is_settled model (opened model leg event) = ap at_rest same ∙ rest_is model (opened model leg event) event in
+      let settled : complete_in (turned model st event) ≡ is_complete_now model (opened model leg event) = ap complete_in same ∙ rest_is model (opened model leg event) event in
       record {
-        answers = answer_is None e ∙ (cond-true _ _ _ control ∙ (ap₂ (λ w b. record { what = w; completed = b }) (sym (control_done model leg event control (quiet_movers model leg event quiet))) (settled ∙ sym (and_true (is_settled model (opened model leg event)))) ∙ sym (reply_is None true e o)));
+        answers = answer_is None e ∙ (cond-true _ _ _ control ∙ (ap₂ (λ w b. record { what = w; completed = b }) (sym (control_done model leg event control (quiet_movers model leg event quiet))) (settled ∙ sym (and_true (is_complete_now model (opened model leg event)))) ∙ sym (reply_is None true e o)));
         goes_on = next_is None e ∙ (cond-true _ _ _ control ∙ (same ∙ ap (state_of model) (sym (next_leg_is true o))));
       }
 
@@ -374,7 +374,7 @@ module _ (model : Rules) (leg : Leg) (event : Event) where
       let ok = sym (plain_refusal model leg event plain) ∙ e in
       let o : opens model leg event ≡ false = ap (λ c. c && is_none (refused_by model leg event)) plain in
       let same = switched_state model leg event lawful sound ok in
-      let settled : at_rest (switched_over model st event) ≡ is_settled model (and_then leg event) = ap at_rest same ∙ rest_is model (and_then leg event) event in
+      let settled : complete_in (with_switches model st event) ≡ is_complete_now model (and_then leg event) = ap complete_in same ∙ rest_is model (and_then leg event) event in
       record {
         answers = answer_is None e ∙ (cond-false _ _ _ plain ∙ (ap₂ (λ w b. record { what = w; completed = b }) (told_same model leg event (going_is model leg event lawful sound ok)) (ap₂ (λ a b. a && not b) settled (rest_is model leg event)) ∙ sym (reply_is None false e o)));
         goes_on = next_is None e ∙ (cond-false _ _ _ plain ∙ (same ∙ ap (state_of model) (sym (next_leg_is false o))));

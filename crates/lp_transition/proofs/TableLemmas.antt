@@ -7,7 +7,8 @@ use mathlib.Core.Path.{fun_ext}
 use Rattle.lp_numbers.specs.Numbers.{has}
 use Rattle.lp_transition.specs.Tasks.{Unused, Live, Dead, is_unused, map_live, change}
 use Rattle.lp_transition.specs.Leg.{Standing}
-use Rattle.lp_transition.specs.Table.{Table, slot, fate_at, standings, IsWide, IsKnown, IsBlank, Engine, state_in, changed, with_task, without_task}
+use Rattle.lp_transition.specs.Table.{Table, slot, fate_at, standings, IsWide, Engine, state_in}
+use Rattle.lp_transition.specs.inside.Table.{IsKnown, IsBlank, changed, with_task, without_task}
 use Rattle.lp_transition.specs.Sound.{IsSound}
 
 -- ---- Slots

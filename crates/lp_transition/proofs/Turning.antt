@@ -11,8 +11,9 @@ use Rattle.lp_transition.specs.Events.{is_control}
 use Rattle.lp_transition.specs.Leg.{Standing, State, each_live}
 use Rattle.lp_transition.specs.Run.{new_target}
 use Rattle.lp_transition.specs.Machine.{refusal_of, next, answer}
-use Rattle.lp_transition.specs.Table.{Engine, slot, standings, state_in, bounds_of, is_off}
-use Rattle.lp_transition.specs.Kept.{IsKept}
+use Rattle.lp_transition.specs.Table.{Engine, slot, standings, state_in, bounds_of}
+use Rattle.lp_transition.specs.inside.Table.{is_off}
+use Rattle.lp_transition.specs.inside.Invariant.{IsEngine}
 use Rattle.lp_transition.proofs.EngineLemmas.{next-turned, answer-accepted}
 use Rattle.lp_transition.proofs.Quantifiers.{each_live-at, each_live-from}
 use Rattle.lp_transition.proofs.TableLemmas.{slot-zero, slot_from_live, live_from_slot}
@@ -24,7 +25,7 @@ abbrev pub turned_to : ℕ → Engine → Engine
 turned_to level e = record { number = e.number + 1; from = e.target; target = level; patches = e.patches; table = e.table }
 
 -- each live task is on a level
-module _ (e : Engine) (waiting : Numbers) (members : List ℕ) (kept : IsKept e waiting members) (level : ℕ) where
+module _ (e : Engine) (waiting : Numbers) (members : List ℕ) (kept : IsEngine e waiting members) (level : ℕ) where
   on_level-is : ((t : ℕ) → is_off level (slot e.table t) ≡ false) → IsTrue (each_live (bounds_of e.patches) (standings e.table) (λ t x. nat_eq x.level level))
   on_level-is all =
       each_live-from (bounds_of e.patches) (standings e.table) (λ t x. nat_eq x.level level)
@@ -45,10 +46,10 @@ module _ (e : Engine) (waiting : Numbers) (members : List ℕ) (kept : IsKept e 
 
 module _ (model : Rules) where
   -- the answer to an accepted control event
-  pub answer-turned : (e old : Engine) (waiting : Numbers) (members : List ℕ) (event : Event) (level : ℕ) (all : Bool) → e ≡ old → IsKept e waiting members → refusal_of model (state_in old) event ≡ None → is_control event ≡ true → level ≡ new_target (state_in old) event
+  pub answer-turned : (e old : Engine) (waiting : Numbers) (members : List ℕ) (event : Event) (level : ℕ) (all : Bool) → e ≡ old → IsEngine e waiting members → refusal_of model (state_in old) event ≡ None → is_control event ≡ true → level ≡ new_target (state_in old) event
       → IsTrue all ↔ ((t : ℕ) → is_off level (slot e.table t) ≡ false) → record { what = Done; completed = all } ≡ answer model (state_in old) event
-  answer-turned e old waiting members event level all was kept accepted control goes tells =
-      let at : level ≡ new_target (state_in e) event = subst (λ o. level ≡ new_target (state_in o) event) (sym was) goes in
+  answer-turned e old waiting members event level all was kept accepted control switches tells =
+      let at : level ≡ new_target (state_in e) event = subst (λ o. level ≡ new_target (state_in o) event) (sym was) switches in
       let rests = on_level e waiting members kept level in
       let same : all ≡ each_live (bounds_of e.patches) (standings e.table) (λ t x. nat_eq x.level level) = one_answer all (each_live (bounds_of e.patches) (standings e.table) (λ t x. nat_eq x.level level)) tells (rests.1, rests.0) in
       subst (λ o. record { what = Done; completed = all } ≡ answer model (state_in o) event) was
@@ -56,10 +57,10 @@ module _ (model : Rules) where
       ∙ ap {A = ℕ} {B = Reply} (λ n. record { what = Done; completed = each_live (bounds_of e.patches) (standings e.table) (λ t x. nat_eq x.level n) }) (sym at) ∙ ap {A = Bool} {B = Reply} (λ b. record { what = Done; completed = b }) (sym same)))
 
   -- and the engine after it
-  pub takes_turn : IsLawful model → (e old : Engine) (waiting now : Numbers) (members : List ℕ) (event : Event) (level : ℕ) → e ≡ old → IsKept e waiting members → length now ≡ 65536 → ((t : ℕ) → has now t ≡ is_off level (slot e.table t)) → old.number < 1000000 → refusal_of model (state_in old) event ≡ None → is_control event ≡ true → level ≡ new_target (state_in old) event → level ≤ length e.patches
+  pub takes_turn : IsLawful model → (e old : Engine) (waiting now : Numbers) (members : List ℕ) (event : Event) (level : ℕ) → e ≡ old → IsEngine e waiting members → length now ≡ 65536 → ((t : ℕ) → has now t ≡ is_off level (slot e.table t)) → old.number < 1000000 → refusal_of model (state_in old) event ≡ None → is_control event ≡ true → level ≡ new_target (state_in old) event → level ≤ length e.patches
       → HasTaken model old event (turned_to level e) now members
-  takes_turn lawful e old waiting now members event level was kept wide_now collected room accepted control goes fits =
-      let at : level ≡ new_target (state_in e) event = subst (λ o. level ≡ new_target (state_in o) event) (sym was) goes in
+  takes_turn lawful e old waiting now members event level was kept wide_now collected room accepted control switches fits =
+      let at : level ≡ new_target (state_in e) event = subst (λ o. level ≡ new_target (state_in o) event) (sym was) switches in
       let there : state_in (turned_to level e) ≡ next model (state_in e) event =
       ap₂ {A = ℕ} {B = ℕ} {C = State} (λ n l. record { number = n; bounds = bounds_of e.patches; from = e.target; aim = record { patches = e.patches; target = l }; tasks = standings e.table }) (add-one e.number) at
       ∙ sym (next-turned model (state_in e) event (subst (λ o. refusal_of model (state_in o) event ≡ None) (sym was) accepted) control) in

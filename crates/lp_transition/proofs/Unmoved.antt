@@ -9,7 +9,8 @@ use Rattle.lp_transition.specs.Leg.{Standing, Leg, begin, unless_refused, accept
 use Rattle.lp_transition.specs.Schedule.{level_by, frame_of, standing, shown_after}
 use Rattle.lp_transition.specs.Sound.{IsSound}
 use Rattle.lp_transition.specs.Chain.{nobody}
-use Rattle.lp_transition.specs.Machine.{Standings, accept_standing, take_own_effect, unmoved}
+use Rattle.lp_transition.specs.Machine.{Standings}
+use Rattle.lp_transition.specs.inside.Unmoved.{accept_standing, take_own_effect, unmoved}
 use Rattle.lp_transition.proofs.OneVersion.{frames_kept}
 use Rattle.lp_transition.proofs.Cut.{outlines_same, effect_same}
 

@@ -19,24 +19,25 @@ use Rattle.lp_transition.specs.Events.{is_control, is_scan}
 use Rattle.lp_transition.specs.Tasks.{Unused, Live, Dead, change}
 use Rattle.lp_transition.specs.Leg.{Standing, State}
 use Rattle.lp_transition.specs.Run.{switched}
-use Rattle.lp_transition.specs.Machine.{at_rest, goes_over, going, bearing, refusal_of, affected, own_effect, calling, returning, put_in, told, answer_by, answer}
-use Rattle.lp_transition.specs.Table.{Engine, slot, fate_at, standings, changed, state_in, bounds_of, is_off}
-use Rattle.lp_transition.specs.Kept.{IsKept}
-use Rattle.lp_transition.specs.Weigh.{Weighed, IsWeighed, AreVerdictsFor, moves, task_of, is_fork, child_of, born_by, born_of, is_switched, refused_by}
+use Rattle.lp_transition.specs.Machine.{complete_in, switches_at, switched_groups, bearing, refusal_of, affected, own_effect, calling, returning, put_in, told, answer_by, answer}
+use Rattle.lp_transition.specs.Table.{Engine, slot, fate_at, standings, state_in, bounds_of}
+use Rattle.lp_transition.specs.inside.Table.{changed, is_off}
+use Rattle.lp_transition.specs.inside.Invariant.{IsEngine}
+use Rattle.lp_transition.specs.Weigh.{Weighed, IsWeighed, AreVerdictsFor, is_silent, silent_task, is_fork, child_of, born_by, born_of, is_switched, refusal_in}
 use Rattle.lp_transition.proofs.EngineLemmas.{is_quiet, quiet-control, quiet-stays, switched-still, answer-accepted}
 use Rattle.lp_transition.proofs.Quantifiers.{each_live-at, each_live-from}
 use Rattle.lp_transition.proofs.Accept.{fork-new}
 use Rattle.lp_transition.proofs.TableLemmas.{slot-zero, slot_from_live, live_from_slot}
 use Rattle.lp_transition.proofs.Effects.{with_table, takes_change_still, takes_nothing}
 use Rattle.lp_transition.proofs.MemberLemmas.{slot-positive, slot-below}
-use Rattle.lp_transition.proofs.Going.{going-none, going-one}
+use Rattle.lp_transition.proofs.SwitchedGroups.{going-none, going-one}
 use Rattle.lp_transition.proofs.Alone.{ChecksAlone}
-use Rattle.lp_transition.proofs.Leaving.{put_on, takes_over, none-goes_now, others-stay_now}
+use Rattle.lp_transition.proofs.LoneChecks.{put_on, takes_over, none-switches_now, others-stay_now}
 use Rattle.lp_transition.proofs.Completes.{answer-taken, not-completed, completed_by, completed}
 
-module _ (model : Rules) (lawful : IsLawful model) (e : Engine) (waiting : Numbers) (members : List ℕ) (kept : IsKept e waiting members) (room : e.number < 1000000) where
+module _ (model : Rules) (lawful : IsLawful model) (e : Engine) (waiting : Numbers) (members : List ℕ) (kept : IsEngine e waiting members) (room : e.number < 1000000) where
   -- an event that changes one task and takes no group over completes nothing
-  pub answer-change : (event : Event) (t : ℕ) (f : Standing → Standing) → t < 65536 → is_control event ≡ false → ((group : ℕ) → goes_over model (affected model (state_in e) event) event group ≡ false) → refusal_of model (state_in e) event ≡ None
+  pub answer-change : (event : Event) (t : ℕ) (f : Standing → Standing) → t < 65536 → is_control event ≡ false → ((group : ℕ) → switches_at model (affected model (state_in e) event) event group ≡ false) → refusal_of model (state_in e) event ≡ None
       → own_effect model.child_group (suc e.number) event (standings e.table) ≡ change t f (standings e.table) → ((x : Standing) → (f x).level ≡ x.level) → ((x : Standing) → (f x).group ≡ x.group)
       → answer model (state_in e) event ≡ record { what = told model (state_in e) event; completed = false }
   answer-change event t f small plain none accepted own levels groups =
@@ -45,7 +46,7 @@ module _ (model : Rules) (lawful : IsLawful model) (e : Engine) (waiting : Numbe
       ∙ ap {A = Bool} {B = Reply} (λ b. record { what = told model (state_in e) event; completed = b }) (sym (not-completed e (with_table (changed t f e.table) e) waiting waiting members members kept taken.kept (λ empty. empty)))
 
   -- nor does one that leaves the tasks alone
-  pub answer-nothing : (event : Event) → is_control event ≡ false → ((group : ℕ) → goes_over model (affected model (state_in e) event) event group ≡ false) → refusal_of model (state_in e) event ≡ None
+  pub answer-nothing : (event : Event) → is_control event ≡ false → ((group : ℕ) → switches_at model (affected model (state_in e) event) event group ≡ false) → refusal_of model (state_in e) event ≡ None
       → own_effect model.child_group (suc e.number) event (standings e.table) ≡ standings e.table
       → answer model (state_in e) event ≡ record { what = told model (state_in e) event; completed = false }
   answer-nothing event plain none accepted own =
@@ -54,22 +55,22 @@ module _ (model : Rules) (lawful : IsLawful model) (e : Engine) (waiting : Numbe
       ∙ ap {A = Bool} {B = Reply} (λ b. record { what = told model (state_in e) event; completed = b }) (sym (not-completed e (with_table e.table e) waiting waiting members members kept taken.kept (λ empty. empty)))
 
   -- where no group goes over, an event that is no call reports that it was done
-  pub done-still : (event : Event) → ((group : ℕ) → goes_over model (affected model (state_in e) event) event group ≡ false) → told model (state_in e) event ≡ switched (going model (affected model (state_in e) event) event) → told model (state_in e) event ≡ Done
+  pub done-still : (event : Event) → ((group : ℕ) → switches_at model (affected model (state_in e) event) event group ≡ false) → told model (state_in e) event ≡ switched (switched_groups model (affected model (state_in e) event) event) → told model (state_in e) event ≡ Done
   done-still event none is = is ∙ ap switched (going-none model (affected model (state_in e) event) event none)
 
-  still : (event : Event) → is_quiet event ≡ true → (group : ℕ) → goes_over model (affected model (state_in e) event) event group ≡ false
+  still : (event : Event) → is_quiet event ≡ true → (group : ℕ) → switches_at model (affected model (state_in e) event) event group ≡ false
   still event quiet group = quiet-stays model (affected model (state_in e) event) event group quiet
 
   by : (event : Event) (t : ℕ) (f : Standing → Standing) → t < 65536 → is_quiet event ≡ true → refusal_of model (state_in e) event ≡ None
       → own_effect model.child_group (suc e.number) event (standings e.table) ≡ change t f (standings e.table) → ((x : Standing) → (f x).level ≡ x.level) → ((x : Standing) → (f x).group ≡ x.group)
-      → told model (state_in e) event ≡ switched (going model (affected model (state_in e) event) event)
+      → told model (state_in e) event ≡ switched (switched_groups model (affected model (state_in e) event) event)
       → answer model (state_in e) event ≡ record { what = Done; completed = false }
   by event t f small quiet accepted own levels groups reports =
       answer-change event t f small (quiet-control model event quiet) (still event quiet) accepted own levels groups
       ∙ ap {A = What} {B = Reply} (λ what. record { what = what; completed = false }) (done-still event (still event quiet) reports)
 
   -- a return, a sleep, a wake-up and an entry into the kernel are done
-  pub answer-moves : (event : Event) → moves event ≡ true → task_of event < 65536 → refusal_of model (state_in e) event ≡ None → answer model (state_in e) event ≡ record { what = Done; completed = false }
+  pub answer-moves : (event : Event) → is_silent event ≡ true → silent_task event < 65536 → refusal_of model (state_in e) event ≡ None → answer model (state_in e) event ≡ record { what = Done; completed = false }
   answer-moves (Ret t) m small accepted = by (Ret t) t.0 returning small refl accepted refl (λ x. refl) (λ x. refl) refl
   answer-moves (Sleep t) m small accepted = by (Sleep t) t.0 (put_in Asleep) small refl accepted refl (λ x. refl) (λ x. refl) refl
   answer-moves (Wake t) m small accepted = by (Wake t) t.0 (put_in Kernel) small refl accepted refl (λ x. refl) (λ x. refl) refl
@@ -82,7 +83,7 @@ module _ (model : Rules) (lawful : IsLawful model) (e : Engine) (waiting : Numbe
       answer-change (Call t f) t.0 (calling (suc e.number) f) small refl (still (Call t f) refl) accepted refl (λ x. refl) (λ x. refl)
 
   -- after a fork the transition is complete only where it was before
-  fork-rest : (p c : TaskId) (how : ForkKind) → refusal_of model (state_in e) (Fork p c how) ≡ None → IsTrue (at_rest (affected model (state_in e) (Fork p c how))) → IsTrue (at_rest (state_in e))
+  fork-rest : (p c : TaskId) (how : ForkKind) → refusal_of model (state_in e) (Fork p c how) ≡ None → IsTrue (complete_in (affected model (state_in e) (Fork p c how))) → IsTrue (complete_in (state_in e))
   fork-rest p c how accepted all =
       let now = affected model (state_in e) (Fork p c how) in
       each_live-from (bounds_of e.patches) (standings e.table) (λ u y. nat_eq y.level e.target) (λ u y positive within live.
@@ -96,17 +97,17 @@ module _ (model : Rules) (lawful : IsLawful model) (e : Engine) (waiting : Numbe
       let none = still event refl in
       answer-accepted model s event accepted
       ∙ ap₂ {A = What} {B = Bool} {C = Reply} (λ what b. record { what = what; completed = b }) (done-still event none refl)
-      (ap {A = State} {B = Bool} (λ now. at_rest now && not (at_rest s)) (switched-still model s event none) ∙ never (at_rest (affected model s event)) refl)
+      (ap {A = State} {B = Bool} (λ now. complete_in now && not (complete_in s)) (switched-still model s event none) ∙ never (complete_in (affected model s event)) refl)
     where
-      never : (b : Bool) → at_rest (affected model (state_in e) (Fork p c how)) ≡ b → (b && not (at_rest (state_in e))) ≡ false
+      never : (b : Bool) → complete_in (affected model (state_in e) (Fork p c how)) ≡ b → (b && not (complete_in (state_in e))) ≡ false
       never false h = refl
       never true h = ap not (fork-rest p c how accepted h)
 
   -- after the end of a task the others decide whether the transition is complete
-  die-rest : (t : TaskId) → IsTrue (at_rest (affected model (state_in e) (Die t))) ↔ ((u : ℕ) → u ≢ t.0 → has waiting u ≡ false)
+  die-rest : (t : TaskId) → IsTrue (complete_in (affected model (state_in e) (Die t))) ↔ ((u : ℕ) → u ≢ t.0 → has waiting u ≡ false)
   die-rest t = (others, back)
     where
-      others : IsTrue (at_rest (affected model (state_in e) (Die t))) → (u : ℕ) → u ≢ t.0 → has waiting u ≡ false
+      others : IsTrue (complete_in (affected model (state_in e) (Die t))) → (u : ℕ) → u ≢ t.0 → has waiting u ≡ false
       others all u ne = kept.waits u ∙ by (slot e.table u) refl
         where
           by : (o : Option Standing) → slot e.table u ≡ o → is_off e.target o ≡ false
@@ -119,7 +120,7 @@ module _ (model : Rules) (lawful : IsLawful model) (e : Engine) (waiting : Numbe
       apart : (u : ℕ) (y : Standing) → (if nat_eq u t.0 then Dead else standings e.table u) ≡ Live y → u ≢ t.0
       apart u y live same = let dead : Dead ≡ Live y = sym (cond-true _ _ _ (eq-eqb u t.0 same)) ∙ live in cc
 
-      back : ((u : ℕ) → u ≢ t.0 → has waiting u ≡ false) → IsTrue (at_rest (affected model (state_in e) (Die t)))
+      back : ((u : ℕ) → u ≢ t.0 → has waiting u ≡ false) → IsTrue (complete_in (affected model (state_in e) (Die t)))
       back alone =
           each_live-from (bounds_of e.patches) (affected model (state_in e) (Die t)).tasks (λ v z. nat_eq z.level e.target) (λ u y positive within live.
           let ne = apart u y live in
@@ -134,73 +135,73 @@ module _ (model : Rules) (lawful : IsLawful model) (e : Engine) (waiting : Numbe
       let none = still event refl in
       answer-accepted model s event accepted
       ∙ ap₂ {A = What} {B = Bool} {C = Reply} (λ what b. record { what = what; completed = b }) (done-still event none refl)
-      (ap {A = State} {B = Bool} (λ now. at_rest now && not (at_rest s)) (switched-still model s event none) ∙ sym (completed_by e waiting members t.0 last (at_rest (affected model s event)) kept (die-rest t) lone))
+      (ap {A = State} {B = Bool} (λ now. complete_in now && not (complete_in s)) (switched-still model s event none) ∙ sym (completed_by e waiting members t.0 last (complete_in (affected model s event)) kept (die-rest t) lone))
 
   -- a check that a task makes alone
-  module _ (event : Event) (kind : CheckKind) (t : ℕ) (small : t < 65536) (f : Standing → Standing) (levels : (x : Standing) → (f x).level ≡ x.level) (groups : (x : Standing) → (f x).group ≡ x.group) (x : Standing) (there : slot e.table t ≡ Some x) (checks : ChecksAlone (bounds_of e.patches) (change t f (standings e.table)) event t kind) (plain : is_control event ≡ false) (accepted : refusal_of model (state_in e) event ≡ None) (own : own_effect model.child_group (suc e.number) event (standings e.table) ≡ change t f (standings e.table)) (reports : told model (state_in e) event ≡ switched (going model (affected model (state_in e) event) event)) where
+  module _ (event : Event) (kind : CheckKind) (t : ℕ) (small : t < 65536) (f : Standing → Standing) (levels : (x : Standing) → (f x).level ≡ x.level) (groups : (x : Standing) → (f x).group ≡ x.group) (x : Standing) (there : slot e.table t ≡ Some x) (checks : ChecksAlone (bounds_of e.patches) (change t f (standings e.table)) event t kind) (plain : is_control event ≡ false) (accepted : refusal_of model (state_in e) event ≡ None) (own : own_effect model.child_group (suc e.number) event (standings e.table) ≡ change t f (standings e.table)) (reports : told model (state_in e) event ≡ switched (switched_groups model (affected model (state_in e) event) event)) where
     -- its group stays
-    pub answer-stays : goes_over model (affected model (state_in e) event) event (f x).group ≡ false → answer model (state_in e) event ≡ record { what = Done; completed = false }
+    pub answer-stays : switches_at model (affected model (state_in e) event) event (f x).group ≡ false → answer model (state_in e) event ≡ record { what = Done; completed = false }
     answer-stays stays =
-        let none = none-goes_now model lawful e waiting members kept event kind t small f levels groups x there checks e refl own stays in
+        let none = none-switches_now model lawful e waiting members kept event kind t small f levels groups x there checks e refl own stays in
         answer-change event t f small plain none accepted own levels groups
         ∙ ap {A = What} {B = Reply} (λ what. record { what = what; completed = false }) (done-still event none reports)
 
     -- its group goes over
-    pub answer-goes : (f x).group < 65536 → (last : Bool) → IsTrue last ↔ ((has waiting t ≡ true) × ((u : ℕ) → u ≢ t → has waiting u ≡ false)) → goes_over model (affected model (state_in e) event) event (f x).group ≡ true
+    pub answer-switches : (f x).group < 65536 → (last : Bool) → IsTrue last ↔ ((has waiting t ≡ true) × ((u : ℕ) → u ≢ t → has waiting u ≡ false)) → switches_at model (affected model (state_in e) event) event (f x).group ≡ true
         → answer model (state_in e) event ≡ record { what = switched ((f x).group ∷ []); completed = last }
-    answer-goes within last lone goes =
+    answer-switches within last lone switches =
         let table = changed t (put_on e.target) (changed t f e.table) in
-        let taken = takes_over model lawful e waiting members kept event kind t small f levels groups x there checks e table (set waiting t false) refl refl refl (length-set waiting t false ∙ kept.waiting_wide) room plain accepted own goes in
+        let taken = takes_over model lawful e waiting members kept event kind t small f levels groups x there checks e table (set waiting t false) refl refl refl (length-set waiting t false ∙ kept.waiting_wide) room plain accepted own switches in
         let new = with_table table e in
-        let one = going-one model (affected model (state_in e) event) event (f x).group (omega (arith, within)) goes (λ n ne. others-stay_now model lawful e waiting members kept event kind t small f levels groups x there checks e refl own n (λ same. ne (sym same))) in
+        let one = going-one model (affected model (state_in e) event) event (f x).group (omega (arith, within)) switches (λ n ne. others-stay_now model lawful e waiting members kept event kind t small f levels groups x there checks e refl own n (λ same. ne (sym same))) in
         answer-taken model e new event accepted plain taken.state
         ∙ ap₂ {A = What} {B = Bool} {C = Reply} (λ what b. record { what = what; completed = b }) (reports ∙ ap switched one)
         (sym (completed e new waiting (set waiting t false) members members t last kept taken.kept small refl lone))
 
     -- and the answer says so
-    pub switched-where_goes : (f x).group < 65536 → goes_over model (affected model (state_in e) event) event (f x).group ≡ true → is_switched (answer model (state_in e) event).what ≡ true
-    switched-where_goes within goes =
-        let one = going-one model (affected model (state_in e) event) event (f x).group (omega (arith, within)) goes (λ n ne. others-stay_now model lawful e waiting members kept event kind t small f levels groups x there checks e refl own n (λ same. ne (sym same))) in
+    pub switched-where_switches : (f x).group < 65536 → switches_at model (affected model (state_in e) event) event (f x).group ≡ true → is_switched (answer model (state_in e) event).what ≡ true
+    switched-where_switches within switches =
+        let one = going-one model (affected model (state_in e) event) event (f x).group (omega (arith, within)) switches (λ n ne. others-stay_now model lawful e waiting members kept event kind t small f levels groups x there checks e refl own n (λ same. ne (sym same))) in
         ap (λ (r : Reply). is_switched r.what) (answer-accepted model (state_in e) event accepted ∙ cond-false _ _ _ plain) ∙ ap is_switched (reports ∙ ap switched one)
 
     -- it goes over where the answer says that groups went over
-    pub goes-reported : (over : Bool) → (f x).group < 65536 → over ≡ is_switched (answer model (state_in e) event).what → goes_over model (affected model (state_in e) event) event (f x).group ≡ over
-    goes-reported over within is = by (goes_over model (affected model (state_in e) event) event (f x).group) refl
+    pub switches-reported : (switching : Bool) → (f x).group < 65536 → switching ≡ is_switched (answer model (state_in e) event).what → switches_at model (affected model (state_in e) event) event (f x).group ≡ switching
+    switches-reported switching within is = by (switches_at model (affected model (state_in e) event) event (f x).group) refl
       where
-        by : (b : Bool) → goes_over model (affected model (state_in e) event) event (f x).group ≡ b → goes_over model (affected model (state_in e) event) event (f x).group ≡ over
+        by : (b : Bool) → switches_at model (affected model (state_in e) event) event (f x).group ≡ b → switches_at model (affected model (state_in e) event) event (f x).group ≡ switching
         by false stays = stays ∙ sym (is ∙ ap (λ (r : Reply). is_switched r.what) (answer-stays stays))
-        by true goes = goes ∙ sym (is ∙ switched-where_goes within goes)
+        by true switches = switches ∙ sym (is ∙ switched-where_switches within switches)
 
 -- an answer refuses where the event is refused
-pub refused-as : (model : Rules) (s : State) (event : Event) → refused_by (answer model s event).what ≡ refusal_of model s event
+pub refused-as : (model : Rules) (s : State) (event : Event) → refusal_in (answer model s event).what ≡ refusal_of model s event
 unfolding answer
 refused-as model s event = by (refusal_of model s event)
   where
-    listed : (groups : List ℕ) → refused_by (switched groups) ≡ None
+    listed : (groups : List ℕ) → refusal_in (switched groups) ≡ None
     listed [] = refl
     listed (group ∷ groups) = refl
 
-    told-none : (event : Event) → refused_by (told model s event) ≡ None
+    told-none : (event : Event) → refusal_in (told model s event) ≡ None
     told-none (Call t f) = refl
-    told-none (Ret t) = listed (going model (affected model s (Ret t)) (Ret t))
-    told-none (Sleep t) = listed (going model (affected model s (Sleep t)) (Sleep t))
-    told-none (Wake t) = listed (going model (affected model s (Wake t)) (Wake t))
-    told-none (Enter t) = listed (going model (affected model s (Enter t)) (Enter t))
-    told-none (Exit t) = listed (going model (affected model s (Exit t)) (Exit t))
-    told-none (Idle t) = listed (going model (affected model s (Idle t)) (Idle t))
-    told-none (Fork p c how) = listed (going model (affected model s (Fork p c how)) (Fork p c how))
-    told-none (Die t) = listed (going model (affected model s (Die t)) (Die t))
-    told-none Walk = listed (going model (affected model s Walk) Walk)
-    told-none Stop = listed (going model (affected model s Stop) Stop)
-    told-none Enable = listed (going model (affected model s Enable) Enable)
-    told-none Disable = listed (going model (affected model s Disable) Disable)
-    told-none Reverse = listed (going model (affected model s Reverse) Reverse)
+    told-none (Ret t) = listed (switched_groups model (affected model s (Ret t)) (Ret t))
+    told-none (Sleep t) = listed (switched_groups model (affected model s (Sleep t)) (Sleep t))
+    told-none (Wake t) = listed (switched_groups model (affected model s (Wake t)) (Wake t))
+    told-none (Enter t) = listed (switched_groups model (affected model s (Enter t)) (Enter t))
+    told-none (Exit t) = listed (switched_groups model (affected model s (Exit t)) (Exit t))
+    told-none (Idle t) = listed (switched_groups model (affected model s (Idle t)) (Idle t))
+    told-none (Fork p c how) = listed (switched_groups model (affected model s (Fork p c how)) (Fork p c how))
+    told-none (Die t) = listed (switched_groups model (affected model s (Die t)) (Die t))
+    told-none Walk = listed (switched_groups model (affected model s Walk) Walk)
+    told-none Stop = listed (switched_groups model (affected model s Stop) Stop)
+    told-none Enable = listed (switched_groups model (affected model s Enable) Enable)
+    told-none Disable = listed (switched_groups model (affected model s Disable) Disable)
+    told-none Reverse = listed (switched_groups model (affected model s Reverse) Reverse)
 
-    accepted : (control : Bool) → is_control event ≡ control → refused_by (answer_by model s event None).what ≡ None
-    accepted true is = ap (λ (r : Reply). refused_by r.what) (cond-true _ _ _ is)
-    accepted false is = ap (λ (r : Reply). refused_by r.what) (cond-false _ _ _ is) ∙ told-none event
+    accepted : (control : Bool) → is_control event ≡ control → refusal_in (answer_by model s event None).what ≡ None
+    accepted true is = ap (λ (r : Reply). refusal_in r.what) (cond-true _ _ _ is)
+    accepted false is = ap (λ (r : Reply). refusal_in r.what) (cond-false _ _ _ is) ∙ told-none event
 
-    by : (r : Option Refusal) → refused_by (answer_by model s event r).what ≡ r
+    by : (r : Option Refusal) → refusal_in (answer_by model s event r).what ≡ r
     by (Some why) = refl
     by None = accepted (is_control event) refl
 
@@ -262,7 +263,7 @@ weighed-as model e step event reply born plain room is answers bears =
     subst (IsWeighed model e) (sym is) there
 
 -- the group of a live task is a number below 65,536
-pub group-below : (e : Engine) (waiting : Numbers) (members : List ℕ) (t : ℕ) (x : Standing) → IsKept e waiting members → slot e.table t ≡ Some x → x.group < 65536
+pub group-below : (e : Engine) (waiting : Numbers) (members : List ℕ) (t : ℕ) (x : Standing) → IsEngine e waiting members → slot e.table t ≡ Some x → x.group < 65536
 group-below e waiting members t x kept there = ⊎_elim (λ (h : x.group < 65536). h) (λ (h : 65536 ≤ x.group). absurd (past h)) (cases_lt x.group 65536)
   where
     unused : 65536 ≤ x.group → standings e.table x.group ≡ Unused

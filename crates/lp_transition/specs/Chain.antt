@@ -8,7 +8,7 @@ use Rattle.lp_transition.specs.Leg.{Leg, accepted, after, check}
 use Rattle.lp_transition.specs.Schedule.{Schedule, view, waits}
 use Rattle.lp_transition.specs.Events.{fork}
 
--- the schedule under which nobody goes over
+-- the schedule under which nobody switches
 abbrev pub nobody : Schedule
 nobody group = None
 

@@ -68,8 +68,8 @@ pub record NeverLoses (a b : Rules) : Type 0 where
       (s r : Schedule) → IsFirstCheck a leg s → IsFirstCheck b leg r →
       (k : ℕ) → CompletesAt b leg r k → (j : ℕ) × (j ≤ k) × CompletesAt a leg s j
 
--- a group that waits under the first-check schedule was refused at each of its checks so far, and a chain of births and
--- refusals leads to it; both also where the views are those of another legal schedule, as with nobody going over
+-- a group that waits under the first-check schedule was refused at each of its checks so far, and a chain of births and refusals
+-- leads to it; both also where the views are those of another legal schedule, as with nobody switching
 pub record WaitsForAReason (model : Rules) : Type 0 where
   pub refused :
       (leg : Leg) → IsSound leg.opening →
@@ -81,8 +81,8 @@ pub record WaitsForAReason (model : Rules) : Type 0 where
       (k group : ℕ) → IsTrue (waits model leg first k group) → Chain model leg other group k
   pub nobody : (leg : Leg) → IsLegal model leg nobody
 
--- where a chain leads to a group with a live member, judged with nobody going over, the group waits under every legal
--- schedule, whoever found the chain
+-- where a chain leads to a group with a live member, judged with nobody switching, the group waits under every legal schedule,
+-- whoever found the chain
 pub record TrustsChains (model : Rules) : Type 0 where
   pub waits :
       (leg : Leg) → IsSound leg.opening →

@@ -13,11 +13,8 @@ pub mod Laws
 pub mod RowModels
 pub mod Rows
 pub mod Table
-pub mod Kept
-pub mod Slots
 pub mod Weigh
 pub mod Scan
-pub mod ScanSteps
 pub mod Boot
 pub mod Openings
 pub mod inside

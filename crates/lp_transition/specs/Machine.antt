@@ -1,6 +1,6 @@
 -- The engine as a machine: a state, and what an event makes of it. It knows no run, no leg and no schedule,
 -- and a law ties it to the definitions that do.
-use Rattle.std.specs.Prelude.{ℕ, zero, suc, pred, ◌+◌, Bool, false, not, ◌&&◌, ◌||◌, List, [], ◌∷◌, ◌++◌, length, take, filter, Option, Some, None, if◌then◌else◌, nat_eq, slice_get}
+use Rattle.std.specs.Prelude.{ℕ, suc, pred, ◌+◌, Bool, false, not, ◌&&◌, ◌||◌, List, [], ◌∷◌, ◌++◌, length, take, filter, Option, Some, None, if◌then◌else◌, nat_eq}
 use Rattle.std.specs.List.{range_with_len}
 use Rattle.lp_stack.specs.declared.view.Class.TheVariants.{Normal}
 use Rattle.lp_stack.specs.declared.view.Mode.{Mode}
@@ -13,8 +13,8 @@ use Rattle.lp_stack.specs.declared.frame.Frame.{Frame}
 use Rattle.lp_transition.specs.declared.event.Event.{Event}
 use Rattle.lp_transition.specs.declared.event.Event.TheVariants.{Call, Ret, Sleep, Wake, Enter, Exit, Idle, Fork, Die, Walk, Stop, Enable, Disable, Reverse}
 use Rattle.lp_transition.specs.declared.refusal.Refusal.{Refusal}
-use Rattle.lp_transition.specs.Tasks.{Fate, Dead, on_live, map_live, first_of, Outline, Outlines, Bounds, tests, change, Grouping}
-use Rattle.lp_transition.specs.Leg.{Standing, State, Leg, each_live, some_live, unless_refused, check_by, if_used}
+use Rattle.lp_transition.specs.Tasks.{Fate, Dead, on_live, map_live, first_of, Outline, Outlines, tests, change, Grouping}
+use Rattle.lp_transition.specs.Leg.{Standing, State, Leg, each_live, some_live, check_by, if_used}
 use Rattle.lp_transition.specs.declared.reply.What.{What}
 use Rattle.lp_transition.specs.declared.reply.What.TheVariants.{Ran, Done, Refused}
 use Rattle.lp_transition.specs.declared.reply.Reply.{Reply}
@@ -71,15 +71,15 @@ own_effect grouping number Enable now = now
 own_effect grouping number Disable now = now
 own_effect grouping number Reverse now = now
 
--- ---- Who waits, and who goes over
+-- ---- Who waits, and who switches
 
 -- no live task is off the target
-abbrev pub at_rest : State → Bool
-at_rest s = each_live s.bounds s.tasks (λ t x. nat_eq x.level s.target)
+abbrev pub complete_in : State → Bool
+complete_in s = each_live s.bounds s.tasks (λ t x. nat_eq x.level s.target)
 
 -- the group has a live member that is off the target
-abbrev pub is_behind : State → ℕ → Bool
-is_behind s group = some_live s.bounds s.tasks (λ t x. nat_eq x.group group && not (nat_eq x.level s.target))
+abbrev pub waits_in : State → ℕ → Bool
+waits_in s group = some_live s.bounds s.tasks (λ t x. nat_eq x.group group && not (nat_eq x.level s.target))
 
 module _ (model : Rules) where
   -- at this kind of check each live member is admitted
@@ -88,25 +88,25 @@ module _ (model : Rules) where
   admits_all s (Some kind) group =
       each_live s.bounds s.tasks (λ t x. not (nat_eq x.group group) || model.admits kind (view_of t x) s.aim)
 
-  -- the group goes over at this event, whose own effect is there already
-  unfoldable pub goes_over : State → Event → ℕ → Bool
-  goes_over s event group =
-      is_behind s group
+  -- the group switches at this event, whose own effect is there already
+  unfoldable pub switches_at : State → Event → ℕ → Bool
+  switches_at s event group =
+      waits_in s group
       && admits_all s (if_used model.uses (check_by s.bounds (outlines_of s.tasks) (Some event) group)) group
 
-  -- the groups that go over, in increasing order
-  unfoldable pub going : State → Event → List ℕ
-  going s event = filter (goes_over s event) (range_with_len 0 (suc s.bounds.tasks))
+  -- the groups that switch, in increasing order
+  unfoldable pub switched_groups : State → Event → List ℕ
+  switched_groups s event = filter (switches_at s event) (range_with_len 0 (suc s.bounds.tasks))
 
   -- a task after the switching
-  abbrev pub moved_task : State → Event → Standing → Standing
-  moved_task s event x = if goes_over s event x.group then record x { level = s.target } else x
+  abbrev pub switched_task : State → Event → Standing → Standing
+  switched_task s event x = if switches_at s event x.group then record x { level = s.target } else x
 
   -- ---- One event
 
   -- why the event is refused; None where it is accepted
   unfoldable pub refusal_of : State → Event → Option Refusal
-  refusal_of s event = first_of (tests s.bounds (outlines_of s.tasks) event ++ control_tests s (at_rest s) event)
+  refusal_of s event = first_of (tests s.bounds (outlines_of s.tasks) event ++ control_tests s (complete_in s) event)
 
   -- a refused event takes a number
   abbrev pub counted : State → State
@@ -117,11 +117,11 @@ module _ (model : Rules) where
   affected s event =
       record s { number = suc s.number; tasks = own_effect model.child_group (suc s.number) event s.tasks }
 
-  -- after the groups went over too
-  abbrev pub switched_over : State → Event → State
-  switched_over s event =
+  -- after the groups switched too
+  abbrev pub with_switches : State → Event → State
+  with_switches s event =
       let now = affected s event in
-      record now { tasks = λ t. map_live (moved_task now event) (now.tasks t) }
+      record now { tasks = λ t. map_live (switched_task now event) (now.tasks t) }
 
   -- after a control event
   abbrev pub turned : State → Event → State
@@ -136,7 +136,7 @@ module _ (model : Rules) where
 
   abbrev pub next_by : State → Event → Option Refusal → State
   next_by s event (Some why) = counted s
-  next_by s event None = if is_control event then turned s event else switched_over s event
+  next_by s event None = if is_control event then turned s event else with_switches s event
 
   -- the state after the event
   unfoldable pub next : State → Event → State
@@ -149,13 +149,13 @@ module _ (model : Rules) where
   -- what an accepted event that is no control event did
   abbrev pub told : State → Event → What
   told s (Call t f) = Ran (record { 0 = level_of s t.0 })
-  told s event = switched (going (affected s event) event)
+  told s event = switched (switched_groups (affected s event) event)
 
   abbrev pub answer_by : State → Event → Option Refusal → Reply
   answer_by s event (Some why) = record { what = Refused why; completed = false }
   answer_by s event None =
-      if is_control event then record { what = Done; completed = at_rest (turned s event) }
-      else record { what = told s event; completed = at_rest (switched_over s event) && not (at_rest s) }
+      if is_control event then record { what = Done; completed = complete_in (turned s event) }
+      else record { what = told s event; completed = complete_in (with_switches s event) && not (complete_in s) }
 
   -- the answer to the event
   unfoldable pub answer : State → Event → Reply
@@ -178,20 +178,3 @@ module _ (model : Rules) where
         aim = leg.aim;
         tasks = shown model leg;
       }
-
--- ---- With nobody going over, as a checker folds the events
-
-abbrev pub accept_standing : Bounds → Standings → Option Event → Option Event
-accept_standing bounds now None = None
-accept_standing bounds now (Some event) = unless_refused (first_of (tests bounds (outlines_of now) event)) event
-
-abbrev pub take_own_effect : Grouping → ℕ → Option Event → Standings → Standings
-take_own_effect grouping number None now = now
-take_own_effect grouping number (Some event) now = own_effect grouping number event now
-
--- the tasks after the first k events of a leg
-unfoldable pub unmoved : Grouping → Leg → ℕ → Standings
-unmoved grouping leg zero = leg.tasks
-unmoved grouping leg (suc k) =
-    let now = unmoved grouping leg k in
-    take_own_effect grouping (suc (leg.number + k)) (accept_standing leg.bounds now (slice_get leg.events k)) now

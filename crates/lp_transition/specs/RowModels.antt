@@ -80,17 +80,17 @@ as_forked group child Share = group
 
 -- ---- The models
 
--- Linux livepatch: a task goes over at kernel exit, at the idle point, or asleep when no function on its stack changes
+-- Linux livepatch: a task switches at kernel exit, at the idle point, or asleep when no function on its stack changes
 abbrev pub hybrid : Rules
 hybrid =
     admitting all_but_stop (λ kind view aim. runs_none_stale view aim && in_walk_mode is_asleep kind view)
     alone child_alone true
 
--- kGraft: a task goes over when it leaves the kernel
+-- kGraft: a task switches when it leaves the kernel
 abbrev pub leave_kernel : Rules
 leave_kernel = admitting exit_and_idle (λ kind view aim. nat_eq (length view.frames) 0) alone child_alone true
 
--- Ksplice: all tasks go over together while all CPUs are stopped
+-- Ksplice: all tasks switch together while all CPUs are stopped
 abbrev pub all_at_once : Rules
 all_at_once = admitting only_stop (λ kind view aim. runs_none_stale view aim) all_in_one with_parent true
 
@@ -98,7 +98,7 @@ all_at_once = admitting only_stop (λ kind view aim. runs_none_stale view aim) a
 abbrev pub immediate : Rules
 immediate = admitting (λ kind. true) (λ kind view aim. true) alone child_alone false
 
--- the threads of a process go over together
+-- the threads of a process switch together
 abbrev pub process_group : Rules
 process_group =
     admitting all_but_stop (λ kind view aim. runs_none_stale view aim && in_walk_mode is_out_of_kernel kind view)

@@ -118,25 +118,25 @@ stops_twice =
     patch_a (normal 1 ∷ normal 2 ∷ [])
     (enter 2 ∷ call 2 a ∷ Enable ∷ Stop ∷ ret 2 ∷ Stop ∷ [])
 
--- a task that has gone over forks
+-- a task that has switched forks
 abbrev pub forks_after_it_went_over : Run
 forks_after_it_went_over =
     patch_a (normal 1 ∷ normal 2 ∷ [])
     (Enable ∷ enter 1 ∷ exit 1 ∷ enter 1 ∷ fork 1 3 Own ∷ call 3 a ∷ [])
 
--- a task that waits forks, and goes over; its child doesn't
+-- a task that waits forks, and switches; its child doesn't
 abbrev pub forks_while_it_waits : Run
 forks_while_it_waits =
     patch_a (normal 1 ∷ [])
     (enter 1 ∷ Enable ∷ Walk ∷ fork 1 2 Own ∷ exit 1 ∷ call 2 a ∷ sleep 2 ∷ Walk ∷ [])
 
--- a transition is turned round before anybody goes over
+-- a transition is turned round before anybody switches
 abbrev pub reverses_at_once : Run
 reverses_at_once =
     patch_a (normal 1 ∷ [])
     (Enable ∷ Reverse ∷ [])
 
--- a transition is turned round after a task went over, which sleeps in a changed function
+-- a transition is turned round after a task switched, which sleeps in a changed function
 abbrev pub reverses_later : Run
 reverses_later =
     patch_a (normal 1 ∷ normal 2 ∷ [])
@@ -202,7 +202,7 @@ threads_leave_one_by_one =
 
 -- under the five models that the rows speak of
 pub record RowsCompute (hybrid leave_kernel all_at_once immediate process_group : Rules) : Type 0 where
-  -- it goes over at the exit, and then runs the new function
+  -- it switches at the exit, and then runs the new function
   pub leaving_switches :
       Row hybrid leaves_the_kernel
       (done ∷ ran 0 ∷ done ∷ done ∷ complete (over 1) ∷ done ∷ ran 1 ∷ []) 2 0
@@ -222,11 +222,11 @@ pub record RowsCompute (hybrid leave_kernel all_at_once immediate process_group 
   pub sleeper_elsewhere_waits_without_walks :
       Row leave_kernel sleeps_elsewhere
       (done ∷ ran 0 ∷ done ∷ done ∷ done ∷ []) 0 0
-  -- all go over at one stop, or none
+  -- all switch at one stop, or none
   pub one_stack_blocks_all :
       Row all_at_once stops_twice
       (done ∷ ran 0 ∷ done ∷ done ∷ done ∷ complete (over 0) ∷ []) 1 0
-  -- the child is born over
+  -- the child is born on the target
   pub child_inherits_the_new_level :
       Row hybrid forks_after_it_went_over
       (done ∷ done ∷ over 1 ∷ done ∷ done ∷ ran 1 ∷ []) 1 0
@@ -238,7 +238,7 @@ pub record RowsCompute (hybrid leave_kernel all_at_once immediate process_group 
   pub reversal_completes_at_once :
       Row hybrid reverses_at_once
       (done ∷ complete done ∷ []) 0 0
-  -- who went over has to come back, and its stack keeps it
+  -- who switched has to come back, and its stack keeps it
   pub reversal_waits_for_who_went_over :
       Row hybrid reverses_later
       (done ∷ done ∷ over 1 ∷ done ∷ ran 1 ∷ done ∷ done ∷ done ∷ []) 1 0
@@ -246,7 +246,7 @@ pub record RowsCompute (hybrid leave_kernel all_at_once immediate process_group 
   pub death_completes :
       Row hybrid dies_while_it_waits
       (done ∷ ran 0 ∷ done ∷ done ∷ complete done ∷ []) 1 0
-  -- the idle task goes over at its point
+  -- the idle task switches at its point
   pub idle_point_switches :
       Row hybrid idles
       (done ∷ complete (over 9) ∷ []) 0 0

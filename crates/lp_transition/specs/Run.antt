@@ -56,7 +56,7 @@ start model bounds patches boots =
       events = [];
     }
 
--- ---- Who goes over at an event
+-- ---- Who switches at an event
 
 -- the leg with one more event
 abbrev pub and_then : Leg → Event → Leg
@@ -68,8 +68,8 @@ is_at k None = false
 is_at k (Some moment) = nat_eq moment k
 
 -- the groups whose moment is k, in increasing order
-abbrev pub movers : Leg → Schedule → ℕ → List ℕ
-movers leg schedule k = filter (λ group. is_at k (schedule group)) (range_with_len 0 (suc leg.bounds.tasks))
+abbrev pub switched_at : Leg → Schedule → ℕ → List ℕ
+switched_at leg schedule k = filter (λ group. is_at k (schedule group)) (range_with_len 0 (suc leg.bounds.tasks))
 
 -- what an event did that switched these groups
 abbrev pub switched : List ℕ → What
@@ -99,14 +99,14 @@ new_target now _ = now.target
 
 module _ (model : Rules) where
   -- no live task is off the target, under the leg's first-check schedule
-  unfoldable pub is_settled : Leg → Bool
-  is_settled leg = complete model leg (first_check model leg) (length leg.events)
+  unfoldable pub is_complete_now : Leg → Bool
+  is_complete_now leg = complete model leg (first_check model leg) (length leg.events)
 
   -- the refusal of an event that comes now, if one fits
   unfoldable pub refused_by : Leg → Event → Option Refusal
   refused_by leg event =
       let now = outlines (after model leg (length leg.events)) in
-      first_of (tests leg.bounds now event ++ control_tests leg.opening (is_settled leg) event)
+      first_of (tests leg.bounds now event ++ control_tests leg.opening (is_complete_now leg) event)
 
   -- the present tasks with their levels
   unfoldable pub shown : Leg → ℕ → Fate Standing
@@ -138,10 +138,10 @@ module _ (model : Rules) where
   abbrev pub level_now : Leg → ℕ → ℕ
   level_now leg t = on_live 0 (λ x. x.level) (shown leg t)
 
-  -- what an accepted event did. A call runs its task's level; the first-check schedule says who goes over
+  -- what an accepted event did. A call runs its task's level; the first-check schedule says who switches
   abbrev pub done : Leg → Event → What
   done leg (Call t f) = Ran (record { 0 = level_now leg t.0 })
-  done leg event = switched (movers leg (first_check model (and_then leg event)) (suc (length leg.events)))
+  done leg event = switched (switched_at leg (first_check model (and_then leg event)) (suc (length leg.events)))
 
   abbrev pub unless_why : Option Refusal → What → What
   unless_why None what = what
@@ -153,7 +153,7 @@ module _ (model : Rules) where
   reply leg event =
       record {
         what = unless_why (refused_by leg event) (done leg event);
-        completed = is_settled (next_leg leg event) && (opens leg event || not (is_settled leg));
+        completed = is_complete_now (next_leg leg event) && (opens leg event || not (is_complete_now leg));
       }
 
   -- ---- A list of events

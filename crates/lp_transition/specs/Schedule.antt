@@ -1,4 +1,4 @@
--- Who goes over when, and what follows from it: levels, frames, and what a check sees of a task.
+-- Who switches when, and what follows from it: levels, frames, and what a check sees of a task.
 use Rattle.std.specs.Prelude.{◌≡◌, ℕ, zero, suc, ◌+◌, ◌≤◌, Bool, false, not, ◌&&◌, ◌||◌, map, length, Option, Some, None, IsTrue, if◌then◌else◌, nat_eq, nat_le}
 use Rattle.lp_model.specs.declared.check.CheckKind.{CheckKind}
 use Rattle.lp_stack.specs.declared.frame.Frame.{Frame}
@@ -7,8 +7,8 @@ use Rattle.lp_model.specs.Rules.{Rules}
 use Rattle.lp_transition.specs.Tasks.{Origin, Stood, Forked, Pushed, Kept, Made, Life, Fate, Tasks, map_live}
 use Rattle.lp_transition.specs.Leg.{Leg, Standing, after, check, each_live, some_live}
 
--- the moment at which each group goes over to the target, if it does. Moment k is event k of the leg.
--- Tasks go over group by group (Linux livepatch: a group of one; Ksplice: all tasks in one group)
+-- the moment at which each group switches to the target, if it does. Moment k is event k of the leg. Tasks switch group by group
+-- (Linux livepatch: a group of one; Ksplice: all tasks in one group)
 abbrev pub Schedule : Type 0
 Schedule = ℕ → Option ℕ
 
@@ -17,8 +17,8 @@ abbrev pub has_come : Option ℕ → ℕ → Bool
 has_come None k = false
 has_come (Some moment) k = nat_le moment k
 
--- the level after the first k events of a task with this group and origin: the target if the group has gone over,
--- else its level at the opening, or for a task born in the leg its parent's level just before the fork
+-- the level after the first k events of a task with this group and origin: the target if the group has switched, else its level
+-- at the opening, or for a task born in the leg its parent's level just before the fork
 unfoldable pub level_by : ℕ → Schedule → ℕ → ℕ → Origin → ℕ
 level_by target schedule k group (Stood level) = if has_come (schedule group) k then target else level
 level_by target schedule k group (Forked parent_group parent place) =

@@ -12,7 +12,7 @@ pub record IsSound (opening : State) : Type 0 where
   pub numbered : (t : ℕ) (x : Standing) → opening.tasks t ≡ Live x → (0 < t) × (t ≤ opening.bounds.tasks)
   -- a group's number is 0 or a used task number
   pub grouped : (t : ℕ) (x : Standing) → opening.tasks t ≡ Live x → x.group ≡ 0 ⊎ opening.tasks x.group ≢ Unused
-  -- members of one group are on one level: they go over together
+  -- members of one group are on one level: they switch together
   pub one_side :
       (t u : ℕ) (x y : Standing) → opening.tasks t ≡ Live x → opening.tasks u ≡ Live y →
       x.group ≡ y.group → x.level ≡ y.level

@@ -1,5 +1,5 @@
--- What becomes of the tasks, whoever goes over: no schedule is used here, and no level.
--- So the tasks' modes, stacks, births and deaths are the same under every schedule; only the versions that run differ.
+-- What becomes of the tasks, whoever switches: no schedule is used here, and no level. So the tasks' modes, stacks, births and
+-- deaths are the same under every schedule; only the versions that run differ.
 use Rattle.std.specs.Prelude.{ℕ, pred, Bool, true, false, not, ◌||◌, List, [], ◌∷◌, ◌++◌, length, take, Option, Some, None, if◌then◌else◌, nat_eq, nat_le, nat_lt}
 use Rattle.lp_stack.specs.declared.view.Mode.{Mode}
 use Rattle.lp_stack.specs.declared.view.Mode.TheVariants.{User, Kernel, Asleep}

@@ -55,20 +55,20 @@ pub record IsWeighed (model : Rules) (engine : Engine) (step : Weighed) : Type 0
   pub verdicts : AreVerdictsFor model (state_in engine) step.event step.verdicts
 
 -- an event that moves one task, between user space, the kernel and sleep or down its stack
-abbrev pub moves : Event → Bool
-moves (Ret t) = true
-moves (Sleep t) = true
-moves (Wake t) = true
-moves (Enter t) = true
-moves _ = false
+abbrev pub is_silent : Event → Bool
+is_silent (Ret t) = true
+is_silent (Sleep t) = true
+is_silent (Wake t) = true
+is_silent (Enter t) = true
+is_silent _ = false
 
 -- its task
-abbrev pub task_of : Event → ℕ
-task_of (Ret t) = t.0
-task_of (Sleep t) = t.0
-task_of (Wake t) = t.0
-task_of (Enter t) = t.0
-task_of _ = 0
+abbrev pub silent_task : Event → ℕ
+silent_task (Ret t) = t.0
+silent_task (Sleep t) = t.0
+silent_task (Wake t) = t.0
+silent_task (Enter t) = t.0
+silent_task _ = 0
 
 abbrev pub is_fork : Event → Bool
 is_fork (Fork p c how) = true
@@ -76,22 +76,21 @@ is_fork _ = false
 
 -- ---- What an event did
 
--- it took groups over
+-- it switched groups
 abbrev pub is_switched : What → Bool
 is_switched (Switched groups) = true
 is_switched _ = false
 
 -- why it was refused; None where it was accepted
-abbrev pub refused_by : What → Option Refusal
-refused_by (Refused why) = Some why
-refused_by _ = None
+abbrev pub refusal_in : What → Option Refusal
+refusal_in (Refused why) = Some why
+refusal_in _ = None
 
--- memory may be wanted for the event, which did this: at a scan, for a child, and where an exit or an idle point
--- takes a group over
-abbrev pub may_want_memory : Event → What → Bool
-may_want_memory Walk what = true
-may_want_memory Stop what = true
-may_want_memory (Fork p c how) what = is_none (refused_by what)
-may_want_memory (Exit t) what = is_switched what
-may_want_memory (Idle t) what = is_switched what
-may_want_memory _ what = false
+-- the event may allocate, which did this: at a scan, for a child, and where an exit or an idle point switches a group
+abbrev pub may_allocate : Event → What → Bool
+may_allocate Walk what = true
+may_allocate Stop what = true
+may_allocate (Fork p c how) what = is_none (refusal_in what)
+may_allocate (Exit t) what = is_switched what
+may_allocate (Idle t) what = is_switched what
+may_allocate _ what = false

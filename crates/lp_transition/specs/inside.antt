@@ -1,2 +1,7 @@
 -- What code and proofs share and no public contract names.
 pub mod Points
+pub mod Invariant
+pub mod ScanSteps
+pub mod Slots
+pub mod Unmoved
+pub mod Table

@@ -6,17 +6,17 @@ ghost use Rattle.lp_numbers.specs.Numbers.{IsNextFrom};
 ghost use Rattle.lp_transition.specs.Table.{slot, standings, bounds_of, state_in};
 ghost use Rattle.lp_transition.specs.Leg.{is_alone};
 ghost use Rattle.lp_stack.specs.TaskView.{seen};
-ghost use Rattle.lp_transition.specs.Machine.{at_rest, outlines_of, view_of};
+ghost use Rattle.lp_transition.specs.Machine.{complete_in, outlines_of, view_of};
 
 mod asked;
-mod at_once;
 mod boot;
 mod control;
+mod dispatch;
 mod live_task;
 mod opening;
+mod plain_events;
 mod point;
 mod refuse;
-mod run;
 mod scan;
 mod step;
 mod take;
@@ -24,12 +24,12 @@ mod task_table;
 mod weigh;
 
 pub use boot::BootFault;
+pub use dispatch::verdicts;
 use lp_model::Consistency;
 use lp_numbers::NumberSet;
 use lp_patch::{Aim, PatchStack};
 use lp_stack::{GroupId, Level, TaskId, View};
 pub use opening::Opening;
-pub use run::verdicts;
 use std::marker::Model;
 pub use step::{Halt, Step};
 use task_table::TaskTable;
@@ -37,7 +37,7 @@ use task_table::TaskTable;
 /// The most events that are numbered.
 pub const MOST_EVENTS: u32 = 1_000_000;
 
-/// The engine over a consistency model: it decides at each event which tasks go over.
+/// The engine over a consistency model: it decides at each event which tasks switch.
 ///
 /// Contracts see what it keeps: the number of events so far, the levels from which and to which it
 /// goes, the patches, and the tasks by their numbers.
@@ -57,13 +57,13 @@ pub struct Core<M: Consistency> {
 
 impl<M: Consistency> Model for Core<M> {
     ghost use Rattle.lp_transition.specs.Table.{Engine};
-    ghost use Rattle.lp_transition.specs.Kept.{IsKept};
+    ghost use Rattle.lp_transition.specs.inside.Invariant.{IsEngine};
 
     ghost Value = { Engine };
 
     ghost view = { λ c. record { number = c.events; from = c.from.0; target = c.target.0; patches = c.patches; table = c.tasks } };
 
-    ghost invariant = { λ c. IsKept (record { number = c.events; from = c.from.0; target = c.target.0; patches = c.patches; table = c.tasks }) c.waiting c.members.items };
+    ghost invariant = { λ c. IsEngine (record { number = c.events; from = c.from.0; target = c.target.0; patches = c.patches; table = c.tasks }) c.waiting c.members.items };
 }
 
 impl<M: Consistency> Core<M> {
@@ -89,7 +89,7 @@ impl<M: Consistency> Core<M> {
         self.target
     }
 
-    /// The patches and the target, lent.
+    /// The patches and the target, borrowed.
     pub fn aim(&self) -> Aim<'_>
         ensures { aimed result ≡ record { patches = self.now.patches; target = self.now.target } }
     {
@@ -101,7 +101,7 @@ impl<M: Consistency> Core<M> {
 
     /// Whether a transition is under way: a live task is off the target.
     pub fn in_transition(&self) -> bool
-        ensures { result ≡ not (at_rest (state_in self.now)) }
+        ensures { result ≡ not (complete_in (state_in self.now)) }
     {
         !self.waiting.is_empty()
     }
@@ -113,7 +113,7 @@ impl<M: Consistency> Core<M> {
         self.tasks.level_of(task)
     }
 
-    /// A live task as it stands, lent; None for any other.
+    /// A live task as it stands, borrowed; None for any other.
     pub fn task(&self, task: TaskId) -> Option<View<'_>>
         ensures { option_map seen result ≡ option_map (view_of task.0) (slot self.now.table task.0) }
     {

@@ -25,7 +25,7 @@ impl Model for GroupList {
 }
 
 impl GroupList {
-    /// The list of these groups; AllocError where a growth was refused.
+    /// The list of these groups; AllocError where an allocation failed.
     pub fn from_vec(alloc: Global, groups: Vec<GroupId>) -> Result<GroupList, AllocError>
         ensures { IfOk result (λ list. list ≡ group_numbers groups.items) }
     {
@@ -33,7 +33,7 @@ impl GroupList {
         Ok(GroupList { groups })
     }
 
-    /// The groups, given back. Takes no memory.
+    /// The groups, given back. Never allocates.
     pub fn into_vec(self) -> Vec<GroupId>
         ensures { group_numbers result.items ≡ self }
     {
@@ -41,7 +41,7 @@ impl GroupList {
         Box::into_inner(groups)
     }
 
-    /// The groups, lent.
+    /// The groups, borrowed.
     pub fn as_slice(&self) -> &[GroupId]
         ensures { group_numbers result.now ≡ self.now }
     {
@@ -62,7 +62,7 @@ impl GroupList {
         self.groups.is_empty()
     }
 
-    /// The same list once more; AllocError where a growth was refused.
+    /// The same list once more; AllocError where an allocation failed.
     pub fn copy(&self, alloc: Global) -> Result<GroupList, AllocError>
         ensures { IfOk result (λ list. list ≡ self.now) }
     {
@@ -77,16 +77,16 @@ impl GroupList {
 pub enum What {
     /// The call runs the functions of this level, which is the task's.
     Ran(Level),
-    /// The event was accepted, and no group went over.
+    /// The event was accepted, and no group switched.
     Done,
-    /// These groups went over, in increasing order; there is at least one.
+    /// These groups switched, in increasing order; there is at least one.
     Switched(GroupList),
     /// The event was refused and changed nothing.
     Refused(Refusal),
 }
 
 impl What {
-    /// The same once more; AllocError where a growth was refused.
+    /// The same once more; AllocError where an allocation failed.
     pub fn copy(&self, alloc: Global) -> Result<What, AllocError>
         ensures { IfOk result (λ what. what ≡ self.now) }
     {
@@ -109,7 +109,7 @@ pub struct Reply {
 }
 
 impl Reply {
-    /// The same reply once more; AllocError where a growth was refused.
+    /// The same reply once more; AllocError where an allocation failed.
     pub fn copy(&self, alloc: Global) -> Result<Reply, AllocError>
         ensures { IfOk result (λ reply. reply ≡ self.now) }
     {

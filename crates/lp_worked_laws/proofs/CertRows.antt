@@ -5,16 +5,16 @@ use Rattle.lp_patch.specs.Patches.{version}
 use Rattle.lp_transition.specs.Tasks.{refusal, effect}
 use Rattle.lp_transition.specs.Leg.{tasks_after, each_live, some_live, check}
 use Rattle.lp_transition.specs.Schedule.{level_by, waits, allowed, complete, first_checks}
-use Rattle.lp_transition.specs.Run.{is_settled, refused_by, shown, next_leg}
-use Rattle.lp_model.specs.Table.{rules_of}
+use Rattle.lp_transition.specs.Run.{is_complete_now, refused_by, shown, next_leg}
+use Rattle.lp_model.specs.Row.{rules_of}
 use Rattle.lp_models.specs.Models.{hybrid, leave_kernel, all_at_once, immediate}
 use Rattle.lp_process.specs.Models.{process_group}
-use Rattle.lp_cert.specs.Made.{lines, completion, legs}
+use Rattle.lp_cert.specs.Certificates.{lines, completion, legs}
 use Rattle.lp_worked_laws.specs.CertRows.{CertificatesCompute}
 
 pub certificates_compute :
     CertificatesCompute (rules_of hybrid) (rules_of leave_kernel) (rules_of all_at_once) (rules_of immediate) (rules_of process_group)
-unfolding digits version refusal effect tasks_after each_live some_live check level_by waits allowed complete first_checks is_settled refused_by shown next_leg lines completion legs
+unfolding digits version refusal effect tasks_after each_live some_live check level_by waits allowed complete first_checks is_complete_now refused_by shown next_leg lines completion legs
 certificates_compute =
     record {
       no_check_before = refl;

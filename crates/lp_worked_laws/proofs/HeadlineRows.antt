@@ -7,9 +7,9 @@ use Rattle.lp_stack.specs.declared.number.TaskId.{TaskId}
 use Rattle.lp_stack.specs.declared.view.Class.{Class}
 use Rattle.lp_patch.specs.Patches.{version}
 use Rattle.lp_model.specs.Rules.{Rules}
-use Rattle.lp_model.specs.Table.{rules_of}
+use Rattle.lp_model.specs.Row.{rules_of}
 use Rattle.lp_models.specs.Models.{hybrid}
-use Rattle.lp_models.specs.ModelLaws.{hybrid_lawful}
+use Rattle.lp_models.specs.inside.ModelLaws.{hybrid_lawful}
 use Rattle.lp_transition.specs.declared.event.Event.{Event}
 use Rattle.lp_transition.specs.declared.reply.Reply.{Reply}
 use Rattle.lp_transition.specs.Rows.{normal}
@@ -17,13 +17,13 @@ use Rattle.lp_transition.specs.Sound.{IsSound}
 use Rattle.lp_transition.specs.Tasks.{refusal, effect}
 use Rattle.lp_transition.specs.Leg.{Leg, tasks_after, each_live, some_live, check}
 use Rattle.lp_transition.specs.Schedule.{Schedule, level_by, waits, allowed, complete, first_checks, first_check}
-use Rattle.lp_transition.specs.Run.{AreInRange, first_leg, leg_of, movers, is_settled, refused_by, shown, next_leg, reply, replies, leg_after}
+use Rattle.lp_transition.specs.Run.{AreInRange, first_leg, leg_of, switched_at, is_complete_now, refused_by, shown, next_leg, reply, replies, leg_after}
 use Rattle.lp_transition.specs.Stays.{moments, stays, all_stays}
 use Rattle.lp_transition.proofs.First.{first_check_is}
 use Rattle.lp_transition.proofs.NoEarlier.{one_first_check}
 use Rattle.lp_transition.proofs.WholeRun.{run_sound, start_sound}
 use Rattle.lp_cert.specs.declared.leg_end.LegEnd.{LegEnd}
-use Rattle.lp_cert.specs.Made.{lines, completion, legs}
+use Rattle.lp_cert.specs.Certificates.{lines, completion, legs}
 use Rattle.lp_replay.specs.declared.outcome.Outcome.{Outcome}
 use Rattle.lp_replay.specs.Headline.{Headline, HeadlineOfLeg, SwitchAtFirstChecks, switched_groups, replies_in}
 use Rattle.lp_worked_laws.specs.HeadlineRows.{HeadlineRefuses, of_task_1, leaves_twice, sleeps_above_a_changed_function, forks_and_leaves, dies_before_a_walk}
@@ -64,7 +64,7 @@ module _ (events : List Event) (given : List Reply) (end : LegEnd) (h : Headline
   computed =
       fun_ext (λ group. one_first_check rules leg hybrid_lawful (opens_soundly events) h.first first h.is_first (first_check_is rules leg) group)
 
-  named : map (λ (reply : Reply). switched_groups reply.what) (replies_in leg given) ≡ map (movers leg first) (range_with_len 0 (suc (length leg.events)))
+  named : map (λ (reply : Reply). switched_groups reply.what) (replies_in leg given) ≡ map (switched_at leg first) (range_with_len 0 (suc (length leg.events)))
   named = subst (λ s. SwitchAtFirstChecks rules leg s given) computed h.first_checks
 
   is_complete : (at : ℕ) → end.completed ≡ Some at → (k : ℕ) × (at ≡ leg.number + k) × IsTrue (complete rules leg first k)
@@ -78,7 +78,7 @@ module _ (events : List Event) (given : List Reply) (end : LegEnd) (h : Headline
 -- ---- The rows
 
 pub headline_refuses : HeadlineRefuses rules
-unfolding version refusal effect tasks_after each_live some_live check level_by waits allowed complete first_checks moments stays all_stays is_settled refused_by shown next_leg reply replies leg_after lines completion legs
+unfolding version refusal effect tasks_after each_live some_live check level_by waits allowed complete first_checks moments stays all_stays is_complete_now refused_by shown next_leg reply replies leg_after lines completion legs
 headline_refuses =
     record {
       second_allowed_check = record {

@@ -4,12 +4,12 @@ use Rattle.lp_patch.specs.Patches.{version}
 use Rattle.lp_transition.specs.Tasks.{refusal, effect}
 use Rattle.lp_transition.specs.Leg.{tasks_after, each_live, some_live, check}
 use Rattle.lp_transition.specs.Schedule.{level_by, waits, allowed, complete, first_checks}
-use Rattle.lp_transition.specs.Run.{is_settled, refused_by, shown, next_leg, leg_after}
+use Rattle.lp_transition.specs.Run.{is_complete_now, refused_by, shown, next_leg, leg_after}
 use Rattle.lp_checker.specs.Verdict.{first_bad, verdict_on}
 use Rattle.lp_worked_laws.specs.VerdictRows.{verdict, VerdictsCompute}
 
 pub verdicts_compute : VerdictsCompute
-unfolding version refusal effect tasks_after each_live some_live check level_by waits allowed complete first_checks is_settled refused_by shown next_leg leg_after first_bad verdict_on verdict
+unfolding version refusal effect tasks_after each_live some_live check level_by waits allowed complete first_checks is_complete_now refused_by shown next_leg leg_after first_bad verdict_on verdict
 verdicts_compute =
     record {
       sleeper = refl;

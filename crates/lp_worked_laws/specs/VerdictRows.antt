@@ -9,7 +9,7 @@ use Rattle.lp_model.specs.declared.check.CheckKind.{CheckKind}
 use Rattle.lp_model.specs.declared.check.CheckKind.TheVariants.{Stop}
 use Rattle.lp_model.specs.declared.check.ForkKind.TheVariants.{Own, Share}
 use Rattle.lp_model.specs.Rules.{Rules}
-use Rattle.lp_model.specs.Table.{rules_of, is_no_stop, at_walk}
+use Rattle.lp_model.specs.Row.{rules_of, is_no_stop, at_walk}
 use Rattle.lp_transition.specs.declared.event.Event.{Event}
 use Rattle.lp_transition.specs.declared.event.Event.TheVariants.{Walk, Stop as StopAll, Enable, Reverse}
 use Rattle.lp_transition.specs.Events.{fork}

@@ -2,7 +2,7 @@
 //! nothing: each has a law as its contract.
 #![tactic(auto)]
 
-ghost use Rattle.lp_model.specs.Table.{rules_of};
+ghost use Rattle.lp_model.specs.Row.{rules_of};
 ghost use Rattle.lp_models.specs.Models.{all_at_once, hybrid, immediate, leave_kernel};
 ghost use Rattle.lp_process.specs.Models.{process_group};
 ghost use Rattle.lp_worked_laws.specs.CertRows.{CertificatesCompute};

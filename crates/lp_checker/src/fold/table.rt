@@ -2,7 +2,7 @@
 ghost use Rattle.std.specs.Prelude.{◌≡◌, ℕ, ◌<◌, ◌≤◌, None, not, length, count_by, is_some, option_copied, slice_index, nat_eq, if◌then◌else◌, Some, IfOk};
 ghost use Rattle.std.specs.Option.{ForSome, option_map};
 ghost use Rattle.lp_numbers.specs.Numbers.{has};
-ghost use Rattle.lp_transition.specs.Slots.{slots_of};
+ghost use Rattle.lp_transition.specs.inside.Slots.{slots_of};
 ghost use Rattle.lp_transition.specs.Tasks.{is_unused, change, Live, Dead};
 ghost use Rattle.lp_transition.specs.Machine.{put_in, calling, returning};
 
@@ -14,7 +14,7 @@ use std::alloc::{AllocError, Global};
 use std::marker::Model;
 
 /// The live tasks, the numbers that were ever used, and how many live members each group has. Only
-/// `new` takes memory.
+/// `new` allocates.
 #[derive(Drop)]
 pub(crate) struct FoldedTable {
     slots: Vec<Option<Box<FoldedTask>>>,
@@ -24,8 +24,8 @@ pub(crate) struct FoldedTable {
 
 impl Model for FoldedTable {
     ghost use Rattle.lp_transition.specs.Table.{Table};
-    ghost use Rattle.lp_transition.specs.Slots.{slots_of};
-    ghost use Rattle.lp_checker.specs.Tables.{IsCounted};
+    ghost use Rattle.lp_transition.specs.inside.Slots.{slots_of};
+    ghost use Rattle.lp_checker.specs.inside.Tables.{IsCounted};
 
     ghost Value = { Table };
 
@@ -36,7 +36,8 @@ impl Model for FoldedTable {
 
 impl FoldedTable {
     ghost use Rattle.lp_transition.specs.Leg.{Standing};
-    ghost use Rattle.lp_transition.specs.Table.{slot, standings, is_in, IsWide, IsKnown, IsBlank};
+    ghost use Rattle.lp_transition.specs.Table.{slot, standings, IsWide};
+    ghost use Rattle.lp_transition.specs.inside.Table.{is_in, IsKnown, IsBlank};
 
     /// A table without tasks.
     pub(crate) fn new(alloc: Global) -> Result<Self, AllocError>

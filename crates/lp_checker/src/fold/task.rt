@@ -5,7 +5,7 @@ use lp_stack::{Class, Frame, GroupId, Level, Mode, TaskId, TaskStack, View};
 use lp_symbols::SymId;
 use std::marker::Model;
 
-/// A live task with its level and its group, which it keeps. No call takes memory.
+/// A live task with its level and its group, which it keeps. No call allocates.
 #[derive(Drop)]
 pub(crate) struct FoldedTask {
     stack: TaskStack,

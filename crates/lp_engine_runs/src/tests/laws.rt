@@ -1,7 +1,7 @@
 //! The laws at the models as they are built.
 //!
 //! The functions do nothing: each has what holds of its models as its contract.
-ghost use Rattle.lp_model.specs.Table.{rules_of};
+ghost use Rattle.lp_model.specs.Row.{rules_of};
 ghost use Rattle.lp_models.specs.Models.{hybrid, leave_kernel, all_at_once, immediate};
 ghost use Rattle.lp_process.specs.Models.{process_group};
 ghost use Rattle.lp_transition.specs.Order.{IsAtLeastAsPermissive};

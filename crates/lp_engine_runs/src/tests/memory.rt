@@ -136,7 +136,7 @@ fn replies<M: Consistency>(
 }
 
 #[test]
-fn births_and_walks_go_on_after_a_refused_growth(rt: HostRuntime) -> Result<(), Fail> {
+fn births_and_walks_go_on_after_a_failed_allocation(rt: HostRuntime) -> Result<(), Fail> {
     let events = [
         Event::Enter(ONE),
         Event::Fork(ONE, TWO, ForkKind::Share),
@@ -165,7 +165,7 @@ fn births_and_walks_go_on_after_a_refused_growth(rt: HostRuntime) -> Result<(), 
 }
 
 #[test]
-fn stops_go_on_after_a_refused_growth(rt: HostRuntime) -> Result<(), Fail> {
+fn stops_go_on_after_a_failed_allocation(rt: HostRuntime) -> Result<(), Fail> {
     let events = [
         Event::Enter(TWO),
         Event::Call(TWO, A),
@@ -189,7 +189,7 @@ fn stops_go_on_after_a_refused_growth(rt: HostRuntime) -> Result<(), Fail> {
 }
 
 #[test]
-fn exits_and_idle_points_go_on_after_a_refused_growth(rt: HostRuntime) -> Result<(), Fail> {
+fn exits_and_idle_points_go_on_after_a_failed_allocation(rt: HostRuntime) -> Result<(), Fail> {
     let events = [
         Event::Enable,
         Event::Enter(ONE),
@@ -266,7 +266,7 @@ fn told_by_one_over(rt: &impl Abort, alloc: Global) -> Result<Told, Fail> {
 }
 
 #[test]
-fn an_engine_is_asked_again_after_a_refused_growth(rt: HostRuntime) -> Result<(), Fail> {
+fn an_engine_is_asked_again_after_a_failed_allocation(rt: HostRuntime) -> Result<(), Fail> {
     let told = told_by_one_over(&rt, rt.alloc())?;
     let levels = [Some(Level(0)), Some(Level(1)), Some(Level(0))];
     assert_eq!(rt; told.waiting, [Some(GroupId(1)), Some(GroupId(3)), None]);

@@ -9,7 +9,7 @@ use Rattle.lp_transition.specs.Events.{is_control}
 use Rattle.lp_transition.specs.Run.{Run, first_leg, replies}
 use Rattle.lp_transition.specs.Steps.{StandsIn}
 use Rattle.lp_transition.specs.Table.{Engine, state_in}
-use Rattle.lp_stays.specs.Kept.{Counted}
+use Rattle.lp_stays.specs.Invariant.{Counted}
 use Rattle.lp_stays.specs.Counts.{Counts}
 use Rattle.lp_cert.specs.Ends.{Made, IsMadeOf}
 

@@ -121,7 +121,7 @@ fn take<M: Consistency>(
     if !is_plain(event) {
         return take_weighed(alloc, core, maker, event);
     }
-    maker.pass(core, event);
+    maker.note_plain(core, event);
     match core.step(alloc, event) {
         Ok(reply) => Ok(reply),
         Err(Halt::NoMemory) => Err(ReplayFault::NoMemory),

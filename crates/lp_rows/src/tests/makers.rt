@@ -1,6 +1,6 @@
 //! Makers beside engines, and outcomes: what each call gives of a run's certificates.
 ghost use Rattle.std.specs.Prelude.{◌≡◌, true, IfOk};
-ghost use Rattle.lp_model.specs.Table.{rules_of};
+ghost use Rattle.lp_model.specs.Row.{rules_of};
 ghost use Rattle.lp_models.specs.Models.{hybrid};
 ghost use Rattle.lp_transition.specs.Scan.{is_scan_kind};
 ghost use Rattle.lp_transition.specs.Weigh.{IsWeighed};

@@ -21,7 +21,7 @@ fn checked(alloc: Global, text: &str, room: &mut [u8]) -> (Result<bool, RunFault
 }
 
 #[test]
-fn a_certificate_is_checked_after_a_refused_growth(rt: HostRuntime) -> Result<(), Fail> {
+fn a_certificate_is_checked_after_a_failed_allocation(rt: HostRuntime) -> Result<(), Fail> {
     let alloc = rt.alloc();
     for (text, accepted, line, left) in [
         (ACCEPTED, true, "accepted\n", 11),

@@ -7,10 +7,10 @@ ghost use Rattle.lp_transition.specs.Table.{slot, state_in};
 ghost use Rattle.lp_transition.specs.Weigh.{IsWeighed};
 ghost use Rattle.lp_transition.specs.Steps.{IsReply};
 ghost use Rattle.lp_transition.specs.Scan.{is_asked, is_scan_kind, scan_event, MayLeaveOut, passing, verdicts_among, views_of};
-ghost use Rattle.lp_transition.specs.ScanSteps.{IsOwnGroup, task_goes, tasks_of};
+ghost use Rattle.lp_transition.specs.inside.ScanSteps.{IsOwnGroup, task_switches, tasks_of};
 ghost use Rattle.lp_transition.specs.declared.engine.step.Halt.TheVariants.{JournalFull};
 
-use super::run::verdicts;
+use super::dispatch::verdicts;
 use super::scan::{member_from, views_in};
 use super::step::{Halt, Step};
 use super::task_table::TaskTable;
@@ -21,9 +21,9 @@ use lp_stack::{TaskId, View};
 use std::alloc::{AllocError, Global};
 
 impl<M: Consistency> Core<M> {
-    /// A walk or a stop, weighed after a look at the waiting tasks of some groups alone: of each of the
-    /// others that waits it would refuse a member. NoMemory where a growth was refused, JournalFull
-    /// where no event is left.
+    /// A walk or a stop, weighed after a look at the waiting tasks of some groups alone: of each of
+    /// the others that waits it would refuse a member. NoMemory where an allocation failed,
+    /// JournalFull where no event is left.
     pub fn weigh_asked(
         &self,
         alloc: Global,
@@ -92,7 +92,7 @@ fn members_of(
     waiting: &NumberSet,
     groups: &NumberSet,
 ) -> Result<NumberSet, AllocError>
-    ensures { IfOk result (λ set. (task : ℕ) → has set task ≡ list_any (λ t. nat_eq t task && task_goes (has groups.now) (slot tasks.now t)) (passing 0 65536 (has waiting.now))) }
+    ensures { IfOk result (λ set. (task : ℕ) → has set task ≡ list_any (λ t. nat_eq t task && task_switches (has groups.now) (slot tasks.now t)) (passing 0 65536 (has waiting.now))) }
 {
     let mut members = NumberSet::new(alloc)?;
     let mut next = member_from(waiting, 0);
@@ -105,7 +105,7 @@ fn members_of(
 
 /// Takes in a live task whose group is one of these.
 fn add_member(members: &mut NumberSet, tasks: &TaskTable, groups: &NumberSet, task: TaskId)
-    ensures { (other : ℕ) → has members.new other ≡ (has members.old other || (nat_eq task.0 other && task_goes (has groups.now) (slot tasks.now task.0))) }
+    ensures { (other : ℕ) → has members.new other ≡ (has members.old other || (nat_eq task.0 other && task_switches (has groups.now) (slot tasks.now task.0))) }
 {
     if let Some(live) = tasks.get(task) {
         if groups.contains(live.group().0) {

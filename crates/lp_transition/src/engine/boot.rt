@@ -3,7 +3,8 @@ ghost use Rattle.std.specs.Prelude.{◌≡◌, ℕ, ◌<◌, ◌≤◌, [], Err,
 ghost use Rattle.lp_transition.specs.Run.{start, booted, at_boot, first_mode};
 ghost use Rattle.lp_transition.specs.Steps.{StandsIn};
 ghost use Rattle.lp_transition.specs.Boot.{boot_refusal};
-ghost use Rattle.lp_transition.specs.Table.{IsBlank, IsWide, is_in, standings, state_in, bounds_of};
+ghost use Rattle.lp_transition.specs.Table.{IsWide, standings, state_in, bounds_of};
+ghost use Rattle.lp_transition.specs.inside.Table.{IsBlank, is_in};
 ghost use Rattle.lp_transition.specs.declared.engine.boot.BootFault.TheVariants.{NoMemory};
 
 use super::Core;
@@ -22,7 +23,7 @@ pub enum BootFault {
     TaskRange,
     /// T2: two tasks have one number.
     TaskDoubled,
-    /// T3: a growth was refused. Tested after all else.
+    /// T3: an allocation failed. Tested after all else.
     NoMemory,
 }
 
@@ -46,7 +47,7 @@ impl<M: Consistency> Core<M> {
     /// An engine with these tasks, each on level 0 with an empty stack; a normal task starts in user space,
     /// an idle task in the kernel.
     ///
-    /// Refused for the first task at fault, as T1 or T2, else T3 where a growth was refused.
+    /// Refused for the first task at fault, as T1 or T2, else T3 where an allocation failed.
     pub fn boot(
         alloc: Global,
         model: M,

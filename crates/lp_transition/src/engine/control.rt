@@ -4,8 +4,9 @@ ghost use Rattle.lp_numbers.specs.Numbers.{has};
 ghost use Rattle.lp_transition.specs.Events.{is_control};
 ghost use Rattle.lp_transition.specs.Tasks.{first_of};
 ghost use Rattle.lp_transition.specs.Run.{control_tests, new_target};
-ghost use Rattle.lp_transition.specs.Table.{slot, state_in, is_off};
-ghost use Rattle.lp_transition.specs.Machine.{at_rest, refusal_of, answer, next};
+ghost use Rattle.lp_transition.specs.Table.{slot, state_in};
+ghost use Rattle.lp_transition.specs.inside.Table.{is_off};
+ghost use Rattle.lp_transition.specs.Machine.{complete_in, refusal_of, answer, next};
 
 use super::Core;
 use super::task_table::TaskTable;
@@ -17,7 +18,7 @@ use lp_stack::{Level, TaskId};
 impl<M: Consistency> Core<M> {
     /// Why the enabling of the next patch is refused.
     pub(super) fn enable_refusal(&self) -> Option<Refusal>
-        ensures { result ≡ first_of (control_tests (state_in self.now) (at_rest (state_in self.now)) Event.Enable) }
+        ensures { result ≡ first_of (control_tests (state_in self.now) (complete_in (state_in self.now)) Event.Enable) }
     {
         if self.in_transition() {
             return Some(Refusal::InTransition);
@@ -30,7 +31,7 @@ impl<M: Consistency> Core<M> {
 
     /// Why the disabling of the last patch is refused.
     pub(super) fn disable_refusal(&self) -> Option<Refusal>
-        ensures { result ≡ first_of (control_tests (state_in self.now) (at_rest (state_in self.now)) Event.Disable) }
+        ensures { result ≡ first_of (control_tests (state_in self.now) (complete_in (state_in self.now)) Event.Disable) }
     {
         if self.in_transition() {
             return Some(Refusal::InTransition);
@@ -87,7 +88,7 @@ impl<M: Consistency> Core<M> {
 
     /// Why the turning of the transition is refused.
     pub(super) fn reverse_refusal(&self) -> Option<Refusal>
-        ensures { result ≡ first_of (control_tests (state_in self.now) (at_rest (state_in self.now)) Event.Reverse) }
+        ensures { result ≡ first_of (control_tests (state_in self.now) (complete_in (state_in self.now)) Event.Reverse) }
     {
         if !self.in_transition() {
             return Some(Refusal::NotInTransition);

@@ -7,7 +7,7 @@ use lp_stack::{Class, Frame, GroupId, Level, Mode, TaskId, TaskStack, View};
 use lp_symbols::SymId;
 use std::marker::Model;
 
-/// A live task with its level and its group. No call takes memory.
+/// A live task with its level and its group. No call allocates.
 #[derive(Drop)]
 pub(crate) struct LiveTask {
     stack: TaskStack,

@@ -40,8 +40,8 @@ impl Model for Opening {
 }
 
 impl<M: Consistency> Core<M> {
-    /// A copy of the engine as it stands, which just after an accepted control event is the opening of that
-    /// event's leg; an `Err` only where a growth was refused.
+    /// A copy of the engine as it stands, which just after an accepted control event is the opening
+    /// of that event's leg; an `Err` only where an allocation failed.
     pub fn standing(&self, alloc: Global) -> Result<Opening, AllocError>
         ensures same { IfOk result (λ opening. opening ≡ self.now) }
         ensures sound { IfOk result (λ opening. IsSound (state_in opening)) }
@@ -103,7 +103,7 @@ impl Opening {
         self.tasks.next_live(from)
     }
 
-    /// A live task as it stood, lent; None for any other.
+    /// A live task as it stood, borrowed; None for any other.
     pub fn task(&self, task: TaskId) -> Option<View<'_>>
         ensures { option_map seen result ≡ option_map (view_of task.0) (slot self.now.table task.0) }
     {

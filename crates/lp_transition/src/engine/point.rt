@@ -3,7 +3,7 @@ ghost use Rattle.std.specs.Prelude.{◌≡◌, ◌<◌, None, true, false, IfOk,
 ghost use Rattle.std.specs.Option.{ForSome};
 ghost use Rattle.lp_transition.specs.Weigh.{is_switched};
 ghost use Rattle.lp_transition.specs.Table.{slot, state_in};
-ghost use Rattle.lp_transition.specs.Machine.{affected, goes_over, refusal_of, answer, next};
+ghost use Rattle.lp_transition.specs.Machine.{affected, switches_at, refusal_of, answer, next};
 ghost use Rattle.lp_transition.specs.inside.Points.{is_point_kind, point_event, point_mode};
 
 use super::Core;
@@ -14,8 +14,8 @@ use lp_stack::{Mode, TaskId, View};
 use std::alloc::{AllocError, Global};
 
 impl<M: Consistency> Core<M> {
-    /// The answer to an accepted exit or idle point; AllocError where a growth was refused, which
-    /// there is only where the task's group goes over.
+    /// The answer to an accepted exit or idle point; AllocError where an allocation failed, which
+    /// there is only where the task's group switches.
     pub(super) fn answer_point(
         &self,
         alloc: Global,
@@ -29,7 +29,7 @@ impl<M: Consistency> Core<M> {
         ensures answer { IfOk result (λ reply. reply ≡ answer M.rules (state_in self.now) (point_event kind task)) }
     {
         let waits_alone = is_only(&self.waiting, task.0);
-        if !self.point_goes(kind, task) {
+        if !self.point_switches(kind, task) {
             return Ok(done());
         }
         let groups = one_group(alloc, group_of(&self.tasks, task))?;
@@ -41,10 +41,10 @@ impl<M: Consistency> Core<M> {
 
     /// Only the last member is asked here: with another one in the kernel the group's stacks aren't
     /// all known, and a switch would split it. An exit finds its task in user space already.
-    fn point_goes(&self, kind: CheckKind, task: TaskId) -> bool
+    fn point_switches(&self, kind: CheckKind, task: TaskId) -> bool
         requires point { is_point_kind kind ≡ true }
         requires accepted { refusal_of M.rules (state_in self.now) (point_event kind task) ≡ None }
-        ensures { ForSome (slot self.now.table task.0) (λ x. result ≡ goes_over M.rules (affected M.rules (state_in self.now) (point_event kind task)) (point_event kind task) x.group) }
+        ensures { ForSome (slot self.now.table task.0) (λ x. result ≡ switches_at M.rules (affected M.rules (state_in self.now) (point_event kind task)) (point_event kind task) x.group) }
     {
         let Some(live) = self.tasks.get(task) else {
             return false;
@@ -67,18 +67,18 @@ impl<M: Consistency> Core<M> {
         self.model.admits(kind, &found, &aim)
     }
 
-    /// The answer says whether the group goes over, so the model isn't asked twice: its second
+    /// The answer says whether the group switches, so the model isn't asked twice: its second
     /// answer could only be the same, at the cost of the task's frames.
-    pub(super) fn take_point(&mut self, kind: CheckKind, task: TaskId, over: bool)
+    pub(super) fn take_point(&mut self, kind: CheckKind, task: TaskId, switching: bool)
         requires point { is_point_kind kind ≡ true }
         requires room { self.old.number < 1000000 }
         requires accepted { refusal_of M.rules (state_in self.old) (point_event kind task) ≡ None }
-        requires over { over ≡ is_switched (answer M.rules (state_in self.old) (point_event kind task)).what }
+        requires switching { switching ≡ is_switched (answer M.rules (state_in self.old) (point_event kind task)).what }
         ensures { state_in self.new ≡ next M.rules (state_in self.old) (point_event kind task) }
     {
         self.events += 1;
         self.tasks.reach_point(kind, task);
-        if !over {
+        if !switching {
             return;
         }
         self.waiting.remove(task.0);

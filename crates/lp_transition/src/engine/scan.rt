@@ -4,14 +4,15 @@ ghost use Rattle.std.specs.List.{filter_map, list_any};
 ghost use Rattle.std.specs.Option.{option_map};
 ghost use Rattle.lp_stack.specs.TaskView.{seen};
 ghost use Rattle.lp_numbers.specs.Numbers.{has};
-ghost use Rattle.lp_transition.specs.Table.{state_in, slot, is_in};
-ghost use Rattle.lp_transition.specs.Machine.{view_of, is_behind, next};
+ghost use Rattle.lp_transition.specs.Table.{state_in, slot};
+ghost use Rattle.lp_transition.specs.inside.Table.{is_in};
+ghost use Rattle.lp_transition.specs.Machine.{view_of, waits_in, next};
 ghost use Rattle.lp_transition.specs.Events.{is_scan};
 ghost use Rattle.lp_transition.specs.Run.{switched};
 ghost use Rattle.lp_transition.specs.Weigh.{IsWeighed};
 ghost use Rattle.lp_transition.specs.Steps.{IsReply};
 ghost use Rattle.lp_transition.specs.Scan.{is_scan_kind, scan_event, views_of, verdicts_of, AreEnough, passing};
-ghost use Rattle.lp_transition.specs.ScanSteps.{IsNextBelow, waiting_slot, tasks_of, is_judged, is_found, goes_by, all_admit, groups_of, is_over, IsTaskMoved, IsMoved};
+ghost use Rattle.lp_transition.specs.inside.ScanSteps.{IsNextBelow, waiting_slot, tasks_of, is_judged, is_found, switches_by, all_admit, groups_of, is_switching, IsTaskSwitched, AreSwitched};
 ghost use Rattle.lp_transition.specs.declared.engine.step.Halt.TheVariants.{JournalFull};
 
 use super::asked::looks_at_all;
@@ -26,8 +27,8 @@ use lp_stack::{GroupId, Level, TaskId, View};
 use std::alloc::{AllocError, Global};
 
 impl<M: Consistency> Core<M> {
-    /// The waiting tasks as checks see them, by increasing number; AllocError where a growth was
-    /// refused.
+    /// The waiting tasks as checks see them, by increasing number; AllocError where an allocation
+    /// failed.
     pub fn views(&self, alloc: Global) -> Result<Vec<View<'_>>, AllocError>
         ensures { IfOk result (λ views. map seen views.items ≡ views_of (state_in self.now)) }
     {
@@ -35,17 +36,17 @@ impl<M: Consistency> Core<M> {
     }
 
     /// The groups that wait, which have a live member off the target, in increasing order;
-    /// AllocError where a growth was refused.
+    /// AllocError where an allocation failed.
     pub fn waiting(&self, alloc: Global) -> Result<GroupList, AllocError>
-        ensures { IfOk result (λ list. list ≡ passing 0 65536 (is_behind (state_in self.now))) }
+        ensures { IfOk result (λ list. list ≡ passing 0 65536 (waits_in (state_in self.now))) }
     {
         let groups = groups_in(alloc, &self.tasks, &self.waiting)?;
         group_list(alloc, &groups)
     }
 
-    /// The answer to a walk or a stop, by what its checks found of the waiting tasks: a group goes
-    /// over where a member is admitted and none is refused. NoMemory where a growth was refused,
-    /// JournalFull where no event is left.
+    /// The answer to a walk or a stop, by what its checks found of the waiting tasks: a group
+    /// switches where a member is admitted and none is refused. NoMemory where an allocation
+    /// failed, JournalFull where no event is left.
     pub fn weigh_scan(
         &self,
         alloc: Global,
@@ -81,28 +82,28 @@ impl<M: Consistency> Core<M> {
         if self.events >= MOST_EVENTS {
             return Err(Halt::JournalFull);
         }
-        let (what, over) = scanned(alloc, &self.tasks, verdicts)?;
+        let (what, switching) = scanned(alloc, &self.tasks, verdicts)?;
         let copied = Vec::from_slice(alloc, verdicts)?;
         let reply = Reply {
             what,
             completed: completes(&self.waiting, verdicts),
         };
-        Ok(Step::scan(scan_event(kind), reply, copied, over))
+        Ok(Step::scan(scan_event(kind), reply, copied, switching))
     }
 
-    /// Takes a walk or a stop that was weighed on this engine: the groups that go over do so.
-    /// Takes no memory.
+    /// Takes a walk or a stop that was weighed on this engine: the groups that switch do so. Never
+    /// allocates.
     pub(super) fn take_scan(&mut self, step: &Step)
         requires weighed { IsWeighed M.rules self.old step.now }
         requires scan { is_scan step.now.event ≡ true }
         ensures { state_in self.new ≡ next M.rules (state_in self.old) step.now.event }
     {
         self.events += 1;
-        move_groups(
+        switch_groups(
             &mut self.tasks,
             &mut self.waiting,
             step.verdicts(),
-            step.over(),
+            step.switching(),
             self.target,
         );
     }
@@ -172,25 +173,25 @@ fn scan_event(kind: CheckKind) -> Event
     }
 }
 
-/// What a scan does by these verdicts, and the groups that go over; None where none does. It takes
-/// no memory where no task is admitted.
+/// What a scan does by these verdicts, and the groups that switch; None where none does. It never
+/// allocates where no task is admitted.
 fn scanned(
     alloc: Global,
     tasks: &TaskTable,
     verdicts: &[Verdict],
 ) -> Result<(What, Option<NumberSet>), AllocError>
-    ensures what { IfOk result (λ done. done.0 ≡ switched (passing 0 65536 (goes_by tasks.now verdicts.now))) }
-    ensures over { IfOk result (λ done. (group : ℕ) → group < 65536 → is_over done.1 group ≡ list_any (nat_eq group) (groups_of done.0)) }
+    ensures what { IfOk result (λ done. done.0 ≡ switched (passing 0 65536 (switches_by tasks.now verdicts.now))) }
+    ensures switching { IfOk result (λ done. (group : ℕ) → group < 65536 → is_switching done.1 group ≡ list_any (nat_eq group) (groups_of done.0)) }
 {
     if !any_admits(verdicts) {
         return Ok((What::Done, None));
     }
-    let over = groups_over(alloc, tasks, verdicts)?;
-    let groups = group_list(alloc, &over)?;
-    Ok((switched(groups), Some(over)))
+    let switching = switching_groups(alloc, tasks, verdicts)?;
+    let groups = group_list(alloc, &switching)?;
+    Ok((switched(groups), Some(switching)))
 }
 
-/// What an event did that took these groups over.
+/// What an event did that switched these groups.
 fn switched(groups: GroupList) -> What
     ensures { result ≡ switched groups }
 {
@@ -200,18 +201,18 @@ fn switched(groups: GroupList) -> What
     What::Switched(groups)
 }
 
-/// The groups that go over by these verdicts: a member is admitted, and none is refused.
-fn groups_over(
+/// The groups that switch by these verdicts: a member is admitted, and none is refused.
+fn switching_groups(
     alloc: Global,
     tasks: &TaskTable,
     verdicts: &[Verdict],
 ) -> Result<NumberSet, AllocError>
-    ensures { IfOk result (λ set. (group : ℕ) → has set group ≡ goes_by tasks.now verdicts.now group) }
+    ensures { IfOk result (λ set. (group : ℕ) → has set group ≡ switches_by tasks.now verdicts.now group) }
 {
-    let mut over = NumberSet::new(alloc)?;
-    add_admitted(&mut over, tasks, verdicts);
-    remove_refused(&mut over, tasks, verdicts);
-    Ok(over)
+    let mut switching = NumberSet::new(alloc)?;
+    add_admitted(&mut switching, tasks, verdicts);
+    remove_refused(&mut switching, tasks, verdicts);
+    Ok(switching)
 }
 
 /// A group of which no member was looked at must not switch, so the admitted come first.
@@ -299,50 +300,50 @@ fn any_admits(verdicts: &[Verdict]) -> bool
     verdicts.iter().any(|verdict| verdict.blame.is_none())
 }
 
-/// Takes the tasks that a scan looked at over, where their groups go. Takes no memory.
-fn move_groups(
+/// Switches the tasks that a scan looked at, where their groups switch. Never allocates.
+fn switch_groups(
     tasks: &mut TaskTable,
     waiting: &mut NumberSet,
     verdicts: &[Verdict],
-    over: Option<&NumberSet>,
+    switching: Option<&NumberSet>,
     target: Level,
 )
-    ensures { IsMoved (is_judged verdicts.now) (is_over (option_copied over.entry)) target.0 tasks.old tasks.new waiting.old waiting.new }
+    ensures { AreSwitched (is_judged verdicts.now) (is_switching (option_copied switching.entry)) target.0 tasks.old tasks.new waiting.old waiting.new }
 {
-    if let Some(over) = over {
-        move_over(tasks, waiting, verdicts, over, target);
+    if let Some(switching) = switching {
+        switch_tasks(tasks, waiting, verdicts, switching, target);
     }
 }
 
-/// Takes the tasks of these verdicts over, where their groups go. Takes no memory.
-fn move_over(
+/// Switches the tasks of these verdicts, where their groups switch. Never allocates.
+fn switch_tasks(
     tasks: &mut TaskTable,
     waiting: &mut NumberSet,
     verdicts: &[Verdict],
-    over: &NumberSet,
+    switching: &NumberSet,
     target: Level,
 )
-    ensures { IsMoved (is_judged verdicts.now) (has over.now) target.0 tasks.old tasks.new waiting.old waiting.new }
+    ensures { AreSwitched (is_judged verdicts.now) (has switching.now) target.0 tasks.old tasks.new waiting.old waiting.new }
 {
     for verdict in verdicts {
-        move_task(tasks, waiting, over, target, verdict.task);
+        switch_task(tasks, waiting, switching, target, verdict.task);
     }
 }
 
-/// Takes a task over, if its group goes.
-fn move_task(
+/// Switches a task, if its group switches.
+fn switch_task(
     tasks: &mut TaskTable,
     waiting: &mut NumberSet,
-    over: &NumberSet,
+    switching: &NumberSet,
     target: Level,
     task: TaskId,
 )
-    ensures { IsTaskMoved (has over.now) target.0 task.0 tasks.old tasks.new waiting.old waiting.new }
+    ensures { IsTaskSwitched (has switching.now) target.0 task.0 tasks.old tasks.new waiting.old waiting.new }
 {
     let Some(live) = tasks.get(task) else {
         return;
     };
-    if !over.contains(live.group().0) {
+    if !switching.contains(live.group().0) {
         return;
     }
     tasks.set_level(task, target);

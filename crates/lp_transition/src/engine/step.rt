@@ -2,7 +2,7 @@
 ghost use Rattle.std.specs.Prelude.{◌≡◌, [], true, false, Some, None, option_copied};
 ghost use Rattle.std.specs.Option.{option_map};
 ghost use Rattle.lp_transition.specs.Events.{is_scan};
-ghost use Rattle.lp_transition.specs.ScanSteps.{groups_of, HasOver};
+ghost use Rattle.lp_transition.specs.inside.ScanSteps.{groups_of, HasSwitching};
 ghost use Rattle.lp_transition.specs.declared.engine.step.Halt.TheVariants.{NoMemory};
 
 use super::live_task::LiveTask;
@@ -15,7 +15,7 @@ use std::marker::Model;
 /// Why an event takes no number. The engine is then as it was.
 #[derive(Clone, Copy, Debug, PartialEq, Eq)]
 pub enum Halt {
-    /// E13: a growth was refused.
+    /// E13: an allocation failed.
     NoMemory,
     /// E14: 1,000,000 events are numbered. Tested before all else.
     JournalFull,
@@ -45,8 +45,8 @@ pub struct Step {
     verdicts: Vec<Verdict>,
     /// The child that an accepted fork brings.
     born: Option<Box<LiveTask>>,
-    /// Of a scan, the groups that go over; None where none does.
-    over: Option<NumberSet>,
+    /// Of a scan, the groups that switch; None where none does.
+    switching: Option<NumberSet>,
 }
 
 impl Model for Step {
@@ -54,14 +54,14 @@ impl Model for Step {
     ghost use Rattle.std.specs.Global.{Global};
     ghost use Rattle.std.specs.Option.{option_map};
     ghost use Rattle.lp_transition.specs.Leg.{Standing};
-    ghost use Rattle.lp_transition.specs.ScanSteps.{HasOver};
+    ghost use Rattle.lp_transition.specs.inside.ScanSteps.{HasSwitching};
     ghost use Rattle.lp_transition.specs.Weigh.{Weighed};
 
     ghost Value = { Weighed };
 
     ghost view = { λ s. record { event = s.event; reply = s.reply; verdicts = s.verdicts.items; born = option_map (λ (b : Box Standing Global). b.value) s.born } };
 
-    ghost invariant = { λ s. HasOver s.event s.reply.what s.over };
+    ghost invariant = { λ s. HasSwitching s.event s.reply.what s.switching };
 }
 
 impl Step {
@@ -91,7 +91,7 @@ impl Step {
         self.verdicts.as_slice()
     }
 
-    /// The answer, given back. Takes no memory.
+    /// The answer, given back. Never allocates.
     pub(super) fn into_reply(self) -> Reply
         ensures { result ≡ self.reply }
     {
@@ -99,7 +99,7 @@ impl Step {
         reply
     }
 
-    /// The answer, and the child that an accepted fork brings. Takes no memory.
+    /// The answer, and the child that an accepted fork brings. Never allocates.
     pub(super) fn into_parts(self) -> (Reply, Option<Box<LiveTask>>)
         ensures reply { result.0 ≡ self.reply }
         ensures born { option_map (λ (b : Box Standing Global). b.value) result.1 ≡ self.born }
@@ -108,21 +108,21 @@ impl Step {
         (reply, born)
     }
 
-    /// Of a scan, the groups that go over; None where none does.
-    pub(super) fn over(&self) -> Option<&NumberSet>
-        ensures { HasOver self.now.event self.now.reply.what (option_copied result) }
+    /// Of a scan, the groups that switch; None where none does.
+    pub(super) fn switching(&self) -> Option<&NumberSet>
+        ensures { HasSwitching self.now.event self.now.reply.what (option_copied result) }
     {
-        self.over.as_ref()
+        self.switching.as_ref()
     }
 
-    /// A scan with its answer, the verdicts that it was answered by, and the groups that go over.
+    /// A scan with its answer, the verdicts that it was answered by, and the groups that switch.
     pub(super) fn scan(
         event: Event,
         reply: Reply,
         verdicts: Vec<Verdict>,
-        over: Option<NumberSet>,
+        switching: Option<NumberSet>,
     ) -> Step
-        requires { HasOver event reply.what over }
+        requires { HasSwitching event reply.what switching }
         ensures { result ≡ record { event = event; reply = reply; verdicts = verdicts.items; born = None } }
     {
         Step {
@@ -130,11 +130,11 @@ impl Step {
             reply,
             verdicts,
             born: None,
-            over,
+            switching,
         }
     }
 
-    /// An event with its answer that brings no child and, if it is a scan, takes no group over.
+    /// An event with its answer that brings no child and, if it is a scan, switches no group.
     pub(super) fn plain(alloc: Global, event: Event, reply: Reply) -> Step
         requires { is_scan event ≡ true → groups_of reply.what ≡ [] }
         ensures { result ≡ record { event = event; reply = reply; verdicts = []; born = None } }
@@ -144,7 +144,7 @@ impl Step {
             reply,
             verdicts: Vec::new(alloc),
             born: None,
-            over: None,
+            switching: None,
         }
     }
 
@@ -158,7 +158,7 @@ impl Step {
             reply,
             verdicts: Vec::new(alloc),
             born: Some(born),
-            over: None,
+            switching: None,
         }
     }
 }

@@ -1,4 +1,4 @@
-//! What an accepted event does to the engine. Nothing here takes memory.
+//! What an accepted event does to the engine. Nothing here allocates.
 ghost use Rattle.std.specs.Prelude.{◌≡◌, ◌<◌, None, Some};
 ghost use Rattle.lp_transition.specs.Weigh.{born_of};
 ghost use Rattle.lp_transition.specs.Table.{state_in};

@@ -2,7 +2,7 @@
 ghost use Rattle.std.specs.Prelude.{◌≡◌, ℕ, ◌<◌, ◌≤◌, not, length, is_some, option_copied, IfOk};
 ghost use Rattle.std.specs.Option.{ForSome, option_map};
 ghost use Rattle.lp_numbers.specs.Numbers.{has, IsNextFrom};
-ghost use Rattle.lp_transition.specs.Slots.{slots_of};
+ghost use Rattle.lp_transition.specs.inside.Slots.{slots_of};
 ghost use Rattle.lp_transition.specs.Tasks.{is_unused};
 ghost use Rattle.lp_transition.specs.Machine.{put_in, calling, returning};
 ghost use Rattle.lp_transition.specs.inside.Points.{at_point};
@@ -15,7 +15,7 @@ use lp_symbols::SymId;
 use std::alloc::{AllocError, Global};
 use std::marker::Model;
 
-/// The live tasks, and the numbers that were ever used. Only `new` and `copy` take memory.
+/// The live tasks, and the numbers that were ever used. Only `new` and `copy` allocate.
 #[derive(Drop)]
 pub(crate) struct TaskTable {
     slots: Vec<Option<Box<LiveTask>>>,
@@ -29,7 +29,7 @@ impl Model for TaskTable {
     ghost use Rattle.lp_numbers.specs.Numbers.{has};
     ghost use Rattle.lp_transition.specs.Leg.{Standing};
     ghost use Rattle.lp_transition.specs.Table.{Table, slot, IsWide};
-    ghost use Rattle.lp_transition.specs.Slots.{slots_of, IsTable};
+    ghost use Rattle.lp_transition.specs.inside.Slots.{slots_of, IsTable};
 
     ghost Value = { Table };
 
@@ -40,7 +40,8 @@ impl Model for TaskTable {
 
 impl TaskTable {
     ghost use Rattle.lp_transition.specs.Leg.{Standing};
-    ghost use Rattle.lp_transition.specs.Table.{slot, standings, changed, with_task, without_task, IsWide, IsKnown, IsBlank};
+    ghost use Rattle.lp_transition.specs.Table.{slot, standings, IsWide};
+    ghost use Rattle.lp_transition.specs.inside.Table.{changed, with_task, without_task, IsKnown, IsBlank};
 
     /// A table without tasks.
     pub(crate) fn new(alloc: Global) -> Result<Self, AllocError>
@@ -178,7 +179,7 @@ impl TaskTable {
         }
     }
 
-    /// A copy of the table; an `Err` only where a growth was refused.
+    /// A copy of the table; an `Err` only where an allocation failed.
     pub(crate) fn copy(&self, alloc: Global) -> Result<Self, AllocError>
         ensures { IfOk result (λ copied. copied ≡ self.now) }
     {

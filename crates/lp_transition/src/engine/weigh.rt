@@ -6,7 +6,7 @@ ghost use Rattle.std.specs.Option.{ForSome};
 ghost use Rattle.lp_numbers.specs.Numbers.{has};
 ghost use Rattle.lp_transition.specs.Tasks.{on_live};
 ghost use Rattle.lp_transition.specs.Table.{slot, standings, state_in};
-ghost use Rattle.lp_transition.specs.Weigh.{IsWeighed, born_of, may_want_memory, moves, task_of, is_fork};
+ghost use Rattle.lp_transition.specs.Weigh.{IsWeighed, born_of, may_allocate, is_silent, silent_task, is_fork};
 ghost use Rattle.lp_transition.specs.Steps.{IsReply};
 ghost use Rattle.lp_transition.specs.Machine.{refusal_of, answer};
 
@@ -23,12 +23,12 @@ use std::alloc::{AllocError, Global};
 
 impl<M: Consistency> Core<M> {
     /// The answer to an event that is no scan, and what the engine needs to take it. Changes
-    /// nothing. NoMemory where a growth was refused, at the events that `step` names, JournalFull
+    /// nothing. NoMemory where an allocation failed, at the events that `step` names, JournalFull
     /// where no event is left.
     pub fn weigh(&self, alloc: Global, event: Event) -> Result<Step, Halt>
         requires { is_scan event ≡ false }
         ensures full { (result ≡ Err JournalFull) ↔ (1000000 ≤ self.now.number) }
-        ensures memory { result ≡ Err NoMemory → IsTrue (may_want_memory event (answer M.rules (state_in self.now) event).what) }
+        ensures memory { result ≡ Err NoMemory → IsTrue (may_allocate event (answer M.rules (state_in self.now) event).what) }
         ensures reply { IfOk result (λ step. IsReply M.rules (state_in self.now) event step.reply) }
         ensures weighed { IfOk result (λ step. IsWeighed M.rules self.now step) }
         ensures event { IfOk result (λ step. step.event ≡ event) }
@@ -54,15 +54,15 @@ impl<M: Consistency> Core<M> {
         requires accepted { refusal_of M.rules (state_in self.now) event ≡ None }
         requires scan { is_scan event ≡ false }
         requires fork { is_fork event ≡ false }
-        ensures memory { IsErr result → IsTrue (may_want_memory event (answer M.rules (state_in self.now) event).what) }
+        ensures memory { IsErr result → IsTrue (may_allocate event (answer M.rules (state_in self.now) event).what) }
         ensures answer { IfOk result (λ reply. reply ≡ answer M.rules (state_in self.now) event) }
     {
         match event {
             Event::Call(task, func) => Ok(self.answer_call(task, func)),
-            Event::Ret(task) => Ok(self.answer_moves(event, task)),
-            Event::Sleep(task) => Ok(self.answer_moves(event, task)),
-            Event::Wake(task) => Ok(self.answer_moves(event, task)),
-            Event::Enter(task) => Ok(self.answer_moves(event, task)),
+            Event::Ret(task) => Ok(self.answer_silent(event, task)),
+            Event::Sleep(task) => Ok(self.answer_silent(event, task)),
+            Event::Wake(task) => Ok(self.answer_silent(event, task)),
+            Event::Enter(task) => Ok(self.answer_silent(event, task)),
             Event::Exit(task) => self.answer_point(alloc, CheckKind::KernelExit, task),
             Event::Idle(task) => self.answer_point(alloc, CheckKind::IdlePoint, task),
             Event::Die(task) => Ok(self.answer_die(task)),
@@ -87,11 +87,11 @@ impl<M: Consistency> Core<M> {
     /// A return, a sleep, a wake-up or an entry into the kernel is no check and ends no task, so there
     /// is nothing to look at.
     #[inline(always)]
-    pub(super) fn answer_moves(&self, event: Event, task: TaskId) -> Reply
+    pub(super) fn answer_silent(&self, event: Event, task: TaskId) -> Reply
         requires room { self.now.number < 1000000 }
         requires accepted { refusal_of M.rules (state_in self.now) event ≡ None }
-        requires moves { moves event ≡ true }
-        requires task { task_of event ≡ task.0 }
+        requires is_silent { is_silent event ≡ true }
+        requires task { silent_task event ≡ task.0 }
         ensures { result ≡ answer M.rules (state_in self.now) event }
     {
         let _ = &self.tasks;
@@ -123,7 +123,7 @@ impl<M: Consistency> Core<M> {
     }
 }
 
-/// The answer to an event that was accepted and took no group over.
+/// The answer to an event that was accepted and switched no group.
 #[inline(always)]
 pub(super) fn done() -> Reply
     ensures { result ≡ record { what = What.Done; completed = false } }

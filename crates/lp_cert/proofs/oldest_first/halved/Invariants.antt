@@ -1,7 +1,7 @@
 use Rattle.std.proofs.Common.{◌≡◌, ◌<◌, ◌++◌}
 use Rattle.std.specs.List.{AllByRecursion}
 use Rattle.arrayvec.specs.ArrayVec.{array_vec_len}
-use Rattle.lp_cert.specs.Parts.{IsPart, part_reasons, parts_reasons}
+use Rattle.lp_cert.specs.inside.Parts.{IsPart, part_reasons, parts_reasons}
 use Rattle.lp_cert.proofs.oldest_first.halved.Given as goal
 
 -- the parts and the present one have the reasons of those at the call

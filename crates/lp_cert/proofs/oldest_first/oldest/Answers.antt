@@ -1,5 +1,5 @@
 use Rattle.std.proofs.Common.{◌∷◌, ◌++◌, [], ap, ◌∙◌, arith}
-use Rattle.lp_cert.specs.Parts.{parts_reasons}
+use Rattle.lp_cert.specs.inside.Parts.{parts_reasons}
 use Rattle.lp_cert.proofs.PartLemmas.{more_left, none_left}
 use Rattle.lp_cert.proofs.oldest_first.oldest.Goals as goal
 use Rattle.lp_cert.proofs.oldest_first.oldest.Goals.{then-count-gt1, else-count-gt1}

@@ -1,7 +1,7 @@
 use Rattle.std.proofs.Common.{◌≡◌, ℕ, true, length, take}
 use Rattle.lp_numbers.specs.Numbers.{has}
 use Rattle.lp_transition.specs.Table.{state_in}
-use Rattle.lp_cert.specs.Waiters.{AreJudged, StandsAt}
+use Rattle.lp_cert.specs.inside.Waiters.{AreJudged, StandsAt}
 use Rattle.lp_cert.proofs.waiters.judge_all.Given as goal
 
 -- the verdicts so far are noted

@@ -1,7 +1,7 @@
 use Rattle.std.proofs.Common.{◌≡◌, ℕ, true, length, map, ◌++◌, Some}
 use Rattle.lp_numbers.specs.Numbers.{has}
 use Rattle.lp_transition.specs.Scan.{passing}
-use Rattle.lp_transition.specs.ScanSteps.{passing_at}
+use Rattle.lp_transition.specs.inside.ScanSteps.{passing_at}
 use Rattle.lp_cert.specs.Waiters.{waiter_in}
 use Rattle.lp_cert.proofs.waiters.listed.Given as goal
 

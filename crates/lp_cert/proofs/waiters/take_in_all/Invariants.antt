@@ -1,5 +1,5 @@
 use Rattle.std.proofs.Common.{◌≤◌, ◌-◌}
-use Rattle.lp_cert.specs.Waiters.{AreTakenIn}
+use Rattle.lp_cert.specs.inside.Waiters.{AreTakenIn}
 use Rattle.lp_cert.proofs.waiters.take_in_all.Given as goal
 
 -- the groups of the tasks below the next number are in

@@ -5,7 +5,7 @@ use Rattle.std.proofs.lemmas.List.{drop_all}
 use Rattle.lp_cert.specs.declared.line.Line.{Line}
 use Rattle.lp_cert.specs.declared.line.Line.TheVariants.{Born}
 use Rattle.lp_transition.specs.Leg.{accepted, after}
-use Rattle.lp_checker.specs.Births.{group_in, group_or_0, is_own_fork, group_now}
+use Rattle.lp_checker.specs.inside.Births.{group_in, group_or_0, is_own_fork, group_now}
 use Rattle.lp_checker.specs.Folds.{leg_with}
 use Rattle.lp_checker.proofs.BirthLines.{Passed, pass_birth, late_birth, no_birth, all_passed, fits_some, fits_none}
 use Rattle.lp_checker.proofs.births.birth_fault.Goals as goal

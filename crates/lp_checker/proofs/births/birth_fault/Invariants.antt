@@ -1,5 +1,6 @@
 use Rattle.std.proofs.Common.{◌≤◌}
-use Rattle.lp_checker.specs.Folds.{leg_with, IsAt}
+use Rattle.lp_checker.specs.Folds.{leg_with}
+use Rattle.lp_checker.specs.inside.Folds.{IsAt}
 use Rattle.lp_checker.proofs.BirthLines.{Passed}
 use Rattle.lp_checker.proofs.births.birth_fault.Given as goal
 

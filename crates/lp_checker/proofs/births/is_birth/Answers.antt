@@ -2,7 +2,7 @@ use Rattle.std.proofs.Common.{ℕ, ◌-◌, Option, ap, ◌∙◌}
 use Rattle.std.specs.Option.{option_map}
 use Rattle.lp_transition.specs.declared.event.Event.{Event}
 use Rattle.lp_transition.specs.Leg.{accepted, after}
-use Rattle.lp_checker.specs.Births.{group_in, group_or_0, is_own_fork, group_now}
+use Rattle.lp_checker.specs.inside.Births.{group_in, group_or_0, is_own_fork, group_now}
 use Rattle.lp_checker.specs.Folds.{leg_with}
 use Rattle.lp_checker.proofs.BirthLines.{own_as, pred_is}
 use Rattle.lp_checker.proofs.births.is_birth.Goals as goal

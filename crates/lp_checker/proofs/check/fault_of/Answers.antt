@@ -5,7 +5,7 @@ use Rattle.lp_transition.specs.Tasks.{first_of}
 use Rattle.lp_checker.specs.declared.fault.CertFault.{CertFault}
 use Rattle.lp_checker.specs.declared.sections.Section.{Section as Part}
 use Rattle.lp_checker.specs.Folds.{leg_with}
-use Rattle.lp_checker.specs.Sections.{section_of}
+use Rattle.lp_checker.specs.inside.Sections.{section_of}
 use Rattle.lp_checker.specs.Verdict.{births, gap_test, line_tests, verdict_on}
 use Rattle.lp_checker.proofs.PartLines.{none_is}
 use Rattle.lp_checker.proofs.Stages.{in_order, at_no_leg, at_birth, at_group, at_line, at_gap}

@@ -1,6 +1,7 @@
 use Rattle.std.proofs.Common.{◌≡◌, ℕ, suc, ◌-◌, ◌||◌, is_none, nat_le, slice_index}
 use Rattle.lp_transition.specs.Leg.{check}
-use Rattle.lp_checker.specs.Folds.{leg_with, IsAt}
+use Rattle.lp_checker.specs.Folds.{leg_with}
+use Rattle.lp_checker.specs.inside.Folds.{IsAt}
 use Rattle.lp_checker.specs.Verdict.{first_bad}
 use Rattle.lp_checker.proofs.gaps.first_gap.Given as goal
 

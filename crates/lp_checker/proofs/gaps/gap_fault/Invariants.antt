@@ -1,8 +1,9 @@
 use Rattle.std.proofs.Common.{◌≡◌, ℕ, length, map, drop}
 use Rattle.lp_transition.specs.Tasks.{first_of}
-use Rattle.lp_checker.specs.Folds.{leg_with, IsAt}
+use Rattle.lp_checker.specs.Folds.{leg_with}
+use Rattle.lp_checker.specs.inside.Folds.{IsAt}
 use Rattle.lp_checker.specs.Verdict.{gap_test}
-use Rattle.lp_checker.specs.Sections.{section_of, FollowOn}
+use Rattle.lp_checker.specs.inside.Sections.{section_of, FollowOn}
 use Rattle.lp_checker.proofs.gaps.gap_fault.Given as goal
 
 -- no gap so far, and the fold stands where the next section begins

@@ -1,5 +1,5 @@
 use Rattle.std.proofs.Common.{◌≡◌, suc, ◌-◌, length, nat_eq, take}
-use Rattle.lp_checker.specs.Spans.{AreEnds}
+use Rattle.lp_checker.specs.inside.Spans.{AreEnds}
 use Rattle.lp_checker.proofs.gaps.own_ends.Given as goal
 
 -- the ends of the lines so far

@@ -3,7 +3,7 @@ use Rattle.std.proofs.Math.Seq.{drop-cons}
 use Rattle.lp_cert.specs.declared.line.Line.{Line}
 use Rattle.lp_cert.specs.declared.line.Line.TheVariants.{Born}
 use Rattle.lp_checker.specs.Folds.{leg_with}
-use Rattle.lp_checker.specs.Sections.{AreInOrder}
+use Rattle.lp_checker.specs.inside.Sections.{AreInOrder}
 use Rattle.lp_checker.specs.Verdict.{births}
 use Rattle.lp_checker.proofs.SectionLines.{ends_in_time}
 use Rattle.lp_checker.proofs.groups.first_group.Goals as goal

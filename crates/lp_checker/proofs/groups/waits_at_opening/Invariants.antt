@@ -1,8 +1,8 @@
 use Rattle.std.proofs.Common.{◌≡◌, ℕ, ◌<◌, false}
 use Rattle.lp_transition.specs.Table.{slot}
-use Rattle.lp_checker.specs.Sections.{is_behind}
+use Rattle.lp_checker.specs.inside.Sections.{is_waiting_member}
 use Rattle.lp_checker.proofs.groups.waits_at_opening.Given as goal
 
 -- none so far
 abbrev pub invariant-loop-number : goal.invariant-loop-number
-invariant-loop-number g l = (t : ℕ) → t < l.number → is_behind l.fn.leg.opening.now.target l.fn.group.0 (slot l.fn.leg.opening.now.table t) ≡ false
+invariant-loop-number g l = (t : ℕ) → t < l.number → is_waiting_member l.fn.leg.opening.now.target l.fn.group.0 (slot l.fn.leg.opening.now.table t) ≡ false

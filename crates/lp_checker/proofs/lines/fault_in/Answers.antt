@@ -1,7 +1,7 @@
 use Rattle.std.proofs.Common.{add-one, ◌∙◌}
 use Rattle.lp_cert.specs.declared.line.Line.TheVariants.{Hold}
 use Rattle.lp_checker.specs.Folds.{leg_with}
-use Rattle.lp_checker.specs.Sections.{timed}
+use Rattle.lp_checker.specs.inside.Sections.{timed}
 use Rattle.lp_checker.proofs.MarkLines.{passes_sound}
 use Rattle.lp_checker.proofs.lines.fault_in.Goals as goal
 

@@ -2,7 +2,7 @@ use Rattle.std.proofs.Common.{◌≡◌, map, drop}
 use Rattle.lp_transition.specs.Tasks.{first_of}
 use Rattle.lp_checker.specs.Folds.{leg_with}
 use Rattle.lp_checker.specs.Verdict.{line_test}
-use Rattle.lp_checker.specs.Sections.{timed}
+use Rattle.lp_checker.specs.inside.Sections.{timed}
 use Rattle.lp_checker.proofs.lines.fault_in.Given as goal
 
 -- no fault so far

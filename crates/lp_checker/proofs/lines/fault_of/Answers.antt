@@ -4,7 +4,7 @@ use Rattle.lp_stack.specs.declared.number.GroupId.{GroupId}
 use Rattle.lp_cert.specs.declared.line.Line.TheVariants.{Hold, Busy}
 use Rattle.lp_checker.specs.declared.fault.CertFault.{CertFault}
 use Rattle.lp_checker.specs.Folds.{leg_with}
-use Rattle.lp_checker.specs.Sections.{timed}
+use Rattle.lp_checker.specs.inside.Sections.{timed}
 use Rattle.lp_checker.specs.Verdict.{line_test}
 use Rattle.lp_checker.proofs.lines.fault_of.Goals as goal
 

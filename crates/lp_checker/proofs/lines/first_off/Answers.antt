@@ -13,7 +13,7 @@ pub loop-moment-preserved : goal.loop-moment-preserved
 loop-moment-preserved g c =
     let stands = is_on_stack g.M.Consistency.rules (leg_with c.args.leg.now.opening.now c.args.leg.now.events.now) c.args.hold.task.0 c.args.hold.serial in
     record {
-      at = rw add-one c.in_ok-advance.ensures.at;
+      at = rw add-one c.in_ok-step.ensures.at;
       rest = c.loop-moment.invariant.rest ∙ good_here (suc c.args.end - c.loop-moment.moment) (suc c.args.end - (c.loop-moment.moment + 1)) c.loop-moment.moment (c.loop-moment.moment + 1) stands (omega (arith, c.loop-moment-test.true)) (omega arith) (sym c.if-not-has_frame.ensures);
     }
 

@@ -1,5 +1,6 @@
 use Rattle.std.proofs.Common.{◌≡◌, suc, ◌-◌}
-use Rattle.lp_checker.specs.Folds.{leg_with, IsAt}
+use Rattle.lp_checker.specs.Folds.{leg_with}
+use Rattle.lp_checker.specs.inside.Folds.{IsAt}
 use Rattle.lp_checker.specs.Verdict.{first_bad, is_on_stack}
 use Rattle.lp_checker.proofs.lines.first_off.Given as goal
 

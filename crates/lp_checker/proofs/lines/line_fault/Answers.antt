@@ -14,7 +14,7 @@ loop-section-preserved g c =
     let leg = leg_with c.args.leg.now.opening.now c.args.leg.now.events.now in
     let here = drop-cons c.args.sections.now c.loop-section.section-index _ c.loop-section-test.true in
     rw add-one (record {
-      walk = c.in_ok-marks.ensures.walk;
+      cursor = c.in_ok-marks.ensures.cursor;
       times = (_, follows _ c.args.last _ _ _ here c.loop-section.invariant.times);
       rest = c.loop-section.invariant.rest ∙ no_fault_here g.M.Consistency.rules leg c.args.lines.now _ _ _ c.in_ok-fault.fault here c.in_ok-fault.ensures c.if-is_some.ensures;
     })

@@ -1,6 +1,6 @@
 use Rattle.std.proofs.Common.{◌-◌, ap, sym, ◌∙◌}
 use Rattle.lp_checker.specs.Folds.{leg_with}
-use Rattle.lp_checker.specs.Sections.{timed}
+use Rattle.lp_checker.specs.inside.Sections.{timed}
 use Rattle.lp_checker.specs.Verdict.{is_on_stack}
 use Rattle.lp_checker.proofs.BirthLines.{fits_some}
 use Rattle.lp_checker.proofs.Held.{sound_hold}
@@ -12,4 +12,4 @@ returns-then-has_frame-clause-marked g c = λ group.
     let leg = leg_with c.args.leg.now.opening.now c.args.leg.now.events.now in
     let hold = c.args.hold in
     let end = fits_some _ (hold.to - leg.number) c.in-Some.end c.in-Some.ensures in
-    sound_hold model leg g.met.M.Consistency.lawful c.requires.walk.at.sound.sound (timed c.args.section) group hold.task hold.serial hold.from hold.to (c.requires.blamed group) (sym (c.if-has_frame.ensures ∙ ap (is_on_stack model leg hold.task.0 hold.serial) (c.in_ok-go_to.ensures.moment ∙ end.1)))
+    sound_hold model leg g.met.M.Consistency.lawful c.requires.cursor.at.sound.sound (timed c.args.section) group hold.task hold.serial hold.from hold.to (c.requires.blamed group) (sym (c.if-has_frame.ensures ∙ ap (is_on_stack model leg hold.task.0 hold.serial) (c.in_ok-go_to.ensures.moment ∙ end.1)))

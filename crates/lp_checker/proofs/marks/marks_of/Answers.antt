@@ -1,7 +1,7 @@
 use Rattle.std.proofs.Common.{◌<◌, All, List, length, sym, subst}
 use Rattle.lp_checker.specs.declared.marks.Look.{Look}
 use Rattle.lp_checker.specs.Folds.{leg_with}
-use Rattle.lp_checker.specs.Sections.{timed}
+use Rattle.lp_checker.specs.inside.Sections.{timed}
 use Rattle.lp_checker.proofs.MarkLines.{marks_with}
 use Rattle.lp_checker.proofs.marks.marks_of.Goals as goal
 use Rattle.lp_checker.proofs.marks.marks_of.Goals.{then-look+in_ok-mark, else-look+in_ok-mark-2}
@@ -19,12 +19,12 @@ loop-look-preserved g c =
     elim c.if-look.branch [
       | then-look+in_ok-mark w ↦
           record {
-            walk = rw w.walk-is w.in_ok-mark.ensures.walk;
+            cursor = rw w.cursor-is w.in_ok-mark.ensures.cursor;
             marks = rw w.mark-is (marks_with g.M.Consistency.rules leg (timed c.args.section) c.args.lines.now c.loop-look.marks.items _ _ _ lt w.in_ok-mark.ensures.marked c.loop-look.invariant.marks);
           }
       | else-look+in_ok-mark-2 w ↦
           record {
-            walk = rw w.walk-is w.in_ok-mark-2.ensures.walk;
+            cursor = rw w.cursor-is w.in_ok-mark-2.ensures.cursor;
             marks = rw w.mark-is (marks_with g.M.Consistency.rules leg (timed c.args.section) c.args.lines.now c.loop-look.marks.items _ _ _ lt w.in_ok-mark-2.ensures.marked c.loop-look.invariant.marks);
           }
     ]

@@ -1,5 +1,5 @@
 use Rattle.std.proofs.Common.{◌≡◌, ℕ, ◌<◌, length, [], slice_index_or}
-use Rattle.lp_patch.specs.Stacks.{IsRow}
+use Rattle.lp_patch.specs.inside.Stacks.{IsRow}
 use Rattle.lp_patch.proofs.stack.all_versions.Given as goal
 
 -- the rows of the functions so far

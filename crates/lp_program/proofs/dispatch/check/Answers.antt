@@ -1,7 +1,7 @@
 -- What a check has written where its writer failed: the clause of `lp_trace::check` at each model.
 use Rattle.std.proofs.Common.{ap}
 use Rattle.std.proofs.lemmas.Result.{IfErr-weaker}
-use Rattle.lp_model.specs.Table.{rules_of}
+use Rattle.lp_model.specs.Row.{rules_of}
 use Rattle.lp_models.specs.Models.{hybrid, leave_kernel, all_at_once, immediate}
 use Rattle.lp_process.specs.Models.{process_group}
 use Rattle.lp_program.specs.Named.{rules_named}

@@ -86,7 +86,7 @@ fn is_answered(
 }
 
 #[test]
-fn certificates_are_judged_after_a_refused_growth(rt: HostRuntime) -> Result<(), Fail> {
+fn certificates_are_judged_after_a_failed_allocation(rt: HostRuntime) -> Result<(), Fail> {
     let alloc = rt.alloc();
     let opening = opened_again(alloc)?;
     for claim in [Claim::Waiting, Claim::Floor] {

@@ -77,7 +77,7 @@ fn gives_worked(alloc: Global, maker: &Maker) -> Result<bool, Fail> {
 }
 
 #[test]
-fn certificates_are_made_after_a_refused_growth(rt: HostRuntime) -> Result<(), Fail> {
+fn certificates_are_made_after_a_failed_allocation(rt: HostRuntime) -> Result<(), Fail> {
     let alloc = rt.alloc();
     let maker = made_again(&rt, alloc)?;
     assert!(rt; gives_worked(alloc, &maker)?);
@@ -94,7 +94,7 @@ fn waits_with(alloc: Global, maker: &Maker, group: u16, lines: &[Line]) -> Resul
 }
 
 #[test]
-fn certificates_are_asked_for_after_a_refused_growth(rt: HostRuntime) -> Result<(), Fail> {
+fn certificates_are_asked_for_after_a_failed_allocation(rt: HostRuntime) -> Result<(), Fail> {
     let alloc = rt.alloc();
     let maker = made_again(&rt, alloc)?;
     assert!(rt; waits_with(alloc, &maker, 1, &lines()[4..6])?);
@@ -104,7 +104,7 @@ fn certificates_are_asked_for_after_a_refused_growth(rt: HostRuntime) -> Result<
 }
 
 #[test]
-fn a_floor_is_asked_for_after_a_refused_growth(rt: HostRuntime) -> Result<(), Fail> {
+fn a_floor_is_asked_for_after_a_failed_allocation(rt: HostRuntime) -> Result<(), Fail> {
     let alloc = rt.alloc();
     let maker = made_again(&rt, alloc)?;
     let floor = maker.floor(alloc).or_else(|_| maker.floor(alloc))?;
@@ -128,7 +128,7 @@ fn ends_again(rt: &impl Abort, alloc: Global) -> Result<Vec<LegEnd>, Fail> {
 }
 
 #[test]
-fn ends_are_given_up_after_a_refused_growth(rt: HostRuntime) -> Result<(), Fail> {
+fn ends_are_given_up_after_a_failed_allocation(rt: HostRuntime) -> Result<(), Fail> {
     let alloc = rt.alloc();
     let ends = ends_again(&rt, alloc)?;
     let given = given_in(alloc, ends.as_slice()).or_else(|_| given_in(alloc, ends.as_slice()))?;
@@ -137,7 +137,7 @@ fn ends_are_given_up_after_a_refused_growth(rt: HostRuntime) -> Result<(), Fail>
 }
 
 #[test]
-fn a_certificate_is_copied_after_a_refused_growth(rt: HostRuntime) -> Result<(), Fail> {
+fn a_certificate_is_copied_after_a_failed_allocation(rt: HostRuntime) -> Result<(), Fail> {
     let alloc = rt.alloc();
     let maker = made_again(&rt, alloc)?;
     assert_eq!(rt; maker.ended().len(), 2);

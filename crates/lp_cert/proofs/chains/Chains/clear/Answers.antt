@@ -1,5 +1,5 @@
 use Rattle.std.proofs.Common.{refl}
-use Rattle.lp_cert.specs.Chains.{lists_of}
+use Rattle.lp_cert.specs.inside.Chains.{lists_of}
 use Rattle.lp_cert.proofs.chains.Chains.clear.Goals as goal
 
 pub returns : goal.returns

@@ -1,5 +1,5 @@
 use Rattle.std.proofs.Common.{◌≡◌, [], length, get_or, ap, ◌∙◌, arith}
-use Rattle.lp_cert.specs.Chains.{lists_of}
+use Rattle.lp_cert.specs.inside.Chains.{lists_of}
 use Rattle.lp_cert.proofs.ChainLemmas.{place_below, one_on, older_less, empty_first}
 use Rattle.lp_cert.proofs.chains.Chains.count.Goals as goal
 

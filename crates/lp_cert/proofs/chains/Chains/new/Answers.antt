@@ -1,5 +1,5 @@
 use Rattle.std.proofs.Common.{ap}
-use Rattle.lp_cert.specs.Chains.{lists_of}
+use Rattle.lp_cert.specs.inside.Chains.{lists_of}
 use Rattle.lp_cert.proofs.chains.Chains.new.Goals as goal
 
 pub returns : goal.returns

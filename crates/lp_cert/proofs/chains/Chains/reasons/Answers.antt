@@ -1,7 +1,7 @@
 use Rattle.std.proofs.Common.{◌≡◌, List, [], ◌∷◌, ◌++◌, get_or, refl, sym, ap, ◌∙◌, arith}
 use Rattle.std.proofs.lemmas.List.{append-nil, append_assoc}
 use Rattle.lp_cert.specs.declared.reason.Reason.{Reason}
-use Rattle.lp_cert.specs.Chains.{lists_of}
+use Rattle.lp_cert.specs.inside.Chains.{lists_of}
 use Rattle.lp_cert.proofs.ChainLemmas.{place_below, one_on, older_less, empty_first}
 use Rattle.lp_cert.proofs.chains.Chains.reasons.Goals as goal
 

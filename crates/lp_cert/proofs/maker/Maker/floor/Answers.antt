@@ -3,7 +3,7 @@ use Rattle.std.specs.Option.{option_map}
 use Rattle.lp_stack.specs.declared.number.GroupId.{GroupId}
 use Rattle.lp_numbers.specs.Numbers.{has, IsNextFrom}
 use Rattle.lp_cert.specs.Ends.{floor_in}
-use Rattle.lp_cert.specs.Kept.{open_end}
+use Rattle.lp_cert.specs.Invariant.{open_end}
 use Rattle.lp_cert.proofs.Asked.{no_floor, floor_asked, not_some}
 use Rattle.lp_cert.proofs.Keeping.{ok_weaker}
 use Rattle.lp_cert.proofs.maker.Maker.floor.Goals as goal

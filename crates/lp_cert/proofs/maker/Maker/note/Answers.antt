@@ -4,10 +4,11 @@ use Rattle.lp_transition.specs.Table.{state_in}
 use Rattle.lp_cert.specs.declared.maker.Closing.{Closing}
 use Rattle.lp_cert.specs.declared.open_leg.OpenLeg.{OpenLeg}
 use Rattle.lp_cert.specs.Ends.{Made, IsMadeOf, is_opening, room_for}
-use Rattle.lp_cert.specs.Kept.{open_end, ends_with, room_of, IsClosing}
-use Rattle.lp_cert.specs.Waiters.{has_off}
+use Rattle.lp_cert.specs.Invariant.{open_end, room_of}
+use Rattle.lp_cert.specs.inside.Invariant.{ends_with, IsClosing}
+use Rattle.lp_cert.specs.inside.Waiters.{has_off}
 use Rattle.lp_cert.proofs.Noted.{none_made, still_made, turned_made, ends_are, ready_for, opens_is}
-use Rattle.lp_cert.proofs.SettledSteps.{none_settled}
+use Rattle.lp_cert.proofs.UnchangedSteps.{none_settled}
 use Rattle.lp_cert.proofs.maker.Maker.note.Goals as goal
 
 pub returns-in_default-current : goal.returns-in_default-current
@@ -15,8 +16,8 @@ returns-in_default-current g c = record {
   made = λ run stands is suffices.
       let i = c.self.inside in
       let number = c.events-number.result + 1 in
-      let old : Made = record { ended = i.ended.items; current = option_map (open_end i.noted i.waiters) i.current; ready = option_map room_of i.ready; settling = i.settled } in
-      let new : Made = record { ended = i.ended.items; current = option_map (open_end number i.waiters) i.current; ready = option_map room_of c.take.new.self; settling = c.reset.new.self } in
+      let old : Made = record { ended = i.ended.items; current = option_map (open_end i.noted i.waiters) i.current; ready = option_map room_of i.ready; last_scan = i.unchanged } in
+      let new : Made = record { ended = i.ended.items; current = option_map (open_end number i.waiters) i.current; ready = option_map room_of c.take.new.self; last_scan = c.reset.new.self } in
       let was : IsMadeOf g.M.Consistency.rules run old = rw (← c.self.view_is) at is in
       let asked = rw (← c.self.view_is) at c.requires.ready in
       let stays : is_opening c.args.step.now ≡ false = sym (opens_is i.ready c.in-Some.ready (room_for c.args.step.now) (sym c.take.ensures.value ∙ c.in-Some.is) asked) ∙ ap (λ (o : Option Closing). is_some o) c.in_default-closing.is in
@@ -30,13 +31,13 @@ returns-in_default-closing g c = record {
   made = λ run stands is suffices.
       let i = c.self.inside in
       let number = c.events-number.result + 1 in
-      let old : Made = record { ended = i.ended.items; current = option_map (open_end i.noted i.waiters) i.current; ready = option_map room_of i.ready; settling = i.settled } in
-      let new : Made = record { ended = i.ended.items; current = Some (open_end number c.go_on.new.waiters c.go_on.new.leg); ready = option_map room_of c.take.new.self; settling = c.go_on.new.settled } in
+      let old : Made = record { ended = i.ended.items; current = option_map (open_end i.noted i.waiters) i.current; ready = option_map room_of i.ready; last_scan = i.unchanged } in
+      let new : Made = record { ended = i.ended.items; current = Some (open_end number c.step_leg.new.waiters c.step_leg.new.leg); ready = option_map room_of c.take.new.self; last_scan = c.step_leg.new.unchanged } in
       let was : IsMadeOf g.M.Consistency.rules run old = rw (← c.self.view_is) at is in
       let asked = rw (← c.self.view_is) at c.requires.ready in
       let stays : is_opening c.args.step.now ≡ false = sym (opens_is i.ready c.in-Some.ready (room_for c.args.step.now) (sym c.take.ensures.value ∙ c.in-Some.is) asked) ∙ ap (λ (o : Option Closing). is_some o) c.in_default-closing.is in
       still_made g.M.Consistency.rules g.met.M.Consistency.lawful run c.args.core.now stands c.args.step.now c.requires.weighed old new was stays refl
-      i.noted number c.in-Some-current.leg c.go_on.new.leg i.waiters c.go_on.new.waiters (ap (λ m. m + 1) c.events-number.ensures.value) c.go_on.ensures.gone_on (rw (← c.self.view_is) at suffices) (inr c.go_on.ensures.settled)
+      i.noted number c.in-Some-current.leg c.step_leg.new.leg i.waiters c.step_leg.new.waiters (ap (λ m. m + 1) c.events-number.ensures.value) c.step_leg.ensures.gone_on (rw (← c.self.view_is) at suffices) (inr c.step_leg.ensures.unchanged)
       (ap (option_map (open_end i.noted i.waiters)) c.in-Some-current.is) refl;
 }
 
@@ -50,8 +51,8 @@ returns g c = record {
       let number = c.events-number.result + 1 in
       let later = c.open.new.self in
       let left = c.in-Some-closing.closing in
-      let old : Made = record { ended = i.ended.items; current = option_map (open_end i.noted i.waiters) i.current; ready = option_map room_of i.ready; settling = i.settled } in
-      let new : Made = record { ended = c.end_leg.new.ended.items; current = Some (open_end number later c.opened-next.result); ready = option_map room_of c.take.new.self; settling = c.reset-2.new.self } in
+      let old : Made = record { ended = i.ended.items; current = option_map (open_end i.noted i.waiters) i.current; ready = option_map room_of i.ready; last_scan = i.unchanged } in
+      let new : Made = record { ended = c.end_leg.new.ended.items; current = Some (open_end number later c.opened-next.result); ready = option_map room_of c.take.new.self; last_scan = c.reset-2.new.self } in
       let was : IsMadeOf model run old = rw (← c.self.view_is) at is in
       let asked = rw (← c.self.view_is) at c.requires.ready in
       let kept : i.ready ≡ Some c.in-Some.ready = sym c.take.ensures.value ∙ c.in-Some.is in

@@ -1,7 +1,7 @@
 use Rattle.std.proofs.Common.{◌<◌, sym, ap, ◌∙◌, arith}
 use Rattle.std.specs.Option.{option_map}
 use Rattle.lp_cert.specs.Ends.{waiting_in}
-use Rattle.lp_cert.specs.Kept.{open_end}
+use Rattle.lp_cert.specs.Invariant.{open_end}
 use Rattle.lp_cert.proofs.Asked.{waiting_asked, not_some}
 use Rattle.lp_cert.proofs.Keeping.{ok_weaker}
 use Rattle.lp_cert.proofs.maker.Maker.waiting.Goals as goal

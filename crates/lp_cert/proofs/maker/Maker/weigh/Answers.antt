@@ -5,10 +5,10 @@ use Rattle.lp_transition.specs.Leg.{State}
 use Rattle.lp_transition.specs.Run.{leg_of}
 use Rattle.lp_transition.specs.Scan.{MayLeaveOut}
 use Rattle.lp_transition.specs.Table.{state_in}
-use Rattle.lp_cert.specs.Made.{lines}
-use Rattle.lp_cert.specs.Settling.{AreSettledBy, AreSettledSince}
+use Rattle.lp_cert.specs.Certificates.{lines}
+use Rattle.lp_cert.specs.LastScan.{AreUnchangedBy, AreUnchangedSince}
 use Rattle.lp_cert.proofs.Noted.{engine_sound}
-use Rattle.lp_cert.proofs.Settling.{may_leave_out}
+use Rattle.lp_cert.proofs.UnchangedLines.{may_leave_out}
 use Rattle.lp_cert.proofs.maker.Maker.weigh.Goals as goal
 
 pub weigh_asked-requires-clause-others : goal.weigh_asked-requires-clause-others
@@ -18,9 +18,9 @@ weigh_asked-requires-clause-others g c =
     let is = c.requires.made.2 in
     let leg = leg_of model run in
     let s = state_in c.args.core.now in
-    let settling = c.self.inside.settled in
-    let settled : AreSettledBy model s (lines model leg (length leg.events)) settling =
-    subst (λ (st : State). AreSettledBy model st (lines model leg (length leg.events)) settling) (sym c.requires.made.1.there) (rw (← c.self.view_is) at is.settled) in
-    let since = subst (λ (o : Option CheckKind). AreSettledSince model s (lines model leg (length leg.events)) o (has settling.unsettled)) c.in-Some.ensures.0 settled in
+    let last_scan = c.self.inside.unchanged in
+    let unchanged : AreUnchangedBy model s (lines model leg (length leg.events)) last_scan =
+    subst (λ (st : State). AreUnchangedBy model st (lines model leg (length leg.events)) last_scan) (sym c.requires.made.1.there) (rw (← c.self.view_is) at is.unchanged) in
+    let since = subst (λ (o : Option CheckKind). AreUnchangedSince model s (lines model leg (length leg.events)) o (has last_scan.changed_since)) c.in-Some.ensures.0 unchanged in
     let sound = engine_sound model g.met.M.Consistency.lawful run c.args.core.now c.requires.made.1 in
-    subst (λ (asked : Numbers). MayLeaveOut model c.match-event.kind s (has asked)) (sym c.in-Some.ensures.1) (may_leave_out model s sound (lines model leg (length leg.events)) c.match-event.kind (has settling.unsettled) since)
+    subst (λ (asked : Numbers). MayLeaveOut model c.match-event.kind s (has asked)) (sym c.in-Some.ensures.1) (may_leave_out model s sound (lines model leg (length leg.events)) c.match-event.kind (has last_scan.changed_since) since)

@@ -1,5 +1,5 @@
 use Rattle.std.proofs.Common.{◌++◌, [], ◌∷◌, option_to_list, ap, ◌∙◌, arith}
-use Rattle.lp_cert.specs.Parts.{parts_reasons}
+use Rattle.lp_cert.specs.inside.Parts.{parts_reasons}
 use Rattle.lp_cert.proofs.PartLemmas.{whole, none}
 use Rattle.lp_cert.proofs.oldest_first.OldestFirst.new.Goals as goal
 use Rattle.lp_cert.proofs.oldest_first.OldestFirst.new.Goals.{then-count-gt0, else-count-gt0}

@@ -5,7 +5,7 @@ use Rattle.lp_model.specs.declared.check.CheckKind.TheVariants as kind
 use Rattle.lp_transition.specs.declared.event.Event.{Event}
 use Rattle.lp_transition.specs.Table.{state_in}
 use Rattle.lp_transition.specs.Weigh.{AreVerdictsFor}
-use Rattle.lp_cert.specs.Waiters.{IsUsedVerdict}
+use Rattle.lp_cert.specs.inside.Waiters.{IsUsedVerdict}
 use Rattle.lp_cert.proofs.MoreWaiters.{used_enough}
 use Rattle.lp_cert.proofs.waiters.Waiters.affect.Goals as goal
 

@@ -1,6 +1,6 @@
 use Rattle.std.proofs.Common.{List, length, sym, subst}
 use Rattle.lp_cert.specs.declared.head.Waiter.{Waiter}
-use Rattle.lp_cert.specs.Waiters.{AreHeads}
+use Rattle.lp_cert.specs.inside.Waiters.{AreHeads}
 use Rattle.lp_cert.proofs.Keeping.{ok_weaker, waiting_heads}
 use Rattle.lp_cert.proofs.waiters.Waiters.list.Goals as goal
 

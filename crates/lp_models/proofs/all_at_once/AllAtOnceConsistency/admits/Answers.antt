@@ -1,6 +1,6 @@
 use Rattle.lp_stack.specs.TaskView.{seen}
 use Rattle.lp_patch.specs.Aimed.{aimed}
-use Rattle.lp_model.specs.TableLaws.{admits_unblamed}
+use Rattle.lp_model.specs.inside.RowLaws.{admits_unblamed}
 use Rattle.lp_models.specs.Models.{all_at_once}
 use Rattle.lp_models.proofs.all_at_once.AllAtOnceConsistency.admits.Goals as goal
 

@@ -1,6 +1,6 @@
 use Rattle.lp_stack.specs.TaskView.{seen}
 use Rattle.lp_patch.specs.Aimed.{aimed}
-use Rattle.lp_model.specs.TableLaws.{admits_unblamed}
+use Rattle.lp_model.specs.inside.RowLaws.{admits_unblamed}
 use Rattle.lp_models.specs.Models.{leave_kernel}
 use Rattle.lp_models.proofs.leave_kernel.LeaveKernelConsistency.admits.Goals as goal
 

@@ -1,6 +1,6 @@
 use Rattle.lp_stack.specs.TaskView.{seen}
 use Rattle.lp_patch.specs.Aimed.{aimed}
-use Rattle.lp_model.specs.TableLaws.{admits_unblamed}
+use Rattle.lp_model.specs.inside.RowLaws.{admits_unblamed}
 use Rattle.lp_process.specs.Models.{process_group}
 use Rattle.lp_process.proofs.process_group.ProcessGroupConsistency.admits.Goals as goal
 

@@ -4,8 +4,8 @@ use Rattle.lp_transition.specs.Machine.{state_of}
 use Rattle.lp_transition.specs.Run.{leg_of, plus}
 use Rattle.lp_transition.specs.Table.{state_in}
 use Rattle.lp_cert.specs.Ends.{IsMadeOf}
-use Rattle.lp_cert.specs.Made.{lines}
-use Rattle.lp_cert.specs.Settling.{Settling, AreSettledBy, Suffices}
+use Rattle.lp_cert.specs.Certificates.{lines}
+use Rattle.lp_cert.specs.LastScan.{LastScan, AreUnchangedBy, Suffices}
 use Rattle.lp_replay.proofs.replays.recorder.take_weighed.Goals as goal
 
 pub returns-clause-made : goal.returns-clause-made
@@ -16,7 +16,7 @@ returns-clause-made g c = λ run stands is.
     let readied : IsMadeOf model run c.ready.new.self = record {
       ended = ready.ended ∙ is.ended;
       current = ready.current ∙ is.current;
-      settled = subst (λ (settling : Settling). AreSettledBy model (state_of model leg) (lines model leg (length leg.events)) settling) (sym ready.settling) is.settled;
+      unchanged = subst (λ (last_scan : LastScan). AreUnchangedBy model (state_of model leg) (lines model leg (length leg.events)) last_scan) (sym ready.last_scan) is.settled;
     } in
-    let suffices = subst (λ (settling : Settling). Suffices model (state_in c.args.core.now) c.in-Ok.step settling) (sym ready.settling) c.in-Ok.ensures.suffices in
+    let suffices = subst (λ (last_scan : LastScan). Suffices model (state_in c.args.core.now) c.in-Ok.step last_scan) (sym ready.last_scan) c.in-Ok.ensures.suffices in
     subst (λ (event : Event). IsMadeOf model (plus run event) c.note.new.self) c.in-Ok.ensures.event (c.note.ensures.made run stands readied suffices)

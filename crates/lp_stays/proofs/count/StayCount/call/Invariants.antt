@@ -1,5 +1,5 @@
 use Rattle.std.proofs.Common.{◌≡◌}
-use Rattle.lp_stays.specs.Steps.{calls}
+use Rattle.lp_stays.specs.inside.Calls.{calls}
 use Rattle.lp_stays.proofs.count.StayCount.call.Given as goal
 
 -- the lowest patches are done

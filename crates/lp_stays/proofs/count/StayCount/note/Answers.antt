@@ -1,13 +1,13 @@
 use Rattle.std.proofs.Common.{◌≡◌, ◌*◌, length, ap, sym, ◌∙◌, subst}
 use Rattle.lp_transition.specs.Run.{plus}
-use Rattle.lp_stays.specs.Kept.{IsKept}
+use Rattle.lp_stays.specs.Invariant.{IsKept}
 use Rattle.lp_stays.specs.Counts.{Counts}
 use Rattle.lp_stays.proofs.Keeping.{noted_once}
 use Rattle.lp_stays.proofs.Noting.{noted}
 use Rattle.lp_stays.proofs.count.StayCount.note.Goals as goal
 
-pub returns-clause-goes_on : goal.returns-clause-goes_on
-returns-clause-goes_on c = λ model lawful run counts next.
+pub returns-clause-counts : goal.returns-clause-counts
+returns-clause-counts c = λ model lawful run counts next.
     let wide : length c.args.self.now.present ≡ length c.args.self.now.patches * 65536 = (subst IsKept c.self.view_is c.self.invariant).wide in
     subst (Counts model (plus run c.args.event)) (sym c.keep.ensures) (noted model lawful run c.args.self.now counts wide c.args.reply.now c.args.top c.args.event next)
 

@@ -1,5 +1,5 @@
 use Rattle.std.proofs.Common.{◌≡◌}
-use Rattle.lp_stays.specs.Steps.{returns}
+use Rattle.lp_stays.specs.inside.Calls.{returns}
 use Rattle.lp_stays.proofs.count.StayCount.ret.Given as goal
 
 -- the lowest patches are done

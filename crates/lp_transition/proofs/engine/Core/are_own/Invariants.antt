@@ -1,6 +1,6 @@
 use Rattle.std.proofs.Common.{◌≡◌, ℕ, ◌<◌, true, length, Some}
 use Rattle.lp_numbers.specs.Numbers.{has}
-use Rattle.lp_transition.specs.ScanSteps.{IsOwnGroup, passing_at}
+use Rattle.lp_transition.specs.inside.ScanSteps.{IsOwnGroup, passing_at}
 use Rattle.lp_transition.proofs.engine.Core.are_own.Given as goal
 
 -- the groups before the next one are own

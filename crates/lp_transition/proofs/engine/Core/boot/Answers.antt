@@ -1,4 +1,4 @@
-use Rattle.lp_transition.specs.Slots.{slots_of}
+use Rattle.lp_transition.specs.inside.Slots.{slots_of}
 use Rattle.lp_transition.proofs.BootLemmas.{ArePut, starts_with}
 use Rattle.lp_transition.proofs.engine.Core.boot.Goals as goal
 

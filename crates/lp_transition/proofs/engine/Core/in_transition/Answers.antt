@@ -1,7 +1,7 @@
 use Rattle.std.proofs.Common.{ap, not}
 use Rattle.std.specs.Bool.{one_answer}
 use Rattle.lp_transition.specs.Table.{state_in}
-use Rattle.lp_transition.specs.Machine.{at_rest}
+use Rattle.lp_transition.specs.Machine.{complete_in}
 use Rattle.lp_transition.proofs.TableLemmas.{slot-zero}
 use Rattle.lp_transition.proofs.MemberLemmas.{rest}
 use Rattle.lp_transition.proofs.engine.Core.in_transition.Goals as goal
@@ -12,4 +12,4 @@ returns g c =
     let k = c.self.invariant in
     let empty = slot-zero (record { number = i.events; from = i.from.0; target = i.target.0; patches = i.patches; table = i.tasks }) k.sound in
     let settled = rest i.tasks i.patches k.wide empty i.waiting i.target.0 k.waits in
-    rw (← c.self.view_is) (ap not (one_answer c.is_empty.result (at_rest (state_in (record { number = i.events; from = i.from.0; target = i.target.0; patches = i.patches; table = i.tasks }))) (c.is_empty.ensures.0, c.is_empty.ensures.1) (settled.1, settled.0)))
+    rw (← c.self.view_is) (ap not (one_answer c.is_empty.result (complete_in (state_in (record { number = i.events; from = i.from.0; target = i.target.0; patches = i.patches; table = i.tasks }))) (c.is_empty.ensures.0, c.is_empty.ensures.1) (settled.1, settled.0)))

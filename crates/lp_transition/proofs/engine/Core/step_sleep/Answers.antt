@@ -12,4 +12,4 @@ returns-in-Some g c =
     is_step g.M.Consistency.rules g.met.M.Consistency.lawful s (state_in c.take_refused.new.self) event c.refused.result (c.refused.ensures ∙ sym (answer-refused g.M.Consistency.rules s event c.in-Some.why (sym c.refusal.ensures ∙ c.in-Some.is))) c.take_refused.ensures
 
 pub returns : goal.returns
-returns g c = is_step g.M.Consistency.rules g.met.M.Consistency.lawful (state_in c.args.self.now) (state_in c.take_sleep.new.self) (Sleep c.args.task) c.answer_moves-reply.result c.answer_moves-reply.ensures c.take_sleep.ensures
+returns g c = is_step g.M.Consistency.rules g.met.M.Consistency.lawful (state_in c.args.self.now) (state_in c.take_sleep.new.self) (Sleep c.args.task) c.answer_silent-reply.result c.answer_silent-reply.ensures c.take_sleep.ensures

@@ -1,7 +1,7 @@
 use Rattle.std.proofs.Common.{◌≡◌, sym, ap, ◌∙◌}
 use Rattle.lp_transition.specs.declared.reply.Reply.{Reply}
 use Rattle.lp_transition.specs.Table.{state_in}
-use Rattle.lp_transition.specs.Weigh.{refused_by}
+use Rattle.lp_transition.specs.Weigh.{refusal_in}
 use Rattle.lp_transition.specs.Machine.{next}
 use Rattle.lp_transition.proofs.Runs.{is_step}
 use Rattle.lp_transition.proofs.Weighing.{refused-as}
@@ -16,14 +16,14 @@ pub take_refused-requires-clause-refused : goal.take_refused-requires-clause-ref
 take_refused-requires-clause-refused g c =
     rw c.event-event.ensures
     (sym (refused-as g.M.Consistency.rules (state_in c.args.self.now) c.args.step.event)
-    ∙ sym (ap (λ (r : Reply). refused_by r.what) (c.into_parts-reply.ensures.reply ∙ c.requires.reply))
+    ∙ sym (ap (λ (r : Reply). refusal_in r.what) (c.into_parts-reply.ensures.reply ∙ c.requires.reply))
     ∙ sym c.refusal_in.ensures ∙ c.in-Some.is)
 
 pub take_accepted-requires-clause-accepted : goal.take_accepted-requires-clause-accepted
 take_accepted-requires-clause-accepted g c =
     rw c.event-event.ensures
     (sym (refused-as g.M.Consistency.rules (state_in c.args.self.now) c.args.step.event)
-    ∙ sym (ap (λ (r : Reply). refused_by r.what) (c.into_parts-reply.ensures.reply ∙ c.requires.reply))
+    ∙ sym (ap (λ (r : Reply). refusal_in r.what) (c.into_parts-reply.ensures.reply ∙ c.requires.reply))
     ∙ sym c.refusal_in.ensures ∙ c.in-None.is)
 
 pub returns-clause-step : goal.returns-clause-step

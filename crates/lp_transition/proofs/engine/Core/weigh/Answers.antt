@@ -3,7 +3,7 @@ use Rattle.lp_transition.specs.declared.event.Event.{Event}
 use Rattle.lp_transition.specs.declared.event.Event.TheVariants.{Fork}
 use Rattle.lp_transition.specs.Leg.{Standing}
 use Rattle.lp_transition.specs.Machine.{refusal_of, answer}
-use Rattle.lp_transition.specs.Weigh.{Weighed, may_want_memory}
+use Rattle.lp_transition.specs.Weigh.{Weighed, may_allocate}
 use Rattle.lp_transition.specs.Table.{Engine, state_in}
 use Rattle.lp_transition.proofs.EngineLemmas.{answer-refused}
 use Rattle.lp_transition.proofs.Weighing.{answer-fork, born-refused, refused-as, weighed-as}
@@ -40,7 +40,7 @@ pub returns-in_err-born-clause-memory : goal.returns-in_err-born-clause-memory
 returns-in_err-born-clause-memory g c =
     let s = state_in c.args.self.now in
     let accepted = sym (c.in_default.ensures ∙ ap (refusal_of g.M.Consistency.rules s) c.in-Fork.is) in
-    λ _. ap (λ (event : Event). may_want_memory event (answer g.M.Consistency.rules s event).what) c.in-Fork.is
+    λ _. ap (λ (event : Event). may_allocate event (answer g.M.Consistency.rules s event).what) c.in-Fork.is
     ∙ ap is_none (refused-as g.M.Consistency.rules s (Fork c.in-Fork.parent c.in-Fork.child c.in-Fork.how) ∙ accepted)
 
 pub returns-clause-reply : goal.returns-clause-reply

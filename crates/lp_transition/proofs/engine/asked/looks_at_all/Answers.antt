@@ -3,7 +3,7 @@ use Rattle.std.proofs.lemmas.Bool.{not-true, not-false}
 use Rattle.std.proofs.lemmas.List.{map_more, take_all}
 use Rattle.lp_model.specs.declared.verdict.Verdict.{Verdict}
 use Rattle.lp_numbers.specs.Numbers.{has}
-use Rattle.lp_transition.specs.ScanSteps.{tasks_of, passing_at}
+use Rattle.lp_transition.specs.inside.ScanSteps.{tasks_of, passing_at}
 use Rattle.lp_transition.proofs.Passing.{passing-next, passing-on, next_passes, next_below, next_is, next_is_not, walk_differs, walk_ends}
 use Rattle.lp_transition.proofs.AskedScans.{task-at}
 use Rattle.lp_transition.proofs.engine.asked.looks_at_all.Goals as goal

@@ -1,7 +1,7 @@
 use Rattle.std.proofs.Common.{◌≡◌, ℕ, ◌<◌, true, take, ◌++◌, Some}
 use Rattle.lp_numbers.specs.Numbers.{has}
 use Rattle.lp_transition.specs.Scan.{passing}
-use Rattle.lp_transition.specs.ScanSteps.{tasks_of, passing_at}
+use Rattle.lp_transition.specs.inside.ScanSteps.{tasks_of, passing_at}
 use Rattle.lp_transition.proofs.engine.asked.looks_at_all.Given as goal
 
 -- the tasks of the verdicts so far, and those still to come

@@ -2,14 +2,14 @@ use Rattle.std.proofs.Common.{ℕ, ◌+◌, ◌<◌, ◌&&◌, ◌||◌, nat_eq,
 use Rattle.std.specs.List.{list_any}
 use Rattle.lp_numbers.specs.Numbers.{has}
 use Rattle.lp_transition.specs.Table.{slot}
-use Rattle.lp_transition.specs.ScanSteps.{passing_at, task_goes}
+use Rattle.lp_transition.specs.inside.ScanSteps.{passing_at, task_switches}
 use Rattle.lp_transition.proofs.Passing.{passing-next, passing-less, passing-any_more, next_passes}
 use Rattle.lp_transition.proofs.engine.asked.members_of.Goals as goal
 
 pub loop-next-init : goal.loop-next-init
 loop-next-init c = record {
   all = λ task.
-      let p = λ (t : ℕ). nat_eq t task && task_goes (has c.args.groups.now) (slot c.args.tasks.now t) in
+      let p = λ (t : ℕ). nat_eq t task && task_switches (has c.args.groups.now) (slot c.args.tasks.now t) in
       ap (λ b. b || list_any p (passing_at c.member_from-next.result 65536 (has c.args.waiting.now))) (c.in_ok-members.ensures.empty task)
       ∙ ap (list_any p) (sym (passing-next 65536 (has c.args.waiting.now) 0 c.member_from-next.result c.member_from-next.ensures));
   member = next_passes 65536 (has c.args.waiting.now) 0 c.member_from-next.result c.member_from-next.ensures;
@@ -29,7 +29,7 @@ loop-next-preserved c =
     let after = rw c.from.ensures at c.member_from-next-in-Some.ensures in
     record {
       all = λ task.
-          let p = λ (t : ℕ). nat_eq t task && task_goes (has c.args.groups.now) (slot c.args.tasks.now t) in
+          let p = λ (t : ℕ). nat_eq t task && task_switches (has c.args.groups.now) (slot c.args.tasks.now t) in
           ap (λ b. b || list_any p (passing_at c.member_from-next-in-Some.result 65536 (has c.args.waiting.now))) (c.add_member.ensures task)
           ∙ sym (passing-any_more 65536 (has c.args.waiting.now) p c.loop-next.next n c.member_from-next-in-Some.result (has c.loop-next.members task) c.in-Some.is h (c.loop-next.invariant.member n c.in-Some.is) after)
           ∙ c.loop-next.invariant.all task;

@@ -6,7 +6,8 @@ use Rattle.lp_stack.specs.declared.view.Class.{Class}
 use Rattle.lp_stack.specs.declared.view.Class.TheVariants.{Normal}
 use Rattle.lp_transition.specs.Leg.{Standing}
 use Rattle.lp_transition.specs.Run.{at_boot, booted}
-use Rattle.lp_transition.specs.Table.{standings, is_in}
+use Rattle.lp_transition.specs.Table.{standings}
+use Rattle.lp_transition.specs.inside.Table.{is_in}
 use Rattle.lp_transition.proofs.BootLemmas.{ArePut, none_put, one_put}
 use Rattle.lp_transition.proofs.engine.boot.put_all.Goals as goal
 

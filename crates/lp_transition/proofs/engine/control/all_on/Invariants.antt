@@ -1,5 +1,6 @@
 use Rattle.std.proofs.Common.{◌≡◌, ◌<◌, ◌≤◌, ◌-◌, ℕ, false}
-use Rattle.lp_transition.specs.Table.{slot, is_off}
+use Rattle.lp_transition.specs.Table.{slot}
+use Rattle.lp_transition.specs.inside.Table.{is_off}
 use Rattle.lp_transition.proofs.engine.control.all_on.Given as goal
 
 -- no task below the next number is off the level

@@ -1,6 +1,7 @@
 use Rattle.std.proofs.Common.{length, ◌≡◌, ◌<◌, ◌≤◌, ◌-◌, ℕ, false}
 use Rattle.lp_numbers.specs.Numbers.{has}
-use Rattle.lp_transition.specs.Table.{slot, is_off}
+use Rattle.lp_transition.specs.Table.{slot}
+use Rattle.lp_transition.specs.inside.Table.{is_off}
 use Rattle.lp_transition.proofs.engine.control.collect_off.Given as goal
 
 -- the set is right below the next number, and empty from there on

@@ -2,7 +2,7 @@ use Rattle.std.proofs.Common.{◌≡◌, ℕ, true, length, map, ◌++◌, Some}
 use Rattle.lp_numbers.specs.Numbers.{has}
 use Rattle.lp_transition.specs.Events.{group_numbers}
 use Rattle.lp_transition.specs.Scan.{passing}
-use Rattle.lp_transition.specs.ScanSteps.{passing_at}
+use Rattle.lp_transition.specs.inside.ScanSteps.{passing_at}
 use Rattle.lp_transition.proofs.engine.scan.group_list.Given as goal
 
 -- the groups so far, and those still to come

@@ -1,8 +1,9 @@
 use Rattle.std.proofs.Common.{ℕ, ◌+◌, ◌<◌, ◌||◌, sym, ap, ◌∙◌, arith}
 use Rattle.std.specs.List.{list_any}
 use Rattle.lp_numbers.specs.Numbers.{has}
-use Rattle.lp_transition.specs.Table.{slot, is_in}
-use Rattle.lp_transition.specs.ScanSteps.{passing_at}
+use Rattle.lp_transition.specs.Table.{slot}
+use Rattle.lp_transition.specs.inside.Table.{is_in}
+use Rattle.lp_transition.specs.inside.ScanSteps.{passing_at}
 use Rattle.lp_transition.proofs.Passing.{passing-next, passing-less, passing-any_more, next_passes}
 use Rattle.lp_transition.proofs.engine.scan.groups_in.Goals as goal
 

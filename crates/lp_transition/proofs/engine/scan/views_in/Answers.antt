@@ -5,7 +5,7 @@ use Rattle.std.specs.Option.{option_map}
 use Rattle.lp_stack.specs.TaskView.{seen}
 use Rattle.lp_numbers.specs.Numbers.{has}
 use Rattle.lp_transition.specs.Machine.{view_of}
-use Rattle.lp_transition.specs.ScanSteps.{waiting_slot}
+use Rattle.lp_transition.specs.inside.ScanSteps.{waiting_slot}
 use Rattle.lp_transition.proofs.Passing.{passing-next, passing-less, passing-given, passing-left_out, next_passes}
 use Rattle.lp_transition.proofs.engine.scan.views_in.Goals as goal
 use Rattle.lp_transition.proofs.engine.scan.views_in.Goals.{in-Some-waiting_task+in_ok-push, in_default-waiting_task}

@@ -5,7 +5,7 @@ use Rattle.lp_stack.specs.TaskView.{seen}
 use Rattle.lp_numbers.specs.Numbers.{has}
 use Rattle.lp_transition.specs.Machine.{view_of}
 use Rattle.lp_transition.specs.Scan.{passing}
-use Rattle.lp_transition.specs.ScanSteps.{waiting_slot, passing_at}
+use Rattle.lp_transition.specs.inside.ScanSteps.{waiting_slot, passing_at}
 use Rattle.lp_transition.proofs.engine.scan.views_in.Given as goal
 
 -- the views so far, and those still to come

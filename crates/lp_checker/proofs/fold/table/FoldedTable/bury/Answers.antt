@@ -1,5 +1,5 @@
 use Rattle.std.proofs.Common.{◌<◌, arith}
-use Rattle.lp_transition.specs.Slots.{slots_of}
+use Rattle.lp_transition.specs.inside.Slots.{slots_of}
 use Rattle.lp_transition.specs.Table.{Table}
 use Rattle.lp_checker.proofs.Tables.{counted-used, standings-used}
 use Rattle.lp_checker.proofs.fold.table.FoldedTable.bury.Goals as goal

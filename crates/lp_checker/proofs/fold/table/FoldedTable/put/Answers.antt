@@ -1,11 +1,12 @@
 use Rattle.std.proofs.Common.{◌≡◌, ◌<◌, ◌+◌, length, get_or, set, sym, ap, ◌∙◌, subst, arith}
 use Rattle.lp_transition.specs.Leg.{Standing}
-use Rattle.lp_transition.specs.Slots.{slots_of}
-use Rattle.lp_transition.specs.Table.{Table, with_task}
+use Rattle.lp_transition.specs.inside.Slots.{slots_of}
+use Rattle.lp_transition.specs.Table.{Table}
+use Rattle.lp_transition.specs.inside.Table.{with_task}
 use Rattle.lp_transition.proofs.SlotLemmas.{slots_of-set}
 use Rattle.lp_transition.proofs.TableLemmas.{standings-with_task}
 use Rattle.lp_transition.proofs.Births.{value_at}
-use Rattle.lp_checker.specs.Tables.{IsCounted}
+use Rattle.lp_checker.specs.inside.Tables.{IsCounted}
 use Rattle.lp_checker.proofs.Tables.{counted-with_task, counted-few}
 use Rattle.lp_checker.proofs.fold.table.FoldedTable.put.Goals as goal
 

@@ -1,10 +1,11 @@
 use Rattle.std.proofs.Common.{◌≡◌, ◌<◌, ◌+◌, ◌-◌, ◌≤◌, length, is_some, get_or, set, sym, ap, ◌∙◌, subst, arith}
-use Rattle.lp_transition.specs.Slots.{slots_of}
-use Rattle.lp_transition.specs.Table.{Table, without_task}
+use Rattle.lp_transition.specs.inside.Slots.{slots_of}
+use Rattle.lp_transition.specs.Table.{Table}
+use Rattle.lp_transition.specs.inside.Table.{without_task}
 use Rattle.lp_transition.proofs.SlotLemmas.{slots_of-set}
 use Rattle.lp_transition.proofs.TableLemmas.{standings-without_task}
 use Rattle.lp_transition.proofs.Births.{value_at}
-use Rattle.lp_checker.specs.Tables.{IsCounted}
+use Rattle.lp_checker.specs.inside.Tables.{IsCounted}
 use Rattle.lp_checker.proofs.Tables.{counted-without_task, counted-some, group-there}
 use Rattle.lp_checker.proofs.fold.table.FoldedTable.remove.Goals as goal
 

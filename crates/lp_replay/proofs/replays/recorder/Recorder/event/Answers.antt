@@ -17,7 +17,7 @@ returns g c = λ run is.
     let made : Made = c.take.new.maker in
     let is_kept : IsRecorded model run before = subst (IsRecorded model run) (sym c.self.view_is) is in
     let next : IsNext model run c.args.event given c.last_function-top.result = record { in_range = is_kept.stands.in_range; replied = c.in_ok-reply.ensures.step.replies run is_kept.stands; leaves = λ t e. c.last_function-top.ensures run is_kept.stands t e } in
-    let counts : Counts model (plus run c.args.event) c.note.new.self = c.note.ensures.goes_on model g.met.M.Consistency.lawful run is_kept.counts next in
+    let counts : Counts model (plus run c.args.event) c.note.new.self = c.note.ensures.counts model g.met.M.Consistency.lawful run is_kept.counts next in
     let after : List Reply → Recorded = λ replies. record { core = core; made = made; replies = replies; stays = c.note.new.self } in
     subst (λ replies. IsRecorded model (plus run c.args.event) (after replies)) (sym c.in_ok-push.ensures)
     (recorded model run c.args.event before given core made c.note.new.self is_kept counts c.in_ok-reply.ensures.step (c.in_ok-reply.ensures.made run is_kept.stands is_kept.made))

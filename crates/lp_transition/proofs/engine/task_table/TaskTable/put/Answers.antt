@@ -1,6 +1,6 @@
 use Rattle.std.proofs.Common.{◌<◌, refl, arith}
 use Rattle.lp_transition.proofs.SlotLemmas.{slots_of-set, IsTable-put}
-use Rattle.lp_transition.specs.Slots.{slots_of}
+use Rattle.lp_transition.specs.inside.Slots.{slots_of}
 use Rattle.lp_transition.proofs.engine.task_table.TaskTable.put.Goals as goal
 
 pub invariant_of-self : goal.invariant_of-self

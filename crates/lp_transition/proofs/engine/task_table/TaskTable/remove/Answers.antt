@@ -1,5 +1,5 @@
 use Rattle.std.proofs.Common.{◌<◌, refl, arith}
-use Rattle.lp_transition.specs.Slots.{slots_of}
+use Rattle.lp_transition.specs.inside.Slots.{slots_of}
 use Rattle.lp_transition.proofs.SlotLemmas.{slots_of-set, IsTable-remove}
 use Rattle.lp_transition.proofs.engine.task_table.TaskTable.remove.Goals as goal
 

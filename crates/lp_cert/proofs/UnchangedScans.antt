@@ -1,0 +1,234 @@
+-- A group of which a scan refuses a member is settled afterwards, if its newest line goes on.
+use Rattle.std.proofs.Common.{◌≡◌, ◌≢◌, ℕ, zero, suc, ◌+◌, ◌<◌, ◌≤◌, ◌⊎◌, Bool, true, false, not, ◌&&◌, List, ◌∷◌, length, map, Option, Some, None, IsTrue, if◌then◌else◌, nat_eq, refl, sym, ap, ap₂, subst, ◌∙◌, ⊎_elim, arith}
+use Rattle.std.specs.List.{range_with_len}
+use Rattle.std.specs.Option.{option_map}
+use Rattle.std.proofs.lemmas.Bool.{cond-true, eq-eqb, eqb-true, cases_Bool, cases_eq}
+use Rattle.lp_model.specs.declared.check.CheckKind.{CheckKind}
+use Rattle.lp_model.specs.declared.check.CheckKind.TheVariants as kind
+use Rattle.lp_model.specs.declared.check.Blame.{Blame}
+use Rattle.lp_model.specs.Rules.{Rules, IsLawful}
+use Rattle.lp_transition.specs.Tasks.{Fate, Unused, Live, Dead, on_live, first_of}
+use Rattle.lp_transition.specs.Leg.{Standing, State, Leg}
+use Rattle.lp_transition.specs.Run.{and_then, opens}
+use Rattle.lp_transition.specs.Scan.{is_scan_kind, scan_event}
+use Rattle.lp_transition.specs.Sound.{IsSound}
+use Rattle.lp_transition.specs.Machine.{view_of, waits_in, refusal_of, affected, switches_at, with_switches, state_of}
+use Rattle.lp_transition.proofs.Quantifiers.{some_live-from}
+use Rattle.lp_transition.proofs.States.{state_sound}
+use Rattle.lp_cert.specs.declared.line.Line.{Line}
+use Rattle.lp_cert.specs.Certificates.{lines, after_check, after_refusal}
+use Rattle.lp_cert.specs.EventLines.{has_frame_in, blame_in, first_blamed_in}
+use Rattle.lp_cert.specs.Unchanged.{Continues, IsUnchanged, AreUnchanged, says_busy}
+use Rattle.lp_cert.specs.inside.Touched.{is_childs, touched}
+use Rattle.lp_cert.proofs.NextLines.{lines_at_scan}
+use Rattle.lp_cert.proofs.UnchangedLines.{goes_on_after, hold_on, busy_before}
+use Rattle.lp_cert.proofs.UnchangedEvents.{goes_on_as, frames_same, stands_as_before, stands_still, left, alone_still, after_is}
+
+-- ---- Whom a scan refuses first
+
+-- of numbers of which one alone is blamed, it is the first
+first_told : (at : ℕ → Option Blame) (t : ℕ) (why : Blame) → at t ≡ Some why → ((u : ℕ) → u ≢ t → at u ≡ None) → (a n : ℕ) → a ≤ t → t < a + n
+    → first_of {A = ℕ × Blame} (map (λ u. option_map (λ b. (u, b)) (at u)) (range_with_len a n)) ≡ Some (t, why)
+first_told at t why is others a zero low high = absurd (omega arith)
+first_told at t why is others a (suc n) low high =
+    ⊎_elim
+    (λ (same : a ≡ t). ap (λ o. first_of {A = ℕ × Blame} (option_map (λ b. (a, b)) o ∷ rest)) (ap at same ∙ is) ∙ ap (λ u. Some (u, why)) same)
+    (λ (ne : a ≡ t → ⊥).
+    ap (λ o. first_of {A = ℕ × Blame} (option_map (λ b. (a, b)) o ∷ rest)) (others a ne)
+    ∙ first_told at t why is others (a + 1) n (omega (arith, ne)) (omega arith))
+    (cases_eq a t)
+  where
+    rest : List (Option (ℕ × Blame))
+    rest = map (λ u. option_map (λ b. (u, b)) (at u)) (range_with_len (a + 1) n)
+
+some_none : {A : Type 0} (a : A) → Some a ≡ None → ⊥
+some_none a e = absurd (cc)
+
+-- of numbers of which one is blamed, some is the first
+first_found : (at : ℕ → Option Blame) (t : ℕ) (why : Blame) → at t ≡ Some why → (a n : ℕ) → a ≤ t → t < a + n
+    → first_of {A = ℕ × Blame} (map (λ u. option_map (λ b. (u, b)) (at u)) (range_with_len a n)) ≡ None → ⊥
+first_found at t why is a zero low high none = absurd (omega arith)
+first_found at t why is a (suc n) low high none = by (λ ne. first_found at t why is (a + 1) n (omega (arith, ne)) (omega arith)) (at a) refl
+  where
+    rest : List (Option (ℕ × Blame))
+    rest = map (λ u. option_map (λ b. (u, b)) (at u)) (range_with_len (a + 1) n)
+
+    by : ((a ≡ t → ⊥) → first_of {A = ℕ × Blame} rest ≡ None → ⊥) → (o : Option Blame) → at a ≡ o → ⊥
+    by later (Some b) e = some_none (a, b) (sym (ap (λ p. first_of {A = ℕ × Blame} (option_map (λ c. (a, c)) p ∷ rest)) e) ∙ none)
+    by later None e =
+        later (λ (same : a ≡ t). some_none why (sym is ∙ (ap at (sym same) ∙ e)))
+        (sym (ap (λ p. first_of {A = ℕ × Blame} (option_map (λ c. (a, c)) p ∷ rest)) e) ∙ none)
+
+-- a task that waits shows that its group does
+is_waiting : (s : State) (sound : IsSound s) (t : ℕ) (x : Standing) → s.tasks t ≡ Live x → nat_eq x.level s.target ≡ false → IsTrue (waits_in s x.group)
+is_waiting s sound t x live off =
+    let range = sound.numbered t x live in
+    some_live-from s.bounds s.tasks (λ u y. nat_eq y.group x.group && not (nat_eq y.level s.target)) (record {
+      task = t;
+      life = x;
+      positive = range.0;
+      within = range.1;
+      live = live;
+      passed = ap₂ (λ a b. a && not b) (eq-eqb x.group x.group refl) off;
+    })
+
+module _ (model : Rules) (s : State) (on : CheckKind) (t : ℕ) (x : Standing) (live : s.tasks t ≡ Live x) (why : Blame) (refused : model.blame on (view_of t x) s.aim ≡ Some why) where
+  blamed_here : blame_in model s on x.group t ≡ Some why
+  blamed_here =
+      ap (on_live None (λ y. if nat_eq y.group x.group then model.blame on (view_of t y) s.aim else None)) live
+      ∙ (cond-true (nat_eq x.group x.group) (model.blame on (view_of t x) s.aim) None (eq-eqb x.group x.group refl) ∙ refused)
+
+  -- somebody of the group is blamed
+  somebody_blamed : IsSound s → first_blamed_in model s on x.group ≡ None → ⊥
+  somebody_blamed sound none =
+      let range = sound.numbered t x live in
+      first_found (blame_in model s on x.group) t why blamed_here 1 s.bounds.tasks (omega (arith, range.0)) (omega (arith, range.1)) none
+
+  module _ (alone : (u : ℕ) (y : Standing) → s.tasks u ≡ Live y → y.group ≡ x.group → u ≡ t) where
+    not_blamed : (u : ℕ) → u ≢ t → blame_in model s on x.group u ≡ None
+    not_blamed u ne = at (s.tasks u) refl
+      where
+        by : (y : Standing) → s.tasks u ≡ Live y → (b : Bool) → nat_eq y.group x.group ≡ b → (if b then model.blame on (view_of u y) s.aim else None) ≡ None
+        by y there true mine = absurd (ne (alone u y there (eqb-true y.group x.group mine)))
+        by y there false mine = refl
+
+        at : (fate : Fate Standing) → s.tasks u ≡ fate → on_live None (λ y. if nat_eq y.group x.group then model.blame on (view_of u y) s.aim else None) fate ≡ None
+        at Unused e = refl
+        at (Live y) e = by y e (nat_eq y.group x.group) refl
+        at Dead e = refl
+
+    -- a task that is alone in its group and is refused is the one that is blamed
+    lone_blamed : IsSound s → first_blamed_in model s on x.group ≡ Some (t, why)
+    lone_blamed sound =
+        let range = sound.numbered t x live in
+        first_told (blame_in model s on x.group) t why blamed_here not_blamed 1 s.bounds.tasks (omega (arith, range.0)) (omega (arith, range.1))
+
+module _ (model : Rules) (s : State) (sound : IsSound s) (on : CheckKind) (g : ℕ) (ls : List Line) (was : IsUnchanged model on s ls g) where
+  -- a settled group is refused
+  settled_blamed : first_blamed_in model s on g ≡ None → ⊥
+  settled_blamed none = somebody_blamed model s on was.member was.life was.live was.why was.refused sound (ap (first_blamed_in model s on) was.grouped ∙ none)
+
+  busy_blamed : says_busy ls ≡ true → first_blamed_in model s on g ≡ Some (was.member, was.why)
+  busy_blamed busy =
+      ap (first_blamed_in model s on) (sym was.grouped)
+      ∙ lone_blamed model s on was.member was.life was.live was.why was.refused (λ u y there mine. was.alone busy u y there (mine ∙ was.grouped)) sound
+
+  -- whoever of it is blamed, its newest line goes on
+  pub blamed_alike : (at : ℕ) (blamed : ℕ × Blame) → first_blamed_in model s on g ≡ Some blamed → after_refusal (has_frame_in s) g at blamed ls ≡ after_refusal (has_frame_in s) g at (was.member, was.why) ls
+  blamed_alike at blamed first =
+      ⊎_elim
+      (λ (busy : says_busy ls ≡ true).
+      let told : Some blamed ≡ Some (was.member, was.why) = sym first ∙ busy_blamed busy in
+      let same : blamed ≡ (was.member, was.why) = cc in
+      ap (λ b. after_refusal (has_frame_in s) g at b ls) same)
+      (λ (hold : says_busy ls ≡ false). hold_on (has_frame_in s) g at was.member was.why blamed ls was.continues hold)
+      (cases_Bool (says_busy ls))
+
+-- ---- A scan
+
+scan_free : (model : Rules) (s : State) (on : CheckKind) → refusal_of model s (scan_event on) ≡ None
+unfolding refusal_of
+scan_free model s kind.Walk = refl
+scan_free model s kind.Stop = refl
+scan_free model s kind.KernelExit = refl
+scan_free model s kind.IdlePoint = refl
+
+scan_opens_none : (model : Rules) (leg : Leg) (on : CheckKind) → opens model leg (scan_event on) ≡ false
+scan_opens_none model leg kind.Walk = refl
+scan_opens_none model leg kind.Stop = refl
+scan_opens_none model leg kind.KernelExit = refl
+scan_opens_none model leg kind.IdlePoint = refl
+
+scan_touches_none : (on : CheckKind) (t : ℕ) → touched (scan_event on) ≡ Some t → ⊥
+scan_touches_none kind.Walk t e = some_none t (sym e)
+scan_touches_none kind.Stop t e = some_none t (sym e)
+scan_touches_none kind.KernelExit t e = some_none t (sym e)
+scan_touches_none kind.IdlePoint t e = some_none t (sym e)
+
+scan_bears_none : (on : CheckKind) (t : ℕ) → is_childs (scan_event on) t ≡ false
+scan_bears_none kind.Walk t = refl
+scan_bears_none kind.Stop t = refl
+scan_bears_none kind.KernelExit t = refl
+scan_bears_none kind.IdlePoint t = refl
+
+module _ (model : Rules) (lawful : IsLawful model) (leg : Leg) (leg_sound : IsSound leg.opening) (on : CheckKind) (scan : is_scan_kind on ≡ true) (used : IsTrue (model.uses on)) where
+  abbrev s : State
+  s = state_of model leg
+
+  abbrev n : ℕ
+  n = length leg.events
+
+  abbrev longer : Leg
+  longer = and_then leg (scan_event on)
+
+  abbrev pub after : State
+  after = with_switches model s (scan_event on)
+
+  -- the state after the scan
+  pub after_scan_is : state_of model longer ≡ after
+  after_scan_is = after_is model lawful leg leg_sound (scan_event on) (scan_opens_none model leg on) (scan_free model s on)
+
+  module _ (t : ℕ) (x : Standing) (live : s.tasks t ≡ Live x) (off : nat_eq x.level s.target ≡ false) where
+    abbrev before : List Line
+    before = lines model leg n x.group
+
+    abbrev further : List Line
+    further = lines model longer (suc n) x.group
+
+    further_is : (was : IsUnchanged model on s before x.group) → further ≡ after_refusal (has_frame_in s) x.group (suc s.number) (was.member, was.why) before
+    further_is was =
+        lines_at_scan model leg on x.group scan used (is_waiting s (state_sound model lawful leg leg_sound) t x live off)
+        ∙ by (first_blamed_in model s on x.group) refl
+      where
+        by : (o : Option (ℕ × Blame)) → first_blamed_in model s on x.group ≡ o
+            → after_check (has_frame_in s) x.group (suc s.number) (first_blamed_in model s on x.group) before ≡ after_refusal (has_frame_in s) x.group (suc s.number) (was.member, was.why) before
+        by None none = absurd (settled_blamed model s (state_sound model lawful leg leg_sound) on x.group before was none)
+        by (Some blamed) first =
+            ap (λ o. after_check (has_frame_in s) x.group (suc s.number) o before) first
+            ∙ blamed_alike model s (state_sound model lawful leg leg_sound) on x.group before was (suc s.number) blamed first
+
+    -- a settled group's line goes on with the scan
+    settled_goes_on : IsUnchanged model on s before x.group → IsUnchanged model on s further x.group
+    settled_goes_on was = record {
+      member = was.member;
+      life = was.life;
+      live = was.live;
+      grouped = was.grouped;
+      why = was.why;
+      refused = was.refused;
+      continues = subst (Continues (has_frame_in s) was.member was.why) (sym (further_is was)) (goes_on_after (has_frame_in s) x.group (suc s.number) was.member was.why before was.continues);
+      alone = λ busy.
+          was.alone (busy_before (has_frame_in s) x.group (suc s.number) was.member was.why before was.continues (ap says_busy (sym (further_is was)) ∙ busy));
+    }
+
+    -- settled before the scan, or by it with a line that goes on from now
+    settled_now : IsUnchanged model on s before x.group ⊎ IsUnchanged model on s further x.group → IsUnchanged model on s further x.group
+    settled_now either = ⊎_elim settled_goes_on (λ (is : IsUnchanged model on s further x.group). is) either
+
+  module _ (new : ℕ → Bool)
+      (unchanged : (t : ℕ) (x : Standing) → s.tasks t ≡ Live x → nat_eq x.level s.target ≡ false → after.tasks t ≡ Live x → new x.group ≡ false
+      → IsUnchanged model on s (lines model leg n x.group) x.group ⊎ IsUnchanged model on s (lines model longer (suc n) x.group) x.group) where
+    switched_settled : AreUnchanged model after (lines model longer (suc n)) on new
+    switched_settled t x live off out =
+        let event = scan_event on in
+        let before = stands_as_before model s event t x (scan_touches_none on t) (scan_bears_none on t) live off in
+        let is = settled_now t x before off (unchanged t x before off live out) in
+        let stays : switches_at model (affected model s event) event is.life.group ≡ false = ap (switches_at model (affected model s event) event) is.grouped ∙ (left model s event t x live off).1 in
+        let there = stands_still model s event is.member is.life (scan_touches_none on is.member) (scan_bears_none on is.member) is.live stays in
+        record {
+          member = is.member;
+          life = is.life;
+          live = there;
+          grouped = is.grouped;
+          why = is.why;
+          refused = is.refused;
+          continues = goes_on_as (has_frame_in s) (has_frame_in after) is.member is.why (lines model longer (suc n) x.group) (frames_same s after is.member is.life is.live there) is.continues;
+          alone = λ busy u y there_u mine.
+              alone_still model s event lawful (state_sound model lawful leg leg_sound) is.member is.life is.live (λ v z live_v same. is.alone busy v z live_v (same ∙ is.grouped)) (scan_free model s on) (scan_touches_none on is.member) u y there_u (mine ∙ sym is.grouped);
+        }
+
+    -- a group that a scan leaves waiting with a line that goes on is settled
+    pub scan_settles : AreUnchanged model (state_of model longer) (lines model longer (suc n)) on new
+    scan_settles =
+        subst (λ st. AreUnchanged model st (lines model longer (suc n)) on new)
+        (sym after_scan_is) switched_settled

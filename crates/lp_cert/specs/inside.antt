@@ -1,0 +1,9 @@
+-- What code and proofs share and no public contract names.
+pub mod Chains
+pub mod StepLines
+pub mod Heads
+pub mod Invariant
+pub mod Parts
+pub mod LastScan
+pub mod Touched
+pub mod Waiters

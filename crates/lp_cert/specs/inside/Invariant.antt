@@ -1,0 +1,104 @@
+-- What holds of a maker between events, and what an event makes of the leg under way.
+use Rattle.std.specs.Prelude.{◌≡◌, ℕ, ◌+◌, ◌-◌, ◌<◌, Bool, true, false, List, [], ◌∷◌, length, map, reverse, Option, Some, None, IfSome, IsSome, if◌then◌else◌}
+use Rattle.std.specs.Option.{option_map}
+use Rattle.lp_stack.specs.declared.number.GroupId.{GroupId}
+use Rattle.lp_numbers.specs.Numbers.{has, IsNextFrom}
+use Rattle.lp_model.specs.Rules.{Rules}
+use Rattle.lp_transition.specs.Table.{Engine}
+use Rattle.lp_transition.specs.Weigh.{Weighed, refusal_in}
+use Rattle.lp_cert.specs.declared.cert.Claim.{Claim}
+use Rattle.lp_cert.specs.declared.cert.Cert.{Cert}
+use Rattle.lp_cert.specs.declared.line.Line.{Line}
+use Rattle.lp_cert.specs.declared.reason.Reason.{Reason}
+use Rattle.lp_cert.specs.declared.head.Waiter.{Waiter}
+use Rattle.lp_cert.specs.declared.leg_end.LegEnd.{LegEnd}
+use Rattle.lp_cert.specs.declared.open_leg.Completion.{Completion}
+use Rattle.lp_cert.specs.declared.open_leg.OpenLeg.{OpenLeg}
+use Rattle.lp_cert.specs.declared.maker.Closing.{Closing}
+use Rattle.lp_cert.specs.declared.maker.Ready.{Ready}
+use Rattle.lp_cert.specs.inside.StepLines.{stepped_lines}
+use Rattle.lp_cert.specs.LastScan.{LastScan, used_scan}
+use Rattle.lp_cert.specs.inside.LastScan.{IsLastScanAfter}
+use Rattle.lp_cert.specs.Waiters.{WaitingGroups, kept_cert}
+use Rattle.lp_cert.specs.inside.Waiters.{AreHeads, AreStanding, HasFewGroups, lines_at}
+use Rattle.lp_cert.specs.Invariant.{claim_of, upto_of, floor_waiters, end_waiters}
+
+-- the certificate of a group with these lines, the newest in front
+abbrev pub waiting_cert : Claim → (leg upto : ℕ) → GroupId → List Line → Cert
+waiting_cert claim leg upto group lines = record { claim = claim; leg = leg; group = group; upto = upto; lines = reverse lines }
+
+abbrev pub current_waiters : Option OpenLeg → WaitingGroups → List Waiter
+current_waiters None waiters = []
+current_waiters (Some leg) waiters = end_waiters leg.completed waiters
+
+-- the end of the leg under way after so many events, if there is one, with these groups' certificates
+abbrev pub ends_with : ℕ → Option OpenLeg → List (List Reason) → List ℕ → List Waiter → List LegEnd
+ends_with noted None lists scans waiters = []
+ends_with noted (Some leg) lists scans waiters =
+    record {
+      opened = leg.opened;
+      target = leg.target;
+      completed = option_map (λ done. done.at) leg.completed;
+      certs = map (kept_cert (claim_of leg.completed) leg.opened (upto_of noted leg.completed) lists scans) waiters;
+    } ∷ []
+
+-- the group of the floor has reasons
+abbrev pub HasFloor : WaitingGroups → Option Completion → Type 0
+HasFloor waiters None = Unit {0}
+HasFloor waiters (Some done) = AreHeads waiters.reasons.lists (length waiters.reasons.scans) (floor_waiters waiters.reasons done.floor)
+
+abbrev pub HasFloors : WaitingGroups → Option OpenLeg → Type 0
+HasFloors waiters None = Unit {0}
+HasFloors waiters (Some leg) = HasFloor waiters leg.completed
+
+-- what the leg under way leaves where it ends now
+pub record IsClosing (current : Option OpenLeg) (waiters : WaitingGroups) (closing : Closing) : Type 0 where
+  pub lists : closing.chains.lists ≡ waiters.reasons.lists
+  pub scans : closing.scans.items ≡ waiters.reasons.scans
+  pub all : closing.waiters.items ≡ current_waiters current waiters
+  pub heads : AreHeads closing.chains.lists (length closing.scans.items) closing.waiters.items
+
+-- there is room for the event: for its reasons and its scan and, if it opens a leg, for the end of the one under way
+pub record IsReady (current : Option OpenLeg) (waiters : WaitingGroups) (ended_room : ℕ) (ready : Ready) : Type 0 where
+  pub room : ready.verdicts + 1 < waiters.reasons.room
+  pub scan_room : 0 < waiters.reasons.scan_room
+  pub end_room : 0 < ended_room
+  pub closing : IfSome ready.closing (IsClosing current waiters)
+
+abbrev pub IfReady : Option OpenLeg → WaitingGroups → ℕ → Option Ready → Type 0
+IfReady current waiters ended_room None = Unit {0}
+IfReady current waiters ended_room (Some ready) = IsReady current waiters ended_room ready
+
+pub record IsMaker (current : Option OpenLeg) (waiters : WaitingGroups) (ended_room : ℕ) (ready : Option Ready) : Type 0 where
+  pub floors : HasFloors waiters current
+  pub for_event : IfReady current waiters ended_room ready
+
+-- the leg that opens with this event, with the level to which it goes
+abbrev pub leg_at : (number level : ℕ) → Bool → OpenLeg
+leg_at number level completed =
+    record {
+      opened = number;
+      target = record { 0 = level };
+      completed = if completed then Some (record { at = number; floor = None }) else None;
+    }
+
+-- the leg after an event: a complete leg stays, one that completes keeps its least group, and any other has the next lines
+pub record IsStepped (model : Rules) (e : Engine) (step : Weighed) (number : ℕ) (old new : OpenLeg) (before after : WaitingGroups) : Type 0 where
+  pub complete : (done : Completion) → old.completed ≡ Some done → (new ≡ old) × (after ≡ before)
+  pub completes :
+      old.completed ≡ None → step.reply.completed ≡ true →
+      (floor : Option GroupId) × (new ≡ record old { completed = Some (record { at = number; floor = floor }) }) × (after ≡ before)
+      × IsNextFrom (has before.groups) 0 (option_map (λ group. group.0) floor) × IfSome floor (λ group. group.0 < 65536)
+  pub continues :
+      old.completed ≡ None → step.reply.completed ≡ false →
+      (new ≡ old) × ((group : ℕ) → lines_at after group ≡ stepped_lines model e step before group)
+      × (refusal_in step.reply.what ≡ None → HasFewGroups e step.event)
+      × (IsSome (used_scan model step.event) → refusal_in step.reply.what ≡ None → AreStanding before)
+
+-- which groups are unchanged after an event: none of a leg that is complete, and else as the event goes
+pub record IsUnchangedOn (model : Rules) (e : Engine) (step : Weighed) (old : OpenLeg) (after : WaitingGroups) (was is : LastScan) : Type 0 where
+  pub complete : (done : Completion) → old.completed ≡ Some done → is.kind ≡ None
+  pub completes : old.completed ≡ None → step.reply.completed ≡ true → is.kind ≡ None
+  pub continues :
+      old.completed ≡ None → step.reply.completed ≡ false →
+      AreStanding after × IsLastScanAfter model e step.event step.verdicts after.reasons was is

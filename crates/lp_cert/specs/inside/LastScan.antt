@@ -1,0 +1,88 @@
+-- Which groups a scan or any other event leaves unchanged.
+use Rattle.std.specs.Prelude.{◌≡◌, ◌⊎◌, ℕ, ◌<◌, Bool, true, false, not, ◌&&◌, ◌||◌, List, nat_eq, nat_lt, Option, Some, None, is_some}
+use Rattle.std.specs.List.{list_any}
+use Rattle.lp_numbers.specs.Numbers.{Numbers, has}
+use Rattle.lp_model.specs.Rules.{Rules}
+use Rattle.lp_model.specs.declared.check.Blame.{Blame}
+use Rattle.lp_model.specs.declared.check.CheckKind.{CheckKind}
+use Rattle.lp_model.specs.declared.verdict.Verdict.{Verdict}
+use Rattle.lp_transition.specs.declared.event.Event.{Event}
+use Rattle.lp_transition.specs.Leg.{Standing}
+use Rattle.lp_transition.specs.Table.{Engine, slot, state_in}
+use Rattle.lp_transition.specs.inside.Table.{is_in}
+use Rattle.lp_cert.specs.declared.ongoing.Ongoing.{Ongoing}
+use Rattle.lp_cert.specs.declared.ongoing.Ongoing.TheVariants.{Nothing, Hold, Busy}
+use Rattle.lp_cert.specs.inside.Heads.{is_busy}
+use Rattle.lp_cert.specs.inside.Touched.{touched, is_childs}
+use Rattle.lp_cert.specs.EventLines.{has_frame_in}
+use Rattle.lp_cert.specs.Waiters.{LegReasons, head_of}
+use Rattle.lp_cert.specs.inside.Waiters.{is_lone}
+use Rattle.lp_cert.specs.LastScan.{LastScan, used_scan}
+
+-- the reason continues if this task is refused so
+abbrev pub continues_by : (has_frame : (task serial : ℕ) → Bool) → (task : ℕ) → Blame → Ongoing → Bool
+continues_by has_frame t why Nothing = false
+continues_by has_frame t why (Hold task serial from) = nat_eq task.0 t && has_frame task.0 serial
+continues_by has_frame t why (Busy task first) = nat_eq task.0 t && is_busy why
+
+abbrev pub says_busy_on : Ongoing → Bool
+says_busy_on (Busy task first) = true
+says_busy_on _ = false
+
+abbrev pub refuses_as_before : Engine → LegReasons → (group : ℕ) → ℕ → Option Blame → Option Standing → Bool
+refuses_as_before e reasons group t (Some why) (Some x) =
+    (nat_eq x.group group && nat_lt x.group 65536)
+    && (continues_by (has_frame_in (state_in e)) t why (head_of reasons x.group).ongoing
+    && (not (says_busy_on (head_of reasons x.group).ongoing) || is_lone e t x.group))
+refuses_as_before e reasons group t _ _ = false
+
+-- the verdict leaves the group unchanged: its task is refused, and is the member that the group's newest reason names, which
+-- continues if it is refused so again; a busy one is the only member
+abbrev pub leaves_unchanged : Engine → LegReasons → (group : ℕ) → Verdict → Bool
+leaves_unchanged e reasons group verdict = refuses_as_before e reasons group verdict.task.0 verdict.blame (slot e.table verdict.task.0)
+
+-- the verdict's task is a member of the group
+abbrev pub is_of_group : Engine → (group : ℕ) → Verdict → Bool
+is_of_group e group verdict = is_in group (slot e.table verdict.task.0)
+
+-- of a group outside the set no verdict is of a member, or a verdict leaves it unchanged
+abbrev pub AreKeptApart : Engine → LegReasons → List Verdict → Numbers → Type 0
+AreKeptApart e reasons verdicts changed_since =
+    (group : ℕ) → has changed_since group ≡ false →
+    (list_any (is_of_group e group) verdicts ≡ false) ⊎ (list_any (leaves_unchanged e reasons group) verdicts ≡ true)
+
+-- the reason names the task
+abbrev pub names : Ongoing → (task : ℕ) → Bool
+names Nothing t = false
+names (Hold task serial from) t = nat_eq task.0 t
+names (Busy task first) t = nat_eq task.0 t
+
+abbrev pub names_member : LegReasons → (task group : ℕ) → Option Standing → Bool
+names_member reasons t group None = false
+names_member reasons t group (Some x) = nat_eq group x.group && names (head_of reasons group).ongoing t
+
+-- the task is the member of the group that its newest reason names
+abbrev pub is_named : Engine → LegReasons → (task group : ℕ) → Bool
+is_named e reasons t group = names_member reasons t group (slot e.table t)
+
+abbrev pub is_named_task : Engine → LegReasons → Option ℕ → (group : ℕ) → Bool
+is_named_task e reasons None group = false
+is_named_task e reasons (Some t) group = is_named e reasons t group
+
+-- something happens at the event to the member of the group that its newest reason names, or the group is a child's own
+abbrev pub disturbs : Engine → LegReasons → Event → (group : ℕ) → Bool
+disturbs e reasons event group = is_named_task e reasons (touched event) group || is_childs event group
+
+-- the groups that the event disturbs are unchanged no longer
+pub record IsTouched (e : Engine) (reasons : LegReasons) (event : Event) (old new : LastScan) : Type 0 where
+  pub kind : new.kind ≡ old.kind
+  pub groups : (group : ℕ) → has new.changed_since group ≡ (has old.changed_since group || (is_some old.kind && disturbs e reasons event group))
+  -- reasons are kept of the group to whose member something happens
+  pub few : is_some old.kind ≡ true → (t : ℕ) (x : Standing) → touched event ≡ Some t → slot e.table t ≡ Some x → x.group < 65536
+
+-- after an event that opens no leg, with the reasons after it
+pub record IsLastScanAfter (model : Rules) (e : Engine) (event : Event) (verdicts : List Verdict) (reasons : LegReasons) (old new : LastScan) : Type 0 where
+  pub others : used_scan model event ≡ None → IsTouched e reasons event old new
+  pub scan :
+      (kind : CheckKind) → used_scan model event ≡ Some kind →
+      (new.kind ≡ Some kind) × AreKeptApart e reasons verdicts new.changed_since

@@ -1,0 +1,145 @@
+//! The groups that wait, as events come.
+ghost use Rattle.std.specs.Prelude.{◌≡◌, ◌+◌, ◌<◌, ◌≤◌, ℕ, suc, [], length, IsTrue, IsSome, IsNone};
+ghost use Rattle.std.specs.List.{AllByRecursion};
+ghost use Rattle.lp_transition.specs.Events.{group_numbers};
+ghost use Rattle.lp_transition.specs.inside.ScanSteps.{groups_of};
+ghost use Rattle.lp_transition.specs.Table.{state_in};
+ghost use Rattle.lp_transition.specs.Weigh.{IsWeighed, refusal_in};
+ghost use Rattle.lp_cert.specs.LastScan.{used_kind, used_scan};
+ghost use Rattle.lp_cert.specs.inside.LastScan.{IsLastScanAfter};
+ghost use Rattle.lp_cert.specs.inside.StepLines.{stepped_lines, after_scan_kind, noted_lines};
+ghost use Rattle.lp_cert.specs.inside.Waiters.{AreStanding, HasFewGroups, IsUsedVerdict, after_switch, lines_at, own_lines};
+
+use crate::head::OwnFork;
+use crate::unchanged::Unchanged;
+use crate::waiters::Waiters;
+use lp_model::{CheckKind, Consistency, ForkKind, Verdict};
+use lp_stack::{GroupId, TaskId};
+use lp_transition::{Core, Event, Step, What};
+
+impl Waiters {
+    /// An event that was weighed and opens no leg. Never allocates.
+    pub(crate) fn step_waiters<M: Consistency>(
+        &mut self,
+        core: &Core<M>,
+        step: &Step,
+        unchanged: &mut Unchanged,
+    )
+        requires weighed { IsWeighed M.rules core.now step.now }
+        requires room { length step.now.verdicts + 1 < self.old.reasons.room }
+        requires scan_room { 0 < self.old.reasons.scan_room }
+        ensures lines { (group : ℕ) → lines_at self.new group ≡ stepped_lines M.rules core.now step.now self.old group }
+        ensures few { IsNone (refusal_in step.now.reply.what) → HasFewGroups core.now step.now.event }
+        ensures stood { IsSome (used_scan M.rules step.now.event) → IsNone (refusal_in step.now.reply.what) → AreStanding self.old }
+        ensures stands { AreStanding self.new }
+        ensures unchanged { IsLastScanAfter M.rules core.now step.now.event step.now.verdicts self.new.reasons unchanged.old unchanged.new }
+    {
+        let what = &step.reply().what;
+        if !matches!(what, What::Refused(_)) {
+            self.affect(core, step);
+            self.switch(what);
+        }
+        unchanged.note(core, step.event(), step.verdicts(), self.reasons());
+    }
+
+    /// The own effect of an accepted event. Never allocates.
+    fn affect<M: Consistency>(&mut self, core: &Core<M>, step: &Step)
+        requires weighed { IsWeighed M.rules core.now step.now }
+        requires room { length step.now.verdicts + 1 < self.old.reasons.room }
+        requires scan_room { 0 < self.old.reasons.scan_room }
+        ensures lines { (group : ℕ) → lines_at self.new group ≡ noted_lines M.rules core.now step.now.event step.now.verdicts self.old group }
+        ensures few { HasFewGroups core.now step.now.event }
+        ensures stood { IsSome (used_scan M.rules step.now.event) → AreStanding self.old }
+    {
+        let _ = &self;
+        let at = core.events() + 1;
+        match step.event() {
+            Event::Walk => self.scan_of(core, CheckKind::Walk, at, step.verdicts()),
+            Event::Stop => self.scan_of(core, CheckKind::Stop, at, step.verdicts()),
+            Event::Fork(parent, child, how) => self.fork(core, parent, child, how, at),
+            Event::Die(task) => self.die(core, task),
+            _ => {}
+        }
+    }
+
+    /// A scan of this kind. Never allocates.
+    fn scan_of<M: Consistency>(
+        &mut self,
+        core: &Core<M>,
+        kind: CheckKind,
+        at: u64,
+        verdicts: &[Verdict],
+    )
+        requires used { IsTrue (M.rules.uses kind) → AllByRecursion IsUsedVerdict verdicts.now }
+        requires room { length verdicts.now ≤ self.old.reasons.room }
+        requires scan_room { 0 < self.old.reasons.scan_room }
+        requires at { at ≡ suc (state_in core.now).number }
+        ensures lines { (group : ℕ) → lines_at self.new group ≡ after_scan_kind (state_in core.now) (used_kind M.rules kind) verdicts.now self.old group }
+        ensures stood { IsSome (used_kind M.rules kind) → AreStanding self.old }
+    {
+        if core.model().uses(kind) {
+            self.scan(core, at, verdicts);
+        }
+    }
+
+    /// A child of a group that waits was born on its level, so what kept its parent's group back is
+    /// why it waits too. Never allocates.
+    fn fork<M: Consistency>(
+        &mut self,
+        core: &Core<M>,
+        parent: TaskId,
+        child: TaskId,
+        how: ForkKind,
+        at: u64,
+    )
+        requires room { 1 < self.old.reasons.room }
+        requires at { at ≡ suc core.now.number }
+        ensures lines { (group : ℕ) → lines_at self.new group ≡ own_lines M.rules core.now (Event.Fork parent child how) [] (lines_at self.old) group }
+        ensures few { HasFewGroups core.now (Event.Fork parent child how) }
+    {
+        let Some(group) = core.group_of(parent) else {
+            return;
+        };
+        let born = core.model().child_group(group, child, how);
+        if born.0 != child.0 || !self.waits(group) {
+            return;
+        }
+        let birth = OwnFork {
+            child: born,
+            parent,
+            at,
+        };
+        self.bear(group, &birth);
+    }
+
+    /// An accepted end of a task: its group waits no longer where it was the only member. Never
+    /// allocates.
+    fn die<M: Consistency>(&mut self, core: &Core<M>, task: TaskId)
+        ensures { (group : ℕ) → lines_at self.new group ≡ own_lines M.rules core.now (Event.Die task) [] (lines_at self.old) group }
+    {
+        let Some(group) = core.group_of(task) else {
+            return;
+        };
+        if core.is_alone(task) {
+            self.switch_one(group);
+        }
+    }
+
+    /// The groups that an event switched wait no longer. Never allocates.
+    fn switch(&mut self, what: &What)
+        ensures { (group : ℕ) → lines_at self.new group ≡ after_switch (groups_of what.now) (lines_at self.old) group }
+    {
+        if let What::Switched(groups) = what {
+            self.switch_all(groups.as_slice());
+        }
+    }
+
+    /// These groups wait no longer. Never allocates.
+    fn switch_all(&mut self, groups: &[GroupId])
+        ensures { (group : ℕ) → lines_at self.new group ≡ after_switch (group_numbers groups.now) (lines_at self.old) group }
+    {
+        for group in groups {
+            self.switch_one(*group);
+        }
+    }
+}

@@ -1,0 +1,86 @@
+-- What a call and a return do to what a count keeps. The code is proved against these definitions, and they against
+-- the stays of runs; no public contract names them.
+use Rattle.std.specs.Prelude.{ℕ, zero, suc, ◌+◌, ◌-◌, min, Bool, not, ◌&&◌, ◌||◌, length, Option, Some, None, if◌then◌else◌, nat_eq, nat_le, slice_set}
+use Rattle.lp_symbols.specs.declared.sym_id.SymId.{SymId}
+use Rattle.lp_patch.specs.Patches.{patch_has}
+use Rattle.lp_transition.specs.declared.event.Event.{Event}
+use Rattle.lp_transition.specs.declared.event.Event.TheVariants.{Call, Ret}
+use Rattle.lp_transition.specs.declared.reply.What.{What}
+use Rattle.lp_transition.specs.declared.reply.What.TheVariants.{Ran, Refused}
+use Rattle.lp_stays.specs.Invariant.{Ongoing, Counted, outside, place, kept}
+
+-- ---- The stay that one task is in, for one patch
+
+abbrev pub is_outside : Ongoing → Bool
+is_outside x = nat_eq x.frames 0
+
+-- both sides ran
+abbrev pub is_both : Ongoing → Bool
+is_both x = x.new && x.old
+
+-- after a call of the patch's functions, which ran the new side or the old
+abbrev pub called : Bool → Ongoing → Ongoing
+called side x = record { frames = min (x.frames + 1) 255; old = x.old || not side; new = x.new || side }
+
+-- after a return from one
+abbrev pub returned : Ongoing → Ongoing
+returned x = if nat_le x.frames 1 then outside else record x { frames = x.frames - 1 }
+
+-- ---- All of them, and the counts
+
+abbrev pub one_if : Bool → ℕ
+one_if b = if b then 1 else 0
+
+abbrev pub begins : Ongoing → ℕ
+begins x = one_if (is_outside x)
+
+-- the call makes the stay a mixed one
+abbrev pub mixes : Bool → Ongoing → ℕ
+mixes side x = one_if (is_both (called side x) && not (is_both x))
+
+-- a call of a patch's function, on its new side or its old
+abbrev pub after_call : ℕ → ℕ → Bool → Counted → Counted
+after_call below t side count =
+    let x = kept count below t in
+    record count {
+      stays = count.stays + begins x;
+      mixed = count.mixed + mixes side x;
+      present = slice_set count.present (place below t) (called side x);
+    }
+
+-- a return from one
+abbrev pub after_return : ℕ → ℕ → Counted → Counted
+after_return below t count =
+    record count { present = slice_set count.present (place below t) (returned (kept count below t)) }
+
+-- a call of any function at a level, in as many of the patches, from the lowest
+unfoldable pub calls : ℕ → ℕ → ℕ → ℕ → Counted → Counted
+calls zero t func level count = count
+calls (suc below) t func level count =
+    let before = calls below t func level count in
+    if patch_has count.patches (suc below) func then after_call below t (nat_le (suc below) level) before else before
+
+-- a return from any function
+unfoldable pub returns : ℕ → ℕ → ℕ → Counted → Counted
+returns zero t func count = count
+returns (suc below) t func count =
+    let before = returns below t func count in
+    if patch_has count.patches (suc below) func then after_return below t before else before
+
+abbrev pub one_more : Counted → Counted
+one_more count = record count { noted = count.noted + 1 }
+
+abbrev pub by_return : ℕ → What → Option SymId → Counted → Counted
+by_return t (Refused why) top count = count
+by_return t _ None count = count
+by_return t _ (Some func) count = returns (length count.patches) t func.0 count
+
+abbrev pub by_call : ℕ → SymId → What → Counted → Counted
+by_call t func (Ran level) count = calls (length count.patches) t func.0 level.0 count
+by_call t func _ count = count
+
+-- after an event with what it did, and the function of its task's last frame before it
+abbrev pub after_event : Event → What → Option SymId → Counted → Counted
+after_event (Call t func) what top count = by_call t.0 func what (one_more count)
+after_event (Ret t) what top count = by_return t.0 what top (one_more count)
+after_event _ what top count = one_more count

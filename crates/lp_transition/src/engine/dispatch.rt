@@ -1,0 +1,216 @@
+//! The events of a run: each is weighed, and taken as it was answered.
+ghost use Rattle.std.specs.Prelude.{◌≡◌, ◌≤◌, ◌<◌, ◌↔◌, map, true, false, None, Some, Err, IfOk, OnErr, IsTrue};
+ghost use Rattle.std.specs.Option.{option_map};
+ghost use Rattle.lp_stack.specs.TaskView.{seen};
+ghost use Rattle.lp_patch.specs.Aimed.{aimed};
+ghost use Rattle.lp_transition.specs.declared.engine.step.Halt.TheVariants.{NoMemory, JournalFull};
+ghost use Rattle.lp_transition.specs.Events.{is_scan};
+ghost use Rattle.lp_transition.specs.Scan.{is_scan_kind, scan_event, verdict_of, verdicts_of, verdicts_used};
+ghost use Rattle.lp_transition.specs.Steps.{IsStep};
+ghost use Rattle.lp_transition.specs.Table.{state_in};
+ghost use Rattle.lp_transition.specs.Weigh.{IsWeighed, born_of, is_switched, may_allocate, refusal_in, verdicts_for};
+ghost use Rattle.lp_transition.specs.Machine.{refusal_of, answer, next};
+
+use super::live_task::LiveTask;
+use super::step::{Halt, Step};
+use super::{Core, MOST_EVENTS};
+use crate::{Event, Refusal, Reply, What};
+use lp_model::{CheckKind, Consistency, Verdict};
+use lp_patch::Aim;
+use lp_stack::{TaskId, View};
+use std::alloc::{AllocError, Global};
+
+impl<M: Consistency> Core<M> {
+    ghost use Rattle.std.specs.Prelude.{Box};
+    ghost use Rattle.std.specs.Global.{Global};
+    ghost use Rattle.lp_transition.specs.Leg.{Standing};
+
+    /// One event: answers and takes it. Where it fails the engine is as it was: NoMemory where an
+    /// allocation failed, which may be at scans, at accepted forks, and at exits and idle points
+    /// that switch a group, and JournalFull where no event is left.
+    #[inline(always)]
+    pub fn step(&mut self, alloc: Global, event: Event) -> Result<Reply, Halt>
+        ensures full { (result ≡ Err JournalFull) ↔ (1000000 ≤ self.old.number) }
+        ensures memory { result ≡ Err NoMemory → IsTrue (may_allocate event (answer M.rules (state_in self.old) event).what) }
+        ensures step { IfOk result (λ reply. IsStep M.rules (state_in self.old) event reply (state_in self.new)) }
+        ensures unchanged { OnErr result (self.new ≡ self.old) }
+    {
+        match event {
+            Event::Call(task, func) if self.has_room() => Ok(self.step_call(task, func)),
+            Event::Ret(task) if self.has_room() => Ok(self.step_ret(task)),
+            Event::Sleep(task) if self.has_room() => Ok(self.step_sleep(task)),
+            Event::Wake(task) if self.has_room() => Ok(self.step_wake(task)),
+            Event::Enter(task) if self.has_room() => Ok(self.step_enter(task)),
+            _ => self.step_weighed(alloc, event),
+        }
+    }
+
+    /// Out of line, so that a plain event pays nothing for what scans, forks and legs need.
+    #[inline(never)]
+    fn step_weighed(&mut self, alloc: Global, event: Event) -> Result<Reply, Halt>
+        ensures full { (result ≡ Err JournalFull) ↔ (1000000 ≤ self.old.number) }
+        ensures memory { result ≡ Err NoMemory → IsTrue (may_allocate event (answer M.rules (state_in self.old) event).what) }
+        ensures step { IfOk result (λ reply. IsStep M.rules (state_in self.old) event reply (state_in self.new)) }
+        ensures unchanged { OnErr result (self.new ≡ self.old) }
+    {
+        let step = self.weigh_any(alloc, event)?;
+        Ok(self.take(step))
+    }
+
+    /// A walk or a stop by what its checks found of the waiting tasks: answers and takes it. Where
+    /// it fails the engine is as it was: NoMemory where an allocation failed, JournalFull where no
+    /// event is left.
+    pub fn commit_scan(
+        &mut self,
+        alloc: Global,
+        kind: CheckKind,
+        verdicts: &[Verdict],
+    ) -> Result<Reply, Halt>
+        requires scan { is_scan_kind kind ≡ true }
+        requires found { verdicts.now ≡ verdicts_of M.rules kind (state_in self.old) }
+        ensures full { (result ≡ Err JournalFull) ↔ (1000000 ≤ self.old.number) }
+        ensures step { IfOk result (λ reply. IsStep M.rules (state_in self.old) (scan_event kind) reply (state_in self.new)) }
+        ensures unchanged { OnErr result (self.new ≡ self.old) }
+    {
+        let scan = self.weigh_scan(alloc, kind, verdicts)?;
+        Ok(self.take(scan))
+    }
+
+    /// Takes an event that was weighed on this engine, and answers it. Never allocates.
+    pub fn take(&mut self, step: Step) -> Reply
+        requires { IsWeighed M.rules self.old step }
+        ensures reply { result ≡ step.reply }
+        ensures step { IsStep M.rules (state_in self.old) step.event result (state_in self.new) }
+    {
+        let event = step.event();
+        if event.is_scan() {
+            self.take_scan(&step);
+            return step.into_reply();
+        }
+        let (reply, born) = step.into_parts();
+        match refusal_in(&reply.what) {
+            Some(why) => self.take_refused(event, why),
+            None => self.take_accepted(event, is_switched(&reply.what), born),
+        }
+        reply
+    }
+
+    /// Without room a plain event has to fail as any other does, so it goes the long way.
+    #[inline(always)]
+    fn has_room(&self) -> bool
+        ensures { IsTrue result ↔ (self.now.number < 1000000) }
+    {
+        self.events < MOST_EVENTS
+    }
+
+    /// Any event, weighed; a walk or a stop that the model uses after a look at every waiting task.
+    /// Makes each allocation that `take` needs: NoMemory where one failed, JournalFull where no
+    /// event is left.
+    pub fn weigh_any(&self, alloc: Global, event: Event) -> Result<Step, Halt>
+        ensures full { (result ≡ Err JournalFull) ↔ (1000000 ≤ self.now.number) }
+        ensures memory { result ≡ Err NoMemory → IsTrue (may_allocate event (answer M.rules (state_in self.now) event).what) }
+        ensures weighed { IfOk result (λ step. IsWeighed M.rules self.now step) }
+        ensures event { IfOk result (λ step. step.event ≡ event) }
+        ensures verdicts { IfOk result (λ step. step.verdicts ≡ verdicts_for M.rules (state_in self.now) event) }
+    {
+        match event {
+            Event::Walk => self.weigh_check(alloc, CheckKind::Walk),
+            Event::Stop => self.weigh_check(alloc, CheckKind::Stop),
+            _ => self.weigh(alloc, event),
+        }
+    }
+
+    /// A walk or a stop, weighed after a look at every waiting task, or at none where the model
+    /// doesn't use the check.
+    fn weigh_check(&self, alloc: Global, kind: CheckKind) -> Result<Step, Halt>
+        requires scan { is_scan_kind kind ≡ true }
+        ensures full { (result ≡ Err JournalFull) ↔ (1000000 ≤ self.now.number) }
+        ensures weighed { IfOk result (λ step. IsWeighed M.rules self.now step) }
+        ensures event { IfOk result (λ step. step.event ≡ scan_event kind) }
+        ensures verdicts { IfOk result (λ step. step.verdicts ≡ verdicts_used M.rules kind (state_in self.now)) }
+    {
+        if self.events >= MOST_EVENTS {
+            return Err(Halt::JournalFull);
+        }
+        if !self.model.uses(kind) {
+            return self.weigh_found(alloc, kind, &[]);
+        }
+        let views = self.views(alloc)?;
+        let aim = self.aim();
+        let verdicts = verdicts(alloc, &self.model, kind, views.as_slice(), &aim)?;
+        self.weigh_scan(alloc, kind, verdicts.as_slice())
+    }
+
+    /// It takes a number too: else the numbers of a run's events would depend on its replies.
+    #[inline(always)]
+    pub(super) fn take_refused(&mut self, event: Event, why: Refusal)
+        requires room { self.old.number < 1000000 }
+        requires refused { refusal_of M.rules (state_in self.old) event ≡ Some why }
+        ensures { state_in self.new ≡ next M.rules (state_in self.old) event }
+    {
+        self.events += 1;
+    }
+
+    /// What was weighed is handed in, so that nothing here can fail once the engine has begun to change.
+    fn take_accepted(&mut self, event: Event, switching: bool, born: Option<Box<LiveTask>>)
+        requires room { self.old.number < 1000000 }
+        requires accepted { refusal_of M.rules (state_in self.old) event ≡ None }
+        requires scan { is_scan event ≡ false }
+        requires switching { switching ≡ is_switched (answer M.rules (state_in self.old) event).what }
+        requires born { option_map (λ (b : Box Standing Global). b.value) born ≡ born_of M.rules (state_in self.old) event }
+        ensures { state_in self.new ≡ next M.rules (state_in self.old) event }
+    {
+        let _ = &self.tasks;
+        match event {
+            Event::Call(task, func) => self.take_call(task, func),
+            Event::Ret(task) => self.take_ret(task),
+            Event::Sleep(task) => self.take_sleep(task),
+            Event::Wake(task) => self.take_wake(task),
+            Event::Enter(task) => self.take_enter(task),
+            Event::Exit(task) => self.take_point(CheckKind::KernelExit, task, switching),
+            Event::Idle(task) => self.take_point(CheckKind::IdlePoint, task, switching),
+            Event::Fork(parent, child, how) => {
+                let Some(live) = born else { unreachable!() };
+                self.take_fork(parent, child, how, live);
+            }
+            Event::Die(task) => self.take_die(task),
+            Event::Enable | Event::Disable | Event::Reverse => self.take_control(event),
+            Event::Walk | Event::Stop => unreachable!(),
+        }
+    }
+}
+
+/// What a check of a kind finds of each of these tasks, in their order; AllocError where an
+/// allocation failed.
+pub fn verdicts<M: Consistency>(
+    alloc: Global,
+    model: &M,
+    kind: CheckKind,
+    views: &[View<'_>],
+    aim: &Aim<'_>,
+) -> Result<Vec<Verdict>, AllocError>
+    ensures { IfOk result (λ found. found.items ≡ map (verdict_of M.rules kind (aimed aim.now)) (map seen views.now)) }
+{
+    let mut found = Vec::with_capacity(alloc, views.len())?;
+    for view in views {
+        found.push(Verdict::of(model, kind, view, aim))?;
+    }
+    Ok(found)
+}
+
+/// The reply alone tells: it was weighed on this very engine.
+fn is_switched(what: &What) -> bool
+    ensures { result ≡ is_switched what.now }
+{
+    matches!(what, What::Switched(_))
+}
+
+/// Why the event was refused; None where it was accepted.
+fn refusal_in(what: &What) -> Option<Refusal>
+    ensures { result ≡ refusal_in what.now }
+{
+    match what {
+        What::Refused(why) => Some(*why),
+        _ => None,
+    }
+}
