@@ -16,7 +16,7 @@ returns-clause-made g c = λ run stands is.
     let readied : IsMadeOf model run c.ready.new.self = record {
       ended = ready.ended ∙ is.ended;
       current = ready.current ∙ is.current;
-      unchanged = subst (λ (last_scan : LastScan). AreUnchangedBy model (state_of model leg) (lines model leg (length leg.events)) last_scan) (sym ready.last_scan) is.settled;
+      unchanged = subst (λ (last_scan : LastScan). AreUnchangedBy model (state_of model leg) (lines model leg (length leg.events)) last_scan) (sym ready.last_scan) is.unchanged;
     } in
     let suffices = subst (λ (last_scan : LastScan). Suffices model (state_in c.args.core.now) c.in-Ok.step last_scan) (sym ready.last_scan) c.in-Ok.ensures.suffices in
     subst (λ (event : Event). IsMadeOf model (plus run event) c.note.new.self) c.in-Ok.ensures.event (c.note.ensures.made run stands readied suffices)
