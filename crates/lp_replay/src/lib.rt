@@ -9,5 +9,5 @@ mod replies;
 
 pub use leg_end::LegList;
 pub use outcome::Outcome;
-pub use replays::{ReplayFault, TraceLeg, leg_numbered, replay};
+pub use replays::{ReplayFault, TraceLeg, leg_numbered, replay, stack};
 pub use replies::{ReplyList, ShortReply, ShortWhat, groups_at};
