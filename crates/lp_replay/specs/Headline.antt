@@ -1,7 +1,7 @@
--- The headline. For every list of events and every lawful model: in each leg every group switched at its first check that the
--- model allows; no legal schedule from that leg's opening switches any group, or completes the leg, earlier; each waiting group
--- has a certificate that the checker accepts, refusing every check so far; and under a whole-call model each stay in the patched
--- set runs one version.
+-- The headline. For every list of events and every lawful model: in each leg every group went over at its first check that
+-- the model allows; no legal schedule from that leg's opening moves any group, or completes the leg, earlier; each waiting
+-- group has a certificate that the checker accepts, refusing every check so far; and under a whole-call model each stay in
+-- the patched set runs one version.
 use Rattle.std.specs.Prelude.{◌≡◌, ℕ, zero, suc, pred, ◌+◌, ◌≤◌, List, [], map, length, take, drop, All, Contains, Some, None, IsTrue, IsFalse}
 use Rattle.std.specs.List.{AllZip, range_with_len}
 use Rattle.lp_model.specs.Rules.{Rules}
