@@ -1,2 +1,3 @@
 pub mod Prefix
+pub mod Plays
 pub mod Matched

@@ -9,7 +9,7 @@ use Rattle.clap.specs.declared.error.ErrorKind.{ErrorKind}
 use Rattle.clap.specs.declared.error.ErrorKind.TheVariants.{OutOfMemory}
 use Rattle.lp_models.specs.Names.{name_of}
 use Rattle.lp_program.specs.declared.words.Task.{Task}
-use Rattle.lp_program.specs.declared.words.Task.TheVariants.{Run, Check}
+use Rattle.lp_program.specs.declared.words.Task.TheVariants.{Run, Check, Threads}
 use Rattle.lp_program.specs.declared.words.WordsFault.{WordsFault}
 use Rattle.lp_program.specs.declared.words.WordsFault.TheVariants.{Usage, UnknownModel, NoMemory}
 use Rattle.lp_program.specs.Asked.{Asked, AsksNothing, IsRefusal, NamesNoModel, NamesNoTask, asked, asked_in, lpt, words_of}
@@ -41,6 +41,7 @@ no_task_of found words name Usage e h = go
     go : (task : Task) → words ≢ Some (words_of task)
     go (Run model) is = none-some (name_of model) (sym h ∙ ap given_model (sym e ∙ is))
     go (Check model) is = none-some (name_of model) (sym h ∙ ap given_model (sym e ∙ is))
+    go (Threads model) is = none-some (name_of model) (sym h ∙ ap given_model (sym e ∙ is))
 no_task_of found words name UnknownModel e h = (name, h.0, e ∙ ap (λ v. Some (name, v)) h.1, h.2)
 no_task_of found words name NoMemory e h = absurd h
 

@@ -7,7 +7,7 @@ use Rattle.clap.specs.declared.error.ErrorKind.TheVariants as kind
 use Rattle.lp_models.specs.declared.name.ModelName.{ModelName}
 use Rattle.lp_models.specs.Names.{name_of}
 use Rattle.lp_program.specs.declared.words.Task.{Task}
-use Rattle.lp_program.specs.declared.words.Task.TheVariants.{Run, Check}
+use Rattle.lp_program.specs.declared.words.Task.TheVariants.{Run, Check, Threads}
 use Rattle.lp_program.specs.declared.words.WordsFault.{WordsFault}
 use Rattle.lp_program.specs.declared.words.WordsFault.TheVariants as words
 
@@ -21,9 +21,11 @@ model_rule = record (new_rule (codes "MODEL")) { required = true; action = Some 
 abbrev pub subcommand : Text → App
 subcommand name = with_rule (new_app name) model_rule
 
--- the program's command line: one of two subcommands
+-- the program's command line: one of three subcommands
 abbrev pub lpt : App
-lpt = with_subcommand (with_subcommand (new_app (codes "lpt")) (subcommand (codes "run")).top) (subcommand (codes "check")).top
+lpt =
+    with_subcommand (with_subcommand (with_subcommand (new_app (codes "lpt"))
+    (subcommand (codes "run")).top) (subcommand (codes "check")).top) (subcommand (codes "threads")).top
 
 -- ---- What words ask for
 
@@ -42,6 +44,7 @@ asked words = asked_in (subcommand_of lpt words)
 abbrev pub words_of : Task → Text × Option Text
 words_of (Run model) = (codes "run", Some (name_of model))
 words_of (Check model) = (codes "check", Some (name_of model))
+words_of (Threads model) = (codes "threads", Some (name_of model))
 
 -- clap takes the words, and they are a task's
 abbrev pub Asks : List Text → Task → Type 0

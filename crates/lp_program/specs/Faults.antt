@@ -1,5 +1,5 @@
 -- How the program ends: its exit status, and its line on standard error.
-use Rattle.std.specs.Prelude.{ℕ, List, [], ◌++◌, codes, decimal}
+use Rattle.std.specs.Prelude.{◌≡◌, ℕ, List, [], ◌++◌, Result, Ok, Err, codes, decimal}
 use Rattle.lp_trace.specs.declared.runs.RunFault.{RunFault}
 use Rattle.lp_trace.specs.declared.runs.RunFault.TheVariants as run
 use Rattle.lp_text.specs.Faults.{cause_number}
@@ -17,6 +17,11 @@ status_of fault.UnknownModel = 2
 status_of (fault.Trace why) = 3
 status_of fault.Refused = 4
 status_of fault.NoMemory = 5
+status_of (fault.Desk code) = 6
+
+-- the line of a fault of the desk, by its code
+abbrev pub desk_line : List ℕ → List ℕ
+desk_line code = codes "lpt: desk: " ++ (code ++ codes "\n")
 
 -- the line on standard error; none where standard output says why
 abbrev pub line_for : Fault → List ℕ
@@ -27,6 +32,7 @@ line_for fault.UnknownModel = codes "lpt: unknown model\n"
 line_for (fault.Trace why) = codes "lpt: line " ++ (decimal why.line ++ (codes ": L" ++ (decimal (cause_number why.cause) ++ codes "\n")))
 line_for fault.Refused = []
 line_for fault.NoMemory = codes "lpt: out of memory\n"
+line_for (fault.Desk code) = desk_line code.now
 
 -- how the program ends where its words ask for nothing
 abbrev pub of_words : WordsFault → Fault
@@ -40,3 +46,9 @@ of_run (run.Read error) = fault.Read
 of_run (run.Trace why) = fault.Trace why
 of_run run.NoMemory = fault.NoMemory
 of_run (run.Write error) = fault.Write
+
+-- how it ends where threads don't write their report: as a run, or by the code of the desk's fault
+abbrev pub IsOfThreads : Result (List ℕ) RunFault → Fault → Type 0
+IsOfThreads (Err why) end = end ≡ of_run why
+IsOfThreads (Ok code) (fault.Desk text) = text.now ≡ code
+IsOfThreads (Ok code) other = ⊥

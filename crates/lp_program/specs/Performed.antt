@@ -15,13 +15,15 @@ use Rattle.lp_trace.specs.Runs.{ReadsTrace}
 use Rattle.lp_text.specs.Traces.{TraceValue}
 use Rattle.lp_text.specs.Words.{line_of}
 use Rattle.lp_text.specs.Writing.{AppendsPrefix}
+use Rattle.lp_threads.specs.Plays.{IsPlay, play_text}
+use Rattle.lp_threads.specs.declared.report.Play.{Play}
 use Rattle.lp_program.specs.Asked.{Asks, AsksNothing}
 use Rattle.lp_program.specs.Faults.{of_words}
 use Rattle.lp_program.specs.Named.{rules_named}
 use Rattle.lp_program.specs.declared.fault.Fault.{Fault}
 use Rattle.lp_program.specs.declared.fault.Fault.TheVariants as fault
 use Rattle.lp_program.specs.declared.words.Task.{Task}
-use Rattle.lp_program.specs.declared.words.Task.TheVariants.{Run, Check}
+use Rattle.lp_program.specs.declared.words.Task.TheVariants.{Run, Check, Threads}
 use Rattle.lp_program.specs.declared.words.WordsFault.{WordsFault}
 
 -- the report of a trace under the model of a name
@@ -35,6 +37,10 @@ answer_under model input = answer_to (rules_named model) input
 abbrev pub answer_line : ModelName → CheckInput → List ℕ
 answer_line model input = line_of (answer_words (answer_under model input))
 
+-- threads played the trace under the model of a name, and this was written of it
+abbrev pub IsPlayed : ModelName → TraceValue → (List ℕ → Type 0) → Type 0
+IsPlayed model trace P = (play : Play) × IsPlay (rules_named model) trace play × P (play_text (name_of model) play)
+
 -- what was to be read before and after, and what was written before and after
 module _ (before after old new : Option (List ℕ)) where
   -- a task is done
@@ -42,33 +48,50 @@ module _ (before after old new : Option (List ℕ)) where
   IsDone (Run model) = ReadsTrace before after (λ trace. Appends old new (report_under model trace))
   IsDone (Check model) =
       ReadsInput before after (λ input. (answer_under model input ≡ None) × Appends old new (answer_line model input))
+  IsDone (Threads model) = ReadsTrace before after (λ trace. IsPlayed model trace (Appends old new))
 
   -- the certificate is refused, and the answer is written
   abbrev pub IsRefused : Task → Type 0
   IsRefused (Run model) = ⊥
   IsRefused (Check model) =
       ReadsInput before after (λ input. IsSome (answer_under model input) × Appends old new (answer_line model input))
+  IsRefused (Threads model) = ⊥
 
-  -- a prefix of what was to be written is
+  -- a prefix of what was to be written is; of threads nothing is said
   abbrev pub WritesPrefix : Task → Type 0
   WritesPrefix (Run model) = ReadsTrace before after (λ trace. AppendsPrefix old new (report_under model trace))
   WritesPrefix (Check model) = ReadsInput before after (λ input. AppendsPrefix old new (answer_line model input))
+  WritesPrefix (Threads model) = Unit {0}
 
--- a text is no input of the task, for this reason
+-- a text is no input of the task, for this reason; of threads nothing is said
 abbrev pub IsTextFault : Task → TraceFault → List ℕ → Type 0
 IsTextFault (Run model) why text = reading text ≡ Err why
 IsTextFault (Check model) why text = check_reading text ≡ Err why
+IsTextFault (Threads model) why text = Unit {0}
+
+-- nothing was written, which is this; of threads nothing is said
+abbrev pub IsUnwritten : Task → Type 0 → Type 0
+IsUnwritten (Run model) same = same
+IsUnwritten (Check model) same = same
+IsUnwritten (Threads model) same = Unit {0}
+
+-- the task is one of threads
+abbrev pub IsOfDesk : Task → Type 0
+IsOfDesk (Run model) = ⊥
+IsOfDesk (Check model) = ⊥
+IsOfDesk (Threads model) = Unit {0}
 
 module _ (before after old new : Option (List ℕ)) where
   -- how a task ends by a fault; `same` says that the writer is as it was
   abbrev pub EndsBy : Type 0 → Task → Fault → Type 0
-  EndsBy same task fault.Read = same
+  EndsBy same task fault.Read = IsUnwritten task same
   EndsBy same task fault.Write = WritesPrefix before after old new task
   EndsBy same task fault.Usage = ⊥
   EndsBy same task fault.UnknownModel = ⊥
-  EndsBy same task (fault.Trace why) = IfSome before (IsTextFault task why) × same
+  EndsBy same task (fault.Trace why) = IfSome before (IsTextFault task why) × IsUnwritten task same
   EndsBy same task fault.Refused = IsRefused before after old new task
-  EndsBy same task fault.NoMemory = same
+  EndsBy same task fault.NoMemory = IsUnwritten task same
+  EndsBy same task (fault.Desk code) = IsOfDesk task
 
   -- the words ask for a task, and it is done
   abbrev pub Performs : List (List ℕ) → Type 0

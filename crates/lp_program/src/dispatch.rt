@@ -1,4 +1,4 @@
-//! A run and a check under the model of a name.
+//! A run, a check and a play by threads under the model of a name.
 ghost use Rattle.std.specs.Prelude.{◌≡◌, Err, IfErr, IfOk, IfSome, IsTrue, OnOk, is_none};
 ghost use Rattle.std.specs.Io.KnownBytes.{Appends};
 ghost use Rattle.lp_models.specs.Names.{name_of};
@@ -12,12 +12,16 @@ ghost use Rattle.lp_trace.specs.Runs.{AtTrace, AtWrite, BeforeWriting, ReadsTrac
 ghost use Rattle.lp_text.specs.Words.{line_of};
 ghost use Rattle.lp_text.specs.Writing.{AppendsPrefix};
 ghost use Rattle.lp_program.specs.Named.{rules_named};
+ghost use Rattle.lp_program.specs.Performed.{IsPlayed};
 
 use lp_models::{AllAtOnce, Hybrid, Immediate, LeaveKernel, ModelName};
 use lp_process::ProcessGroup;
+use lp_threads::ThreadsFault;
 use lp_trace::RunFault;
 use std::alloc::Global;
 use std::io::{Read, Write};
+use std::sync::Wait;
+use std::thread::Threads;
 
 /// Reads a trace and writes the report of its run under a model, as [`lp_trace::run`].
 pub fn run<R: Read, W: Write>(
@@ -69,5 +73,42 @@ pub fn check<R: Read, W: Write>(
         ModelName::AllAtOnce => lp_trace::check(alloc, AllAtOnce, reader, writer),
         ModelName::Immediate => lp_trace::check(alloc, Immediate, reader, writer),
         ModelName::ProcessGroup => lp_trace::check(alloc, ProcessGroup, reader, writer),
+    }
+}
+
+/// Reads a trace, lets threads play it under a model, and writes what came of it, as [`lp_threads::threads`]. Waits for
+/// the threads.
+pub fn threads<T: Threads + Wait + Sync, R: Read, W: Write>(
+    rt: &T,
+    alloc: Global,
+    model: ModelName,
+    reader: &mut R,
+    writer: &mut W,
+) -> Result<(), ThreadsFault>
+    // The play is one by the model's rules, and its report has the model's name.
+    ensures report { OnOk result (ReadsTrace (R.remaining reader.old) (R.remaining reader.new)
+        (λ trace. IsPlayed model trace (Appends (W.contents writer.old) (W.contents writer.new)))) }
+{
+    let called = model.name();
+    match model {
+        ModelName::Hybrid => lp_threads::threads(rt, alloc, called, Hybrid, reader, writer),
+        ModelName::LeaveKernel => lp_threads::threads(
+            rt,
+            alloc,
+            called,
+            LeaveKernel,
+            reader,
+            writer,
+        ),
+        ModelName::AllAtOnce => lp_threads::threads(rt, alloc, called, AllAtOnce, reader, writer),
+        ModelName::Immediate => lp_threads::threads(rt, alloc, called, Immediate, reader, writer),
+        ModelName::ProcessGroup => lp_threads::threads(
+            rt,
+            alloc,
+            called,
+            ProcessGroup,
+            reader,
+            writer,
+        ),
     }
 }

@@ -1,10 +1,12 @@
 //! How the program ends where it has not done what it was asked.
 ghost use Rattle.std.specs.Prelude.{◌≡◌, OnOk};
 ghost use Rattle.std.specs.Io.KnownBytes.{Appends};
-ghost use Rattle.lp_program.specs.Faults.{line_for, of_run, of_words, status_of};
+ghost use Rattle.lp_threads.specs.Codes.{code_of};
+ghost use Rattle.lp_program.specs.Faults.{IsOfThreads, desk_line, line_for, of_run, of_words, status_of};
 
 use crate::words::WordsFault;
 use itoa::Buffer;
+use lp_threads::ThreadsFault;
 use lp_trace::{RunFault, TraceFault};
 use std::alloc::AllocError;
 use std::io::{self, Write};
@@ -26,6 +28,8 @@ pub enum Fault {
     Refused,
     /// An allocation failed.
     NoMemory,
+    /// No desk was launched, or it wasn't closed, or a thread couldn't be started: this letter and number.
+    Desk(&'static str),
 }
 
 impl From<WordsFault> for Fault {
@@ -49,6 +53,17 @@ impl From<RunFault> for Fault {
             RunFault::Trace(fault) => Fault::Trace(fault),
             RunFault::NoMemory => Fault::NoMemory,
             RunFault::Write(_) => Fault::Write,
+        }
+    }
+}
+
+impl From<ThreadsFault> for Fault {
+    ghost from_gives = { λ fault e. IsOfThreads (code_of fault) e };
+
+    fn from(fault: ThreadsFault) -> Fault {
+        match fault.code() {
+            Ok(code) => Fault::Desk(code),
+            Err(fault) => Fault::from(fault),
         }
     }
 }
@@ -80,6 +95,7 @@ impl Fault {
             Fault::Trace(_) => 3,
             Fault::Refused => 4,
             Fault::NoMemory => 5,
+            Fault::Desk(_) => 6,
         }
     }
 
@@ -95,6 +111,7 @@ impl Fault {
             Fault::Trace(fault) => tell_line(fault, writer),
             Fault::Refused => Ok(()),
             Fault::NoMemory => writer.write_all(b"lpt: out of memory\n"),
+            Fault::Desk(code) => tell_desk(code, writer),
         }
     }
 }
@@ -109,5 +126,14 @@ fn tell_line<W: Write>(fault: TraceFault, writer: &mut W) -> io::Result<()>
     writer.write_all(line.format(fault.line).as_bytes())?;
     writer.write_all(b": L")?;
     writer.write_all(cause.format(fault.cause.number()).as_bytes())?;
+    writer.write_all(b"\n")
+}
+
+/// Writes the desk's fault.
+fn tell_desk<W: Write>(code: &'static str, writer: &mut W) -> io::Result<()>
+    ensures { OnOk result (Appends (W.contents writer.old) (W.contents writer.new) (desk_line code.now)) }
+{
+    writer.write_all(b"lpt: desk: ")?;
+    writer.write_all(code.as_bytes())?;
     writer.write_all(b"\n")
 }

@@ -7,8 +7,8 @@ mod process;
 mod program;
 mod words;
 
-pub use dispatch::{check, run};
+pub use dispatch::{check, run, threads};
 pub use fault::Fault;
 pub use process::start;
-pub use program::{act, perform};
+pub use program::{act, act_check, act_run, perform};
 pub use words::{Task, WordsFault, task_of};

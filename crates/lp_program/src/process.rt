@@ -5,11 +5,14 @@ use crate::program::perform;
 use std::env::{self, Env};
 use std::io;
 use std::process::ExitCode;
+use std::sync::Wait;
+use std::thread::Threads;
 
 /// Does what the program's words ask for, over standard input and output. Where that fails, says on
-/// standard error why, unless standard output does, and ends with the fault's status.
-pub fn start(rt: &HostRuntime) -> ExitCode {
-    match started(rt) {
+/// standard error why, unless standard output does, and ends with the fault's status. Threads are started by the
+/// first handle, which in `main` is the runtime as well.
+pub fn start<T: Threads + Wait + Sync>(threads: &T, rt: &HostRuntime) -> ExitCode {
+    match started(threads, rt) {
         Ok(()) => ExitCode::SUCCESS,
         Err(fault) => {
             // The status tells it too, so a standard error that fails changes nothing.
@@ -19,9 +22,10 @@ pub fn start(rt: &HostRuntime) -> ExitCode {
     }
 }
 
-fn started(rt: &HostRuntime) -> Result<(), Fault> {
+fn started<T: Threads + Wait + Sync>(threads: &T, rt: &HostRuntime) -> Result<(), Fault> {
     let words = words(rt)?;
     perform(
+        threads,
         rt.alloc(),
         words.as_slice(),
         &mut rt.stdin(),

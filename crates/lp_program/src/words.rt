@@ -17,6 +17,8 @@ pub enum Task {
     Run(ModelName),
     /// `check MODEL`: reads a trace and a certificate, and writes the answer to it under the model.
     Check(ModelName),
+    /// `threads MODEL`: reads a trace, lets threads play it under the model, and writes what came of it.
+    Threads(ModelName),
 }
 
 /// Why the words ask for nothing that the program does.
@@ -60,11 +62,16 @@ fn command<'a>(alloc: Global) -> Result<Command<'a>, AllocError>
     let second = Arg::new(alloc, "MODEL")
         .required(true)
         .action(ArgAction::Set);
+    let third = Arg::new(alloc, "MODEL")
+        .required(true)
+        .action(ArgAction::Set);
     let run = Command::new(alloc, "run").arg(first)?;
     let check = Command::new(alloc, "check").arg(second)?;
+    let threads = Command::new(alloc, "threads").arg(third)?;
     Command::new(alloc, "lpt")
         .subcommand(run)?
-        .subcommand(check)
+        .subcommand(check)?
+        .subcommand(threads)
 }
 
 /// The model that a subcommand names.
@@ -84,6 +91,7 @@ fn task_in(matches: &ArgMatches<'_>) -> Result<Task, WordsFault>
     match matches.subcommand() {
         Some(("run", run)) => Ok(Task::Run(model_of(run)?)),
         Some(("check", check)) => Ok(Task::Check(model_of(check)?)),
+        Some(("threads", threads)) => Ok(Task::Threads(model_of(threads)?)),
         _ => Err(WordsFault::Usage),
     }
 }

@@ -1,4 +1,6 @@
 //! Why threads didn't play a trace to its end.
+ghost use Rattle.std.specs.Prelude.{◌≡◌, Err, IfErr, IfOk, Ok};
+ghost use Rattle.lp_threads.specs.Codes.{code_of, of_cause, of_close, of_launch};
 
 use lp_desk::{LaunchFault, Unclosed};
 use lp_log::{Cause, CloseCause};
@@ -28,19 +30,24 @@ pub enum ThreadsFault {
 }
 
 impl ThreadsFault {
-    /// The desk's fault by its letter and number, as D3; None where it is a run's.
-    pub fn code(&self) -> Option<&'static str> {
+    /// The desk's fault by its letter and number, as D3; else the fault of a run.
+    pub fn code(self) -> Result<&'static str, RunFault>
+        ensures code { IfOk result (λ code. code_of self ≡ Ok code.now) }
+        ensures run { IfErr result (λ fault. code_of self ≡ Err fault) }
+    {
         match self {
-            ThreadsFault::Run(_) => None,
-            ThreadsFault::Launch(fault) => Some(launch_code(*fault)),
-            ThreadsFault::Turned(cause) => Some(cause_code(*cause)),
-            ThreadsFault::Close(cause) => Some(close_code(*cause)),
-            ThreadsFault::NoThread => Some("D5"),
+            ThreadsFault::Run(fault) => Err(fault),
+            ThreadsFault::Launch(fault) => Ok(launch_code(fault)),
+            ThreadsFault::Turned(cause) => Ok(cause_code(cause)),
+            ThreadsFault::Close(cause) => Ok(close_code(cause)),
+            ThreadsFault::NoThread => Ok("D5"),
         }
     }
 }
 
-fn launch_code(fault: LaunchFault) -> &'static str {
+fn launch_code(fault: LaunchFault) -> &'static str
+    ensures { result.now ≡ of_launch fault }
+{
     match fault {
         LaunchFault::Boot(BootFault::TaskRange) => "T1",
         LaunchFault::Boot(BootFault::TaskDoubled) => "T2",
@@ -49,7 +56,9 @@ fn launch_code(fault: LaunchFault) -> &'static str {
     }
 }
 
-fn cause_code(cause: Cause) -> &'static str {
+fn cause_code(cause: Cause) -> &'static str
+    ensures { result.now ≡ of_cause cause }
+{
     match cause {
         Cause::NotYours => "D1",
         Cause::JournalFull => "E14",
@@ -57,7 +66,9 @@ fn cause_code(cause: Cause) -> &'static str {
     }
 }
 
-fn close_code(cause: CloseCause) -> &'static str {
+fn close_code(cause: CloseCause) -> &'static str
+    ensures { result.now ≡ of_close cause }
+{
     match cause {
         CloseCause::Missing { .. } => "D2",
         CloseCause::Differs { .. } => "D3",

@@ -7,5 +7,5 @@ mod tests;
 use std::process::ExitCode;
 
 fn main(rt: HostRuntime) -> ExitCode {
-    lp_program::start(&rt)
+    lp_program::start(&rt, &rt)
 }

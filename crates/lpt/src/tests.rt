@@ -1,16 +1,19 @@
 //! The program's words, statuses and lines on standard error, as docs/program.md has them.
 mod streams;
+mod threads;
 mod words;
 
 use lp_program::{Fault, perform};
 use lp_trace::{Cause, TraceFault};
 use std::alloc::Global;
 use std::io::Read;
+use std::sync::Wait;
 use std::test::*;
+use std::thread::Threads;
 use streams::{Broken, Full};
 
 /// How each fault ends the program.
-const FAULTS: [(Fault, u8, &str); 7] = [
+const FAULTS: [(Fault, u8, &str); 9] = [
     (Fault::Read, 1, "lpt: read fault\n"),
     (Fault::Write, 1, "lpt: write fault\n"),
     (Fault::Usage, 2, "lpt: usage\n"),
@@ -25,6 +28,8 @@ const FAULTS: [(Fault, u8, &str); 7] = [
     ),
     (Fault::Refused, 4, ""),
     (Fault::NoMemory, 5, "lpt: out of memory\n"),
+    (Fault::Desk("D3"), 6, "lpt: desk: D3\n"),
+    (Fault::Desk("D5"), 6, "lpt: desk: D5\n"),
 ];
 
 /// What the program says on standard error at a fault.
@@ -122,11 +127,16 @@ struct End {
 }
 
 /// How it ends, by what it reads.
-fn end_of<R: Read>(alloc: Global, words: &str, reader: &mut R) -> Result<End, Fail> {
+fn end_of<T: Threads + Wait + Sync, R: Read>(
+    rt: &T,
+    alloc: Global,
+    words: &str,
+    reader: &mut R,
+) -> Result<End, Fail> {
     let words: Vec<&str> = words.split(' ').collect(alloc)?;
     let mut output = Vec::new(alloc);
     let mut errors = Vec::new(alloc);
-    let status = match perform(alloc, words.as_slice(), reader, &mut output) {
+    let status = match perform(rt, alloc, words.as_slice(), reader, &mut output) {
         Ok(()) => 0,
         Err(fault) => {
             fault.tell(&mut errors)?;
@@ -151,7 +161,7 @@ fn is_end(end: &End, status: u8, output: &str, line: &str) -> bool {
 fn each_end_has_its_status_output_and_line(rt: HostRuntime) -> Result<(), Fail> {
     for (words, input, status, output, line) in RUNS {
         let mut reader = input.as_bytes();
-        let end = end_of(rt.alloc(), words, &mut reader)?;
+        let end = end_of(&rt, rt.alloc(), words, &mut reader)?;
         assert!(rt;
             is_end(&end, status, output, line),
             "{words}: {output}{line}"
@@ -165,8 +175,9 @@ fn words_come_before_the_model_and_both_before_the_input(rt: HostRuntime) -> Res
     for (words, line) in [
         ("lpt run nobody there", "lpt: usage\n"),
         ("lpt run nobody", "lpt: unknown model\n"),
+        ("lpt threads nobody", "lpt: unknown model\n"),
     ] {
-        let end = end_of(rt.alloc(), words, &mut Broken { left: 0 })?;
+        let end = end_of(&rt, rt.alloc(), words, &mut Broken { left: 0 })?;
         assert!(rt; is_end(&end, 2, "", line), "{words}");
     }
     Ok(())
@@ -174,8 +185,8 @@ fn words_come_before_the_model_and_both_before_the_input(rt: HostRuntime) -> Res
 
 #[test]
 fn a_read_that_fails_comes_before_a_fault_of_the_text(rt: HostRuntime) -> Result<(), Fail> {
-    for words in ["lpt run hybrid", "lpt check hybrid"] {
-        let end = end_of(rt.alloc(), words, &mut Broken { left: 3 })?;
+    for words in ["lpt run hybrid", "lpt check hybrid", "lpt threads hybrid"] {
+        let end = end_of(&rt, rt.alloc(), words, &mut Broken { left: 3 })?;
         assert!(rt; is_end(&end, 1, "", "lpt: read fault\n"), "{words}");
     }
     Ok(())
@@ -183,9 +194,15 @@ fn a_read_that_fails_comes_before_a_fault_of_the_text(rt: HostRuntime) -> Result
 
 #[test]
 fn a_write_that_fails_has_its_status(rt: HostRuntime) -> Result<(), Fail> {
-    for (words, input) in [("run", TRACE), ("check", ACCEPTED), ("check", REFUSED)] {
+    for (words, input) in [
+        ("run", TRACE),
+        ("check", ACCEPTED),
+        ("check", REFUSED),
+        ("threads", TRACE),
+    ] {
         let mut reader = input.as_bytes();
         let end = perform(
+            &rt,
             rt.alloc(),
             &["lpt", words, "hybrid"],
             &mut reader,

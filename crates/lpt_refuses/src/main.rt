@@ -4,5 +4,5 @@
 use std::process::ExitCode;
 
 fn main(rt: HostRuntime) -> ExitCode {
-    lp_program::start(&rt)
+    lp_program::start(&rt, &rt)
 }

@@ -5,7 +5,7 @@ use std::alloc::Global;
 use std::test::*;
 
 /// Words between single spaces that ask for a task.
-const TASKS: [(&str, Task); 14] = [
+const TASKS: [(&str, Task); 21] = [
     ("lpt run hybrid", Task::Run(ModelName::Hybrid)),
     ("lpt run leave-kernel", Task::Run(ModelName::LeaveKernel)),
     ("lpt run all-at-once", Task::Run(ModelName::AllAtOnce)),
@@ -26,10 +26,26 @@ const TASKS: [(&str, Task); 14] = [
     ("lpt run hybrid --", Task::Run(ModelName::Hybrid)),
     ("lpt check -- immediate", Task::Check(ModelName::Immediate)),
     ("lpt check immediate --", Task::Check(ModelName::Immediate)),
+    ("lpt threads hybrid", Task::Threads(ModelName::Hybrid)),
+    (
+        "lpt threads leave-kernel",
+        Task::Threads(ModelName::LeaveKernel),
+    ),
+    (
+        "lpt threads all-at-once",
+        Task::Threads(ModelName::AllAtOnce),
+    ),
+    ("lpt threads immediate", Task::Threads(ModelName::Immediate)),
+    (
+        "lpt threads process-group",
+        Task::Threads(ModelName::ProcessGroup),
+    ),
+    ("lpt threads -- hybrid", Task::Threads(ModelName::Hybrid)),
+    ("lpt threads hybrid --", Task::Threads(ModelName::Hybrid)),
 ];
 
 /// Words that are none of the program's, and calls for help or the version.
-const USAGE: [&str; 36] = [
+const USAGE: [&str; 43] = [
     "lpt",
     "lpt ",
     "lpt --",
@@ -56,6 +72,13 @@ const USAGE: [&str; 36] = [
     "lpt run -x hybrid",
     "lpt run --model hybrid",
     "lpt run -- hybrid --",
+    "lpt threads",
+    "lpt threads --",
+    "lpt thread hybrid",
+    "lpt threads hybrid 2",
+    "lpt threads run hybrid",
+    "lpt threads -x hybrid",
+    "lpt threads --help",
     "lpt run hybrid -- --",
     "lpt run hybrid -- x",
     "lpt help",
@@ -69,7 +92,7 @@ const USAGE: [&str; 36] = [
 ];
 
 /// Words that are right but for the model's name.
-const UNKNOWN: [&str; 12] = [
+const UNKNOWN: [&str; 15] = [
     "lpt run Hybrid",
     "lpt run hybri",
     "lpt run hybrids",
@@ -82,6 +105,9 @@ const UNKNOWN: [&str; 12] = [
     "lpt run -- --",
     "lpt check nobody",
     "lpt check nobody --",
+    "lpt threads nobody",
+    "lpt threads Hybrid",
+    "lpt threads ",
 ];
 
 /// What words ask for between which single spaces stand.

@@ -33,3 +33,19 @@ returns-in_err-model_of-in-Some-check-default-clause-fault c =
     let returned = c.from_residual-in_err-model_of-in-Some-check-default in
     passed_up returned.result fault.field-0.0 _ returned.ensures.1
     (no_task_of _ _ _ _ (asked_of c.args.matches.now found.check.now _ (sym found.ensures.name) (sym found.ensures.rows)) fault.ensures.fault)
+
+pub returns-in_ok-model_of-in-Some-threads-default-clause-task :
+    goal.returns-in_ok-model_of-in-Some-threads-default-clause-task
+returns-in_ok-model_of-in-Some-threads-default-clause-task c =
+    let found = c.in-Some-threads-default in
+    asked_of c.args.matches.now found.threads.now _ (sym found.ensures.name) (sym found.ensures.rows)
+    ∙ ap₂ (λ name model. Some (name, model)) found.is-threads c.in_ok-model_of-in-Some-threads-default.ensures.model
+
+pub returns-in_err-model_of-in-Some-threads-default-clause-fault :
+    goal.returns-in_err-model_of-in-Some-threads-default-clause-fault
+returns-in_err-model_of-in-Some-threads-default-clause-fault c =
+    let found = c.in-Some-threads-default in
+    let fault = c.in_err-model_of-in-Some-threads-default in
+    let returned = c.from_residual-in_err-model_of-in-Some-threads-default in
+    passed_up returned.result fault.field-0.0 _ returned.ensures.1
+    (no_task_of _ _ _ _ (asked_of c.args.matches.now found.threads.now _ (sym found.ensures.name) (sym found.ensures.rows)) fault.ensures.fault)
