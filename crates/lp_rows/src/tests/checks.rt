@@ -213,7 +213,9 @@ fn faults_have_numbers(rt: HostRuntime) {
 
 #[test]
 fn laws_are_called(_rt: HostRuntime) {
-    laws::worked_certificates();
+    lp_worked_laws::worked_certificates();
+    lp_worked_laws::worked_verdicts();
+    lp_worked_laws::headline_refuses();
     laws::accepted_certificates_hold::<Hybrid>();
     laws::made_certificates_are_accepted::<Hybrid>();
 }
