@@ -3,7 +3,8 @@ ghost use Rattle.std.specs.Prelude.{◌≡◌, ◌≤◌, not, is_some};
 ghost use Rattle.std.specs.Option.{ForSome, option_map};
 ghost use Rattle.lp_patch.specs.Aimed.{aimed};
 ghost use Rattle.lp_numbers.specs.Numbers.{IsNextFrom};
-ghost use Rattle.lp_transition.specs.Table.{slot, standings, bounds_of, state_in};
+ghost use Rattle.lp_transition.specs.Sound.{IsSound};
+ghost use Rattle.lp_transition.specs.Table.{IsWide, slot, standings, bounds_of, state_in};
 ghost use Rattle.lp_transition.specs.Leg.{is_alone};
 ghost use Rattle.lp_stack.specs.TaskView.{seen};
 ghost use Rattle.lp_transition.specs.Machine.{complete_in, outlines_of, view_of};
@@ -73,6 +74,8 @@ impl<M: Consistency> Core<M> {
     pub fn events(&self) -> u64
         ensures value { result ≡ self.now.number }
         ensures fits { result ≤ 1000000 }
+        ensures sound { IsSound (state_in self.now) }
+        ensures wide { IsWide self.now.table }
     {
         u64::from(self.events)
     }
