@@ -14,7 +14,7 @@ use std::alloc::{AllocError, Global};
 /// The tasks just after an event of a leg, and that event, where it was accepted.
 #[derive(Drop)]
 pub(crate) struct Cursor {
-    fold: Fold,
+    fold: Box<Fold>,
     moment: usize,
     event: Option<Event>,
 }

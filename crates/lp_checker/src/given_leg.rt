@@ -22,8 +22,21 @@ pub(crate) struct GivenLeg<'a> {
 }
 
 impl GivenLeg<'_> {
+    /// The tasks at the opening; in a box, since the proof of a function goes over each field of what the function owns, at
+    /// each of its exits.
+    pub(crate) fn open<M: Consistency>(
+        &self,
+        alloc: Global,
+        model: M,
+    ) -> Result<Box<Fold>, AllocError>
+        ensures { IfOk result (λ fold. IsAt M.rules self.now.opening.now self.now.events.now 0 fold.value) }
+    {
+        let fold = Box::new(alloc, self.opened(alloc, model)?)?;
+        Ok(fold)
+    }
+
     /// The tasks at the opening.
-    pub(crate) fn open<M: Consistency>(&self, alloc: Global, _model: M) -> Result<Fold, AllocError>
+    fn opened<M: Consistency>(&self, alloc: Global, _model: M) -> Result<Fold, AllocError>
         ensures { IfOk result (λ fold. IsAt M.rules self.now.opening.now self.now.events.now 0 fold) }
     {
         let _ = self.opening.number();

@@ -10,5 +10,5 @@ use Rattle.lp_checker.specs.inside.Folds.{IsAt}
 
 -- the fold has taken the events up to the moment, the last of which is this one
 pub record IsCursor (model : Rules) (opening : Engine) (events : List Event) (cursor : Cursor) : Type 0 where
-  pub at : IsAt model opening events cursor.moment cursor.fold
+  pub at : IsAt model opening events cursor.moment cursor.fold.value
   pub event : 0 < cursor.moment → cursor.event ≡ accepted model (leg_with opening events) (pred cursor.moment)

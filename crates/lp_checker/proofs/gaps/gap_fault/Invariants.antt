@@ -9,6 +9,6 @@ use Rattle.lp_checker.proofs.gaps.gap_fault.Given as goal
 -- no gap so far, and the fold stands where the next section begins
 abbrev pub invariant-loop-section : goal.invariant-loop-section
 invariant-loop-section g l = record {
-  times : (begin : ℕ) × IsAt g.M.Consistency.rules l.fn.leg.opening.now l.fn.leg.events.now begin l.fold × FollowOn (length l.fn.lines) l.fn.last begin (drop l.section-index l.fn.sections);
+  times : (begin : ℕ) × IsAt g.M.Consistency.rules l.fn.leg.opening.now l.fn.leg.events.now begin l.fold.value × FollowOn (length l.fn.lines) l.fn.last begin (drop l.section-index l.fn.sections);
   rest : let test = gap_test g.M.Consistency.rules (leg_with l.fn.leg.opening.now l.fn.leg.events.now) in first_of (map test (map (section_of l.fn.lines) l.fn.sections)) ≡ first_of (map test (map (section_of l.fn.lines) (drop l.section-index l.fn.sections)));
 }
