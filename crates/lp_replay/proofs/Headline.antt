@@ -11,7 +11,7 @@ use Rattle.lp_transition.specs.declared.reply.Reply.{Reply}
 use Rattle.lp_transition.specs.Leg.{Leg, after}
 use Rattle.lp_transition.specs.Schedule.{Schedule, level, waits, complete, first_check, IsLegal, IsFirstCheck, CompletesAt}
 use Rattle.lp_transition.specs.Run.{Run, AreInRange, first_leg, replies}
-use Rattle.lp_transition.proofs.Chains.{refused_so_far}
+use Rattle.lp_transition.proofs.Chains.{chain, refused_so_far}
 use Rattle.lp_transition.proofs.First.{first_check_is}
 use Rattle.lp_transition.proofs.LawProofs.{mixes_no_stay}
 use Rattle.lp_transition.proofs.NoEarlier.{completes_too, waits_too}
@@ -180,6 +180,7 @@ module _ (model : Rules) (lawful : IsLawful model) (answered : List Reply) (leg 
             floor k (j.1 ∙ ap Some same);
         accepted = (accepts_what_is_made model lawful).at_the_end leg is.sound is.few;
         refused = λ k group w. refused_so_far model leg lawful is.sound first is_first first is_first.legal k group (waits-is model leg first k group w);
+        chain = λ k group w. chain model leg lawful is.sound first is_first first is_first.legal k group (waits-is model leg first k group w);
       }
 
   pub headline_of_leg : HeadlineOfLeg model answered leg (end_of model leg)

@@ -10,7 +10,7 @@ use Rattle.lp_transition.specs.declared.reply.What.TheVariants.{Switched}
 use Rattle.lp_transition.specs.declared.reply.Reply.{Reply}
 use Rattle.lp_transition.specs.Leg.{Leg}
 use Rattle.lp_transition.specs.Schedule.{Schedule, waits, complete, IsLegal, IsFirstCheck, CompletesAt}
-use Rattle.lp_transition.specs.Chain.{IsRefusedBetween}
+use Rattle.lp_transition.specs.Chain.{Chain, IsRefusedBetween}
 use Rattle.lp_transition.specs.Run.{Run, AreInRange, first_leg, switched_at}
 use Rattle.lp_transition.specs.Stays.{moments, stays, is_mixed}
 use Rattle.lp_cert.specs.declared.cert.Claim.TheVariants.{Waiting, Floor}
@@ -65,6 +65,9 @@ module _ (model : Rules) (leg : Leg) (first : Schedule) where
     pub accepted : All (λ made. verdict_on model leg made.claim made ≡ None) end.certs
     pub refused :
         (k group : ℕ) → IsTrue (waits model leg first k group) → IsRefusedBetween model leg first zero k group
+    -- and it waited at the opening, or a chain of births leads to it from a group that did
+    pub chain :
+        (k group : ℕ) → IsTrue (waits model leg first k group) → Chain model leg first group k
 
 -- ---- The run
 
