@@ -40,7 +40,7 @@ pub and_true : (b : Bool) → (b && true) ≡ b
 and_true true = refl
 and_true false = refl
 
--- ---- Who waits once groups went over
+-- ---- Who waits once groups switched
 
 module _ (model : Rules) (s : State) (event : Event) where
   abbrev now : State
@@ -49,22 +49,22 @@ module _ (model : Rules) (s : State) (event : Event) where
   abbrev off : ℕ → ℕ → Standing → Bool
   off g t x = nat_eq x.group g && not (nat_eq x.level s.target)
 
-  moved_off : (g t : ℕ) (x : Standing) (goes : Bool) → switches_at model now event x.group ≡ goes → (mine : Bool) → nat_eq x.group g ≡ mine
+  switched_off : (g t : ℕ) (x : Standing) (goes : Bool) → switches_at model now event x.group ≡ goes → (mine : Bool) → nat_eq x.group g ≡ mine
       → off g t (switched_task model now event x) ≡ (off g t x && not (switches_at model now event g))
-  moved_off g t x true e true mine =
+  switched_off g t x true e true mine =
       let same : switches_at model now event g ≡ true = ap (switches_at model now event) (sym (eqb-true x.group g mine)) ∙ e in
       ap (off g t) (cond-true (switches_at model now event x.group) (record x { level = s.target }) x e)
       ∙ (ap (λ b. nat_eq x.group g && not b) (eq-eqb s.target s.target refl)
       ∙ (and-false (nat_eq x.group g)
       ∙ (sym (and-false (off g t x)) ∙ ap (λ b. off g t x && not b) (sym same))))
-  moved_off g t x true e false mine =
+  switched_off g t x true e false mine =
       ap (off g t) (cond-true (switches_at model now event x.group) (record x { level = s.target }) x e)
       ∙ (ap (λ b. b && not (nat_eq s.target s.target)) mine ∙ ap (λ b. (b && not (nat_eq x.level s.target)) && not (switches_at model now event g)) (sym mine))
-  moved_off g t x false e true mine =
+  switched_off g t x false e true mine =
       let same : switches_at model now event g ≡ false = ap (switches_at model now event) (sym (eqb-true x.group g mine)) ∙ e in
       ap (off g t) (cond-false (switches_at model now event x.group) (record x { level = s.target }) x e)
       ∙ (sym (and_true (off g t x)) ∙ ap (λ b. off g t x && not b) (sym same))
-  moved_off g t x false e false mine =
+  switched_off g t x false e false mine =
       ap (off g t) (cond-false (switches_at model now event x.group) (record x { level = s.target }) x e)
       ∙ (ap (λ b. b && not (nat_eq x.level s.target)) mine ∙ ap (λ b. (b && not (nat_eq x.level s.target)) && not (switches_at model now event g)) (sym mine))
 
@@ -77,35 +77,35 @@ module _ (model : Rules) (s : State) (event : Event) where
       false≢true (sym (and-false (off g w.task w.life)) ∙ w.passed))
       ∙ sym (and-false (some_live now.bounds now.tasks (off g)))
 
-  -- who waits after the event's own effect, and doesn't go over
+  -- who waits after the event's own effect, and doesn't switch
   pub behind_after : (g : ℕ) → waits_in (with_switches model s event) g ≡ (waits_in now g && not (switches_at model now event g))
   behind_after g =
       some_live-map now.bounds (switched_task model now event) now.tasks (off g)
-      ∙ (ap (some_live now.bounds now.tasks) (fun_ext (λ t. fun_ext (λ x. moved_off g t x (switches_at model now event x.group) refl (nat_eq x.group g) refl)))
+      ∙ (ap (some_live now.bounds now.tasks) (fun_ext (λ t. fun_ext (λ x. switched_off g t x (switches_at model now event x.group) refl (nat_eq x.group g) refl)))
       ∙ off_and g (not (switches_at model now event g)))
 
   module _ (g : ℕ) (below : g < 65536) (wide : suc now.bounds.tasks ≡ 65536) where
-    in_going : list_any (nat_eq g) (groups_of (switched (switched_groups model now event))) ≡ switches_at model now event g
-    in_going =
+    in_switched : list_any (nat_eq g) (groups_of (switched (switched_groups model now event))) ≡ switches_at model now event g
+    in_switched =
         ap (list_any (nat_eq g)) (groups_of-switched (switched_groups model now event) ∙ switching_by model 65536 now event (switches_at model now event) wide (λ k. refl))
         ∙ passing-any 65536 (switches_at model now event) g below
 
--- the groups that an event's answer tells are those that go over
-pub told_over : (model : Rules) (s : State) (event : Event) (g : ℕ) → g < 65536 → suc s.bounds.tasks ≡ 65536 → is_control event ≡ false → list_any (nat_eq g) (groups_of (told model s event)) ≡ switches_at model (affected model s event) event g
-told_over model s (Call t f) g below wide plain = sym (quiet-stays model (affected model s (Call t f)) (Call t f) g refl)
-told_over model s (Ret t) g below wide plain = in_going model s (Ret t) g below wide
-told_over model s (Sleep t) g below wide plain = in_going model s (Sleep t) g below wide
-told_over model s (Wake t) g below wide plain = in_going model s (Wake t) g below wide
-told_over model s (Enter t) g below wide plain = in_going model s (Enter t) g below wide
-told_over model s (Exit t) g below wide plain = in_going model s (Exit t) g below wide
-told_over model s (Idle t) g below wide plain = in_going model s (Idle t) g below wide
-told_over model s (Fork p c how) g below wide plain = in_going model s (Fork p c how) g below wide
-told_over model s (Die t) g below wide plain = in_going model s (Die t) g below wide
-told_over model s Walk g below wide plain = in_going model s Walk g below wide
-told_over model s Stop g below wide plain = in_going model s Stop g below wide
-told_over model s Enable g below wide plain = absurd (false≢true (sym plain))
-told_over model s Disable g below wide plain = absurd (false≢true (sym plain))
-told_over model s Reverse g below wide plain = absurd (false≢true (sym plain))
+-- the groups that an event's answer tells are those that switch
+pub told_switched : (model : Rules) (s : State) (event : Event) (g : ℕ) → g < 65536 → suc s.bounds.tasks ≡ 65536 → is_control event ≡ false → list_any (nat_eq g) (groups_of (told model s event)) ≡ switches_at model (affected model s event) event g
+told_switched model s (Call t f) g below wide plain = sym (quiet-stays model (affected model s (Call t f)) (Call t f) g refl)
+told_switched model s (Ret t) g below wide plain = in_switched model s (Ret t) g below wide
+told_switched model s (Sleep t) g below wide plain = in_switched model s (Sleep t) g below wide
+told_switched model s (Wake t) g below wide plain = in_switched model s (Wake t) g below wide
+told_switched model s (Enter t) g below wide plain = in_switched model s (Enter t) g below wide
+told_switched model s (Exit t) g below wide plain = in_switched model s (Exit t) g below wide
+told_switched model s (Idle t) g below wide plain = in_switched model s (Idle t) g below wide
+told_switched model s (Fork p c how) g below wide plain = in_switched model s (Fork p c how) g below wide
+told_switched model s (Die t) g below wide plain = in_switched model s (Die t) g below wide
+told_switched model s Walk g below wide plain = in_switched model s Walk g below wide
+told_switched model s Stop g below wide plain = in_switched model s Stop g below wide
+told_switched model s Enable g below wide plain = absurd (false≢true (sym plain))
+told_switched model s Disable g below wide plain = absurd (false≢true (sym plain))
+told_switched model s Reverse g below wide plain = absurd (false≢true (sym plain))
 
 -- ---- Whom a scan refuses
 

@@ -101,9 +101,9 @@ module _ (model : Rules) where
 
   -- ---- The first moment at which a leg is complete
 
-  settled_moment : (leg : Leg) → is_complete_now model leg ≡ true → (k : ℕ) × (completion model leg ≡ Some k)
+  complete_moment : (leg : Leg) → is_complete_now model leg ≡ true → (k : ℕ) × (completion model leg ≡ Some k)
   unfolding is_complete_now completion
-  settled_moment leg e =
+  complete_moment leg e =
       let n = length leg.events in
       let there = or_some (find (passes leg) (range_with_len 0 n)) n in
       (there.0, ap (find (passes leg)) (range_up n) ∙ (find-append (passes leg) (range_with_len 0 n) (n ∷ []) ∙ (ap (option_or (find (passes leg) (range_with_len 0 n))) (cond-true (passes leg n) (Some n) None e) ∙ there.1)))
@@ -133,9 +133,9 @@ module _ (model : Rules) where
   certs_kept leg event (suc k) le = past_floor leg event k (omega arith)
 
   module _ (lawful : IsLawful model) (leg : Leg) (sound : IsSound leg.opening) where
-    pub unsettled_moment : is_complete_now model leg ≡ false → completion model leg ≡ None
+    pub incomplete_moment : is_complete_now model leg ≡ false → completion model leg ≡ None
     unfolding is_complete_now completion
-    unsettled_moment e =
+    incomplete_moment e =
         let n = length leg.events in
         find_none (passes leg) 0 (suc n) (λ k low high.
         false_from_ne_true _ (λ done. let last = complete_later model leg lawful sound (first_check model leg) k n (omega arith) done in absurd (cc)))
@@ -149,9 +149,9 @@ module _ (model : Rules) where
         completion_up leg event ∙ ap₂ (λ o c. option_or o (if c then Some (suc (length leg.events)) else None)) e now
 
     -- where no moment came the leg isn't complete
-    pub unsettled_if : completion model leg ≡ None → is_complete_now model leg ≡ false
-    unsettled_if e =
-        false_from_ne_true (is_complete_now model leg) (λ done. let there = settled_moment leg done in some_none there.0 (sym there.1 ∙ e))
+    pub incomplete_if : completion model leg ≡ None → is_complete_now model leg ≡ false
+    incomplete_if e =
+        false_from_ne_true (is_complete_now model leg) (λ done. let there = complete_moment leg done in some_none there.0 (sym there.1 ∙ e))
       where
         some_none : (k : ℕ) → Some k ≡ None → ⊥
         some_none k h = absurd (cc)

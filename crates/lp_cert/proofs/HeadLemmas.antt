@@ -53,10 +53,10 @@ pub all_fit_further : (n : ℕ) (rs : List Reason) → AllByRecursion (FitsIn n)
 all_fit_further n [] fits = tt
 all_fit_further n (r ∷ rs) fits = (fit_further n r fits.0, all_fit_further n rs fits.1)
 
-goes_on_further : (n : ℕ) (o : Ongoing) → ContinuesIn n o → ContinuesIn (n + 1) o
-goes_on_further n Nothing h = tt
-goes_on_further n (Hold t serial from) h = tt
-goes_on_further n (Busy t first) h = omega arith
+continues_further : (n : ℕ) (o : Ongoing) → ContinuesIn n o → ContinuesIn (n + 1) o
+continues_further n Nothing h = tt
+continues_further n (Hold t serial from) h = tt
+continues_further n (Busy t first) h = omega arith
 
 last-more : (scans : List ℕ) (at : ℕ) → get_or (more scans at) (length (more scans at) - 1) 0 ≡ at
 last-more scans at =
@@ -101,10 +101,10 @@ begun_lines scans g t at blame.Busy rs used =
     ap (λ xs. busy_lines g t xs ++ lines_of (more scans at) rs) (ap (drop (length scans)) (all_scans (more scans at)) ∙ drop-append_seam scans (at ∷ []))
 begun_lines scans g t at blame.Unused rs used = absurd used
 
-begun_goes_on : (n : ℕ) (t : TaskId) (at : ℕ) (b : Blame) → IsUsed b → ContinuesIn (n + 1) (reason_begun_by n t at b)
-begun_goes_on n t at (blame.Frame serial) used = tt
-begun_goes_on n t at blame.Busy used = omega arith
-begun_goes_on n t at blame.Unused used = absurd used
+begun_continues : (n : ℕ) (t : TaskId) (at : ℕ) (b : Blame) → IsUsed b → ContinuesIn (n + 1) (reason_begun_by n t at b)
+begun_continues n t at (blame.Frame serial) used = tt
+begun_continues n t at blame.Busy used = omega arith
+begun_continues n t at blame.Unused used = absurd used
 
 begun_something : (n : ℕ) (t : TaskId) (at : ℕ) (b : Blame) → IsUsed b → reason_begun_by n t at b ≡ Nothing → ⊥
 begun_something n t at (blame.Frame serial) used e = absurd (cc)
@@ -125,7 +125,7 @@ busy_some scans first h =
     let t = ap length (all_scans scans) in
     omega arith
 
--- a refusal that nothing goes on with brings a new line
+-- a refusal that nothing continues with brings a new line
 new_in_front : (has_frame : (task serial : ℕ) → Bool) (scans : List ℕ) (g : GroupId) (o : Ongoing) (rs : List Reason) (refused : Refused)
     → ContinuesIn (length scans) o → (o ≡ Nothing → IsUnchecked rs) → HasFrameAs has_frame o refused.frame_stands → continues_after o refused ≡ false
     → after_refusal has_frame g.0 refused.at (refused.task.0, refused.blame) (lines_of scans (ongoing_reasons scans g o ++ rs))
@@ -158,7 +158,7 @@ busy_more g t scans first at h =
     ap (map (λ on. line.Busy g t on)) (ap reverse further ∙ reverse-append (drop first scans) (at ∷ []))
     ∙ ap (λ xs. line.Busy g t at ∷ busy_lines g t (drop first xs)) (sym (all_scans scans))
 
--- a refusal that the newest reason goes on with makes it longer
+-- a refusal that the newest reason continues with makes it longer
 longer_in_front : (has_frame : (task serial : ℕ) → Bool) (scans : List ℕ) (g : GroupId) (o : Ongoing) (rs : List Reason) (refused : Refused)
     → ContinuesIn (length scans) o → AllByRecursion (FitsIn (length scans)) rs → HasFrameAs has_frame o refused.frame_stands → continues_after o refused ≡ true
     → lines_of (more scans refused.at) (ongoing_reasons (more scans refused.at) g o ++ rs)
@@ -178,14 +178,14 @@ longer_in_front has_frame scans g (Busy t first) rs refused goes fits frame_stan
     ∙ sym (new_line has_frame g.0 refused.at (refused.task.0, refused.blame) _ calm)))
 
 module _ (scans : List ℕ) (group : GroupId) (refused : Refused) (head : Head) (old : List (List Reason)) (is_head : IsHead old (length scans) head) where
-  -- the newest reason goes on
+  -- the newest reason continues
   pub refused_on : continues_after head.ongoing refused ≡ true → IsRefusedBy refused group scans head head old old
   refused_on on = record {
     lines = λ has_frame frame_stands. longer_in_front has_frame scans group head.ongoing (get_or old head.older.0 []) refused is_head.continues is_head.fits frame_stands on;
     stands = record {
       known = is_head.known;
       fits = all_fit_further (length scans) (get_or old head.older.0 []) is_head.fits;
-      continues = goes_on_further (length scans) head.ongoing is_head.continues;
+      continues = continues_further (length scans) head.ongoing is_head.continues;
       unchecked = is_head.unchecked;
     };
     kept = record { no_less = omega arith; same = λ i h. refl };
@@ -209,7 +209,7 @@ module _ (scans : List ℕ) (group : GroupId) (refused : Refused) (head : Head) 
         stands = record {
           known = known;
           fits = subst (AllByRecursion (FitsIn (length scans + 1))) (sym list) (all_fit_further (length scans) closed fits);
-          continues = subst (ContinuesIn (length scans + 1)) (sym begins) (begun_goes_on (length scans) refused.task refused.at refused.blame used);
+          continues = subst (ContinuesIn (length scans + 1)) (sym begins) (begun_continues (length scans) refused.task refused.at refused.blame used);
           unchecked = λ e. absurd (begun_something (length scans) refused.task refused.at refused.blame used (sym begins ∙ e));
         };
         kept = kept;
@@ -220,7 +220,7 @@ pub head_further : (lists : List (List Reason)) (n : ℕ) (head : Head) → IsHe
 head_further lists n head is = record {
   known = is.known;
   fits = all_fit_further n (get_or lists head.older.0 []) is.fits;
-  continues = goes_on_further n head.ongoing is.continues;
+  continues = continues_further n head.ongoing is.continues;
   unchecked = is.unchecked;
 }
 

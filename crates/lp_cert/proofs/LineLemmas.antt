@@ -1,5 +1,5 @@
 -- The lines that are left of a certificate.
-use Rattle.std.proofs.Common.{◌≡◌, ℕ, ◌<◌, ◌≤◌, List, [], ◌∷◌, ◌++◌, length, map, reverse, take, drop, Option, Some, None, IfNone, option_to_list, sym, ap, ap₂, subst, ◌∙◌, arith}
+use Rattle.std.proofs.Common.{◌≡◌, ℕ, ◌<◌, ◌≤◌, List, [], ◌∷◌, ◌++◌, length, map, reverse, take, drop, Option, Some, None, IfNone, option_to_list, refl, sym, ap, ap₂, subst, ◌∙◌, arith}
 use Rattle.std.specs.List.{AllByRecursion, slice_get}
 use Rattle.std.proofs.lemmas.Grind.{flat_map-append}
 use Rattle.std.proofs.lemmas.List.{append-nil, append_assoc, reverse-append, length-drop, length-take-le, length-map}
@@ -11,7 +11,7 @@ use Rattle.lp_cert.specs.declared.reason.Reason.{Reason}
 use Rattle.lp_cert.specs.declared.reason.Reason.TheVariants as reason
 use Rattle.lp_cert.specs.Heads.{reason_lines, lines_of}
 use Rattle.lp_cert.specs.inside.Heads.{FitsIn}
-use Rattle.lp_cert.proofs.PartLemmas.{all_front, all_last}
+use Rattle.lp_cert.proofs.PartLemmas.{all_prefix, all_last}
 use Rattle.lp_cert.proofs.WrittenLemmas.{oldest_busy}
 
 -- ---- The first line, and the others
@@ -27,9 +27,9 @@ lines_left (Some l) old new e nothing = ap (drop 1) (sym e)
 -- ---- Where no line is left of a run
 
 module _ (scans : List ℕ) (run run_new : List Line) (old new : List Reason) (same : run ≡ run_new) (over : run ≡ []) where
-  pub all_over : old ≡ new ++ [] → old ≡ [] → (run ++ reverse (lines_of scans old) ≡ []) × (run_new ++ reverse (lines_of scans new) ≡ [])
+  pub all_done : old ≡ new ++ [] → old ≡ [] → (run ++ reverse (lines_of scans old) ≡ []) × (run_new ++ reverse (lines_of scans new) ≡ [])
   unfolding lines_of
-  all_over e nothing = (
+  all_done e nothing = (
     ap₂ (λ ls rs. ls ++ reverse (lines_of scans rs)) over nothing,
     ap₂ (λ ls rs. ls ++ reverse (lines_of scans rs)) (sym same ∙ over) (sym (append-nil new) ∙ (sym e ∙ nothing)),
   )
@@ -63,7 +63,7 @@ pub busy_fits : (n : ℕ) (rs new : List Reason) (r : Reason) (g : GroupId) (t :
 busy_fits n rs new r g t first end e is fits = subst (FitsIn n) is (all_last (FitsIn n) new r (subst (AllByRecursion (FitsIn n)) e fits))
 
 pub others_fit : (n : ℕ) (rs new : List Reason) (r : Reason) → rs ≡ new ++ r ∷ [] → AllByRecursion (FitsIn n) rs → AllByRecursion (FitsIn n) new
-others_fit n rs new r e fits = all_front (FitsIn n) new (r ∷ []) (subst (AllByRecursion (FitsIn n)) e fits)
+others_fit n rs new r e fits = all_prefix (FitsIn n) new (r ∷ []) (subst (AllByRecursion (FitsIn n)) e fits)
 
 -- a run has a line
 pub run_has : (g : GroupId) (t : TaskId) (scans part : List ℕ) (first end : ℕ) (found : Option Line) (X : Type 0) → part ≡ drop first (take end scans) → (first < end) × (end ≤ length scans)
@@ -76,3 +76,17 @@ run_has g t scans part first end None X is fits nothing =
     let k = length-take-le end scans fits.1 in
     absurd (omega (arith, fits.0))
 run_has g t scans part first end (Some l) X is fits nothing = tt
+
+-- ---- All lines that are left, one after the other
+
+pub first_left : (old new : List Line) (l : Line) → slice_get old 0 ≡ Some l → new ≡ drop 1 old → old ≡ l ∷ new
+first_left [] new l e is = absurd (cc)
+first_left (x ∷ xs) new l e is = let same : x ≡ l = cc in ap₂ (λ y ys. y ∷ ys) same (sym is)
+
+pub none_are_left : (old : List Line) → slice_get old 0 ≡ None → old ≡ []
+none_are_left [] e = refl
+none_are_left (x ∷ xs) e = absurd (cc)
+
+-- a line more of all of them
+pub line_taken : (all before now old new : List Line) (l : Line) → before ++ old ≡ all → now ≡ before ++ l ∷ [] → old ≡ l ∷ new → now ++ new ≡ all
+line_taken all before now old new l is more first = ap (λ ls. ls ++ new) more ∙ (append_assoc before (l ∷ []) new ∙ (ap (λ ls. before ++ ls) (sym first) ∙ is))

@@ -202,7 +202,7 @@ pub opened_lines : (groups : Numbers) (reasons : LegReasons) (g : ℕ) (waits : 
 opened_lines groups reasons g true e calm = cond-true (has groups g) (Some (lines_in reasons g)) None e ∙ ap {A = List Line} {B = Option (List Line)} Some (calm e)
 opened_lines groups reasons g false e calm = cond-false (has groups g) (Some (lines_in reasons g)) None e
 
--- ---- Groups that go over
+-- ---- Groups that switch
 
 out_of : (groups : Numbers) (n : ℕ) → has (set groups n false) n ≡ false
 out_of groups n = by (cases_lt n (length groups))

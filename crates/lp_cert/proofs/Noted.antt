@@ -38,10 +38,10 @@ use Rattle.lp_cert.specs.Invariant.{open_end, floor_waiters, room_of}
 use Rattle.lp_cert.specs.inside.Invariant.{ends_with, current_waiters, IfReady, IsReady, leg_at, IsStepped, IsUnchangedOn}
 use Rattle.lp_cert.specs.Waiters.{WaitingGroups, kept_cert, waiters_of}
 use Rattle.lp_cert.specs.inside.Waiters.{HasFewGroups, has_off, lines_at}
-use Rattle.lp_cert.proofs.Completions.{past_floor, completion_opened, completion_below, certs_kept, completion_stays, completion_now, unsettled_if}
+use Rattle.lp_cert.proofs.Completions.{past_floor, completion_opened, completion_below, certs_kept, completion_stays, completion_now, incomplete_if}
 use Rattle.lp_cert.proofs.Making.{none_is, cert_for, certs_from, certs_tell, floor_from}
 use Rattle.lp_cert.specs.LastScan.{LastScan, AreUnchangedBy, Suffices}
-use Rattle.lp_cert.proofs.UnchangedSteps.{none_settled, settled_on}
+use Rattle.lp_cert.proofs.UnchangedSteps.{none_unchanged, unchanged_on}
 use Rattle.lp_cert.proofs.StepLines.{IsFew, step_lines}
 
 -- ---- Who waits in a leg, and its certificates
@@ -114,7 +114,7 @@ module _ (model : Rules) (lawful : IsLawful model) (e : Engine) (sound : IsSound
     next_is = cond-false (opens model leg event) (opened model leg event) (and_then leg event) stays
 
     state_is : next model (state_in e) event ≡ state_of model (and_then leg event)
-    state_is = ap (λ (s : State). next model s event) there ∙ ((does model leg event lawful leg_sound).goes_on ∙ ap (state_of model) next_is)
+    state_is = ap (λ (s : State). next model s event) there ∙ ((does model leg event lawful leg_sound).next_state ∙ ap (state_of model) next_is)
 
     plain : refusal_of model (state_in e) event ≡ None → is_control event ≡ false
     plain ok =
@@ -181,7 +181,7 @@ module _ (model : Rules) (lawful : IsLawful model) (e : Engine) (sound : IsSound
         completes_now now =
             let done = gone.completes unended now in
             let floor = done.0 in
-            let unchanged : is_complete_now model (and_then leg event) ≡ true = sym (completes_is (unsettled_if model lawful leg leg_sound no_moment)) ∙ now in
+            let unchanged : is_complete_now model (and_then leg event) ≡ true = sym (completes_is (incomplete_if model lawful leg leg_sound no_moment)) ∙ now in
             let moment : completion model (and_then leg event) ≡ Some (suc k) = completion_now model lawful leg leg_sound event no_moment true unchanged in
             let at : number ≡ leg.number + suc k = omega (arith, numbered, number_is) in
             let upto : number - 1 ≡ leg.number + k = omega (arith, at) in
@@ -205,10 +205,10 @@ module _ (model : Rules) (lawful : IsLawful model) (e : Engine) (sound : IsSound
             ∙ (step_lines model lawful e sound leg leg_sound there before lines_before step weighed last_scan calm suffices on.3 plain few g below
             ∙ ap₂ (λ (s : State) (m : ℕ). if waits_in s g then Some (lines model (and_then leg event) m g) else None) state_is (sym length_is))
 
-        goes_on_now : step.reply.completed ≡ false → open_end number later new ≡ end_of model (and_then leg event)
-        goes_on_now now =
+        continues_now : step.reply.completed ≡ false → open_end number later new ≡ end_of model (and_then leg event)
+        continues_now now =
             let on = gone.continues unended now in
-            let changed_since : is_complete_now model (and_then leg event) ≡ false = sym (completes_is (unsettled_if model lawful leg leg_sound no_moment)) ∙ now in
+            let changed_since : is_complete_now model (and_then leg event) ≡ false = sym (completes_is (incomplete_if model lawful leg leg_sound no_moment)) ∙ now in
             let moment : completion model (and_then leg event) ≡ None = completion_now model lawful leg leg_sound event no_moment false changed_since in
             let upto : number ≡ leg.number + length (and_then leg event).events = omega (arith, numbered, number_is, length_is) in
             let certs : map (kept_cert Waiting old.opened number later.reasons.lists later.reasons.scans) (waiters_of later) ≡ waiting_certs model (and_then leg event) (length (and_then leg event).events) =
@@ -221,25 +221,25 @@ module _ (model : Rules) (lawful : IsLawful model) (e : Engine) (sound : IsSound
             (sym moment)
             (certs ∙ ap (certs_by model (and_then leg event)) (sym moment)))
 
-      -- who is settled
-      abbrev settled_at : ℕ → Type 0
-      settled_at m = AreUnchangedBy model (state_of model (and_then leg event)) (lines model (and_then leg event) m) unchanged
+      -- who is unchanged
+      abbrev unchanged_at : ℕ → Type 0
+      unchanged_at m = AreUnchangedBy model (state_of model (and_then leg event)) (lines model (and_then leg event) m) unchanged
 
-      pub still_settled : IsUnchangedOn model e step old later last_scan unchanged → settled_at (length (and_then leg event).events)
-      still_settled on = by old.completed refl
+      pub still_unchanged : IsUnchangedOn model e step old later last_scan unchanged → unchanged_at (length (and_then leg event).events)
+      still_unchanged on = by old.completed refl
         where
-          none : unchanged.kind ≡ None → settled_at (length (and_then leg event).events)
-          none kind_is = none_settled model (state_of model (and_then leg event)) (lines model (and_then leg event) (length (and_then leg event).events)) unchanged kind_is
+          none : unchanged.kind ≡ None → unchanged_at (length (and_then leg event).events)
+          none kind_is = none_unchanged model (state_of model (and_then leg event)) (lines model (and_then leg event) (length (and_then leg event).events)) unchanged kind_is
 
-          by : (o : Option Completion) → old.completed ≡ o → settled_at (length (and_then leg event).events)
+          by : (o : Option Completion) → old.completed ≡ o → unchanged_at (length (and_then leg event).events)
           by (Some done) is = none (on.complete done is)
           by None is =
               ⊎_elim
               (λ (now : step.reply.completed ≡ true). none (on.completes is now))
               (λ (now : step.reply.completed ≡ false).
               let further = on.continues is now in
-              subst settled_at (sym length_is)
-              (settled_on model lawful e sound leg leg_sound there step stays last_scan unchanged later further.1 suffices calm further.0
+              subst unchanged_at (sym length_is)
+              (unchanged_on model lawful e sound leg leg_sound there step stays last_scan unchanged later further.1 suffices calm further.0
               (λ g below. after_lines is now g below ∙ ap (λ m. if waits_in (state_of model (and_then leg event)) g then Some (lines model (and_then leg event) m g) else None) length_is)))
               (cases_Bool step.reply.completed)
 
@@ -251,7 +251,7 @@ module _ (model : Rules) (lawful : IsLawful model) (e : Engine) (sound : IsSound
           by None is =
               ⊎_elim
               (λ (now : step.reply.completed ≡ true). completes_now is now)
-              (λ (now : step.reply.completed ≡ false). goes_on_now is now)
+              (λ (now : step.reply.completed ≡ false). continues_now is now)
               (cases_Bool step.reply.completed)
 
   -- ---- A leg opens
@@ -270,7 +270,7 @@ module _ (model : Rules) (lawful : IsLawful model) (e : Engine) (sound : IsSound
     turned_is : turned model (state_in e) event ≡ state_of model (opened model leg event)
     turned_is =
         sym (next-turned model (state_in e) event accepted (and_parts (is_control event) (is_none (why_refused model leg event)) turns).0)
-        ∙ (ap (λ (s : State). next model s event) there ∙ ((does model leg event lawful leg_sound).goes_on ∙ ap (state_of model) next_opened))
+        ∙ (ap (λ (s : State). next model s event) there ∙ ((does model leg event lawful leg_sound).next_state ∙ ap (state_of model) next_opened))
 
     completed_is : step.reply.completed ≡ is_complete_now model (opened model leg event)
     unfolding reply
@@ -396,32 +396,32 @@ module _ (model : Rules) (lawful : IsLawful model) (run : Run) (e : Engine) (sta
       ends : new.ended ≡ map (end_of model) (drop 1 (ended_legs model (first_leg model run) (run.events ++ step.event ∷ [])))
       ends = ended ∙ (is.ended ∙ ap (λ ls. map (end_of model) (drop 1 ls)) (sym same_ended))
 
-      -- who is settled in the run's leg with the event more
-      abbrev pub settled_next : Type 0
-      settled_next =
+      -- who is unchanged in the run's leg with the event more
+      abbrev pub unchanged_next : Type 0
+      unchanged_next =
           AreUnchangedBy model (state_of model (and_then (leg_of model run) step.event)) (lines model (and_then (leg_of model run) step.event) (length (and_then (leg_of model run) step.event).events)) new.last_scan
 
-      settled_longer : settled_next → AreUnchangedBy model (state_of model (leg_of model (plus run step.event))) (lines model (leg_of model (plus run step.event)) (length (leg_of model (plus run step.event)).events)) new.last_scan
-      settled_longer unchanged = subst (λ (l : Leg). AreUnchangedBy model (state_of model l) (lines model l (length l.events)) new.last_scan) (sym longer_is) unchanged
+      unchanged_longer : unchanged_next → AreUnchangedBy model (state_of model (leg_of model (plus run step.event))) (lines model (leg_of model (plus run step.event)) (length (leg_of model (plus run step.event)).events)) new.last_scan
+      unchanged_longer unchanged = subst (λ (l : Leg). AreUnchangedBy model (state_of model l) (lines model l (length l.events)) new.last_scan) (sym longer_is) unchanged
 
-      pub was_settled : AreUnchangedBy model (state_in e) (lines model (leg_of model run) (length (leg_of model run).events)) made.last_scan
-      was_settled = subst (λ (st : State). AreUnchangedBy model st (lines model (leg_of model run) (length (leg_of model run).events)) made.last_scan) (sym stands.there) is.unchanged
+      pub was_unchanged : AreUnchangedBy model (state_in e) (lines model (leg_of model run) (length (leg_of model run).events)) made.last_scan
+      was_unchanged = subst (λ (st : State). AreUnchangedBy model st (lines model (leg_of model run) (length (leg_of model run).events)) made.last_scan) (sym stands.there) is.unchanged
 
-      pub none_made : made.current ≡ None → new.current ≡ None → settled_next → IsMadeOf model (plus run step.event) new
+      pub none_made : made.current ≡ None → new.current ≡ None → unchanged_next → IsMadeOf model (plus run step.event) new
       none_made old now unchanged =
           let none = none_before model (ended_legs model (first_leg model run) run.events) (leg_of model run) (sym old ∙ is.current) in
           record {
             ended = ends;
             current = now ∙ ap (λ ls. option_map (end_of model) (under_way model ls (leg_of model (plus run step.event)))) (sym (same_ended ∙ none));
-            unchanged = settled_longer unchanged;
+            unchanged = unchanged_longer unchanged;
           }
 
       pub still_made : (noted number : ℕ) (leg later_leg : OpenLeg) (before later : WaitingGroups) → number ≡ e.number + 1 → IsStepped model e step number leg later_leg before later
-          → Suffices model (state_in e) step made.last_scan → (settled_next ⊎ IsUnchangedOn model e step leg later made.last_scan new.last_scan) → made.current ≡ Some (open_end noted before leg) → new.current ≡ Some (open_end number later later_leg) → IsMadeOf model (plus run step.event) new
+          → Suffices model (state_in e) step made.last_scan → (unchanged_next ⊎ IsUnchangedOn model e step leg later made.last_scan new.last_scan) → made.current ≡ Some (open_end noted before leg) → new.current ≡ Some (open_end number later later_leg) → IsMadeOf model (plus run step.event) new
       still_made noted number leg later_leg before later numbered gone suffices unchanged old now =
           let was = some_before model (ended_legs model (first_leg model run) run.events) (leg_of model run) (open_end noted before leg) (sym old ∙ is.current) in
-          let went = went_on model lawful e engine_sound (leg_of model run) present_sound stands.there step weighed (opens_if false stays) noted number leg later_leg before later made.last_scan new.last_scan numbered was.0 gone was_settled suffices in
-          let by_event = still_settled model lawful e engine_sound (leg_of model run) present_sound stands.there step weighed (opens_if false stays) noted number leg later_leg before later made.last_scan new.last_scan numbered was.0 gone was_settled suffices in
+          let went = went_on model lawful e engine_sound (leg_of model run) present_sound stands.there step weighed (opens_if false stays) noted number leg later_leg before later made.last_scan new.last_scan numbered was.0 gone was_unchanged suffices in
+          let by_event = still_unchanged model lawful e engine_sound (leg_of model run) present_sound stands.there step weighed (opens_if false stays) noted number leg later_leg before later made.last_scan new.last_scan numbered was.0 gone was_unchanged suffices in
           record {
             ended = ends;
             current =
@@ -429,7 +429,7 @@ module _ (model : Rules) (lawful : IsLawful model) (run : Run) (e : Engine) (sta
                 ∙ (ap {A = LegEnd} {B = Option LegEnd} Some went
                 ∙ (sym (ap (option_map (end_of model)) (was.1 (and_then (leg_of model run) step.event)))
                 ∙ ap₂ (λ ls (l : Leg). option_map (end_of model) (under_way model ls l)) (sym same_ended) (sym longer_is)));
-            unchanged = settled_longer (⊎_elim (λ (is_so : settled_next). is_so) (λ (on : IsUnchangedOn model e step leg later made.last_scan new.last_scan). by_event on) unchanged);
+            unchanged = unchanged_longer (⊎_elim (λ (is_so : unchanged_next). is_so) (λ (on : IsUnchangedOn model e step leg later made.last_scan new.last_scan). by_event on) unchanged);
           }
 
       -- the lines of who waits in the run's leg with the event more
@@ -439,7 +439,7 @@ module _ (model : Rules) (lawful : IsLawful model) (run : Run) (e : Engine) (sta
           ≡ (if waits_in (state_of model (and_then (leg_of model run) step.event)) g then Some (lines model (and_then (leg_of model run) step.event) (suc (length (leg_of model run).events)) g) else None)
       lines_after noted number leg later_leg before later numbered gone suffices old unended incomplete g below =
           let was = some_before model (ended_legs model (first_leg model run) run.events) (leg_of model run) (open_end noted before leg) (sym old ∙ is.current) in
-          after_lines model lawful e engine_sound (leg_of model run) present_sound stands.there step weighed (opens_if false stays) noted number leg later_leg before later made.last_scan new.last_scan numbered was.0 gone was_settled suffices unended incomplete g below
+          after_lines model lawful e engine_sound (leg_of model run) present_sound stands.there step weighed (opens_if false stays) noted number leg later_leg before later made.last_scan new.last_scan numbered was.0 gone was_unchanged suffices unended incomplete g below
           ∙ ap (λ m. if waits_in (state_of model (and_then (leg_of model run) step.event)) g then Some (lines model (and_then (leg_of model run) step.event) m g) else None)
           (length-append (leg_of model run).events (step.event ∷ []) ∙ omega arith)
 
@@ -466,7 +466,7 @@ module _ (model : Rules) (lawful : IsLawful model) (run : Run) (e : Engine) (sta
                 ∙ (ap {A = LegEnd} {B = Option LegEnd} Some anew
                 ∙ (sym (ap (option_map (end_of model)) (under_way-plus model (ended_legs model (first_leg model run) run.events) (leg_of model run) (opened model (leg_of model run) step.event)))
                 ∙ ap₂ (λ ls (l : Leg). option_map (end_of model) (under_way model ls l)) (sym more) (sym next_is)));
-            unchanged = none_settled model _ _ new.last_scan changed_since;
+            unchanged = none_unchanged model _ _ new.last_scan changed_since;
           }
 
 -- ---- What the maker needs of what it keeps

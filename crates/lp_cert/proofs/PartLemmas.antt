@@ -11,9 +11,9 @@ pub all_and : {A : Type 0} (P : A → Type 0) (xs : List A) (x : A) → AllByRec
 all_and P [] x all one = (one, tt)
 all_and P (y ∷ ys) x all one = (all.0, all_and P ys x all.1 one)
 
-pub all_front : {A : Type 0} (P : A → Type 0) (xs ys : List A) → AllByRecursion P (xs ++ ys) → AllByRecursion P xs
-all_front P [] ys all = tt
-all_front P (x ∷ xs) ys all = (all.0, all_front P xs ys all.1)
+pub all_prefix : {A : Type 0} (P : A → Type 0) (xs ys : List A) → AllByRecursion P (xs ++ ys) → AllByRecursion P xs
+all_prefix P [] ys all = tt
+all_prefix P (x ∷ xs) ys all = (all.0, all_prefix P xs ys all.1)
 
 pub all_last : {A : Type 0} (P : A → Type 0) (xs : List A) (x : A) → AllByRecursion P (xs ++ x ∷ []) → P x
 all_last P [] x all = all.0
@@ -116,7 +116,7 @@ unfolding parts_reasons
 no_part lists [] e = refl
 no_part lists (p ∷ ps) e = absurd (cc)
 
--- only what goes on
+-- only what continues
 pub ongoing_left : (lists : List (List Reason)) (ongoing : List Reason) (parts : List Part) → slice_get parts 0 ≡ None → ongoing ++ parts_reasons lists parts ≡ ongoing
 ongoing_left lists ongoing parts e = ap (λ rs. ongoing ++ rs) (no_part lists parts e) ∙ append-nil ongoing
 
@@ -125,7 +125,7 @@ empty_parts [] h = refl
 empty_parts (p ∷ ps) h = absurd (cc (h (omega arith)))
 
 module _ (lists : List (List Reason)) (ongoing left taken : Option Reason) (old new : List Part) (nothing : old ≡ []) (same : new ≡ old) (is : taken ≡ ongoing) (after : left ≡ None) where
-  -- no part, and then what goes on
+  -- no part, and then what continues
   pub none_taken : option_to_list ongoing ++ parts_reasons lists old ≡ (option_to_list left ++ parts_reasons lists new) ++ option_to_list taken
   unfolding parts_reasons
   none_taken =

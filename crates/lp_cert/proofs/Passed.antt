@@ -21,7 +21,7 @@ use Rattle.lp_transition.specs.Table.{Engine, state_in}
 use Rattle.lp_transition.specs.Weigh.{Weighed, IsWeighed, born_of, refusal_in, AreVerdictsFor}
 use Rattle.lp_transition.proofs.Alone.{same-after}
 use Rattle.lp_transition.proofs.EngineLemmas.{answer-refused, answer-accepted, is_quiet, quiet-control, quiet-stays, switched-still}
-use Rattle.lp_transition.proofs.SwitchedGroups.{going-none}
+use Rattle.lp_transition.proofs.SwitchedGroups.{switched-none}
 use Rattle.lp_model.specs.declared.check.CheckKind.{CheckKind}
 use Rattle.lp_cert.specs.declared.line.Line.{Line}
 use Rattle.lp_cert.specs.Certificates.{lines}
@@ -34,9 +34,9 @@ use Rattle.lp_cert.specs.inside.Waiters.{AreStanding, lines_at, HasFewGroups, ow
 use Rattle.lp_cert.specs.inside.StepLines.{noted_by, noted_lines}
 use Rattle.lp_cert.specs.LastScan.{AreUnchangedBy, AreThoseOf, Suffices, used_scan}
 use Rattle.lp_cert.specs.inside.LastScan.{IsTouched}
-use Rattle.lp_cert.proofs.UnchangedSteps.{no_scan, none_settled}
-use Rattle.lp_cert.proofs.Touching.{touched_settled}
-use Rattle.lp_cert.proofs.Noted.{lines_after, none_made, opens_if, present_sound, settled_next, still_made}
+use Rattle.lp_cert.proofs.UnchangedSteps.{no_scan, none_unchanged}
+use Rattle.lp_cert.proofs.Touching.{touched_unchanged}
+use Rattle.lp_cert.proofs.Noted.{lines_after, none_made, opens_if, present_sound, unchanged_next, still_made}
 
 quiet : (event : Event) → is_plain event ≡ true → is_quiet event ≡ true
 quiet (Call t f) h = refl
@@ -69,13 +69,13 @@ module _ (model : Rules) (s : State) where
 
   no_groups : (event : Event) → is_plain event ≡ true → groups_of (told model s event) ≡ []
   no_groups (Call t f) plain = refl
-  no_groups (Ret t) plain = ap (λ gs. groups_of (switched gs)) (going-none model (affected model s (Ret t)) (Ret t) (stays (Ret t) plain))
-  no_groups (Sleep t) plain = ap (λ gs. groups_of (switched gs)) (going-none model (affected model s (Sleep t)) (Sleep t) (stays (Sleep t) plain))
-  no_groups (Wake t) plain = ap (λ gs. groups_of (switched gs)) (going-none model (affected model s (Wake t)) (Wake t) (stays (Wake t) plain))
-  no_groups (Enter t) plain = ap (λ gs. groups_of (switched gs)) (going-none model (affected model s (Enter t)) (Enter t) (stays (Enter t) plain))
+  no_groups (Ret t) plain = ap (λ gs. groups_of (switched gs)) (switched-none model (affected model s (Ret t)) (Ret t) (stays (Ret t) plain))
+  no_groups (Sleep t) plain = ap (λ gs. groups_of (switched gs)) (switched-none model (affected model s (Sleep t)) (Sleep t) (stays (Sleep t) plain))
+  no_groups (Wake t) plain = ap (λ gs. groups_of (switched gs)) (switched-none model (affected model s (Wake t)) (Wake t) (stays (Wake t) plain))
+  no_groups (Enter t) plain = ap (λ gs. groups_of (switched gs)) (switched-none model (affected model s (Enter t)) (Enter t) (stays (Enter t) plain))
   no_groups _ plain = cc
 
-  -- the answer to such an event: nothing completes, and no group goes over
+  -- the answer to such an event: nothing completes, and no group switches
   abbrev IsStill : Reply → Type 0
   IsStill given = (given.completed ≡ false) × (groups_of given.what ≡ [])
 
@@ -164,27 +164,27 @@ module _ (model : Rules) (lawful : IsLawful model) (run : Run) (e : Engine) (sta
     suffices = subst (λ (o : Option CheckKind). AreThoseOf model (state_in e) o [] made.last_scan) (sym (no_used model event plain)) tt
 
     -- what is made of the run with the event more
-    with_settled : settled_next model lawful run e stands step weighed made new is opens_none ended → (current : Option OpenLeg) → made.current ≡ option_map (open_end noted waiters) current → new.current ≡ option_map (open_end number waiters) current
+    with_unchanged : unchanged_next model lawful run e stands step weighed made new is opens_none ended → (current : Option OpenLeg) → made.current ≡ option_map (open_end noted waiters) current → new.current ≡ option_map (open_end number waiters) current
         → IsMadeOf model (plus run event) new
-    with_settled unchanged None was later = none_made model lawful run e stands step weighed made new is opens_none ended was later unchanged
-    with_settled unchanged (Some leg) was later =
+    with_unchanged unchanged None was later = none_made model lawful run e stands step weighed made new is opens_none ended was later unchanged
+    with_unchanged unchanged (Some leg) was later =
         still_made model lawful run e stands step weighed made new is opens_none ended noted number leg leg waiters waiters numbered (continues number leg waiters) suffices (inl unchanged) was later
 
-    -- where no group is settled any longer
-    pub passed_over : new.last_scan.kind ≡ None → (current : Option OpenLeg) → made.current ≡ option_map (open_end noted waiters) current → new.current ≡ option_map (open_end number waiters) current → IsMadeOf model (plus run event) new
-    passed_over calm current was later = with_settled (none_settled model _ _ new.last_scan calm) current was later
+    -- where no group is unchanged any longer
+    pub passed_calm : new.last_scan.kind ≡ None → (current : Option OpenLeg) → made.current ≡ option_map (open_end noted waiters) current → new.current ≡ option_map (open_end number waiters) current → IsMadeOf model (plus run event) new
+    passed_calm calm current was later = with_unchanged (none_unchanged model _ _ new.last_scan calm) current was later
 
-    -- where a leg goes on
+    -- where a leg continues
     pub passed_on : AreStanding waiters → IsTouched e waiters.reasons event made.last_scan new.last_scan → (leg : OpenLeg) → leg.completed ≡ None → made.current ≡ Some (open_end noted waiters leg) → new.current ≡ Some (open_end number waiters leg)
         → IsMadeOf model (plus run event) new
-    passed_on stand touched leg unended was later = with_settled unchanged (Some leg) was later
+    passed_on stand touched leg unended was later = with_unchanged unchanged (Some leg) was later
       where
         stays_open : opens model (leg_of model run) event ≡ false
         stays_open = opens_if model lawful run e stands step weighed made new is false opens_none
 
-        unchanged : settled_next model lawful run e stands step weighed made new is opens_none ended
+        unchanged : unchanged_next model lawful run e stands step weighed made new is opens_none ended
         unchanged =
             subst (λ m. AreUnchangedBy model (state_of model (and_then (leg_of model run) event)) (lines model (and_then (leg_of model run) event) m) new.last_scan) (sym (length-append (leg_of model run).events (event ∷ []) ∙ omega arith))
-            (touched_settled model lawful e (leg_of model run) (present_sound model lawful run e stands) stands.there event stays_open (no_scan model event (no_used model event plain)) made.last_scan new.last_scan waiters touched stand
+            (touched_unchanged model lawful e (leg_of model run) (present_sound model lawful run e stands) stands.there event stays_open (no_scan model event (no_used model event plain)) made.last_scan new.last_scan waiters touched stand
             (lines_after model lawful run e stands step weighed made new is opens_none ended noted number leg leg waiters waiters numbered (continues number leg waiters) suffices was unended (still model (state_in e) event plain).0)
             is.unchanged)

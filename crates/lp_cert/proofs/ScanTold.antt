@@ -1,4 +1,4 @@
--- What a scan tells of each group, though it leaves out those that are settled.
+-- What a scan tells of each group, though it leaves out those that are unchanged.
 use Rattle.std.proofs.Common.{◌≡◌, ℕ, Bool, true, false, not, ◌&&◌, ◌||◌, List, [], ◌∷◌, map, Option, Some, None, is_some, IsTrue, nat_eq, refl, sym, ap, subst, ◌∙◌, ⊎_elim}
 use Rattle.std.specs.List.{filter, list_any}
 use Rattle.std.specs.Option.{option_map}
@@ -113,9 +113,9 @@ module _ (model : Rules) (s : State) (sound : IsSound s) (on : CheckKind) (lines
       let both = and_parts (is_asked s p j.number) (is_some (member_verdict s g (verdict_of model on s.aim (view_of j.number j.task)))) j.passed in
       false≢true (sym out ∙ (sym (asked_as j.number j.task (model.blame on (view_of j.number j.task) s.aim) j.live both.1) ∙ both.0)))
 
-  -- and it is settled
-  is_settled : p g ≡ false → IsUnchanged model on s (lines_in waiters.reasons g) g
-  is_settled out =
+  -- and it is unchanged
+  is_unchanged : p g ≡ false → IsUnchanged model on s (lines_in waiters.reasons g) g
+  is_unchanged out =
       let w = some_live-is s.bounds s.tasks (λ u y. nat_eq y.group g && not (nat_eq y.level s.target)) behind in
       let both = and_parts (nat_eq w.life.group g) (not (nat_eq w.life.level s.target)) w.passed in
       let mine : w.life.group ≡ g = eqb-true w.life.group g both.0 in
@@ -125,7 +125,7 @@ module _ (model : Rules) (s : State) (sound : IsSound s) (on : CheckKind) (lines
 
   left : p g ≡ false → after_verdict s at (first_refused s g (filter asked all)) waiters.reasons g ≡ after_refusal (has_frame_in s) g at blamed (lines_in waiters.reasons g)
   left out =
-      let is = is_settled out in
+      let is = is_unchanged out in
       ap (λ o. after_verdict s at o waiters.reasons g) (first_left s g asked all (none_asked out))
       ∙ (lines_again (has_frame_in s) is.member is.why waiters.reasons.lists waiters.reasons.scans (group_id g) (head_of waiters.reasons g) (stand g there) at is.continues
       ∙ sym (blamed_alike model s sound on g (lines_in waiters.reasons g) is at blamed (sym (verdicts_tell model s sound on g behind) ∙ first)))

@@ -42,7 +42,7 @@ use Rattle.lp_cert.specs.Waiters.{WaitingGroups}
 use Rattle.lp_cert.specs.inside.Waiters.{AreStanding, own_lines, after_scan, after_scan_of, after_switch, after_verdict, after_fork, after_death, is_lone, lines_at, lines_in, scanned_lines}
 use Rattle.lp_cert.proofs.NextLines.{lines_at_fork}
 use Rattle.lp_cert.proofs.OtherEvents.{lines_at_refused, lines_at_others}
-use Rattle.lp_cert.proofs.Behind.{and_true, behind_after, none_refused, told_over, same_own, others, changed_own, scan_own}
+use Rattle.lp_cert.proofs.Behind.{and_true, behind_after, none_refused, told_switched, same_own, others, changed_own, scan_own}
 use Rattle.lp_cert.proofs.ScanTold.{scan_told}
 use Rattle.lp_cert.proofs.BehindTasks.{fork_lines, die_lines}
 
@@ -172,7 +172,7 @@ module _ (model : Rules) (lawful : IsLawful model) (e : Engine) (sound : IsSound
       some_none : {A : Type 0} (a : A) → Some a ≡ None → ⊥
       some_none a e = absurd (cc)
 
-  -- ---- A scan that may leave out what is settled
+  -- ---- A scan that may leave out what is unchanged
 
   some_none : {A : Type 0} (a : A) → Some a ≡ None → ⊥
   some_none a e2 = absurd (cc)
@@ -203,7 +203,7 @@ module _ (model : Rules) (lawful : IsLawful model) (e : Engine) (sound : IsSound
       by true used = absurd (some_none kind.Stop (sym (cond-true (model.uses kind.Stop) (Some kind.Stop) None used) ∙ none))
 
   module _ (last_scan : LastScan) (calm : AreUnchangedBy model s (lines model leg n) last_scan) (on : CheckKind) (vs : List Verdict) (told : AreThoseOf model s (Some on) vs last_scan) (stand : AreStanding waiters)
-      (g : ℕ) (below : g < 65536) (not_over : switches_by e.table (verdicts_of model on s) g ≡ false) where
+      (g : ℕ) (below : g < 65536) (not_switched : switches_by e.table (verdicts_of model on s) g ≡ false) where
     since : (o : Option CheckKind) → last_scan.kind ≡ o → AreUnchangedSince model s (lines model leg n) o (has last_scan.changed_since)
     since o e2 = subst (λ (k : Option CheckKind). AreUnchangedSince model s (lines model leg n) k (has last_scan.changed_since)) e2 calm
 
@@ -233,7 +233,7 @@ module _ (model : Rules) (lawful : IsLawful model) (e : Engine) (sound : IsSound
             ∙ ap (after_scan (has_frame_in s) g (suc e.number) (first_refused s g (verdicts_of model on s))) (sym (cond-false (has waiters.groups g) (Some (lines_in waiters.reasons g)) None out)))
         by true there false behind o first =
             absurd (some_none (lines_in waiters.reasons g) (sym (cond-true (has waiters.groups g) (Some (lines_in waiters.reasons g)) None there) ∙ (is g below ∙ cond-false (waits_in s g) _ None behind)))
-        by true there true behind None first = absurd (false≢true (sym not_over ∙ none_refused model lawful e sound on g behind first))
+        by true there true behind None first = absurd (false≢true (sym not_switched ∙ none_refused model lawful e sound on g behind first))
         by true there true behind (Some blamed) first =
             let frame_stands : Some (lines_in waiters.reasons g) ≡ Some (lines model leg n g) = sym (cond-true (has waiters.groups g) (Some (lines_in waiters.reasons g)) None there) ∙ (is g below ∙ cond-true (waits_in s g) _ None behind) in
             let same : lines_in waiters.reasons g ≡ lines model leg n g = cc in
@@ -246,13 +246,13 @@ module _ (model : Rules) (lawful : IsLawful model) (e : Engine) (sound : IsSound
     noted_scan : (on : CheckKind) (vs : List Verdict) → AreThoseOf model s (used_kind model on) vs last_scan → (IsSome (used_kind model on) → AreStanding waiters) → switches_by e.table (verdicts_of model on s) g ≡ false → (event : Event)
         → ((ws : List Verdict) → own_lines model e event ws old g ≡ after_scan_of model s on ws old g) → used_scan model event ≡ used_kind model on
         → noted_by model e (used_kind model on) event vs waiters g ≡ own_lines model e event (verdicts_of model on s) old g
-    noted_scan on vs told stand not_over event own is_used = by (model.uses on) refl
+    noted_scan on vs told stand not_switched event own is_used = by (model.uses on) refl
       where
         by : (b : Bool) → model.uses on ≡ b → noted_by model e (used_kind model on) event vs waiters g ≡ own_lines model e event (verdicts_of model on s) old g
         by true used =
             let kind_is : used_kind model on ≡ Some on = cond-true (model.uses on) (Some on) None used in
             ap (λ o. noted_by model e o event vs waiters g) kind_is
-            ∙ (scan_noted last_scan calm on vs (subst (λ (o : Option CheckKind). AreThoseOf model s o vs last_scan) kind_is told) (stand (subst IsSome (sym kind_is) refl)) g below not_over
+            ∙ (scan_noted last_scan calm on vs (subst (λ (o : Option CheckKind). AreThoseOf model s o vs last_scan) kind_is told) (stand (subst IsSome (sym kind_is) refl)) g below not_switched
             ∙ (sym (cond-true (model.uses on) (after_scan (has_frame_in s) g (suc e.number) (first_refused s g (verdicts_of model on s)) (old g)) (old g) used) ∙ sym (own (verdicts_of model on s))))
         by false unused =
             let kind_is : used_kind model on ≡ None = cond-false (model.uses on) (Some on) None unused in
@@ -313,4 +313,4 @@ module _ (model : Rules) (lawful : IsLawful model) (e : Engine) (sound : IsSound
           ap (λ (r : Reply). r.what) (weighed.reply ∙ answer-accepted model s event ok)
           ∙ ap (λ (r : Reply). r.what) (cond-false (is_control event) _ _ (plain ok)) in
           cond-true (is_none (refusal_in step.reply.what)) (after_switch (groups_of step.reply.what) (noted_lines model e event step.verdicts waiters) g) (old g) (ap is_none (refused_is ∙ ok))
-          ∙ gone ok (switches_at model (affected model s event) event g) refl (ap (λ (w : What). list_any (nat_eq g) (groups_of w)) what ∙ told_over model s event g below refl (plain ok))
+          ∙ gone ok (switches_at model (affected model s event) event g) refl (ap (λ (w : What). list_any (nat_eq g) (groups_of w)) what ∙ told_switched model s event g below refl (plain ok))

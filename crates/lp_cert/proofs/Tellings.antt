@@ -13,7 +13,7 @@ use Rattle.lp_cert.specs.declared.leg_end.LegEnd.{LegEnd}
 use Rattle.lp_cert.specs.Certificates.{cert, completion, certs_by, waiting_groups, floor_certs, legs, opened_legs}
 use Rattle.lp_cert.specs.Ends.{Made, IsFresh, IsMadeOf, end_of, ended_legs, under_way, waiting_in, floor_in}
 use Rattle.lp_cert.proofs.Asked.{find_own}
-use Rattle.lp_cert.proofs.UnchangedSteps.{none_settled}
+use Rattle.lp_cert.proofs.UnchangedSteps.{none_unchanged}
 
 module _ (model : Rules) where
   pub begins : (run : Run) (made : Made) → run.events ≡ [] → IsFresh made → IsMadeOf model run made
@@ -21,7 +21,7 @@ module _ (model : Rules) where
   begins run made none fresh = record {
     ended = fresh.ended ∙ sym (ap (λ events. map (end_of model) (drop 1 (ended_legs model (first_leg model run) events))) none);
     current = fresh.current ∙ sym (ap (λ events. option_map (end_of model) (under_way model (ended_legs model (first_leg model run) events) (leg_after model (first_leg model run) events))) none);
-    unchanged = none_settled model _ _ made.last_scan fresh.last_scan;
+    unchanged = none_unchanged model _ _ made.last_scan fresh.last_scan;
   }
 
   -- the legs are those that ended, and the last

@@ -1,4 +1,4 @@
--- Which groups are settled after an event that is no scan that the model uses.
+-- Which groups are unchanged after an event that is no scan that the model uses.
 use Rattle.std.proofs.Common.{◌≡◌, ℕ, suc, ◌<◌, Bool, true, false, not, ◌&&◌, ◌||◌, length, Option, Some, None, is_some, if◌then◌else◌, nat_eq, refl, sym, ap, ap₂, subst, ◌∙◌}
 use Rattle.std.proofs.lemmas.Bool.{false≢true, cond-true, cond-false, eq-eqb, or_parts}
 use Rattle.lp_numbers.specs.Numbers.{has}
@@ -25,13 +25,13 @@ use Rattle.lp_cert.specs.inside.LastScan.{IsTouched, disturbs, is_named_task, na
 use Rattle.lp_cert.specs.EventLines.{has_frame_in}
 use Rattle.lp_cert.specs.Waiters.{WaitingGroups, LegReasons, head_of}
 use Rattle.lp_cert.specs.inside.Waiters.{AreStanding, lines_at, lines_in}
-use Rattle.lp_cert.proofs.UnchangedLines.{OngoingGoesOn, head_ongoing}
+use Rattle.lp_cert.proofs.UnchangedLines.{OngoingContinues, head_ongoing}
 use Rattle.lp_cert.proofs.UnchangedEvents.{IsNoUsedScan, AreLeftAlone, lines_same, unchanged_by}
 
 -- ---- What a reason names
 
--- a reason that goes on with a refusal of a task names it
-names_task : (has_frame : (task serial : ℕ) → Bool) (t : ℕ) (why : Blame) (ongoing : Ongoing) → OngoingGoesOn has_frame t why ongoing → names ongoing t ≡ true
+-- a reason that continues with a refusal of a task names it
+names_task : (has_frame : (task serial : ℕ) → Bool) (t : ℕ) (why : Blame) (ongoing : Ongoing) → OngoingContinues has_frame t why ongoing → names ongoing t ≡ true
 names_task has_frame t why Nothing h = absurd h
 names_task has_frame t why (Hold task serial from) h = eq-eqb task.0 t h.0
 names_task has_frame t why (Busy task first) h = eq-eqb task.0 t h.0
@@ -81,12 +81,12 @@ module _ (model : Rules) (lawful : IsLawful model) (e : Engine) (leg : Leg) (leg
   abbrev longer : Leg
   longer = and_then leg event
 
-  -- the event doesn't touch the member that the newest line of a settled group names
+  -- the event doesn't touch the member that the newest line of an unchanged group names
   module _ (t : ℕ) (x : Standing) (live : (state_of model longer).tasks t ≡ Live x) (off : nat_eq x.level (state_of model longer).target ≡ false) (on : CheckKind) (unchanged : IsUnchanged model on s (lines model leg n x.group) x.group) where
     stands_there : slot e.table unchanged.member ≡ Some unchanged.life
     stands_there = slot_from_live e.table unchanged.member unchanged.life (ap (λ (st : State). st.tasks unchanged.member) there ∙ unchanged.live)
 
-    continues : x.group < 65536 → OngoingGoesOn (has_frame_in s) unchanged.member unchanged.why (head_of later.reasons x.group).ongoing
+    continues : x.group < 65536 → OngoingContinues (has_frame_in s) unchanged.member unchanged.why (head_of later.reasons x.group).ongoing
     continues few =
         let kept = lines_held model lawful longer leg_sound later (suc n) after_lines t x live off few in
         let same = subst (λ g. lines model longer (suc n) g ≡ lines model leg n g) unchanged.grouped (lines_same model lawful leg leg_sound event calm unchanged.member unchanged.life unchanged.live) in
@@ -111,9 +111,9 @@ module _ (model : Rules) (lawful : IsLawful model) (e : Engine) (leg : Leg) (leg
   abbrev IsSettledSince : Option CheckKind → Type 0
   IsSettledSince o = AreUnchangedSince model (state_of model longer) (lines model longer (suc n)) o (has new.changed_since)
 
-  -- groups that are settled stay so where the event doesn't disturb them
-  pub touched_settled : AreUnchangedBy model (state_of model longer) (lines model longer (suc n)) new
-  touched_settled = by old.kind refl
+  -- groups that are unchanged stay so where the event doesn't disturb them
+  pub touched_unchanged : AreUnchangedBy model (state_of model longer) (lines model longer (suc n)) new
+  touched_unchanged = by old.kind refl
     where
       by : (o : Option CheckKind) → old.kind ≡ o → AreUnchangedBy model (state_of model longer) (lines model longer (suc n)) new
       by None k = subst IsSettledSince (sym (is_touched.kind ∙ k)) tt

@@ -1,4 +1,4 @@
--- A group that is settled stays so at an event that doesn't disturb it.
+-- A group that is unchanged stays so at an event that doesn't disturb it.
 use Rattle.std.proofs.Common.{◌≡◌, ◌≢◌, ℕ, suc, Bool, true, false, not, ◌&&◌, ◌||◌, List, [], ◌∷◌, length, Option, Some, None, is_none, IsFalse, if◌then◌else◌, nat_eq, nat_lt, refl, sym, ap, subst, ◌∙◌, ⊎_elim}
 use Rattle.std.specs.List.{list_any}
 use Rattle.std.proofs.lemmas.Bool.{false≢true, cond-false, eq-eqb, eqb-true, eqb-false, ne_eqb, or_parts}
@@ -36,12 +36,12 @@ use Rattle.lp_cert.proofs.OtherEvents.{lines_at_others, lines_at_refused}
 
 -- ---- A task that stands as before
 
--- frames of the task that are still there let the newest line go on still
-pub goes_on_as : (before after : (task serial : ℕ) → Bool) (t : ℕ) (why : Blame) (lines : List Line) → ((serial : ℕ) → before t serial ≡ after t serial) → Continues before t why lines → Continues after t why lines
-goes_on_as before after t why [] same h = absurd h
-goes_on_as before after t why (line.Hold g task serial from to ∷ older) same h = (h.0, sym (same serial) ∙ h.1)
-goes_on_as before after t why (line.Busy g task on ∷ older) same h = h
-goes_on_as before after t why (line.Born g p on ∷ older) same h = absurd h
+-- frames of the task that are still there let the newest line continue still
+pub continues_as : (before after : (task serial : ℕ) → Bool) (t : ℕ) (why : Blame) (lines : List Line) → ((serial : ℕ) → before t serial ≡ after t serial) → Continues before t why lines → Continues after t why lines
+continues_as before after t why [] same h = absurd h
+continues_as before after t why (line.Hold g task serial from to ∷ older) same h = (h.0, sym (same serial) ∙ h.1)
+continues_as before after t why (line.Busy g task on ∷ older) same h = h
+continues_as before after t why (line.Born g p on ∷ older) same h = absurd h
 
 pub frames_same : (s after : State) (t : ℕ) (x : Standing) → s.tasks t ≡ Live x → after.tasks t ≡ Live x → (serial : ℕ) → has_frame_in s t serial ≡ has_frame_in after t serial
 frames_same s after t x live there serial = ap (on_live false (λ (y : Standing). list_any (λ frame. nat_eq frame.serial serial) y.frames)) (live ∙ sym there)
@@ -99,17 +99,17 @@ module _ (model : Rules) (s : State) (event : Event) where
   apart_from : (a t : ℕ) → (Some a ≡ Some t → ⊥) → nat_eq t a ≡ false
   apart_from a t apart = ne_eqb t a (λ same. apart (ap {A = ℕ} {B = Option ℕ} Some (sym same)))
 
-  unchanged : (a : ℕ) (f : Standing → Standing) (t : ℕ) → (Some a ≡ Some t → ⊥) → change a f s.tasks t ≡ s.tasks t
-  unchanged a f t apart = cond-false (nat_eq t a) (map_live f (s.tasks t)) (s.tasks t) (apart_from a t apart)
+  others_same : (a : ℕ) (f : Standing → Standing) (t : ℕ) → (Some a ≡ Some t → ⊥) → change a f s.tasks t ≡ s.tasks t
+  others_same a f t apart = cond-false (nat_eq t a) (map_live f (s.tasks t)) (s.tasks t) (apart_from a t apart)
 
   -- a task that isn't touched and isn't born stands as before
   own_same : (given : Event) (t : ℕ) → (touched given ≡ Some t → ⊥) → is_childs given t ≡ false → own_effect model.child_group (suc s.number) given s.tasks t ≡ s.tasks t
-  own_same (Call a f) t apart unborn = unchanged a.0 (calling (suc s.number) f) t apart
-  own_same (Ret a) t apart unborn = unchanged a.0 returning t apart
-  own_same (Sleep a) t apart unborn = unchanged a.0 (put_in Asleep) t apart
-  own_same (Wake a) t apart unborn = unchanged a.0 (put_in Kernel) t apart
-  own_same (Enter a) t apart unborn = unchanged a.0 (put_in Kernel) t apart
-  own_same (Exit a) t apart unborn = unchanged a.0 (put_in User) t apart
+  own_same (Call a f) t apart unborn = others_same a.0 (calling (suc s.number) f) t apart
+  own_same (Ret a) t apart unborn = others_same a.0 returning t apart
+  own_same (Sleep a) t apart unborn = others_same a.0 (put_in Asleep) t apart
+  own_same (Wake a) t apart unborn = others_same a.0 (put_in Kernel) t apart
+  own_same (Enter a) t apart unborn = others_same a.0 (put_in Kernel) t apart
+  own_same (Exit a) t apart unborn = others_same a.0 (put_in User) t apart
   own_same (Idle a) t apart unborn = refl
   own_same (Fork p c how) t apart unborn = cond-false (nat_eq t c.0) (map_live (bearing model.child_group c.0 how) (s.tasks p.0)) (s.tasks t) unborn
   own_same (Die a) t apart unborn = cond-false (nat_eq t a.0) Dead (s.tasks t) (apart_from a.0 t apart)
@@ -119,38 +119,38 @@ module _ (model : Rules) (s : State) (event : Event) where
   own_same Disable t apart unborn = refl
   own_same Reverse t apart unborn = refl
 
-  -- ---- Once groups went over
+  -- ---- Once groups switched
 
-  moved_group : (y : Standing) (goes : Bool) → switches_at model now event y.group ≡ goes → y.group ≡ (switched_task model now event y).group
-  moved_group y true e = ap (λ b. (if b then record y { level = s.target } else y).group) (sym e)
-  moved_group y false e = ap (λ b. (if b then record y { level = s.target } else y).group) (sym e)
+  switched_group : (y : Standing) (goes : Bool) → switches_at model now event y.group ≡ goes → y.group ≡ (switched_task model now event y).group
+  switched_group y true e = ap (λ b. (if b then record y { level = s.target } else y).group) (sym e)
+  switched_group y false e = ap (λ b. (if b then record y { level = s.target } else y).group) (sym e)
 
-  -- who is off the target afterwards didn't go over
-  not_over : (y : Standing) (goes : Bool) → switches_at model now event y.group ≡ goes → nat_eq (switched_task model now event y).level s.target ≡ false → switches_at model now event y.group ≡ false
-  not_over y true e off =
+  -- who is off the target afterwards didn't switch
+  not_switched : (y : Standing) (goes : Bool) → switches_at model now event y.group ≡ goes → nat_eq (switched_task model now event y).level s.target ≡ false → switches_at model now event y.group ≡ false
+  not_switched y true e off =
       let there : nat_eq s.target s.target ≡ false = ap (λ b. nat_eq (if b then record y { level = s.target } else y).level s.target) (sym e) ∙ off in
       absurd (false≢true (sym there ∙ eq-eqb s.target s.target refl))
-  not_over y false e off = e
+  not_switched y false e off = e
 
-  moved_not : (y : Standing) → switches_at model now event y.group ≡ false → switched_task model now event y ≡ y
-  moved_not y stays = cond-false (switches_at model now event y.group) (record y { level = s.target }) y stays
+  switched_not : (y : Standing) → switches_at model now event y.group ≡ false → switched_task model now event y ≡ y
+  switched_not y stays = cond-false (switches_at model now event y.group) (record y { level = s.target }) y stays
 
-  -- who waits afterwards stands as after the event's own effect, and its group didn't go over
+  -- who waits afterwards stands as after the event's own effect, and its group didn't switch
   pub left : (t : ℕ) (x : Standing) → (with_switches model s event).tasks t ≡ Live x → nat_eq x.level s.target ≡ false → (now.tasks t ≡ Live x) × (switches_at model now event x.group ≡ false)
   left t x live off =
       let w = live_from (switched_task model now event) (now.tasks t) x live in
-      let stays = not_over w.0 (switches_at model now event w.0.group) refl (ap (λ y. nat_eq y.level s.target) w.2 ∙ off) in
-      let same : w.0 ≡ x = sym (moved_not w.0 stays) ∙ w.2 in
+      let stays = not_switched w.0 (switches_at model now event w.0.group) refl (ap (λ y. nat_eq y.level s.target) w.2 ∙ off) in
+      let same : w.0 ≡ x = sym (switched_not w.0 stays) ∙ w.2 in
       (w.1 ∙ ap Live same, ap (λ y. switches_at model now event y.group) (sym same) ∙ stays)
 
   -- who waits afterwards, wasn't touched and wasn't born stands as before
   pub stands_as_before : (t : ℕ) (x : Standing) → (touched event ≡ Some t → ⊥) → is_childs event t ≡ false → (with_switches model s event).tasks t ≡ Live x → nat_eq x.level s.target ≡ false → s.tasks t ≡ Live x
   stands_as_before t x apart unborn live off = sym (own_same event t apart unborn) ∙ (left t x live off).0
 
-  -- and who isn't touched stands so afterwards where its group doesn't go over
+  -- and who isn't touched stands so afterwards where its group doesn't switch
   pub stands_still : (t : ℕ) (x : Standing) → (touched event ≡ Some t → ⊥) → is_childs event t ≡ false → s.tasks t ≡ Live x → switches_at model now event x.group ≡ false → (with_switches model s event).tasks t ≡ Live x
   stands_still t x apart unborn live stays =
-      ap (map_live (switched_task model now event)) (own_same event t apart unborn ∙ live) ∙ ap Live (moved_not x stays)
+      ap (map_live (switched_task model now event)) (own_same event t apart unborn ∙ live) ∙ ap Live (switched_not x stays)
 
   -- ---- Who is alone in a group
 
@@ -227,14 +227,14 @@ module _ (model : Rules) (s : State) (event : Event) where
       pub alone_still : (u : ℕ) (y : Standing) → (with_switches model s event).tasks u ≡ Live y → y.group ≡ x.group → u ≡ t
       alone_still u y there mine =
           let w = live_from (switched_task model now event) (now.tasks u) y there in
-          let group : w.0.group ≡ x.group = moved_group w.0 (switches_at model now event w.0.group) refl ∙ (ap (λ z. z.group) w.2 ∙ mine) in
+          let group : w.0.group ≡ x.group = switched_group w.0 (switches_at model now event w.0.group) refl ∙ (ap (λ z. z.group) w.2 ∙ mine) in
           by w.0 group (own_from event refl u w.0 w.1)
         where
           by : (z : Standing) → z.group ≡ x.group → GroupFrom u z → u ≡ t
           by z group (Stayed before was same level) = alone u before was (same ∙ group)
           by z group (Born p c how parent is at was own level) = absurd (child_elsewhere p c how parent is was (sym own ∙ group))
 
--- ---- The lines of who is settled
+-- ---- The lines of who is unchanged
 
 -- it is no scan of a kind that the model uses
 abbrev pub IsNoUsedScan : Rules → Event → Type 0
@@ -280,7 +280,7 @@ module _ (model : Rules) (lawful : IsLawful model) (leg : Leg) (leg_sound : IsSo
     -- the state after an event that opens no leg
     pub next_is : next model s event ≡ state_of model (and_then leg event)
     unfolding next_leg
-    next_is = (does model leg event lawful leg_sound).goes_on ∙ ap (state_of model) (cond-false (opens model leg event) (opened model leg event) (and_then leg event) stays)
+    next_is = (does model leg event lawful leg_sound).next_state ∙ ap (state_of model) (cond-false (opens model leg event) (opened model leg event) (and_then leg event) stays)
 
     no_control : refusal_of model s event ≡ None → is_control event ≡ false
     no_control ok =
@@ -293,7 +293,7 @@ module _ (model : Rules) (lawful : IsLawful model) (leg : Leg) (leg_sound : IsSo
     pub after_is : refusal_of model s event ≡ None → state_of model (and_then leg event) ≡ with_switches model s event
     after_is ok = sym next_is ∙ next-accepted model s event ok (no_control ok)
 
-    -- the event leaves a group that is settled alone: it isn't a child's own, and nothing happens to the member
+    -- the event leaves a group that is unchanged alone: it isn't a child's own, and nothing happens to the member
     abbrev pub IsLeftAlone : CheckKind → (old : ℕ → Bool) → (group : ℕ) → Type 0
     IsLeftAlone on old group =
         (old group ≡ false) × (is_childs event group ≡ false)
@@ -304,16 +304,16 @@ module _ (model : Rules) (lawful : IsLawful model) (leg : Leg) (leg_sound : IsSo
     AreLeftAlone after on old new =
         (t : ℕ) (x : Standing) → after.tasks t ≡ Live x → nat_eq x.level after.target ≡ false → new x.group ≡ false → IsLeftAlone on old x.group
 
-    module _ (calm : IsNoUsedScan model event) (on : CheckKind) (old new : ℕ → Bool) (settled : AreUnchanged model s (lines model leg n) on old) where
+    module _ (calm : IsNoUsedScan model event) (on : CheckKind) (old new : ℕ → Bool) (unchanged_before : AreUnchanged model s (lines model leg n) on old) where
       abbrev Stay : State → Type 0
       Stay after = AreLeftAlone after on old new → AreUnchanged model after (lines model (and_then leg event) (suc n)) on new
 
       group_lines : (t : ℕ) (x : Standing) → s.tasks t ≡ Live x → (group : ℕ) → x.group ≡ group → lines model (and_then leg event) (suc n) group ≡ lines model leg n group
       group_lines t x live group grouped = subst (λ g. lines model (and_then leg event) (suc n) g ≡ lines model leg n g) grouped (lines_same event calm t x live)
 
-      counted_settled : Stay (counted model s)
-      counted_settled less t x live off out =
-          let was = settled t x live off (less t x live off out).0 in
+      counted_unchanged : Stay (counted model s)
+      counted_unchanged less t x live off out =
+          let was = unchanged_before t x live off (less t x live off out).0 in
           let same = lines_same event calm t x live in
           record {
             member = was.member;
@@ -326,13 +326,13 @@ module _ (model : Rules) (lawful : IsLawful model) (leg : Leg) (leg_sound : IsSo
             alone = λ busy. was.alone (ap says_busy (sym same) ∙ busy);
           }
 
-      switched_settled : refusal_of model s event ≡ None → Stay (with_switches model s event)
-      switched_settled ok less t x live off out =
+      switched_unchanged : refusal_of model s event ≡ None → Stay (with_switches model s event)
+      switched_unchanged ok less t x live off out =
           let alone = less t x live off out in
           let stays = left model s event t x live off in
           let before = waited model s event lawful t x (own_from model s event event refl t x stays.0) off alone.1 in
           by x.group stays.1 alone.2 (subst (λ g. IsUnchanged model on s (lines model leg n g) g) before.grouped
-          (settled before.member before.life before.live before.off (ap old before.grouped ∙ alone.0)))
+          (unchanged_before before.member before.life before.live before.off (ap old before.grouped ∙ alone.0)))
         where
           after : State
           after = with_switches model s event
@@ -351,17 +351,17 @@ module _ (model : Rules) (lawful : IsLawful model) (leg : Leg) (leg_sound : IsSo
                 why = was.why;
                 refused = was.refused;
                 continues =
-                    goes_on_as (has_frame_in s) (has_frame_in after) was.member was.why (lines model (and_then leg event) (suc n) group) (frames_same s after was.member was.life was.live there)
+                    continues_as (has_frame_in s) (has_frame_in after) was.member was.why (lines model (and_then leg event) (suc n) group) (frames_same s after was.member was.life was.live there)
                     (subst (Continues (has_frame_in s) was.member was.why) (sym same) was.continues);
                 alone = λ busy u y live_u mine.
                     alone_still model s event lawful (state_sound model lawful leg leg_sound) was.member was.life was.live
                     (λ v z live_v its. was.alone (ap says_busy (sym same) ∙ busy) v z live_v (its ∙ was.grouped)) ok (apart was) u y live_u (mine ∙ sym was.grouped);
               }
 
-      -- a group that is settled stays so where nothing happens to its member
+      -- a group that is unchanged stays so where nothing happens to its member
       pub unchanged_by : AreLeftAlone (state_of model (and_then leg event)) on old new → AreUnchanged model (state_of model (and_then leg event)) (lines model (and_then leg event) (suc n)) on new
       unchanged_by = by (refusal_of model s event) refl
         where
           by : (why : Option Refusal) → refusal_of model s event ≡ why → Stay (state_of model (and_then leg event))
-          by None ok = subst Stay (sym (after_is ok)) (switched_settled ok)
-          by (Some why) turned_down = subst Stay (sym (next-refused model s event why turned_down) ∙ next_is) counted_settled
+          by None ok = subst Stay (sym (after_is ok)) (switched_unchanged ok)
+          by (Some why) turned_down = subst Stay (sym (next-refused model s event why turned_down) ∙ next_is) counted_unchanged

@@ -1,4 +1,4 @@
--- What a scan needn't look at again, and what a further refusal of a settled group makes of its lines.
+-- What a scan needn't look at again, and what a further refusal of an unchanged group makes of its lines.
 use Rattle.std.proofs.Common.{◌≡◌, ℕ, ◌<◌, Bool, true, false, List, [], ◌∷◌, ◌++◌, length, map, reverse, take, drop, is_some, nat_eq, get_or, refl, sym, ap, subst, ◌∙◌, arith}
 use Rattle.std.proofs.lemmas.Bool.{false≢true, cond-true, eq-eqb}
 use Rattle.lp_stack.specs.declared.number.GroupId.{GroupId}
@@ -41,20 +41,20 @@ module _ (model : Rules) (s : State) (sound : IsSound s) (lines : ℕ → List L
         refused = ap is_some is.refused;
       }
 
--- ---- One line more, or a line that goes on
+-- ---- One line more, or a line that continues
 
 module _ (has_frame : (task serial : ℕ) → Bool) (group at t : ℕ) (why : Blame) where
-  -- the newest line goes on once more
-  pub goes_on_after : (lines : List Line) → Continues has_frame t why lines → Continues has_frame t why (after_refusal has_frame group at (t, why) lines)
-  goes_on_after [] h = absurd h
-  goes_on_after (line.Hold g task serial from to ∷ older) h =
+  -- the newest line continues once more
+  pub continues_later : (lines : List Line) → Continues has_frame t why lines → Continues has_frame t why (after_refusal has_frame group at (t, why) lines)
+  continues_later [] h = absurd h
+  continues_later (line.Hold g task serial from to ∷ older) h =
       let frame_stands : has_frame task.0 serial ≡ true = ap (λ n. has_frame n serial) h.0 ∙ h.1 in
       subst (Continues has_frame t why) (sym (cond-true (has_frame task.0 serial) (line.Hold g task serial from at ∷ older) _ frame_stands)) h
-  goes_on_after (line.Busy g task on ∷ older) h =
+  continues_later (line.Busy g task on ∷ older) h =
       subst (λ b. Continues has_frame t why (after_refusal has_frame group at (t, b) (line.Busy g task on ∷ older))) (sym h.1) (refl, h.1)
-  goes_on_after (line.Born g p on ∷ older) h = absurd h
+  continues_later (line.Born g p on ∷ older) h = absurd h
 
-  -- a hold that goes on does so whoever is refused
+  -- a hold that continues does so whoever is refused
   pub hold_on : (blamed : ℕ × Blame) (lines : List Line) → Continues has_frame t why lines → says_busy lines ≡ false → after_refusal has_frame group at blamed lines ≡ after_refusal has_frame group at (t, why) lines
   hold_on blamed [] h calm = absurd h
   hold_on blamed (line.Hold g task serial from to ∷ older) h calm =
@@ -64,7 +64,7 @@ module _ (has_frame : (task serial : ℕ) → Bool) (group at t : ℕ) (why : Bl
   hold_on blamed (line.Busy g task on ∷ older) h calm = absurd (false≢true (sym calm))
   hold_on blamed (line.Born g p on ∷ older) h calm = absurd h
 
-  -- a line that goes on is a busy member's if it was
+  -- a line that continues is a busy member's if it was
   pub busy_before : (lines : List Line) → Continues has_frame t why lines → says_busy (after_refusal has_frame group at (t, why) lines) ≡ true → says_busy lines ≡ true
   busy_before [] h busy = absurd h
   busy_before (line.Hold g task serial from to ∷ older) h busy =
@@ -73,50 +73,50 @@ module _ (has_frame : (task serial : ℕ) → Bool) (group at t : ℕ) (why : Bl
   busy_before (line.Busy g task on ∷ older) h busy = refl
   busy_before (line.Born g p on ∷ older) h busy = absurd h
 
--- what goes on of a head goes on with this refusal of the task
-abbrev pub OngoingGoesOn : (has_frame : (task serial : ℕ) → Bool) → (task : ℕ) → Blame → Ongoing → Type 0
-OngoingGoesOn has_frame t why Nothing = ⊥
-OngoingGoesOn has_frame t why (Hold task serial from) = (task.0 ≡ t) × (has_frame t serial ≡ true)
-OngoingGoesOn has_frame t why (Busy task first) = (task.0 ≡ t) × (why ≡ blame.Busy)
+-- what continues of a head continues with this refusal of the task
+abbrev pub OngoingContinues : (has_frame : (task serial : ℕ) → Bool) → (task : ℕ) → Blame → Ongoing → Type 0
+OngoingContinues has_frame t why Nothing = ⊥
+OngoingContinues has_frame t why (Hold task serial from) = (task.0 ≡ t) × (has_frame t serial ≡ true)
+OngoingContinues has_frame t why (Busy task first) = (task.0 ≡ t) × (why ≡ blame.Busy)
 
 module _ (has_frame : (task serial : ℕ) → Bool) (t : ℕ) (why : Blame) where
   -- lines of a busy task in front
-  busy_front : (g : GroupId) (task : TaskId) (ys : List ℕ) (rest : List Line) → 0 < length ys → Continues has_frame t why (map (λ on. line.Busy g task on) ys ++ rest) → (task.0 ≡ t) × (why ≡ blame.Busy)
-  busy_front g task [] rest some h = absurd (omega arith)
-  busy_front g task (y ∷ ys) rest some h = h
+  busy_first : (g : GroupId) (task : TaskId) (ys : List ℕ) (rest : List Line) → 0 < length ys → Continues has_frame t why (map (λ on. line.Busy g task on) ys ++ rest) → (task.0 ≡ t) × (why ≡ blame.Busy)
+  busy_first g task [] rest some h = absurd (omega arith)
+  busy_first g task (y ∷ ys) rest some h = h
 
-  front_busy : (g : GroupId) (task : TaskId) (ys : List ℕ) (rest : List Line) → 0 < length ys → (task.0 ≡ t) × (why ≡ blame.Busy) → Continues has_frame t why (map (λ on. line.Busy g task on) ys ++ rest)
-  front_busy g task [] rest some h = absurd (omega arith)
-  front_busy g task (y ∷ ys) rest some h = h
+  first_busy : (g : GroupId) (task : TaskId) (ys : List ℕ) (rest : List Line) → 0 < length ys → (task.0 ≡ t) × (why ≡ blame.Busy) → Continues has_frame t why (map (λ on. line.Busy g task on) ys ++ rest)
+  first_busy g task [] rest some h = absurd (omega arith)
+  first_busy g task (y ∷ ys) rest some h = h
 
-  unchecked_front : (scans : List ℕ) (rs : List Reason) → IsUnchecked rs → Continues has_frame t why (lines_of scans rs) → ⊥
+  unchecked_first : (scans : List ℕ) (rs : List Reason) → IsUnchecked rs → Continues has_frame t why (lines_of scans rs) → ⊥
   unfolding lines_of
-  unchecked_front scans [] calm h = h
-  unchecked_front scans (reason.One (line.Born g p on) ∷ rs) calm h = h
-  unchecked_front scans (reason.One (line.Hold g task serial from to) ∷ rs) calm h = calm
-  unchecked_front scans (reason.One (line.Busy g task on) ∷ rs) calm h = calm
-  unchecked_front scans (reason.Busy g task first end ∷ rs) calm h = calm
+  unchecked_first scans [] calm h = h
+  unchecked_first scans (reason.One (line.Born g p on) ∷ rs) calm h = h
+  unchecked_first scans (reason.One (line.Hold g task serial from to) ∷ rs) calm h = calm
+  unchecked_first scans (reason.One (line.Busy g task on) ∷ rs) calm h = calm
+  unchecked_first scans (reason.Busy g task first end ∷ rs) calm h = calm
 
-  -- the newest line tells what goes on
+  -- the newest line tells what continues
   ongoing_of : (scans : List ℕ) (g : GroupId) (o : Ongoing) (rs : List Reason) → ContinuesIn (length scans) o → (o ≡ Nothing → IsUnchecked rs)
-      → Continues has_frame t why (lines_of scans (ongoing_reasons scans g o ++ rs)) → OngoingGoesOn has_frame t why o
+      → Continues has_frame t why (lines_of scans (ongoing_reasons scans g o ++ rs)) → OngoingContinues has_frame t why o
   unfolding lines_of
-  ongoing_of scans g Nothing rs goes unchecked h = unchecked_front scans rs (unchecked refl) h
+  ongoing_of scans g Nothing rs goes unchecked h = unchecked_first scans rs (unchecked refl) h
   ongoing_of scans g (Hold task serial from) rs goes unchecked h = h
   ongoing_of scans g (Busy task first) rs goes unchecked h =
-      busy_front g task (reverse (drop first (take (length scans) scans))) (lines_of scans rs) (busy_some scans first goes) h
+      busy_first g task (reverse (drop first (take (length scans) scans))) (lines_of scans rs) (busy_some scans first goes) h
 
-  -- and what goes on tells the newest line
+  -- and what continues tells the newest line
   ongoing_lines : (scans : List ℕ) (g : GroupId) (o : Ongoing) (rs : List Reason) → ContinuesIn (length scans) o
-      → OngoingGoesOn has_frame t why o → Continues has_frame t why (lines_of scans (ongoing_reasons scans g o ++ rs))
+      → OngoingContinues has_frame t why o → Continues has_frame t why (lines_of scans (ongoing_reasons scans g o ++ rs))
   unfolding lines_of
   ongoing_lines scans g Nothing rs goes h = absurd h
   ongoing_lines scans g (Hold task serial from) rs goes h = h
   ongoing_lines scans g (Busy task first) rs goes h =
-      front_busy g task (reverse (drop first (take (length scans) scans))) (lines_of scans rs) (busy_some scans first goes) h
+      first_busy g task (reverse (drop first (take (length scans) scans))) (lines_of scans rs) (busy_some scans first goes) h
 
-  -- where the newest line is that a member is busy, so is what goes on
-  busy_of : (scans : List ℕ) (g : GroupId) (o : Ongoing) (rs : List Reason) → OngoingGoesOn has_frame t why o → says_busy (lines_of scans (ongoing_reasons scans g o ++ rs)) ≡ true → says_busy_on o ≡ true
+  -- where the newest line is that a member is busy, so is what continues
+  busy_of : (scans : List ℕ) (g : GroupId) (o : Ongoing) (rs : List Reason) → OngoingContinues has_frame t why o → says_busy (lines_of scans (ongoing_reasons scans g o ++ rs)) ≡ true → says_busy_on o ≡ true
   unfolding lines_of
   busy_of scans g Nothing rs h busy = absurd h
   busy_of scans g (Hold task serial from) rs h busy = busy
@@ -126,25 +126,25 @@ module _ (has_frame : (task serial : ℕ) → Bool) (t : ℕ) (why : Blame) wher
   abbrev pub again : ℕ → Refused
   again at = record { at = at; task = task_id t; blame = why; frame_stands = true }
 
-  ongoing_held : (o : Ongoing) → OngoingGoesOn has_frame t why o → HasFrameAs has_frame o true
+  ongoing_held : (o : Ongoing) → OngoingContinues has_frame t why o → HasFrameAs has_frame o true
   ongoing_held Nothing h = absurd h
   ongoing_held (Hold task serial from) h = ap (λ n. has_frame n serial) h.0 ∙ h.1
   ongoing_held (Busy task first) h = tt
 
-  ongoing_stays : (o : Ongoing) (at : ℕ) → OngoingGoesOn has_frame t why o → continues_after o (again at) ≡ true
+  ongoing_stays : (o : Ongoing) (at : ℕ) → OngoingContinues has_frame t why o → continues_after o (again at) ≡ true
   ongoing_stays Nothing at h = absurd h
   ongoing_stays (Hold task serial from) at h = refl
   ongoing_stays (Busy task first) at h = subst (λ b. continues_after (Busy task first) (record { at = at; task = task_id t; blame = b; frame_stands = true }) ≡ true) (sym h.1) (eq-eqb t task.0 (sym h.0))
 
   module _ (lists : List (List Reason)) (scans : List ℕ) (group : GroupId) (head : Head) (is_head : IsHead lists (length scans) head) where
-    -- the lines of a head go on as what goes on of it does
-    pub head_ongoing : Continues has_frame t why (head_lines lists scans group head) → OngoingGoesOn has_frame t why head.ongoing
+    -- the lines of a head continue as what continues of it does
+    pub head_ongoing : Continues has_frame t why (head_lines lists scans group head) → OngoingContinues has_frame t why head.ongoing
     head_ongoing h = ongoing_of scans group head.ongoing (get_or lists head.older.0 []) is_head.continues is_head.unchecked h
 
-    pub head_goes_on : OngoingGoesOn has_frame t why head.ongoing → Continues has_frame t why (head_lines lists scans group head)
-    head_goes_on h = ongoing_lines scans group head.ongoing (get_or lists head.older.0 []) is_head.continues h
+    pub head_continues : OngoingContinues has_frame t why head.ongoing → Continues has_frame t why (head_lines lists scans group head)
+    head_continues h = ongoing_lines scans group head.ongoing (get_or lists head.older.0 []) is_head.continues h
 
-    pub head_busy : OngoingGoesOn has_frame t why head.ongoing → says_busy (head_lines lists scans group head) ≡ true → says_busy_on head.ongoing ≡ true
+    pub head_busy : OngoingContinues has_frame t why head.ongoing → says_busy (head_lines lists scans group head) ≡ true → says_busy_on head.ongoing ≡ true
     head_busy h busy = busy_of scans group head.ongoing (get_or lists head.older.0 []) h busy
 
     -- a scan that refuses the task again leaves the head as it is

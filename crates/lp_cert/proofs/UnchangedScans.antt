@@ -1,4 +1,4 @@
--- A group of which a scan refuses a member is settled afterwards, if its newest line goes on.
+-- A group of which a scan refuses a member is unchanged afterwards, if its newest line continues.
 use Rattle.std.proofs.Common.{◌≡◌, ◌≢◌, ℕ, zero, suc, ◌+◌, ◌<◌, ◌≤◌, ◌⊎◌, Bool, true, false, not, ◌&&◌, List, ◌∷◌, length, map, Option, Some, None, IsTrue, if◌then◌else◌, nat_eq, refl, sym, ap, ap₂, subst, ◌∙◌, ⊎_elim, arith}
 use Rattle.std.specs.List.{range_with_len}
 use Rattle.std.specs.Option.{option_map}
@@ -21,8 +21,8 @@ use Rattle.lp_cert.specs.EventLines.{has_frame_in, blame_in, first_blamed_in}
 use Rattle.lp_cert.specs.Unchanged.{Continues, IsUnchanged, AreUnchanged, says_busy}
 use Rattle.lp_cert.specs.inside.Touched.{is_childs, touched}
 use Rattle.lp_cert.proofs.NextLines.{lines_at_scan}
-use Rattle.lp_cert.proofs.UnchangedLines.{goes_on_after, hold_on, busy_before}
-use Rattle.lp_cert.proofs.UnchangedEvents.{goes_on_as, frames_same, stands_as_before, stands_still, left, alone_still, after_is}
+use Rattle.lp_cert.proofs.UnchangedLines.{continues_later, hold_on, busy_before}
+use Rattle.lp_cert.proofs.UnchangedEvents.{continues_as, frames_same, stands_as_before, stands_still, left, alone_still, after_is}
 
 -- ---- Whom a scan refuses first
 
@@ -104,16 +104,16 @@ module _ (model : Rules) (s : State) (on : CheckKind) (t : ℕ) (x : Standing) (
         first_told (blame_in model s on x.group) t why blamed_here not_blamed 1 s.bounds.tasks (omega (arith, range.0)) (omega (arith, range.1))
 
 module _ (model : Rules) (s : State) (sound : IsSound s) (on : CheckKind) (g : ℕ) (ls : List Line) (was : IsUnchanged model on s ls g) where
-  -- a settled group is refused
-  settled_blamed : first_blamed_in model s on g ≡ None → ⊥
-  settled_blamed none = somebody_blamed model s on was.member was.life was.live was.why was.refused sound (ap (first_blamed_in model s on) was.grouped ∙ none)
+  -- an unchanged group is refused
+  unchanged_blamed : first_blamed_in model s on g ≡ None → ⊥
+  unchanged_blamed none = somebody_blamed model s on was.member was.life was.live was.why was.refused sound (ap (first_blamed_in model s on) was.grouped ∙ none)
 
   busy_blamed : says_busy ls ≡ true → first_blamed_in model s on g ≡ Some (was.member, was.why)
   busy_blamed busy =
       ap (first_blamed_in model s on) (sym was.grouped)
       ∙ lone_blamed model s on was.member was.life was.live was.why was.refused (λ u y there mine. was.alone busy u y there (mine ∙ was.grouped)) sound
 
-  -- whoever of it is blamed, its newest line goes on
+  -- whoever of it is blamed, its newest line continues
   pub blamed_alike : (at : ℕ) (blamed : ℕ × Blame) → first_blamed_in model s on g ≡ Some blamed → after_refusal (has_frame_in s) g at blamed ls ≡ after_refusal (has_frame_in s) g at (was.member, was.why) ls
   blamed_alike at blamed first =
       ⊎_elim
@@ -182,37 +182,37 @@ module _ (model : Rules) (lawful : IsLawful model) (leg : Leg) (leg_sound : IsSo
       where
         by : (o : Option (ℕ × Blame)) → first_blamed_in model s on x.group ≡ o
             → after_check (has_frame_in s) x.group (suc s.number) (first_blamed_in model s on x.group) before ≡ after_refusal (has_frame_in s) x.group (suc s.number) (was.member, was.why) before
-        by None none = absurd (settled_blamed model s (state_sound model lawful leg leg_sound) on x.group before was none)
+        by None none = absurd (unchanged_blamed model s (state_sound model lawful leg leg_sound) on x.group before was none)
         by (Some blamed) first =
             ap (λ o. after_check (has_frame_in s) x.group (suc s.number) o before) first
             ∙ blamed_alike model s (state_sound model lawful leg leg_sound) on x.group before was (suc s.number) blamed first
 
-    -- a settled group's line goes on with the scan
-    settled_goes_on : IsUnchanged model on s before x.group → IsUnchanged model on s further x.group
-    settled_goes_on was = record {
+    -- an unchanged group's line continues with the scan
+    unchanged_continues : IsUnchanged model on s before x.group → IsUnchanged model on s further x.group
+    unchanged_continues was = record {
       member = was.member;
       life = was.life;
       live = was.live;
       grouped = was.grouped;
       why = was.why;
       refused = was.refused;
-      continues = subst (Continues (has_frame_in s) was.member was.why) (sym (further_is was)) (goes_on_after (has_frame_in s) x.group (suc s.number) was.member was.why before was.continues);
+      continues = subst (Continues (has_frame_in s) was.member was.why) (sym (further_is was)) (continues_later (has_frame_in s) x.group (suc s.number) was.member was.why before was.continues);
       alone = λ busy.
           was.alone (busy_before (has_frame_in s) x.group (suc s.number) was.member was.why before was.continues (ap says_busy (sym (further_is was)) ∙ busy));
     }
 
-    -- settled before the scan, or by it with a line that goes on from now
-    settled_now : IsUnchanged model on s before x.group ⊎ IsUnchanged model on s further x.group → IsUnchanged model on s further x.group
-    settled_now either = ⊎_elim settled_goes_on (λ (is : IsUnchanged model on s further x.group). is) either
+    -- unchanged before the scan, or by it with a line that continues from now
+    unchanged_now : IsUnchanged model on s before x.group ⊎ IsUnchanged model on s further x.group → IsUnchanged model on s further x.group
+    unchanged_now either = ⊎_elim unchanged_continues (λ (is : IsUnchanged model on s further x.group). is) either
 
   module _ (new : ℕ → Bool)
       (unchanged : (t : ℕ) (x : Standing) → s.tasks t ≡ Live x → nat_eq x.level s.target ≡ false → after.tasks t ≡ Live x → new x.group ≡ false
       → IsUnchanged model on s (lines model leg n x.group) x.group ⊎ IsUnchanged model on s (lines model longer (suc n) x.group) x.group) where
-    switched_settled : AreUnchanged model after (lines model longer (suc n)) on new
-    switched_settled t x live off out =
+    switched_unchanged : AreUnchanged model after (lines model longer (suc n)) on new
+    switched_unchanged t x live off out =
         let event = scan_event on in
         let before = stands_as_before model s event t x (scan_touches_none on t) (scan_bears_none on t) live off in
-        let is = settled_now t x before off (unchanged t x before off live out) in
+        let is = unchanged_now t x before off (unchanged t x before off live out) in
         let stays : switches_at model (affected model s event) event is.life.group ≡ false = ap (switches_at model (affected model s event) event) is.grouped ∙ (left model s event t x live off).1 in
         let there = stands_still model s event is.member is.life (scan_touches_none on is.member) (scan_bears_none on is.member) is.live stays in
         record {
@@ -222,13 +222,13 @@ module _ (model : Rules) (lawful : IsLawful model) (leg : Leg) (leg_sound : IsSo
           grouped = is.grouped;
           why = is.why;
           refused = is.refused;
-          continues = goes_on_as (has_frame_in s) (has_frame_in after) is.member is.why (lines model longer (suc n) x.group) (frames_same s after is.member is.life is.live there) is.continues;
+          continues = continues_as (has_frame_in s) (has_frame_in after) is.member is.why (lines model longer (suc n) x.group) (frames_same s after is.member is.life is.live there) is.continues;
           alone = λ busy u y there_u mine.
               alone_still model s event lawful (state_sound model lawful leg leg_sound) is.member is.life is.live (λ v z live_v same. is.alone busy v z live_v (same ∙ is.grouped)) (scan_free model s on) (scan_touches_none on is.member) u y there_u (mine ∙ sym is.grouped);
         }
 
-    -- a group that a scan leaves waiting with a line that goes on is settled
-    pub scan_settles : AreUnchanged model (state_of model longer) (lines model longer (suc n)) on new
-    scan_settles =
+    -- a group that a scan leaves waiting with a line that continues is unchanged
+    pub scan_leaves_unchanged : AreUnchanged model (state_of model longer) (lines model longer (suc n)) on new
+    scan_leaves_unchanged =
         subst (λ st. AreUnchanged model st (lines model longer (suc n)) on new)
-        (sym after_scan_is) switched_settled
+        (sym after_scan_is) switched_unchanged

@@ -1,4 +1,4 @@
--- Which groups are settled after an event that opens no leg.
+-- Which groups are unchanged after an event that opens no leg.
 use Rattle.std.proofs.Common.{◌≡◌, ℕ, suc, ◌<◌, ◌⊎◌, Bool, true, false, not, ◌&&◌, ◌||◌, List, [], ◌∷◌, length, Option, Some, None, IsTrue, IsFalse, if◌then◌else◌, nat_eq, nat_lt, refl, sym, ap, ap₂, subst, ◌∙◌, ⊎_elim, inl, inr}
 use Rattle.std.specs.List.{filter, list_any}
 use Rattle.std.proofs.lemmas.Bool.{false≢true, cond-true, cond-false, eqb-true, eq-eqb, ltb-true}
@@ -34,17 +34,17 @@ use Rattle.lp_cert.specs.EventLines.{has_frame_in}
 use Rattle.lp_cert.specs.Waiters.{LegReasons, WaitingGroups, head_of}
 use Rattle.lp_cert.specs.inside.Waiters.{AreStanding, is_lone, lines_at}
 use Rattle.lp_cert.proofs.HeadLemmas.{busy_blame}
-use Rattle.lp_cert.proofs.UnchangedLines.{OngoingGoesOn, head_goes_on, head_busy}
+use Rattle.lp_cert.proofs.UnchangedLines.{OngoingContinues, head_continues, head_busy}
 use Rattle.lp_cert.proofs.UnchangedEvents.{IsNoUsedScan}
-use Rattle.lp_cert.proofs.Touching.{lines_held, touched_settled}
-use Rattle.lp_cert.proofs.UnchangedScans.{scan_settles, after_scan_is}
+use Rattle.lp_cert.proofs.Touching.{lines_held, touched_unchanged}
+use Rattle.lp_cert.proofs.UnchangedScans.{scan_leaves_unchanged, after_scan_is}
 
 some_none : {A : Type 0} (a : A) → Some a ≡ None → ⊥
 some_none a e = absurd (cc)
 
--- no group is said to be settled where there was no scan
-pub none_settled : (model : Rules) (s : State) (ls : ℕ → List Line) (last_scan : LastScan) → last_scan.kind ≡ None → AreUnchangedBy model s ls last_scan
-none_settled model s ls last_scan none = subst (λ (o : Option CheckKind). AreUnchangedSince model s ls o (has last_scan.changed_since)) (sym none) tt
+-- no group is said to be unchanged where there was no scan
+pub none_unchanged : (model : Rules) (s : State) (ls : ℕ → List Line) (last_scan : LastScan) → last_scan.kind ≡ None → AreUnchangedBy model s ls last_scan
+none_unchanged model s ls last_scan none = subst (λ (o : Option CheckKind). AreUnchangedSince model s ls o (has last_scan.changed_since)) (sym none) tt
 
 -- ---- Which events are scans that the model uses
 
@@ -83,13 +83,13 @@ scan_is model Stop on some =
     subst (IsUsedScan model Stop) told.0 (record { is = refl; scan = refl; used = told.1 })
 scan_is model _ on some = absurd (some_none on (sym some))
 
--- ---- What a reason that goes on shows
+-- ---- What a reason that continues shows
 
 both_true : (a b : Bool) → (a && b) ≡ true → (a ≡ true) × (b ≡ true)
 both_true true b h = (refl, h)
 both_true false b h = absurd (cc)
 
-ongoing_is : (has_frame : (task serial : ℕ) → Bool) (t : ℕ) (why : Blame) (ongoing : Ongoing) → reason_goes_by has_frame t why ongoing ≡ true → OngoingGoesOn has_frame t why ongoing
+ongoing_is : (has_frame : (task serial : ℕ) → Bool) (t : ℕ) (why : Blame) (ongoing : Ongoing) → reason_goes_by has_frame t why ongoing ≡ true → OngoingContinues has_frame t why ongoing
 ongoing_is has_frame t why Nothing h = absurd (cc)
 ongoing_is has_frame t why (Hold task serial from) h =
     let parts = both_true (nat_eq task.0 t) (has_frame task.0 serial) h in
@@ -103,7 +103,7 @@ not_busy_or : (a b : Bool) → (not a || b) ≡ true → a ≡ true → b ≡ tr
 not_busy_or true b h busy = h
 not_busy_or false b h busy = absurd (false≢true busy)
 
--- a verdict of this member that settles the group
+-- a verdict of this member that leaves the group unchanged
 record Settles (e : Engine) (reasons : LegReasons) (g t : ℕ) (o : Option Blame) (x : Standing) : Type 0 where
   grouped : x.group ≡ g
   why : Blame
@@ -112,9 +112,9 @@ record Settles (e : Engine) (reasons : LegReasons) (g t : ℕ) (o : Option Blame
   continues : reason_goes_by (has_frame_in (state_in e)) t why (head_of reasons g).ongoing ≡ true
   lone : says_busy_on (head_of reasons g).ongoing ≡ true → is_lone e t g ≡ true
 
-settles_is : (e : Engine) (reasons : LegReasons) (g t : ℕ) (o : Option Blame) (x : Standing) → refuses_as_before e reasons g t o (Some x) ≡ true → Settles e reasons g t o x
-settles_is e reasons g t None x h = absurd (cc)
-settles_is e reasons g t (Some why) x h =
+leaves_unchanged_is : (e : Engine) (reasons : LegReasons) (g t : ℕ) (o : Option Blame) (x : Standing) → refuses_as_before e reasons g t o (Some x) ≡ true → Settles e reasons g t o x
+leaves_unchanged_is e reasons g t None x h = absurd (cc)
+leaves_unchanged_is e reasons g t (Some why) x h =
     let by_reason : ℕ → Bool = λ k. reason_goes_by (has_frame_in (state_in e)) t why (head_of reasons k).ongoing in
     let by_busy : ℕ → Bool = λ k. not (says_busy_on (head_of reasons k).ongoing) || is_lone e t k in
     let outer = both_true (nat_eq x.group g && nat_lt x.group 65536) (by_reason x.group && by_busy x.group) h in
@@ -181,9 +181,9 @@ module _ (model : Rules) (lawful : IsLawful model) (e : Engine) (sound : IsSound
     of_group : (t : ℕ) (x : Standing) → s.tasks t ≡ Live x → is_of_group e x.group (verdict_of model on s.aim (view_of t x)) ≡ true
     of_group t x live = ap (is_in x.group) (slot_from_live e.table t x live) ∙ eq-eqb x.group x.group refl
 
-    -- a group of which no member was gone over was settled before
-    was_settled : (t : ℕ) (x : Standing) → s.tasks t ≡ Live x → nat_eq x.level s.target ≡ false → list_any (is_of_group e x.group) step.verdicts ≡ false → IsUnchanged model on s (lines model leg n x.group) x.group
-    was_settled t x live off none =
+    -- a group of which no member was looked at was unchanged before
+    was_unchanged : (t : ℕ) (x : Standing) → s.tasks t ≡ Live x → nat_eq x.level s.target ≡ false → list_any (is_of_group e x.group) step.verdicts ≡ false → IsUnchanged model on s (lines model leg n x.group) x.group
+    was_unchanged t x live off none =
         ⊎_elim
         (λ (whole : step.verdicts ≡ all).
         let bounds = sound.numbered t x live in
@@ -203,7 +203,7 @@ module _ (model : Rules) (lawful : IsLawful model) (e : Engine) (sound : IsSound
             (record { number = t; task = x; live = live; off = off; passed = ap₂ (λ c d. c && d) was_asked (of_group t x live) }) bounds.0 bounds.1 in
             absurd (false≢true (sym none ∙ (ap (list_any (is_of_group e x.group)) part ∙ any_kept (λ v. is_asked s (has old.changed_since) v.task.0) (is_of_group e x.group) all some)))
 
-    -- a member of the group whose verdict settles it
+    -- a member of the group whose verdict leaves it unchanged
     record IsSettledBy (g : ℕ) : Type 0 where
       member : ℕ
       life : Standing
@@ -224,13 +224,13 @@ module _ (model : Rules) (lawful : IsLawful model) (e : Engine) (sound : IsSound
           member = j.number;
           life = j.task;
           live = j.live;
-          leaves_unchanged = settles_is e later.reasons g j.number blame j.task (ap (refuses_as_before e later.reasons g j.number blame) (sym (slot_from_live e.table j.number j.task j.live)) ∙ j.passed);
+          leaves_unchanged = leaves_unchanged_is e later.reasons g j.number blame j.task (ap (refuses_as_before e later.reasons g j.number blame) (sym (slot_from_live e.table j.number j.task j.live)) ∙ j.passed);
         }
 
-    -- a group that a verdict settles
-    is_settled : (t : ℕ) (x : Standing) → (state_of model longer).tasks t ≡ Live x → nat_eq x.level (state_of model longer).target ≡ false
+    -- a group that a verdict leaves unchanged
+    is_unchanged : (t : ℕ) (x : Standing) → (state_of model longer).tasks t ≡ Live x → nat_eq x.level (state_of model longer).target ≡ false
         → list_any (leaves_unchanged e later.reasons x.group) step.verdicts ≡ true → IsUnchanged model on s (lines model longer (suc n) x.group) x.group
-    is_settled t x live_after off_after some =
+    is_unchanged t x live_after off_after some =
         let found = by_verdict x.group some in
         let by = found.leaves_unchanged in
         let kept = lines_held model lawful longer leg_sound later (suc n) after_lines t x live_after off_after by.few in
@@ -244,7 +244,7 @@ module _ (model : Rules) (lawful : IsLawful model) (e : Engine) (sound : IsSound
           refused = by.refused;
           continues =
               subst (Continues (has_frame_in s) found.member by.why) (sym kept.1)
-              (head_goes_on (has_frame_in s) found.member by.why later.reasons.lists later.reasons.scans (group_id x.group) (head_of later.reasons x.group) (stand x.group kept.0) continues);
+              (head_continues (has_frame_in s) found.member by.why later.reasons.lists later.reasons.scans (group_id x.group) (head_of later.reasons x.group) (stand x.group kept.0) continues);
           alone = λ busy u y live_u mine.
               let busy_on = head_busy (has_frame_in s) found.member by.why later.reasons.lists later.reasons.scans (group_id x.group) (head_of later.reasons x.group) (stand x.group kept.0) continues (ap says_busy (sym kept.1) ∙ busy) in
               let bounds = sound.numbered u y live_u in
@@ -255,29 +255,29 @@ module _ (model : Rules) (lawful : IsLawful model) (e : Engine) (sound : IsSound
         → IsUnchanged model on s (lines model leg n x.group) x.group ⊎ IsUnchanged model on s (lines model longer (suc n) x.group) x.group
     either t x live off live_after out =
         ⊎_elim
-        (λ (none : list_any (is_of_group e x.group) step.verdicts ≡ false). inl (was_settled t x live off none))
+        (λ (none : list_any (is_of_group e x.group) step.verdicts ≡ false). inl (was_unchanged t x live off none))
         (λ (some : list_any (leaves_unchanged e later.reasons x.group) step.verdicts ≡ true).
-        inr (is_settled t x live_after (subst (λ (st : State). nat_eq x.level st.target ≡ false) there off) some))
+        inr (is_unchanged t x live_after (subst (λ (st : State). nat_eq x.level st.target ≡ false) there off) some))
         (apart x.group out)
 
     -- the state of a leg in the words of the engine's
-    scanned_settled : AreUnchanged model (state_of model longer) (lines model longer (suc n)) on (has new.changed_since)
-    scanned_settled =
+    scanned_unchanged : AreUnchanged model (state_of model longer) (lines model longer (suc n)) on (has new.changed_since)
+    scanned_unchanged =
         let longer_is : longer ≡ and_then leg (scan_event on) = ap (and_then leg) is_scan.is in
         subst (λ (l : Leg). AreUnchanged model (state_of model l) (lines model l (suc n)) on (has new.changed_since)) (sym longer_is)
-        (scan_settles model lawful leg leg_sound on is_scan.scan is_scan.used (has new.changed_since)
+        (scan_leaves_unchanged model lawful leg leg_sound on is_scan.scan is_scan.used (has new.changed_since)
         (λ t x live off live_after out.
         subst (λ (l : Leg). IsUnchanged model on (state_of model leg) (lines model leg n x.group) x.group ⊎ IsUnchanged model on (state_of model leg) (lines model l (suc n) x.group) x.group) longer_is
         (subst (λ (st : State). IsUnchanged model on st (lines model leg n x.group) x.group ⊎ IsUnchanged model on st (lines model longer (suc n) x.group) x.group) there
         (either t x (subst (λ (st : State). st.tasks t ≡ Live x) (sym there) live) (subst (λ (st : State). nat_eq x.level st.target ≡ false) (sym there) off)
         (subst (λ (l : Leg). (state_of model l).tasks t ≡ Live x) (sym longer_is) (subst (λ (st : State). st.tasks t ≡ Live x) (sym (after_scan_is model lawful leg leg_sound on is_scan.scan is_scan.used)) live_after)) out))))
 
-  pub settled_on : AreUnchangedBy model (state_of model longer) (lines model longer (suc n)) new
-  settled_on = by (used_scan model step.event) refl
+  pub unchanged_on : AreUnchangedBy model (state_of model longer) (lines model longer (suc n)) new
+  unchanged_on = by (used_scan model step.event) refl
     where
       by : (o : Option CheckKind) → used_scan model step.event ≡ o → AreUnchangedBy model (state_of model longer) (lines model longer (suc n)) new
-      by None is = touched_settled model lawful e leg leg_sound there step.event stays (no_scan model step.event is) old new later (further.others is) stand after_lines (subst (λ (st : State). AreUnchangedBy model st (lines model leg n) old) there was)
+      by None is = touched_unchanged model lawful e leg leg_sound there step.event stays (no_scan model step.event is) old new later (further.others is) stand after_lines (subst (λ (st : State). AreUnchangedBy model st (lines model leg n) old) there was)
       by (Some on) is =
           let after = further.scan on is in
           subst (λ (o : Option CheckKind). AreUnchangedSince model (state_of model longer) (lines model longer (suc n)) o (has new.changed_since)) (sym after.0)
-          (scanned_settled on (scan_is model step.event on is) (subst (λ (o : Option CheckKind). AreThoseOf model s o step.verdicts old) is suffices) after.1)
+          (scanned_unchanged on (scan_is model step.event on is) (subst (λ (o : Option CheckKind). AreThoseOf model s o step.verdicts old) is suffices) after.1)

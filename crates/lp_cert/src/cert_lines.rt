@@ -1,14 +1,15 @@
 //! The lines of a certificate, one at a time.
-ghost use Rattle.std.specs.Prelude.{◌≡◌, ◌<◌, ◌≤◌, ◌++◌, [], drop, length, option_to_list, reverse, slice_get, take, IfNone};
+ghost use Rattle.std.specs.Prelude.{◌≡◌, ◌<◌, ◌≤◌, ◌++◌, [], drop, length, option_to_list, reverse, slice_get, take, IfNone, IfOk};
 ghost use Rattle.std.specs.List.{AllByRecursion};
 ghost use Rattle.lp_cert.specs.Heads.{lines_of};
 ghost use Rattle.lp_cert.specs.inside.Heads.{FitsIn};
 ghost use Rattle.lp_cert.specs.Parts.{busy_scan_lines};
 
-use crate::line::Line;
+use crate::line::{Line, LineList};
 use crate::oldest_first::OldestFirst;
 use crate::reason::Reason;
 use lp_stack::{GroupId, TaskId};
+use std::alloc::{AllocError, Global};
 use std::marker::Model;
 
 /// The scans that are left at which a member is busy.
@@ -99,6 +100,17 @@ impl<'a> CertLines<'a> {
                 self.run.next()
             }
         }
+    }
+
+    /// All lines that are left, as a list; AllocError where an allocation failed.
+    pub(crate) fn collect(mut self, alloc: Global) -> Result<LineList, AllocError>
+        ensures { IfOk result (λ lines. lines ≡ self.entry) }
+    {
+        let mut lines = Vec::new(alloc);
+        while let Some(line) = self.next() {
+            lines.push(line)?;
+        }
+        Ok(LineList::from_vec(lines))
     }
 }
 

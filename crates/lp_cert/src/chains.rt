@@ -83,21 +83,6 @@ impl Chains {
         ChainId(self.entries.len())
     }
 
-    /// The reasons of a list, the newest in front; AllocError where an allocation failed.
-    pub(crate) fn reasons(&self, alloc: Global, id: ChainId) -> Result<Vec<Reason>, AllocError>
-        requires { id.0 < length self.now.lists }
-        ensures { IfOk result (λ reasons. reasons.items ≡ slice_index_or self.now.lists id.0 []) }
-    {
-        let mut reasons = Vec::new(alloc);
-        let mut at = id.0;
-        while at > 0 {
-            let entry = self.entries[at - 1];
-            reasons.push(entry.reason)?;
-            at = entry.older.0;
-        }
-        Ok(reasons)
-    }
-
     /// How many reasons a list has.
     pub(crate) fn count(&self, id: ChainId) -> usize
         requires { id.0 < length self.now.lists }

@@ -3,12 +3,12 @@ ghost use Rattle.std.specs.Prelude.{◌≡◌, ◌+◌, ◌<◌, ◌≤◌, [], 
 ghost use Rattle.lp_cert.specs.Heads.{ongoing_reasons, head_lines};
 ghost use Rattle.lp_cert.specs.inside.Heads.{continues_after, reason_begun_by, IsHead, IsUsed, IsRefusedBy, IsBornBy, Keeps};
 
+use crate::cert_lines::CertLines;
 use crate::chains::{ChainId, Chains};
 use crate::line::{Line, LineList};
 use crate::oldest_first::OldestFirst;
 use crate::ongoing::Ongoing;
 use crate::reason::Reason;
-use crate::written::{add_lines, lines_of};
 use lp_model::Blame;
 use lp_stack::{GroupId, TaskId};
 use std::alloc::{AllocError, Global};
@@ -66,12 +66,8 @@ impl Head {
         requires { IsHead chains.now.lists (length scans.now) self }
         ensures { IfOk result (λ lines. lines ≡ reverse (head_lines chains.now.lists scans.now group self)) }
     {
-        let older = chains.reasons(alloc, self.older)?;
-        let mut lines = lines_of(alloc, older.as_slice(), scans)?;
-        if let Some(reason) = ongoing_reason(scans, group, self.ongoing) {
-            add_lines(&mut lines, &reason, scans)?;
-        }
-        Ok(LineList::from_vec(lines))
+        let reasons = self.oldest_first(chains, scans, group);
+        CertLines::new(group, scans, reasons).collect(alloc)
     }
 
     /// The reasons as they stand, of which the oldest comes first. Never allocates.

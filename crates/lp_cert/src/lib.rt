@@ -17,7 +17,6 @@ mod reasons;
 mod unchanged;
 mod waiter_steps;
 mod waiters;
-mod written;
 
 pub use cert::{Cert, CertHead, Claim};
 pub use cert_lines::CertLines;

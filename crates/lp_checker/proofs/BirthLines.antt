@@ -55,8 +55,8 @@ module _ (model : Rules) (leg : Leg) where
     none_yet = record { rest = λ claimed. refl; start = λ e. refl }
 
     -- a line that is no birth
-    pub pass_over : (i begin : ℕ) (from : Option GroupId) → births (drop i lines) ≡ births (drop (suc i) lines) → Passed i begin from → Passed (suc i) begin from
-    pass_over i begin from same passed = record {
+    pub skip_line : (i begin : ℕ) (from : Option GroupId) → births (drop i lines) ≡ births (drop (suc i) lines) → Passed i begin from → Passed (suc i) begin from
+    skip_line i begin from same passed = record {
       rest = λ claimed. passed.rest claimed ∙ ap (λ b. first_of (birth_tests model leg last (group_now from (first claimed)) begin b)) same;
       start = λ e. passed.start e ∙ same;
     }

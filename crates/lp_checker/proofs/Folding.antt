@@ -1,4 +1,4 @@
--- The fold of a leg gives its tasks with nobody going over.
+-- The fold of a leg gives its tasks with nobody switching.
 use Rattle.std.proofs.Common.{◌≡◌, ℕ, suc, ◌+◌, false, Option, Some, None, if◌then◌else◌, nat_eq, slice_get, refl, ap, ◌∙◌}
 use Rattle.std.specs.List.{list_any}
 use Rattle.lp_model.specs.declared.check.CheckKind.{CheckKind}
@@ -11,17 +11,17 @@ use Rattle.lp_transition.specs.Schedule.{standing, view}
 use Rattle.lp_transition.specs.Sound.{IsSound}
 use Rattle.lp_transition.specs.Chain.{nobody}
 use Rattle.lp_transition.specs.Machine.{Standings, outlines_of, view_of}
-use Rattle.lp_transition.specs.inside.Unmoved.{accept_standing, take_own_effect, unmoved}
+use Rattle.lp_transition.specs.inside.Unswitched.{accept_standing, take_own_effect, unswitched}
 use Rattle.lp_transition.proofs.Cut.{outlines_same}
-use Rattle.lp_transition.proofs.Unmoved.{unmoved_is}
+use Rattle.lp_transition.proofs.Unswitched.{unswitched_is}
 use Rattle.lp_checker.specs.inside.Births.{group_in}
 use Rattle.lp_checker.specs.Verdict.{blame_by, is_on_stack}
 
 module _ (model : Rules) (leg : Leg) (lawful : IsLawful model) (sound : IsSound leg.opening) where
   abbrev pub now : ℕ → Standings
-  now k = unmoved model.child_group leg k
+  now k = unswitched model.child_group leg k
 
-  -- an event is accepted with nobody going over where it is in the leg
+  -- an event is accepted with nobody switching where it is in the leg
   accept_same : (k : ℕ) (tasks : Tasks) (o : Option Event) → accept_standing leg.bounds (λ t. map_live (standing leg nobody k) (tasks t)) o ≡ accept leg.bounds tasks o
   unfolding refusal
   accept_same k tasks None = refl
@@ -29,16 +29,16 @@ module _ (model : Rules) (leg : Leg) (lawful : IsLawful model) (sound : IsSound 
 
   pub accepted_is : (k : ℕ) → accept_standing leg.bounds (now k) (slice_get leg.events k) ≡ accepted model leg k
   accepted_is k =
-      ap (λ tasks. accept_standing leg.bounds tasks (slice_get leg.events k)) (unmoved_is model leg lawful sound k)
+      ap (λ tasks. accept_standing leg.bounds tasks (slice_get leg.events k)) (unswitched_is model leg lawful sound k)
       ∙ accept_same k (after model leg k) (slice_get leg.events k)
 
   -- one event more
   pub next_is : (k : ℕ) → take_own_effect model.child_group (suc (leg.number + k)) (accept_standing leg.bounds (now k) (slice_get leg.events k)) (now k) ≡ now (suc k)
-  unfolding unmoved
+  unfolding unswitched
   next_is k = refl
 
   pub outlines_are : (k : ℕ) → outlines_of (now k) ≡ outlines (after model leg k)
-  outlines_are k = ap outlines_of (unmoved_is model leg lawful sound k) ∙ outlines_same leg nobody k (after model leg k)
+  outlines_are k = ap outlines_of (unswitched_is model leg lawful sound k) ∙ outlines_same leg nobody k (after model leg k)
 
   -- a check of the fold is one of the leg
   pub check_is : (k group : ℕ) → if_used model.uses (check_by leg.bounds (outlines_of (now (suc k))) (accepted model leg k) group) ≡ check model leg k group
@@ -55,7 +55,7 @@ module _ (model : Rules) (leg : Leg) (lawful : IsLawful model) (sound : IsSound 
   blame_same kind group k t Dead = refl
 
   pub blame_is : (kind : CheckKind) (group k t : ℕ) → blame_of kind group t (now k t) ≡ blame_by model leg (Some kind) group t (after model leg k t)
-  blame_is kind group k t = ap (λ (tasks : Standings). blame_of kind group t (tasks t)) (unmoved_is model leg lawful sound k) ∙ blame_same kind group k t (after model leg k t)
+  blame_is kind group k t = ap (λ (tasks : Standings). blame_of kind group t (tasks t)) (unswitched_is model leg lawful sound k) ∙ blame_same kind group k t (after model leg k t)
 
   frame_same : (k t serial : ℕ) (fate : Fate Life) → on_live false (λ x. list_any (λ frame. nat_eq frame.serial serial) x.frames) (map_live (standing leg nobody k) fate) ≡ on_live false (λ x. list_any (λ frame. nat_eq frame.serial serial) (view leg nobody t x).frames) fate
   frame_same k t serial Unused = refl
@@ -64,7 +64,7 @@ module _ (model : Rules) (leg : Leg) (lawful : IsLawful model) (sound : IsSound 
 
   pub frame_is : (k t serial : ℕ) → on_live false (λ x. list_any (λ frame. nat_eq frame.serial serial) x.frames) (now k t) ≡ is_on_stack model leg t serial k
   frame_is k t serial =
-      ap (λ (tasks : Standings). on_live false (λ x. list_any (λ frame. nat_eq frame.serial serial) x.frames) (tasks t)) (unmoved_is model leg lawful sound k)
+      ap (λ (tasks : Standings). on_live false (λ x. list_any (λ frame. nat_eq frame.serial serial) x.frames) (tasks t)) (unswitched_is model leg lawful sound k)
       ∙ frame_same k t serial (after model leg k t)
 
   group_same : (k : ℕ) (fate : Fate Life) → on_live None (λ x. Some x.group) (map_live (standing leg nobody k) fate) ≡ group_in fate
@@ -74,5 +74,5 @@ module _ (model : Rules) (leg : Leg) (lawful : IsLawful model) (sound : IsSound 
 
   pub group_is : (k t : ℕ) → on_live None (λ x. Some x.group) (now k t) ≡ group_in (after model leg k t)
   group_is k t =
-      ap (λ (tasks : Standings). on_live None (λ x. Some x.group) (tasks t)) (unmoved_is model leg lawful sound k)
+      ap (λ (tasks : Standings). on_live None (λ x. Some x.group) (tasks t)) (unswitched_is model leg lawful sound k)
       ∙ group_same k (after model leg k t)

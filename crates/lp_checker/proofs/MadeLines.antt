@@ -37,7 +37,7 @@ module _ (model : Rules) (leg : Leg) where
         begin ≤ place → suc place ≤ k → IsPart model leg group (suc place) k own → Tale k group (suc place) ls
 
   -- the group's own lines, in front of older ones
-  pub record Front (k group begin : ℕ) (ls : List Line) : Type 0 where
+  pub record OwnFirst (k group begin : ℕ) (ls : List Line) : Type 0 where
     pub own : List Line
     pub older : List Line
     pub is : ls ≡ own ++ older
@@ -46,8 +46,8 @@ module _ (model : Rules) (leg : Leg) where
     pub bare : (has : ℕ → ℕ → Bool) (at t : ℕ) (why : Blame) → after_refusal has group at (t, why) older ≡ refusal_line group at (t, why) ++ older
     pub again : (more : List Line) → IsPart model leg group begin (suc k) more → Tale (suc k) group begin (more ++ older)
 
-  front : (k group begin : ℕ) (ls : List Line) → Tale k group begin ls → Front k group begin ls
-  front k group begin ls (Opened n g l opens part) =
+  own_first : (k group begin : ℕ) (ls : List Line) → Tale k group begin ls → OwnFirst k group begin ls
+  own_first k group begin ls (Opened n g l opens part) =
       record {
         own = ls;
         older = [];
@@ -57,7 +57,7 @@ module _ (model : Rules) (leg : Leg) where
         bare = λ has at t why. refl;
         again = λ more h. subst (Tale (suc k) group zero) (sym (append-nil more)) (Opened (suc k) group more opens h);
       }
-  front k group begin ls (Branched n g place parent_group start l own older birth is tale low high part) =
+  own_first k group begin ls (Branched n g place parent_group start l own older birth is tale low high part) =
       let born = birth_line group (task_id birth.parent) (leg.number + suc place) in
       record {
         own = own;
@@ -72,7 +72,7 @@ module _ (model : Rules) (leg : Leg) where
   -- an event that is no check of the group
   unchecked : (k group begin : ℕ) (ls : List Line) → check model leg k group ≡ None → Tale k group begin ls → Tale (suc k) group begin ls
   unchecked k group begin ls none tale =
-      let f = front k group begin ls tale in
+      let f = own_first k group begin ls tale in
       subst (Tale (suc k) group begin) (sym f.is) (f.again f.own (part_later model leg group begin k f.own none f.part))
 
   -- ---- What the verdict reads
@@ -142,12 +142,12 @@ module _ (model : Rules) (leg : Leg) (lawful : IsLawful model) (sound : IsSound 
   abbrev first : Schedule
   first = first_check model leg
 
-  -- a check of a group that goes on waiting
+  -- a check of a group that still waits
   by_blame : (k group begin : ℕ) (w : Waiter model leg first (suc k) group) (kind : CheckKind) (checked : check model leg k group ≡ Some kind) (ls : List Line) → Tale model leg k group begin ls
       → (o : Option (ℕ × Blame)) → first_blamed model leg (Some kind) (suc k) group ≡ o → Tale model leg (suc k) group begin (after_check (has_frame model leg (suc k)) group (leg.number + suc k) o ls)
   by_blame k group begin w kind checked ls tale None e = absurd (someone model leg lawful sound k group w kind checked e)
   by_blame k group begin w kind checked ls tale (Some (t, why)) e =
-      let f = front model leg k group begin ls tale in
+      let f = own_first model leg k group begin ls tale in
       let at = leg.number + suc k in
       let n = next model leg lawful sound k group w kind checked begin t why f.own f.older f.begun (blamed_well model leg lawful sound k group w kind checked t why e) f.part (f.bare (has_frame model leg (suc k)) at t why) in
       subst (Tale model leg (suc k) group begin) (sym (ap (after_refusal (has_frame model leg (suc k)) group at (t, why)) f.is ∙ n.is)) (f.again n.lines n.part)
@@ -190,7 +190,7 @@ module _ (model : Rules) (leg : Leg) (lawful : IsLawful model) (sound : IsSound 
     pub tale : Tale model leg k group begin (lines model leg k group)
 
   begun : (k group begin : ℕ) (ls : List Line) → Tale model leg k group begin ls → begin ≤ k
-  begun k group begin ls tale = (front model leg k group begin ls tale).begun
+  begun k group begin ls tale = (own_first model leg k group begin ls tale).begun
 
   -- a group that was just born
   told_child : (k group parent_group : ℕ) (how : ForkKind) (v : Waiter model leg first k parent_group) → accepted model leg k ≡ Some (fork v.task group how) → model.child_group parent_group group how ≡ group → IsTold k parent_group → IsTold (suc k) group

@@ -168,7 +168,7 @@ module _ (model : Rules) (leg : Leg) where
             (cases_eq place k);
       }
 
-  -- a hold that goes on up to the check
+  -- a hold that continues up to the check
   pub part_on : (group begin k : ℕ) (g : GroupId) (t : TaskId) (serial from to : ℕ) (own : List Line) → is_on_stack model leg t.0 serial (suc k) ≡ true
       → IsPart group begin k (Hold g t serial from to ∷ own) → IsPart group begin (suc k) (Hold g t serial from (leg.number + suc k) ∷ own)
   part_on group begin k g t serial from to own there h =

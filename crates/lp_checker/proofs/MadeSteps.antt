@@ -160,7 +160,7 @@ module _ (model : Rules) (leg : Leg) (lawful : IsLawful model) (sound : IsSound 
         let used = (check-is model leg k group b.kind b.is_check).1 in
         absurd (cc (unused, used))
 
-    -- ---- A hold that goes on
+    -- ---- A hold that continues
 
     stack_of : (t serial : ℕ) (fate : Fate Life) → after model leg (suc k) t ≡ fate → ((x : Life) → fate ≡ Live x → x.group ≡ group)
         → on_live false (λ x. list_any (λ frame. nat_eq frame.serial serial) (view leg first t x).frames) fate ≡ on_live false (λ x. list_any (λ frame. nat_eq frame.serial serial) (view leg nobody t x).frames) fate

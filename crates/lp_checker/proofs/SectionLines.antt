@@ -33,11 +33,11 @@ range_none : {A : Type 0} (xs : List A) (i : ℕ) → slice_range xs i i ≡ []
 range_none xs i = let none : i - i ≡ 0 = omega arith in ap (λ k. take k (drop i xs)) none
 
 module _ (leg : Leg) (lines : List Line) (last first : ℕ) where
-  -- the lines of the section that goes on, before line i and from there on
+  -- the lines of the section that is open, before line i and from there on
   abbrev lines_on : ℕ → ℕ → List Line
   lines_on start i = slice_range lines start i ++ first_lines (drop i lines)
 
-  -- after the first i lines: these parts, and one of this group that goes on
+  -- after the first i lines: these parts, and one of this group that is open
   pub record Made (i : ℕ) (parts : List Part) (group begin start : ℕ) : Type 0 where
     pub rest : (model : Rules) → sections model leg last first 0 (first_lines lines) (births lines) ≡ map (section_of lines) parts ++ sections model leg last group begin (lines_on start i) (births (drop i lines))
     pub times : (more : List Part) → FollowOn (length lines) last begin more → FollowOn (length lines) last 0 (parts ++ more)

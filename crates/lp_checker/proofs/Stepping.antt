@@ -1,4 +1,4 @@
--- The fold goes on by an event of the leg.
+-- The fold steps by an event of the leg.
 use Rattle.std.proofs.Common.{◌≡◌, ℕ, suc, ◌+◌, List, Option, Some, Result, Ok, Err, OnOk, IfOk, slice_get, sym, ap, ◌∙◌, arith}
 use Rattle.std.proofs.lemmas.Result.{IfOk-weaker}
 use Rattle.lp_patch.specs.Patches.{Patches}
@@ -6,7 +6,7 @@ use Rattle.lp_model.specs.Rules.{Rules, IsLawful}
 use Rattle.lp_transition.specs.declared.event.Event.{Event}
 use Rattle.lp_transition.specs.Leg.{Leg, accepted}
 use Rattle.lp_transition.specs.Machine.{Standings}
-use Rattle.lp_transition.specs.inside.Unmoved.{accept_standing, take_own_effect, unmoved}
+use Rattle.lp_transition.specs.inside.Unswitched.{accept_standing, take_own_effect, unswitched}
 use Rattle.lp_transition.specs.Openings.{IsOpening}
 use Rattle.lp_transition.specs.Table.{Engine, bounds_of, standings}
 use Rattle.lp_checker.specs.declared.fold.Fold.{Fold}
@@ -20,7 +20,7 @@ module _ (model : Rules) (lawful : IsLawful model) (opening : Engine) (events : 
 
   -- the fold of an opening
   pub opened : (fold : Fold) → IsOpening opening → fold.number ≡ opening.number → fold.target.0 ≡ opening.target → fold.patches ≡ opening.patches → standings fold.tasks ≡ standings opening.table → IsAt model opening events 0 fold
-  unfolding unmoved
+  unfolding unswitched
   opened fold sound number target patches tasks = record { sound = sound; number = omega (arith, number); target = target; patches = patches; tasks = tasks }
 
   pub opened_as : {E : Type 0} (r : Result Fold E) → IsOpening opening → IfOk r (λ fold. fold.number ≡ opening.number) → IfOk r (λ fold. fold.target.0 ≡ opening.target) → IfOk r (λ fold. fold.patches ≡ opening.patches) → IfOk r (λ fold. standings fold.tasks ≡ standings opening.table) → IfOk r (λ fold. IsAt model opening events 0 fold)
@@ -52,6 +52,6 @@ module _ (model : Rules) (lawful : IsLawful model) (opening : Engine) (events : 
               ∙ next_is model leg lawful at.sound.sound k;
         }
 
-    pub goes_on : {T E : Type 0} (r : Result T E) (new : Fold) → OnOk r (new.number ≡ suc old.number) → OnOk r (new.target ≡ old.target) → OnOk r (new.patches ≡ old.patches) → OnOk r (standings new.tasks ≡ take_own_effect model.child_group (suc old.number) (accept_standing (bounds_of old.patches) (standings old.tasks) (Some event)) (standings old.tasks)) → OnOk r (IsAt model opening events (suc k) new)
-    goes_on (Ok x) new number target patches tasks = one_on new number target patches tasks
-    goes_on (Err e) new number target patches tasks = tt
+    pub steps : {T E : Type 0} (r : Result T E) (new : Fold) → OnOk r (new.number ≡ suc old.number) → OnOk r (new.target ≡ old.target) → OnOk r (new.patches ≡ old.patches) → OnOk r (standings new.tasks ≡ take_own_effect model.child_group (suc old.number) (accept_standing (bounds_of old.patches) (standings old.tasks) (Some event)) (standings old.tasks)) → OnOk r (IsAt model opening events (suc k) new)
+    steps (Ok x) new number target patches tasks = one_on new number target patches tasks
+    steps (Err e) new number target patches tasks = tt

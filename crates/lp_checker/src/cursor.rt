@@ -61,7 +61,7 @@ impl Cursor {
         self.step_to(alloc, model, leg, moment)
     }
 
-    /// Goes on to just after a later event.
+    /// Steps to just after a later event.
     fn step_to<M: Consistency>(
         &mut self,
         alloc: Global,

@@ -6,7 +6,7 @@ ghost use Rattle.std.specs.Option.{option_map};
 ghost use Rattle.lp_transition.specs.Tasks.{first_of, tests, on_live, Unused, Dead};
 ghost use Rattle.lp_transition.specs.Leg.{check_by, if_used, is_alone, has_member};
 ghost use Rattle.lp_transition.specs.Machine.{view_of, outlines_of, own_effect};
-ghost use Rattle.lp_transition.specs.inside.Unmoved.{accept_standing, take_own_effect};
+ghost use Rattle.lp_transition.specs.inside.Unswitched.{accept_standing, take_own_effect};
 ghost use Rattle.lp_transition.specs.Openings.{IsOpening};
 ghost use Rattle.lp_transition.specs.Table.{slot, standings, bounds_of};
 

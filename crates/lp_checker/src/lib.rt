@@ -1,5 +1,5 @@
 //! The checker of certificates: whoever made one, its acceptance implies that no legal schedule
-//! could have moved the group.
+//! could have switched the group.
 #![tactic(auto)]
 
 mod births;

@@ -25,7 +25,7 @@ rows_compute =
       child_inherits_the_new_level = record { by_definition = refl; by_machine = refl; stays_there = refl; mixed_there = refl };
       child_inherits_the_old_level = record { by_definition = refl; by_machine = refl; stays_there = refl; mixed_there = refl };
       reversal_completes_at_once = record { by_definition = refl; by_machine = refl; stays_there = refl; mixed_there = refl };
-      reversal_waits_for_who_went_over = record { by_definition = refl; by_machine = refl; stays_there = refl; mixed_there = refl };
+      reversal_waits_for_who_switched = record { by_definition = refl; by_machine = refl; stays_there = refl; mixed_there = refl };
       death_completes = record { by_definition = refl; by_machine = refl; stays_there = refl; mixed_there = refl };
       idle_point_switches = record { by_definition = refl; by_machine = refl; stays_there = refl; mixed_there = refl };
       idle_point_needs_an_empty_stack = record { by_definition = refl; by_machine = refl; stays_there = refl; mixed_there = refl };

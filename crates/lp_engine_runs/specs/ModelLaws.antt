@@ -1,7 +1,7 @@
 -- The laws of a transition at one model, and at two.
 use Rattle.std.specs.Prelude.{ℕ, ◌≤◌}
 use Rattle.lp_model.specs.Rules.{Rules}
-use Rattle.lp_transition.specs.Laws.{HasOneFirstCheck, KeepsThePast, MovesNoneLater, CompletesNoneLater, WaitsForAReason, TrustsChains, OpensSoundly, KeepsOneVersion, MixesNoStay, StepsAsDefined, StatesAreSound}
+use Rattle.lp_transition.specs.Laws.{HasOneFirstCheck, KeepsThePast, SwitchesNoneLater, CompletesNoneLater, WaitsForAReason, TrustsChains, OpensSoundly, KeepsOneVersion, MixesNoStay, StepsAsDefined, StatesAreSound}
 use Rattle.lp_transition.specs.Leg.{Leg}
 use Rattle.lp_transition.specs.Schedule.{Schedule, CompletesAt, IsFirstCheck}
 use Rattle.lp_transition.specs.Sound.{IsSound}
@@ -10,7 +10,7 @@ use Rattle.lp_transition.specs.Sound.{IsSound}
 pub record KeepsAllLaws (model : Rules) : Type 0 where
   pub one_first_check : HasOneFirstCheck model
   pub the_past_stays : KeepsThePast model
-  pub no_earlier_move : MovesNoneLater model
+  pub no_earlier_switch : SwitchesNoneLater model
   pub no_earlier_completion : CompletesNoneLater model
   pub no_wait_without_a_reason : WaitsForAReason model
   pub chains_are_sound : TrustsChains model

@@ -46,7 +46,7 @@ enum Said {
     /// Several groups switch: the first of them, and how many.
     OverAll(u16, usize),
     Refused(u8),
-    /// The transition is complete from here on, with no group going over.
+    /// The transition is complete from here on, with no group switching.
     Complete,
     /// One group switches, and the transition is complete.
     OverLast(u16),
@@ -57,12 +57,12 @@ fn in_short(reply: &Reply) -> Said {
         What::Ran(level) => Said::Ran(level.0),
         What::Done if reply.completed => Said::Complete,
         What::Done => Said::Done,
-        What::Switched(groups) => said_over(groups.as_slice(), reply.completed),
+        What::Switched(groups) => said_switched(groups.as_slice(), reply.completed),
         What::Refused(why) => Said::Refused(why.number()),
     }
 }
 
-fn said_over(groups: &[GroupId], completed: bool) -> Said {
+fn said_switched(groups: &[GroupId], completed: bool) -> Said {
     match groups {
         [group] if completed => Said::OverLast(group.0),
         [group] => Said::Over(group.0),

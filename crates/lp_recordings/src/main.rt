@@ -49,7 +49,7 @@ impl From<AllocError> for Fault {
     }
 }
 
-/// Who went over, a line each: the number of the event, and the group's, which is the task's.
+/// Who switched, a line each: the number of the event, and the group's, which is the task's.
 fn moves(alloc: Global, outcome: &Outcome) -> Result<String, AllocError> {
     let mut text = String::new(alloc);
     for (index, reply) in outcome.replies.to_vec(alloc)?.iter().enumerate() {

@@ -165,7 +165,7 @@ module _ (model : Rules) (lawful : IsLawful model) (answered : List Reply) (leg 
   none_is_earlier : NoneIsEarlier model leg first (end_of model leg)
   none_is_earlier =
       record {
-        moves = λ other legal k group w. waits_too model leg lawful is.sound first other is_first legal k group w;
+        switches = λ other legal k group w. waits_too model leg lawful is.sound first other is_first legal k group w;
         completes = none_completes_earlier;
         completed = λ at e. let k = completed at (completion model leg) refl e in (k.0, k.2, completes_at k.0 k.1);
       }
@@ -185,7 +185,7 @@ module _ (model : Rules) (lawful : IsLawful model) (answered : List Reply) (leg 
 
   pub headline_of_leg : HeadlineOfLeg model answered leg (end_of model leg)
   headline_of_leg =
-      record { first = first; is_first = is_first; first_checks = is.moved; none_earlier = none_is_earlier; certified = are_certified }
+      record { first = first; is_first = is_first; first_checks = is.named; none_earlier = none_is_earlier; certified = are_certified }
 
 -- ---- The run
 

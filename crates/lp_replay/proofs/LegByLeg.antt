@@ -16,7 +16,7 @@ use Rattle.lp_transition.proofs.WholeRun.{next_sound, start_sound}
 use Rattle.lp_cert.specs.Certificates.{legs, opened_legs}
 use Rattle.lp_replay.specs.Headline.{switched_groups, replies_in}
 use Rattle.lp_replay.proofs.GroupsInRange.{GroupsAreInRange, next_in_range, start_in_range}
-use Rattle.lp_replay.proofs.Moved.{control_moves_none, none_at_opening, past_movers, reply_names}
+use Rattle.lp_replay.proofs.Switching.{control_switches_none, none_at_opening, past_switched, reply_names}
 
 -- the groups that replies name
 abbrev names : List Reply → List (List ℕ)
@@ -27,16 +27,16 @@ drop_whole [] ys = refl
 drop_whole (x ∷ xs) ys = drop_whole xs ys
 
 module _ (model : Rules) (lawful : IsLawful model) where
-  -- whom the first-check schedule of a leg moves, at its opening and at each of its events
-  abbrev moves : Leg → List (List ℕ)
-  moves leg = map (switched_at leg (first_check model leg)) (range_with_len 0 (suc (length leg.events)))
+  -- whom the first-check schedule of a leg switches, at its opening and at each of its events
+  abbrev switches : Leg → List (List ℕ)
+  switches leg = map (switched_at leg (first_check model leg)) (range_with_len 0 (suc (length leg.events)))
 
   -- a leg of a run, with the replies to the run
   pub record IsLeg (answered : List Reply) (leg : Leg) : Type 0 where
     pub sound : IsSound leg.opening
     pub in_range : GroupsAreInRange leg.opening
     pub few : leg.number + length leg.events ≤ 1000000
-    pub moved : names (replies_in leg answered) ≡ moves leg
+    pub named : names (replies_in leg answered) ≡ switches leg
 
   -- the leg under way after these replies
   record IsUnderWay (before : List Reply) (leg : Leg) : Type 0 where
@@ -47,7 +47,7 @@ module _ (model : Rules) (lawful : IsLawful model) where
   -- what they name, where an event opened it
   record IsTold (before : List Reply) (leg : Leg) : Type 0 where
     opened : 0 < leg.number
-    moved : names (drop (pred leg.number) before) ≡ moves leg
+    named : names (drop (pred leg.number) before) ≡ switches leg
 
   -- ---- One event more
 
@@ -71,25 +71,25 @@ module _ (model : Rules) (lawful : IsLawful model) where
         numbered = omega (arith, length-append before (reply model leg event ∷ []), h.numbered, longer_by_one leg event);
       }
 
-  -- an event that opens a leg moves nobody
+  -- an event that opens a leg switches nobody
   told_opened : (before : List Reply) (leg : Leg) (event : Event) → IsUnderWay before leg → opens model leg event ≡ true → IsTold (and_reply before leg event) (next_leg model leg event)
   told_opened before leg event h e =
       subst (IsTold (and_reply before leg event)) (sym (next_is leg event true e)) (record {
         opened = omega arith;
-        moved =
+        named =
             let place : pred (leg.number + suc (length leg.events)) ≡ length before = omega (arith, h.numbered) in
             let control = (and_parts _ _ e).0 in
             ap (λ n. names (drop n (and_reply before leg event))) place
             ∙ (ap names (drop_whole before (reply model leg event ∷ []))
-            ∙ ap (λ groups. groups ∷ []) (reply_names model leg event ∙ (control_moves_none model leg event control ∙ sym (none_at_opening model (opened model leg event)))));
+            ∙ ap (λ groups. groups ∷ []) (reply_names model leg event ∙ (control_switches_none model leg event control ∙ sym (none_at_opening model (opened model leg event)))));
       })
 
-  -- any other goes on with the leg
+  -- any other continues the leg
   told_longer : (before : List Reply) (leg : Leg) (event : Event) → IsUnderWay before leg → IsTold before leg → opens model leg event ≡ false → IsTold (and_reply before leg event) (next_leg model leg event)
   told_longer before leg event h told e =
       subst (IsTold (and_reply before leg event)) (sym (next_is leg event false e)) (record {
         opened = told.opened;
-        moved =
+        named =
             let longer = and_then leg event in
             let n = length leg.events in
             let long : length longer.events ≡ suc n = omega (arith, length-append leg.events (event ∷ [])) in
@@ -99,13 +99,13 @@ module _ (model : Rules) (lawful : IsLawful model) where
             let same_end : suc n + 1 ≡ suc (length longer.events) = omega (arith, long) in
             ap names (drop-append-le at before r (omega (arith, h.numbered)))
             ∙ (map-append (λ (reply : Reply). switched_groups reply.what) (drop at before) r
-            ∙ (ap₂ (λ prefix last. prefix ++ last ∷ []) (told.moved ∙ before_same 0 (suc n) (omega arith)) (reply_names model leg event)
+            ∙ (ap₂ (λ prefix last. prefix ++ last ∷ []) (told.named ∙ before_same 0 (suc n) (omega arith)) (reply_names model leg event)
             ∙ (sym (map-range_with_len_more f 0 (suc n) (suc n) (omega arith)) ∙ ap (λ m. map f (range_with_len 0 m)) same_end)));
       })
     where
       before_same : (a m : ℕ) → a + m ≤ suc (length leg.events) → map (switched_at leg (first_check model leg)) (range_with_len a m) ≡ map (switched_at (and_then leg event) (first_check model (and_then leg event))) (range_with_len a m)
       before_same a zero le = refl
-      before_same a (suc m) le = ap₂ (λ groups rest. groups ∷ rest) (sym (past_movers model leg event a (omega arith))) (before_same (a + 1) m (omega arith))
+      before_same a (suc m) le = ap₂ (λ groups rest. groups ∷ rest) (sym (past_switched model leg event a (omega arith))) (before_same (a + 1) m (omega arith))
 
   -- ---- The legs
 
@@ -119,9 +119,9 @@ module _ (model : Rules) (lawful : IsLawful model) where
         sound = h.sound;
         in_range = h.in_range;
         few = omega (arith, few, h.numbered);
-        moved =
+        named =
             ap names (ap (take n) (drop-append-le at before after (omega (arith, h.numbered))) ∙ (take-append-le n (drop at before) after (omega (arith, long)) ∙ take_all n (drop at before) (omega (arith, long))))
-            ∙ told.moved;
+            ∙ told.named;
       }
 
   abbrev AreLegs : List Reply → Leg → List Event → List Leg → Type 0

@@ -2,7 +2,7 @@ pub mod ReplyLists
 pub mod Starting
 pub mod Recording
 pub mod Legs
-pub mod Moved
+pub mod Switching
 pub mod GroupsInRange
 pub mod LegByLeg
 pub mod Headline

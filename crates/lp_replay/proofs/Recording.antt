@@ -118,11 +118,11 @@ module _ (model : Rules) where
       subst (λ (es : List Event). IsRecorded model (record run { events = es }) kept) (sym same) is
 
   -- a number is left for one event more
-  pub room_left : (run : Run) (events : List Event) (i : ℕ) (kept : Recorded) → i < length events → length run.events + length events ≤ 1000000 → IsRecorded model (record run { events = run.events ++ take i events }) kept → (kept.core.number < 1000000) × (kept.stays.noted < 1000000)
+  pub room_left : (run : Run) (events : List Event) (i : ℕ) (kept : Recorded) → i < length events → length run.events + length events ≤ 1000000 → IsRecorded model (record run { events = run.events ++ take i events }) kept → (kept.core.number < 1000000) × (kept.stays.events < 1000000)
   room_left run events i kept below few is =
       let longer : Run = record run { events = run.events ++ take i events } in
       let numbered = number_is model longer kept.core is.stands in
-      let noted = is.counts.noted in
+      let counted = is.counts.events in
       let long = length-append run.events (take i events) in
       let taken = length-take-le i events (omega arith) in
-      (omega (arith, few, numbered, long, taken), omega (arith, few, noted, long, taken))
+      (omega (arith, few, numbered, long, taken), omega (arith, few, counted, long, taken))

@@ -42,7 +42,7 @@ module _ (model : Rules) (leg : Leg) (first : Schedule) where
   -- no legal schedule switches any group, or completes the leg, earlier: who waits waits under each of them, and where one of
   -- them has completed the leg, the answer says that it was complete by then
   pub record NoneIsEarlier (end : LegEnd) : Type 0 where
-    pub moves :
+    pub switches :
         (other : Schedule) → IsLegal model leg other →
         (k group : ℕ) → IsTrue (waits model leg first k group) → IsTrue (waits model leg other k group)
     pub completes :

@@ -74,8 +74,8 @@ fn step<M: Consistency>(
 ) -> Result<Reply, Trouble> {
     let top = last_function(core, event);
     let reply = core.step(alloc, event)?;
-    if stays.noted() < 1_000_000 {
-        stays.note(event, &reply, top);
+    if stays.events() < 1_000_000 {
+        stays.step(event, &reply, top);
     }
     Ok(reply)
 }

@@ -40,11 +40,11 @@ again true b = refl
 again false true = refl
 again false false = refl
 
-front_again : (a b c : Bool) → (a || (b || c)) ≡ ((a || (b || c)) || b)
-front_again true b c = refl
-front_again false true c = refl
-front_again false false true = refl
-front_again false false false = refl
+again_last : (a b c : Bool) → (a || (b || c)) ≡ ((a || (b || c)) || b)
+again_last true b c = refl
+again_last false true c = refl
+again_last false false true = refl
+again_last false false false = refl
 
 -- what is so of a stay that ends with the last moment, if the moment comes again, with one call more, or without its last
 kept_again : (x a l : Bool) → x ≡ (a || l) → x ≡ (x || l)
@@ -56,7 +56,7 @@ kept_pushed x a l c found e f = ap (λ b. b || c) e ∙ twice a l c ∙ ap₂ (�
 kept_popped : (x a l now c : Bool) → x ≡ (a || l) → l ≡ (now || c) → x ≡ (x || now)
 kept_popped x a l now c e f =
     let g : x ≡ (a || (now || c)) = e ∙ ap (λ b. a || b) f in
-    g ∙ front_again a now c ∙ ap (λ b. b || now) (sym g)
+    g ∙ again_last a now c ∙ ap (λ b. b || now) (sym g)
 
 -- ---- Moments without calls
 

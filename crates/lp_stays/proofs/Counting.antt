@@ -1,4 +1,4 @@
--- A count of stays goes on with its run.
+-- A count of stays steps with its run.
 use Rattle.std.proofs.Common.{◌≡◌, ◌≢◌, ℕ, zero, suc, ◌+◌, ◌*◌, ◌<◌, ◌≤◌, Bool, true, false, List, [], ◌∷◌, ◌++◌, length, count_by, nat_le, refl, sym, ap, ap₂, ◌∙◌, subst, ⊎_elim, arith, length-append}
 use Rattle.std.proofs.lemmas.Bool.{cases_Bool, cases_eq, cond-true, cond-false}
 use Rattle.std.proofs.lemmas.List.Sums.{sum_by-append}
@@ -41,7 +41,7 @@ module _ (model : Rules) (lawful : IsLawful model) (run : Run) (in_range : AreIn
 
   state_later : state_of model later ≡ after
   state_later =
-      ap (state_of model) (leg_after-plus model first run.events event) ∙ sym (does model (leg_of model run) event lawful sound).goes_on
+      ap (state_of model) (leg_after-plus model first run.events event) ∙ sym (does model (leg_of model run) event lawful sound).next_state
 
   -- ---- The moments
 
@@ -75,7 +75,7 @@ module _ (model : Rules) (lawful : IsLawful model) (run : Run) (in_range : AreIn
   -- at most one task's stays change
   pub record IsCounted (now : Counted) (at : ℕ) (more mixed_more : ℕ → ℕ) : Type 0 where
     pub patches : now.patches ≡ count.patches
-    pub noted : now.noted ≡ count.noted + 1
+    pub events : now.events ≡ count.events + 1
     pub positive : 1 ≤ at
     pub within : at < 65536
     pub stays : now.stays ≡ count.stays + sum_from more 1 (length count.patches)
@@ -110,12 +110,12 @@ module _ (model : Rules) (lawful : IsLawful model) (run : Run) (in_range : AreIn
         let bound = counts.tasks in
         rows-one weight none both (length run.patches) run.bounds.tasks (stays_in run.events) (stays_in (run.events ++ event ∷ [])) more at positive (omega arith) one_elsewhere one_here ∙ ap (λ patches. weight (all_stays model first run.events) + sum_from more 1 (length patches)) (sym counts.patches)
 
-  pub goes_on : (now : Counted) (at : ℕ) (more mixed_more : ℕ → ℕ) → IsCounted now at more mixed_more → Counts model (plus run event) now
-  goes_on now at more mixed_more h =
+  pub counts_next : (now : Counted) (at : ℕ) (more mixed_more : ℕ → ℕ) → IsCounted now at more mixed_more → Counts model (plus run event) now
+  counts_next now at more mixed_more h =
       record {
         patches = h.patches ∙ counts.patches;
         tasks = counts.tasks;
-        noted = h.noted ∙ (let a = length-append run.events (event ∷ []) in let b = counts.noted in omega arith);
+        events = h.events ∙ (let a = length-append run.events (event ∷ []) in let b = counts.events in omega arith);
         stays =
             let all = all_more (λ found. length found) refl (λ xs ys. length-append xs ys) at more h.positive h.within (λ below lt. (h.here below lt).total) (λ below t lt small other. (h.others below t lt small other).total) in
             h.stays ∙ ap (λ n. n + sum_from more 1 (length count.patches)) counts.stays ∙ sym all;
@@ -137,9 +137,9 @@ module _ (model : Rules) (lawful : IsLawful model) (run : Run) (in_range : AreIn
   pub still_counts : IsStill before after → Counts model (plus run event) (one_more count)
   still_counts still =
       let same = λ (below t : ℕ). ap (sides count.patches (suc below)) (still t) in
-      goes_on (one_more count) 1 (λ patch. 0) (λ patch. 0) (record {
+      counts_next (one_more count) 1 (λ patch. 0) (λ patch. 0) (record {
         patches = refl;
-        noted = refl;
+        events = refl;
         positive = omega arith;
         within = omega arith;
         stays = let none = sum_none (λ patch. 0) 1 (length count.patches) (λ k low high. refl) in omega arith;
@@ -200,9 +200,9 @@ module _ (model : Rules) (lawful : IsLawful model) (run : Run) (in_range : AreIn
 
       pub call_counts : Counts model (plus run event) called_count
       call_counts =
-          goes_on called_count at (more_in at func.0 level (one_more count)) (mixed_in at func.0 level (one_more count)) (record {
+          counts_next called_count at (more_in at func.0 level (one_more count)) (mixed_in at func.0 level (one_more count)) (record {
             patches = (call_same at func.0 level (one_more count) (length count.patches)).patches;
-            noted = (call_same at func.0 level (one_more count) (length count.patches)).noted;
+            events = (call_same at func.0 level (one_more count) (length count.patches)).events;
             positive = positive;
             within = within;
             stays = call_stays at func.0 level (one_more count) within (length count.patches);
@@ -249,9 +249,9 @@ module _ (model : Rules) (lawful : IsLawful model) (run : Run) (in_range : AreIn
       return_counts =
           let same = return_same at func_left (one_more count) (length count.patches) in
           let none = sum_none (λ patch. 0) 1 (length count.patches) (λ k low high. refl) in
-          goes_on returned_count at (λ patch. 0) (λ patch. 0) (record {
+          counts_next returned_count at (λ patch. 0) (λ patch. 0) (record {
             patches = same.patches;
-            noted = same.noted;
+            events = same.events;
             positive = positive;
             within = within;
             stays = let e : returned_count.stays ≡ count.stays = same.stays in omega (arith, e, none);

@@ -49,7 +49,7 @@ no_change now before below t e =
       wide = ap (λ c. length c.present) e;
     }
 
--- a count that goes on from patch to patch, by a change of each present stay
+-- a count that is taken from patch to patch, by a change of each present stay
 pub record Goes (run : ℕ → Counted) (t : ℕ) (change : ℕ → Ongoing → Ongoing) : Type 0 where
   pub step : (below : ℕ) → IsChange (run (suc below)) (run below) below t (change below (kept (run below) below t))
 
@@ -121,14 +121,14 @@ module _ (t func level : ℕ) (count : Counted) where
   -- what else is kept stays
   pub record IsSame (now : Counted) : Type 0 where
     pub patches : now.patches ≡ count.patches
-    pub noted : now.noted ≡ count.noted
+    pub events : now.events ≡ count.events
 
   pub call_same : (k : ℕ) → IsSame (call_run k)
-  call_same zero = subst IsSame (sym call_start) (record { patches = refl; noted = refl })
+  call_same zero = subst IsSame (sym call_start) (record { patches = refl; events = refl })
   call_same (suc below) =
       let before = call_same below in
       ⊎_elim
-      (λ (yes : has below ≡ true). record { patches = ap (λ c. c.patches) (call_yes below yes) ∙ before.patches; noted = ap (λ c. c.noted) (call_yes below yes) ∙ before.noted })
+      (λ (yes : has below ≡ true). record { patches = ap (λ c. c.patches) (call_yes below yes) ∙ before.patches; events = ap (λ c. c.events) (call_yes below yes) ∙ before.events })
       (λ (no : has below ≡ false). subst IsSame (sym (call_no below no)) before)
       (cases_Bool (has below))
 
@@ -251,19 +251,19 @@ module _ (t func : ℕ) (count : Counted) where
   -- what else is kept stays
   pub record IsKeptElse (now : Counted) : Type 0 where
     pub patches : now.patches ≡ count.patches
-    pub noted : now.noted ≡ count.noted
+    pub events : now.events ≡ count.events
     pub stays : now.stays ≡ count.stays
     pub mixed : now.mixed ≡ count.mixed
 
   pub return_same : (k : ℕ) → IsKeptElse (return_run k)
-  return_same zero = subst IsKeptElse (sym return_start) (record { patches = refl; noted = refl; stays = refl; mixed = refl })
+  return_same zero = subst IsKeptElse (sym return_start) (record { patches = refl; events = refl; stays = refl; mixed = refl })
   return_same (suc below) =
       let before = return_same below in
       ⊎_elim
       (λ (yes : had below ≡ true).
       record {
         patches = ap (λ c. c.patches) (return_yes below yes) ∙ before.patches;
-        noted = ap (λ c. c.noted) (return_yes below yes) ∙ before.noted;
+        events = ap (λ c. c.events) (return_yes below yes) ∙ before.events;
         stays = ap (λ c. c.stays) (return_yes below yes) ∙ before.stays;
         mixed = ap (λ c. c.mixed) (return_yes below yes) ∙ before.mixed;
       })
@@ -287,17 +287,17 @@ module _ (t func : ℕ) (count : Counted) where
 -- ---- An event
 
 module _ (count : Counted) (top : Option SymId) where
-  called_once : (t : ℕ) (func : SymId) (what : What) → (by_call t func what (one_more count)).noted ≡ count.noted + 1
-  called_once t func (Ran level) = (call_same t func.0 level.0 (one_more count) (length count.patches)).noted
+  called_once : (t : ℕ) (func : SymId) (what : What) → (by_call t func what (one_more count)).events ≡ count.events + 1
+  called_once t func (Ran level) = (call_same t func.0 level.0 (one_more count) (length count.patches)).events
   called_once t func _ = refl
 
-  returned_once : (t : ℕ) (what : What) (o : Option SymId) → (by_return t what o (one_more count)).noted ≡ count.noted + 1
+  returned_once : (t : ℕ) (what : What) (o : Option SymId) → (by_return t what o (one_more count)).events ≡ count.events + 1
   returned_once t (Refused why) o = refl
   returned_once t _ None = refl
-  returned_once t _ (Some func) = (return_same t func.0 (one_more count) (length count.patches)).noted
+  returned_once t _ (Some func) = (return_same t func.0 (one_more count) (length count.patches)).events
 
-  -- each event is noted
-  pub noted_once : (event : Event) (what : What) → (after_event event what top count).noted ≡ count.noted + 1
-  noted_once (Call t func) what = called_once t.0 func what
-  noted_once (Ret t) what = returned_once t.0 what top
-  noted_once _ what = refl
+  -- each event counts once
+  pub once_more : (event : Event) (what : What) → (after_event event what top count).events ≡ count.events + 1
+  once_more (Call t func) what = called_once t.0 func what
+  once_more (Ret t) what = returned_once t.0 what top
+  once_more _ what = refl

@@ -6,5 +6,5 @@ pub mod Stacks
 pub mod Versions
 pub mod Moments
 pub mod Counting
-pub mod Noting
+pub mod Stepping
 pub mod Following

@@ -96,9 +96,9 @@ change_still : (t : ℕ) (f : Standing → Standing) → ((x : Standing) → (f 
 change_still t f same now u =
     cond_both (nat_eq u t) (map_live f (now u)) (now u) (λ fate. frames_in fate ≡ frames_in (now u)) (λ e. same_frames f same (now u)) (λ e. refl)
 
--- who goes over keeps the frames
-moved_frames : (model : Rules) (s : State) (event : Event) (x : Standing) → (switched_task model s event x).frames ≡ x.frames
-moved_frames model s event x = cond_both {A = Standing} _ _ _ (λ y. y.frames ≡ x.frames) (λ e. refl) (λ e. refl)
+-- who switches keeps the frames
+switched_frames : (model : Rules) (s : State) (event : Event) (x : Standing) → (switched_task model s event x).frames ≡ x.frames
+switched_frames model s event x = cond_both {A = Standing} _ _ _ (λ y. y.frames ≡ x.frames) (λ e. refl) (λ e. refl)
 
 -- ---- One event
 
@@ -120,7 +120,7 @@ module _ (model : Rules) (s : State) where
   -- an accepted event that is no control event leaves the stacks as its own effect does
   accepted : (event : Event) → refusal_of model s event ≡ None → is_control event ≡ false → (t : ℕ) → frames_at (next model s event) t ≡ frames_in (own event t)
   accepted event ok plain t =
-      ap (λ st. frames_at st t) (next-accepted model s event ok plain) ∙ same_frames (switched_task model (affected model s event) event) (moved_frames model (affected model s event) event) (own event t)
+      ap (λ st. frames_at st t) (next-accepted model s event ok plain) ∙ same_frames (switched_task model (affected model s event) event) (switched_frames model (affected model s event) event) (own event t)
 
   pub refused_still : (event : Event) (why : Refusal) → refusal_of model s event ≡ Some why → IsStill s (next model s event)
   refused_still event why e t = ap (λ st. frames_at st t) (next-refused model s event why e)

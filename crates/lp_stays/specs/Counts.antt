@@ -41,7 +41,7 @@ pub record Shows (x : Ongoing) (moments : List (List Bool)) : Type 0 where
 pub record Counts (model : Rules) (run : Run) (count : Counted) : Type 0 where
   pub patches : count.patches ≡ run.patches
   pub tasks : run.bounds.tasks ≡ 65535
-  pub noted : count.noted ≡ length run.events
+  pub events : count.events ≡ length run.events
   pub stays : count.stays ≡ stay_count model (first_leg model run) run.events
   pub mixed : count.mixed ≡ mixed_count model (first_leg model run) run.events
   pub present :

@@ -18,15 +18,15 @@ const TASKS: usize = 65_536;
 
 /// How many stays there were in a run so far, and how many of them ran both sides of a patch.
 ///
-/// For a patch and a task, a stay goes on while a function of the patch is on the task's stack.
+/// For a patch and a task, a stay is as long as a function of the patch is on the task's stack.
 /// Stays are counted for each patch by itself, those that aren't over too. A count is made before
-/// the first event, and each event is noted with its reply.
+/// the first event, and then steps by each event with its reply.
 ///
 /// Contracts see what it keeps.
 #[derive(Drop)]
 pub struct StayCount {
     patches: PatchStack,
-    noted: u32,
+    events: u32,
     stays: u64,
     mixed: u64,
     /// For each patch, one after the other, the stay that each task is in.
@@ -38,9 +38,9 @@ impl Model for StayCount {
 
     ghost Value = { Counted };
 
-    ghost view = { λ c. record { patches = c.patches; noted = c.noted; stays = c.stays; mixed = c.mixed; present = c.present.items } };
+    ghost view = { λ c. record { patches = c.patches; events = c.events; stays = c.stays; mixed = c.mixed; present = c.present.items } };
 
-    ghost invariant = { λ c. IsKept (record { patches = c.patches; noted = c.noted; stays = c.stays; mixed = c.mixed; present = c.present.items }) };
+    ghost invariant = { λ c. IsKept (record { patches = c.patches; events = c.events; stays = c.stays; mixed = c.mixed; present = c.present.items }) };
 }
 
 impl StayCount {
@@ -48,37 +48,37 @@ impl StayCount {
     /// failed.
     pub fn new(alloc: Global, patches: &PatchStack) -> Result<StayCount, AllocError>
         ensures first { IfOk result (λ count. IsFirst patches.now count) }
-        ensures noted { IfOk result (λ count. count.noted ≡ 0) }
+        ensures events { IfOk result (λ count. count.events ≡ 0) }
     {
         let patches = patches.copy(alloc)?;
         let present = all_outside(alloc, usize::from(patches.patches().0) * TASKS)?;
         Ok(StayCount {
             patches,
-            noted: 0,
+            events: 0,
             stays: 0,
             mixed: 0,
             present,
         })
     }
 
-    /// Notes an event with its reply, in constant time. `top` is the function of the last frame
+    /// Takes in an event with its reply, in constant time. `top` is the function of the last frame
     /// on the stack of the event's task before the event, `None` without one; only a return looks
-    /// at it. At most 1,000,000 events are noted.
+    /// at it. At most 1,000,000 events are counted.
     #[inline(always)]
-    pub fn note(&mut self, event: Event, reply: &Reply, top: Option<SymId>)
-        requires { self.old.noted < 1000000 }
+    pub fn step(&mut self, event: Event, reply: &Reply, top: Option<SymId>)
+        requires { self.old.events < 1000000 }
         ensures counts { CountsOne event reply.now top self.old self.new }
-        ensures noted { self.new.noted ≡ self.old.noted + 1 }
+        ensures events { self.new.events ≡ self.old.events + 1 }
     {
         let _ = &self.patches;
         self.keep(event, &reply.what, top);
     }
 
-    /// How many events were noted.
-    pub fn noted(&self) -> u64
-        ensures { result ≡ self.now.noted }
+    /// How many events there were so far.
+    pub fn events(&self) -> u64
+        ensures { result ≡ self.now.events }
     {
-        u64::from(self.noted)
+        u64::from(self.events)
     }
 
     /// How many stays there were.
@@ -98,10 +98,10 @@ impl StayCount {
     /// Keeps what an event did.
     #[inline(always)]
     fn keep(&mut self, event: Event, what: &What, top: Option<SymId>)
-        requires { self.old.noted < 1000000 }
+        requires { self.old.events < 1000000 }
         ensures { self.new ≡ after_event event what.now top self.old }
     {
-        self.noted += 1;
+        self.events += 1;
         match event {
             Event::Call(task, func) => self.keep_call(task, func, what),
             Event::Ret(task) => self.keep_return(task, what, top),
@@ -112,8 +112,8 @@ impl StayCount {
     /// A call, where it ran.
     #[inline(always)]
     fn keep_call(&mut self, task: TaskId, func: SymId, what: &What)
-        requires stays { self.old.stays + 16 ≤ 16 * self.old.noted }
-        requires mixed { self.old.mixed + 16 ≤ 16 * self.old.noted }
+        requires stays { self.old.stays + 16 ≤ 16 * self.old.events }
+        requires mixed { self.old.mixed + 16 ≤ 16 * self.old.events }
         ensures { self.new ≡ by_call task.0 func what.now self.old }
     {
         if let What::Ran(level) = what {
@@ -137,8 +137,8 @@ impl StayCount {
     /// A call of a function at a level, in each patch that has the function.
     #[inline(always)]
     fn call(&mut self, task: TaskId, func: SymId, level: Level)
-        requires stays { self.old.stays + 16 ≤ 16 * self.old.noted }
-        requires mixed { self.old.mixed + 16 ≤ 16 * self.old.noted }
+        requires stays { self.old.stays + 16 ≤ 16 * self.old.events }
+        requires mixed { self.old.mixed + 16 ≤ 16 * self.old.events }
         ensures { self.new ≡ calls (length self.old.patches) task.0 func.0 level.0 self.old }
     {
         for below in 0..self.patches.patches().0 {
@@ -174,8 +174,8 @@ impl StayCount {
     #[inline(always)]
     fn call_in(&mut self, below: u8, task: TaskId, new_side: bool)
         requires patch { below < length self.old.patches }
-        requires stays { self.old.stays < 16 * self.old.noted }
-        requires mixed { self.old.mixed < 16 * self.old.noted }
+        requires stays { self.old.stays < 16 * self.old.events }
+        requires mixed { self.old.mixed < 16 * self.old.events }
         ensures { self.new ≡ after_call below task.0 new_side self.old }
     {
         let place = place(below, task);

@@ -1,4 +1,4 @@
-//! Stays of tasks in a patch's functions, counted while a run goes on.
+//! Stays of tasks in a patch's functions, counted event by event.
 #![tactic(auto)]
 
 mod count;

@@ -9,7 +9,7 @@ use Rattle.lp_text.specs.Words.{lines, parts}
 use Rattle.lp_text.specs.CheckReading.{divided}
 use Rattle.lp_text.proofs.Cuts.{parts-some_there}
 
--- a text goes on here behind some lines, none of which is `lpcert 1`
+-- a text continues here behind some lines, none of which is `lpcert 1`
 pub record IsAt (text : List ℕ) (number : ℕ) (rest : List ℕ) : Type 0 where
   pub prefix : List ℕ
   pub before : List (List ℕ)

@@ -59,12 +59,12 @@ pub(crate) fn read_all_lines(alloc: Global, text: &[u8]) -> Result<Parser, ReadF
         };
         return Err(LineFault::Cause(cause).at(1));
     };
-    let parser = begun(alloc, first)?;
+    let parser = parser_of(alloc, first)?;
     read_lines(alloc, 2, parser, rest)
 }
 
 /// What the first line gives.
-pub(crate) fn begun(alloc: Global, first: &[u8]) -> Result<Parser, ReadFault>
+pub(crate) fn parser_of(alloc: Global, first: &[u8]) -> Result<Parser, ReadFault>
     ensures form { Gives (λ parser. parser.form) result (fault_at 1 (needs cause.Header (form_of first.now))) }
     ensures empty { IfOk result (λ parser. parser ≡ empty parser.form) }
 {

@@ -1,4 +1,4 @@
-//! Reading a trace from a reader piece by piece: of the text only the line that goes on is kept.
+//! Reading a trace from a reader piece by piece: of the text only the unfinished line is kept.
 ghost use Rattle.std.specs.Prelude.{◌≡◌, ◌+◌, ◌≤◌, ◌<◌, ◌++◌, ℕ, List, [], None, Ok, Err, length, IfOk, IfErr, IfSome, IfNone, OnOk};
 ghost use Rattle.lp_text.specs.Faults.{Gives, IsReadFault};
 ghost use Rattle.lp_text.specs.Input.{AtText, ReadsAll};
@@ -10,7 +10,7 @@ ghost use Rattle.lp_text.specs.Words.{lines};
 use crate::fault::ReadFault;
 use crate::input::{PIECE, read_piece, skip_rest};
 use crate::parser::Parser;
-use crate::read::{begun, read_all_lines, read_lines};
+use crate::read::{parser_of, read_all_lines, read_lines};
 use crate::split::cut;
 use crate::stream_fault::StreamFault;
 use crate::trace::Trace;
@@ -67,11 +67,11 @@ impl Stream {
         if memchr(b'\n', piece).is_none() {
             return Ok(());
         }
-        self.take_lines(alloc)
+        self.take_held(alloc)
     }
 
     /// Takes the lines that are whole.
-    fn take_lines(&mut self, alloc: Global) -> Result<(), ReadFault>
+    fn take_held(&mut self, alloc: Global) -> Result<(), ReadFault>
         requires some { 1 ≤ self.old.number }
         requires few { self.old.number + length self.old.held ≤ 134217729 }
         ensures some { OnOk result (1 ≤ self.new.number) }
@@ -128,8 +128,8 @@ fn take_whole_lines<'a>(
     match parser {
         Some(parser) => take_lines(alloc, parser, number, text),
         None => match take_first(alloc, number, text)? {
-            Some((begun, rest)) => {
-                *parser = Some(begun);
+            Some((first, rest)) => {
+                *parser = Some(first);
                 Ok(rest)
             }
             None => Ok(text),
@@ -155,7 +155,7 @@ fn take_first<'a>(
     let Some(rest) = left else {
         return Ok(None);
     };
-    let mut parser = begun(alloc, first)?;
+    let mut parser = parser_of(alloc, first)?;
     *number = 2;
     let rest = take_lines(alloc, &mut parser, number, rest)?;
     Ok(Some((parser, rest)))

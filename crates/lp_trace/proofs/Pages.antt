@@ -64,11 +64,11 @@ held_end a b text k now e left =
     subst P (ap (λ l. k ++ l) e ∙ append-nil k) left
 
 -- what was held was written, and then these bytes went to the writer
-pub written_over : {E : Type 0} (a b c : Option (List ℕ)) (h k bytes : List ℕ) (r : Result (Unit {0}) E) → k ≡ [] → Appends a b h → Writes b c r bytes → Puts a c h k r bytes
-written_over a b c h k bytes (Ok x) e held more =
+pub written_past : {E : Type 0} (a b c : Option (List ℕ)) (h k bytes : List ℕ) (r : Result (Unit {0}) E) → k ≡ [] → Appends a b h → Writes b c r bytes → Puts a c h k r bytes
+written_past a b c h k bytes (Ok x) e held more =
     let P : List ℕ → Type 0 = λ l. Left a c (h ++ bytes) l in
     subst P (sym e) (h ++ bytes, sym (append-nil (h ++ bytes)), appends_more a b c h bytes held more)
-written_over a b c h k bytes (Err x) e held more = left_last a b c (h ++ bytes) bytes bytes (Err x) refl (h, refl, held) more
+written_past a b c h k bytes (Err x) e held more = left_last a b c (h ++ bytes) bytes bytes (Err x) refl (h, refl, held) more
 
 -- ---- Pieces
 

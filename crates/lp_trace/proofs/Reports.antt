@@ -16,7 +16,7 @@ use Rattle.lp_text.specs.declared.form.TraceForm.{TraceForm}
 use Rattle.lp_replay.specs.declared.outcome.Outcome.{Outcome}
 use Rattle.lp_text.specs.Words.{line_of}
 use Rattle.lp_text.specs.inside.Writing.{Left, line_rest}
-use Rattle.lp_trace.specs.Report.{event_line, event_lines, leg_lines, stays_line, report, report_lines, report_header}
+use Rattle.lp_trace.specs.Report.{reply_line, reply_lines, leg_lines, stays_line, report, report_lines, report_header}
 use Rattle.lp_replay.specs.declared.replies.ShortReply.{ShortReply}
 use Rattle.lp_replay.specs.Replies.{first_groups, lists_in, replies_of, reply_of}
 use Rattle.lp_replay.proofs.ReplyLists.{replies-next, replies-end}
@@ -33,8 +33,8 @@ groups_at groups i d end below =
 pub groups_end : (groups : List GroupId) (i : ℕ) (end : List ℕ) → length groups ≤ i → flat_map (λ group. 32 ∷ decimal group) (group_numbers (drop i groups)) ++ end ≡ end
 groups_end groups i end h = rw (drop_of_length-le groups h) refl
 
-pub over_split : (event : List ℕ) (groups : List GroupId) (end : List ℕ) → event ++ (codes " over" ++ (flat_map (λ group. 32 ∷ decimal group) (group_numbers groups) ++ end)) ≡ concat (event ∷ codes " over" ∷ []) ++ (flat_map (λ group. 32 ∷ decimal group) (group_numbers groups) ++ end)
-over_split event groups end = sym (append_assoc event (codes " over") (flat_map (λ group. 32 ∷ decimal group) (group_numbers groups) ++ end))
+pub switched_split : (event : List ℕ) (groups : List GroupId) (end : List ℕ) → event ++ (codes " over" ++ (flat_map (λ group. 32 ∷ decimal group) (group_numbers groups) ++ end)) ≡ concat (event ∷ codes " over" ∷ []) ++ (flat_map (λ group. 32 ∷ decimal group) (group_numbers groups) ++ end)
+switched_split event groups end = sym (append_assoc event (codes " over") (flat_map (λ group. 32 ∷ decimal group) (group_numbers groups) ++ end))
 
 -- the words behind the first two, each behind its space
 pub groups_rest : (groups : List ℕ) (words : List (List ℕ)) → line_rest (map decimal groups ++ words) ≡ flat_map (λ group. 32 ∷ decimal group) groups ++ line_rest words
@@ -43,8 +43,8 @@ groups_rest (group ∷ groups) words =
     ap (λ l. (32 ∷ decimal group) ++ l) (groups_rest groups words) ∙ sym (append_assoc (32 ∷ decimal group) (flat_map (λ group. 32 ∷ decimal group) groups) (line_rest words))
 
 -- the line of an event at which groups switched
-pub over_line : (event : List ℕ) (groups : List ℕ) (words : List (List ℕ)) → line_of (event ∷ (codes "over" ∷ map decimal groups) ++ words) ≡ event ++ (codes " over" ++ (flat_map (λ group. 32 ∷ decimal group) groups ++ line_rest words))
-over_line event groups words =
+pub switched_line : (event : List ℕ) (groups : List ℕ) (words : List (List ℕ)) → line_of (event ∷ (codes "over" ∷ map decimal groups) ++ words) ≡ event ++ (codes " over" ++ (flat_map (λ group. 32 ∷ decimal group) groups ++ line_rest words))
+switched_line event groups words =
     line_split event (codes "over" ∷ (map decimal groups ++ words)) ∙ ap (λ l. event ++ (codes " over" ++ l)) (groups_rest groups words)
 
 -- ---- The lines of the events
@@ -52,18 +52,18 @@ over_line event groups words =
 module _ (form : TraceForm) where
   -- the reply at a place, which takes so many lists, the first of which is this one, and those after it
   pub events_next : (replies : List ShortReply) (lists : List (List ℕ)) (i next : ℕ) (d : ShortReply) (step : ℕ) (groups : List ℕ) → i < length replies → step ≡ lists_in (get_or replies i d).what → groups ≡ first_groups (drop next lists)
-      → flat_map line_of (event_lines form (i + 1) (replies_of (drop i replies) (drop next lists)))
-      ≡ line_of (event_line form (i + 1) (reply_of (get_or replies i d) (groups ∷ []))) ++ flat_map line_of (event_lines form (i + 1 + 1) (replies_of (drop (i + 1) replies) (drop (next + step) lists)))
-  unfolding event_lines
+      → flat_map line_of (reply_lines form (i + 1) (replies_of (drop i replies) (drop next lists)))
+      ≡ line_of (reply_line form (i + 1) (reply_of (get_or replies i d) (groups ∷ []))) ++ flat_map line_of (reply_lines form (i + 1 + 1) (replies_of (drop (i + 1) replies) (drop (next + step) lists)))
+  unfolding reply_lines
   events_next replies lists i next d step groups below steps first_is =
-      let first : List ℕ = line_of (event_line form (i + 1) (reply_of (get_or replies i d) (groups ∷ []))) in
+      let first : List ℕ = line_of (reply_line form (i + 1) (reply_of (get_or replies i d) (groups ∷ []))) in
       let rest : List Reply = replies_of (drop (i + 1) replies) (drop (next + step) lists) in
-      ap (λ r. flat_map line_of (event_lines form (i + 1) r)) (replies-next replies lists i next d step groups below steps first_is)
-      ∙ ap (λ number. first ++ flat_map line_of (event_lines form number rest)) (sym (add-one (i + 1)))
+      ap (λ r. flat_map line_of (reply_lines form (i + 1) r)) (replies-next replies lists i next d step groups below steps first_is)
+      ∙ ap (λ number. first ++ flat_map line_of (reply_lines form number rest)) (sym (add-one (i + 1)))
 
-  pub events_end : (replies : List ShortReply) (lists : List (List ℕ)) (i n : ℕ) → length replies ≤ i → flat_map line_of (event_lines form n (replies_of (drop i replies) lists)) ≡ []
-  unfolding event_lines
-  events_end replies lists i n h = ap (λ r. flat_map line_of (event_lines form n r)) (replies-end replies lists i h)
+  pub events_end : (replies : List ShortReply) (lists : List (List ℕ)) (i n : ℕ) → length replies ≤ i → flat_map line_of (reply_lines form n (replies_of (drop i replies) lists)) ≡ []
+  unfolding reply_lines
+  events_end replies lists i n h = ap (λ r. flat_map line_of (reply_lines form n r)) (replies-end replies lists i h)
 
 -- ---- The lines of legs and of certificates
 
@@ -99,7 +99,7 @@ module _ (form : TraceForm) (name : List ℕ) (outcome : Outcome) where
   model_part = line_of (codes "model" ∷ name ∷ [])
 
   abbrev pub events_part : List ℕ
-  events_part = flat_map line_of (event_lines form 1 outcome.replies)
+  events_part = flat_map line_of (reply_lines form 1 outcome.replies)
 
   abbrev pub legs_part : List ℕ
   legs_part = flat_map line_of (flat_map (leg_lines form) outcome.legs)
@@ -110,7 +110,7 @@ module _ (form : TraceForm) (name : List ℕ) (outcome : Outcome) where
   pub report_split : report form name outcome ≡ header_part ++ (model_part ++ (events_part ++ (legs_part ++ stays_part)))
   unfolding report report_lines
   report_split =
-      let events : List (List (List ℕ)) = event_lines form 1 outcome.replies in
+      let events : List (List (List ℕ)) = reply_lines form 1 outcome.replies in
       let legs : List (List (List ℕ)) = flat_map (leg_lines form) outcome.legs in
       let last : List (List (List ℕ)) = stays_line outcome ∷ [] in
       let lines : flat_map line_of (events ++ legs ++ last) ≡ events_part ++ (legs_part ++ stays_part) =

@@ -39,13 +39,13 @@ complete_words false = []
 -- ---- Lines, each as its words
 
 -- the number of an event and the reply to it
-abbrev pub event_line : TraceForm → ℕ → Reply → List (List ℕ)
-event_line form number reply = decimal number ∷ what_words form reply.what ++ complete_words reply.completed
+abbrev pub reply_line : TraceForm → ℕ → Reply → List (List ℕ)
+reply_line form number reply = decimal number ∷ what_words form reply.what ++ complete_words reply.completed
 
 -- the replies, the first of which has this number
-unfoldable pub event_lines : TraceForm → ℕ → List Reply → List (List (List ℕ))
-event_lines form number [] = []
-event_lines form number (reply ∷ replies) = event_line form number reply ∷ event_lines form (suc number) replies
+unfoldable pub reply_lines : TraceForm → ℕ → List Reply → List (List (List ℕ))
+reply_lines form number [] = []
+reply_lines form number (reply ∷ replies) = reply_line form number reply ∷ reply_lines form (suc number) replies
 
 -- where a leg takes the tasks
 abbrev pub target_words : TraceForm → Level → List (List ℕ)
@@ -74,7 +74,7 @@ stays_line outcome = codes "stays" ∷ decimal outcome.stays ∷ codes "mixed" �
 unfoldable pub report_lines : TraceForm → List ℕ → Outcome → List (List (List ℕ))
 report_lines form name outcome =
     (codes "model" ∷ name ∷ [])
-    ∷ event_lines form 1 outcome.replies
+    ∷ reply_lines form 1 outcome.replies
     ++ flat_map (leg_lines form) outcome.legs
     ++ stays_line outcome ∷ []
 

@@ -3,7 +3,7 @@ ghost use Rattle.std.specs.Prelude.{◌≡◌, ℕ, ◌+◌, ◌<◌, ◌∷◌,
 ghost use Rattle.std.specs.List.{flat_map};
 ghost use Rattle.lp_transition.specs.Events.{group_numbers};
 ghost use Rattle.lp_text.specs.Words.{line_of};
-ghost use Rattle.lp_trace.specs.Report.{what_words, complete_words, event_line, event_lines, level_word, report, report_header, stays_line};
+ghost use Rattle.lp_trace.specs.Report.{what_words, complete_words, reply_line, reply_lines, level_word, report, report_header, stays_line};
 ghost use Rattle.lp_replay.specs.Replies.{replies_of, reply_of, what_of};
 ghost use Rattle.lp_text.specs.Writing.{Writes};
 ghost use Rattle.lp_text.specs.inside.Writing.{Puts, line_rest};
@@ -125,7 +125,7 @@ fn short_rest(form: TraceForm, reply: &ShortReply) -> Option<&'static [u8]>
 /// says whether it did.
 #[inline(always)]
 fn hold_event(page: &mut Page, form: TraceForm, event: u64, reply: &ShortReply) -> bool
-    ensures taken { IsTrue result → (lists : List (List ℕ)) → page.new.held.items ≡ page.old.held.items ++ line_of (event_line form event (reply_of reply.now lists)) }
+    ensures taken { IsTrue result → (lists : List (List ℕ)) → page.new.held.items ≡ page.old.held.items ++ line_of (reply_line form event (reply_of reply.now lists)) }
     ensures kept { IsFalse result → page.new.held.items ≡ page.old.held.items }
 {
     let Some(rest) = short_rest(form, reply) else {
@@ -142,7 +142,7 @@ fn put_events<W: Write>(
     form: TraceForm,
     replies: &ReplyList,
 ) -> Result<(), WriteFault>
-    ensures { Puts (W.contents writer.old) (W.contents writer.new) page.old.held.items page.new.held.items result (flat_map line_of (event_lines form 1 replies.now)) }
+    ensures { Puts (W.contents writer.old) (W.contents writer.new) page.old.held.items page.new.held.items result (flat_map line_of (reply_lines form 1 replies.now)) }
 {
     let (short, lists) = replies.parts();
     put_replies(page, writer, form, short, lists)
@@ -156,7 +156,7 @@ fn put_replies<W: Write>(
     replies: &[ShortReply],
     lists: &[GroupList],
 ) -> Result<(), WriteFault>
-    ensures { Puts (W.contents writer.old) (W.contents writer.new) page.old.held.items page.new.held.items result (flat_map line_of (event_lines form 1 (replies_of replies.now lists.now))) }
+    ensures { Puts (W.contents writer.old) (W.contents writer.new) page.old.held.items page.new.held.items result (flat_map line_of (reply_lines form 1 (replies_of replies.now lists.now))) }
 {
     let mut next = 0;
     for (i, reply) in replies.iter().enumerate() {
@@ -179,7 +179,7 @@ fn put_event<W: Write>(
     reply: &ShortReply,
     groups: &[GroupId],
 ) -> Result<(), WriteFault>
-    ensures { Puts (W.contents writer.old) (W.contents writer.new) page.old.held.items page.new.held.items result (line_of (event_line form event (reply_of reply.now (group_numbers groups.now ∷ [])))) }
+    ensures { Puts (W.contents writer.old) (W.contents writer.new) page.old.held.items page.new.held.items result (line_of (reply_line form event (reply_of reply.now (group_numbers groups.now ∷ [])))) }
 {
     let mut first = Buffer::new();
     let mut second = Buffer::new();
@@ -191,7 +191,7 @@ fn put_event<W: Write>(
             page.put_all(writer, &[event, b" ran ", level, end])
         }
         ShortWhat::Done => page.put_all(writer, &[event, b" done", end]),
-        ShortWhat::Switched => put_over(page, writer, event, groups, end),
+        ShortWhat::Switched => put_switched(page, writer, event, groups, end),
         ShortWhat::Refused(why) => {
             let why = number(&mut second, u64::from(why.number()));
             page.put_all(writer, &[event, b" refused E", why, end])
@@ -200,7 +200,7 @@ fn put_event<W: Write>(
 }
 
 /// Puts the line of an event at which these groups switched.
-fn put_over<W: Write>(
+fn put_switched<W: Write>(
     page: &mut Page,
     writer: &mut W,
     event: &[u8],

@@ -104,7 +104,7 @@ module _ (model : Rules) (lawful : IsLawful model) (now : State) (event : Event)
   unfolding switches_at
   calm-stays group calm = ap (λ b. b && admits_all model now (if_used model.uses (check_by now.bounds (outlines_of now.tasks) (Some event) group)) group) calm
 
-  -- a waiting group of the task alone goes over where the model admits the task
+  -- a waiting group of the task alone switches where the model admits the task
   pub alone-switches : IsTrue (waits_in now x.group) → IsTrue (is_alone now.bounds (outlines_of now.tasks) x.group t) → switches_at model now event x.group ≡ model.admits kind (view_of t x) now.aim
   unfolding switches_at
   alone-switches behind alone =

@@ -14,7 +14,7 @@ use Rattle.lp_transition.specs.Machine.{view_of}
 use Rattle.lp_transition.specs.Table.{Table, Engine, slot, state_in}
 use Rattle.lp_transition.specs.inside.Table.{is_in}
 use Rattle.lp_transition.specs.inside.Invariant.{IsEngine}
-use Rattle.lp_transition.specs.Scan.{waiting_view, views_of, verdict_of, verdicts_of, IsHeldBack, MayLeaveOut, is_asked, verdicts_among, AreEnough, passing}
+use Rattle.lp_transition.specs.Scan.{waiting_view, views_of, verdict_of, verdicts_of, RefusesMember, MayLeaveOut, is_asked, verdicts_among, AreEnough, passing}
 use Rattle.lp_transition.specs.inside.ScanSteps.{tasks_of, is_judged, is_found, switches_by, all_admit}
 use Rattle.lp_transition.proofs.ScanLists.{any-map, verdict-is, verdict-from}
 use Rattle.lp_transition.proofs.ScanGroups.{same_bool, found-from, found-is}
@@ -169,20 +169,20 @@ module _ (model : Rules) (lawful : IsLawful model) (kind : CheckKind) (s : State
         }) bounds.0 bounds.1
 
     -- of a group that is left out a member is refused
-    held_back : (group : ℕ) → IsHeldBack model kind s group → list_any (is_found table true group) (verdicts_of model kind s) ≡ true
-    held_back group h = found-from model lawful kind s sound table there true group h.member h.life h.live h.off h.grouped h.refused
+    refuses_member : (group : ℕ) → RefusesMember model kind s group → list_any (is_found table true group) (verdicts_of model kind s) ≡ true
+    refuses_member group h = found-from model lawful kind s sound table there true group h.member h.life h.live h.off h.grouped h.refused
 
-    -- a group that goes over is asked
+    -- a group that switches is asked
     pub switches-asked : (t : ℕ) (x : Standing) → s.tasks t ≡ Live x → nat_eq x.level s.target ≡ false → switches_by table (verdicts_of model kind s) x.group ≡ true → asked x.group ≡ true
     switches-asked t x live off switches =
         let whole = verdicts_of model kind s in
         let parts = and_parts (list_any (is_found table false x.group) whole) (not (list_any (is_found table true x.group) whole)) switches in
         ⊎_elim
         (λ (yes : asked x.group ≡ true). yes)
-        (λ (out : asked x.group ≡ false). let refusal = held_back x.group (others t x live off out) in let free = not-true (list_any (is_found table true x.group) whole) parts.1 in absurd (cc))
+        (λ (out : asked x.group ≡ false). let refusal = refuses_member x.group (others t x live off out) in let free = not-true (list_any (is_found table true x.group) whole) parts.1 in absurd (cc))
         (cases_Bool (asked x.group))
 
-    -- the groups that go over are told by those that are asked
+    -- the groups that switch are told by those that are asked
     pub switches-among : (group : ℕ) → switches_by table (verdicts_among model kind s asked) group ≡ switches_by table (verdicts_of model kind s) group
     switches-among group =
         let part = verdicts_among model kind s asked in
@@ -295,7 +295,7 @@ module _ (model : Rules) (lawful : IsLawful model) (kind : CheckKind) (s : State
       let parts = and_parts (is_asked s enough.asked j.number) (nat_eq t j.number) j.passed in
       (j.task, ap s.tasks (eqb-true t j.number parts.1) ∙ j.live, j.off)
 
-  -- who waits and goes over is judged
+  -- who waits and switches is judged
   pub switches-judged : (table : Table) → ((u : ℕ) (y : Standing) → s.tasks u ≡ Live y → slot table u ≡ Some y) → (t : ℕ) (x : Standing) → s.tasks t ≡ Live x → nat_eq x.level s.target ≡ false → switches_by table (verdicts_of model kind s) x.group ≡ true → is_judged vs t ≡ true
   switches-judged table there t x live off switches =
       let taken = ap (on_live false (λ (y : Standing). enough.asked y.group)) live ∙ switches-asked model lawful kind s sound enough.asked enough.others table there t x live off switches in

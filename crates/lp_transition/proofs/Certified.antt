@@ -1,4 +1,4 @@
--- A chain that was judged with nobody going over holds under every legal schedule: its last group waits.
+-- A chain that was judged with nobody switching holds under every legal schedule: its last group waits.
 use Rattle.std.proofs.Common.{◌≡◌, ◌≢◌, ℕ, zero, suc, ◌≤◌, true, false, Option, Some, IsTrue, IsFalse, slice_get, refl, sym, ap, ◌∙◌, subst, ⊎_elim, inr, arith}
 use Rattle.std.proofs.lemmas.Bool.{false_from_ne_true, cases_eq, eq-eqb, cond-true}
 use Rattle.lp_model.specs.declared.check.CheckKind.{CheckKind}
@@ -22,30 +22,30 @@ forker (Some (Fork parent child how)) = parent.0
 forker _ = 0
 
 module _ (model : Rules) (leg : Leg) (lawful : IsLawful model) (sound : IsSound leg.opening) (schedule : Schedule) (is_legal : IsLegal model leg schedule) where
-  -- a task is off the target with nobody going over, and on the same level under the schedule
-  record IsHeld (x : Life) : Type 0 where
+  -- a task is off the target with nobody switching, and on the same level under the schedule
+  record IsStillOff (x : Life) : Type 0 where
     alike : level_before leg.target nobody x.origin ≡ level_before leg.target schedule x.origin
     off : level_before leg.target nobody x.origin ≢ leg.target
 
-  -- after k events the group hasn't gone over, and its members are held
+  -- after k events the group hasn't switched, and its members are still off the target
   record Holds (k group : ℕ) : Type 0 where
     still : has_come (schedule group) k ≡ false
-    held : (t : ℕ) (x : Life) → after model leg k t ≡ Live x → x.group ≡ group → IsHeld x
+    still_off : (t : ℕ) (x : Life) → after model leg k t ≡ Live x → x.group ≡ group → IsStillOff x
     known : IsKnown model.child_group leg sound k group
 
-  held_next : (k group : ℕ) → Holds k group → (t : ℕ) (x : Life) → after model leg (suc k) t ≡ Live x → x.group ≡ group → IsHeld x
-  held_next k group h t x live member = from (descends model leg lawful k group t x live member)
+  off_next : (k group : ℕ) → Holds k group → (t : ℕ) (x : Life) → after model leg (suc k) t ≡ Live x → x.group ≡ group → IsStillOff x
+  off_next k group h t x live member = from (descends model leg lawful k group t x live member)
     where
-      from : Descends model leg k group t x → IsHeld x
+      from : Descends model leg k group t x → IsStillOff x
       from (FromMember u y was is same) =
-          let y_held = h.held u y was is in
-          record { alike = same nobody refl ∙ (y_held.alike ∙ sym (same schedule h.still)); off = λ e. y_held.off (sym (same nobody refl) ∙ e) }
+          let y_off = h.still_off u y was is in
+          record { alike = same nobody refl ∙ (y_off.alike ∙ sym (same schedule h.still)); off = λ e. y_off.off (sym (same nobody refl) ∙ e) }
       from (FromParent p how y event was origin own is unused positive) =
           absurd (⊎_elim (λ (e : group ≡ 0). absurd (omega arith)) (λ (ne : after model leg k group ≢ Unused). ne (subst (λ n. after model leg k n ≡ Unused) is unused)) h.known)
 
-  -- a check that refuses doesn't move the group
+  -- a check that refuses doesn't switch the group
   holds_on : (k group : ℕ) → Holds k group → ((kind : CheckKind) → check model leg k group ≡ Some kind → IsRefused model leg nobody kind (suc k) group) → Holds (suc k) group
-  holds_on k group h refused = record { still = false_from_ne_true _ contradiction; held = held_next k group h; known = known_later model.child_group leg sound k group h.known }
+  holds_on k group h refused = record { still = false_from_ne_true _ contradiction; still_off = off_next k group h; known = known_later model.child_group leg sound k group h.known }
     where
       not_admitted : (j : ℕ) → suc k ≡ suc j → IsTrue (allowed model leg schedule j group) → ⊥
       not_admitted j e a =
@@ -53,7 +53,7 @@ module _ (model : Rules) (leg : Leg) (lawful : IsLawful model) (sound : IsSound 
           let b = allowed-is model leg schedule k group (subst (λ n. IsTrue (allowed model leg schedule n group)) same a) in
           let r = refused b.0 b.1 in
           let at = numbered model.child_group leg sound (suc k) r.task r.life r.live in
-          let views = view_same leg nobody schedule k r.task r.life (made_before model.child_group leg (suc k) r.task r.life r.live) refl (subst (λ g. has_come (schedule g) k ≡ false) (sym r.member) h.still) (held_next k group h r.task r.life r.live r.member).alike in
+          let views = view_same leg nobody schedule k r.task r.life (made_before model.child_group leg (suc k) r.task r.life r.live) refl (subst (λ g. has_come (schedule g) k ≡ false) (sym r.member) h.still) (off_next k group h r.task r.life r.live r.member).alike in
           let admitted = b.2 r.task r.life at.0 at.1 r.live r.member in
           let refused_too = subst (λ v. IsFalse (model.admits b.0 v leg.aim)) views r.refused in
           cc
@@ -76,7 +76,7 @@ module _ (model : Rules) (leg : Leg) (lawful : IsLawful model) (sound : IsSound 
       let level_a : level leg nobody zero w.life ≡ a.0.level = level_still leg.target nobody zero w.life.group w.life.origin refl ∙ ap (λ z. level_before leg.target nobody z.origin) a.2 in
       record {
         still = none_at_zero (schedule group) (λ i e. let r = is_legal group i e in (r.0, r.1));
-        held = λ t x live member.
+        still_off = λ t x live member.
             let b = opens model.child_group leg t x live in
             let same : b.0.group ≡ a.0.group = sym (ap (λ z. z.group) b.2) ∙ (member ∙ (sym w.member ∙ ap (λ z. z.group) a.2)) in
             let level_b = sound.one_side t w.task b.0 a.0 b.1 a.1 same in
@@ -96,19 +96,19 @@ module _ (model : Rules) (leg : Leg) (lawful : IsLawful model) (sound : IsSound 
   at_birth place parent_group group h birth =
       record {
         still = fresh_still model leg lawful sound schedule is_legal place group is_fork.unused is_fork.positive (schedule group) refl;
-        held = λ t x live member. from t x (descends model leg lawful place group t x live member);
+        still_off = λ t x live member. from t x (descends model leg lawful place group t x live member);
         known = inr (λ none. let born = child_is_live place birth.parent group birth.how birth.life birth.event birth.live in cc);
       }
     where
       is_fork : Forks leg.bounds (after model leg place) birth.parent group
       is_fork = forks leg.bounds (after model leg place) birth.parent group birth.how (accepted-is leg.bounds (after model leg place) (slice_get leg.events place) (fork birth.parent group birth.how) birth.event)
 
-      from : (t : ℕ) (x : Life) → Descends model leg place group t x → IsHeld x
+      from : (t : ℕ) (x : Life) → Descends model leg place group t x → IsStillOff x
       from t x (FromMember u y was is same) = absurd (no_member model.child_group leg sound lawful.child place place group u y (omega arith) is_fork.unused is_fork.positive was is)
       from t x (FromParent p how y event was origin own is unused positive) =
           let one : p ≡ birth.parent = ap forker (sym event ∙ birth.event) in
           let same : birth.life ≡ y = live_same birth.life y (after model leg place p) (ap (after model leg place) one ∙ birth.live) was in
-          let parent = subst IsHeld same (h.held birth.parent birth.life birth.live birth.member) in
+          let parent = subst IsStillOff same (h.still_off birth.parent birth.life birth.live birth.member) in
           let still : has_come (schedule y.group) place ≡ false = subst (λ g. has_come (schedule g) place ≡ false) (sym birth.member ∙ ap (λ z. z.group) same) h.still in
           let by_nobody : level_before leg.target nobody x.origin ≡ level_before leg.target nobody y.origin = ap (level_before leg.target nobody) origin ∙ level_still leg.target nobody place y.group y.origin refl in
           let by_schedule : level_before leg.target schedule x.origin ≡ level_before leg.target schedule y.origin = ap (level_before leg.target schedule) origin ∙ level_still leg.target schedule place y.group y.origin still in
@@ -122,6 +122,6 @@ module _ (model : Rules) (leg : Leg) (lawful : IsLawful model) (sound : IsSound 
   pub certified : (k group t : ℕ) (x : Life) → Chain model leg nobody group k → after model leg k t ≡ Live x → x.group ≡ group → IsTrue (waits model leg schedule k group)
   certified k group t x chain live member =
       let h = holds group k chain in
-      let x_held = h.held t x live member in
+      let x_off = h.still_off t x live member in
       let at = numbered model.child_group leg sound k t x live in
-      waits-from model leg schedule k group (record { task = t; life = x; positive = at.0; within = at.1; live = live; member = member; off = λ e. x_held.off (x_held.alike ∙ (sym (level_waiting model leg schedule k group t x h.still member) ∙ e)) })
+      waits-from model leg schedule k group (record { task = t; life = x; positive = at.0; within = at.1; live = live; member = member; off = λ e. x_off.off (x_off.alike ∙ (sym (level_waiting model leg schedule k group t x h.still member) ∙ e)) })

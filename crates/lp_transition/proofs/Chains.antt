@@ -35,8 +35,8 @@ module _ (model : Rules) (leg : Leg) (lawful : IsLawful model) (sound : IsSound 
   stays_refused k group before now =
       false_from_ne_true _ (λ (in' : allowed model leg schedule k group ≡ true).
       let e = waits-from model leg first k group before in
-      let moved = is_first.first k group e (allowed_back model leg lawful sound first schedule is_first is_legal k group e in') in
-      let gone = ap (λ m. has_come m (suc k)) moved ∙ come_at (suc k) in
+      let switched_then = is_first.first k group e (allowed_back model leg lawful sound first schedule is_first is_legal k group e in') in
+      let gone = ap (λ m. has_come m (suc k)) switched_then ∙ come_at (suc k) in
       let still = not_gone model leg first (suc k) group now in
       absurd (cc (gone, still)))
 

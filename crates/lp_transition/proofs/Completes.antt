@@ -13,11 +13,11 @@ use Rattle.lp_transition.specs.Table.{Engine, state_in}
 use Rattle.lp_transition.specs.inside.Invariant.{IsEngine}
 use Rattle.lp_transition.proofs.EngineLemmas.{next-accepted, answer-accepted}
 use Rattle.lp_transition.proofs.TableLemmas.{slot-zero}
-use Rattle.lp_transition.proofs.MemberLemmas.{rest}
+use Rattle.lp_transition.proofs.MemberLemmas.{on_target}
 
--- nobody waits exactly where the machine is at rest
-pub resting : (e : Engine) (waiting : Numbers) (members : List ℕ) → IsEngine e waiting members → IsEmpty waiting ↔ IsTrue (complete_in (state_in e))
-resting e waiting members kept = rest e.table e.patches kept.wide (slot-zero e kept.sound) waiting e.target kept.waits
+-- nobody waits exactly where the transition is complete
+pub complete_is_empty : (e : Engine) (waiting : Numbers) (members : List ℕ) → IsEngine e waiting members → IsEmpty waiting ↔ IsTrue (complete_in (state_in e))
+complete_is_empty e waiting members kept = on_target e.table e.patches kept.wide (slot-zero e kept.sound) waiting e.target kept.waits
 
 module _ (model : Rules) where
   -- the answer to an accepted event that is no control event
@@ -31,16 +31,16 @@ module _ (model : Rules) where
 
 -- ---- Whether it completes
 
-settled : (e : Engine) (waiting : Numbers) (members : List ℕ) → IsEngine e waiting members → IsEmpty waiting → complete_in (state_in e) ≡ true
-settled e waiting members kept empty = (resting e waiting members kept).0 empty
+empty_completes : (e : Engine) (waiting : Numbers) (members : List ℕ) → IsEngine e waiting members → IsEmpty waiting → complete_in (state_in e) ≡ true
+empty_completes e waiting members kept empty = (complete_is_empty e waiting members kept).0 empty
 
--- not, where it was settled already if it is settled afterwards
+-- not, where it was complete already if it is complete afterwards
 pub not-completed : (e new : Engine) (waiting now : Numbers) (members counts : List ℕ) → IsEngine e waiting members → IsEngine new now counts → (IsEmpty now → IsEmpty waiting) → false ≡ (complete_in (state_in new) && not (complete_in (state_in e)))
 not-completed e new waiting now members counts kept kept' back = by (complete_in (state_in new)) refl
   where
     by : (b : Bool) → complete_in (state_in new) ≡ b → false ≡ (b && not (complete_in (state_in e)))
     by false e' = refl
-    by true e' = ap not (sym (settled e waiting members kept (back ((resting new now counts kept').1 e'))))
+    by true e' = ap not (sym (empty_completes e waiting members kept (back ((complete_is_empty new now counts kept').1 e'))))
 
 -- where a task leaves, the others are what is left to wait
 pub completed_by : (e : Engine) (waiting : Numbers) (members : List ℕ) (t : ℕ) (last after : Bool) → IsEngine e waiting members → IsTrue after ↔ ((u : ℕ) → u ≢ t → has waiting u ≡ false)
@@ -57,7 +57,7 @@ completed_by e waiting members t last after kept others lone = by after refl (co
         never false h = h
         never true h =
             let waits = (lone.0 h).0 in
-            let none = (resting e waiting members kept).1 e'' t in
+            let none = (complete_is_empty e waiting members kept).1 e'' t in
             absurd (cc)
     by true e' false e'' =
         let alone = others.0 e' in
@@ -65,19 +65,19 @@ completed_by e waiting members t last after kept others lone = by after refl (co
       where
         sure : (w : Bool) → has waiting t ≡ w → ((u : ℕ) → u ≢ t → has waiting u ≡ false) → has waiting t ≡ true
         sure true h alone = h
-        sure false h alone = let calm = settled e waiting members kept (emptied_all alone h) in absurd (cc)
+        sure false h alone = let calm = empty_completes e waiting members kept (emptied_all alone h) in absurd (cc)
     by false e' a e'' = never last refl
       where
         never : (l : Bool) → last ≡ l → last ≡ false
         never false h = h
         never true h = let calm = others.1 (lone.0 h).1 in absurd (cc)
 
--- so where the last task that waits goes over
+-- so where the last task that waits switches
 pub completed : (e new : Engine) (waiting now : Numbers) (members counts : List ℕ) (t : ℕ) (last : Bool) → IsEngine e waiting members → IsEngine new now counts → t < 65536 → now ≡ set waiting t false
     → IsTrue last ↔ ((has waiting t ≡ true) × ((u : ℕ) → u ≢ t → has waiting u ≡ false)) → last ≡ (complete_in (state_in new) && not (complete_in (state_in e)))
 completed e new waiting now members counts t last kept kept' small removed lone =
     completed_by e waiting members t last (complete_in (state_in new)) kept
-    ((λ rests. others ((resting new now counts kept').1 rests)), (λ alone. (resting new now counts kept').0 (emptied alone)))
+    ((λ all_on. others ((complete_is_empty new now counts kept').1 all_on)), (λ alone. (complete_is_empty new now counts kept').0 (emptied alone)))
     lone
   where
     others : IsEmpty now → (u : ℕ) → u ≢ t → has waiting u ≡ false

@@ -51,7 +51,7 @@ is_off-changed table t u target f wide h keeps =
     (cases_eq u t)
 
 module _ (model : Rules) (lawful : IsLawful model) where
-  -- an event at which no group goes over, and whose own effect is a change of one live task, which keeps its level and its group
+  -- an event at which no group switches, and whose own effect is a change of one live task, which keeps its level and its group
   by_change : (e : Engine) (waiting : Numbers) (members : List ℕ) (event : Event) (t : ℕ) (f : Standing → Standing) → IsEngine e waiting members → t < 65536 → e.number < 1000000 → is_control event ≡ false → ((group : ℕ) → switches_at model (affected model (state_in e) event) event group ≡ false) → refusal_of model (state_in e) event ≡ None
       → own_effect model.child_group (suc e.number) event (standings e.table) ≡ change t f (standings e.table) → ((x : Standing) → (f x).level ≡ x.level) → ((x : Standing) → (f x).group ≡ x.group)
       → HasTaken model e event (with_table (changed t f e.table) e) waiting members
@@ -89,7 +89,7 @@ module _ (model : Rules) (lawful : IsLawful model) where
   takes_change e old table waiting members event t f was is kept h room quiet accepted own levels groups =
       takes_change_still e old table waiting members event t f was is kept h room (quiet-control model event quiet) (λ group. quiet-stays model (affected model (state_in old) event) event group quiet) accepted own levels groups
 
-  -- an event that leaves the tasks alone, and at which no group goes over
+  -- an event that leaves the tasks alone, and at which no group switches
   pub takes_nothing : (e old : Engine) (waiting : Numbers) (members : List ℕ) (event : Event) → e ≡ old → IsEngine e waiting members → old.number < 1000000
       → is_control event ≡ false → ((group : ℕ) → switches_at model (affected model (state_in old) event) event group ≡ false) → refusal_of model (state_in old) event ≡ None
       → own_effect model.child_group (suc e.number) event (standings e.table) ≡ standings e.table

@@ -74,7 +74,7 @@ module _ (model : Rules) where
   still-task now event none (Live x) = ap Live (cond-false _ _ _ (none x.group))
   still-task now event none Dead = refl
 
-  -- where no group goes over the tasks stay as the event's own effect left them
+  -- where no group switches the tasks stay as the event's own effect left them
   pub switched-still : (s : State) (event : Event) → ((group : ℕ) → switches_at model (affected model s event) event group ≡ false) → with_switches model s event ≡ affected model s event
   switched-still s event none =
       let now = affected model s event in
@@ -103,7 +103,7 @@ module _ (model : Rules) where
   unfolding next
   next-turned s event e c = ap (next_by model s event) e ∙ cond-true _ _ _ c
 
-  -- an event at which no group goes over has its own effect alone
+  -- an event at which no group switches has its own effect alone
   pub next-still : (s : State) (event : Event) → refusal_of model s event ≡ None → is_control event ≡ false → ((group : ℕ) → switches_at model (affected model s event) event group ≡ false) → next model s event ≡ affected model s event
   next-still s event e c none = next-accepted s event e c ∙ switched-still s event none
 

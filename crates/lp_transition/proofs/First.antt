@@ -78,15 +78,15 @@ module _ (model : Rules) (leg : Leg) where
       (cases_Bool (switches n group))
 
   -- a moment of the schedule so far
-  pub record Moved (n group moment : ℕ) : Type 0 where
+  pub record HasSwitched (n group moment : ℕ) : Type 0 where
     pub place : ℕ
     pub is : moment ≡ suc place
     pub early : place < n
     pub waited : IsTrue (waits model leg (so_far n) place group)
     pub was_allowed : IsTrue (allowed model leg (so_far n) place group)
 
-  moved_on : (n group moment : ℕ) → Moved n group moment → Moved (suc n) group moment
-  moved_on n group moment h =
+  has_switched_on : (n group moment : ℕ) → HasSwitched n group moment → HasSwitched (suc n) group moment
+  has_switched_on n group moment h =
       let agree = agree_less h.place n (so_far n) (so_far (suc n)) (omega (arith, h.early)) (agree_next n) in
       record { place = h.place; is = h.is; early = omega (arith, h.early); waited = waits_agrees h.place group _ _ agree h.waited; was_allowed = allowed_agrees h.place group _ _ agree h.was_allowed }
 
@@ -94,18 +94,18 @@ module _ (model : Rules) (leg : Leg) where
   unfolding first_checks
   none_at_first group moment e = cc
 
-  pub moved : (n group moment : ℕ) → so_far n group ≡ Some moment → Moved n group moment
-  moved zero group moment e = absurd (none_at_first group moment e)
-  moved (suc n) group moment e =
+  pub has_switched : (n group moment : ℕ) → so_far n group ≡ Some moment → HasSwitched n group moment
+  has_switched zero group moment e = absurd (none_at_first group moment e)
+  has_switched (suc n) group moment e =
       ⊎_elim
       (λ (now : switches n group ≡ true).
       let both = and_parts _ _ now in
       let same : Some moment ≡ Some (suc n) = sym e ∙ switches_now n group now in
       record { place = n; is = cc; early = omega arith; waited = waits_agrees n group _ _ (agree_next n) both.0; was_allowed = allowed_agrees n group _ _ (agree_next n) both.1 })
-      (λ (not_now : switches n group ≡ false). moved_on n group moment (moved n group moment (sym (switches_not n group not_now) ∙ e)))
+      (λ (not_now : switches n group ≡ false). has_switched_on n group moment (has_switched n group moment (sym (switches_not n group not_now) ∙ e)))
       (cases_Bool (switches n group))
 
-  -- who waits just before an event that allows it goes over in it
+  -- who waits just before an event that allows it switches in it
   first_so_far : (n k group : ℕ) → k < n → IsTrue (waits model leg (so_far n) k group) → IsTrue (allowed model leg (so_far n) k group) → so_far n group ≡ Some (suc k)
   first_so_far zero k group lt w a = absurd (omega arith)
   first_so_far (suc n) k group lt w a =
@@ -113,7 +113,7 @@ module _ (model : Rules) (leg : Leg) where
       let w_before = waits_agrees k group (so_far (suc n)) (so_far n) agree w in
       let a_before = allowed_agrees k group (so_far (suc n)) (so_far n) agree a in
       ⊎_elim
-      (λ (e : k ≡ n). switches_now n group (subst (λ i. goes_at i n group ≡ true) e (and_from _ _ w_before a_before)) ∙ ap (λ i. Some (suc i)) (sym e))
+      (λ (e : k ≡ n). switches_now n group (subst (λ i. switches_if i n group ≡ true) e (and_from _ _ w_before a_before)) ∙ ap (λ i. Some (suc i)) (sym e))
       (λ (ne : k ≡ n → ⊥).
       let gone = first_so_far n k group (omega (arith, ne)) w_before a_before in
       switches_not n group (false_from_ne_true _ (λ e.
@@ -122,8 +122,8 @@ module _ (model : Rules) (leg : Leg) where
       cc)) ∙ gone)
       (cases_eq k n)
     where
-      goes_at : ℕ → ℕ → ℕ → Bool
-      goes_at i n group = waits model leg (so_far n) i group && allowed model leg (so_far n) i group
+      switches_if : ℕ → ℕ → ℕ → Bool
+      switches_if i n group = waits model leg (so_far n) i group && allowed model leg (so_far n) i group
 
   no_check : (k group : ℕ) → length leg.events ≤ k → check model leg k group ≡ None
   unfolding check
@@ -132,6 +132,6 @@ module _ (model : Rules) (leg : Leg) where
   pub first_check_is : IsFirstCheck model leg (first_check model leg)
   first_check_is =
       record {
-        legal = λ group moment e. let m = moved (length leg.events) group moment e in (m.place, m.is, m.waited, m.was_allowed);
+        legal = λ group moment e. let m = has_switched (length leg.events) group moment e in (m.place, m.is, m.waited, m.was_allowed);
         first = λ k group w a. ⊎_elim (λ (lt : k < length leg.events). first_so_far (length leg.events) k group lt w a) (λ (past : length leg.events ≤ k). let b = allowed-is model leg (first_check model leg) k group a in absurd (cc (b.1, no_check k group past))) (cases_lt k (length leg.events));
       }

@@ -4,7 +4,7 @@ use Rattle.std.proofs.lemmas.Bool.{false_from_ne_true, cases_Bool, cases_eq, cas
 use Rattle.lp_model.specs.Rules.{Rules, IsLawful}
 use Rattle.lp_transition.specs.Leg.{Leg}
 use Rattle.lp_transition.specs.Schedule.{Schedule, complete, CompletesAt}
-use Rattle.lp_transition.specs.Laws.{KeepsThePast, HasOneFirstCheck, MovesNoneLater, CompletesNoneLater, NeverLoses, WaitsForAReason, OpensSoundly, KeepsOneVersion, MixesNoStay, TrustsChains}
+use Rattle.lp_transition.specs.Laws.{KeepsThePast, HasOneFirstCheck, SwitchesNoneLater, CompletesNoneLater, NeverLoses, WaitsForAReason, OpensSoundly, KeepsOneVersion, MixesNoStay, TrustsChains}
 use Rattle.lp_transition.specs.Sound.{IsSound, RunsOneVersion}
 use Rattle.lp_transition.specs.Run.{Run, AreInRange, first_leg}
 use Rattle.lp_transition.proofs.Waiting.{waits-is, complete_later}
@@ -49,8 +49,8 @@ has_one_first_check model lawful =
       only = λ leg sound s r is_s is_r group. one_first_check model leg lawful sound s r is_s is_r group;
     }
 
-pub moves_none_later : (model : Rules) → IsLawful model → MovesNoneLater model
-moves_none_later model lawful =
+pub switches_none_later : (model : Rules) → IsLawful model → SwitchesNoneLater model
+switches_none_later model lawful =
     record {
       waits_too = λ leg sound first other is_first is_legal k group w. waits_too model leg lawful sound first other is_first is_legal k group w;
       same_views = λ leg sound first other is_first is_legal k group w t x live member. views_alike model leg lawful sound first other is_first is_legal k group w t x live member;
@@ -59,7 +59,7 @@ moves_none_later model lawful =
 pub completes_none_later : (model : Rules) → IsLawful model → CompletesNoneLater model
 completes_none_later model lawful =
     record {
-      lasts = λ leg sound schedule j k le done. complete_later model leg lawful sound schedule j k le done;
+      stays_complete = λ leg sound schedule j k le done. complete_later model leg lawful sound schedule j k le done;
       completes = λ leg sound first other is_first is_legal k done. completes_by model leg first k (completes_too model leg lawful sound first other is_first is_legal k done.now);
       none_before = λ leg sound first other is_first is_legal k not_yet.
           false_from_ne_true (complete model leg other k) (λ done. let both = completes_too model leg lawful sound first other is_first is_legal k done in absurd (cc));

@@ -20,7 +20,7 @@ pub mod Certified
 pub mod Cut
 pub mod Steps
 pub mod Runs
-pub mod Unmoved
+pub mod Unswitched
 pub mod States
 pub mod SlotLemmas
 pub mod EngineLemmas

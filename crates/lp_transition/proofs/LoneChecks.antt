@@ -95,7 +95,7 @@ module _ (model : Rules) (lawful : IsLawful model) (e : Engine) (waiting : Numbe
       by true w false c = alone-stays model lawful (asked e t f) event t kind (f x) checks now_live positive within_bounds (f x).group (counted within false c)
       by true w true c = alone-switches model lawful (asked e t f) event t kind (f x) checks now_live positive within_bounds (waits_for w) (counted within true c)
 
-  -- where its group doesn't go over, none does
+  -- where its group doesn't switch, none does
   pub none-switches : switches_at model (asked e t f) event (f x).group ≡ false → (group : ℕ) → switches_at model (asked e t f) event group ≡ false
   none-switches stays group =
       ⊎_elim
@@ -103,7 +103,7 @@ module _ (model : Rules) (lawful : IsLawful model) (e : Engine) (waiting : Numbe
       (λ (ne : (f x).group ≡ group → ⊥). other-stays model lawful (asked e t f) event t kind (f x) checks now_live positive within_bounds group ne)
       (cases_eq (f x).group group)
 
-  -- ---- Where the group goes over
+  -- ---- Where the group switches
 
   lone : switches_at model (asked e t f) event (f x).group ≡ true → IsTrue (is_alone (bounds_of e.patches) (outlines_of (change t f (standings e.table))) (f x).group t)
   lone switches = by (is_alone (bounds_of e.patches) (outlines_of (change t f (standings e.table))) (f x).group t) refl
@@ -119,18 +119,18 @@ module _ (model : Rules) (lawful : IsLawful model) (e : Engine) (waiting : Numbe
       let bounds = kept.sound.numbered u z before in
       ne (alone-other (bounds_of e.patches) (change t f (standings e.table)) (f x).group t (f x) now_live refl (lone switches) u z bounds.0 bounds.1 at (sym same))
 
-  moved-fate : switches_at model (asked e t f) event (f x).group ≡ true → (u : ℕ) → u ≢ t → (fate : Fate Standing) → change t f (standings e.table) u ≡ fate → map_live (switched_task model (asked e t f) event) fate ≡ fate
-  moved-fate switches u ne Unused at = refl
-  moved-fate switches u ne (Live z) at = ap Live (cond-false _ _ _ (other-stays model lawful (asked e t f) event t kind (f x) checks now_live positive within_bounds z.group (apart switches u z ne at)))
-  moved-fate switches u ne Dead at = refl
+  switched-fate : switches_at model (asked e t f) event (f x).group ≡ true → (u : ℕ) → u ≢ t → (fate : Fate Standing) → change t f (standings e.table) u ≡ fate → map_live (switched_task model (asked e t f) event) fate ≡ fate
+  switched-fate switches u ne Unused at = refl
+  switched-fate switches u ne (Live z) at = ap Live (cond-false _ _ _ (other-stays model lawful (asked e t f) event t kind (f x) checks now_live positive within_bounds z.group (apart switches u z ne at)))
+  switched-fate switches u ne Dead at = refl
 
-  -- so the task alone is moved
-  moved-one : switches_at model (asked e t f) event (f x).group ≡ true → (u : ℕ) → map_live (switched_task model (asked e t f) event) (change t f (standings e.table) u) ≡ change t (put_on e.target) (change t f (standings e.table)) u
-  moved-one switches u =
+  -- so the task alone switches
+  switched-one : switches_at model (asked e t f) event (f x).group ≡ true → (u : ℕ) → map_live (switched_task model (asked e t f) event) (change t f (standings e.table) u) ≡ change t (put_on e.target) (change t f (standings e.table)) u
+  switched-one switches u =
       ⊎_elim
       (λ (same : u ≡ t). subst (λ v. map_live (switched_task model (asked e t f) event) (change t f (standings e.table) v) ≡ change t (put_on e.target) (change t f (standings e.table)) v) (sym same)
       (ap (map_live (switched_task model (asked e t f) event)) now_live ∙ ap Live (cond-true _ _ _ switches) ∙ sym (cond-true _ _ _ (eq-eqb t t refl) ∙ ap (map_live (put_on e.target)) now_live)))
-      (λ (ne : u ≡ t → ⊥). moved-fate switches u ne (change t f (standings e.table) u) refl ∙ sym (cond-false _ _ _ (ne_eqb u t ne)))
+      (λ (ne : u ≡ t → ⊥). switched-fate switches u ne (change t f (standings e.table) u) refl ∙ sym (cond-false _ _ _ (ne_eqb u t ne)))
       (cases_eq u t)
 
   off-after : length waiting ≡ 65536 → (u : ℕ) → has (set waiting t false) u ≡ is_off e.target (slot (changed t (put_on e.target) (changed t f e.table)) u)
@@ -143,14 +143,14 @@ module _ (model : Rules) (lawful : IsLawful model) (e : Engine) (waiting : Numbe
       (λ (ne : u ≡ t → ⊥). get_or-set_other waiting t u false false ne ∙ kept.waits u ∙ sym (ap (is_off e.target) (slot-changed_other (changed t f e.table) t u (put_on e.target) ne ∙ slot-changed_other e.table t u f ne)))
       (cases_eq u t)
 
-  -- the engine after its task went over
+  -- the engine after its task switched
   pub switches-switching : e.number < 1000000 → length waiting ≡ 65536 → is_control event ≡ false → refusal_of model (state_in e) event ≡ None → own_effect model.child_group (suc e.number) event (standings e.table) ≡ change t f (standings e.table)
       → switches_at model (asked e t f) event (f x).group ≡ true → HasTaken model e event (with_table (changed t (put_on e.target) (changed t f e.table)) e) (set waiting t false) members
   switches-switching room long plain accepted own switches =
       let wide = IsWide-changed e.table t f kept.wide in
       let affected-is : affected model (state_in e) event ≡ asked e t f = ap {A = Standings} {B = State} (λ now. record (state_in e) { number = suc e.number; tasks = now }) own in
       let tasks : standings (changed t (put_on e.target) (changed t f e.table)) ≡ (λ u. map_live (switched_task model (asked e t f) event) (change t f (standings e.table) u)) =
-      standings-changed (changed t f e.table) t (put_on e.target) wide small ∙ ap (change t (put_on e.target)) (standings-changed e.table t f kept.wide small) ∙ sym (fun_ext (λ u. moved-one switches u)) in
+      standings-changed (changed t f e.table) t (put_on e.target) wide small ∙ ap (change t (put_on e.target)) (standings-changed e.table t f kept.wide small) ∙ sym (fun_ext (λ u. switched-one switches u)) in
       let state : state_in (with_table (changed t (put_on e.target) (changed t f e.table)) e) ≡ next model (state_in e) event =
       state-with_table e (changed t (put_on e.target) (changed t f e.table)) (λ u. map_live (switched_task model (asked e t f) event) (change t f (standings e.table) u)) tasks
       ∙ ap {A = State} {B = State} (λ now. record now { tasks = λ u. map_live (switched_task model now event) (now.tasks u) }) (sym affected-is)
@@ -179,10 +179,10 @@ module _ (model : Rules) (lawful : IsLawful model) (e : Engine) (waiting : Numbe
       subst (λ o. (w && (one && model.admits kind (view_of t (f x)) (record { patches = e.patches; target = e.target }))) ≡ switches_at model (affected model (state_in o) event) event (f x).group) was
       (sym (ap {A = State} {B = Bool} (λ now. switches_at model now event (f x).group) affected-is ∙ switches-alone within ∙ ap₂ (λ a b. a && (b && model.admits kind (view_of t (f x)) (record { patches = e.patches; target = e.target }))) is count))
 
-  -- the engine that code holds after its task went over
-  pub takes_over : (old : Engine) (table : Table) (now : Numbers) → e ≡ old → table ≡ changed t (put_on e.target) (changed t f e.table) → now ≡ set waiting t false → length now ≡ 65536 → old.number < 1000000 → is_control event ≡ false → refusal_of model (state_in old) event ≡ None → own_effect model.child_group (suc e.number) event (standings e.table) ≡ change t f (standings e.table)
+  -- the engine that code holds after its task switched
+  pub takes_switch : (old : Engine) (table : Table) (now : Numbers) → e ≡ old → table ≡ changed t (put_on e.target) (changed t f e.table) → now ≡ set waiting t false → length now ≡ 65536 → old.number < 1000000 → is_control event ≡ false → refusal_of model (state_in old) event ≡ None → own_effect model.child_group (suc e.number) event (standings e.table) ≡ change t f (standings e.table)
       → switches_at model (affected model (state_in old) event) event (f x).group ≡ true → HasTaken model old event (with_table table e) now members
-  takes_over old table now was is removed long room plain accepted own switches =
+  takes_switch old table now was is removed long room plain accepted own switches =
       let affected-is : affected model (state_in e) event ≡ asked e t f = ap {A = Standings} {B = State} (λ tasks. record (state_in e) { number = suc e.number; tasks = tasks }) own in
       let here : switches_at model (asked e t f) event (f x).group ≡ true = ap {A = State} {B = Bool} (λ s. switches_at model s event (f x).group) (sym affected-is) ∙ subst (λ o. switches_at model (affected model (state_in o) event) event (f x).group ≡ true) (sym was) switches in
       let wide : length waiting ≡ 65536 = sym (length-set waiting t false) ∙ ap length (sym removed) ∙ long in

@@ -153,23 +153,23 @@ module _ (table : Table) (patches : Patches) (wide : IsWide table) (empty : slot
     waits_at t x there = waits t ∙ ap (is_off target) there
 
     -- where none waits, each live task is on the target
-    pub rest-is : IsEmpty waiting → IsTrue (each_live (bounds_of patches) (standings table) (λ t x. nat_eq x.level target))
-    rest-is none =
+    pub on_target-is : IsEmpty waiting → IsTrue (each_live (bounds_of patches) (standings table) (λ t x. nat_eq x.level target))
+    on_target-is none =
         each_live-from (bounds_of patches) (standings table) (λ t x. nat_eq x.level target) (λ t x positive within live.
         not-false (nat_eq x.level target) (sym (waits_at t x (slot_from_live table t x live)) ∙ none t))
 
-    at_rest_in : (h : IsTrue (each_live (bounds_of patches) (standings table) (λ t x. nat_eq x.level target))) (t : ℕ) (o : Option Standing) → slot table t ≡ o → is_off target o ≡ false
-    at_rest_in h t None e = refl
-    at_rest_in h t (Some x) e =
+    on_target_at : (h : IsTrue (each_live (bounds_of patches) (standings table) (λ t x. nat_eq x.level target))) (t : ℕ) (o : Option Standing) → slot table t ≡ o → is_off target o ≡ false
+    on_target_at h t None e = refl
+    on_target_at h t (Some x) e =
         not_from_true (nat_eq x.level target) (each_live-at (bounds_of patches) (standings table) (λ u y. nat_eq y.level target) h t x (slot-positive table t x empty e) (omega (arith, slot-below table t x wide e)) (live_from_slot table t x e))
 
     -- where each live task is on the target, none waits
-    pub rest-from : IsTrue (each_live (bounds_of patches) (standings table) (λ t x. nat_eq x.level target)) → IsEmpty waiting
-    rest-from h = λ t. waits t ∙ at_rest_in h t (slot table t) refl
+    pub on_target-from : IsTrue (each_live (bounds_of patches) (standings table) (λ t x. nat_eq x.level target)) → IsEmpty waiting
+    on_target-from h = λ t. waits t ∙ on_target_at h t (slot table t) refl
 
     -- none waits where each live task is on the target
-    pub rest : IsEmpty waiting ↔ IsTrue (each_live (bounds_of patches) (standings table) (λ t x. nat_eq x.level target))
-    rest = (rest-is, rest-from)
+    pub on_target : IsEmpty waiting ↔ IsTrue (each_live (bounds_of patches) (standings table) (λ t x. nat_eq x.level target))
+    on_target = (on_target-is, on_target-from)
 
     -- a group that is behind has a member that waits
     pub behind-is : (group : ℕ) → IsTrue (some_live (bounds_of patches) (standings table) (λ t x. nat_eq x.group group && not (nat_eq x.level target))) → Waiter table waiting group

@@ -1,4 +1,4 @@
--- No legal schedule moves a group, or completes the leg, before the first-check schedule does.
+-- No legal schedule switches a group, or completes the leg, before the first-check schedule does.
 use Rattle.std.proofs.Common.{◌≡◌, ℕ, zero, suc, true, false, Option, Some, None, IsTrue, refl, sym, ap, ◌∙◌, subst, ⊎_elim, arith}
 use Rattle.std.proofs.lemmas.Bool.{false_from_ne_true, cases_eq}
 use Rattle.std.proofs.lemmas.List.Elements.{All-weaker}
@@ -11,11 +11,11 @@ use Rattle.lp_transition.proofs.Plain.{IsMadeBefore, made_later, opens, made_bef
 use Rattle.lp_transition.proofs.Waiting.{level_before, level_still, comes_now, come_at, none_at_zero, Waiter, waits-is, waits-from, allowed-is, allowed-from, complete-is, complete-from, view_same, Descends, FromMember, FromParent, descends, only_child, Waited, InGroup, InParent, not_gone, level_waiting, waited, fresh_still}
 
 module _ (model : Rules) (leg : Leg) (lawful : IsLawful model) (sound : IsSound leg.opening) (first other : Schedule) (is_first : IsFirstCheck model leg first) (is_legal : IsLegal model leg other) where
-  -- a task was on one level under both schedules, as long as its group hasn't gone over
+  -- a task was on one level under both schedules, as long as its group hasn't switched
   abbrev Alike : Life → Type 0
   Alike x = level_before leg.target first x.origin ≡ level_before leg.target other x.origin
 
-  -- after k events the group hasn't gone over under the other schedule, and its members are alike
+  -- after k events the group hasn't switched under the other schedule, and its members are alike
   record Follows (k group : ℕ) : Type 0 where
     still : has_come (other group) k ≡ false
     alike : (t : ℕ) (x : Life) → after model leg k t ≡ Live x → x.group ≡ group → Alike x
@@ -41,12 +41,12 @@ module _ (model : Rules) (leg : Leg) (lawful : IsLawful model) (sound : IsSound 
           let b = allowed-is model leg other k group (subst (λ n. IsTrue (allowed model leg other n group)) same a) in
           allowed-from model leg first k group b.0 b.1 (λ t x positive within live member. subst (λ v. IsTrue (model.admits b.0 v leg.aim)) (sym (view_next k group w h t x live member)) (b.2 t x positive within live member))
 
-      -- were this the other schedule's moment, the first check would have moved the group
+      -- were this the other schedule's moment, the first check would have switched the group
       contradiction : has_come (other group) (suc k) ≡ true → ⊥
       contradiction come =
           let r = is_legal group (suc k) (comes_now (other group) k h.still come) in
-          let moved = is_first.first k group (waits-from model leg first k group w) (allowed_first r.0 r.1 r.3) in
-          let gone = ap (λ m. has_come m (suc k)) moved ∙ come_at (suc k) in
+          let switched_then = is_first.first k group (waits-from model leg first k group w) (allowed_first r.0 r.1 r.3) in
+          let gone = ap (λ m. has_come m (suc k)) switched_then ∙ come_at (suc k) in
           absurd (cc (stays, gone))
 
   follow_next : (k group : ℕ) (w : Waiter model leg first (suc k) group) → ((g : ℕ) → Waiter model leg first k g → Follows k g) → Waited model leg first k group w.task w.life → Follows (suc k) group

@@ -1,4 +1,4 @@
--- Numbers that pass a test, in increasing order, and walks over them.
+-- Numbers that pass a test, in increasing order, and loops over them.
 use Rattle.std.proofs.Common.{◌≡◌, ℕ, zero, suc, ◌+◌, ◌-◌, ◌<◌, ◌≤◌, Bool, true, false, ◌||◌, List, [], ◌∷◌, ◌++◌, length, map, is_some, not, append_assoc, ◌↔◌, Option, Some, None, nat_eq, refl, sym, ap, ap₂, ◌∙◌, ⊎_elim, arith}
 use Rattle.std.proofs.lemmas.Bool.{cond-true, cond-false, cases_Bool, cases_eq, cases_lt, or_cases, or_left, or_right, not-true, not-false, eqb-true, eq-eqb, ne_eqb}
 use Rattle.std.proofs.lemmas.List.{append-nil}
@@ -49,12 +49,12 @@ passing-cons n limit test h e =
     let more : limit - n ≡ suc (limit - (n + 1)) = omega arith in
     ap (passes test n) more ∙ keep_one test n (limit - (n + 1)) e
 
--- a walk goes on with the next number that passes
+-- a loop takes the next number that passes
 pub passing-next : (limit : ℕ) (test : ℕ → Bool) (first : ℕ) (next : Option ℕ) → IsNextBelow limit test first next → passing first limit test ≡ passing_at next limit test
 passing-next limit test first None h = passing-none first limit test h
 passing-next limit test first (Some n) h = let within = h.0 in passing-skip first n limit test h.1.within (omega arith) h.1.least
 
--- one step of a walk
+-- one turn of a loop
 pub passing-step : (limit : ℕ) (test : ℕ → Bool) (n : ℕ) (next : Option ℕ) → n < limit → test n ≡ true → IsNextBelow limit test (n + 1) next → passing_at (Some n) limit test ≡ n ∷ passing_at next limit test
 passing-step limit test n next h e after = passing-cons n limit test h e ∙ ap (λ ns. n ∷ ns) (passing-next limit test (n + 1) next after)
 
@@ -192,12 +192,12 @@ passing-any_more limit test p now n next done is h e after =
     or_again true b c = refl
     or_again false b c = refl
 
--- ---- A list beside a walk
+-- ---- A list beside a loop
 
--- a list goes on with another number than the walk does
-pub walk_differs : (limit : ℕ) (test : ℕ → Bool) (done rest : List ℕ) (next : Option ℕ) (n : ℕ) → ((m : ℕ) → next ≡ Some m → test m ≡ true) → (next ≡ Some n → ⊥) → done ++ n ∷ rest ≡ done ++ passing_at next limit test → ⊥
-walk_differs limit test [] rest None n member other same = absurd (cc)
-walk_differs limit test [] rest (Some m) n member other same =
+-- a list has another number next than the loop
+pub next_differs : (limit : ℕ) (test : ℕ → Bool) (done rest : List ℕ) (next : Option ℕ) (n : ℕ) → ((m : ℕ) → next ≡ Some m → test m ≡ true) → (next ≡ Some n → ⊥) → done ++ n ∷ rest ≡ done ++ passing_at next limit test → ⊥
+next_differs limit test [] rest None n member other same = absurd (cc)
+next_differs limit test [] rest (Some m) n member other same =
     ⊎_elim
     (λ (low : m < limit).
     let apart : n ∷ rest ≡ m ∷ passing (m + 1) limit test = same ∙ passing-cons m limit test low (member m refl) in
@@ -205,18 +205,18 @@ walk_differs limit test [] rest (Some m) n member other same =
     other (ap Some (sym one)))
     (λ (past : limit ≤ m). let none = passing-none m limit test (λ k low high. absurd (omega arith)) in absurd (cc))
     (cases_lt m limit)
-walk_differs limit test (d ∷ done) rest next n member other same =
+next_differs limit test (d ∷ done) rest next n member other same =
     let less : done ++ n ∷ rest ≡ done ++ passing_at next limit test = cc in
-    walk_differs limit test done rest next n member other less
+    next_differs limit test done rest next n member other less
 
--- a list ends where the walk goes on
-pub walk_goes_on : (limit : ℕ) (test : ℕ → Bool) (done : List ℕ) (n : ℕ) → n < limit → test n ≡ true → done ≡ done ++ passing n limit test → ⊥
-walk_goes_on limit test [] n low member same = let on = passing-cons n limit test low member in absurd (cc)
-walk_goes_on limit test (d ∷ done) n low member same =
+-- a list ends where more numbers pass
+pub more_pass : (limit : ℕ) (test : ℕ → Bool) (done : List ℕ) (n : ℕ) → n < limit → test n ≡ true → done ≡ done ++ passing n limit test → ⊥
+more_pass limit test [] n low member same = let on = passing-cons n limit test low member in absurd (cc)
+more_pass limit test (d ∷ done) n low member same =
     let less : done ≡ done ++ passing n limit test = cc in
-    walk_goes_on limit test done n low member less
+    more_pass limit test done n low member less
 
--- a walk's next number is this one
+-- a loop's next number is this one
 pub next_is : (next : Option ℕ) (n : ℕ) → option_eq nat_eq next (Some n) ≡ true → next ≡ Some n
 next_is None n h = absurd (cc)
 next_is (Some m) n h = ap Some (eqb-true m n h)
@@ -225,7 +225,7 @@ pub next_is_not : (next : Option ℕ) (n : ℕ) → option_eq nat_eq next (Some 
 next_is_not None n h e = absurd (cc)
 next_is_not (Some m) n h e = let same : m ≡ n = cc in let equal = eq-eqb m n same in absurd (cc)
 
--- a list is that of all numbers that pass where the walk beside it has come to its end
-pub walk_ends : (limit : ℕ) (test : ℕ → Bool) (done : List ℕ) (next : Option ℕ) (ends : Bool) → is_some next ≡ not ends → ((n : ℕ) → next ≡ Some n → (n < limit) × (test n ≡ true)) → done ++ passing_at next limit test ≡ passing 0 limit test → (ends ≡ true) ↔ (done ≡ passing 0 limit test)
-walk_ends limit test done None ends e member all = (λ h. sym (append-nil done) ∙ all, λ same. not-false ends (sym e))
-walk_ends limit test done (Some n) ends e member all = (λ h. let out = not-true ends (sym e) in absurd (cc), λ same. let m = member n refl in absurd (walk_goes_on limit test done n m.0 m.1 (same ∙ sym all)))
+-- a list is that of all numbers that pass where the loop beside it has come to its end
+pub none_left : (limit : ℕ) (test : ℕ → Bool) (done : List ℕ) (next : Option ℕ) (ends : Bool) → is_some next ≡ not ends → ((n : ℕ) → next ≡ Some n → (n < limit) × (test n ≡ true)) → done ++ passing_at next limit test ≡ passing 0 limit test → (ends ≡ true) ↔ (done ≡ passing 0 limit test)
+none_left limit test done None ends e member all = (λ h. sym (append-nil done) ∙ all, λ same. not-false ends (sym e))
+none_left limit test done (Some n) ends e member all = (λ h. let out = not-true ends (sym e) in absurd (cc), λ same. let m = member n refl in absurd (more_pass limit test done n m.0 m.1 (same ∙ sym all)))

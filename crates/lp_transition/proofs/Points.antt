@@ -1,5 +1,5 @@
 -- An exit and an idle point alike: what holds of every check that a task makes alone.
-use Rattle.std.proofs.Common.{◌≡◌, ℕ, true, false, None, refl, sym}
+use Rattle.std.proofs.Common.{◌≡◌, ℕ, true, false, None, refl}
 use Rattle.lp_stack.specs.declared.number.TaskId.{TaskId}
 use Rattle.lp_model.specs.declared.check.CheckKind.{CheckKind}
 use Rattle.lp_model.specs.declared.check.CheckKind.TheVariants.{KernelExit, IdlePoint, Walk, Stop}
@@ -47,7 +47,7 @@ point-live model e IdlePoint t accepted = idle-live model e t accepted
 point-live model e Walk t accepted = idle-live model e t accepted
 point-live model e Stop t accepted = idle-live model e t accepted
 
--- and it is answered by who goes over
+-- and it is answered by who switches
 pub point-told : (model : Rules) (s : State) (kind : CheckKind) (t : TaskId) → told model s (point_event kind t) ≡ switched (switched_groups model (affected model s (point_event kind t)) (point_event kind t))
 point-told model s KernelExit t = refl
 point-told model s IdlePoint t = refl

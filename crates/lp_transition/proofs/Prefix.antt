@@ -9,17 +9,17 @@ use Rattle.lp_transition.specs.Schedule.{Schedule, has_come, first_check, level,
 use Rattle.lp_transition.specs.Run.{and_then}
 use Rattle.lp_transition.proofs.First.{Agree, agree_next}
 
-front_get : (xs ys : List Event) (k : ℕ) → k < length xs → slice_get (xs ++ ys) k ≡ slice_get xs k
-front_get [] ys k lt = absurd (omega arith)
-front_get (x ∷ xs) ys zero lt = refl
-front_get (x ∷ xs) ys (suc k) lt = front_get xs ys k (omega arith)
+prefix_get : (xs ys : List Event) (k : ℕ) → k < length xs → slice_get (xs ++ ys) k ≡ slice_get xs k
+prefix_get [] ys k lt = absurd (omega arith)
+prefix_get (x ∷ xs) ys zero lt = refl
+prefix_get (x ∷ xs) ys (suc k) lt = prefix_get xs ys k (omega arith)
 
 module _ (model : Rules) (leg : Leg) (event : Event) where
   abbrev longer : Leg
   longer = and_then leg event
 
   event_same : (k : ℕ) → k < length leg.events → slice_get longer.events k ≡ slice_get leg.events k
-  event_same k lt = front_get leg.events (event ∷ []) k lt
+  event_same k lt = prefix_get leg.events (event ∷ []) k lt
 
   pub after_same : (k : ℕ) → k ≤ length leg.events → after model longer k ≡ after model leg k
   unfolding tasks_after
@@ -55,7 +55,7 @@ module _ (model : Rules) (leg : Leg) (event : Event) where
       let before = first_checks_same k (omega arith) in
       fun_ext (λ group. ap₂ (λ switches s. if switches then Some (suc k) else s group) (ap₂ (λ w a. w && a) (waits_same (first_checks model longer k) k group (omega arith) ∙ ap (λ s. waits model leg s k group) before) (allowed_same (first_checks model longer k) k group (omega arith) ∙ ap (λ s. allowed model leg s k group) before)) before)
 
-  -- a later event moves nobody earlier
+  -- a later event switches nobody earlier
   pub past_same : (group k : ℕ) → k ≤ length leg.events → has_come (first_check model longer group) k ≡ has_come (first_check model leg group) k
   unfolding Agree
   past_same group k le =

@@ -31,7 +31,7 @@ module _ (model : Rules) where
     all_answers leg sound [] = refl
     all_answers leg sound (event ∷ events) =
         let one = does model leg event lawful sound in
-        ap₂ (λ r rest. r ∷ rest) one.answers (ap (λ s. answers model s events) one.goes_on ∙ all_answers (next_leg model leg event) (next_sound model lawful leg event sound) events)
+        ap₂ (λ r rest. r ∷ rest) one.answers (ap (λ s. answers model s events) one.next_state ∙ all_answers (next_leg model leg event) (next_sound model lawful leg event sound) events)
 
     sound_of : (run : Run) → AreInRange run.bounds run.boots → IsSound (leg_of model run).opening
     sound_of run ok = run_sound model lawful (first_leg model run) run.events (start_sound model lawful run.bounds run.patches run.boots ok)
@@ -42,7 +42,7 @@ module _ (model : Rules) where
           replies = λ run stands. ap (λ s. answer model s event) stands.there ∙ (does model (leg_of model run) event lawful (sound_of run stands.in_range)).answers;
           reaches = λ run stands. record {
             in_range = stands.in_range;
-            there = ap (λ s. next model s event) stands.there ∙ ((does model (leg_of model run) event lawful (sound_of run stands.in_range)).goes_on ∙ ap (state_of model) (sym (leg_after-plus (first_leg model run) run.events event)));
+            there = ap (λ s. next model s event) stands.there ∙ ((does model (leg_of model run) event lawful (sound_of run stands.in_range)).next_state ∙ ap (state_of model) (sym (leg_after-plus (first_leg model run) run.events event)));
           };
         }
 

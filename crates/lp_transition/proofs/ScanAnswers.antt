@@ -38,12 +38,12 @@ none_found table group (v ∷ vs) h =
     let later = false_from_ne_true (list_any (λ w. is_none w.blame) vs) (λ (yes : list_any (λ w. is_none w.blame) vs ≡ true). let some = or_right (is_none v.blame) (list_any (λ w. is_none w.blame) vs) yes in absurd (cc)) in
     ap₂ (λ a b. (a && is_in group (slot table v.task.0)) || b) first (none_found table group vs later)
 
--- where no verdict admits, no group goes over
+-- where no verdict admits, no group switches
 pub still : (table : Table) (limit : ℕ) (vs : List Verdict) → list_any (λ v. is_none v.blame) vs ≡ false → Done ≡ switched (passing 0 limit (switches_by table vs))
 still table limit vs none =
     sym (ap switched (passing-none 0 limit (switches_by table vs) (λ n low high. ap (λ b. b && not (list_any (is_found table true n) vs)) (none_found table n vs none))))
 
--- what an event did lists the groups that it took over
+-- what an event did lists the groups that it switched
 pub groups_of-switched : (groups : List ℕ) → groups_of (switched groups) ≡ groups
 groups_of-switched [] = refl
 groups_of-switched (group ∷ groups) = refl
@@ -55,7 +55,7 @@ listed limit set groups what group e w h =
 
 -- ---- The machine's answer
 
--- the groups that go over, by a test that says which
+-- the groups that switch, by a test that says which
 pub switching_by : (model : Rules) (limit : ℕ) (now : State) (event : Event) (switches : ℕ → Bool) → suc now.bounds.tasks ≡ limit → ((group : ℕ) → switches_at model now event group ≡ switches group) → switched_groups model now event ≡ passing 0 limit switches
 unfolding switched_groups passing
 switching_by model limit now event switches e same =
@@ -63,7 +63,7 @@ switching_by model limit now event switches e same =
     ap₂ (λ (test : ℕ → Bool) (n : ℕ). filter test (range_with_len 0 n)) (fun_ext same) count
 
 module _ (model : Rules) (lawful : IsLawful model) (limit : ℕ) (s : State) (wide : suc s.bounds.tasks ≡ limit) (sound : IsSound s) (table : Table) (there : (t : ℕ) (x : Standing) → s.tasks t ≡ Live x → slot table t ≡ Some x) where
-  -- the groups that go over are those that the verdicts tell
+  -- the groups that switch are those that the verdicts tell
   pub switches-walk : (group : ℕ) → switches_at model (affected model s Walk) Walk group ≡ switches_by table (verdicts_of model Walk s) group
   unfolding switches_at
   switches-walk group = told model lawful Walk s sound table there Walk (λ g. refl) group

@@ -1,4 +1,4 @@
--- The groups that a scan takes over are told by its verdicts.
+-- The groups that a scan switches are told by its verdicts.
 use Rattle.std.proofs.Common.{◌≡◌, ℕ, suc, Bool, true, false, not, ◌&&◌, ◌||◌, List, [], ◌∷◌, length, Option, Some, None, is_some, is_none, if◌then◌else◌, nat_eq, refl, sym, ap, ◌∙◌, subst, ⊎_elim, arith}
 use Rattle.std.proofs.lemmas.Bool.{cond-true, cond-false, cases_Bool, and_parts, and_from, or_cases, or_left, or_right, eqb-true, eq-eqb, ne_eqb, not-true, not-false, not_from_true, not_from_false, false_from_ne_true}
 use Rattle.std.specs.List.{list_any}
@@ -78,7 +78,7 @@ module _ (model : Rules) (lawful : IsLawful model) (kind : CheckKind) (s : State
         told = parts.0;
       }
 
-  -- ---- Who goes over is admitted
+  -- ---- Who switches is admitted
 
   each_of : (group : ℕ) (check : Option CheckKind) → ((other : CheckKind) → check ≡ Some other → other ≡ kind) → admits_all model s check group ≡ true → (t : ℕ) (x : Standing) → s.tasks t ≡ Live x → x.group ≡ group → model.admits kind (view_of t x) s.aim ≡ true
   each_of group None same h t x live grouped = absurd (cc)
@@ -113,7 +113,7 @@ module _ (model : Rules) (lawful : IsLawful model) (kind : CheckKind) (s : State
         let some = j.told in
         absurd (cc))))
 
-    -- ---- Who is admitted goes over
+    -- ---- Who is admitted switches
 
     none_refused : (group : ℕ) → list_any (is_found table true group) (verdicts_of model kind s) ≡ false → (t : ℕ) (x : Standing) → s.tasks t ≡ Live x → x.group ≡ group → nat_eq x.level s.target ≡ false → model.admits kind (view_of t x) s.aim ≡ true
     none_refused group no_refusal t x live grouped off =
@@ -167,7 +167,7 @@ module _ (model : Rules) (lawful : IsLawful model) (kind : CheckKind) (s : State
         ∙ waiting_suffice s sound group behind (λ t x. model.admits kind (view_of t x) s.aim)
         ∙ each_live-from s.bounds s.tasks (λ t x. not (nat_eq x.group group) || (nat_eq x.level s.target || model.admits kind (view_of t x) s.aim)) (λ t x positive within live. member_passes group no_refusal t x live))
 
-    -- the groups that go over are those that the verdicts tell
+    -- the groups that switch are those that the verdicts tell
     pub told : (group : ℕ) → switches_at model s event group ≡ switches_by table (verdicts_of model kind s) group
     told group = same_bool (switches_at model s event group) (switches_by table (verdicts_of model kind s) group) (told-from group) (told-is group)
 
@@ -186,9 +186,9 @@ module _ (model : Rules) (lawful : IsLawful model) (kind : CheckKind) (s : State
   long_any [] h = absurd (cc)
   long_any (v ∷ vs) h = refl
 
-  -- at rest no task is looked at
-  rest-is : complete_in s ≡ true → nat_eq (length (verdicts_of model kind s)) 0 ≡ true
-  rest-is rest =
+  -- where the transition is complete no task is looked at
+  complete-is : complete_in s ≡ true → nat_eq (length (verdicts_of model kind s)) 0 ≡ true
+  complete-is all_on =
       not-false (nat_eq (length (verdicts_of model kind s)) 0)
       (not_from_true (nat_eq (length (verdicts_of model kind s)) 0)
       (⊎_elim
@@ -196,17 +196,17 @@ module _ (model : Rules) (lawful : IsLawful model) (kind : CheckKind) (s : State
       (λ (some : nat_eq (length (verdicts_of model kind s)) 0 ≡ false).
       let j = verdict-is model kind s (λ v. true) (long_any (verdicts_of model kind s) some) in
       let bounds = sound.numbered j.number j.task j.live in
-      let on = each_live-at s.bounds s.tasks (λ t x. nat_eq x.level s.target) rest j.number j.task bounds.0 bounds.1 j.live in
+      let on = each_live-at s.bounds s.tasks (λ t x. nat_eq x.level s.target) all_on j.number j.task bounds.0 bounds.1 j.live in
       let off = j.off in
       absurd (cc))
       (cases_Bool (nat_eq (length (verdicts_of model kind s)) 0))))
 
   -- where some task waits, it is looked at
-  rest-from : complete_in s ≡ false → nat_eq (length (verdicts_of model kind s)) 0 ≡ false
-  rest-from busy =
+  complete-from : complete_in s ≡ false → nat_eq (length (verdicts_of model kind s)) 0 ≡ false
+  complete-from busy =
       ⊎_elim
       (λ (none : nat_eq (length (verdicts_of model kind s)) 0 ≡ true).
-      let rest = each_live-from s.bounds s.tasks (λ t x. nat_eq x.level s.target) (λ t x positive within live.
+      let all_on = each_live-from s.bounds s.tasks (λ t x. nat_eq x.level s.target) (λ t x positive within live.
       ⊎_elim
       (λ (on : nat_eq x.level s.target ≡ true). on)
       (λ (off : nat_eq x.level s.target ≡ false). let some = any_long (λ v. true) (verdicts_of model kind s) (waiting_judged (λ v. true) t x live off refl) in absurd (cc))
@@ -216,27 +216,27 @@ module _ (model : Rules) (lawful : IsLawful model) (kind : CheckKind) (s : State
       (cases_Bool (nat_eq (length (verdicts_of model kind s)) 0))
 
   module _ (switches : ℕ → Bool) (by : (group : ℕ) → switches group ≡ switches_by table (verdicts_of model kind s) group) where
-    -- a task after the groups that go over went
-    abbrev pub moved : Standing → Standing
-    moved x = if switches x.group then record x { level = s.target } else x
+    -- a task after the groups that switch did so
+    abbrev pub after_switch : Standing → Standing
+    after_switch x = if switches x.group then record x { level = s.target } else x
 
-    moved_off : (x : Standing) → switches x.group ≡ false → (moved x).level ≡ x.level
-    moved_off x stays = ap (λ (y : Standing). y.level) (cond-false (switches x.group) (record x { level = s.target }) x stays)
+    after_switch_off : (x : Standing) → switches x.group ≡ false → (after_switch x).level ≡ x.level
+    after_switch_off x stays = ap (λ (y : Standing). y.level) (cond-false (switches x.group) (record x { level = s.target }) x stays)
 
-    moved_on : (x : Standing) → switches x.group ≡ true → (moved x).level ≡ s.target
-    moved_on x went = ap (λ (y : Standing). y.level) (cond-true (switches x.group) (record x { level = s.target }) x went)
+    after_switch_on : (x : Standing) → switches x.group ≡ true → (after_switch x).level ≡ s.target
+    after_switch_on x went = ap (λ (y : Standing). y.level) (cond-true (switches x.group) (record x { level = s.target }) x went)
 
-    on_after : (x : Standing) → nat_eq x.level s.target ≡ true → nat_eq (moved x).level s.target ≡ true
+    on_after : (x : Standing) → nat_eq x.level s.target ≡ true → nat_eq (after_switch x).level s.target ≡ true
     on_after x on =
         ⊎_elim
-        (λ (went : switches x.group ≡ true). eq-eqb (moved x).level s.target (moved_on x went))
-        (λ (stays : switches x.group ≡ false). ap (λ l. nat_eq l s.target) (moved_off x stays) ∙ on)
+        (λ (went : switches x.group ≡ true). eq-eqb (after_switch x).level s.target (after_switch_on x went))
+        (λ (stays : switches x.group ≡ false). ap (λ l. nat_eq l s.target) (after_switch_off x stays) ∙ on)
         (cases_Bool (switches x.group))
 
     -- where each looked at was admitted, each task is on the target after
-    admitted_rests : list_any (λ v. is_some v.blame) (verdicts_of model kind s) ≡ false → each_live s.bounds s.tasks (λ t x. nat_eq (moved x).level s.target) ≡ true
-    admitted_rests no_refusal =
-        each_live-from s.bounds s.tasks (λ t x. nat_eq (moved x).level s.target) (λ t x positive within live.
+    admitted_completes : list_any (λ v. is_some v.blame) (verdicts_of model kind s) ≡ false → each_live s.bounds s.tasks (λ t x. nat_eq (after_switch x).level s.target) ≡ true
+    admitted_completes no_refusal =
+        each_live-from s.bounds s.tasks (λ t x. nat_eq (after_switch x).level s.target) (λ t x positive within live.
         ⊎_elim
         (λ (on : nat_eq x.level s.target ≡ true). on_after x on)
         (λ (off : nat_eq x.level s.target ≡ false).
@@ -249,16 +249,16 @@ module _ (model : Rules) (lawful : IsLawful model) (kind : CheckKind) (s : State
         let refusal = waiting_judged (λ v. is_some v.blame) j.number j.task j.live j.off j.told in
         absurd (cc))) in
         let went = by x.group ∙ and_from (list_any (is_found table false x.group) (verdicts_of model kind s)) (not (list_any (is_found table true x.group) (verdicts_of model kind s))) admitted unblocked in
-        eq-eqb (moved x).level s.target (moved_on x went))
+        eq-eqb (after_switch x).level s.target (after_switch_on x went))
         (cases_Bool (nat_eq x.level s.target)))
 
     -- where each task is on the target after, nobody was refused
-    rests_admitted : each_live s.bounds s.tasks (λ t x. nat_eq (moved x).level s.target) ≡ true → list_any (λ v. is_some v.blame) (verdicts_of model kind s) ≡ false
-    rests_admitted rests =
+    completes_admitted : each_live s.bounds s.tasks (λ t x. nat_eq (after_switch x).level s.target) ≡ true → list_any (λ v. is_some v.blame) (verdicts_of model kind s) ≡ false
+    completes_admitted all_on =
         false_from_ne_true (list_any (λ v. is_some v.blame) (verdicts_of model kind s)) (λ refused.
         let j = verdict-is model kind s (λ v. is_some v.blame) refused in
         let bounds = sound.numbered j.number j.task j.live in
-        let on = each_live-at s.bounds s.tasks (λ t x. nat_eq (moved x).level s.target) rests j.number j.task bounds.0 bounds.1 j.live in
+        let on = each_live-at s.bounds s.tasks (λ t x. nat_eq (after_switch x).level s.target) all_on j.number j.task bounds.0 bounds.1 j.live in
         ⊎_elim
         (λ (went : switches j.task.group ≡ true).
         let parts = and_parts (list_any (is_found table false j.task.group) (verdicts_of model kind s)) (not (list_any (is_found table true j.task.group) (verdicts_of model kind s))) (sym (by j.task.group) ∙ went) in
@@ -266,25 +266,25 @@ module _ (model : Rules) (lawful : IsLawful model) (kind : CheckKind) (s : State
         let blocked = found-from true j.task.group j.number j.task j.live j.off refl j.passed in
         absurd (cc))
         (λ (stays : switches j.task.group ≡ false).
-        let off = ap (λ l. nat_eq l s.target) (moved_off j.task stays) ∙ j.off in
+        let off = ap (λ l. nat_eq l s.target) (after_switch_off j.task stays) ∙ j.off in
         absurd (cc))
         (cases_Bool (switches j.task.group)))
 
     -- a scan completes the transition where some task waits and each is admitted
-    pub completes : (each_live s.bounds (λ t. map_live moved (s.tasks t)) (λ t x. nat_eq x.level s.target) && not (complete_in s)) ≡ all_admit (verdicts_of model kind s)
+    pub completes : (each_live s.bounds (λ t. map_live after_switch (s.tasks t)) (λ t x. nat_eq x.level s.target) && not (complete_in s)) ≡ all_admit (verdicts_of model kind s)
     completes =
-        let rests = each_live-map s.bounds moved s.tasks (λ t x. nat_eq x.level s.target) in
-        same_bool (each_live s.bounds (λ t. map_live moved (s.tasks t)) (λ t x. nat_eq x.level s.target) && not (complete_in s)) (all_admit (verdicts_of model kind s))
+        let all_on = each_live-map s.bounds after_switch s.tasks (λ t x. nat_eq x.level s.target) in
+        same_bool (each_live s.bounds (λ t. map_live after_switch (s.tasks t)) (λ t x. nat_eq x.level s.target) && not (complete_in s)) (all_admit (verdicts_of model kind s))
         (λ h.
-        let parts = and_parts (each_live s.bounds (λ t. map_live moved (s.tasks t)) (λ t x. nat_eq x.level s.target)) (not (complete_in s)) h in
+        let parts = and_parts (each_live s.bounds (λ t. map_live after_switch (s.tasks t)) (λ t x. nat_eq x.level s.target)) (not (complete_in s)) h in
         and_from (not (nat_eq (length (verdicts_of model kind s)) 0)) (not (list_any (λ v. is_some v.blame) (verdicts_of model kind s)))
-        (not_from_false (nat_eq (length (verdicts_of model kind s)) 0) (rest-from (not-true (complete_in s) parts.1)))
-        (not_from_false (list_any (λ v. is_some v.blame) (verdicts_of model kind s)) (rests_admitted (sym rests ∙ parts.0))))
+        (not_from_false (nat_eq (length (verdicts_of model kind s)) 0) (complete-from (not-true (complete_in s) parts.1)))
+        (not_from_false (list_any (λ v. is_some v.blame) (verdicts_of model kind s)) (completes_admitted (sym all_on ∙ parts.0))))
         (λ h.
         let parts = and_parts (not (nat_eq (length (verdicts_of model kind s)) 0)) (not (list_any (λ v. is_some v.blame) (verdicts_of model kind s))) h in
-        and_from (each_live s.bounds (λ t. map_live moved (s.tasks t)) (λ t x. nat_eq x.level s.target)) (not (complete_in s))
-        (rests ∙ admitted_rests (not-true (list_any (λ v. is_some v.blame) (verdicts_of model kind s)) parts.1))
-        (not_from_false (complete_in s) (false_from_ne_true (complete_in s) (λ rest.
-        let none = rest-is rest in
+        and_from (each_live s.bounds (λ t. map_live after_switch (s.tasks t)) (λ t x. nat_eq x.level s.target)) (not (complete_in s))
+        (all_on ∙ admitted_completes (not-true (list_any (λ v. is_some v.blame) (verdicts_of model kind s)) parts.1))
+        (not_from_false (complete_in s) (false_from_ne_true (complete_in s) (λ all_on.
+        let none = complete-is all_on in
         let some = not-true (nat_eq (length (verdicts_of model kind s)) 0) parts.0 in
         absurd (cc)))))

@@ -143,8 +143,8 @@ module _ (e : Engine) (waiting : Numbers) (members : List ℕ) (kept : IsEngine 
   zero_waits = kept.waits 0 ∙ ap (is_off e.target) (slot-zero e kept.sound)
 
   -- the waiting set gives the views
-  pub views-walked : filter_map (λ t. option_map (view_of t) (waiting_slot e.table waiting t)) (passing 0 65536 (has waiting)) ≡ views_of (state_in e)
-  views-walked =
+  pub views-in_order : filter_map (λ t. option_map (view_of t) (waiting_slot e.table waiting t)) (passing 0 65536 (has waiting)) ≡ views_of (state_in e)
+  views-in_order =
       sym (views_by 65536 (state_in e) (λ t. option_map (view_of t) (waiting_slot e.table waiting t)) (has waiting) (omega arith) zero_waits
       (λ t. view-waiting t ∙ view_twice t (has waiting t) (slot e.table t)))
 
@@ -161,8 +161,8 @@ module _ (e : Engine) (waiting : Numbers) (members : List ℕ) (kept : IsEngine 
 -- ---- The groups that wait
 
 -- a group waits where a waiting task is a member
-pub behind-walked : (e : Engine) (waiting : Numbers) (members : List ℕ) → IsEngine e waiting members → (group : ℕ) → list_any (λ t. is_in group (slot e.table t)) (passing 0 65536 (has waiting)) ≡ waits_in (state_in e) group
-behind-walked e waiting members kept group =
+pub behind-in_order : (e : Engine) (waiting : Numbers) (members : List ℕ) → IsEngine e waiting members → (group : ℕ) → list_any (λ t. is_in group (slot e.table t)) (passing 0 65536 (has waiting)) ≡ waits_in (state_in e) group
+behind-in_order e waiting members kept group =
     let empty = slot-zero e kept.sound in
     same_bool (list_any (λ t. is_in group (slot e.table t)) (passing 0 65536 (has waiting))) (waits_in (state_in e) group)
     (λ h.

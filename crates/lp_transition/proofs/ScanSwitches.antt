@@ -1,4 +1,4 @@
--- Waiting tasks go over with their groups, one after another.
+-- Waiting tasks switch with their groups, one after another.
 use Rattle.std.proofs.Common.{◌≡◌, ◌≢◌, ℕ, ◌<◌, Bool, true, false, not, ◌&&◌, ◌||◌, length, count_by, set, Option, Some, None, if◌then◌else◌, nat_eq, refl, sym, ap, ap₂, ◌∙◌, subst, ⊎_elim, arith}
 use Rattle.std.proofs.lemmas.Bool.{cond-true, cond-false, cases_Bool, cases_eq, eq-eqb, ne_eqb}
 use Rattle.std.proofs.lemmas.List.{length-set, get_or-set_same, get_or-set_other}
@@ -21,8 +21,8 @@ and-false : (b : Bool) → (b && false) ≡ false
 and-false true = refl
 and-false false = refl
 
-moved-group : (switches : ℕ → Bool) (target : ℕ) (x : Standing) → (switched_if switches target x).group ≡ x.group
-moved-group switches target x =
+switched-group : (switches : ℕ → Bool) (target : ℕ) (x : Standing) → (switched_if switches target x).group ≡ x.group
+switched-group switches target x =
     ⊎_elim
     (λ (went : switches x.group ≡ true). ap (λ (y : Standing). y.group) (cond-true (switches x.group) (record x { level = target }) x went))
     (λ (stays : switches x.group ≡ false). ap (λ (y : Standing). y.group) (cond-false (switches x.group) (record x { level = target }) x stays))
@@ -49,7 +49,7 @@ slot_switches : (switches : ℕ → Bool) (target : ℕ) (o : Option Standing) �
 slot_switches switches target None h = absurd (cc)
 slot_switches switches target (Some x) h = ap Some (sym (cond-true (switches x.group) (record x { level = target }) x h))
 
--- a task that goes
+-- a task that switches
 pub task_went : (switches : ℕ → Bool) (target t : ℕ) (table new : Table) (waiting left : Numbers) → IsWide table → t < 65536 → task_switches switches (slot table t) ≡ true → new ≡ changed t (λ x. record x { level = target }) table → left ≡ set waiting t false → length left ≡ 65536
     → IsTaskSwitched switches target t table new waiting left
 task_went switches target t table new waiting left wide h went is out long =
@@ -68,8 +68,8 @@ task_went switches target t table new waiting left wide h went is out long =
 
 -- ---- One task after another
 
-moved-again : (switches : ℕ → Bool) (target : ℕ) (x : Standing) → switched_if switches target (switched_if switches target x) ≡ switched_if switches target x
-moved-again switches target x =
+switched-again : (switches : ℕ → Bool) (target : ℕ) (x : Standing) → switched_if switches target (switched_if switches target x) ≡ switched_if switches target x
+switched-again switches target x =
     ⊎_elim
     (λ (went : switches x.group ≡ true).
     let one = cond-true (switches x.group) (record x { level = target }) x went in
@@ -77,17 +77,17 @@ moved-again switches target x =
     (λ (stays : switches x.group ≡ false). ap (switched_if switches target) (cond-false (switches x.group) (record x { level = target }) x stays))
     (cases_Bool (switches x.group))
 
--- who went over already stays where it is
+-- who switched already stays where it is
 slot_again : (switches : ℕ → Bool) (target : ℕ) (b : Bool) (o : Option Standing) → option_map (switched_if switches target) (if b then option_map (switched_if switches target) o else o) ≡ option_map (switched_if switches target) o
 slot_again switches target false o = refl
 slot_again switches target true None = refl
-slot_again switches target true (Some x) = ap Some (moved-again switches target x)
+slot_again switches target true (Some x) = ap Some (switched-again switches target x)
 
--- who went over is still of its group
+-- who switched is still of its group
 switches_again : (switches : ℕ → Bool) (target : ℕ) (b : Bool) (o : Option Standing) → task_switches switches (if b then option_map (switched_if switches target) o else o) ≡ task_switches switches o
 switches_again switches target false o = refl
 switches_again switches target true None = refl
-switches_again switches target true (Some x) = ap switches (moved-group switches target x)
+switches_again switches target true (Some x) = ap switches (switched-group switches target x)
 
 waits_again : (waits b g : Bool) → ((waits && not (b && g)) && not g) ≡ (waits && not (true && g))
 waits_again false b g = refl
@@ -107,7 +107,7 @@ moving_none switches target table waiting = record {
   members = λ wide group. refl;
 }
 
--- where no group goes, nothing changes
+-- where no group switches, nothing changes
 pub moving_still : (taken : ℕ → Bool) (target : ℕ) (table : Table) (waiting : Numbers) → AreSwitched taken (λ group. false) target table table waiting waiting
 moving_still taken target table waiting = record {
   tasks = λ t. still (taken t) (slot table t);

@@ -38,31 +38,31 @@ fate-map f None true = refl
 fate-map f None false = refl
 fate-map f (Some x) used = refl
 
--- a task on the target is as it was, whether its group goes or not
-moved_on : (switches : ℕ → Bool) (target : ℕ) (x : Standing) → x.level ≡ target → x ≡ switched_if switches target x
-moved_on switches target x e =
+-- a task on the target is as it was, whether its group switches or not
+switched_on : (switches : ℕ → Bool) (target : ℕ) (x : Standing) → x.level ≡ target → x ≡ switched_if switches target x
+switched_on switches target x e =
     ⊎_elim
     (λ (went : switches x.group ≡ true). ap (λ (l : ℕ). let y : Standing = record x { level = l } in y) e ∙ sym (cond-true (switches x.group) (record x { level = target }) x went))
     (λ (stays : switches x.group ≡ false). sym (cond-false (switches x.group) (record x { level = target }) x stays))
     (cases_Bool (switches x.group))
 
 -- who doesn't wait is on the target
-slot_moved : (switches all : ℕ → Bool) (target : ℕ) (b : Bool) (o : Option Standing) → b ≡ is_off target o → ((x : Standing) → o ≡ Some x → switches x.group ≡ all x.group) → (if b then option_map (switched_if switches target) o else o) ≡ option_map (switched_if all target) o
-slot_moved switches all target true None e same = refl
-slot_moved switches all target false None e same = refl
-slot_moved switches all target true (Some x) e same = ap (λ (c : Bool). Some (if c then record x { level = target } else x)) (same x refl)
-slot_moved switches all target false (Some x) e same =
-    ap Some (moved_on all target x (⊎_elim
+slot_switched : (switches all : ℕ → Bool) (target : ℕ) (b : Bool) (o : Option Standing) → b ≡ is_off target o → ((x : Standing) → o ≡ Some x → switches x.group ≡ all x.group) → (if b then option_map (switched_if switches target) o else o) ≡ option_map (switched_if all target) o
+slot_switched switches all target true None e same = refl
+slot_switched switches all target false None e same = refl
+slot_switched switches all target true (Some x) e same = ap (λ (c : Bool). Some (if c then record x { level = target } else x)) (same x refl)
+slot_switched switches all target false (Some x) e same =
+    ap Some (switched_on all target x (⊎_elim
     (λ (on : nat_eq x.level target ≡ true). eqb-true x.level target on)
     (λ (off : nat_eq x.level target ≡ false). let out = not_from_false (nat_eq x.level target) off in absurd (cc))
     (cases_Bool (nat_eq x.level target))))
 
--- who went over waits no longer
-waits_moved : (switches : ℕ → Bool) (target : ℕ) (b : Bool) (o : Option Standing) → b ≡ is_off target o → (b && not (task_switches switches o)) ≡ is_off target (if b then option_map (switched_if switches target) o else o)
-waits_moved switches target true None e = absurd (cc)
-waits_moved switches target false None e = refl
-waits_moved switches target false (Some x) e = e
-waits_moved switches target true (Some x) e =
+-- who switched waits no longer
+waits_switched : (switches : ℕ → Bool) (target : ℕ) (b : Bool) (o : Option Standing) → b ≡ is_off target o → (b && not (task_switches switches o)) ≡ is_off target (if b then option_map (switched_if switches target) o else o)
+waits_switched switches target true None e = absurd (cc)
+waits_switched switches target false None e = refl
+waits_switched switches target false (Some x) e = e
+waits_switched switches target true (Some x) e =
     ⊎_elim
     (λ (went : switches x.group ≡ true).
     ap not went ∙ sym (ap (λ (y : Standing). not (nat_eq y.level target)) (cond-true (switches x.group) (record x { level = target }) x went) ∙ not_from_true (nat_eq target target) (eq-eqb target target refl)))
@@ -72,7 +72,7 @@ waits_moved switches target true (Some x) e =
 
 -- ---- All that wait
 
--- each waiting task went over with its group, and waits no longer
+-- each waiting task switched with its group, and waits no longer
 record Went (switches : ℕ → Bool) (target : ℕ) (old new : Table) (waiting left : Numbers) : Type 0 where
   tasks : (t : ℕ) → slot new t ≡ (if has waiting t then option_map (switched_if switches target) (slot old t) else slot old t)
   waits : (t : ℕ) → has left t ≡ (has waiting t && not (task_switches switches (slot old t)))
@@ -93,15 +93,15 @@ waits_taken false false went switched_groups = refl
 waits_taken false true false switched_groups = refl
 waits_taken false true true switched_groups = absurd (false≢true (switched_groups refl refl))
 
--- where all that wait and go were taken, and nobody who doesn't wait
+-- where all that wait and switch were taken, and nobody who doesn't wait
 went_all : (taken switches : ℕ → Bool) (target : ℕ) (old new : Table) (waiting left : Numbers) → IsWide old → AreSwitched taken switches target old new waiting left → ((t : ℕ) → taken t ≡ true → has waiting t ≡ true) → ((t : ℕ) → has waiting t ≡ true → task_switches switches (slot old t) ≡ true → taken t ≡ true) → Went switches target old new waiting left
-went_all taken switches target old new waiting left wide moves waits switched_groups = record {
-  tasks = λ t. moves.tasks t ∙ slot_taken switches target (taken t) (has waiting t) (slot old t) (waits t) (switched_groups t);
-  waits = λ t. moves.waits t ∙ waits_taken (taken t) (has waiting t) (task_switches switches (slot old t)) (switched_groups t);
-  numbers = moves.numbers;
-  used = moves.used;
-  wide = moves.wide wide;
-  members = moves.members wide;
+went_all taken switches target old new waiting left wide are_switched waits switched_groups = record {
+  tasks = λ t. are_switched.tasks t ∙ slot_taken switches target (taken t) (has waiting t) (slot old t) (waits t) (switched_groups t);
+  waits = λ t. are_switched.waits t ∙ waits_taken (taken t) (has waiting t) (task_switches switches (slot old t)) (switched_groups t);
+  numbers = are_switched.numbers;
+  used = are_switched.used;
+  wide = are_switched.wide wide;
+  members = are_switched.members wide;
 }
 
 -- a waiting task is live and off the target
@@ -129,26 +129,26 @@ group_fits e t x sound wide there =
     (sound.grouped t x (live_from_slot e.table t x there))
 
 module _ (model : Rules) (lawful : IsLawful model) where
-  -- the set is that of the groups that go over
+  -- the set is that of the groups that switch
   over_is : (now : State) (event : Event) (switching : Option Numbers) (groups : List ℕ) → suc now.bounds.tasks ≡ 65536 → groups ≡ switched_groups model now event → ((g : ℕ) → g < 65536 → is_switching switching g ≡ list_any (nat_eq g) groups) → (g : ℕ) → g < 65536 → is_switching switching g ≡ switches_at model now event g
   over_is now event switching groups wide e same g h =
       same g h ∙ ap (list_any (nat_eq g)) (e ∙ switching_by model 65536 now event (switches_at model now event) wide (λ group. refl)) ∙ passing-any 65536 (switches_at model now event) g h
 
-  -- the tasks after the groups went over
-  standings_moved : (e : Engine) (waiting left : Numbers) (members : List ℕ) (table : Table) (switches all : ℕ → Bool) → IsEngine e waiting members → Went switches e.target e.table table waiting left → ((g : ℕ) → g < 65536 → switches g ≡ all g) → standings table ≡ (λ t. map_live (switched_if all e.target) (standings e.table t))
-  standings_moved e waiting left members table switches all kept went same =
+  -- the tasks after the groups switched
+  standings_switched : (e : Engine) (waiting left : Numbers) (members : List ℕ) (table : Table) (switches all : ℕ → Bool) → IsEngine e waiting members → Went switches e.target e.table table waiting left → ((g : ℕ) → g < 65536 → switches g ≡ all g) → standings table ≡ (λ t. map_live (switched_if all e.target) (standings e.table t))
+  standings_switched e waiting left members table switches all kept went same =
       fun_ext (λ t.
       ap₂ fate_at
-      (went.tasks t ∙ slot_moved switches all e.target (has waiting t) (slot e.table t) (kept.waits t) (λ x there. same x.group (group_fits e t x kept.sound kept.wide there)))
+      (went.tasks t ∙ slot_switched switches all e.target (has waiting t) (slot e.table t) (kept.waits t) (λ x there. same x.group (group_fits e t x kept.sound kept.wide there)))
       (ap (λ set. has set t) went.used)
       ∙ fate-map (switched_if all e.target) (slot e.table t) (has e.table.used t))
 
-  kept_moved : (e : Engine) (waiting left : Numbers) (members : List ℕ) (table : Table) (switches : ℕ → Bool) → IsEngine e waiting members → Went switches e.target e.table table waiting left → e.number < 1000000 → IsSound (state_in (with_table table e)) → IsEngine (with_table table e) left members
-  kept_moved e waiting left members table switches kept went room sound = record {
+  kept_switched : (e : Engine) (waiting left : Numbers) (members : List ℕ) (table : Table) (switches : ℕ → Bool) → IsEngine e waiting members → Went switches e.target e.table table waiting left → e.number < 1000000 → IsSound (state_in (with_table table e)) → IsEngine (with_table table e) left members
+  kept_switched e waiting left members table switches kept went room sound = record {
     sound = sound;
     wide = went.wide;
     waiting_wide = went.numbers ∙ kept.waiting_wide;
-    waits = λ t. went.waits t ∙ waits_moved switches e.target (has waiting t) (slot e.table t) (kept.waits t) ∙ ap (is_off e.target) (sym (went.tasks t));
+    waits = λ t. went.waits t ∙ waits_switched switches e.target (has waiting t) (slot e.table t) (kept.waits t) ∙ ap (is_off e.target) (sym (went.tasks t));
     groups = kept.groups;
     counted = λ group within. kept.counted group within ∙ sym (went.members group);
     from_fits = kept.from_fits;
@@ -156,11 +156,11 @@ module _ (model : Rules) (lawful : IsLawful model) where
     number_fits = omega arith;
   }
 
-  -- an event after which the groups of a set went over
+  -- an event after which the groups of a set switched
   switches_there : (e : Engine) (waiting left : Numbers) (members : List ℕ) (table : Table) (switching : Option Numbers) (event : Event) → IsEngine e waiting members → e.number < 1000000 → Went (is_switching switching) e.target e.table table waiting left
       → state_in (with_table table e) ≡ next model (state_in e) event → HasTaken model e event (with_table table e) left members
   switches_there e waiting left members table switching event kept room went state = record {
-    kept = kept_moved e waiting left members table (is_switching switching) kept went room (sound_next model lawful e (with_table table e) event kept.sound state);
+    kept = kept_switched e waiting left members table (is_switching switching) kept went room (sound_next model lawful e (with_table table e) event kept.sound state);
     state = state;
   }
 
@@ -180,22 +180,22 @@ module _ (model : Rules) (lawful : IsLawful model) where
   unfolding refusal_of
   accepted_stop s = refl
 
-  module _ (e : Engine) (waiting left : Numbers) (members : List ℕ) (table : Table) (switching : Option Numbers) (vs : List Verdict) (kept : IsEngine e waiting members) (room : e.number < 1000000) (moves : AreSwitched (is_judged vs) (is_switching switching) e.target e.table table waiting left) where
+  module _ (e : Engine) (waiting left : Numbers) (members : List ℕ) (table : Table) (switching : Option Numbers) (vs : List Verdict) (kept : IsEngine e waiting members) (room : e.number < 1000000) (are_switched : AreSwitched (is_judged vs) (is_switching switching) e.target e.table table waiting left) where
     there : (t : ℕ) (x : Standing) → standings e.table t ≡ Live x → slot e.table t ≡ Some x
     there t x live = slot_from_live e.table t x live
 
-    -- who was taken waits, and who waits and goes was taken
+    -- who was taken waits, and who waits and switches was taken
     went_by : (kind : CheckKind) → AreEnough model kind (state_in e) vs → ((g : ℕ) → g < 65536 → is_switching switching g ≡ switches_by e.table (verdicts_of model kind (state_in e)) g) → Went (is_switching switching) e.target e.table table waiting left
     went_by kind enough switches =
-        went_all (is_judged vs) (is_switching switching) e.target e.table table waiting left kept.wide moves
+        went_all (is_judged vs) (is_switching switching) e.target e.table table waiting left kept.wide are_switched
         (λ t taken.
         let j = judged-waits model lawful kind (state_in e) kept.sound vs enough t taken in
         kept.waits t ∙ ap (is_off e.target) (there t j.0 j.1) ∙ not_from_false (nat_eq j.0.level e.target) j.2)
         (λ t waits went.
         let w = off_target e t (slot e.table t) refl (sym (kept.waits t) ∙ waits) in
-        let group_goes = sym (ap (task_switches (is_switching switching)) w.there) ∙ went in
+        let group_switches = sym (ap (task_switches (is_switching switching)) w.there) ∙ went in
         switches-judged model lawful kind (state_in e) kept.sound vs enough e.table there t w.task (live_from_slot e.table t w.task w.there) w.off
-        (sym (switches w.task.group (group_fits e t w.task kept.sound kept.wide w.there)) ∙ group_goes))
+        (sym (switches w.task.group (group_fits e t w.task kept.sound kept.wide w.there)) ∙ group_switches))
 
     takes_walk : AreEnough model Check.Walk (state_in e) vs → ((g : ℕ) → g < 65536 → is_switching switching g ≡ list_any (nat_eq g) (groups_of (answer model (state_in e) Walk).what)) → HasTaken model e Walk (with_table table e) left members
     takes_walk enough same =
@@ -204,7 +204,7 @@ module _ (model : Rules) (lawful : IsLawful model) where
         let switches = over_is now Walk switching (groups_of (answer model s Walk).what) (omega arith) (walk_listed s) same in
         let went = went_by Check.Walk enough (λ g h. switches g h ∙ switches-walk model lawful 65536 s (omega arith) kept.sound e.table there g) in
         switches_there e waiting left members table switching Walk kept room went
-        (state-with_table e table (λ t. map_live (switched_if (switches_at model now Walk) e.target) (standings e.table t)) (standings_moved e waiting left members table (is_switching switching) (switches_at model now Walk) kept went switches)
+        (state-with_table e table (λ t. map_live (switched_if (switches_at model now Walk) e.target) (standings e.table t)) (standings_switched e waiting left members table (is_switching switching) (switches_at model now Walk) kept went switches)
         ∙ sym (next-accepted model s Walk (accepted s) refl))
 
     takes_stop : AreEnough model Check.Stop (state_in e) vs → ((g : ℕ) → g < 65536 → is_switching switching g ≡ list_any (nat_eq g) (groups_of (answer model (state_in e) Stop).what)) → HasTaken model e Stop (with_table table e) left members
@@ -214,7 +214,7 @@ module _ (model : Rules) (lawful : IsLawful model) where
         let switches = over_is now Stop switching (groups_of (answer model s Stop).what) (omega arith) (stop_listed s) same in
         let went = went_by Check.Stop enough (λ g h. switches g h ∙ switches-stop model lawful 65536 s (omega arith) kept.sound e.table there g) in
         switches_there e waiting left members table switching Stop kept room went
-        (state-with_table e table (λ t. map_live (switched_if (switches_at model now Stop) e.target) (standings e.table t)) (standings_moved e waiting left members table (is_switching switching) (switches_at model now Stop) kept went switches)
+        (state-with_table e table (λ t. map_live (switched_if (switches_at model now Stop) e.target) (standings e.table t)) (standings_switched e waiting left members table (is_switching switching) (switches_at model now Stop) kept went switches)
         ∙ sym (next-accepted model s Stop (accepted_stop s) refl))
 
     takes_event : (event : Event) → is_scan event ≡ true → AreVerdictsFor model (state_in e) event vs → ((g : ℕ) → g < 65536 → is_switching switching g ≡ list_any (nat_eq g) (groups_of (answer model (state_in e) event).what)) → HasTaken model e event (with_table table e) left members
@@ -236,8 +236,8 @@ module _ (model : Rules) (lawful : IsLawful model) where
   -- a scan that was weighed on the engine that code holds
   pub takes_scan : (e old : Engine) (table : Table) (waiting left : Numbers) (members : List ℕ) (step : Weighed) (switching : Option Numbers) → e ≡ old → IsEngine e waiting members → IsWeighed model old step → is_scan step.event ≡ true → HasSwitching step.event step.reply.what switching → AreSwitched (is_judged step.verdicts) (is_switching switching) e.target e.table table waiting left
       → HasTaken model old step.event (with_table table e) left members
-  takes_scan e old table waiting left members step switching was kept weighed scan listed moves =
+  takes_scan e old table waiting left members step switching was kept weighed scan listed are_switched =
       let here : IsWeighed model e step = subst (λ (o : Engine). IsWeighed model o step) (sym was) weighed in
       subst (λ (o : Engine). HasTaken model o step.event (with_table table e) left members) was
-      (takes_event e waiting left members table switching step.verdicts kept here.room moves step.event scan here.verdicts
+      (takes_event e waiting left members table switching step.verdicts kept here.room are_switched step.event scan here.verdicts
       (λ g h. listed scan g h ∙ ap (λ r. list_any (nat_eq g) (groups_of r.what)) here.reply))

@@ -30,7 +30,7 @@ pub slots_of-change : (boxes : List (Option (Box Standing))) (i : ℕ) (old new 
 slots_of-change boxes i old new f h e is =
     slots_of-set boxes i new ∙ ap (set (slots_of boxes) i) (is ∙ ap (option_map f) (sym (slot-boxed boxes i old h e)))
 
--- ---- What holds of a table lasts
+-- ---- What holds of a table still holds after a change
 
 is_some-map : (f : Standing → Standing) (o : Option Standing) → is_some (option_map f o) ≡ is_some o
 is_some-map f None = refl

@@ -33,7 +33,7 @@ shows_unused f (Live x) e = absurd (cc)
 shows_unused f Dead e = absurd (cc)
 
 module _ (model : Rules) (leg : Leg) (lawful : IsLawful model) (sound : IsSound leg.opening) (schedule : Schedule) (is_legal : IsLegal model leg schedule) where
-  -- members of one group come from one level, as long as it hasn't gone over
+  -- members of one group come from one level, as long as it hasn't switched
   pair : (k group t u : ℕ) (x y : Life) → has_come (schedule group) k ≡ false → ((t2 u2 : ℕ) (x2 y2 : Life) → after model leg k t2 ≡ Live x2 → after model leg k u2 ≡ Live y2 → x2.group ≡ group → y2.group ≡ group → level_before leg.target schedule x2.origin ≡ level_before leg.target schedule y2.origin) → after model leg (suc k) t ≡ Live x → after model leg (suc k) u ≡ Live y → y.group ≡ group → Descends model leg k group t x → Descends model leg k group u y → level_before leg.target schedule x.origin ≡ level_before leg.target schedule y.origin
   pair k group t u x y still before live_x live_y in_y (FromMember t2 x2 was is same) (FromMember u2 y2 was2 is2 same2) =
       same schedule still ∙ (before t2 u2 x2 y2 was was2 is is2 ∙ sym (same2 schedule still))

@@ -53,7 +53,7 @@ module _ (model : Rules) where
     pub next_keeps_sound : (s : State) (event : Event) → IsSound s → IsSound (next model s event)
     next_keeps_sound s event sound =
         let leg = opening_at s in
-        let same = ap (λ st. next model st event) (sym (opens_there s)) ∙ (does model leg event lawful sound).goes_on in
+        let same = ap (λ st. next model st event) (sym (opens_there s)) ∙ (does model leg event lawful sound).next_state in
         subst IsSound (sym same) (state_sound (next_leg model leg event) (next_sound model lawful leg event sound))
 
     -- the replies from here on are those of a leg that opens here

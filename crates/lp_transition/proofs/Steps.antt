@@ -20,7 +20,7 @@ use Rattle.lp_transition.specs.Machine.{Standings, view_of, own_effect, complete
 use Rattle.lp_transition.proofs.Quantifiers.{some_live-map, each_live-map}
 use Rattle.lp_transition.proofs.Plain.{IsFrom, from_later, come_from, made_before}
 use Rattle.lp_transition.proofs.Waiting.{level_before, level_gone, level_still, come_later, comes_now, come_at}
-use Rattle.lp_transition.proofs.First.{Agree, agree_back, level_agrees, view_agrees, so_far, switches, switches_now, switches_not, agree_next, moved, first_check_is}
+use Rattle.lp_transition.proofs.First.{Agree, agree_back, level_agrees, view_agrees, so_far, switches, switches_now, switches_not, agree_next, has_switched, first_check_is}
 use Rattle.lp_transition.proofs.Prefix.{after_same, waits_same, first_checks_same}
 use Rattle.lp_transition.proofs.OneVersion.{frames_kept}
 use Rattle.lp_transition.proofs.Cut.{outlines_same, effect_same, checked_same}
@@ -28,7 +28,7 @@ use Rattle.lp_transition.specs.Events.{is_control}
 
 -- ---- One more event of the first-check schedule
 
--- a task that goes over, or doesn't
+-- a task that switches, or doesn't
 abbrev lifted : ℕ → Bool → Standing → Standing
 lifted target b x = if b then record x { level = target } else x
 
@@ -40,7 +40,7 @@ module _ (model : Rules) (leg : Leg) (n : ℕ) where
   not_yet : (group : ℕ) → has_come (so_far model leg n group) n ≡ false → has_come (so_far model leg n group) (suc n) ≡ false
   not_yet group still =
       false_from_ne_true _ (λ come.
-      let m = moved model leg n group (suc n) (comes_now (so_far model leg n group) n still come) in
+      let m = has_switched model leg n group (suc n) (comes_now (so_far model leg n group) n still come) in
       absurd (omega (arith, m.is, m.early)))
 
   level_next : (x : Life) → IsFrom (suc n) x.origin → level leg (so_far model leg (suc n)) (suc n) x ≡ (if switches model leg n x.group then leg.target else level leg (so_far model leg n) n x)
@@ -80,7 +80,7 @@ module _ (model : Rules) (leg : Leg) (n : ℕ) where
   fate_next t (Live x) e = ap Live (standing_next t x e)
   fate_next t Dead e = refl
 
-  -- a group's moment is the present one if it goes over now
+  -- a group's moment is the present one if it switches now
   is_at_next : (group : ℕ) → is_at (suc n) (so_far model leg (suc n) group) ≡ switches model leg n group
   is_at_next group =
       ⊎_elim
@@ -90,11 +90,11 @@ module _ (model : Rules) (leg : Leg) (n : ℕ) where
     where
       not_at : (m : Option ℕ) → so_far model leg n group ≡ m → is_at (suc n) m ≡ false
       not_at None e = refl
-      not_at (Some i) e = let m = moved model leg n group i e in ne_eqb i (suc n) (λ same. omega (arith, m.is, m.early))
+      not_at (Some i) e = let m = has_switched model leg n group i e in ne_eqb i (suc n) (λ same. omega (arith, m.is, m.early))
 
-  no_check_no_move : (group : ℕ) → check model leg n group ≡ None → switches model leg n group ≡ false
+  no_check_no_switch : (group : ℕ) → check model leg n group ≡ None → switches model leg n group ≡ false
   unfolding allowed
-  no_check_no_move group e =
+  no_check_no_switch group e =
       ap (λ o. waits model leg (so_far model leg n) n group && admits_each model leg (so_far model leg n) o (after model leg (suc n)) group) e ∙ and-false (waits model leg (so_far model leg n) n group)
 
 -- ---- Small facts
@@ -161,9 +161,9 @@ module _ (model : Rules) (leg : Leg) (event : Event) where
   unfolding check
   check_is group = ap (λ o. if_used model.uses (check_by leg.bounds (outlines (after model longer (suc k))) o group)) accepted_is
 
-  goes_is : (group : ℕ) → switches model longer k group ≡ (waits model leg s k group && admits_each model longer s (check model longer k group) (after model longer (suc k)) group)
+  switches_is : (group : ℕ) → switches model longer k group ≡ (waits model leg s k group && admits_each model longer s (check model longer k group) (after model longer (suc k)) group)
   unfolding allowed
-  goes_is group =
+  switches_is group =
       ap (λ r. waits model longer r k group && allowed model longer r k group) (first_checks_same model leg event k (omega arith)) ∙ ap (λ w. w && allowed model longer s k group) (waits_same model leg event s k group (omega arith))
 
   -- the tasks after the event's own effect, with the levels before it
@@ -176,27 +176,27 @@ module _ (model : Rules) (leg : Leg) (event : Event) where
       fun_ext (λ t.
       ap (λ n. map_live (standing longer (first_checks model longer n) n) (after model longer n t)) long ∙ (fate_next model longer k t (after model longer (suc k) t) refl ∙ ap (λ r. map_live (λ y. lifted leg.target (switches model longer k y.group) y) (map_live (standing longer r k) (after model longer (suc k) t))) (first_checks_same model leg event k (omega arith))))
 
-  movers_is : switched_at longer (first_check model longer) (suc k) ≡ filter (switches model longer k) (range_with_len 0 (suc leg.bounds.tasks))
-  movers_is =
+  switched_is : switched_at longer (first_check model longer) (suc k) ≡ filter (switches model longer k) (range_with_len 0 (suc leg.bounds.tasks))
+  switched_is =
       ap (λ test. filter test (range_with_len 0 (suc leg.bounds.tasks))) (fun_ext (λ group. ap (λ n. is_at (suc k) (first_checks model longer n group)) long ∙ is_at_next model longer k group))
 
-  -- ---- At rest, and refused
+  -- ---- Complete, and refused
 
-  rest_is : complete_in (state_of model leg) ≡ is_complete_now model leg
+  complete_is : complete_in (state_of model leg) ≡ is_complete_now model leg
   unfolding is_complete_now shown complete
-  rest_is = each_live-map leg.bounds (standing leg s k) now (λ t y. nat_eq y.level leg.target)
+  complete_is = each_live-map leg.bounds (standing leg s k) now (λ t y. nat_eq y.level leg.target)
 
   pub refusal_is : refusal_of model (state_of model leg) event ≡ refused_by model leg event
   unfolding refusal_of refused_by shown
   refusal_is =
-      ap₂ (λ seen tests_of_control. first_of (tests leg.bounds seen event ++ tests_of_control)) (outlines_same leg s k now) (ap (λ b. control_tests (state_of model leg) b event) rest_is ∙ control_tests_same (state_of model leg) leg.opening (is_complete_now model leg) event refl)
+      ap₂ (λ seen tests_of_control. first_of (tests leg.bounds seen event ++ tests_of_control)) (outlines_same leg s k now) (ap (λ b. control_tests (state_of model leg) b event) complete_is ∙ control_tests_same (state_of model leg) leg.opening (is_complete_now model leg) event refl)
 
   pub plain_refusal : is_control event ≡ false → refused_by model leg event ≡ refusal leg.bounds now event
   unfolding refused_by refusal
   plain_refusal e =
       ap (λ more. first_of (tests leg.bounds (outlines now) event ++ more)) (no_control_tests leg.opening (is_complete_now model leg) event e) ∙ ap first_of (append-nil (tests leg.bounds (outlines now) event))
 
-  -- ---- Nobody goes over at a refused event and at a control event
+  -- ---- Nobody switches at a refused event and at a control event
 
   refused_quiet : (why : Refusal) (group : ℕ) → refused_by model leg event ≡ Some why → IsQuiet model k now (outlines (after model longer (suc k))) told_event group leg.bounds
   refused_quiet why group e =
@@ -209,10 +209,10 @@ module _ (model : Rules) (leg : Leg) (event : Event) where
 
   module _ (quiet : (group : ℕ) → IsQuiet model k now (outlines (after model longer (suc k))) told_event group leg.bounds) where
     quiet_switches : (group : ℕ) → switches model longer k group ≡ false
-    quiet_switches group = no_check_no_move model longer k group (check_is group ∙ (quiet group).unchecked)
+    quiet_switches group = no_check_no_switch model longer k group (check_is group ∙ (quiet group).unchecked)
 
-    quiet_movers : switched_at longer (first_check model longer) (suc k) ≡ []
-    quiet_movers = movers_is ∙ filter_none (switches model longer k) (range_with_len 0 (suc leg.bounds.tasks)) quiet_switches
+    quiet_switched : switched_at longer (first_check model longer) (suc k) ≡ []
+    quiet_switched = switched_is ∙ filter_none (switches model longer k) (range_with_len 0 (suc leg.bounds.tasks)) quiet_switches
 
     map_same_live : (f : Standing → Standing) → ((y : Standing) → f y ≡ y) → (fate : Fate Standing) → map_live f fate ≡ fate
     map_same_live f same Unused = refl
@@ -257,10 +257,10 @@ module _ (model : Rules) (leg : Leg) (event : Event) where
     check_ok : (group : ℕ) → check model longer k group ≡ kind_of (outlines later) group
     check_ok group = check_is group ∙ ap (λ o. if_used model.uses (check_by leg.bounds (outlines later) o group)) told_ok
 
-    goes_mid : (group : ℕ) → switches_at model (with_tasks mid) event group ≡ switches model longer k group
+    switches_mid : (group : ℕ) → switches_at model (with_tasks mid) event group ≡ switches model longer k group
     unfolding switches_at waits
-    goes_mid group =
-        ap₂ (λ w seen. w && admits_all model (with_tasks mid) (kind_of seen group) group) (some_live-map leg.bounds (standing leg s k) later (λ t y. nat_eq y.group group && not (nat_eq y.level leg.target))) (outlines_same leg s k later) ∙ (ap (λ ts. some_live leg.bounds ts (behind group) && admits_all model (with_tasks mid) (kind_of (outlines later) group) group) after_ok ∙ (checked_same model.child_group k leg.bounds now (behind group) (λ t mode x. refl) (λ o. admits_all model (with_tasks mid) o group) refl model.uses (outlines later) group event ∙ (ap (λ b. some_live leg.bounds now (behind group) && b) (admits_same (kind_of (outlines later) group) group ∙ ap (λ o. admits_each model longer s o later group) (sym (check_ok group))) ∙ sym (goes_is group))))
+    switches_mid group =
+        ap₂ (λ w seen. w && admits_all model (with_tasks mid) (kind_of seen group) group) (some_live-map leg.bounds (standing leg s k) later (λ t y. nat_eq y.group group && not (nat_eq y.level leg.target))) (outlines_same leg s k later) ∙ (ap (λ ts. some_live leg.bounds ts (behind group) && admits_all model (with_tasks mid) (kind_of (outlines later) group) group) after_ok ∙ (checked_same model.child_group k leg.bounds now (behind group) (λ t mode x. refl) (λ o. admits_all model (with_tasks mid) o group) refl model.uses (outlines later) group event ∙ (ap (λ b. some_live leg.bounds now (behind group) && b) (admits_same (kind_of (outlines later) group) group ∙ ap (λ o. admits_each model longer s o later group) (sym (check_ok group))) ∙ sym (switches_is group))))
 
     tasks_mid : own_effect model.child_group (suc (leg.number + k)) event (shown model leg) ≡ mid
     unfolding shown
@@ -270,14 +270,14 @@ module _ (model : Rules) (leg : Leg) (event : Event) where
     affected_is : affected model (state_of model leg) event ≡ with_tasks mid
     affected_is = ap with_tasks tasks_mid
 
-    going_is : switched_groups model (affected model (state_of model leg) event) event ≡ switched_at longer (first_check model longer) (suc k)
+    groups_is : switched_groups model (affected model (state_of model leg) event) event ≡ switched_at longer (first_check model longer) (suc k)
     unfolding switched_groups
-    going_is =
-        ap (λ st. switched_groups model st event) affected_is ∙ (ap (λ test. filter test (range_with_len 0 (suc leg.bounds.tasks))) (fun_ext goes_mid) ∙ sym movers_is)
+    groups_is =
+        ap (λ st. switched_groups model st event) affected_is ∙ (ap (λ test. filter test (range_with_len 0 (suc leg.bounds.tasks))) (fun_ext switches_mid) ∙ sym switched_is)
 
     switched_state : with_switches model (state_of model leg) event ≡ state_of model longer
     switched_state =
-        ap {A = State} {B = State} (λ st. record st { tasks = λ t. map_live (switched_task model st event) (st.tasks t) }) affected_is ∙ ap₂ (λ n ts. record { number = n; bounds = leg.bounds; from = leg.from; aim = leg.aim; tasks = ts }) (omega (arith, long)) (ap {B = Standings} (λ (g : ℕ → Bool). λ t. map_live (λ y. lifted leg.target (g y.group) y) (mid t)) (fun_ext goes_mid) ∙ sym shown_longer)
+        ap {A = State} {B = State} (λ st. record st { tasks = λ t. map_live (switched_task model st event) (st.tasks t) }) affected_is ∙ ap₂ (λ n ts. record { number = n; bounds = leg.bounds; from = leg.from; aim = leg.aim; tasks = ts }) (omega (arith, long)) (ap {B = Standings} (λ (g : ℕ → Bool). λ t. map_live (λ y. lifted leg.target (g y.group) y) (mid t)) (fun_ext switches_mid) ∙ sym shown_longer)
 
 -- ---- A leg that opens
 
@@ -309,7 +309,7 @@ module _ (model : Rules) where
 -- the machine answers as the definitions do, and goes to the state that they give
 pub record Does (model : Rules) (leg : Leg) (event : Event) : Type 0 where
   pub answers : answer model (state_of model leg) event ≡ reply model leg event
-  pub goes_on : next model (state_of model leg) event ≡ state_of model (next_leg model leg event)
+  pub next_state : next model (state_of model leg) event ≡ state_of model (next_leg model leg event)
 
 and_true : (b : Bool) → (b && true) ≡ b
 and_true true = refl
@@ -352,10 +352,10 @@ module _ (model : Rules) (leg : Leg) (event : Event) where
       let quiet = λ (group : ℕ). refused_quiet model leg event why group e in
       let o : opens model leg event ≡ false = ap (λ r. is_control event && is_none r) e ∙ and-false (is_control event) in
       let same = quiet_state model leg event quiet in
-      let settled : is_complete_now model (and_then leg event) ≡ is_complete_now model leg = sym (rest_is model (and_then leg event) event) ∙ (ap complete_in (sym same) ∙ rest_is model leg event) in
+      let same_complete : is_complete_now model (and_then leg event) ≡ is_complete_now model leg = sym (complete_is model (and_then leg event) event) ∙ (ap complete_in (sym same) ∙ complete_is model leg event) in
       record {
-        answers = answer_is (Some why) e ∙ (ap (λ b. record { what = Refused why; completed = b }) (sym (ap (λ b. b && not (is_complete_now model leg)) settled ∙ and-not_self (is_complete_now model leg))) ∙ sym (reply_is (Some why) false e o));
-        goes_on = next_is (Some why) e ∙ (same ∙ ap (state_of model) (sym (next_leg_is false o)));
+        answers = answer_is (Some why) e ∙ (ap (λ b. record { what = Refused why; completed = b }) (sym (ap (λ b. b && not (is_complete_now model leg)) same_complete ∙ and-not_self (is_complete_now model leg))) ∙ sym (reply_is (Some why) false e o));
+        next_state = next_is (Some why) e ∙ (same ∙ ap (state_of model) (sym (next_leg_is false o)));
       }
 
   control_does : refused_by model leg event ≡ None → is_control event ≡ true → Does model leg event
@@ -363,10 +363,10 @@ module _ (model : Rules) (leg : Leg) (event : Event) where
       let quiet = λ (group : ℕ). control_quiet model (length leg.events) (after model leg (length leg.events)) (outlines (after model (and_then leg event) (suc (length leg.events)))) event group leg.bounds control in
       let o : opens model leg event ≡ true = ap₂ (λ c r. c && is_none r) control e in
       let same = turned_state model leg event in
-      let settled : complete_in (turned model st event) ≡ is_complete_now model (opened model leg event) = ap complete_in same ∙ rest_is model (opened model leg event) event in
+      let same_complete : complete_in (turned model st event) ≡ is_complete_now model (opened model leg event) = ap complete_in same ∙ complete_is model (opened model leg event) event in
       record {
-        answers = answer_is None e ∙ (cond-true _ _ _ control ∙ (ap₂ (λ w b. record { what = w; completed = b }) (sym (control_done model leg event control (quiet_movers model leg event quiet))) (settled ∙ sym (and_true (is_complete_now model (opened model leg event)))) ∙ sym (reply_is None true e o)));
-        goes_on = next_is None e ∙ (cond-true _ _ _ control ∙ (same ∙ ap (state_of model) (sym (next_leg_is true o))));
+        answers = answer_is None e ∙ (cond-true _ _ _ control ∙ (ap₂ (λ w b. record { what = w; completed = b }) (sym (control_done model leg event control (quiet_switched model leg event quiet))) (same_complete ∙ sym (and_true (is_complete_now model (opened model leg event)))) ∙ sym (reply_is None true e o)));
+        next_state = next_is None e ∙ (cond-true _ _ _ control ∙ (same ∙ ap (state_of model) (sym (next_leg_is true o))));
       }
 
   plain_does : IsLawful model → IsSound leg.opening → refused_by model leg event ≡ None → is_control event ≡ false → Does model leg event
@@ -374,10 +374,10 @@ module _ (model : Rules) (leg : Leg) (event : Event) where
       let ok = sym (plain_refusal model leg event plain) ∙ e in
       let o : opens model leg event ≡ false = ap (λ c. c && is_none (refused_by model leg event)) plain in
       let same = switched_state model leg event lawful sound ok in
-      let settled : complete_in (with_switches model st event) ≡ is_complete_now model (and_then leg event) = ap complete_in same ∙ rest_is model (and_then leg event) event in
+      let same_complete : complete_in (with_switches model st event) ≡ is_complete_now model (and_then leg event) = ap complete_in same ∙ complete_is model (and_then leg event) event in
       record {
-        answers = answer_is None e ∙ (cond-false _ _ _ plain ∙ (ap₂ (λ w b. record { what = w; completed = b }) (told_same model leg event (going_is model leg event lawful sound ok)) (ap₂ (λ a b. a && not b) settled (rest_is model leg event)) ∙ sym (reply_is None false e o)));
-        goes_on = next_is None e ∙ (cond-false _ _ _ plain ∙ (same ∙ ap (state_of model) (sym (next_leg_is false o))));
+        answers = answer_is None e ∙ (cond-false _ _ _ plain ∙ (ap₂ (λ w b. record { what = w; completed = b }) (told_same model leg event (groups_is model leg event lawful sound ok)) (ap₂ (λ a b. a && not b) same_complete (complete_is model leg event)) ∙ sym (reply_is None false e o)));
+        next_state = next_is None e ∙ (cond-false _ _ _ plain ∙ (same ∙ ap (state_of model) (sym (next_leg_is false o))));
       }
 
   pub does : IsLawful model → IsSound leg.opening → Does model leg event

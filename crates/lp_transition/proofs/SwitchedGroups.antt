@@ -1,4 +1,4 @@
--- The groups that an event of one task takes over.
+-- The groups that an event of one task switches.
 use Rattle.std.proofs.Common.{◌≡◌, ◌≢◌, ◌<◌, ◌≤◌, ◌+◌, ℕ, zero, suc, Bool, true, false, List, [], ◌∷◌, refl, sym, ap, ◌∙◌, subst, ⊎_elim, arith}
 use Rattle.std.proofs.lemmas.Bool.{cases_eq, cond-true, cond-false}
 use Rattle.std.specs.List.{filter, range_with_len}
@@ -24,12 +24,12 @@ one_of p g (suc k) a low high there h =
     (cases_eq a g)
 
 module _ (model : Rules) (s : State) (event : Event) where
-  -- no group goes over
-  pub going-none : ((group : ℕ) → switches_at model s event group ≡ false) → switched_groups model s event ≡ []
+  -- no group switches
+  pub switched-none : ((group : ℕ) → switches_at model s event group ≡ false) → switched_groups model s event ≡ []
   unfolding switched_groups
-  going-none h = none_of (switches_at model s event) (range_with_len 0 (suc s.bounds.tasks)) h
+  switched-none h = none_of (switches_at model s event) (range_with_len 0 (suc s.bounds.tasks)) h
 
-  -- one group goes over
-  pub going-one : (group : ℕ) → group < suc s.bounds.tasks → switches_at model s event group ≡ true → ((n : ℕ) → n ≢ group → switches_at model s event n ≡ false) → switched_groups model s event ≡ group ∷ []
+  -- one group switches
+  pub switched-one-group : (group : ℕ) → group < suc s.bounds.tasks → switches_at model s event group ≡ true → ((n : ℕ) → n ≢ group → switches_at model s event n ≡ false) → switched_groups model s event ≡ group ∷ []
   unfolding switched_groups
-  going-one group within there h = one_of (switches_at model s event) group (suc s.bounds.tasks) 0 (omega arith) (omega arith) there h
+  switched-one-group group within there h = one_of (switches_at model s event) group (suc s.bounds.tasks) 0 (omega arith) (omega arith) there h

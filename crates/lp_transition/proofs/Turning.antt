@@ -50,8 +50,8 @@ module _ (model : Rules) where
       → IsTrue all ↔ ((t : ℕ) → is_off level (slot e.table t) ≡ false) → record { what = Done; completed = all } ≡ answer model (state_in old) event
   answer-turned e old waiting members event level all was kept accepted control switches tells =
       let at : level ≡ new_target (state_in e) event = subst (λ o. level ≡ new_target (state_in o) event) (sym was) switches in
-      let rests = on_level e waiting members kept level in
-      let same : all ≡ each_live (bounds_of e.patches) (standings e.table) (λ t x. nat_eq x.level level) = one_answer all (each_live (bounds_of e.patches) (standings e.table) (λ t x. nat_eq x.level level)) tells (rests.1, rests.0) in
+      let on_target = on_level e waiting members kept level in
+      let same : all ≡ each_live (bounds_of e.patches) (standings e.table) (λ t x. nat_eq x.level level) = one_answer all (each_live (bounds_of e.patches) (standings e.table) (λ t x. nat_eq x.level level)) tells (on_target.1, on_target.0) in
       subst (λ o. record { what = Done; completed = all } ≡ answer model (state_in o) event) was
       (sym (answer-accepted model (state_in e) event (subst (λ o. refusal_of model (state_in o) event ≡ None) (sym was) accepted) ∙ cond-true _ _ _ control
       ∙ ap {A = ℕ} {B = Reply} (λ n. record { what = Done; completed = each_live (bounds_of e.patches) (standings e.table) (λ t x. nat_eq x.level n) }) (sym at) ∙ ap {A = Bool} {B = Reply} (λ b. record { what = Done; completed = b }) (sym same)))

@@ -15,7 +15,7 @@ use Rattle.lp_transition.specs.Events.{fork}
 
 -- ---- Levels
 
--- the level of a task whose group hasn't gone over
+-- the level of a task whose group hasn't switched
 abbrev pub level_before : ℕ → Schedule → Origin → ℕ
 level_before target schedule (Stood l) = l
 level_before target schedule (Forked group parent place) = level_by target schedule place group parent
@@ -30,7 +30,7 @@ unfolding level_by
 level_still target schedule k group (Stood l) e = cond-false _ _ _ e
 level_still target schedule k group (Forked g p j) e = cond-false _ _ _ e
 
--- who is off the target has not gone over
+-- who is off the target has not switched
 pub off_still : (target : ℕ) (schedule : Schedule) (k group : ℕ) (o : Origin) → level_by target schedule k group o ≢ target → has_come (schedule group) k ≡ false
 off_still target schedule k group o ne = false_from_ne_true _ (λ e. ne (level_gone target schedule k group o e))
 
@@ -119,7 +119,7 @@ module _ (model : Rules) (leg : Leg) (schedule : Schedule) where
 
 -- ---- Views
 
--- frames are alike under two schedules where the task's group has gone over under neither, and its level before is one
+-- frames are alike under two schedules where the task's group has switched under neither, and its level before is one
 pub view_same : (leg : Leg) (s r : Schedule) (k t : ℕ) (x : Life) → All (IsMadeBefore (suc k)) x.calls → has_come (s x.group) k ≡ false → has_come (r x.group) k ≡ false → level_before leg.target s x.origin ≡ level_before leg.target r x.origin → view leg s t x ≡ view leg r t x
 view_same leg s r k t x made s_still r_still same =
     ap (λ frames. record { task = t; class = x.class; mode = x.mode; frames = frames }) (map_same (frame_of leg s x) (frame_of leg r x) x.calls (All-weaker (IsMadeBefore (suc k)) (λ call. frame_of leg s x call ≡ frame_of leg r x call) each x.calls made))
@@ -134,7 +134,7 @@ view_same leg s r k t x made s_still r_still same =
 pub live_same : {A : Type 0} (x y : A) (f : Fate A) → f ≡ Live x → f ≡ Live y → x ≡ y
 live_same x y f a b = cc
 
--- a member just after an event had a member of its group before it, on the same level before the group goes over;
+-- a member just after an event had a member of its group before it, on the same level before the group switches;
 -- or it is a child that was just forked into a group of its own
 pub data Descends (model : Rules) (leg : Leg) (k group t : ℕ) (x : Life) : Type 0 where
   FromMember : (u : ℕ) (y : Life) → after model leg k u ≡ Live y → y.group ≡ group → ((s : Schedule) → has_come (s group) k ≡ false → level_before leg.target s x.origin ≡ level_before leg.target s y.origin) → Descends model leg k group t x
@@ -209,7 +209,7 @@ module _ (model : Rules) (leg : Leg) (lawful : IsLawful model) (sound : IsSound 
   pub waited : (k group : ℕ) (w : Waiter model leg schedule (suc k) group) → Waited model leg schedule k group w.task w.life
   waited k group w = waited_from k group w (descends model leg lawful k group w.task w.life w.live w.member)
 
-  -- no legal schedule moves a group before it has a member
+  -- no legal schedule switches a group before it has a member
   pub fresh_still : IsLegal model leg schedule → (k t : ℕ) → after model leg k t ≡ Unused → 0 < t → (m : Option ℕ) → schedule t ≡ m → has_come m (suc k) ≡ false
   fresh_still is_legal k t unused positive None e = refl
   fresh_still is_legal k t unused positive (Some i) e =

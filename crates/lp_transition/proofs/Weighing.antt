@@ -30,9 +30,9 @@ use Rattle.lp_transition.proofs.Accept.{fork-new}
 use Rattle.lp_transition.proofs.TableLemmas.{slot-zero, slot_from_live, live_from_slot}
 use Rattle.lp_transition.proofs.Effects.{with_table, takes_change_still, takes_nothing}
 use Rattle.lp_transition.proofs.MemberLemmas.{slot-positive, slot-below}
-use Rattle.lp_transition.proofs.SwitchedGroups.{going-none, going-one}
+use Rattle.lp_transition.proofs.SwitchedGroups.{switched-none, switched-one-group}
 use Rattle.lp_transition.proofs.Alone.{ChecksAlone}
-use Rattle.lp_transition.proofs.LoneChecks.{put_on, takes_over, none-switches_now, others-stay_now}
+use Rattle.lp_transition.proofs.LoneChecks.{put_on, takes_switch, none-switches_now, others-stay_now}
 use Rattle.lp_transition.proofs.Completes.{answer-taken, not-completed, completed_by, completed}
 
 module _ (model : Rules) (lawful : IsLawful model) (e : Engine) (waiting : Numbers) (members : List ℕ) (kept : IsEngine e waiting members) (room : e.number < 1000000) where
@@ -54,9 +54,9 @@ module _ (model : Rules) (lawful : IsLawful model) (e : Engine) (waiting : Numbe
       answer-taken model e (with_table e.table e) event accepted plain taken.state
       ∙ ap {A = Bool} {B = Reply} (λ b. record { what = told model (state_in e) event; completed = b }) (sym (not-completed e (with_table e.table e) waiting waiting members members kept taken.kept (λ empty. empty)))
 
-  -- where no group goes over, an event that is no call reports that it was done
+  -- where no group switches, an event that is no call reports that it was done
   pub done-still : (event : Event) → ((group : ℕ) → switches_at model (affected model (state_in e) event) event group ≡ false) → told model (state_in e) event ≡ switched (switched_groups model (affected model (state_in e) event) event) → told model (state_in e) event ≡ Done
-  done-still event none is = is ∙ ap switched (going-none model (affected model (state_in e) event) event none)
+  done-still event none is = is ∙ ap switched (switched-none model (affected model (state_in e) event) event none)
 
   still : (event : Event) → is_quiet event ≡ true → (group : ℕ) → switches_at model (affected model (state_in e) event) event group ≡ false
   still event quiet group = quiet-stays model (affected model (state_in e) event) event group quiet
@@ -70,12 +70,12 @@ module _ (model : Rules) (lawful : IsLawful model) (e : Engine) (waiting : Numbe
       ∙ ap {A = What} {B = Reply} (λ what. record { what = what; completed = false }) (done-still event (still event quiet) reports)
 
   -- a return, a sleep, a wake-up and an entry into the kernel are done
-  pub answer-moves : (event : Event) → is_silent event ≡ true → silent_task event < 65536 → refusal_of model (state_in e) event ≡ None → answer model (state_in e) event ≡ record { what = Done; completed = false }
-  answer-moves (Ret t) m small accepted = by (Ret t) t.0 returning small refl accepted refl (λ x. refl) (λ x. refl) refl
-  answer-moves (Sleep t) m small accepted = by (Sleep t) t.0 (put_in Asleep) small refl accepted refl (λ x. refl) (λ x. refl) refl
-  answer-moves (Wake t) m small accepted = by (Wake t) t.0 (put_in Kernel) small refl accepted refl (λ x. refl) (λ x. refl) refl
-  answer-moves (Enter t) m small accepted = by (Enter t) t.0 (put_in Kernel) small refl accepted refl (λ x. refl) (λ x. refl) refl
-  answer-moves _ m small accepted = cc
+  pub answer-silent : (event : Event) → is_silent event ≡ true → silent_task event < 65536 → refusal_of model (state_in e) event ≡ None → answer model (state_in e) event ≡ record { what = Done; completed = false }
+  answer-silent (Ret t) m small accepted = by (Ret t) t.0 returning small refl accepted refl (λ x. refl) (λ x. refl) refl
+  answer-silent (Sleep t) m small accepted = by (Sleep t) t.0 (put_in Asleep) small refl accepted refl (λ x. refl) (λ x. refl) refl
+  answer-silent (Wake t) m small accepted = by (Wake t) t.0 (put_in Kernel) small refl accepted refl (λ x. refl) (λ x. refl) refl
+  answer-silent (Enter t) m small accepted = by (Enter t) t.0 (put_in Kernel) small refl accepted refl (λ x. refl) (λ x. refl) refl
+  answer-silent _ m small accepted = cc
 
   -- a call runs its task's level
   pub answer-call : (t : TaskId) (f : SymId) → t.0 < 65536 → refusal_of model (state_in e) (Call t f) ≡ None → answer model (state_in e) (Call t f) ≡ record { what = told model (state_in e) (Call t f); completed = false }
@@ -83,8 +83,8 @@ module _ (model : Rules) (lawful : IsLawful model) (e : Engine) (waiting : Numbe
       answer-change (Call t f) t.0 (calling (suc e.number) f) small refl (still (Call t f) refl) accepted refl (λ x. refl) (λ x. refl)
 
   -- after a fork the transition is complete only where it was before
-  fork-rest : (p c : TaskId) (how : ForkKind) → refusal_of model (state_in e) (Fork p c how) ≡ None → IsTrue (complete_in (affected model (state_in e) (Fork p c how))) → IsTrue (complete_in (state_in e))
-  fork-rest p c how accepted all =
+  fork-complete : (p c : TaskId) (how : ForkKind) → refusal_of model (state_in e) (Fork p c how) ≡ None → IsTrue (complete_in (affected model (state_in e) (Fork p c how))) → IsTrue (complete_in (state_in e))
+  fork-complete p c how accepted all =
       let now = affected model (state_in e) (Fork p c how) in
       each_live-from (bounds_of e.patches) (standings e.table) (λ u y. nat_eq y.level e.target) (λ u y positive within live.
       let other : u ≢ c.0 = λ same. let none = (fork-new model e p c how accepted).0 in let there = slot_from_live e.table c.0 y (subst (λ v. standings e.table v ≡ Live y) same live) in absurd (cc) in
@@ -101,11 +101,11 @@ module _ (model : Rules) (lawful : IsLawful model) (e : Engine) (waiting : Numbe
     where
       never : (b : Bool) → complete_in (affected model (state_in e) (Fork p c how)) ≡ b → (b && not (complete_in (state_in e))) ≡ false
       never false h = refl
-      never true h = ap not (fork-rest p c how accepted h)
+      never true h = ap not (fork-complete p c how accepted h)
 
   -- after the end of a task the others decide whether the transition is complete
-  die-rest : (t : TaskId) → IsTrue (complete_in (affected model (state_in e) (Die t))) ↔ ((u : ℕ) → u ≢ t.0 → has waiting u ≡ false)
-  die-rest t = (others, back)
+  die-complete : (t : TaskId) → IsTrue (complete_in (affected model (state_in e) (Die t))) ↔ ((u : ℕ) → u ≢ t.0 → has waiting u ≡ false)
+  die-complete t = (others, back)
     where
       others : IsTrue (complete_in (affected model (state_in e) (Die t))) → (u : ℕ) → u ≢ t.0 → has waiting u ≡ false
       others all u ne = kept.waits u ∙ by (slot e.table u) refl
@@ -135,7 +135,7 @@ module _ (model : Rules) (lawful : IsLawful model) (e : Engine) (waiting : Numbe
       let none = still event refl in
       answer-accepted model s event accepted
       ∙ ap₂ {A = What} {B = Bool} {C = Reply} (λ what b. record { what = what; completed = b }) (done-still event none refl)
-      (ap {A = State} {B = Bool} (λ now. complete_in now && not (complete_in s)) (switched-still model s event none) ∙ sym (completed_by e waiting members t.0 last (complete_in (affected model s event)) kept (die-rest t) lone))
+      (ap {A = State} {B = Bool} (λ now. complete_in now && not (complete_in s)) (switched-still model s event none) ∙ sym (completed_by e waiting members t.0 last (complete_in (affected model s event)) kept (die-complete t) lone))
 
   -- a check that a task makes alone
   module _ (event : Event) (kind : CheckKind) (t : ℕ) (small : t < 65536) (f : Standing → Standing) (levels : (x : Standing) → (f x).level ≡ x.level) (groups : (x : Standing) → (f x).group ≡ x.group) (x : Standing) (there : slot e.table t ≡ Some x) (checks : ChecksAlone (bounds_of e.patches) (change t f (standings e.table)) event t kind) (plain : is_control event ≡ false) (accepted : refusal_of model (state_in e) event ≡ None) (own : own_effect model.child_group (suc e.number) event (standings e.table) ≡ change t f (standings e.table)) (reports : told model (state_in e) event ≡ switched (switched_groups model (affected model (state_in e) event) event)) where
@@ -146,14 +146,14 @@ module _ (model : Rules) (lawful : IsLawful model) (e : Engine) (waiting : Numbe
         answer-change event t f small plain none accepted own levels groups
         ∙ ap {A = What} {B = Reply} (λ what. record { what = what; completed = false }) (done-still event none reports)
 
-    -- its group goes over
+    -- its group switches
     pub answer-switches : (f x).group < 65536 → (last : Bool) → IsTrue last ↔ ((has waiting t ≡ true) × ((u : ℕ) → u ≢ t → has waiting u ≡ false)) → switches_at model (affected model (state_in e) event) event (f x).group ≡ true
         → answer model (state_in e) event ≡ record { what = switched ((f x).group ∷ []); completed = last }
     answer-switches within last lone switches =
         let table = changed t (put_on e.target) (changed t f e.table) in
-        let taken = takes_over model lawful e waiting members kept event kind t small f levels groups x there checks e table (set waiting t false) refl refl refl (length-set waiting t false ∙ kept.waiting_wide) room plain accepted own switches in
+        let taken = takes_switch model lawful e waiting members kept event kind t small f levels groups x there checks e table (set waiting t false) refl refl refl (length-set waiting t false ∙ kept.waiting_wide) room plain accepted own switches in
         let new = with_table table e in
-        let one = going-one model (affected model (state_in e) event) event (f x).group (omega (arith, within)) switches (λ n ne. others-stay_now model lawful e waiting members kept event kind t small f levels groups x there checks e refl own n (λ same. ne (sym same))) in
+        let one = switched-one-group model (affected model (state_in e) event) event (f x).group (omega (arith, within)) switches (λ n ne. others-stay_now model lawful e waiting members kept event kind t small f levels groups x there checks e refl own n (λ same. ne (sym same))) in
         answer-taken model e new event accepted plain taken.state
         ∙ ap₂ {A = What} {B = Bool} {C = Reply} (λ what b. record { what = what; completed = b }) (reports ∙ ap switched one)
         (sym (completed e new waiting (set waiting t false) members members t last kept taken.kept small refl lone))
@@ -161,10 +161,10 @@ module _ (model : Rules) (lawful : IsLawful model) (e : Engine) (waiting : Numbe
     -- and the answer says so
     pub switched-where_switches : (f x).group < 65536 → switches_at model (affected model (state_in e) event) event (f x).group ≡ true → is_switched (answer model (state_in e) event).what ≡ true
     switched-where_switches within switches =
-        let one = going-one model (affected model (state_in e) event) event (f x).group (omega (arith, within)) switches (λ n ne. others-stay_now model lawful e waiting members kept event kind t small f levels groups x there checks e refl own n (λ same. ne (sym same))) in
+        let one = switched-one-group model (affected model (state_in e) event) event (f x).group (omega (arith, within)) switches (λ n ne. others-stay_now model lawful e waiting members kept event kind t small f levels groups x there checks e refl own n (λ same. ne (sym same))) in
         ap (λ (r : Reply). is_switched r.what) (answer-accepted model (state_in e) event accepted ∙ cond-false _ _ _ plain) ∙ ap is_switched (reports ∙ ap switched one)
 
-    -- it goes over where the answer says that groups went over
+    -- it switches where the answer says that groups switched
     pub switches-reported : (switching : Bool) → (f x).group < 65536 → switching ≡ is_switched (answer model (state_in e) event).what → switches_at model (affected model (state_in e) event) event (f x).group ≡ switching
     switches-reported switching within is = by (switches_at model (affected model (state_in e) event) event (f x).group) refl
       where

@@ -32,7 +32,7 @@ pub record KeepsThePast (model : Rules) : Type 0 where
 
 -- a group that waits under the first-check schedule waits under every legal one,
 -- and what a check sees of its live members is the same under both
-pub record MovesNoneLater (model : Rules) : Type 0 where
+pub record SwitchesNoneLater (model : Rules) : Type 0 where
   pub waits_too :
       (leg : Leg) → IsSound leg.opening →
       (first other : Schedule) → IsFirstCheck model leg first → IsLegal model leg other →
@@ -48,7 +48,7 @@ pub record MovesNoneLater (model : Rules) : Type 0 where
 -- so where it hasn't completed the leg, none has
 pub record CompletesNoneLater (model : Rules) : Type 0 where
   -- a leg that is complete stays so
-  pub lasts :
+  pub stays_complete :
       (leg : Leg) → IsSound leg.opening →
       (schedule : Schedule) (j k : ℕ) → j ≤ k →
       IsTrue (complete model leg schedule j) → IsTrue (complete model leg schedule k)

@@ -119,8 +119,8 @@ stops_twice =
     (enter 2 ∷ call 2 a ∷ Enable ∷ Stop ∷ ret 2 ∷ Stop ∷ [])
 
 -- a task that has switched forks
-abbrev pub forks_after_it_went_over : Run
-forks_after_it_went_over =
+abbrev pub forks_after_it_switched : Run
+forks_after_it_switched =
     patch_a (normal 1 ∷ normal 2 ∷ [])
     (Enable ∷ enter 1 ∷ exit 1 ∷ enter 1 ∷ fork 1 3 Own ∷ call 3 a ∷ [])
 
@@ -228,7 +228,7 @@ pub record RowsCompute (hybrid leave_kernel all_at_once immediate process_group 
       (done ∷ ran 0 ∷ done ∷ done ∷ done ∷ complete (over 0) ∷ []) 1 0
   -- the child is born on the target
   pub child_inherits_the_new_level :
-      Row hybrid forks_after_it_went_over
+      Row hybrid forks_after_it_switched
       (done ∷ done ∷ over 1 ∷ done ∷ done ∷ ran 1 ∷ []) 1 0
   -- the child is born unpatched, and waits by itself
   pub child_inherits_the_old_level :
@@ -239,7 +239,7 @@ pub record RowsCompute (hybrid leave_kernel all_at_once immediate process_group 
       Row hybrid reverses_at_once
       (done ∷ complete done ∷ []) 0 0
   -- who switched has to come back, and its stack keeps it
-  pub reversal_waits_for_who_went_over :
+  pub reversal_waits_for_who_switched :
       Row hybrid reverses_later
       (done ∷ done ∷ over 1 ∷ done ∷ ran 1 ∷ done ∷ done ∷ done ∷ []) 1 0
   -- a death completes the transition

@@ -51,7 +51,7 @@ verdicts_of model kind s = map (verdict_of model kind s.aim) (views_of s)
 -- ---- What a scan may leave out
 
 -- a waiting member of the group whom a check of this kind refuses
-pub record IsHeldBack (model : Rules) (kind : CheckKind) (s : State) (group : ℕ) : Type 0 where
+pub record RefusesMember (model : Rules) (kind : CheckKind) (s : State) (group : ℕ) : Type 0 where
   pub member : ℕ
   pub life : Standing
   pub live : s.tasks member ≡ Live life
@@ -63,7 +63,7 @@ pub record IsHeldBack (model : Rules) (kind : CheckKind) (s : State) (group : �
 abbrev pub MayLeaveOut : Rules → CheckKind → State → (asked : ℕ → Bool) → Type 0
 MayLeaveOut model kind s asked =
     (t : ℕ) (x : Standing) → s.tasks t ≡ Live x → nat_eq x.level s.target ≡ false → asked x.group ≡ false →
-    IsHeldBack model kind s x.group
+    RefusesMember model kind s x.group
 
 -- the group of a live task passes a test
 abbrev pub is_asked : State → (asked : ℕ → Bool) → (t : ℕ) → Bool

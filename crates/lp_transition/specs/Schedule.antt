@@ -93,7 +93,7 @@ module _ (model : Rules) (leg : Leg) (schedule : Schedule) where
     pub least : (j : ℕ) → IsTrue (complete j) → k ≤ j
 
 module _ (model : Rules) (leg : Leg) where
-  -- the schedule that moves each group at the first check that allows it, as far as the first k events
+  -- the schedule that switches each group at the first check that allows it, as far as the first k events
   unfoldable pub first_checks : ℕ → Schedule
   first_checks zero = λ group. None
   first_checks (suc k) =

@@ -3,5 +3,5 @@ pub mod Points
 pub mod Invariant
 pub mod ScanSteps
 pub mod Slots
-pub mod Unmoved
+pub mod Unswitched
 pub mod Table

@@ -9,11 +9,11 @@ ghost use Rattle.lp_transition.specs.Leg.{is_alone};
 ghost use Rattle.lp_stack.specs.TaskView.{seen};
 ghost use Rattle.lp_transition.specs.Machine.{complete_in, outlines_of, view_of};
 
-mod asked;
 mod boot;
 mod control;
 mod dispatch;
 mod live_task;
+mod open_scan;
 mod opening;
 mod plain_events;
 mod point;
@@ -85,7 +85,7 @@ impl<M: Consistency> Core<M> {
         self.model
     }
 
-    /// The level to which the tasks go, or on which they are settled.
+    /// The level to which the tasks switch, or on which all are.
     pub fn target(&self) -> Level
         ensures { result.0 ≡ self.now.target }
     {

@@ -4,7 +4,7 @@
 //! the law there.
 ghost use Rattle.lp_transition.specs.RowModels.{hybrid, leave_kernel, all_at_once, immediate, process_group};
 ghost use Rattle.lp_transition.specs.Rows.{RowsCompute};
-ghost use Rattle.lp_transition.specs.Laws.{KeepsThePast, HasOneFirstCheck, MovesNoneLater, CompletesNoneLater, NeverLoses, WaitsForAReason, OpensSoundly, KeepsOneVersion, MixesNoStay, StatesAreSound, StepsAsDefined, TrustsChains};
+ghost use Rattle.lp_transition.specs.Laws.{KeepsThePast, HasOneFirstCheck, SwitchesNoneLater, CompletesNoneLater, NeverLoses, WaitsForAReason, OpensSoundly, KeepsOneVersion, MixesNoStay, StatesAreSound, StepsAsDefined, TrustsChains};
 
 use lp_model::Consistency;
 
@@ -13,9 +13,9 @@ pub fn one_first_check<M: Consistency>()
     ensures { HasOneFirstCheck M.rules }
 {}
 
-/// No legal schedule moves a group earlier than the first-check schedule does.
-pub fn no_earlier_move<M: Consistency>()
-    ensures { MovesNoneLater M.rules }
+/// No legal schedule switches a group earlier than the first-check schedule does.
+pub fn no_earlier_switch<M: Consistency>()
+    ensures { SwitchesNoneLater M.rules }
 {}
 
 /// No legal schedule completes a leg earlier than the first-check schedule does.

@@ -6,7 +6,7 @@ use Rattle.lp_model.specs.declared.check.ForkKind.TheVariants.{Own, Share}
 use Rattle.lp_transition.specs.declared.event.Event.TheVariants.{Walk, Stop, Enable}
 use Rattle.lp_transition.specs.Events.{fork}
 use Rattle.lp_transition.specs.Run.{Run, first_leg}
-use Rattle.lp_transition.specs.Rows.{a, c, normal, call, ret, sleep, enter, exit, patch_a, leaves_the_kernel, sleeps_in_a_changed_function, sleeps_elsewhere, stops_twice, forks_after_it_went_over, forks_while_it_waits, reverses_at_once, reverses_later, dies_while_it_waits, controls_out_of_turn, nobody_is_there, stacked, a_thread_sleeps}
+use Rattle.lp_transition.specs.Rows.{a, c, normal, call, ret, sleep, enter, exit, patch_a, leaves_the_kernel, sleeps_in_a_changed_function, sleeps_elsewhere, stops_twice, forks_after_it_switched, forks_while_it_waits, reverses_at_once, reverses_later, dies_while_it_waits, controls_out_of_turn, nobody_is_there, stacked, a_thread_sleeps}
 use Rattle.lp_cert.specs.Certificates.{certs_of, opened_legs}
 use Rattle.lp_cert.specs.Text.{cert_lines}
 
@@ -64,7 +64,7 @@ pub record CertificatesCompute (hybrid leave_kernel all_at_once immediate proces
   pub no_line_at_an_unused_check :
       printed leave_kernel sleeps_in_a_changed_function
       ≡ codes "floor 4 1 7" ∷ []
-  pub goes_over_at_the_first_walk :
+  pub switches_at_the_first_walk :
       printed hybrid sleeps_elsewhere
       ≡ codes "floor 4 1 4" ∷ []
   pub waits_unchecked :
@@ -74,8 +74,8 @@ pub record CertificatesCompute (hybrid leave_kernel all_at_once immediate proces
   pub one_stack_holds_all :
       printed all_at_once stops_twice
       ≡ codes "floor 3 0 5" ∷ codes "hold 0 2 2 4 4" ∷ []
-  pub child_went_over_with_its_parent :
-      printed hybrid forks_after_it_went_over
+  pub child_switched_with_its_parent :
+      printed hybrid forks_after_it_switched
       ≡ codes "waiting 1 2 6" ∷ []
   -- a child's certificate begins with its parent's
   pub child_has_its_parents_reasons :

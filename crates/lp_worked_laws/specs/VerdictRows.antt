@@ -207,7 +207,7 @@ pub record VerdictsCompute : Type 0 where
       says hybrid one forks (waiting 2 2 8 (born 2 1 4 ∷ hold 2 2 6 8 8 ∷ [])) ≡ Some (Gap 3)
   pub childs_check_left_out :
       says hybrid one forks (waiting 2 2 8 (busy 1 1 3 ∷ born 2 1 4 ∷ [])) ≡ Some (Gap 8)
-  pub went_over : says hybrid one sleeps (floor 4 1 8 (hold 1 1 2 5 5 ∷ [])) ≡ Some (Gap 8)
+  pub has_switched : says hybrid one sleeps (floor 4 1 8 (hold 1 1 2 5 5 ∷ [])) ≡ Some (Gap 8)
   -- C5
   pub no_fork : says hybrid one forks (waiting 2 2 8 (busy 1 1 3 ∷ born 2 1 3 ∷ [])) ≡ Some (BadBirth 3)
   pub before_the_leg : says hybrid one forks (waiting 2 2 8 (born 2 1 2 ∷ [])) ≡ Some (BadBirth 2)

@@ -43,7 +43,7 @@ pub record IsRefusedOnce (s : State) (at group : ℕ) (blamed : ℕ × Blame) (o
   pub stands : StandsAt (length old.scans + 1) new group
 
 -- a verdict of a scan is noted: of a group that waits and wasn't refused before by this scan, which the verdict refuses, the
--- reasons go on as after one scan more; of any other nothing changes
+-- reasons continue as after one scan more; of any other nothing changes
 pub record IsJudged (s : State) (at : ℕ) (verdict : Verdict) (groups left : Numbers) (old new : LegReasons) : Type 0 where
   pub judged :
       (group : ℕ) (blamed : ℕ × Blame) → has groups group ≡ true → member_verdict s group verdict ≡ Some blamed →
@@ -77,8 +77,8 @@ lines_at waiters group = if has waiters.groups group then Some (lines_in waiters
 abbrev pub AreStanding : WaitingGroups → Type 0
 AreStanding waiters = (group : ℕ) → has waiters.groups group ≡ true → StandsAt (length waiters.reasons.scans) waiters.reasons group
 
--- the lines of a group after a scan, by who of it is the first that the scan is told to refuse: where none is, what goes on
--- goes on
+-- the lines of a group after a scan, by who of it is the first that the scan is told to refuse: where none is, what continues
+-- continues
 abbrev pub after_verdict : State → (at : ℕ) → Option (ℕ × Blame) → LegReasons → (group : ℕ) → List Line
 after_verdict s at None reasons group = head_lines reasons.lists (reasons.scans ++ at ∷ []) (group_id group) (head_of reasons group)
 after_verdict s at (Some blamed) reasons group = after_refusal (has_frame_in s) group at blamed (lines_in reasons group)

@@ -2,7 +2,7 @@
 use Rattle.std.specs.Prelude.{◌≡◌, ℕ, ◌+◌, List}
 use Rattle.lp_model.specs.Rules.{Rules}
 use Rattle.lp_transition.specs.declared.event.Event.{Event}
-use Rattle.lp_transition.specs.inside.Unmoved.{unmoved}
+use Rattle.lp_transition.specs.inside.Unswitched.{unswitched}
 use Rattle.lp_transition.specs.Openings.{IsOpening}
 use Rattle.lp_transition.specs.Table.{Engine, standings}
 use Rattle.lp_checker.specs.declared.fold.Fold.{Fold}
@@ -14,4 +14,4 @@ pub record IsAt (model : Rules) (opening : Engine) (events : List Event) (k : �
   pub number : fold.number ≡ opening.number + k
   pub target : fold.target.0 ≡ opening.target
   pub patches : fold.patches ≡ opening.patches
-  pub tasks : standings fold.tasks ≡ unmoved model.child_group (leg_with opening events) k
+  pub tasks : standings fold.tasks ≡ unswitched model.child_group (leg_with opening events) k

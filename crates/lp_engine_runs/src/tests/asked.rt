@@ -95,11 +95,11 @@ fn shown_by(scan: &Step) -> Shown {
     Shown {
         verdicts: scan.verdicts().len(),
         completed: scan.reply().completed,
-        over: one_over(&scan.reply().what),
+        over: one_switched(&scan.reply().what),
     }
 }
 
-fn one_over(what: &What) -> Option<GroupId> {
+fn one_switched(what: &What) -> Option<GroupId> {
     match what {
         What::Switched(groups) if groups.len() == 1 => groups.as_slice().first().copied(),
         _ => None,

@@ -87,13 +87,13 @@ fn a_walk_is_taken_by_its_verdicts(rt: HostRuntime) -> Result<(), Fail> {
 }
 
 /// The engine of tasks 1 and 2 after an enabling, when task 1 has switched.
-fn one_over(alloc: Global) -> Result<Box<Core<Hybrid>>, Fail> {
+fn one_switched(alloc: Global) -> Result<Box<Core<Hybrid>>, Fail> {
     two_tasks_after(alloc, &[Event::Enable, Event::Enter(ONE), Event::Exit(ONE)])
 }
 
 #[test]
 fn an_engine_has_a_model_and_a_target(rt: HostRuntime) -> Result<(), Fail> {
-    let core = one_over(rt.alloc())?;
+    let core = one_switched(rt.alloc())?;
     assert_eq!(rt; core.model(), Hybrid);
     assert_eq!(rt; (core.target(), core.aim().target), (Level(1), Level(1)));
     Ok(())
@@ -101,7 +101,7 @@ fn an_engine_has_a_model_and_a_target(rt: HostRuntime) -> Result<(), Fail> {
 
 #[test]
 fn a_task_has_a_side_and_a_group(rt: HostRuntime) -> Result<(), Fail> {
-    let core = one_over(rt.alloc())?;
+    let core = one_switched(rt.alloc())?;
     let sides = [core.side_of(ONE), core.side_of(TWO), core.side_of(THREE)];
     let group = core.group_of(TWO);
     drop(core);
@@ -112,7 +112,7 @@ fn a_task_has_a_side_and_a_group(rt: HostRuntime) -> Result<(), Fail> {
 
 #[test]
 fn the_groups_that_wait_are_told(rt: HostRuntime) -> Result<(), Fail> {
-    let core = one_over(rt.alloc())?;
+    let core = one_switched(rt.alloc())?;
     let waiting = core.waiting(rt.alloc())?;
     drop(core);
     assert_eq!(rt; waiting.as_slice(), [GroupId(2)].as_slice());
@@ -128,7 +128,7 @@ fn seen(alloc: Global, core: &Core<Hybrid>) -> Result<(usize, Option<TaskId>), F
 
 #[test]
 fn the_tasks_that_wait_are_seen(rt: HostRuntime) -> Result<(), Fail> {
-    let core = one_over(rt.alloc())?;
+    let core = one_switched(rt.alloc())?;
     let seen = seen(rt.alloc(), &core)?;
     assert_eq!(rt; seen, (1, Some(TWO)));
     Ok(())

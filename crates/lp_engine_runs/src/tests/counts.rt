@@ -33,27 +33,27 @@ fn reply(what: What) -> Reply {
     }
 }
 
-fn note(count: &mut StayCount, step: Step)
-    requires { count.old.noted < 1000000 }
+fn take(count: &mut StayCount, step: Step)
+    requires { count.old.events < 1000000 }
 {
     match step {
         Step::Call(task, func, level) => {
-            count.note(
+            count.step(
                 Event::Call(task, func),
                 &reply(What::Ran(Level(level))),
                 None,
             );
         }
-        Step::Ret(task, func) => count.note(Event::Ret(task), &reply(What::Done), Some(func)),
+        Step::Ret(task, func) => count.step(Event::Ret(task), &reply(What::Done), Some(func)),
         Step::Refused(task, func) => {
             let what = What::Refused(Refusal::WrongMode);
-            count.note(Event::Call(task, func), &reply(what), None);
+            count.step(Event::Call(task, func), &reply(what), None);
         }
         Step::Held(task, func) => {
             let what = What::Refused(Refusal::WrongMode);
-            count.note(Event::Ret(task), &reply(what), Some(func));
+            count.step(Event::Ret(task), &reply(what), Some(func));
         }
-        Step::Other(event) => count.note(event, &reply(What::Done), None),
+        Step::Other(event) => count.step(event, &reply(What::Done), None),
     }
 }
 
@@ -61,8 +61,8 @@ fn note(count: &mut StayCount, step: Step)
 fn after(alloc: Global, lists: &[&[SymId]], steps: &[Step]) -> Result<(u64, u64), Fail> {
     let mut counted = count(alloc, lists)?;
     for step in steps {
-        if counted.noted() < 1_000_000 {
-            note(&mut counted, *step);
+        if counted.events() < 1_000_000 {
+            take(&mut counted, *step);
         }
     }
     Ok((counted.stays(), counted.mixed()))
@@ -153,15 +153,15 @@ fn refused_events_change_no_stay(rt: HostRuntime) -> Result<(), Fail> {
 }
 
 #[test]
-fn each_event_is_noted(rt: HostRuntime) -> Result<(), Fail> {
+fn each_event_counts(rt: HostRuntime) -> Result<(), Fail> {
     let mut counted = count(rt.alloc(), &[&[A]])?;
     assert_eq!(rt;
-        (counted.noted(), counted.stays(), counted.mixed()),
+        (counted.events(), counted.stays(), counted.mixed()),
         (0, 0, 0)
     );
-    if counted.noted() < 1_000_000 {
-        note(&mut counted, Step::Refused(ONE, A));
+    if counted.events() < 1_000_000 {
+        take(&mut counted, Step::Refused(ONE, A));
     }
-    assert_eq!(rt; (counted.noted(), counted.stays()), (1, 0));
+    assert_eq!(rt; (counted.events(), counted.stays()), (1, 0));
     Ok(())
 }

@@ -19,7 +19,7 @@ fn keeps_all_laws<M: Consistency>()
 {
     laws::one_first_check::<M>();
     laws::the_past_stays::<M>();
-    laws::no_earlier_move::<M>();
+    laws::no_earlier_switch::<M>();
     laws::no_earlier_completion::<M>();
     laws::no_wait_without_a_reason::<M>();
     laws::chains_are_sound::<M>();

@@ -204,7 +204,7 @@ fn exits_and_idle_points_go_on_after_a_failed_allocation(rt: HostRuntime) -> Res
 }
 
 /// The engine of tasks 1 to 3 after an enabling, when task 2 has switched.
-fn one_over(rt: &impl Abort, alloc: Global) -> Result<Box<Core<Hybrid>>, Fail> {
+fn one_switched(rt: &impl Abort, alloc: Global) -> Result<Box<Core<Hybrid>>, Fail> {
     let boots = [normal(1), normal(2), normal(3)];
     let mut core = booted(alloc, Hybrid, &boots)?;
     for event in [Event::Enable, Event::Enter(TWO), Event::Exit(TWO)] {
@@ -260,14 +260,14 @@ fn told_by(alloc: Global, core: &Core<Hybrid>) -> Result<Told, AllocError> {
     })
 }
 
-fn told_by_one_over(rt: &impl Abort, alloc: Global) -> Result<Told, Fail> {
-    let core = one_over(rt, alloc)?;
+fn told_by_one_switched(rt: &impl Abort, alloc: Global) -> Result<Told, Fail> {
+    let core = one_switched(rt, alloc)?;
     Ok(told_by(alloc, &core)?)
 }
 
 #[test]
 fn an_engine_is_asked_again_after_a_failed_allocation(rt: HostRuntime) -> Result<(), Fail> {
-    let told = told_by_one_over(&rt, rt.alloc())?;
+    let told = told_by_one_switched(&rt, rt.alloc())?;
     let levels = [Some(Level(0)), Some(Level(1)), Some(Level(0))];
     assert_eq!(rt; told.waiting, [Some(GroupId(1)), Some(GroupId(3)), None]);
     assert_eq!(rt; told.seen, (2, Some(ONE)));

@@ -1,4 +1,4 @@
--- What is kept of a run while it goes on, and when it is that of the run.
+-- What is kept of a run so far, and when it is that of the run.
 use Rattle.std.specs.Prelude.{◌≡◌, Bool, true, false, not, ◌&&◌, List}
 use Rattle.lp_model.specs.Rules.{Rules}
 use Rattle.lp_transition.specs.declared.event.Event.{Event}

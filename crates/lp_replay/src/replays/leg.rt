@@ -54,13 +54,13 @@ fn opened_after<'a, M: Consistency>(
     requires { (run : Run) × StandsIn M.rules run (state_in core.old) × (length run.events + (length before.now + length events.now) ≤ 1000000) }
     ensures { IfOk result (λ found. (run : Run) → StandsIn M.rules run (state_in core.old) → option_map (λ leg. leg_with leg.opening leg.events.now) found ≡ opened_by M.rules (leg_of M.rules (record run { events = run.events ++ before.now })) events.now) }
 {
-    play(alloc, core, before)?;
+    step_all(alloc, core, before)?;
     let leg = opened_by(alloc, core, events)?;
     Ok(leg)
 }
 
 /// Takes these events.
-fn play<M: Consistency>(
+fn step_all<M: Consistency>(
     alloc: Global,
     core: &mut Core<M>,
     events: &[Event],

@@ -66,22 +66,22 @@ impl<M: Consistency> Recorder<M> {
         ensures { OnOk result ((run : Run) → IsRecorded M.rules run self.old → IsRecorded M.rules (record run { events = run.events ++ events.now }) self.new) }
     {
         for event in events {
-            self.event(alloc, *event)?;
+            self.step(alloc, *event)?;
         }
         Ok(())
     }
 
-    /// The next event.
+    /// Steps by the next event.
     #[inline(always)]
-    fn event(&mut self, alloc: Global, event: Event) -> Result<(), ReplayFault>
+    fn step(&mut self, alloc: Global, event: Event) -> Result<(), ReplayFault>
         requires numbered { self.old.core.number < 1000000 }
-        requires noted { self.old.stays.noted < 1000000 }
+        requires counted { self.old.stays.events < 1000000 }
         requires recorded { (run : Run) × IsRecorded M.rules run self.old }
         ensures { OnOk result ((run : Run) → IsRecorded M.rules run self.old → IsRecorded M.rules (plus run event) self.new) }
     {
         let top = last_function(&self.core, event);
         let reply = take(alloc, &mut self.core, &mut self.maker, event)?;
-        self.stays.note(event, &reply, top);
+        self.stays.step(event, &reply, top);
         self.replies.push(reply)?;
         Ok(())
     }

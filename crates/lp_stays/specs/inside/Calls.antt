@@ -68,7 +68,7 @@ returns (suc below) t func count =
     if patch_has count.patches (suc below) func then after_return below t before else before
 
 abbrev pub one_more : Counted → Counted
-one_more count = record count { noted = count.noted + 1 }
+one_more count = record count { events = count.events + 1 }
 
 abbrev pub by_return : ℕ → What → Option SymId → Counted → Counted
 by_return t (Refused why) top count = count

@@ -70,7 +70,7 @@ IsOwnGroup table number = (t : ℕ) (x : Standing) → slot table t ≡ Some x �
 abbrev pub switched_if : (ℕ → Bool) → ℕ → Standing → Standing
 switched_if switches target x = if switches x.group then record x { level = target } else x
 
--- a live task's group goes
+-- a live task's group switches
 abbrev pub task_switches : (ℕ → Bool) → Option Standing → Bool
 task_switches switches None = false
 task_switches switches (Some x) = switches x.group

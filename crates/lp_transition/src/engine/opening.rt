@@ -68,14 +68,14 @@ impl Opening {
         u64::from(self.number)
     }
 
-    /// The level from which the tasks went.
+    /// The level from which the tasks switch.
     pub fn from(&self) -> Level
         ensures { result.0 ≡ self.now.from }
     {
         self.from
     }
 
-    /// The level to which the tasks went, or on which they were settled.
+    /// The level to which the tasks switch, or on which all were.
     pub fn target(&self) -> Level
         ensures { result.0 ≡ self.now.target }
     {

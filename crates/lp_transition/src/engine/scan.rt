@@ -15,8 +15,8 @@ ghost use Rattle.lp_transition.specs.Scan.{is_scan_kind, scan_event, views_of, v
 ghost use Rattle.lp_transition.specs.inside.ScanSteps.{IsNextBelow, waiting_slot, tasks_of, is_judged, is_found, switches_by, all_admit, groups_of, is_switching, IsTaskSwitched, AreSwitched};
 ghost use Rattle.lp_transition.specs.declared.engine.step.Halt.TheVariants.{JournalFull};
 
-use super::asked::looks_at_all;
 use super::live_task::LiveTask;
+use super::open_scan::looks_at_all;
 use super::step::{Halt, Step};
 use super::task_table::TaskTable;
 use super::{Core, MOST_EVENTS};

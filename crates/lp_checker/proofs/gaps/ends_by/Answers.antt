@@ -13,8 +13,8 @@ returns-clause-covers c = λ model moment low high.
     let place : ℕ = moment - begin in
     let own = c.in_ok-ends.ends.items in
     let new = c.keep_greatest.new.numbers in
-    let lent = c.deref_mut.ensures.len in
-    let n : length new ≡ c.in_ok-ends.ends.len = c.keep_greatest.auto.numbers ∙ lent in
+    let same_length = c.deref_mut.ensures.len in
+    let n : length new ≡ c.in_ok-ends.ends.len = c.keep_greatest.auto.numbers ∙ same_length in
     let written : take c.in_ok-ends.ends.len (new ++ drop (length new) own) ≡ new = take-append-le c.in_ok-ends.ends.len new (drop (length new) own) (omega (arith, n)) ∙ take_all c.in_ok-ends.ends.len new (omega (arith, n)) in
     let all = c.in_ok-ends.ensures.all in
     let there : place < length c.deref_mut.result.now = let len = ap length c.deref_mut.ensures.value in omega (arith, len, all, low, high) in

@@ -1,19 +1,19 @@
 use Rattle.std.proofs.Common.{drop, length, ap, sym, ◌∙◌, arith}
 use Rattle.std.specs.List.{slice_get}
 use Rattle.lp_cert.specs.Parts.{busy_scan_lines}
-use Rattle.lp_cert.proofs.LineLemmas.{first_line, lines_left, all_over, one_line, busy_line, busy_fits, others_fit, run_has}
+use Rattle.lp_cert.proofs.LineLemmas.{first_line, lines_left, all_done, one_line, busy_line, busy_fits, others_fit, run_has}
 use Rattle.lp_cert.proofs.cert_lines.CertLines.next.Goals as goal
 
 pub returns-in_err-line-clause-line : goal.returns-in_err-line-clause-line
 returns-in_err-line-clause-line c =
     let i = c.self.inside in
-    let over = all_over i.scans.now (busy_scan_lines i.run) (busy_scan_lines c.next.new.self) i.reasons c.next-2.new.self c.in_default.ensures.lines c.in_default.ensures.none c.in_err-line.ensures.reasons c.in_err-line.ensures.none in
+    let over = all_done i.scans.now (busy_scan_lines i.run) (busy_scan_lines c.next.new.self) i.reasons c.next-2.new.self c.in_default.ensures.lines c.in_default.ensures.none c.in_err-line.ensures.reasons c.in_err-line.ensures.none in
     rw (← c.self.view_is) (c.from_residual.ensures ∙ ap (λ ls. slice_get ls 0) (sym over.0))
 
 pub returns-in_err-line-clause-left : goal.returns-in_err-line-clause-left
 returns-in_err-line-clause-left c =
     let i = c.self.inside in
-    let over = all_over i.scans.now (busy_scan_lines i.run) (busy_scan_lines c.next.new.self) i.reasons c.next-2.new.self c.in_default.ensures.lines c.in_default.ensures.none c.in_err-line.ensures.reasons c.in_err-line.ensures.none in
+    let over = all_done i.scans.now (busy_scan_lines i.run) (busy_scan_lines c.next.new.self) i.reasons c.next-2.new.self c.in_default.ensures.lines c.in_default.ensures.none c.in_err-line.ensures.reasons c.in_err-line.ensures.none in
     rw (← c.self.view_is) (over.1 ∙ ap (drop 1) (sym over.0))
 
 pub invariant_of-self-in-One : goal.invariant_of-self-in-One

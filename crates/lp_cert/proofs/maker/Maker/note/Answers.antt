@@ -8,7 +8,7 @@ use Rattle.lp_cert.specs.Invariant.{open_end, room_of}
 use Rattle.lp_cert.specs.inside.Invariant.{ends_with, IsClosing}
 use Rattle.lp_cert.specs.inside.Waiters.{has_off}
 use Rattle.lp_cert.proofs.Noted.{none_made, still_made, turned_made, ends_are, ready_for, opens_is}
-use Rattle.lp_cert.proofs.UnchangedSteps.{none_settled}
+use Rattle.lp_cert.proofs.UnchangedSteps.{none_unchanged}
 use Rattle.lp_cert.proofs.maker.Maker.note.Goals as goal
 
 pub returns-in_default-current : goal.returns-in_default-current
@@ -23,7 +23,7 @@ returns-in_default-current g c = record {
       let stays : is_opening c.args.step.now ≡ false = sym (opens_is i.ready c.in-Some.ready (room_for c.args.step.now) (sym c.take.ensures.value ∙ c.in-Some.is) asked) ∙ ap (λ (o : Option Closing). is_some o) c.in_default-closing.is in
       none_made g.M.Consistency.rules g.met.M.Consistency.lawful run c.args.core.now stands c.args.step.now c.requires.weighed old new was stays refl
       (ap (option_map (open_end i.noted i.waiters)) c.in_default-current.is) (ap (option_map (open_end number i.waiters)) c.in_default-current.is)
-      (none_settled g.M.Consistency.rules _ _ c.reset.new.self c.reset.ensures);
+      (none_unchanged g.M.Consistency.rules _ _ c.reset.new.self c.reset.ensures);
 }
 
 pub returns-in_default-closing : goal.returns-in_default-closing

@@ -4,7 +4,7 @@ use Rattle.lp_cert.specs.Ends.{Made, IsMadeOf}
 use Rattle.lp_cert.specs.Invariant.{open_end, room_of}
 use Rattle.lp_cert.specs.inside.LastScan.{IsTouched}
 use Rattle.lp_cert.proofs.Asked.{not_some}
-use Rattle.lp_cert.proofs.Passed.{passed_on, passed_over}
+use Rattle.lp_cert.proofs.Passed.{passed_on, passed_calm}
 use Rattle.lp_cert.proofs.maker.Maker.note_plain.Goals as goal
 
 pub returns-in_default-clause-made : goal.returns-in_default-clause-made
@@ -14,7 +14,7 @@ returns-in_default-clause-made g c = λ run stands is.
     let old : Made = record { ended = i.ended.items; current = option_map (open_end i.noted i.waiters) i.current; ready = option_map room_of i.ready; last_scan = i.unchanged } in
     let new : Made = record { ended = i.ended.items; current = option_map (open_end number i.waiters) i.current; ready = option_map room_of i.ready; last_scan = c.reset.new.self } in
     let was : IsMadeOf g.M.Consistency.rules run old = rw (← c.self.view_is) at is in
-    passed_over g.M.Consistency.rules g.met.M.Consistency.lawful run c.args.core.now stands c.args.event c.requires.plain c.requires.room old new was refl i.noted number i.waiters (ap (λ m. m + 1) c.events.ensures.value) c.reset.ensures i.current refl refl
+    passed_calm g.M.Consistency.rules g.met.M.Consistency.lawful run c.args.core.now stands c.args.event c.requires.plain c.requires.room old new was refl i.noted number i.waiters (ap (λ m. m + 1) c.events.ensures.value) c.reset.ensures i.current refl refl
 
 pub returns-then-is_some-clause-made : goal.returns-then-is_some-clause-made
 returns-then-is_some-clause-made g c = λ run stands is.
@@ -23,7 +23,7 @@ returns-then-is_some-clause-made g c = λ run stands is.
     let old : Made = record { ended = i.ended.items; current = option_map (open_end i.noted i.waiters) i.current; ready = option_map room_of i.ready; last_scan = i.unchanged } in
     let new : Made = record { ended = i.ended.items; current = option_map (open_end number i.waiters) i.current; ready = option_map room_of i.ready; last_scan = c.reset-then-is_some.new.self } in
     let was : IsMadeOf g.M.Consistency.rules run old = rw (← c.self.view_is) at is in
-    passed_over g.M.Consistency.rules g.met.M.Consistency.lawful run c.args.core.now stands c.args.event c.requires.plain c.requires.room old new was refl i.noted number i.waiters (ap (λ m. m + 1) c.events.ensures.value) c.reset-then-is_some.ensures
+    passed_calm g.M.Consistency.rules g.met.M.Consistency.lawful run c.args.core.now stands c.args.event c.requires.plain c.requires.room old new was refl i.noted number i.waiters (ap (λ m. m + 1) c.events.ensures.value) c.reset-then-is_some.ensures
     i.current refl refl
 
 pub returns-clause-made : goal.returns-clause-made

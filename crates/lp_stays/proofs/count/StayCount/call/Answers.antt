@@ -9,16 +9,16 @@ loop-below-init c = sym (call_start c.args.task.0 c.args.func.0 c.args.level.0 c
 pub call_in-requires-clause-stays : goal.call_in-requires-clause-stays
 call_in-requires-clause-stays c =
     let few = (call_few c.args.task.0 c.args.func.0 c.args.level.0 c.args.self.now c.loop-below.below).stays in
-    let noted = ap (λ s. s.noted) c.loop-below.invariant ∙ (call_same c.args.task.0 c.args.func.0 c.args.level.0 c.args.self.now c.loop-below.below).noted in
+    let number = ap (λ s. s.events) c.loop-below.invariant ∙ (call_same c.args.task.0 c.args.func.0 c.args.level.0 c.args.self.now c.loop-below.below).events in
     let stays : c.loop-below.self.stays ≤ c.args.self.now.stays + c.loop-below.below = subst (λ s. s.stays ≤ c.args.self.now.stays + c.loop-below.below) (sym c.loop-below.invariant) few in
-    omega (arith, noted, stays)
+    omega (arith, number, stays)
 
 pub call_in-requires-clause-mixed : goal.call_in-requires-clause-mixed
 call_in-requires-clause-mixed c =
     let few = (call_few c.args.task.0 c.args.func.0 c.args.level.0 c.args.self.now c.loop-below.below).mixed in
-    let noted = ap (λ s. s.noted) c.loop-below.invariant ∙ (call_same c.args.task.0 c.args.func.0 c.args.level.0 c.args.self.now c.loop-below.below).noted in
+    let number = ap (λ s. s.events) c.loop-below.invariant ∙ (call_same c.args.task.0 c.args.func.0 c.args.level.0 c.args.self.now c.loop-below.below).events in
     let mixed : c.loop-below.self.mixed ≤ c.args.self.now.mixed + c.loop-below.below = subst (λ s. s.mixed ≤ c.args.self.now.mixed + c.loop-below.below) (sym c.loop-below.invariant) few in
-    omega (arith, noted, mixed)
+    omega (arith, number, mixed)
 
 pub loop-below-preserved : goal.loop-below-preserved
 loop-below-preserved c =

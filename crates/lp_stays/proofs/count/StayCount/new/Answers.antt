@@ -1,6 +1,6 @@
 use Rattle.std.proofs.Common.{ap, sym, ◌∙◌, refl, get_or}
 use Rattle.lp_stays.specs.Invariant.{outside, place}
-use Rattle.lp_stays.proofs.Noting.{all_outside, started}
+use Rattle.lp_stays.proofs.Stepping.{all_outside, started}
 use Rattle.lp_stays.proofs.count.StayCount.new.Goals as goal
 
 pub returns-clause-first : goal.returns-clause-first

@@ -1,9 +1,9 @@
-use Rattle.std.proofs.Common.{◌<◌, refl, sym, ap, ◌∙◌, arith}
+use Rattle.std.proofs.Common.{◌<◌, sym, ap, ◌∙◌, arith}
 use Rattle.lp_transition.specs.Machine.{affected, switches_at}
 use Rattle.lp_transition.specs.Table.{Engine, state_in}
 use Rattle.lp_transition.specs.inside.Table.{changed}
 use Rattle.lp_transition.proofs.Effects.{takes_change_still}
-use Rattle.lp_transition.proofs.LoneChecks.{none-switches_now, put_on, takes_over}
+use Rattle.lp_transition.proofs.LoneChecks.{none-switches_now, put_on, takes_switch}
 use Rattle.lp_transition.proofs.Weighing.{switches-reported, group-below}
 use Rattle.lp_transition.specs.inside.Points.{point_event, at_point}
 use Rattle.lp_transition.proofs.Points.{point-level, point-group, point-plain, point-checks, point-own, point-live, point-told}
@@ -43,7 +43,7 @@ invariant_of-self-2 g c =
     let live = point-live g.M.Consistency.rules (record { number = i.events; from = i.from.0; target = i.target.0; patches = i.patches; table = i.tasks }) c.args.kind c.args.task accepted in
     let within = group-below (record { number = i.events; from = i.from.0; target = i.target.0; patches = i.patches; table = i.tasks }) i.waiting i.members.items c.args.task.0 live.task c.self.invariant live.there in
     let switches = ap (λ (o : Engine). switches_at g.M.Consistency.rules (affected g.M.Consistency.rules (state_in o) (point_event c.args.kind c.args.task)) (point_event c.args.kind c.args.task) live.task.group) (sym c.self.view_is) ∙ switches-reported g.M.Consistency.rules g.met.M.Consistency.lawful (record { number = i.events; from = i.from.0; target = i.target.0; patches = i.patches; table = i.tasks }) i.waiting i.members.items c.self.invariant room (point_event c.args.kind c.args.task) c.args.kind c.args.task.0 h (at_point c.args.kind) (point-level c.args.kind) (point-group c.args.kind) live.task live.there (point-checks _ _ c.args.kind c.args.task c.requires.point) (point-plain c.args.kind c.args.task) accepted (point-own _ _ c.args.kind c.args.task _) (point-told g.M.Consistency.rules _ c.args.kind c.args.task) c.args.switching within switching ∙ c.if-not-switching.false in
-    (takes_over g.M.Consistency.rules g.met.M.Consistency.lawful (record { number = i.events; from = i.from.0; target = i.target.0; patches = i.patches; table = i.tasks }) i.waiting i.members.items c.self.invariant (point_event c.args.kind c.args.task) c.args.kind c.args.task.0 h (at_point c.args.kind) (point-level c.args.kind) (point-group c.args.kind) live.task live.there (point-checks _ _ c.args.kind c.args.task c.requires.point) c.args.self.now c.set_level.new.self c.remove.new.self c.self.view_is (c.set_level.ensures ∙ ap (changed c.args.task.0 (put_on i.target.0)) c.reach_point.ensures) c.remove.ensures.after c.remove.ensures.numbers c.requires.room (point-plain c.args.kind c.args.task) c.requires.accepted (point-own _ _ c.args.kind c.args.task _) switches).kept
+    (takes_switch g.M.Consistency.rules g.met.M.Consistency.lawful (record { number = i.events; from = i.from.0; target = i.target.0; patches = i.patches; table = i.tasks }) i.waiting i.members.items c.self.invariant (point_event c.args.kind c.args.task) c.args.kind c.args.task.0 h (at_point c.args.kind) (point-level c.args.kind) (point-group c.args.kind) live.task live.there (point-checks _ _ c.args.kind c.args.task c.requires.point) c.args.self.now c.set_level.new.self c.remove.new.self c.self.view_is (c.set_level.ensures ∙ ap (changed c.args.task.0 (put_on i.target.0)) c.reach_point.ensures) c.remove.ensures.after c.remove.ensures.numbers c.requires.room (point-plain c.args.kind c.args.task) c.requires.accepted (point-own _ _ c.args.kind c.args.task _) switches).kept
 
 pub returns : goal.returns
 returns g c =
@@ -55,4 +55,4 @@ returns g c =
     let live = point-live g.M.Consistency.rules (record { number = i.events; from = i.from.0; target = i.target.0; patches = i.patches; table = i.tasks }) c.args.kind c.args.task accepted in
     let within = group-below (record { number = i.events; from = i.from.0; target = i.target.0; patches = i.patches; table = i.tasks }) i.waiting i.members.items c.args.task.0 live.task c.self.invariant live.there in
     let switches = ap (λ (o : Engine). switches_at g.M.Consistency.rules (affected g.M.Consistency.rules (state_in o) (point_event c.args.kind c.args.task)) (point_event c.args.kind c.args.task) live.task.group) (sym c.self.view_is) ∙ switches-reported g.M.Consistency.rules g.met.M.Consistency.lawful (record { number = i.events; from = i.from.0; target = i.target.0; patches = i.patches; table = i.tasks }) i.waiting i.members.items c.self.invariant room (point_event c.args.kind c.args.task) c.args.kind c.args.task.0 h (at_point c.args.kind) (point-level c.args.kind) (point-group c.args.kind) live.task live.there (point-checks _ _ c.args.kind c.args.task c.requires.point) (point-plain c.args.kind c.args.task) accepted (point-own _ _ c.args.kind c.args.task _) (point-told g.M.Consistency.rules _ c.args.kind c.args.task) c.args.switching within switching ∙ c.if-not-switching.false in
-    (takes_over g.M.Consistency.rules g.met.M.Consistency.lawful (record { number = i.events; from = i.from.0; target = i.target.0; patches = i.patches; table = i.tasks }) i.waiting i.members.items c.self.invariant (point_event c.args.kind c.args.task) c.args.kind c.args.task.0 h (at_point c.args.kind) (point-level c.args.kind) (point-group c.args.kind) live.task live.there (point-checks _ _ c.args.kind c.args.task c.requires.point) c.args.self.now c.set_level.new.self c.remove.new.self c.self.view_is (c.set_level.ensures ∙ ap (changed c.args.task.0 (put_on i.target.0)) c.reach_point.ensures) c.remove.ensures.after c.remove.ensures.numbers c.requires.room (point-plain c.args.kind c.args.task) c.requires.accepted (point-own _ _ c.args.kind c.args.task _) switches).state
+    (takes_switch g.M.Consistency.rules g.met.M.Consistency.lawful (record { number = i.events; from = i.from.0; target = i.target.0; patches = i.patches; table = i.tasks }) i.waiting i.members.items c.self.invariant (point_event c.args.kind c.args.task) c.args.kind c.args.task.0 h (at_point c.args.kind) (point-level c.args.kind) (point-group c.args.kind) live.task live.there (point-checks _ _ c.args.kind c.args.task c.requires.point) c.args.self.now c.set_level.new.self c.remove.new.self c.self.view_is (c.set_level.ensures ∙ ap (changed c.args.task.0 (put_on i.target.0)) c.reach_point.ensures) c.remove.ensures.after c.remove.ensures.numbers c.requires.room (point-plain c.args.kind c.args.task) c.requires.accepted (point-own _ _ c.args.kind c.args.task _) switches).state

@@ -3,6 +3,6 @@ use Rattle.lp_numbers.specs.Numbers.{has}
 use Rattle.lp_transition.specs.inside.ScanSteps.{is_judged, AreSwitched}
 use Rattle.lp_transition.proofs.engine.scan.switch_tasks.Given as goal
 
--- the tasks of the verdicts so far went over
+-- the tasks of the verdicts so far switched
 abbrev pub invariant-loop-verdict : goal.invariant-loop-verdict
 invariant-loop-verdict l = AreSwitched (is_judged (take l.verdict-index l.verdicts)) (has l.switching) l.target.0 l.fn.tasks l.tasks l.fn.waiting l.waiting

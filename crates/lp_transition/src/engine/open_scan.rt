@@ -1,0 +1,131 @@
+//! Open scans, which ask the members of some groups alone: of each of the others a member's refusal
+//! still stands.
+ghost use Rattle.std.specs.Prelude.{◌≡◌, ◌<◌, ◌≤◌, ◌↔◌, ◌&&◌, ◌||◌, ℕ, true, Err, map, nat_eq, IfOk, IsTrue};
+ghost use Rattle.std.specs.List.{filter, list_any};
+ghost use Rattle.lp_stack.specs.TaskView.{seen};
+ghost use Rattle.lp_numbers.specs.Numbers.{has};
+ghost use Rattle.lp_transition.specs.Table.{slot, state_in};
+ghost use Rattle.lp_transition.specs.Weigh.{IsWeighed};
+ghost use Rattle.lp_transition.specs.Steps.{IsReply};
+ghost use Rattle.lp_transition.specs.Scan.{is_asked, is_scan_kind, scan_event, MayLeaveOut, passing, verdicts_among, views_of};
+ghost use Rattle.lp_transition.specs.inside.ScanSteps.{IsOwnGroup, task_switches, tasks_of};
+ghost use Rattle.lp_transition.specs.declared.engine.step.Halt.TheVariants.{JournalFull};
+
+use super::dispatch::verdicts;
+use super::scan::{member_from, views_in};
+use super::step::{Halt, Step};
+use super::task_table::TaskTable;
+use super::{Core, MOST_EVENTS};
+use lp_model::{CheckKind, Consistency, Verdict};
+use lp_numbers::NumberSet;
+use lp_stack::{TaskId, View};
+use std::alloc::{AllocError, Global};
+
+impl<M: Consistency> Core<M> {
+    /// A walk or a stop, weighed after a look at the waiting tasks of some groups alone: of each of
+    /// the others that waits it would refuse a member. NoMemory where an allocation failed,
+    /// JournalFull where no event is left.
+    pub fn weigh_asked(
+        &self,
+        alloc: Global,
+        kind: CheckKind,
+        asked: &NumberSet,
+    ) -> Result<Step, Halt>
+        requires scan { is_scan_kind kind ≡ true }
+        requires others { MayLeaveOut M.rules kind (state_in self.now) (has asked.now) }
+        ensures full { (result ≡ Err JournalFull) ↔ (1000000 ≤ self.now.number) }
+        ensures reply { IfOk result (λ step. IsReply M.rules (state_in self.now) (scan_event kind) step.reply) }
+        ensures weighed { IfOk result (λ step. IsWeighed M.rules self.now step) }
+        ensures event { IfOk result (λ step. step.event ≡ scan_event kind) }
+        ensures verdicts { IfOk result (λ step. step.verdicts ≡ verdicts_among M.rules kind (state_in self.now) (has asked.now)) }
+    {
+        if self.events >= MOST_EVENTS {
+            return Err(Halt::JournalFull);
+        }
+        let views = self.asked_views(alloc, asked)?;
+        let aim = self.aim();
+        let found = verdicts(alloc, &self.model, kind, views.as_slice(), &aim)?;
+        self.weigh_found(alloc, kind, found.as_slice())
+    }
+
+    /// The waiting tasks of some groups as checks see them, by increasing number.
+    fn asked_views(&self, alloc: Global, groups: &NumberSet) -> Result<Vec<View<'_>>, AllocError>
+        ensures { IfOk result (λ views. map seen views.items ≡ filter (λ view. is_asked (state_in self.now) (has groups.now) view.task) (views_of (state_in self.now))) }
+    {
+        if self.are_own(groups) {
+            return views_in(alloc, &self.tasks, &self.waiting, groups);
+        }
+        let members = members_of(alloc, &self.tasks, &self.waiting, groups)?;
+        views_in(alloc, &self.tasks, &self.waiting, &members)
+    }
+
+    /// Most groups have one member, of their own number: then the groups are the tasks to look at, and
+    /// no set of members has to be made.
+    fn are_own(&self, groups: &NumberSet) -> bool
+        ensures { IsTrue result → (group : ℕ) → group < 65536 → has groups.now group ≡ true → IsOwnGroup self.now.table group }
+    {
+        let mut next = member_from(groups, 0);
+        while let Some(number) = next {
+            if !self.is_own(number) {
+                return false;
+            }
+            next = member_from(groups, usize::from(number) + 1);
+        }
+        true
+    }
+
+    /// Whether a group has no other live member than the task of its number, which has no other group.
+    fn is_own(&self, number: u16) -> bool
+        ensures { IsTrue result → IsOwnGroup self.now.table number }
+    {
+        let members = self.members[usize::from(number)];
+        match self.tasks.get(TaskId(number)) {
+            Some(live) => live.group().0 == number && members == 1,
+            None => members == 0,
+        }
+    }
+}
+
+/// The waiting tasks of some groups.
+fn members_of(
+    alloc: Global,
+    tasks: &TaskTable,
+    waiting: &NumberSet,
+    groups: &NumberSet,
+) -> Result<NumberSet, AllocError>
+    ensures { IfOk result (λ set. (task : ℕ) → has set task ≡ list_any (λ t. nat_eq t task && task_switches (has groups.now) (slot tasks.now t)) (passing 0 65536 (has waiting.now))) }
+{
+    let mut members = NumberSet::new(alloc)?;
+    let mut next = member_from(waiting, 0);
+    while let Some(number) = next {
+        add_member(&mut members, tasks, groups, TaskId(number));
+        next = member_from(waiting, usize::from(number) + 1);
+    }
+    Ok(members)
+}
+
+/// Takes in a live task whose group is one of these.
+fn add_member(members: &mut NumberSet, tasks: &TaskTable, groups: &NumberSet, task: TaskId)
+    ensures { (other : ℕ) → has members.new other ≡ (has members.old other || (nat_eq task.0 other && task_switches (has groups.now) (slot tasks.now task.0))) }
+{
+    if let Some(live) = tasks.get(task) {
+        if groups.contains(live.group().0) {
+            members.insert(task.0);
+        }
+    }
+}
+
+/// Whether these verdicts, which are by increasing number, are of all members of the waiting set.
+/// It stops at the first that isn't.
+pub(super) fn looks_at_all(waiting: &NumberSet, verdicts: &[Verdict]) -> bool
+    ensures { IsTrue result ↔ (tasks_of verdicts.now ≡ passing 0 65536 (has waiting.now)) }
+{
+    let mut next = member_from(waiting, 0);
+    for verdict in verdicts {
+        if next != Some(verdict.task.0) {
+            return false;
+        }
+        next = member_from(waiting, usize::from(verdict.task.0) + 1);
+    }
+    next.is_none()
+}
