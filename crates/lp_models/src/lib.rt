@@ -6,9 +6,6 @@ mod hybrid;
 mod immediate;
 mod leave_kernel;
 mod name;
-#[cfg(test)]
-mod tests;
-
 pub use all_at_once::AllAtOnce;
 pub use hybrid::Hybrid;
 pub use immediate::Immediate;

@@ -3,9 +3,6 @@
 
 mod levels;
 mod row;
-mod set;
-#[cfg(test)]
-mod tests;
-mod word;
+mod set;mod word;
 
 pub use set::{NUMBERS, NumberSet};

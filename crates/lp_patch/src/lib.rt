@@ -5,9 +5,6 @@ mod aim;
 mod fault;
 mod set;
 mod stack;
-#[cfg(test)]
-mod tests;
-
 pub use aim::Aim;
 pub use fault::PatchFault;
 pub use set::{MOST_FUNCTIONS, PatchSet};

@@ -2,7 +2,4 @@
 #![tactic(auto)]
 
 mod process_group;
-#[cfg(test)]
-mod tests;
-
 pub use process_group::ProcessGroup;

@@ -12,6 +12,3 @@ pub use number::{GroupId, Level, TaskId};
 pub use task_stack::{MOST_FRAMES, TaskStack};
 pub use view::{Class, Mode, View};
 pub use view_copy::ViewCopy;
-
-#[cfg(test)]
-mod tests;

@@ -6,6 +6,3 @@ mod symbols;
 
 pub use sym_id::SymId;
 pub use symbols::{LONGEST_NAME, MOST_SYMBOLS, SymFault, Symbols};
-
-#[cfg(test)]
-mod tests;
