@@ -1,0 +1,9 @@
+pub mod Prefixes
+pub mod Adding
+pub mod PageLemmas
+pub mod BlankLemmas
+pub mod Taken
+pub mod NewLevels
+pub mod Headings
+pub mod Runs
+pub mod LiveTasks

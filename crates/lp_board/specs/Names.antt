@@ -1,0 +1,39 @@
+-- Which desk it is: the start that its board shows, and the history of its events.
+use Rattle.std.specs.Prelude.{ℕ, List, []}
+use Rattle.logbook.specs.Pages.{Book}
+use Rattle.lp_stack.specs.declared.number.TaskId.{TaskId}
+use Rattle.lp_stack.specs.declared.view.Class.{Class}
+use Rattle.lp_patch.specs.Patches.{Patches}
+use Rattle.lp_model.specs.Rules.{Rules}
+use Rattle.lp_transition.specs.declared.event.Event.{Event}
+use Rattle.lp_transition.specs.Leg.{State}
+use Rattle.lp_transition.specs.Run.{Run, leg_of}
+use Rattle.lp_transition.specs.Machine.{state_of}
+use Rattle.lp_transition.specs.Table.{bounds_of}
+use Rattle.lp_transition.specs.RowModels.{hybrid}
+
+-- a model, how a run starts, and where the run's events are kept
+pub record Name : Type 0 where
+  pub model : Rules
+  pub patches : Patches
+  pub boots : List (TaskId × Class)
+  pub book : Book
+
+-- the run that started so and had these events
+abbrev pub run_of : Name → List Event → Run
+run_of name events =
+    record { bounds = bounds_of name.patches; patches = name.patches; boots = name.boots; events = events }
+
+-- the state that the definitions give for where that run stands
+unfoldable pub state_after : Name → List Event → State
+state_after name events = state_of name.model (leg_of name.model (run_of name events))
+
+-- the name of no desk
+abbrev pub nobody : Name
+nobody =
+    record {
+      model = hybrid;
+      patches = [];
+      boots = [];
+      book = record { number = 0; log_name = 0; cells_name = 0 };
+    }

@@ -1,0 +1,245 @@
+//! An engine and a board that have no name yet.
+ghost use Rattle.std.specs.Prelude.{◌≡◌, ◌⊎◌, ◌↔◌, [], Err, None, All, IfOk, IfErr, IfSome, OnErr, drop};
+ghost use Rattle.lp_transition.specs.Boot.{boot_refusal};
+ghost use Rattle.lp_transition.specs.Steps.{StandsIn};
+ghost use Rattle.lp_transition.specs.Table.{state_in};
+ghost use Rattle.lp_transition.specs.declared.engine.boot.BootFault.TheVariants as boot_fault;
+ghost use Rattle.lp_board.specs.Blanks.{IsCrew, name_of};
+ghost use Rattle.lp_board.specs.Names.{run_of};
+ghost use Rattle.lp_board.specs.Pages.{IsPage};
+ghost use Rattle.lp_board.specs.Publishers.{page_of};
+ghost use Rattle.lp_board.specs.declared.launch.LaunchFault.TheVariants.{BadCrew, Boot, NoBoard};
+
+use crate::history::{Head, Law, Prefix};
+use crate::launch::{LaunchFault, MOST_CREW};
+use crate::levels::Levels;
+use crate::name::DeskName;
+use crate::publisher::{Publisher, RawWriter, publish};
+use crate::reader::BoardReader;
+use crate::sheet::{Change, Heading, Sheet, Update};
+use logbook::{Seen, Start, Word};
+use lp_model::Consistency;
+use lp_patch::PatchStack;
+use lp_stack::{Class, Level, TaskId};
+use lp_transition::{BootFault, Core, Event};
+use std::alloc::{AllocError, Global};
+use std::marker::Model;
+use std::sync::Wait;
+
+/// An engine that has taken no event, with all that its board needs but a name.
+///
+/// Contracts see how it starts, and where its events will be kept.
+#[derive(Drop)]
+pub struct Blank<M: Consistency> {
+    core: Core<M>,
+    patches: PatchStack,
+    boots: Vec<(TaskId, Class)>,
+    heading: Heading,
+    first: Levels,
+    second: Levels,
+    head: Head,
+    seen: Seen<Event, u64, Law>,
+    readers: usize,
+}
+
+impl<M: Consistency> Model for Blank<M> {
+    ghost use Rattle.lp_board.specs.Blanks.{BlankStart, name_of, IsBlank};
+    ghost use Rattle.std.specs.Prelude.{[]};
+
+    ghost Value = { BlankStart };
+
+    ghost view = { λ b. record { patches = b.patches; boots = b.boots.items; book = b.seen.book } };
+
+    ghost invariant = { λ b. IsBlank (name_of M.rules (record { patches = b.patches; boots = b.boots.items; book = b.seen.book })) b.core b.patches (record { levels = b.first; heading = b.heading; events = [] }) (record { levels = b.second; heading = b.heading; events = [] }) b.seen.log b.head b.readers };
+}
+
+/// What a blank comes apart into, once it has a name. The publisher isn't `Drop`: end it by `Publisher::shut`.
+pub struct Parts<M: Consistency, N: DeskName> {
+    /// The engine.
+    pub core: Core<M>,
+    /// The patches with which it starts.
+    pub patches: PatchStack,
+    /// The tasks with which it starts.
+    pub boots: Vec<(TaskId, Class)>,
+    /// What publishes on its board.
+    pub board: Publisher<N>,
+    /// The readers of its board.
+    pub readers: Vec<BoardReader<N>>,
+}
+
+impl<M: Consistency> Blank<M> {
+    /// An engine with these tasks, and what its board needs for so many readers.
+    ///
+    /// Refused for a number of readers outside 1 to 64, else as the engine is: T1 or T2 for the first task at fault,
+    /// else T3 where an allocation failed.
+    pub fn new(
+        alloc: Global,
+        model: M,
+        patches: PatchStack,
+        boots: &[(TaskId, Class)],
+        readers: usize,
+    ) -> Result<Blank<M>, LaunchFault>
+        ensures crew { (result ≡ Err BadCrew) ↔ (IsCrew readers → ⊥) }
+        ensures refused { IsCrew readers → IfSome (boot_refusal boots.now) (λ fault. result ≡ Err (Boot fault)) }
+        ensures memory { IsCrew readers → boot_refusal boots.now ≡ None → OnErr result (result ≡ Err (Boot boot_fault.NoMemory)) }
+        ensures start { IfOk result (λ blank. (blank.patches ≡ patches) × (blank.boots ≡ boots.now)) }
+    {
+        if readers == 0 || readers > MOST_CREW {
+            return Err(LaunchFault::BadCrew);
+        }
+        let kept = patches.copy(alloc);
+        let list = Vec::from_slice(alloc, boots);
+        let core = Core::boot(alloc, model, patches, boots)?;
+        let (seen, mut first, _second) = Seen::open(Start::alone(), 0, 0);
+        Ok(Blank {
+            patches: kept?,
+            boots: list?,
+            heading: Heading {
+                in_transition: core.in_transition(),
+                lower: Level(0),
+            },
+            first: Levels::of(alloc, &core)?,
+            second: Levels::of(alloc, &core)?,
+            head: Word::tracked(0, &mut first),
+            seen,
+            readers,
+            core,
+        })
+    }
+
+    /// The engine, its start, what publishes on its board, and the board's readers, under the desk's name.
+    ///
+    /// A refusal gives all up: T3 where an allocation failed, T5 where a reader couldn't be had.
+    pub fn open<N: DeskName, R: Wait>(
+        self,
+        rt: &R,
+        alloc: Global,
+    ) -> Result<Parts<M, N>, LaunchFault>
+        requires { name_of M.rules self ≡ N.desk }
+        ensures stands { IfOk result (λ parts. StandsIn M.rules (run_of N.desk []) (state_in parts.core)) }
+        ensures start { IfOk result (λ parts. (parts.patches ≡ self.patches) × (parts.boots.items ≡ self.boots)) }
+        ensures published { IfOk result (λ parts. parts.board ≡ []) }
+        ensures readers { IfOk result (λ parts. All (λ b. b ≡ record { seen = []; known = [] }) parts.readers.items) }
+        ensures refused { IfErr result (λ fault. (fault ≡ Boot boot_fault.NoMemory) ⊎ (fault ≡ NoBoard)) }
+    {
+        let Self {
+            core,
+            patches,
+            boots,
+            heading,
+            first,
+            second,
+            head,
+            seen,
+            readers: count,
+        } = self;
+        let prefix: Prefix<N> = Prefix::new(seen);
+        let first = Sheet {
+            levels: first,
+            heading,
+            prefix: prefix.again(),
+        };
+        let second = Sheet {
+            levels: second,
+            heading,
+            prefix: prefix.again(),
+        };
+        let mut readers = Vec::with_capacity(alloc, count)?;
+        let writer = RawWriter::<N>::new(alloc, first, second, count)?;
+        let (writer, made) = crewed(rt, alloc, writer, &prefix, heading, &mut readers, count);
+        if let Err(fault) = made {
+            drop(writer.take(rt));
+            return Err(fault);
+        }
+        Ok(Parts {
+            core,
+            patches,
+            boots,
+            board: Publisher::new(head, prefix, writer),
+            readers,
+        })
+    }
+}
+
+/// The writer with room for one event, and the readers.
+fn crewed<N: DeskName, R: Wait>(
+    rt: &R,
+    alloc: Global,
+    writer: RawWriter<N>,
+    prefix: &Prefix<N>,
+    heading: Heading,
+    all: &mut Vec<BoardReader<N>>,
+    readers: usize,
+) -> (RawWriter<N>, Result<(), LaunchFault>)
+    requires empty { (prefix.now ≡ []) × (all.old.items ≡ []) }
+    requires page { IsPage N.desk (page_of writer.desk.shown.value) }
+    requires same { (page_of writer.desk.shown.value).events ≡ prefix.now }
+    requires heading { (page_of writer.desk.shown.value).heading ≡ heading }
+    requires pending { drop writer.behind writer.log.items ≡ [] }
+    ensures page { page_of result.0.desk.shown.value ≡ page_of writer.desk.shown.value }
+    ensures pending { drop result.0.behind result.0.log.items ≡ [] }
+    ensures readers { All (λ b. b ≡ record { seen = []; known = [] }) all.new.items }
+    ensures refused { IfErr result.1 (λ fault. (fault ≡ Boot boot_fault.NoMemory) ⊎ (fault ≡ NoBoard)) }
+{
+    let (writer, roomy) = with_room(rt, alloc, writer, prefix, heading);
+    if roomy.is_err() {
+        return (writer, Err(LaunchFault::Boot(BootFault::NoMemory)));
+    }
+    let (writer, roomy) = with_room(rt, alloc, writer, prefix, heading);
+    if roomy.is_err() {
+        return (writer, Err(LaunchFault::Boot(BootFault::NoMemory)));
+    }
+    let made = seat_all(&writer, prefix, all, readers);
+    (writer, made)
+}
+
+/// Publishes a change that changes nothing, so that there is room for one.
+fn with_room<N: DeskName, R: Wait>(
+    rt: &R,
+    alloc: Global,
+    mut writer: RawWriter<N>,
+    prefix: &Prefix<N>,
+    heading: Heading,
+) -> (RawWriter<N>, Result<(), AllocError>)
+    requires page { IsPage N.desk (page_of writer.desk.shown.value) }
+    requires same { (page_of writer.desk.shown.value).events ≡ prefix.now }
+    requires heading { (page_of writer.desk.shown.value).heading ≡ heading }
+    requires pending { drop writer.behind writer.log.items ≡ [] }
+    ensures page { page_of result.0.desk.shown.value ≡ page_of writer.desk.shown.value }
+    ensures pending { drop result.0.behind result.0.log.items ≡ [] }
+{
+    let nothing = Change {
+        update: Update {
+            levels: Vec::new(alloc),
+            heading,
+        },
+        prefix: prefix.again(),
+    };
+    if writer.append(nothing).is_err() {
+        return (writer, Err(AllocError));
+    }
+    let (writer, ()) = publish(writer, rt);
+    (writer, Ok(()))
+}
+
+/// Makes so many readers.
+fn seat_all<N: DeskName>(
+    writer: &RawWriter<N>,
+    prefix: &Prefix<N>,
+    all: &mut Vec<BoardReader<N>>,
+    readers: usize,
+) -> Result<(), LaunchFault>
+    requires { (prefix.now ≡ []) × (all.old.items ≡ []) }
+    ensures readers { All (λ b. b ≡ record { seen = []; known = [] }) all.new.items }
+    ensures refused { IfErr result (λ fault. (fault ≡ Boot boot_fault.NoMemory) ⊎ (fault ≡ NoBoard)) }
+{
+    for _made in 0..readers {
+        let Ok(raw) = writer.factory().reader() else {
+            return Err(LaunchFault::NoBoard);
+        };
+        if all.push(BoardReader::new(raw, prefix)).is_err() {
+            return Err(LaunchFault::Boot(BootFault::NoMemory));
+        }
+    }
+    Ok(())
+}

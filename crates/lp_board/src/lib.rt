@@ -1,0 +1,22 @@
+//! A board on which a desk publishes, an event at a time, where its tasks stand, and which readers read without waiting.
+#![tactic(auto)]
+
+mod blank;
+mod history;
+mod launch;
+mod levels;
+mod name;
+mod publisher;
+mod reader;
+mod sheet;
+mod shown;
+mod update;
+
+pub use blank::{Blank, Parts};
+pub use history::Prefix;
+pub use launch::{LaunchFault, MOST_CREW};
+pub use name::DeskName;
+pub use publisher::Publisher;
+pub use reader::{BoardFault, BoardReader, Told};
+pub use sheet::{Heading, Update};
+pub use shown::Shown;

@@ -1,0 +1,209 @@
+//! Readers of the board, and what they are told.
+ghost use Rattle.std.specs.Prelude.{◌≡◌, ◌⊎◌, ◌∷◌, [], length, slice_index_or, IfSome, IfNone, IfOk, OnOk, OnErr};
+ghost use mathlib.Core.List.{IsPrefix};
+ghost use Rattle.lp_board.specs.Words.{shown_word, all_shown};
+ghost use Rattle.lp_board.specs.Names.{state_after};
+ghost use Rattle.lp_board.specs.Pages.{IsPage};
+ghost use Rattle.lp_board.specs.Publishers.{page_of};
+
+use crate::history::Prefix;
+use crate::name::DeskName;
+use crate::sheet::{Sheet, Shows};
+use crate::shown::Shown;
+use core::mem::replace_with;
+use left_right::reader::Reader;
+use lp_stack::TaskId;
+use std::alloc::Global;
+use std::marker::Model;
+
+pub(crate) type Raw<N> = Reader<Sheet<N>, (), Shows<N>>;
+
+/// The events that a desk had published at some moment.
+///
+/// Contracts see the events.
+#[derive(Drop)]
+pub struct Told<N: DeskName> {
+    prefix: Prefix<N>,
+}
+
+impl<N: DeskName> Model for Told<N> {
+    ghost use Rattle.std.specs.Prelude.{List};
+    ghost use Rattle.lp_transition.specs.declared.event.Event.{Event};
+
+    ghost Value = { List Event };
+
+    ghost view = { λ t. t.prefix };
+}
+
+impl<N: DeskName> Told<N> {
+    pub(crate) fn new(prefix: Prefix<N>) -> Told<N>
+        ensures { result ≡ prefix }
+    {
+        Told { prefix }
+    }
+
+    /// How many events these are.
+    pub fn events(&self) -> u64
+        ensures { result ≡ length self.now }
+    {
+        self.prefix.len()
+    }
+}
+
+/// Why a reader gave no snapshot. The reader is then as it was.
+#[derive(Clone, Copy, Debug, PartialEq, Eq)]
+pub enum BoardFault {
+    /// The board can't be entered, as it was given up.
+    Shut,
+    /// A growth was refused.
+    NoMemory,
+}
+
+/// A reader of a desk's board. It never waits.
+///
+/// Contracts see the events that its last answer showed, and all that it has seen or learnt.
+#[derive(Drop)]
+pub struct BoardReader<N: DeskName> {
+    raw: Raw<N>,
+    seen: Prefix<N>,
+    known: Prefix<N>,
+}
+
+impl<N: DeskName> Model for BoardReader<N> {
+    ghost use mathlib.Core.List.{IsPrefix};
+    ghost use Rattle.lp_board.specs.Readers.{Knows};
+
+    ghost Value = { Knows };
+
+    ghost view = { λ b. record { seen = b.seen; known = b.known } };
+
+    ghost invariant = { λ b. IsPrefix b.seen b.known };
+}
+
+impl<N: DeskName> BoardReader<N> {
+    ghost use Rattle.lp_board.specs.Readers.{Knows};
+
+    /// A reader that has seen nothing.
+    pub(crate) fn new(raw: Raw<N>, start: &Prefix<N>) -> BoardReader<N>
+        requires { start.now ≡ [] }
+        ensures { result ≡ record { seen = []; known = [] } }
+    {
+        BoardReader {
+            raw,
+            seen: start.again(),
+            known: start.again(),
+        }
+    }
+
+    /// How many events its last answer showed; 0 before the first.
+    pub fn seen(&self) -> u64
+        ensures value { result ≡ length self.now.seen }
+        ensures begins { IsPrefix self.now.seen self.now.known }
+    {
+        self.seen.len()
+    }
+
+    /// From now on it sees no less than what it is told. Never allocates.
+    pub fn learn(&mut self, told: Told<N>)
+        ensures one { (self.new.known ≡ self.old.known) ⊎ (self.new.known ≡ told) }
+        ensures known { IsPrefix self.old.known self.new.known }
+        ensures told { IsPrefix told self.new.known }
+        ensures seen { self.new.seen ≡ self.old.seen }
+    {
+        let Told { prefix } = told;
+        self.known = self.known.again().longer(prefix);
+    }
+
+    /// Where a task stands. None where the board can't be entered, and then the reader is as it was. Never allocates.
+    pub fn state_of(&mut self, task: TaskId) -> Option<Shown>
+        ensures shown { IfSome result (λ shown. shown ≡ shown_word (state_after N.desk self.new.seen) task.0) }
+        ensures later { IfSome result (λ _. IsPrefix self.old.known self.new.seen × (self.new.known ≡ self.new.seen)) }
+        ensures seen { IsPrefix self.old.seen self.new.seen }
+        ensures none { IfNone result (self.new ≡ self.old) }
+    {
+        let asked = (self.known.again(), task);
+        let (shown, prefix) = replace_with(&mut self.raw, asked, read_one::<N>)?;
+        self.seen = prefix.again();
+        self.known = prefix;
+        Some(shown)
+    }
+
+    /// Where each live task stands, by increasing number, all at one moment. At `Err` the reader is as it was.
+    pub fn snapshot(&mut self, alloc: Global) -> Result<Vec<(TaskId, Shown)>, BoardFault>
+        ensures shown { IfOk result (λ tasks. tasks.items ≡ all_shown (shown_word (state_after N.desk self.new.seen))) }
+        ensures later { OnOk result (IsPrefix self.old.known self.new.seen × (self.new.known ≡ self.new.seen)) }
+        ensures seen { IsPrefix self.old.seen self.new.seen }
+        ensures err { OnErr result (self.new ≡ self.old) }
+    {
+        let asked = (self.known.again(), alloc);
+        let (tasks, prefix) = replace_with(&mut self.raw, asked, read_all::<N>)?;
+        self.seen = prefix.again();
+        self.known = prefix;
+        Ok(tasks)
+    }
+}
+
+/// Where a task stands on what is published, and after which events. None where the board can't be entered, or where
+/// what is published doesn't begin with what is known. That never happens, as what is known was published before; but
+/// no contract of what the board stands on says so.
+fn read_one<N: DeskName>(
+    raw: Raw<N>,
+    asked: (Prefix<N>, TaskId),
+) -> (Raw<N>, Option<(Shown, Prefix<N>)>)
+    ensures shown { IfSome result.1 (λ r. r.0 ≡ shown_word (state_after N.desk r.1) asked.1.0) }
+    ensures later { IfSome result.1 (λ r. IsPrefix asked.0 r.1) }
+{
+    let (known, task) = asked;
+    match raw.enter_as::<Shows<N>>() {
+        Ok(reading) => {
+            let sheet = reading.get();
+            let answer = if sheet.prefix.begins_with(&known) {
+                Some((sheet.shown(task), sheet.prefix.again()))
+            } else {
+                None
+            };
+            (reading.leave(), answer)
+        }
+        Err(raw) => (raw, None),
+    }
+}
+
+/// Where each live task stands on what is published, and after which events.
+fn read_all<N: DeskName>(
+    raw: Raw<N>,
+    asked: (Prefix<N>, Global),
+) -> (
+    Raw<N>,
+    Result<(Vec<(TaskId, Shown)>, Prefix<N>), BoardFault>,
+)
+    ensures shown { IfOk result.1 (λ r. r.0.items ≡ all_shown (shown_word (state_after N.desk r.1))) }
+    ensures later { IfOk result.1 (λ r. IsPrefix asked.0 r.1) }
+{
+    let (known, alloc) = asked;
+    match raw.enter_as::<Shows<N>>() {
+        Ok(reading) => {
+            let answer = read_sheet(reading.get(), &known, alloc);
+            (reading.leave(), answer)
+        }
+        Err(raw) => (raw, Err(BoardFault::Shut)),
+    }
+}
+
+/// Where each live task stands on a sheet, and after which events.
+fn read_sheet<N: DeskName>(
+    sheet: &Sheet<N>,
+    known: &Prefix<N>,
+    alloc: Global,
+) -> Result<(Vec<(TaskId, Shown)>, Prefix<N>), BoardFault>
+    requires { IsPage N.desk (page_of sheet.now) }
+    ensures shown { IfOk result (λ r. r.0.items ≡ all_shown (shown_word (state_after N.desk r.1))) }
+    ensures later { IfOk result (λ r. IsPrefix known.now r.1) }
+{
+    if !sheet.prefix.begins_with(known) {
+        return Err(BoardFault::Shut);
+    }
+    match sheet.all(alloc) {
+        Ok(tasks) => Ok((tasks, sheet.prefix.again())),
+        Err(_) => Err(BoardFault::NoMemory),
+    }
+}
