@@ -14,6 +14,7 @@ mod commanded;
 mod judged;
 mod ready;
 mod sent;
+mod stepped;
 
 use crate::{Control, Entry, Journal, Seat};
 use lp_model::{CheckKind, Consistency, Verdict};

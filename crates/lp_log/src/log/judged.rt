@@ -84,7 +84,7 @@ impl<M: Consistency> Log<M> {
     }
 
     /// Whether no number is left for one more event.
-    fn is_full(&self) -> bool
+    pub(super) fn is_full(&self) -> bool
         ensures { IsTrue result ↔ (1000000 ≤ length self.now.journal.entries) }
     {
         self.core.events() >= u64::from(MOST_EVENTS)

@@ -10,6 +10,7 @@ ghost use Rattle.lp_log.specs.Logs.{AreSame};
 ghost use Rattle.lp_log.specs.Seats.{owner, and_sent, child_seat};
 
 use super::Log;
+use super::stepped::is_plain;
 use crate::Entry;
 use crate::seat::{Cause, Seat, Submitted, Turned};
 use lp_model::Consistency;
@@ -65,6 +66,9 @@ impl<M: Consistency> Log<M> {
         if !is_own(event, seat.task) {
             return Err(Cause::NotYours);
         }
+        if is_plain(event) {
+            return self.step_into(alloc, event, &mut seat.entries);
+        }
         let step = self.weigh(alloc, event)?;
         let reply = self.take_into(alloc, step, &mut seat.entries)?;
         Ok(reply)
@@ -98,7 +102,7 @@ impl<M: Consistency> Log<M> {
     }
 
     /// The number of the next event.
-    fn next_number(&self) -> u32
+    pub(super) fn next_number(&self) -> u32
         requires { self.now.core.number < 1000000 }
         ensures { result ≡ length self.now.journal.entries + 1 }
     {

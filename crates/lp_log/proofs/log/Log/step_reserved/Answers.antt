@@ -1,0 +1,50 @@
+use Rattle.std.proofs.Common.{◌≡◌, ◌∙◌, ◌+◌, ◌∷◌, ◌++◌, [], List, ap, arith, subst, sym, false}
+use Rattle.lp_transition.specs.Weigh.{is_switched}
+use Rattle.lp_log.specs.declared.entry.Entry.{Entry}
+use Rattle.lp_log.specs.Journals.{Written, next_entry, reply_to, run_of}
+use Rattle.lp_log.specs.Logs.{IsLogged, Logged}
+use Rattle.lp_log.proofs.Longer.{number_of, logged_longer}
+use Rattle.lp_log.proofs.Plain.{plain_reply}
+use Rattle.lp_log.proofs.log.Log.step_reserved.Goals as goal
+
+pub overflow_cast-number : goal.overflow_cast-number
+overflow_cast-number g c =
+    let journal : Written = record { patches = c.self.inside.patches; boots = c.self.inside.boots.items; entries = c.self.inside.entries.items } in
+    let n = number_of g.M.Consistency.rules c.self.inside.core journal c.self.invariant in
+    let core : c.self.inside.core.number ≡ c.args.self.now.core.number = ap (λ (l : Logged). l.core.number) c.self.view_is in
+    omega (arith, n, core, c.requires.left, c.len.ensures)
+
+pub overflow_add-number : goal.overflow_add-number
+overflow_add-number g c =
+    let journal : Written = record { patches = c.self.inside.patches; boots = c.self.inside.boots.items; entries = c.self.inside.entries.items } in
+    let n = number_of g.M.Consistency.rules c.self.inside.core journal c.self.invariant in
+    let core : c.self.inside.core.number ≡ c.args.self.now.core.number = ap (λ (l : Logged). l.core.number) c.self.view_is in
+    omega (arith, n, core, c.requires.left, c.len.ensures)
+
+pub copy_of-requires : goal.copy_of-requires
+copy_of-requires g c =
+    let journal : Written = record { patches = c.self.inside.patches; boots = c.self.inside.boots.items; entries = c.self.inside.entries.items } in
+    plain_reply g.M.Consistency.rules _ (run_of journal) c.args.event c.in-Ok.reply _ c.the_machine_steps_as_defined.ensures c.self.invariant.stands c.in-Ok.ensures.step c.requires.plain
+
+pub invariant_of-self : goal.invariant_of-self
+invariant_of-self g c =
+    let model = g.M.Consistency.rules in
+    let before : List Entry = c.self.inside.entries.items in
+    let journal : Written = record { patches = c.self.inside.patches; boots = c.self.inside.boots.items; entries = before } in
+    let entry : Entry = record { number = c.len.result + 1; event = c.args.event; reply = c.copy_of.result } in
+    let same : entry ≡ next_entry before c.args.event c.in-Ok.reply = cc (c.copy_of.ensures, c.len.ensures) in
+    let items : c.push_reserved.new.self.items ≡ before ++ next_entry before c.args.event c.in-Ok.reply ∷ [] = c.push_reserved.ensures.items ∙ ap (λ (e : Entry). before ++ e ∷ []) same in
+    subst (λ (es : List Entry). IsLogged model c.step.new.self (record journal { entries = es })) (sym items)
+    (logged_longer model c.self.inside.core c.step.new.self journal c.args.event c.in-Ok.reply c.self.invariant c.in-Ok.ensures.step)
+
+pub returns-clause-reply : goal.returns-clause-reply
+returns-clause-reply g c =
+    let model = g.M.Consistency.rules in
+    let journal : Written = record { patches = c.self.inside.patches; boots = c.self.inside.boots.items; entries = c.self.inside.entries.items } in
+    let there : journal ≡ c.args.self.now.journal = ap (λ (l : Logged). l.journal) c.self.view_is in
+    c.in-Ok.ensures.step.replies (run_of journal) c.self.invariant.stands ∙ ap (λ (j : Written). reply_to model j c.args.event) there
+
+pub returns-clause-plain : goal.returns-clause-plain
+returns-clause-plain g c =
+    let journal : Written = record { patches = c.self.inside.patches; boots = c.self.inside.boots.items; entries = c.self.inside.entries.items } in
+    plain_reply g.M.Consistency.rules _ (run_of journal) c.args.event c.in-Ok.reply _ c.the_machine_steps_as_defined.ensures c.self.invariant.stands c.in-Ok.ensures.step c.requires.plain
