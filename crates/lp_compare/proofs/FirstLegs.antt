@@ -1,0 +1,87 @@
+-- The first leg of a trace, and the rows of the models.
+use Rattle.std.proofs.Common.{◌≡◌, ◌<◌, ◌≤◌, ℕ, List, [], ◌∷◌, map, length, All, Option, Some, None, refl, sym, ap, ap₂, ◌∙◌, subst, arith}
+use Rattle.std.specs.Prelude.{slice_get}
+use Rattle.std.specs.List.{AllByRecursion}
+use Rattle.std.specs.Option.{option_map}
+use Rattle.std.proofs.lemmas.List.Elements.{All-from_recursion, All-head}
+use Rattle.lp_stack.specs.declared.number.TaskId.{TaskId}
+use Rattle.lp_stack.specs.declared.view.Class.{Class}
+use Rattle.lp_model.specs.Rules.{Rules, IsLawful}
+use Rattle.lp_models.specs.declared.name.ModelName.{ModelName}
+use Rattle.lp_models.specs.declared.name.ModelName.TheVariants.{Hybrid, LeaveKernel, AllAtOnce, Immediate, ProcessGroup}
+use Rattle.lp_transition.specs.declared.reply.Reply.{Reply}
+use Rattle.lp_transition.specs.Leg.{Leg}
+use Rattle.lp_transition.specs.Run.{AreInRange, first_leg, replies}
+use Rattle.lp_cert.specs.declared.leg_end.LegEnd.{LegEnd}
+use Rattle.lp_cert.specs.Certificates.{opened_legs}
+use Rattle.lp_cert.specs.Ends.{end_of}
+use Rattle.lp_text.specs.Traces.{TraceValue, IsTask, IsTrace}
+use Rattle.lp_replay.specs.Headline.{whole_run}
+use Rattle.lp_replay.specs.Outcome.{run_of}
+use Rattle.lp_replay.proofs.LegByLeg.{IsLeg, legs_of}
+use Rattle.lp_compare.specs.declared.comparison.Comparison.{Comparison}
+use Rattle.lp_compare.specs.declared.comparison.Row.{Row}
+use Rattle.lp_compare.specs.declared.first_end.FirstEnd.{FirstEnd}
+use Rattle.lp_compare.specs.Named.{rules_named}
+use Rattle.lp_compare.specs.Comparison.{comparison, first_end, row_of}
+use Rattle.lp_compare.specs.inside.FirstEnds.{FewBirths, kept_end, row_with}
+use Rattle.lp_compare.proofs.Births.{few_births}
+
+boots_in_range : (boots : List (TaskId × Class)) → AllByRecursion (λ (boot : TaskId × Class). IsTask boot.0) boots → AllByRecursion (λ (boot : TaskId × Class). (0 < boot.0.0) × (boot.0.0 ≤ 65535)) boots
+boots_in_range [] tasks = tt
+boots_in_range (boot ∷ boots) tasks = ((omega (arith, tasks.0.0), omega (arith, tasks.0.1)), boots_in_range boots tasks.1)
+
+-- the boot tasks of a trace have numbers in range
+pub in_range : (trace : TraceValue) → IsTrace trace → AreInRange (run_of trace).bounds (run_of trace).boots
+in_range trace is =
+    All-from_recursion (λ (boot : TaskId × Class). (0 < boot.0.0) × (boot.0.0 ≤ 65535)) trace.boots (boots_in_range trace.boots is.boots)
+
+module _ (model : Rules) (lawful : IsLawful model) where
+  few_at : (answered : List Reply) (legs : List Leg) → All (IsLeg model lawful answered) legs → (end : LegEnd) → slice_get (map (end_of model) legs) 0 ≡ Some end → FewBirths end
+  few_at answered [] all end e = absurd (cc)
+  few_at answered (leg ∷ legs) all end e =
+      let is = All-head (IsLeg model lawful answered) leg legs all in
+      let same : end_of model leg ≡ end = cc in
+      subst FewBirths same (few_births model leg (omega (arith, is.few)))
+
+  -- the births of a first leg can be counted
+  pub few_in_first : (trace : TraceValue) → IsTrace trace → (ends : List LegEnd) (end : LegEnd) → ends ≡ map (end_of model) (opened_legs model (first_leg model (run_of trace)) trace.events) → slice_get ends 0 ≡ Some end → FewBirths end
+  few_in_first trace is ends end e found =
+      few_at (replies model (first_leg model (run_of trace)) trace.events) (opened_legs model (first_leg model (run_of trace)) trace.events) (legs_of model lawful (whole_run trace) (in_range trace is) is.events_few) end
+      (ap (λ (es : List LegEnd). slice_get es 0) (sym e) ∙ found)
+
+-- ---- Rows
+
+row_kept : (model : ModelName) (o : Option LegEnd) → row_with model (option_map kept_end o) ≡ row_of model o
+row_kept model None = refl
+row_kept model (Some end) = refl
+
+opened_kept : (o : Option LegEnd) → option_map (λ (end : FirstEnd). end.opened) (option_map kept_end o) ≡ option_map (λ (end : LegEnd). end.opened) o
+opened_kept None = refl
+opened_kept (Some end) = refl
+
+row_is : (model : ModelName) (rules : Rules) (trace : TraceValue) (row : Row) (kept : Option FirstEnd) → row ≡ row_with model kept → kept ≡ option_map kept_end (first_end rules trace) → row ≡ row_of model (first_end rules trace)
+row_is model rules trace row kept is e = is ∙ (ap (row_with model) e ∙ row_kept model (first_end rules trace))
+
+abbrev with_parts : Option ℕ → List Row → Comparison
+with_parts leg rows = record { leg = leg; rows = rows }
+
+-- an answer put together from the rows of the five models
+pub compared : (trace : TraceValue) (leg : Option ℕ) (rows : List Row) (a b c d e : Row) (k l m n o : Option FirstEnd)
+    → leg ≡ option_map (λ (end : FirstEnd). end.opened) k → rows ≡ a ∷ b ∷ c ∷ d ∷ e ∷ []
+    → a ≡ row_with Hybrid k → k ≡ option_map kept_end (first_end (rules_named Hybrid) trace)
+    → b ≡ row_with LeaveKernel l → l ≡ option_map kept_end (first_end (rules_named LeaveKernel) trace)
+    → c ≡ row_with AllAtOnce m → m ≡ option_map kept_end (first_end (rules_named AllAtOnce) trace)
+    → d ≡ row_with Immediate n → n ≡ option_map kept_end (first_end (rules_named Immediate) trace)
+    → e ≡ row_with ProcessGroup o → o ≡ option_map kept_end (first_end (rules_named ProcessGroup) trace)
+    → with_parts leg rows ≡ comparison trace
+unfolding comparison
+compared trace leg rows a b c d e k l m n o leg_is rows_are a_is k_is b_is l_is c_is m_is d_is n_is e_is o_is =
+    ap₂ with_parts
+    (leg_is ∙ (ap (option_map (λ (end : FirstEnd). end.opened)) k_is ∙ opened_kept (first_end (rules_named Hybrid) trace)))
+    (rows_are
+    ∙ (ap₂ (λ x xs. x ∷ xs) (row_is Hybrid (rules_named Hybrid) trace a k a_is k_is)
+    (ap₂ (λ x xs. x ∷ xs) (row_is LeaveKernel (rules_named LeaveKernel) trace b l b_is l_is)
+    (ap₂ (λ x xs. x ∷ xs) (row_is AllAtOnce (rules_named AllAtOnce) trace c m c_is m_is)
+    (ap₂ (λ x xs. x ∷ xs) (row_is Immediate (rules_named Immediate) trace d n d_is n_is)
+    (ap (λ x. x ∷ []) (row_is ProcessGroup (rules_named ProcessGroup) trace e o e_is o_is)))))))

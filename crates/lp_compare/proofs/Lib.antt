@@ -1,0 +1,2 @@
+pub mod Births
+pub mod FirstLegs

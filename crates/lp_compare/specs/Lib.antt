@@ -1,0 +1,4 @@
+pub mod Named
+pub mod Comparison
+pub mod Permissive
+pub mod inside

@@ -1,0 +1,10 @@
+//! A trace under each model: when its first transition completes, who waits, and how far births
+//! carry the wait.
+#![tactic(auto)]
+
+mod compares;
+mod comparison;
+mod first_end;
+
+pub use compares::compare;
+pub use comparison::{Comparison, Row, RowList};
