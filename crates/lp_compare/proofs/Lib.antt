@@ -1,2 +1,3 @@
 pub mod Births
 pub mod FirstLegs
+pub mod Texts

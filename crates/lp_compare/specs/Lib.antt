@@ -1,4 +1,5 @@
 pub mod Named
 pub mod Comparison
 pub mod Permissive
+pub mod Text
 pub mod inside

@@ -5,6 +5,10 @@
 mod compares;
 mod comparison;
 mod first_end;
+mod json;
+mod runs;
+mod text;
 
 pub use compares::compare;
 pub use comparison::{Comparison, Row, RowList};
+pub use runs::compare_run;

@@ -1,0 +1,10 @@
+use Rattle.lp_trace.proofs.RunFaults.{at_write, no_text}
+use Rattle.lp_compare.proofs.runs.compare_run.Goals as goal
+
+pub returns-clause-prefix : goal.returns-clause-prefix
+returns-clause-prefix g c =
+    let read = c.in_ok-trace.ensures.found in
+    at_write c.in-Err.fault _ _ (λ h. (c.in_ok-trace.trace, read.0, read.1, h)) c.in-Err.ensures.prefix
+
+pub returns-clause-trace : goal.returns-clause-trace
+returns-clause-trace g c = no_text c.in-Err.fault _ c.in-Err.ensures.late

@@ -1,0 +1,93 @@
+//! A trace in, its comparison out.
+ghost use Rattle.std.specs.Prelude.{◌≡◌, string_bytes, IfSome, IfOk, IfErr, OnOk, Err};
+ghost use Rattle.std.specs.Io.KnownBytes.{Appends};
+ghost use Rattle.lp_text.specs.Input.{ReadsAll};
+ghost use Rattle.lp_text.specs.Reading.{reading};
+ghost use Rattle.lp_text.specs.Traces.{IsTrace, text_of};
+ghost use Rattle.lp_text.specs.Writing.{AppendsPrefix};
+ghost use Rattle.lp_trace.specs.Runs.{ReadsTrace, AtTrace, AtWrite, BeforeWriting};
+ghost use Rattle.lp_compare.specs.Comparison.{comparison};
+ghost use Rattle.lp_compare.specs.Text.{written};
+
+use crate::compares::compare;
+use crate::comparison::Comparison;
+use lp_text::{Trace, put};
+use lp_trace::RunFault;
+use std::alloc::{AllocError, Global};
+use std::io::{Read, Write};
+
+/// Reads a trace to the reader's end, and writes its comparison, as JSON if asked for.
+///
+/// It makes at most 134,217,729 reads. A read or write that fails or is interrupted ends it, and so
+/// does a write that takes no byte. Nothing is written before all allocations are done.
+pub fn compare_run<R: Read, W: Write>(
+    alloc: Global,
+    json: bool,
+    reader: &mut R,
+    writer: &mut W,
+) -> Result<(), RunFault>
+    // What was read spells a trace, and its comparison was written and nothing else.
+    ensures report { OnOk result (ReadsTrace (R.remaining reader.old) (R.remaining reader.new)
+        (λ trace. Appends (W.contents writer.old) (W.contents writer.new) (written json (comparison trace)))) }
+    // Where the writer failed, a prefix of it was written.
+    ensures prefix { IfErr result (λ fault. AtWrite fault (ReadsTrace (R.remaining reader.old) (R.remaining reader.new)
+        (λ trace. AppendsPrefix (W.contents writer.old) (W.contents writer.new) (written json (comparison trace))))) }
+    // Else a fault leaves the writer as it was.
+    ensures untouched { IfErr result (λ fault. BeforeWriting fault (writer.new ≡ writer.old)) }
+    // The fault of a text is the one that the definitions give.
+    ensures trace { IfErr result (λ fault. AtTrace fault (λ why. IfSome (R.remaining reader.old) (λ text. reading text ≡ Err why))) }
+{
+    let trace = read_trace(alloc, reader)?;
+    match compare_on(alloc, json, &trace, writer) {
+        Ok(()) => Ok(()),
+        Err(fault) => Err(fault),
+    }
+}
+
+/// Writes the comparison of a trace.
+fn compare_on<W: Write>(
+    alloc: Global,
+    json: bool,
+    trace: &Trace,
+    writer: &mut W,
+) -> Result<(), RunFault>
+    ensures report { OnOk result (Appends (W.contents writer.old) (W.contents writer.new) (written json (comparison trace.now))) }
+    ensures prefix { IfErr result (λ fault. AtWrite fault (AppendsPrefix (W.contents writer.old) (W.contents writer.new) (written json (comparison trace.now)))) }
+    ensures untouched { IfErr result (λ fault. BeforeWriting fault (writer.new ≡ writer.old)) }
+    ensures late { IfErr result (λ fault. AtTrace fault (λ _. ⊥)) }
+{
+    let text = compared(alloc, json, trace)?;
+    match put(writer, text.as_bytes()) {
+        Ok(()) => Ok(()),
+        Err(fault) => Err(RunFault::Write(fault)),
+    }
+}
+
+/// What is written of a trace.
+fn compared(alloc: Global, json: bool, trace: &Trace) -> Result<String, AllocError>
+    ensures { IfOk result (λ text. string_bytes text ≡ written json (comparison trace.now)) }
+{
+    let found = compare(alloc, trace)?;
+    text_of(alloc, json, &found)
+}
+
+/// What is written of a comparison.
+fn text_of(alloc: Global, json: bool, found: &Comparison) -> Result<String, AllocError>
+    ensures { IfOk result (λ text. string_bytes text ≡ written json found.now) }
+{
+    if json {
+        found.json(alloc)
+    } else {
+        found.text(alloc)
+    }
+}
+
+/// The trace that a reader has.
+fn read_trace<R: Read>(alloc: Global, reader: &mut R) -> Result<Trace, RunFault>
+    ensures found { IfOk result (λ trace. IsTrace trace × ReadsAll (R.remaining reader.old) (R.remaining reader.new) (text_of trace)) }
+    ensures trace { IfErr result (λ fault. AtTrace fault (λ why. IfSome (R.remaining reader.old) (λ text. reading text ≡ Err why))) }
+    ensures early { IfErr result (λ fault. AtWrite fault ⊥) }
+{
+    let trace = Trace::read_from(alloc, reader)?;
+    Ok(trace)
+}
