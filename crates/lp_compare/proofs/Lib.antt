@@ -1,3 +1,6 @@
 pub mod Births
 pub mod FirstLegs
+pub mod NoLater
+pub mod Order
+pub mod Permissive
 pub mod Texts

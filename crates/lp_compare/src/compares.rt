@@ -2,7 +2,9 @@
 ghost use Rattle.std.specs.Prelude.{◌≡◌, IfOk};
 ghost use Rattle.std.specs.Option.{option_map};
 ghost use Rattle.lp_compare.specs.Comparison.{comparison};
+ghost use Rattle.lp_compare.specs.Permissive.{CompletesNoLater};
 ghost use Rattle.lp_compare.specs.inside.FirstEnds.{row_with};
+ghost use Rattle.lp_text.specs.Traces.{IsTrace};
 
 use crate::comparison::{Comparison, Row, RowList};
 use crate::first_end::{FirstEnd, first_end};
@@ -16,7 +18,19 @@ use std::alloc::{AllocError, Global};
 /// failed.
 pub fn compare(alloc: Global, trace: &Trace) -> Result<Comparison, AllocError>
     ensures comparison { IfOk result (λ found. found ≡ comparison trace.now) }
+    // A model that admits whomever another admits never completes the leg later.
+    ensures hybrid { IfOk result (CompletesNoLater ModelName.Hybrid ModelName.LeaveKernel) }
+    ensures immediate { IfOk result (CompletesNoLater ModelName.Immediate ModelName.Hybrid) }
 {
+    compared(alloc, trace)
+}
+
+/// The rows, model by model.
+fn compared(alloc: Global, trace: &Trace) -> Result<Comparison, AllocError>
+    ensures comparison { IfOk result (λ found. found ≡ comparison trace.now) }
+    ensures limits { IsTrace trace.now }
+{
+    let _ = trace.events();
     let hybrid = first_end(alloc, Hybrid, trace)?;
     let leave_kernel = first_end(alloc, LeaveKernel, trace)?;
     let all_at_once = first_end(alloc, AllAtOnce, trace)?;

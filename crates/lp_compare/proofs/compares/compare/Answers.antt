@@ -1,11 +1,11 @@
-use Rattle.std.proofs.Common.{◌∙◌}
-use Rattle.lp_compare.proofs.FirstLegs.{compared}
+use Rattle.std.proofs.lemmas.Result.{IfOk-weaker}
+use Rattle.lp_compare.proofs.NoLater.{hybrid_no_later, immediate_no_later}
 use Rattle.lp_compare.proofs.compares.compare.Goals as goal
 
-pub returns : goal.returns
-returns c = record {
-  comparison =
-      compared c.args.trace.now c.opened.result c.from_vec.result c.row.result c.row-2.result c.row-3.result c.row-4.result c.row-5.result c.in_ok-hybrid.hybrid c.in_ok-leave_kernel.leave_kernel c.in_ok-all_at_once.all_at_once c.in_ok-immediate.immediate c.in_ok-process_group.process_group
-      c.opened.ensures (c.from_vec.ensures ∙ c.in_ok-from_array.ensures.items)
-      c.row.ensures c.in_ok-hybrid.ensures c.row-2.ensures c.in_ok-leave_kernel.ensures c.row-3.ensures c.in_ok-all_at_once.ensures c.row-4.ensures c.in_ok-immediate.ensures c.row-5.ensures c.in_ok-process_group.ensures;
-}
+pub returns-clause-hybrid : goal.returns-clause-hybrid
+returns-clause-hybrid c =
+    IfOk-weaker c.compared.result _ _ (λ found same. hybrid_no_later c.args.trace.now c.compared.ensures.limits found same) c.compared.ensures.comparison
+
+pub returns-clause-immediate : goal.returns-clause-immediate
+returns-clause-immediate c =
+    IfOk-weaker c.compared.result _ _ (λ found same. immediate_no_later c.args.trace.now c.compared.ensures.limits found same) c.compared.ensures.comparison
