@@ -30,6 +30,7 @@ fn compared(alloc: Global, trace: &Trace) -> Result<Comparison, AllocError>
     ensures comparison { IfOk result (λ found. found ≡ comparison trace.now) }
     ensures limits { IsTrace trace.now }
 {
+    // Asked for its limits alone: they bound what is counted.
     let _ = trace.events();
     let hybrid = first_end(alloc, Hybrid, trace)?;
     let leave_kernel = first_end(alloc, LeaveKernel, trace)?;

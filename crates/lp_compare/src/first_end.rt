@@ -1,6 +1,7 @@
 //! How the first leg of a trace ended under a model.
 ghost use Rattle.std.specs.Prelude.{◌≡◌, ◌<◌, ◌^◌, All, count_by, map, max, IfOk};
 ghost use Rattle.std.specs.Option.{option_map};
+ghost use Rattle.lp_text.specs.Traces.{IsTrace};
 ghost use Rattle.lp_compare.specs.Comparison.{births_in, first_end, greatest, is_born};
 ghost use Rattle.lp_compare.specs.inside.FirstEnds.{FewBirths, kept_end};
 
@@ -29,10 +30,10 @@ pub(crate) fn first_end<M: Consistency>(
     model: M,
     trace: &Trace,
 ) -> Result<Option<FirstEnd>, AllocError>
+    // A trace has so few events that the births of a certificate can be counted.
+    requires { IsTrace trace.now }
     ensures { IfOk result (λ found. found ≡ option_map kept_end (first_end M.rules trace.now)) }
 {
-    // A trace has so few events that the births of a certificate can be counted.
-    let _ = trace.events();
     let outcome = match replay(alloc, model, trace) {
         Ok(outcome) => outcome,
         Err(ReplayFault::NoMemory) => return Err(AllocError),
