@@ -1,13 +1,14 @@
 -- What words ask the program for, as clap reads them.
-use Rattle.std.specs.Prelude.{◌≡◌, ◌≢◌, List, [], Option, Some, None, option_map, codes, true}
+use Rattle.std.specs.Prelude.{◌≡◌, ◌≢◌, Bool, List, [], Option, Some, None, option_map, codes, false, true, if◌then◌else◌}
+use Rattle.std.specs.Str.{bytes_eq}
 use Rattle.clap.specs.Words.{App, Row, Rule, Text, fault_of, new_app, new_rule, subcommand_of, with_rule, with_subcommand, first_of}
-use Rattle.clap.specs.declared.builder.ArgAction.TheVariants.{Set}
+use Rattle.clap.specs.declared.builder.ArgAction.TheVariants.{Set, SetTrue}
 use Rattle.clap.specs.declared.error.ErrorKind.{ErrorKind}
 use Rattle.clap.specs.declared.error.ErrorKind.TheVariants as kind
 use Rattle.lp_models.specs.declared.name.ModelName.{ModelName}
 use Rattle.lp_models.specs.Names.{name_of}
 use Rattle.lp_program.specs.declared.words.Task.{Task}
-use Rattle.lp_program.specs.declared.words.Task.TheVariants.{Run, Check, Threads}
+use Rattle.lp_program.specs.declared.words.Task.TheVariants.{Run, Check, Compare, Threads}
 use Rattle.lp_program.specs.declared.words.WordsFault.{WordsFault}
 use Rattle.lp_program.specs.declared.words.WordsFault.TheVariants as words
 
@@ -17,33 +18,50 @@ use Rattle.lp_program.specs.declared.words.WordsFault.TheVariants as words
 abbrev pub model_rule : Rule
 model_rule = record (new_rule (codes "MODEL")) { required = true; action = Some Set }
 
+-- the flag that asks for JSON
+abbrev pub json_rule : Rule
+json_rule = record (new_rule (codes "json")) { long = Some (codes "json"); action = Some SetTrue }
+
 -- a subcommand with a model
 abbrev pub subcommand : Text → App
 subcommand name = with_rule (new_app name) model_rule
 
--- the program's command line: one of three subcommands
+-- the comparison, which has none
+abbrev pub comparing : App
+comparing = with_rule (new_app (codes "compare")) json_rule
+
+-- the program's command line: one of four subcommands
 abbrev pub lpt : App
 lpt =
-    with_subcommand (with_subcommand (with_subcommand (new_app (codes "lpt"))
-    (subcommand (codes "run")).top) (subcommand (codes "check")).top) (subcommand (codes "threads")).top
+    with_subcommand (with_subcommand (with_subcommand (with_subcommand (new_app (codes "lpt"))
+    (subcommand (codes "run")).top) (subcommand (codes "check")).top) (subcommand (codes "threads")).top) comparing.top
 
 -- ---- What words ask for
 
--- a subcommand and its model
+-- a subcommand and its one argument: the model, or for the comparison the flag
 abbrev pub Asked : Type 0
 Asked = Option (Text × Option Text)
 
-abbrev pub asked_in : Option (Text × List Row) → Asked
-asked_in = option_map (λ p. (p.0, first_of (codes "MODEL") p.1))
+abbrev pub argument_of : Text → Text
+argument_of name = if bytes_eq name (codes "compare") then codes "json" else codes "MODEL"
 
--- the subcommand and the model that clap reads from words, the first of which is the program's name
+abbrev pub asked_in : Option (Text × List Row) → Asked
+asked_in = option_map (λ p. (p.0, first_of (argument_of p.0) p.1))
+
+-- the subcommand and the argument that clap reads from words, the first of which is the program's name
 abbrev pub asked : List Text → Asked
 asked words = asked_in (subcommand_of lpt words)
+
+-- what clap reads of a flag: whether it is there
+abbrev pub flag_word : Bool → Text
+flag_word true = codes "true"
+flag_word false = codes "false"
 
 -- the words of a task
 abbrev pub words_of : Task → Text × Option Text
 words_of (Run model) = (codes "run", Some (name_of model))
 words_of (Check model) = (codes "check", Some (name_of model))
+words_of (Compare json) = (codes "compare", Some (flag_word json))
 words_of (Threads model) = (codes "threads", Some (name_of model))
 
 -- clap takes the words, and they are a task's
@@ -52,15 +70,22 @@ Asks words task = (fault_of lpt words ≡ []) × (asked words ≡ Some (words_of
 
 -- ---- Faults
 
--- a subcommand is there, and what stands for its model is no model's name
+-- a subcommand with a model is there, and what stands for it is no model's name
 abbrev pub IsUnknown : Asked → Type 0
-IsUnknown asked = (name : Text) × (text : Text) × (asked ≡ Some (name, Some text)) × ((model : ModelName) → text ≢ name_of model)
+IsUnknown asked =
+    (name : Text) × (text : Text) × (asked ≡ Some (name, Some text)) × (argument_of name ≡ codes "MODEL") × ((model : ModelName) → text ≢ name_of model)
 
 -- a fault of words that clap takes
 abbrev pub NamesNoModel : Option Text → WordsFault → Type 0
 NamesNoModel found words.Usage = found ≡ None
 NamesNoModel found words.UnknownModel = (text : Text) × (found ≡ Some text) × ((model : ModelName) → text ≢ name_of model)
 NamesNoModel found words.NoMemory = ⊥
+
+-- the same of a flag
+abbrev pub IsNoFlag : Option Text → WordsFault → Type 0
+IsNoFlag found words.Usage = (json : Bool) → found ≢ Some (flag_word json)
+IsNoFlag found words.UnknownModel = ⊥
+IsNoFlag found words.NoMemory = ⊥
 
 abbrev pub NamesNoTask : Asked → WordsFault → Type 0
 NamesNoTask asked words.Usage = (task : Task) → asked ≢ Some (words_of task)

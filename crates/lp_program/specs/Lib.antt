@@ -1,4 +1,4 @@
 pub mod Asked
 pub mod Faults
-pub mod Named
 pub mod Performed
+pub use Rattle.lp_compare.specs.Named

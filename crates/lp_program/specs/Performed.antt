@@ -1,5 +1,5 @@
 -- What the program reads and writes.
-use Rattle.std.specs.Prelude.{◌≡◌, ◌⊎◌, ℕ, List, Option, None, IsSome, IfSome, Err}
+use Rattle.std.specs.Prelude.{◌≡◌, ◌⊎◌, ℕ, Bool, List, Option, None, IsSome, IfSome, Err}
 use Rattle.std.specs.Io.KnownBytes.{Appends}
 use Rattle.lp_models.specs.declared.name.ModelName.{ModelName}
 use Rattle.lp_models.specs.Names.{name_of}
@@ -17,13 +17,15 @@ use Rattle.lp_text.specs.Words.{line_of}
 use Rattle.lp_text.specs.Writing.{AppendsPrefix}
 use Rattle.lp_threads.specs.Plays.{IsPlay, play_text}
 use Rattle.lp_threads.specs.declared.report.Play.{Play}
+use Rattle.lp_compare.specs.Comparison.{comparison}
+use Rattle.lp_compare.specs.Text.{written}
 use Rattle.lp_program.specs.Asked.{Asks, AsksNothing}
 use Rattle.lp_program.specs.Faults.{of_words}
 use Rattle.lp_program.specs.Named.{rules_named}
 use Rattle.lp_program.specs.declared.fault.Fault.{Fault}
 use Rattle.lp_program.specs.declared.fault.Fault.TheVariants as fault
 use Rattle.lp_program.specs.declared.words.Task.{Task}
-use Rattle.lp_program.specs.declared.words.Task.TheVariants.{Run, Check, Threads}
+use Rattle.lp_program.specs.declared.words.Task.TheVariants.{Run, Check, Compare, Threads}
 use Rattle.lp_program.specs.declared.words.WordsFault.{WordsFault}
 
 -- the report of a trace under the model of a name
@@ -37,6 +39,10 @@ answer_under model input = answer_to (rules_named model) input
 abbrev pub answer_line : ModelName → CheckInput → List ℕ
 answer_line model input = line_of (answer_words (answer_under model input))
 
+-- what the comparison of a trace says, in one of its two forms
+abbrev pub compared : Bool → TraceValue → List ℕ
+compared json trace = written json (comparison trace)
+
 -- threads played the trace under the model of a name, and this was written of it
 abbrev pub IsPlayed : ModelName → TraceValue → (List ℕ → Type 0) → Type 0
 IsPlayed model trace P = (play : Play) × IsPlay (rules_named model) trace play × P (play_text (name_of model) play)
@@ -48,6 +54,7 @@ module _ (before after old new : Option (List ℕ)) where
   IsDone (Run model) = ReadsTrace before after (λ trace. Appends old new (report_under model trace))
   IsDone (Check model) =
       ReadsInput before after (λ input. (answer_under model input ≡ None) × Appends old new (answer_line model input))
+  IsDone (Compare json) = ReadsTrace before after (λ trace. Appends old new (compared json trace))
   IsDone (Threads model) = ReadsTrace before after (λ trace. IsPlayed model trace (Appends old new))
 
   -- the certificate is refused, and the answer is written
@@ -55,30 +62,35 @@ module _ (before after old new : Option (List ℕ)) where
   IsRefused (Run model) = ⊥
   IsRefused (Check model) =
       ReadsInput before after (λ input. IsSome (answer_under model input) × Appends old new (answer_line model input))
+  IsRefused (Compare json) = ⊥
   IsRefused (Threads model) = ⊥
 
   -- a prefix of what was to be written is; of threads nothing is said
   abbrev pub WritesPrefix : Task → Type 0
   WritesPrefix (Run model) = ReadsTrace before after (λ trace. AppendsPrefix old new (report_under model trace))
   WritesPrefix (Check model) = ReadsInput before after (λ input. AppendsPrefix old new (answer_line model input))
+  WritesPrefix (Compare json) = ReadsTrace before after (λ trace. AppendsPrefix old new (compared json trace))
   WritesPrefix (Threads model) = Unit {0}
 
 -- a text is no input of the task, for this reason; of threads nothing is said
 abbrev pub IsTextFault : Task → TraceFault → List ℕ → Type 0
 IsTextFault (Run model) why text = reading text ≡ Err why
 IsTextFault (Check model) why text = check_reading text ≡ Err why
+IsTextFault (Compare json) why text = reading text ≡ Err why
 IsTextFault (Threads model) why text = Unit {0}
 
 -- nothing was written, which is this; of threads nothing is said
 abbrev pub IsUnwritten : Task → Type 0 → Type 0
 IsUnwritten (Run model) same = same
 IsUnwritten (Check model) same = same
+IsUnwritten (Compare json) same = same
 IsUnwritten (Threads model) same = Unit {0}
 
 -- the task is one of threads
 abbrev pub IsOfDesk : Task → Type 0
 IsOfDesk (Run model) = ⊥
 IsOfDesk (Check model) = ⊥
+IsOfDesk (Compare json) = ⊥
 IsOfDesk (Threads model) = Unit {0}
 
 module _ (before after old new : Option (List ℕ)) where

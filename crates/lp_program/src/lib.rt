@@ -10,5 +10,5 @@ mod words;
 pub use dispatch::{check, run, threads};
 pub use fault::Fault;
 pub use process::start;
-pub use program::{act, act_check, act_run, perform};
+pub use program::{act, act_check, act_compare, act_run, perform};
 pub use words::{Task, WordsFault, task_of};

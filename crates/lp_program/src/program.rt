@@ -5,6 +5,7 @@ ghost use Rattle.lp_program.specs.Performed.{EndsBy, Fails, IsDone, Performs};
 use crate::dispatch::{check, run, threads};
 use crate::fault::Fault;
 use crate::words::{Task, task_of};
+use lp_compare::compare_run;
 use lp_models::ModelName;
 use std::alloc::Global;
 use std::convert::AsStr;
@@ -29,7 +30,8 @@ pub fn perform<T: Threads + Wait + Sync, S: AsStr, R: Read, W: Write>(
     act(rt, alloc, task, reader, writer)
 }
 
-/// Does a task, and waits where it is one of threads: [`act_run`] and [`act_check`] never wait.
+/// Does a task, and waits where it is one of threads: [`act_run`],
+/// [`act_check`] and [`act_compare`] never wait.
 pub fn act<T: Threads + Wait + Sync, R: Read, W: Write>(
     rt: &T,
     alloc: Global,
@@ -43,6 +45,7 @@ pub fn act<T: Threads + Wait + Sync, R: Read, W: Write>(
     match task {
         Task::Run(model) => act_run(alloc, model, reader, writer),
         Task::Check(model) => act_check(alloc, model, reader, writer),
+        Task::Compare { json } => act_compare(alloc, json, reader, writer),
         Task::Threads(model) => act_threads(rt, alloc, model, reader, writer),
     }
 }
@@ -76,6 +79,22 @@ pub fn act_check<R: Read, W: Write>(
     match check(alloc, model, reader, writer) {
         Ok(true) => Ok(()),
         Ok(false) => Err(Fault::Refused),
+        Err(fault) => Err(Fault::from(fault)),
+    }
+}
+
+/// Writes the comparison of a trace, as JSON if asked for.
+pub fn act_compare<R: Read, W: Write>(
+    alloc: Global,
+    json: bool,
+    reader: &mut R,
+    writer: &mut W,
+) -> Result<(), Fault>
+    ensures done { OnOk result (IsDone (R.remaining reader.old) (R.remaining reader.new) (W.contents writer.old) (W.contents writer.new) (Task.Compare json)) }
+    ensures ends { IfErr result (EndsBy (R.remaining reader.old) (R.remaining reader.new) (W.contents writer.old) (W.contents writer.new) (writer.new ≡ writer.old) (Task.Compare json)) }
+{
+    match compare_run(alloc, json, reader, writer) {
+        Ok(()) => Ok(()),
         Err(fault) => Err(Fault::from(fault)),
     }
 }

@@ -2,7 +2,7 @@
 ghost use Rattle.std.specs.Prelude.{◌≡◌, IfOk, IfErr, Some, None, codes, map};
 ghost use Rattle.clap.specs.Words.{app_of, first_value, found_of, kind_of, subcommand_rows_of};
 ghost use Rattle.lp_models.specs.Names.{name_of};
-ghost use Rattle.lp_program.specs.Asked.{Asks, AsksNothing, IsRefusal, NamesNoModel, NamesNoTask, asked_in, lpt, words_of};
+ghost use Rattle.lp_program.specs.Asked.{Asks, AsksNothing, IsNoFlag, IsRefusal, NamesNoModel, NamesNoTask, asked_in, flag_word, lpt, words_of};
 
 use clap::error::ErrorKind;
 use clap::{Arg, ArgAction, ArgMatches, Command, Error};
@@ -17,6 +17,12 @@ pub enum Task {
     Run(ModelName),
     /// `check MODEL`: reads a trace and a certificate, and writes the answer to it under the model.
     Check(ModelName),
+    /// `compare`, with `--json` or without: reads a trace and writes what its first transition comes to under each
+    /// model, as a text or as JSON.
+    Compare {
+        /// Whether it is JSON that is asked for.
+        json: bool,
+    },
     /// `threads MODEL`: reads a trace, lets threads play it under the model, and writes what came of it.
     Threads(ModelName),
 }
@@ -52,7 +58,7 @@ fn refused(error: &Error) -> WordsFault
     }
 }
 
-/// The words of the program: one of the subcommands, with a model.
+/// The words of the program: one of the subcommands, three of them with a model.
 fn command<'a>(alloc: Global) -> Result<Command<'a>, AllocError>
     ensures { IfOk result (λ command. app_of command ≡ lpt) }
 {
@@ -65,13 +71,30 @@ fn command<'a>(alloc: Global) -> Result<Command<'a>, AllocError>
     let third = Arg::new(alloc, "MODEL")
         .required(true)
         .action(ArgAction::Set);
+    let json = Arg::new(alloc, "json")
+        .long("json")
+        .action(ArgAction::SetTrue);
     let run = Command::new(alloc, "run").arg(first)?;
     let check = Command::new(alloc, "check").arg(second)?;
     let threads = Command::new(alloc, "threads").arg(third)?;
+    let compare = Command::new(alloc, "compare").arg(json)?;
     Command::new(alloc, "lpt")
         .subcommand(run)?
         .subcommand(check)?
-        .subcommand(threads)
+        .subcommand(threads)?
+        .subcommand(compare)
+}
+
+/// Whether a flag that a subcommand has is there.
+fn flag_of(matches: &ArgMatches<'_>) -> Result<bool, WordsFault>
+    ensures json { IfOk result (λ json. first_value (found_of matches.now) (codes "json") ≡ Some (flag_word json)) }
+    ensures fault { IfErr result (λ fault. IsNoFlag (first_value (found_of matches.now) (codes "json")) fault) }
+{
+    match matches.get_str("json") {
+        Some("true") => Ok(true),
+        Some("false") => Ok(false),
+        _ => Err(WordsFault::Usage),
+    }
 }
 
 /// The model that a subcommand names.
@@ -91,6 +114,9 @@ fn task_in(matches: &ArgMatches<'_>) -> Result<Task, WordsFault>
     match matches.subcommand() {
         Some(("run", run)) => Ok(Task::Run(model_of(run)?)),
         Some(("check", check)) => Ok(Task::Check(model_of(check)?)),
+        Some(("compare", compare)) => Ok(Task::Compare {
+            json: flag_of(compare)?,
+        }),
         Some(("threads", threads)) => Ok(Task::Threads(model_of(threads)?)),
         _ => Err(WordsFault::Usage),
     }

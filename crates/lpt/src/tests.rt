@@ -61,9 +61,13 @@ const ACCEPTED: &str =
 const REFUSED: &str =
     "lptrace 1\nsym a\npatch a\nboot 1 normal\nenter 1\ncall 1 a\nsleep 1\nenable\nwalk\nwake 1\nret 1\nexit 1\nlpcert 1\nfloor 4 1 7\nhold 1 1 2 5 7\n";
 
+/// One task, which sleeps in a function of no patch at a walk.
+const ASLEEP: &str =
+    "lptrace 1\nsym a\nsym b\nsym c\npatch a\nboot 1 normal\nenter 1\ncall 1 c\nsleep 1\nenable\nwalk\n";
+
 /// Words with an input, and how the program ends: its status, what it writes, and its line on
 /// standard error.
-const RUNS: [(&str, &str, u8, &str, &str); 16] = [
+const RUNS: [(&str, &str, u8, &str, &str); 20] = [
     (
         "lpt run hybrid",
         TRACE,
@@ -116,6 +120,28 @@ const RUNS: [(&str, &str, u8, &str, &str); 16] = [
     ("lpt check hybrid", TRACE, 3, "", "lpt: line 13: L12\n"),
     ("lpt check hybrid", "", 3, "", "lpt: line 1: L1\n"),
     ("lpt run hybrid", "lptrace 1", 3, "", "lpt: line 1: L2\n"),
+    (
+        "lpt compare",
+        ASLEEP,
+        0,
+        "lpcompare 1\nleg 4\nhybrid complete 5 births 0\nleave-kernel waiting 1 births 0\nall-at-once waiting 1 births 0\nimmediate complete 5 births 0\nprocess-group complete 5 births 0\n",
+        "",
+    ),
+    (
+        "lpt compare --json",
+        ASLEEP,
+        0,
+        "{\"leg\":4,\"models\":[{\"births\":0,\"complete\":5,\"model\":\"hybrid\",\"waiting\":0},{\"births\":0,\"complete\":null,\"model\":\"leave-kernel\",\"waiting\":1},{\"births\":0,\"complete\":null,\"model\":\"all-at-once\",\"waiting\":1},{\"births\":0,\"complete\":5,\"model\":\"immediate\",\"waiting\":0},{\"births\":0,\"complete\":5,\"model\":\"process-group\",\"waiting\":0}],\"version\":1}\n",
+        "",
+    ),
+    (
+        "lpt compare",
+        "lptrace 1\nsym a\npatch a\nboot 1 normal\nenter 1\n",
+        0,
+        "lpcompare 1\nleg none\nhybrid none\nleave-kernel none\nall-at-once none\nimmediate none\nprocess-group none\n",
+        "",
+    ),
+    ("lpt compare", ACCEPTED, 3, "", "lpt: line 13: L3\n"),
 ];
 
 /// How the program ends that is given these words.
@@ -185,7 +211,7 @@ fn words_come_before_the_model_and_both_before_the_input(rt: HostRuntime) -> Res
 
 #[test]
 fn a_read_that_fails_comes_before_a_fault_of_the_text(rt: HostRuntime) -> Result<(), Fail> {
-    for words in ["lpt run hybrid", "lpt check hybrid", "lpt threads hybrid"] {
+    for words in ["lpt run hybrid", "lpt check hybrid", "lpt compare", "lpt threads hybrid"] {
         let end = end_of(&rt, rt.alloc(), words, &mut Broken { left: 3 })?;
         assert!(rt; is_end(&end, 1, "", "lpt: read fault\n"), "{words}");
     }
@@ -194,21 +220,22 @@ fn a_read_that_fails_comes_before_a_fault_of_the_text(rt: HostRuntime) -> Result
 
 #[test]
 fn a_write_that_fails_has_its_status(rt: HostRuntime) -> Result<(), Fail> {
-    for (words, input) in [
-        ("run", TRACE),
-        ("check", ACCEPTED),
-        ("check", REFUSED),
-        ("threads", TRACE),
+    for (command, word, input) in [
+        ("run", "hybrid", TRACE),
+        ("check", "hybrid", ACCEPTED),
+        ("check", "hybrid", REFUSED),
+        ("compare", "--json", TRACE),
+        ("threads", "hybrid", TRACE),
     ] {
         let mut reader = input.as_bytes();
         let end = perform(
             &rt,
             rt.alloc(),
-            &["lpt", words, "hybrid"],
+            &["lpt", command, word],
             &mut reader,
             &mut Full,
         );
-        assert!(rt; end == Err(Fault::Write), "{words}");
+        assert!(rt; end == Err(Fault::Write), "{command} {word}");
     }
     Ok(())
 }

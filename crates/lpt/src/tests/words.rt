@@ -5,7 +5,7 @@ use std::alloc::Global;
 use std::test::*;
 
 /// Words between single spaces that ask for a task.
-const TASKS: [(&str, Task); 21] = [
+const TASKS: [(&str, Task); 25] = [
     ("lpt run hybrid", Task::Run(ModelName::Hybrid)),
     ("lpt run leave-kernel", Task::Run(ModelName::LeaveKernel)),
     ("lpt run all-at-once", Task::Run(ModelName::AllAtOnce)),
@@ -42,10 +42,14 @@ const TASKS: [(&str, Task); 21] = [
     ),
     ("lpt threads -- hybrid", Task::Threads(ModelName::Hybrid)),
     ("lpt threads hybrid --", Task::Threads(ModelName::Hybrid)),
+    ("lpt compare", Task::Compare { json: false }),
+    ("lpt compare --", Task::Compare { json: false }),
+    ("lpt compare --json", Task::Compare { json: true }),
+    ("lpt compare --json --", Task::Compare { json: true }),
 ];
 
 /// Words that are none of the program's, and calls for help or the version.
-const USAGE: [&str; 43] = [
+const USAGE: [&str; 54] = [
     "lpt",
     "lpt ",
     "lpt --",
@@ -79,6 +83,17 @@ const USAGE: [&str; 43] = [
     "lpt threads run hybrid",
     "lpt threads -x hybrid",
     "lpt threads --help",
+    "lpt compare hybrid",
+    "lpt compare json",
+    "lpt compare ",
+    "lpt compare -json",
+    "lpt compare --js",
+    "lpt compare --json=1",
+    "lpt compare --json=true",
+    "lpt compare --json --json",
+    "lpt compare -- --json",
+    "lpt --json compare",
+    "lpt compares",
     "lpt run hybrid -- --",
     "lpt run hybrid -- x",
     "lpt help",
