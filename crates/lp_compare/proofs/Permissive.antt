@@ -23,7 +23,7 @@ use Rattle.lp_transition.proofs.Permissive.{never_loses}
 use Rattle.lp_transition.proofs.Waiting.{complete-is, complete-from, complete_later, waits-is}
 use Rattle.lp_transition.proofs.WholeRun.{next_sound, start_sound}
 use Rattle.lp_cert.specs.Certificates.{completion, legs, opened_legs}
-use Rattle.lp_cert.proofs.Completions.{completion_below, completion_now, completion_stays, unsettled_if}
+use Rattle.lp_cert.proofs.Completions.{completion_below, completion_now, completion_stays, incomplete_if}
 use Rattle.lp_replay.specs.Legs.{to_end}
 
 -- ---- One model
@@ -289,10 +289,10 @@ module _ (a b : Rules) (lawful_a : IsLawful a) (lawful_b : IsLawful b) (more : I
       (λ (is : opens b leg event ≡ false).
       ⊎_elim
       (λ (other : opens a leg event ≡ true).
-      let settled = settles leg event other is (unsettled_if b lawful_b leg sound none) in
+      let settled = settles leg event other is (incomplete_if b lawful_b leg sound none) in
       ⊎_elim
       (λ (at : (j : ℕ) × (completion a leg ≡ Some j)). (at.0, omega (arith, completion_below a leg at.0 at.1, later b lawful_b leg (event ∷ events) sound none k e), ap (completion a) (end_opened a leg event events other) ∙ at.1))
-      (λ (not_yet : completion a leg ≡ None). let open_still = unsettled_if a lawful_a leg sound not_yet in absurd (cc))
+      (λ (not_yet : completion a leg ≡ None). let open_still = incomplete_if a lawful_a leg sound not_yet in absurd (cc))
       (cases_option (completion a leg)))
       (λ (other : opens a leg event ≡ false).
       let first = ends_earlier (and_then leg event) events sound (earlier_more leg event sound so_far) k (sym (ap (completion b) (end_other b leg event events is)) ∙ e) in
