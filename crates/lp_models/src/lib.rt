@@ -6,6 +6,7 @@ mod hybrid;
 mod immediate;
 mod leave_kernel;
 mod name;
+
 pub use all_at_once::AllAtOnce;
 pub use hybrid::Hybrid;
 pub use immediate::Immediate;

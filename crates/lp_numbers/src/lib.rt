@@ -3,6 +3,7 @@
 
 mod levels;
 mod row;
-mod set;mod word;
+mod set;
+mod word;
 
 pub use set::{NUMBERS, NumberSet};

@@ -5,6 +5,7 @@ mod aim;
 mod fault;
 mod set;
 mod stack;
+
 pub use aim::Aim;
 pub use fault::PatchFault;
 pub use set::{MOST_FUNCTIONS, PatchSet};

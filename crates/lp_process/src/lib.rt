@@ -2,4 +2,5 @@
 #![tactic(auto)]
 
 mod process_group;
+
 pub use process_group::ProcessGroup;

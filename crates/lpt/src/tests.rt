@@ -211,7 +211,12 @@ fn words_come_before_the_model_and_both_before_the_input(rt: HostRuntime) -> Res
 
 #[test]
 fn a_read_that_fails_comes_before_a_fault_of_the_text(rt: HostRuntime) -> Result<(), Fail> {
-    for words in ["lpt run hybrid", "lpt check hybrid", "lpt compare", "lpt threads hybrid"] {
+    for words in [
+        "lpt run hybrid",
+        "lpt check hybrid",
+        "lpt compare",
+        "lpt threads hybrid",
+    ] {
         let end = end_of(&rt, rt.alloc(), words, &mut Broken { left: 3 })?;
         assert!(rt; is_end(&end, 1, "", "lpt: read fault\n"), "{words}");
     }
