@@ -55,7 +55,7 @@ impl<N: DeskName> Told<N> {
 pub enum BoardFault {
     /// The board can't be entered, as it was given up.
     Shut,
-    /// A growth was refused.
+    /// An allocation failed.
     NoMemory,
 }
 

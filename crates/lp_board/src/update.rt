@@ -19,7 +19,7 @@ use std::alloc::{AllocError, Global};
 
 impl Update {
     /// What an event changes that was weighed on an engine; the heading is that of before. An `Err` only where a
-    /// growth was refused.
+    /// allocation failed.
     pub fn of<M: Consistency>(
         alloc: Global,
         core: &Core<M>,

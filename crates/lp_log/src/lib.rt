@@ -14,6 +14,6 @@ mod sender;
 pub use audit::CloseCause;
 pub use entry::Entry;
 pub use journal::Journal;
-pub use log::{Log, Opened};
+pub use log::{Commanding, Log, Opened, Ready, Sending};
 pub use seat::{Cause, Commanded, Control, Seat, Submitted, Turned};
 pub use sender::owner;

@@ -11,18 +11,22 @@ ghost use Rattle.lp_log.specs.Logs.{IsReady, AreSame};
 ghost use Rattle.lp_log.specs.Seats.{new_seat};
 
 mod commanded;
+mod commanding;
 mod judged;
 mod ready;
+mod sending;
 mod sent;
 mod stepped;
 
 use crate::{Control, Entry, Journal, Seat};
+pub use commanding::Commanding;
 use lp_model::{CheckKind, Consistency, Verdict};
 use lp_patch::PatchStack;
 use lp_stack::{Class, TaskId};
-use lp_transition::{BootFault, Core, Event, Halt, Reply, Step};
-pub(crate) use ready::Ready;
-use std::alloc::Global;
+use lp_transition::{BootFault, Core, Event, Halt, Reply};
+pub use ready::Ready;
+pub use sending::Sending;
+use std::alloc::{AllocError, Global};
 use std::marker::Model;
 
 /// A log at its start, and all that may send to it.
@@ -76,31 +80,35 @@ impl<M: Consistency> Log<M> {
     {
         let kept = patches.copy(alloc);
         let list = Vec::from_slice(alloc, boots);
-        let seats = Seat::all(alloc, boots);
         let core = Core::boot(alloc, model, patches, boots)?;
-        Ok(Opened {
-            log: Log::over(alloc, core, kept?, list?),
-            seats: seats?,
-            control: Control::new(alloc),
-        })
+        Ok(Log::over(alloc, core, kept?, list?)?)
     }
 
-    /// The log of an engine that has taken no event, with an empty journal of this start. Never allocates.
-    fn over(
+    /// A log of an engine that has taken no event, with an empty journal of this start, a seat for each of the tasks, in
+    /// their order, and the control; AllocError where an allocation failed.
+    pub fn over(
         alloc: Global,
         core: Core<M>,
         patches: PatchStack,
         boots: Vec<(TaskId, Class)>,
-    ) -> Log<M>
+    ) -> Result<Opened<M>, AllocError>
         requires { StandsIn M.rules (run_of (record { patches = patches; boots = boots.items; entries = [] })) (state_in core) }
-        ensures journal { result.journal ≡ record { patches = patches; boots = boots.items; entries = [] } }
+        ensures started { IfOk result (λ opened. opened.log.journal ≡ record { patches = patches; boots = boots.items; entries = [] }) }
+        ensures seats { IfOk result (λ opened. opened.seats.items ≡ map (λ boot. new_seat boot.0.0) boots.items) }
+        ensures control { IfOk result (λ opened. opened.control ≡ []) }
     {
-        Log {
+        let seats = Seat::all(alloc, boots.as_slice())?;
+        let log = Log {
             core,
             patches,
             boots,
             entries: Vec::new(alloc),
-        }
+        };
+        Ok(Opened {
+            log,
+            seats,
+            control: Control::new(alloc),
+        })
     }
 
     /// The events so far, in their order.

@@ -91,7 +91,7 @@ impl<M: Consistency + Sync> Log<M> {
 
     /// An event, weighed on the engine; a walk by what was judged before, if it was; else a walk or a stop after a look at
     /// every waiting task, by several threads.
-    fn weigh_shared<R: Threads + Sync, G: ScanGate + Sync>(
+    pub(super) fn weigh_shared<R: Threads + Sync, G: ScanGate + Sync>(
         &self,
         rt: &R,
         alloc: Global,
@@ -160,7 +160,7 @@ impl<M: Consistency + Sync> Log<M> {
 }
 
 /// Whether it is a task's event.
-fn is_owned(event: Event) -> bool
+pub(super) fn is_owned(event: Event) -> bool
     ensures { IsTrue result ↔ (owner event ≢ None) }
 {
     !event.is_scan() && !event.is_control()

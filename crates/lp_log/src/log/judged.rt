@@ -69,7 +69,7 @@ impl<M: Consistency> Log<M> {
     }
 
     /// A walk, weighed by what was judged before.
-    pub(super) fn weigh_judged(&self, alloc: Global, judged: &Judged<M>) -> Result<Step, Halt>
+    pub fn weigh_judged(&self, alloc: Global, judged: &Judged<M>) -> Result<Step, Halt>
         ensures full { (result ≡ Err JournalFull) ↔ (1000000 ≤ length self.now.journal.entries) }
         ensures weighed { IfOk result (λ step. IsWeighed M.rules self.now.core step) }
         ensures event { IfOk result (λ step. step.event ≡ Walk) }

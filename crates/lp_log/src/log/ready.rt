@@ -14,11 +14,11 @@ use lp_transition::{Event, Halt, Reply, Step};
 use std::alloc::{AllocError, Global};
 use std::marker::Model;
 
-/// An event that was weighed, with the answer that its entry will have.
+/// An event that was weighed, with the answer that its entry will have. Nothing has happened yet.
 ///
 /// Contracts see the event as it was weighed.
 #[derive(Drop)]
-pub(crate) struct Ready {
+pub struct Ready {
     step: Step,
     answer: Reply,
 }
@@ -35,6 +35,13 @@ impl Model for Ready {
 }
 
 impl Ready {
+    /// The event as it was weighed.
+    pub fn step(&self) -> &Step
+        ensures { result.now ≡ self.now }
+    {
+        &self.step
+    }
+
     /// The answer, which isn't given yet.
     pub(crate) fn reply(&self) -> &Reply
         ensures { result.now ≡ self.now.reply }
@@ -45,7 +52,7 @@ impl Ready {
 
 impl<M: Consistency> Log<M> {
     /// An event, weighed on the engine; a walk or a stop after a look at every waiting task.
-    pub(crate) fn weigh(&self, alloc: Global, event: Event) -> Result<Step, Halt>
+    pub fn weigh(&self, alloc: Global, event: Event) -> Result<Step, Halt>
         ensures full { (result ≡ Err JournalFull) ↔ (1000000 ≤ length self.now.journal.entries) }
         ensures weighed { IfOk result (λ step. IsWeighed M.rules self.now.core step) }
         ensures event { IfOk result (λ step. step.event ≡ event) }
@@ -54,7 +61,7 @@ impl<M: Consistency> Log<M> {
     }
 
     /// A walk or a stop, weighed by what its checks found of the waiting tasks.
-    pub(crate) fn weigh_scan(
+    pub fn weigh_scan(
         &self,
         alloc: Global,
         kind: CheckKind,
@@ -70,7 +77,7 @@ impl<M: Consistency> Log<M> {
     }
 
     /// Allocates all that the entry of an event needs: what fails here has changed nothing, and `commit` can't fail.
-    pub(crate) fn ready(&mut self, alloc: Global, step: Step) -> Result<Ready, AllocError>
+    pub fn ready(&mut self, alloc: Global, step: Step) -> Result<Ready, AllocError>
         ensures step { IfOk result (λ ready. ready ≡ step) }
         ensures room { OnOk result (0 < self.new.room) }
         ensures same { AreSame self.old self.new }
@@ -81,7 +88,7 @@ impl<M: Consistency> Log<M> {
     }
 
     /// Takes an event that was made ready, and adds it to the journal with the answer. Never allocates.
-    pub(crate) fn commit(&mut self, ready: Ready) -> Reply
+    pub fn commit(&mut self, ready: Ready) -> Reply
         requires { IsReady M.rules self.old ready }
         ensures reply { result ≡ ready.reply }
         ensures defined { result ≡ reply_to M.rules self.old.journal ready.event }

@@ -1,16 +1,16 @@
 //! Events that are sent from seats and from the control.
-ghost use Rattle.std.specs.Prelude.{◌≡◌, ◌≢◌, ◌+◌, ◌≤◌, ◌<◌, ◌↔◌, [], ◌∷◌, ◌++◌, true, Some, None, Err, IfOk, IfErr, IfSome, IfNone, IsTrue, OnErr, OnOk, length};
+ghost use Rattle.std.specs.Prelude.{◌≡◌, ◌≢◌, ◌+◌, ◌≤◌, ◌<◌, ◌↔◌, [], ◌∷◌, ◌++◌, true, Some, None, Err, IfOk, IfErr, IfSome, IfNone, IsTrue, OnErr, OnOk, length, vec_len, vec_capacity};
 ghost use Rattle.lp_transition.specs.Scan.{is_scan_kind, scan_event};
 ghost use Rattle.lp_transition.specs.Events.{is_scan};
 ghost use Rattle.lp_transition.specs.Weigh.{IsWeighed};
 ghost use Rattle.lp_transition.specs.declared.engine.step.Halt.TheVariants.{JournalFull};
 ghost use Rattle.lp_log.specs.declared.seat.Cause.TheVariants.{NotYours, JournalFull as Full};
 ghost use Rattle.lp_log.specs.Journals.{IsReplayed, next_entry, reply_to, and_entry};
-ghost use Rattle.lp_log.specs.Logs.{AreSame};
+ghost use Rattle.lp_log.specs.Logs.{AreSame, IsReady};
 ghost use Rattle.lp_log.specs.Seats.{owner, and_sent, child_seat};
 
-use super::Log;
 use super::stepped::is_plain;
+use super::{Log, Ready};
 use crate::Entry;
 use crate::seat::{Cause, Seat, Submitted, Turned};
 use lp_model::Consistency;
@@ -87,18 +87,54 @@ impl<M: Consistency> Log<M> {
         ensures sent { IfOk result (λ given. sent.new.items ≡ sent.old.items ++ next_entry self.old.journal.entries step.event given ∷ []) }
         ensures err { OnErr result ((sent.new.items ≡ sent.old.items) × AreSame self.old self.new) }
     {
-        let number = self.next_number();
-        let event = step.event();
+        let (ready, answer) = self.ready_with(alloc, step, sent)?;
+        Ok(self.commit_into(ready, answer, sent))
+    }
+
+    /// Allocates all that an event needs whose entry is added to a list of the sender's too; beside it the answer for that
+    /// list.
+    pub(super) fn ready_with(
+        &mut self,
+        alloc: Global,
+        step: Step,
+        sent: &mut Vec<Entry>,
+    ) -> Result<(Ready, Reply), AllocError>
+        requires { IsWeighed M.rules self.old.core step }
+        ensures ready { IfOk result (λ both. IsReady M.rules self.new both.0) }
+        ensures step { IfOk result (λ both. both.0 ≡ step) }
+        ensures answer { IfOk result (λ both. both.1 ≡ step.reply) }
+        ensures room { OnOk result (vec_len sent.new < vec_capacity sent.new) }
+        ensures same { (sent.new.items ≡ sent.old.items) × AreSame self.old self.new }
+    {
         let ready = self.ready(alloc, step)?;
         let answer = ready.reply().copy(alloc)?;
         sent.reserve(1)?;
+        Ok((ready, answer))
+    }
+
+    /// Takes an event that was made ready, and adds its entry to a list of the sender's too. Never allocates.
+    pub(super) fn commit_into(
+        &mut self,
+        ready: Ready,
+        answer: Reply,
+        sent: &mut Vec<Entry>,
+    ) -> Reply
+        requires ready { IsReady M.rules self.old ready }
+        requires answer { answer ≡ ready.reply }
+        requires room { vec_len sent.old < vec_capacity sent.old }
+        ensures reply { result ≡ reply_to M.rules self.old.journal ready.event }
+        ensures journal { self.new.journal ≡ and_entry self.old.journal ready.event result }
+        ensures sent { sent.new.items ≡ sent.old.items ++ next_entry self.old.journal.entries ready.event result ∷ [] }
+    {
+        let number = self.next_number();
+        let event = ready.step().event();
         let reply = self.commit(ready);
         sent.push_reserved(Entry {
             number,
             event,
             reply: answer,
         });
-        Ok(reply)
+        reply
     }
 
     /// The number of the next event.
@@ -111,7 +147,7 @@ impl<M: Consistency> Log<M> {
 }
 
 /// Whether it is an event of the task.
-fn is_own(event: Event, task: TaskId) -> bool
+pub(super) fn is_own(event: Event, task: TaskId) -> bool
     ensures { IsTrue result ↔ (owner event ≡ Some task.0) }
 {
     match event {
@@ -123,7 +159,7 @@ fn is_own(event: Event, task: TaskId) -> bool
 }
 
 /// The seat of the child, where a fork was accepted.
-fn child_seat(alloc: Global, event: Event, what: &What) -> Option<Seat>
+pub(super) fn child_seat(alloc: Global, event: Event, what: &What) -> Option<Seat>
     ensures { result ≡ child_seat event what.now }
 {
     match (event, what) {
