@@ -1,1 +1,1 @@
-pub mod Crews
+pub mod Books

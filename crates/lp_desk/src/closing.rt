@@ -2,12 +2,15 @@
 ghost use Rattle.std.specs.Prelude.{◌≡◌, IfOk, IfErr};
 ghost use Rattle.lp_log.specs.Audits.{AllBelong, IsClosed, IsFirstCause};
 ghost use Rattle.lp_log.specs.Journals.{IsReplayed};
+ghost use Rattle.lp_desk.specs.Books.{IsOf};
 
 use crate::Desk;
+use lp_board::DeskName;
 use lp_log::{CloseCause, Control, Journal, Seat};
 use lp_model::Consistency;
 use lp_scan::ScanGate;
 use std::alloc::Global;
+use std::sync::Wait;
 
 /// What is handed back where what was sent isn't what the journal says, so that the audit can be made again with other
 /// seats.
@@ -23,23 +26,25 @@ pub struct Unclosed {
     pub cause: CloseCause,
 }
 
-impl<M: Consistency, G: ScanGate + Drop> Desk<M, G> {
-    /// Gives the desk up, and audits what was sent: see `Journal::audit`. Where a cause fits, the journal, the seats and
+impl<M: Consistency, N: DeskName, G: ScanGate + Drop, R: Wait + Drop> Desk<M, N, G, R> {
+    /// Gives the desk and its board up, which waits for readers that are inside a read, and audits what was sent: see `Journal::audit`. Where a cause fits, the journal, the seats and
     /// the control are handed back with the first.
-    pub fn close(
+    pub fn close<T: Wait>(
         self,
+        rt: &T,
         alloc: Global,
         seats: Vec<Seat>,
         control: Control,
     ) -> Result<Journal, Unclosed>
+        ensures named { IfOk result (λ journal. IsOf N.desk M.rules journal) }
         ensures replayed { IfOk result (λ journal. IsReplayed M.rules journal) }
         ensures closed { IfOk result (λ journal. IsClosed journal seats.items control) }
         ensures belong { IfOk result (λ journal. AllBelong journal.entries seats.items) }
         ensures handed { IfErr result (λ unclosed. (unclosed.seats.items ≡ seats.items) × (unclosed.control ≡ control)) }
-        ensures kept { IfErr result (λ unclosed. IsReplayed M.rules unclosed.journal) }
+        ensures kept { IfErr result (λ unclosed. IsOf N.desk M.rules unclosed.journal × IsReplayed M.rules unclosed.journal) }
         ensures cause { IfErr result (λ unclosed. IsFirstCause unclosed.journal seats.items control unclosed.cause) }
     {
-        let journal = self.into_log().into_journal();
+        let journal = self.into_book().shut(rt);
         match journal.audit(alloc, seats.as_slice(), &control) {
             Ok(()) => Ok(journal),
             Err(cause) => Err(Unclosed {

@@ -1,11 +1,15 @@
-//! One lock round a log.
+//! One lock round a book.
 ghost use Rattle.std.specs.Prelude.{◌≡◌, ◌≢◌, ◌↔◌, ◌<◌, ◌≤◌, ◌∷◌, ◌++◌, [], IfOk, IfErr, IfSome, OnOk, Some, None};
 ghost use Rattle.lp_transition.specs.declared.event.Event.TheVariants.{Walk};
 ghost use Rattle.lp_log.specs.declared.seat.Cause.TheVariants.{NotYours};
-ghost use Rattle.lp_log.specs.Journals.{IsReplayed, Written, next_entry, reply_to};
+ghost use Rattle.lp_log.specs.Journals.{Written, next_entry};
 ghost use Rattle.lp_log.specs.Seats.{and_sent, child_seat, owner};
+ghost use Rattle.lp_desk.specs.Books.{IsSent};
 
-use lp_log::{Cause, Commanded, Control, Log, Seat, Submitted, Turned};
+use crate::held::Held;
+use crate::{Book, Commanded, Submitted};
+use lp_board::DeskName;
+use lp_log::{Cause, Control, Seat, Turned};
 use lp_model::Consistency;
 use lp_scan::{Judged, ScanGate, judge};
 use lp_transition::Event;
@@ -13,10 +17,10 @@ use std::alloc::Global;
 use std::sync::{Mutex, Wait};
 use std::thread::Threads;
 
-/// A log behind a lock, with the number of workers of its walks and stops and the gate that they pass.
+/// A book behind a lock, with the number of workers of its walks and stops and the gate that they pass.
 #[derive(Drop)]
-pub struct Desk<M: Consistency, G: ScanGate + Drop> {
-    log: Mutex<Log<M>>,
+pub struct Desk<M: Consistency, N: DeskName, G: ScanGate + Drop, R: Wait + Drop> {
+    held: Mutex<Held<M, N, R>>,
     model: M,
     workers: usize,
     gate: G,
@@ -24,14 +28,15 @@ pub struct Desk<M: Consistency, G: ScanGate + Drop> {
     ghost few: { workers ≤ 64 },
 }
 
-impl<M: Consistency, G: ScanGate + Drop> Desk<M, G> {
-    /// A desk round a log.
-    pub(crate) fn new(log: Log<M>, model: M, workers: usize, gate: G) -> Desk<M, G>
+impl<M: Consistency, N: DeskName, G: ScanGate + Drop, R: Wait + Drop> Desk<M, N, G, R> {
+    /// A desk round a book, which is given up by this runtime.
+    pub(crate) fn new(rt: R, book: Book<M, N>, workers: usize, gate: G) -> Desk<M, N, G, R>
         requires some { 0 < workers }
         requires few { workers ≤ 64 }
     {
+        let model = book.log().core().model();
         Desk {
-            log: Mutex::new(log),
+            held: Mutex::new(Held { book, rt }),
             model,
             workers,
             gate,
@@ -39,48 +44,54 @@ impl<M: Consistency, G: ScanGate + Drop> Desk<M, G> {
     }
 
     /// Gives the lock up. Nobody waits for it: whoever has the desk by value is alone with it.
-    pub(crate) fn into_log(self) -> Log<M> {
-        let Desk { log, .. } = self;
-        log.into_inner()
+    pub(crate) fn into_book(self) -> Book<M, N> {
+        let Desk { held, .. } = self;
+        held.into_inner().into_book()
     }
 
-    /// Takes an event that is sent from a seat, in any thread. Waits for the lock.
+    /// Takes an event that is sent from a seat, in any thread, and publishes it. Waits for the lock, and for readers of the
+    /// board that are inside a read.
     ///
     /// Turned back, with nothing having happened, for an event that isn't the task's, else where no event is left,
     /// else where an allocation failed.
-    pub fn submit<R: Wait>(
+    pub fn submit<T: Wait>(
         &self,
-        rt: &R,
+        rt: &T,
         alloc: Global,
         seat: Seat,
         event: Event,
-    ) -> Result<Submitted, Turned<Seat>>
+    ) -> Result<Submitted<N>, Turned<Seat>>
         ensures yours { OnOk result (owner event ≡ Some seat.task) }
-        ensures sent { IfOk result (λ done. (before : Written) × IsReplayed M.rules before × (done.reply ≡ reply_to M.rules before event) × (done.seat ≡ and_sent seat (next_entry before.entries event done.reply))) }
+        ensures sent { IfOk result (λ done. (before : Written) × IsSent N.desk M.rules before event done.reply done.told × (done.seat ≡ and_sent seat (next_entry before.entries event done.reply))) }
         ensures child { IfOk result (λ done. done.child ≡ child_seat event done.reply.what) }
         ensures turned { IfErr result (λ turned. turned.part ≡ seat) }
         ensures not_yours { IfErr result (λ turned. (turned.cause ≡ NotYours) ↔ (owner event ≢ Some seat.task)) }
     {
-        self.log.lock(rt).submit(alloc, seat, event)
+        self.held.lock(rt).book.submit(rt, alloc, seat, event)
     }
 }
 
-impl<M: Consistency + Sync, G: ScanGate + Sync + Drop> Desk<M, G> {
+impl<M: Consistency + Sync, N: DeskName, G: ScanGate + Sync + Drop, R: Wait + Drop> Desk<
+    M,
+    N,
+    G,
+    R,
+> {
     /// Takes an event that is sent from the control, in any thread. A walk is judged over copies of the waiting tasks, by
     /// the desk's workers, while the tasks run on: the lock is taken once for the copies and once for the walk. A stop
     /// looks at the tasks under the lock. Waits for the lock and for the workers.
     ///
     /// Turned back, with nothing having happened, for a task's event, else where no event is left, else where an
     /// allocation failed.
-    pub fn command<R: Threads + Wait + Sync>(
+    pub fn command<T: Threads + Wait + Sync>(
         &self,
-        rt: &R,
+        rt: &T,
         alloc: Global,
         control: Control,
         event: Event,
-    ) -> Result<Commanded, Turned<Control>>
+    ) -> Result<Commanded<N>, Turned<Control>>
         ensures yours { OnOk result (owner event ≡ None) }
-        ensures sent { IfOk result (λ done. (before : Written) × IsReplayed M.rules before × (done.reply ≡ reply_to M.rules before event) × (done.control ≡ control ++ next_entry before.entries event done.reply ∷ [])) }
+        ensures sent { IfOk result (λ done. (before : Written) × IsSent N.desk M.rules before event done.reply done.told × (done.control ≡ control ++ next_entry before.entries event done.reply ∷ [])) }
         ensures turned { IfErr result (λ turned. turned.part ≡ control) }
         ensures not_yours { IfErr result (λ turned. (turned.cause ≡ NotYours) ↔ (owner event ≢ None)) }
     {
@@ -95,42 +106,47 @@ impl<M: Consistency + Sync, G: ScanGate + Sync + Drop> Desk<M, G> {
 
     /// What a walk finds of copies of the waiting tasks; None where the event is no walk that looks at tasks. The lock is
     /// free while the workers judge: held, it would stop every task for as long as the walk takes.
-    fn judged<R: Threads + Wait + Sync>(
+    fn judged<T: Threads + Wait + Sync>(
         &self,
-        rt: &R,
+        rt: &T,
         alloc: Global,
         event: Event,
     ) -> Result<Option<Judged<M>>, Cause>
         ensures walk { IfOk result (λ judged. IfSome judged (λ _. event ≡ Walk)) }
         ensures yours { IfErr result (λ cause. (event ≡ Walk) × (cause ≢ NotYours)) }
     {
-        let batch = self.log.lock(rt).batch_for(alloc, event)?;
+        let batch = self.held.lock(rt).book.log().batch_for(alloc, event)?;
         let Some(batch) = batch else {
             return Ok(None);
         };
-        let judged = judge(rt, alloc, self.workers, &self.gate, self.model, batch)?;
-        Ok(Some(judged))
+        match judge(rt, alloc, self.workers, &self.gate, self.model, batch) {
+            Ok(judged) => Ok(Some(judged)),
+            Err(_) => Err(Cause::NoMemory),
+        }
     }
 
     /// Takes an event under the lock; a walk by what was judged before, if it was.
-    fn take<R: Threads + Wait + Sync>(
+    fn take<T: Threads + Wait + Sync>(
         &self,
-        rt: &R,
+        rt: &T,
         alloc: Global,
         judged: Option<&Judged<M>>,
         control: Control,
         event: Event,
-    ) -> Result<Commanded, Turned<Control>>
+    ) -> Result<Commanded<N>, Turned<Control>>
         requires walk { IfSome judged (λ _. event ≡ Walk) }
         ensures yours { OnOk result (owner event ≡ None) }
-        ensures sent { IfOk result (λ done. (before : Written) × IsReplayed M.rules before × (done.reply ≡ reply_to M.rules before event) × (done.control ≡ control ++ next_entry before.entries event done.reply ∷ [])) }
+        ensures sent { IfOk result (λ done. (before : Written) × IsSent N.desk M.rules before event done.reply done.told × (done.control ≡ control ++ next_entry before.entries event done.reply ∷ [])) }
         ensures turned { IfErr result (λ turned. turned.part ≡ control) }
         ensures not_yours { IfErr result (λ turned. (turned.cause ≡ NotYours) ↔ (owner event ≢ None)) }
     {
         let workers = self.workers;
         let gate = &self.gate;
-        let mut log = self.log.lock(rt);
-        match log.command(rt, alloc, workers, gate, judged, control, event) {
+        let mut held = self.held.lock(rt);
+        match held
+            .book
+            .command(rt, alloc, workers, gate, judged, control, event)
+        {
             Ok(done) => Ok(done),
             Err(turned) => Err(turned),
         }

@@ -1,10 +1,13 @@
-//! The desk: one lock round a log, to which threads send events from seats and from the control.
+//! The desk: one lock round a log and its board, to which threads send events from seats and from the control.
 #![tactic(auto)]
 
+mod book;
 mod closing;
 mod desk;
+mod held;
 mod launch;
 
+pub use book::{Book, Commanded, OpenedBook, Submitted};
 pub use closing::Unclosed;
 pub use desk::Desk;
-pub use launch::{LaunchFault, Launched};
+pub use launch::Launched;

@@ -1,12 +1,18 @@
 //! Runs of desks under `hybrid`, with the replies that are worked out by hand.
+ghost use Rattle.std.specs.Prelude.{◌≡◌};
+ghost use Rattle.lp_board.specs.Blanks.{name_of};
+
+mod boards;
 mod closes;
 mod limits;
 mod meets;
 mod threads;
 mod walks;
 
-use lp_desk::{Desk, Launched};
-use lp_log::{Cause, Control, Seat, Submitted, Turned};
+use lp_board::{Blank, BoardReader, DeskName, Told};
+use lp_desk::{Commanded, Desk, Launched, Submitted};
+use lp_log::{Cause, Control, Seat, Turned};
+use lp_model::Consistency;
 use lp_models::Hybrid;
 use lp_patch::{PatchSet, PatchStack};
 use lp_scan::ScanGate;
@@ -14,8 +20,10 @@ use lp_stack::{Class, TaskId};
 use lp_symbols::{SymId, Symbols};
 use lp_transition::{Event, GroupList, Reply, What};
 use std::alloc::Global;
+use std::marker::Brand;
 use std::sync::Wait;
 use std::test::Fail;
+use std::thread::Threads;
 
 const A: SymId = SymId(0);
 
@@ -78,35 +86,56 @@ fn patched(alloc: Global) -> Result<PatchStack, Fail> {
     Ok(PatchStack::new(alloc, sets)?)
 }
 
-/// A desk in a box, its seats and its control.
-type Started = (Box<Desk<Hybrid, Open>>, Vec<Seat>, Control);
+/// How a desk with these tasks starts, which has so many readers.
+fn blank<M: Consistency>(
+    alloc: Global,
+    model: M,
+    boots: &[(TaskId, Class)],
+    readers: usize,
+) -> Result<Box<Blank<M>>, Fail> {
+    Ok(Box::new(
+        alloc,
+        Blank::new(alloc, model, patched(alloc)?, boots, readers)?,
+    )?)
+}
 
-/// A desk that starts with these tasks, whose gate holds nobody.
-fn started(alloc: Global, boots: &[(TaskId, Class)]) -> Result<Started, Fail> {
-    let launched = Desk::launch(alloc, Hybrid, patched(alloc)?, boots, 2, Open)?;
-    let Launched {
-        desk,
-        seats,
-        control,
-    } = launched;
-    Ok((Box::new(alloc, desk)?, seats, control))
+/// A desk whose gate holds nobody, and all that may send to it and read its board.
+type Started<'a, M, N, R> = Box<Launched<M, N, Open, &'a R>>;
+
+/// The desk that starts so.
+fn started<'a, M: Consistency, N: DeskName, R: Wait>(
+    rt: &'a R,
+    alloc: Global,
+    blank: Box<Blank<M>>,
+) -> Result<Started<'a, M, N, R>, Fail>
+    requires { name_of M.rules blank.value ≡ N.desk }
+{
+    let blank = Box::into_inner(blank);
+    Ok(Box::new(alloc, Desk::launch(rt, alloc, blank, 2, Open)?)?)
 }
 
 /// What a desk says to an event of the seat at a place, which is handed back there. The child's seat comes last.
-fn submit<R: Wait>(
+fn submit<M: Consistency, N: DeskName, R: Wait>(
     rt: &R,
     alloc: Global,
-    desk: &Desk<Hybrid, Open>,
-    seats: &mut Vec<Seat>,
+    started: &mut Launched<M, N, Open, &R>,
     place: usize,
     event: Event,
 ) -> Result<Result<Said, Cause>, Fail> {
+    let Launched { desk, seats, .. } = started;
     if place >= seats.len() {
         return Err("no such seat".into());
     }
     let seat = seats.remove(place);
     match desk.submit(rt, alloc, seat, event) {
-        Ok(Submitted { seat, reply, child }) => {
+        Ok(
+            Submitted {
+                seat,
+                reply,
+                child,
+                ..
+            },
+        ) => {
             seats.insert(place, seat)?;
             if let Some(child) = child {
                 seats.push(child)?;
@@ -117,6 +146,20 @@ fn submit<R: Wait>(
             seats.insert(place, part)?;
             Ok(Err(cause))
         }
+    }
+}
+
+/// The control after an event that was sent from it, and what was told.
+fn command<M: Consistency + Sync, N: DeskName, G: ScanGate + Sync + Drop, R: Threads + Wait + Sync>(
+    rt: &R,
+    alloc: Global,
+    desk: &Desk<M, N, G, &R>,
+    control: Control,
+    event: Event,
+) -> Result<(Control, Told<N>), Fail> {
+    match desk.command(rt, alloc, control, event) {
+        Ok(Commanded { control, told, .. }) => Ok((control, told)),
+        Err(_) => Err("turned back".into()),
     }
 }
 

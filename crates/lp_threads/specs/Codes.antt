@@ -1,8 +1,8 @@
 -- The desk's faults by their letters and numbers.
 use Rattle.std.specs.Prelude.{ℕ, List, Result, Ok, Err, codes}
 use Rattle.lp_transition.specs.declared.engine.boot.BootFault.TheVariants as boot
-use Rattle.lp_desk.specs.declared.launch.LaunchFault.{LaunchFault}
-use Rattle.lp_desk.specs.declared.launch.LaunchFault.TheVariants as launch
+use Rattle.lp_board.specs.declared.launch.LaunchFault.{LaunchFault}
+use Rattle.lp_board.specs.declared.launch.LaunchFault.TheVariants as launch
 use Rattle.lp_log.specs.declared.seat.Cause.{Cause}
 use Rattle.lp_log.specs.declared.seat.Cause.TheVariants as sent
 use Rattle.lp_log.specs.declared.audit.CloseCause.{CloseCause}
@@ -17,6 +17,7 @@ of_launch (launch.Boot boot.TaskRange) = codes "T1"
 of_launch (launch.Boot boot.TaskDoubled) = codes "T2"
 of_launch (launch.Boot boot.NoMemory) = codes "T3"
 of_launch launch.BadCrew = codes "T4"
+of_launch launch.NoBoard = codes "T5"
 
 -- why an event was turned back
 abbrev pub of_cause : Cause → List ℕ

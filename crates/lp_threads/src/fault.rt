@@ -2,7 +2,8 @@
 ghost use Rattle.std.specs.Prelude.{◌≡◌, Err, IfErr, IfOk, Ok};
 ghost use Rattle.lp_threads.specs.Codes.{code_of, of_cause, of_close, of_launch};
 
-use lp_desk::{LaunchFault, Unclosed};
+use lp_board::LaunchFault;
+use lp_desk::Unclosed;
 use lp_log::{Cause, CloseCause};
 use lp_trace::{ReplayFault, RunFault, StreamFault, WriteFault};
 use lp_transition::BootFault;
@@ -53,6 +54,7 @@ fn launch_code(fault: LaunchFault) -> &'static str
         LaunchFault::Boot(BootFault::TaskDoubled) => "T2",
         LaunchFault::Boot(BootFault::NoMemory) => "T3",
         LaunchFault::BadCrew => "T4",
+        LaunchFault::NoBoard => "T5",
     }
 }
 

@@ -1,17 +1,20 @@
 //! A trace, played by one thread, each event in its turn.
 ghost use Rattle.std.specs.Prelude.{◌≡◌, IfOk, IfSome, length};
+ghost use Rattle.lp_board.specs.Blanks.{name_of};
 ghost use Rattle.lp_log.specs.Journals.{IsReplayed};
 
 use crate::ThreadsFault;
-use crate::playing::{Open, SCAN_WORKERS};
-use lp_desk::{Desk, Launched};
-use lp_log::{Commanded, Control, Journal, Seat, Submitted, owner};
+use crate::playing::{Open, READERS, SCAN_WORKERS};
+use lp_board::{Blank, DeskName};
+use lp_desk::{Commanded, Desk, Launched, Submitted};
+use lp_log::{Control, Journal, Seat, owner};
 use lp_model::Consistency;
 use lp_numbers::NUMBERS;
 use lp_scan::ScanGate;
 use lp_trace::{Trace, stack};
 use lp_transition::Event;
 use std::alloc::{AllocError, Global};
+use std::marker::Brand;
 use std::sync::Wait;
 use std::thread::Threads;
 
@@ -26,11 +29,27 @@ pub fn play_in_order<T: Threads + Wait + Sync, M: Consistency + Sync>(
     ensures { IfOk result (λ journal. IfSome journal (λ journal. IsReplayed M.rules journal)) }
 {
     let patches = stack(alloc, trace)?;
+    let blank = Blank::new(alloc, model, patches, trace.boots(), READERS)?;
+    play_blank_in_order::<T, M, Brand>(rt, alloc, trace, blank)
+}
+
+/// The same, through the desk that starts as a blank.
+fn play_blank_in_order<T: Threads + Wait + Sync, M: Consistency + Sync, N: DeskName>(
+    rt: &T,
+    alloc: Global,
+    trace: &Trace,
+    blank: Blank<M>,
+) -> Result<Option<Journal>, ThreadsFault>
+    requires { name_of M.rules blank ≡ N.desk }
+    ensures { IfOk result (λ journal. IfSome journal (λ journal. IsReplayed M.rules journal)) }
+{
+    let launched = Desk::<M, N, Open, &T>::launch(rt, alloc, blank, SCAN_WORKERS, Open)?;
     let Launched {
         desk,
         seats,
         control,
-    } = Desk::launch(alloc, model, patches, trace.boots(), SCAN_WORKERS, Open)?;
+        readers: _,
+    } = launched;
     let mut table = table_of(alloc, seats)?;
     let mut control = control;
     for event in trace.events() {
@@ -43,15 +62,21 @@ pub fn play_in_order<T: Threads + Wait + Sync, M: Consistency + Sync>(
         }
     }
     let seats = seats_in(alloc, table)?;
-    let journal = desk.close(alloc, seats, control)?;
+    let journal = desk.close(rt, alloc, seats, control)?;
     Ok(Some(journal))
 }
 
 /// Sends an event from the control, which is handed back.
-fn commanded<T: Threads + Wait + Sync, M: Consistency + Sync, G: ScanGate + Sync + Drop>(
+fn commanded<
+    T: Threads + Wait + Sync,
+    M: Consistency + Sync,
+    N: DeskName,
+    G: ScanGate + Sync + Drop,
+    R: Wait + Drop,
+>(
     rt: &T,
     alloc: Global,
-    desk: &Desk<M, G>,
+    desk: &Desk<M, N, G, R>,
     control: Control,
     event: Event,
 ) -> Result<Control, ThreadsFault> {
@@ -62,10 +87,10 @@ fn commanded<T: Threads + Wait + Sync, M: Consistency + Sync, G: ScanGate + Sync
 }
 
 /// Sends an event from its task's seat, which is put back, with the child's; false where the task has none.
-fn submitted<T: Wait, M: Consistency, G: ScanGate + Drop>(
+fn submitted<T: Wait, M: Consistency, N: DeskName, G: ScanGate + Drop, R: Wait + Drop>(
     rt: &T,
     alloc: Global,
-    desk: &Desk<M, G>,
+    desk: &Desk<M, N, G, R>,
     table: &mut [Option<Seat>],
     task: u16,
     event: Event,

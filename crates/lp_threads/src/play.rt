@@ -1,8 +1,9 @@
 //! A thread's part of a play.
 
 use crate::scripts::Scripts;
-use lp_desk::Desk;
-use lp_log::{Cause, Commanded, Control, Seat, Submitted};
+use lp_board::DeskName;
+use lp_desk::{Commanded, Desk, Submitted};
+use lp_log::{Cause, Control, Seat};
 use lp_model::Consistency;
 use lp_numbers::NUMBERS;
 use lp_scan::ScanGate;
@@ -13,10 +14,10 @@ use std::sync::Wait;
 use std::thread::Threads;
 
 /// Plays the scripts of these seats, one after another, and then those of the children, in the order of their birth.
-pub(crate) fn play_seats<R: Wait, M: Consistency, G: ScanGate + Drop>(
-    rt: &R,
+pub(crate) fn play_seats<T: Wait, M: Consistency, N: DeskName, G: ScanGate + Drop, R: Wait + Drop>(
+    rt: &T,
     alloc: Global,
-    desk: &Desk<M, G>,
+    desk: &Desk<M, N, G, R>,
     scripts: &Scripts,
     seats: Vec<Seat>,
 ) -> Result<Vec<Seat>, Cause> {
@@ -34,10 +35,10 @@ pub(crate) fn play_seats<R: Wait, M: Consistency, G: ScanGate + Drop>(
 }
 
 /// Plays a seat's script, and adds the seats of its children to those that wait.
-fn play_seat<R: Wait, M: Consistency, G: ScanGate + Drop>(
-    rt: &R,
+fn play_seat<T: Wait, M: Consistency, N: DeskName, G: ScanGate + Drop, R: Wait + Drop>(
+    rt: &T,
     alloc: Global,
-    desk: &Desk<M, G>,
+    desk: &Desk<M, N, G, R>,
     script: &[Event],
     seat: Seat,
     waiting: &mut VecDeque<Seat>,
@@ -58,13 +59,15 @@ fn play_seat<R: Wait, M: Consistency, G: ScanGate + Drop>(
 
 /// Plays the control's script.
 pub(crate) fn play_control<
-    R: Threads + Wait + Sync,
+    T: Threads + Wait + Sync,
     M: Consistency + Sync,
+    N: DeskName,
     G: ScanGate + Sync + Drop,
+    R: Wait + Drop,
 >(
-    rt: &R,
+    rt: &T,
     alloc: Global,
-    desk: &Desk<M, G>,
+    desk: &Desk<M, N, G, R>,
     script: &[Event],
     control: Control,
 ) -> Result<Control, Cause> {

@@ -1,6 +1,7 @@
 //! A trace, played by threads.
-ghost use Rattle.std.specs.Prelude.{IfOk, OnOk};
+ghost use Rattle.std.specs.Prelude.{◌≡◌, IfOk, OnOk};
 ghost use Rattle.std.specs.Io.KnownBytes.{Appends};
+ghost use Rattle.lp_board.specs.Blanks.{name_of};
 ghost use Rattle.lp_trace.specs.Runs.{ReadsTrace};
 ghost use Rattle.lp_threads.specs.Plays.{IsPlay, play_text};
 ghost use Rattle.lp_threads.specs.declared.report.Play.{Play};
@@ -10,6 +11,7 @@ use crate::play::{play_control, play_seats};
 use crate::report::{Play, write_play};
 use crate::returns::Returns;
 use crate::scripts::Scripts;
+use lp_board::{Blank, DeskName};
 use lp_desk::{Desk, Launched};
 use lp_log::{Control, Seat};
 use lp_model::Consistency;
@@ -17,6 +19,7 @@ use lp_scan::ScanGate;
 use lp_trace::{Trace, stack};
 use std::alloc::{AllocError, Global};
 use std::io::{Read, Write};
+use std::marker::Brand;
 use std::sync::{Mutex, Wait};
 use std::thread::{self, Threads};
 
@@ -25,6 +28,9 @@ const MOST_PLAYERS: usize = 64;
 
 /// The workers of a walk or a stop.
 pub(crate) const SCAN_WORKERS: usize = 2;
+
+/// The readers of the board: a board has one at least.
+pub(crate) const READERS: usize = 1;
 
 /// Holds nobody.
 #[derive(Drop)]
@@ -67,16 +73,32 @@ fn play<T: Threads + Wait + Sync, M: Consistency + Send + Sync>(
     ensures { IfOk result (λ play. IsPlay M.rules trace.now play) }
 {
     let patches = stack(alloc, trace)?;
+    let blank = Blank::new(alloc, model, patches, trace.boots(), READERS)?;
+    play_blank::<T, M, Brand>(rt, alloc, trace, blank)
+}
+
+/// The same, through the desk that starts as a blank.
+fn play_blank<T: Threads + Wait + Sync, M: Consistency + Send + Sync, N: DeskName + Send + Sync>(
+    rt: &T,
+    alloc: Global,
+    trace: &Trace,
+    blank: Blank<M>,
+) -> Result<Play, ThreadsFault>
+    requires { name_of M.rules blank ≡ N.desk }
+    ensures { IfOk result (λ play. IsPlay M.rules trace.now play) }
+{
     let scripts = Scripts::deal(alloc, trace.events())?;
+    let launched = Desk::<M, N, Open, &T>::launch(rt, alloc, blank, SCAN_WORKERS, Open)?;
     let Launched {
         desk,
         seats,
         control,
-    } = Desk::launch(alloc, model, patches, trace.boots(), SCAN_WORKERS, Open)?;
+        readers: _,
+    } = launched;
     let hands = dealt(alloc, seats)?;
     let (seats, control) = played(rt, alloc, &desk, &scripts, hands, control)?;
     let given = seats.len();
-    let journal = desk.close(alloc, seats, control)?;
+    let journal = desk.close(rt, alloc, seats, control)?;
     let events = journal.entries().len();
     let skipped = trace.events().len().saturating_sub(events);
     Ok(Play {
@@ -102,10 +124,15 @@ fn dealt(alloc: Global, seats: Vec<Seat>) -> Result<Vec<Vec<Seat>>, AllocError> 
 }
 
 /// Plays all scripts, each hand and the control in a thread of its own, and gives what comes back.
-fn played<T: Threads + Wait + Sync, M: Consistency + Send + Sync, G: ScanGate + Sync + Drop>(
+fn played<
+    T: Threads + Wait + Sync,
+    M: Consistency + Send + Sync,
+    N: DeskName + Send + Sync,
+    G: ScanGate + Sync + Drop,
+>(
     rt: &T,
     alloc: Global,
-    desk: &Desk<M, G>,
+    desk: &Desk<M, N, G, &T>,
     scripts: &Scripts,
     hands: Vec<Vec<Seat>>,
     control: Control,

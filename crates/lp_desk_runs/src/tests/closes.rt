@@ -1,23 +1,54 @@
 //! Desks that are closed with each other's seats: A of tasks 1 and 2, whose seat 1 has sent `enter 1`, and B of task 1.
+ghost use Rattle.std.specs.Prelude.{◌≡◌};
+ghost use Rattle.lp_board.specs.Blanks.{name_of};
+
 use super::*;
 use lp_desk::Unclosed;
 use lp_log::{CloseCause, Journal};
 
 /// The seats of A, the first of which has sent `enter 1`.
 fn seats_of_a<R: Wait>(rt: &R, alloc: Global) -> Result<Vec<Seat>, Fail> {
-    let (desk, mut seats, _) = started(alloc, &BOTH)?;
-    let said = submit(rt, alloc, &desk, &mut seats, 0, Event::Enter(ONE))?;
+    let blank = blank(alloc, Hybrid, &BOTH, 1)?;
+    seats_entered::<Hybrid, Brand, R>(rt, alloc, blank)
+}
+
+fn seats_entered<M: Consistency, N: DeskName, R: Wait>(
+    rt: &R,
+    alloc: Global,
+    blank: Box<Blank<M>>,
+) -> Result<Vec<Seat>, Fail>
+    requires { name_of M.rules blank.value ≡ N.desk }
+{
+    let mut a = started::<M, N, R>(rt, alloc, blank)?;
+    let said = submit(rt, alloc, &mut a, 0, Event::Enter(ONE))?;
     if said == Ok(Said::Done) {
-        return Ok(seats);
+        return Ok(Box::into_inner(a).seats);
     }
     Err("enter".into())
 }
 
 /// What is handed back as B is closed with no seat.
-fn unclosed_b(alloc: Global) -> Result<(Journal, Seat, Control), Fail> {
-    let (desk, mut seats, control) = started(alloc, &FIRST)?;
-    let own = first(&mut seats)?;
-    match Box::into_inner(desk).close(alloc, seats, control) {
+fn unclosed_b<R: Wait>(rt: &R, alloc: Global) -> Result<(Journal, Seat, Control), Fail> {
+    let blank = blank(alloc, Hybrid, &FIRST, 1)?;
+    unclosed::<Hybrid, Brand, R>(rt, alloc, blank)
+}
+
+fn unclosed<M: Consistency, N: DeskName, R: Wait>(
+    rt: &R,
+    alloc: Global,
+    blank: Box<Blank<M>>,
+) -> Result<(Journal, Seat, Control), Fail>
+    requires { name_of M.rules blank.value ≡ N.desk }
+{
+    let mut b = started::<M, N, R>(rt, alloc, blank)?;
+    let own = first(&mut b.seats)?;
+    let Launched {
+        desk,
+        seats,
+        control,
+        ..
+    } = Box::into_inner(b);
+    match desk.close(rt, alloc, seats, control) {
         Err(
             Unclosed {
                 journal,
@@ -30,25 +61,15 @@ fn unclosed_b(alloc: Global) -> Result<(Journal, Seat, Control), Fail> {
     }
 }
 
-/// B's audit with these seats.
-fn audit_of_b(
-    alloc: Global,
-    journal: &Journal,
-    control: &Control,
-    seats: &[Seat],
-) -> Result<(), CloseCause> {
-    journal.audit(alloc, seats, control)
-}
-
 #[test]
 fn a_seat_of_another_desk_differs_or_is_a_stranger(rt: HostRuntime) -> Result<(), Fail> {
     let alloc = rt.alloc();
-    let (journal, own, control) = unclosed_b(alloc)?;
+    let (journal, own, control) = unclosed_b(&rt, alloc)?;
     let mut seats = seats_of_a(&rt, alloc)?;
     let Some(two) = seats.pop() else {
         return Err("two seats".into());
     };
-    let others = audit_of_b(alloc, &journal, &control, seats.as_slice());
+    let others = journal.audit(alloc, seats.as_slice(), &control);
     assert_eq!(rt;
         others,
         Err(CloseCause::Differs {
@@ -57,51 +78,109 @@ fn a_seat_of_another_desk_differs_or_is_a_stranger(rt: HostRuntime) -> Result<()
         })
     );
     seats.push(own)?;
-    let twice = audit_of_b(alloc, &journal, &control, seats.as_slice());
+    let twice = journal.audit(alloc, seats.as_slice(), &control);
     assert_eq!(rt; twice, Err(CloseCause::Stranger { task: ONE }));
     let mut rest = Vec::new(alloc);
     rest.extend(seats.pop())?;
-    assert_eq!(rt;
-        audit_of_b(alloc, &journal, &control, rest.as_slice()),
-        Ok(())
-    );
+    assert_eq!(rt; journal.audit(alloc, rest.as_slice(), &control), Ok(()));
     rest.push(two)?;
-    let stranger = audit_of_b(alloc, &journal, &control, rest.as_slice());
+    let stranger = journal.audit(alloc, rest.as_slice(), &control);
     assert_eq!(rt; stranger, Err(CloseCause::Stranger { task: TWO }));
     Ok(())
 }
 
-/// A's second seat sends an event to B, which is refused and journalled.
-#[test]
-fn an_entry_of_a_task_that_never_was_is_a_strangers(rt: HostRuntime) -> Result<(), Fail> {
-    let alloc = rt.alloc();
-    let (_, mut seats, _) = started(alloc, &BOTH)?;
-    let (desk, own, control) = started(alloc, &FIRST)?;
-    let said = submit(&rt, alloc, &desk, &mut seats, 1, Event::Enter(TWO))?;
-    assert_eq!(rt; said, Ok(Said::Refused(1)));
-    let closed = Box::into_inner(desk).close(alloc, own, control);
-    assert_eq!(rt;
-        closed.err().map(|unclosed| unclosed.cause),
-        Some(CloseCause::Stranger { task: TWO })
-    );
-    Ok(())
+/// The second seat of a desk that has taken nothing, and its control.
+fn second_seat<R: Wait>(rt: &R, alloc: Global) -> Result<(Seat, Control), Fail> {
+    let blank = blank(alloc, Hybrid, &BOTH, 1)?;
+    second::<Hybrid, Brand, R>(rt, alloc, blank)
 }
 
-/// The control comes last, as task 0.
+fn second<M: Consistency, N: DeskName, R: Wait>(
+    rt: &R,
+    alloc: Global,
+    blank: Box<Blank<M>>,
+) -> Result<(Seat, Control), Fail>
+    requires { name_of M.rules blank.value ≡ N.desk }
+{
+    let started = started::<M, N, R>(rt, alloc, blank)?;
+    let Launched {
+        mut seats,
+        control,
+        ..
+    } = Box::into_inner(started);
+    match seats.pop() {
+        Some(seat) => Ok((seat, control)),
+        None => Err("two seats".into()),
+    }
+}
+
+/// A's second seat sends an event to B, which is refused and journalled; and B is closed with A's control, which hasn't
+/// sent what B's has. The control comes last, as task 0.
 #[test]
-fn a_control_of_another_desk_differs(rt: HostRuntime) -> Result<(), Fail> {
+fn another_desks_parts_close_no_desk(rt: HostRuntime) -> Result<(), Fail> {
     let alloc = rt.alloc();
-    let (desk, own, control) = started(alloc, &FIRST)?;
-    let (_, _, other) = started(alloc, &FIRST)?;
-    let sent = desk.command(&rt, alloc, control, Event::Enable);
-    assert!(rt; sent.is_ok());
-    let closed = Box::into_inner(desk).close(alloc, own, other);
+    let (seat, _) = second_seat(&rt, alloc)?;
+    let refused = blank(alloc, Hybrid, &FIRST, 1)?;
+    let stranger = closed_after_a_stranger::<Hybrid, Brand, _>(&rt, alloc, refused, seat)?;
+    assert_eq!(rt; stranger, Some(CloseCause::Stranger { task: TWO }));
+    let (_, control) = second_seat(&rt, alloc)?;
+    let enabled = blank(alloc, Hybrid, &FIRST, 1)?;
+    let differs = closed_by_another::<Hybrid, Brand, _>(&rt, alloc, enabled, control)?;
     assert_eq!(rt;
-        closed.err().map(|unclosed| unclosed.cause),
+        differs,
         Some(CloseCause::Differs {
             task: TaskId(0),
             place: 0
         })
     );
     Ok(())
+}
+
+fn closed_after_a_stranger<M: Consistency, N: DeskName, R: Wait>(
+    rt: &R,
+    alloc: Global,
+    blank: Box<Blank<M>>,
+    seat: Seat,
+) -> Result<Option<CloseCause>, Fail>
+    requires { name_of M.rules blank.value ≡ N.desk }
+{
+    let b = started::<M, N, R>(rt, alloc, blank)?;
+    let done = b.desk.submit(rt, alloc, seat, Event::Enter(TWO)).ok();
+    if done.map(|done| in_short(&done.reply)) != Some(Said::Refused(1)) {
+        return Err("it isn't refused".into());
+    }
+    let Launched {
+        desk,
+        seats,
+        control,
+        ..
+    } = Box::into_inner(b);
+    Ok(
+        desk.close(rt, alloc, seats, control)
+            .err()
+            .map(|unclosed| unclosed.cause),
+    )
+}
+
+fn closed_by_another<M: Consistency + Sync, N: DeskName, R: Threads + Wait + Sync>(
+    rt: &R,
+    alloc: Global,
+    blank: Box<Blank<M>>,
+    other: Control,
+) -> Result<Option<CloseCause>, Fail>
+    requires { name_of M.rules blank.value ≡ N.desk }
+{
+    let b = started::<M, N, R>(rt, alloc, blank)?;
+    let Launched {
+        desk,
+        seats,
+        control,
+        ..
+    } = Box::into_inner(b);
+    drop(command(rt, alloc, &desk, control, Event::Enable)?);
+    Ok(
+        desk.close(rt, alloc, seats, other)
+            .err()
+            .map(|unclosed| unclosed.cause),
+    )
 }

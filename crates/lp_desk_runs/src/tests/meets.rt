@@ -1,11 +1,12 @@
 //! Gates that only several threads can pass.
+ghost use Rattle.std.specs.Prelude.{◌≡◌};
+ghost use Rattle.lp_board.specs.Blanks.{name_of};
+
 use super::*;
-use lp_log::Commanded;
-use lp_model::Consistency;
 use lp_models::AllAtOnce;
 use std::hint::spin_loop;
 use std::sync::atomic::{AtomicBool, Ordering};
-use std::thread::{Threads, join};
+use std::thread::join;
 
 /// How often a gate looks before it gives up.
 const MOST_TURNS: u32 = 10_000_000;
@@ -74,25 +75,19 @@ impl<'a> ScanGate for Meeting<'a> {
 }
 
 /// What a desk of tasks 1 and 2 with two workers says to a scan after `enable`.
-fn scanned<R: Threads + Wait + Sync, M: Consistency + Sync>(
+fn scanned<M: Consistency + Sync, N: DeskName, R: Threads + Wait + Sync>(
     rt: &R,
     alloc: Global,
-    model: M,
+    blank: Box<Blank<M>>,
     marks: &Marks,
     scan: Event,
-) -> Result<Said, Fail> {
+) -> Result<Said, Fail>
+    requires { name_of M.rules blank.value ≡ N.desk }
+{
     let gate = Meeting(marks);
-    let Launched { desk, control, .. } = Desk::launch(
-        alloc,
-        model,
-        patched(alloc)?,
-        &BOTH,
-        2,
-        gate,
-    )?;
-    let Ok(Commanded { control, .. }) = desk.command(rt, alloc, control, Event::Enable) else {
-        return Err("enable".into());
-    };
+    let launched = Desk::launch(rt, alloc, Box::into_inner(blank), 2, gate)?;
+    let Launched::<M, N, Meeting<'_>, &R> { desk, control, .. } = launched;
+    let (control, _) = command(rt, alloc, &desk, control, Event::Enable)?;
     match desk.command(rt, alloc, control, scan) {
         Ok(Commanded { reply, .. }) => Ok(in_short(&reply)),
         Err(_) => Err("turned back".into()),
@@ -104,11 +99,13 @@ fn scanned<R: Threads + Wait + Sync, M: Consistency + Sync>(
 fn desk_pieces_meet(rt: HostRuntime) -> Result<(), Fail> {
     let alloc = rt.alloc();
     let marks = Marks::new();
-    let walk = scanned(&rt, alloc, Hybrid, &marks, Event::Walk)?;
+    let walked = blank(alloc, Hybrid, &BOTH, 1)?;
+    let walk = scanned::<Hybrid, Brand, _>(&rt, alloc, walked, &marks, Event::Walk)?;
     assert_eq!(rt; walk, Said::Done);
     assert!(rt; !marks.gave_up());
     let marks = Marks::new();
-    let stop = scanned(&rt, alloc, AllAtOnce, &marks, Event::Stop)?;
+    let stopped = blank(alloc, AllAtOnce, &BOTH, 1)?;
+    let stop = scanned::<AllAtOnce, Brand, _>(&rt, alloc, stopped, &marks, Event::Stop)?;
     assert_eq!(rt; stop, Said::SwitchedLast(0));
     assert!(rt; !marks.gave_up());
     Ok(())
@@ -127,10 +124,10 @@ impl<'a> ScanGate for Holding<'a> {
 }
 
 /// Sends an event once piece 0 has come to the gate, and tells the gate when it was answered.
-fn submit_meanwhile<'a, R: Wait>(
+fn submit_meanwhile<M: Consistency, N: DeskName, G: ScanGate + Drop, R: Wait>(
     rt: &R,
     alloc: Global,
-    desk: &Desk<Hybrid, Holding<'a>>,
+    desk: &Desk<M, N, G, &R>,
     marks: &Marks,
     seat: Seat,
 ) -> Option<Said> {
@@ -147,24 +144,41 @@ fn submit_meanwhile<'a, R: Wait>(
 fn tasks_run_during_walk(rt: HostRuntime) -> Result<(), Fail> {
     let alloc = rt.alloc();
     let marks = Marks::new();
-    let gate = Holding(&marks);
-    let launched = Desk::launch(alloc, Hybrid, patched(alloc)?, &BOTH, 2, gate)?;
-    let Launched {
-        desk,
-        mut seats,
-        control,
-    } = launched;
-    let seat = first(&mut seats)?;
-    let Ok(Commanded { control, .. }) = desk.command(&rt, alloc, control, Event::Enable) else {
-        return Err("enable".into());
-    };
-    let (walk, entered) = join(
-        &rt,
-        || desk.command(&rt, alloc, control, Event::Walk).ok(),
-        || submit_meanwhile(&rt, alloc, &desk, &marks, seat),
-    );
-    assert_eq!(rt; walk.map(|done| in_short(&done.reply)), Some(Said::Done));
+    let blank = blank(alloc, Hybrid, &BOTH, 1)?;
+    let (walk, entered) = walked_meanwhile::<Hybrid, Brand, _>(&rt, alloc, blank, &marks)?;
+    assert_eq!(rt; walk, Some(Said::Done));
     assert_eq!(rt; entered, Some(Said::Done));
     assert!(rt; !marks.gave_up());
     Ok(())
+}
+
+/// What a desk says to a walk, and to an event that is sent while its first piece is judged.
+fn walked_meanwhile<
+    M: Consistency + Send + Sync,
+    N: DeskName + Send + Sync,
+    R: Threads + Wait + Sync,
+>(
+    rt: &R,
+    alloc: Global,
+    blank: Box<Blank<M>>,
+    marks: &Marks,
+) -> Result<(Option<Said>, Option<Said>), Fail>
+    requires { name_of M.rules blank.value ≡ N.desk }
+{
+    let gate = Holding(marks);
+    let launched = Desk::launch(rt, alloc, Box::into_inner(blank), 2, gate)?;
+    let Launched::<M, N, Holding<'_>, &R> {
+        desk,
+        mut seats,
+        control,
+        ..
+    } = launched;
+    let seat = first(&mut seats)?;
+    let (control, _) = command(rt, alloc, &desk, control, Event::Enable)?;
+    let (walk, entered) = join(
+        rt,
+        || desk.command(rt, alloc, control, Event::Walk).ok(),
+        || submit_meanwhile(rt, alloc, &desk, marks, seat),
+    );
+    Ok((walk.map(|done| in_short(&done.reply)), entered))
 }

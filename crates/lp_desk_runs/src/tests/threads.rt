@@ -1,63 +1,88 @@
 //! A seat in a thread of its own.
+ghost use Rattle.std.specs.Prelude.{◌≡◌};
+ghost use Rattle.lp_board.specs.Blanks.{name_of};
+
 use super::*;
 use lp_desk::Unclosed;
-use lp_log::{CloseCause, Commanded};
-use std::thread::{Threads, join};
+use lp_log::CloseCause;
+use std::process::Abort;
+use std::thread::join;
 
-/// Sends `enter 1` and `exit 1`, and gives the seat with what was said to the second.
-fn enter_and_exit<R: Wait>(
+/// Sends `enter 1` and `exit 1`, and gives the seat with what was said and told of the second.
+fn enter_and_exit<M: Consistency, N: DeskName, R: Wait>(
     rt: &R,
     alloc: Global,
-    desk: &Desk<Hybrid, Open>,
+    desk: &Desk<M, N, Open, &R>,
     seat: Seat,
-) -> Option<(Seat, Said)> {
+) -> Option<(Seat, Said, Told<N>)> {
     let seat = desk.submit(rt, alloc, seat, Event::Enter(ONE)).ok()?.seat;
-    let Submitted { seat, reply, .. } = desk.submit(rt, alloc, seat, Event::Exit(ONE)).ok()?;
-    Some((seat, in_short(&reply)))
+    let Submitted {
+        seat,
+        reply,
+        told,
+        ..
+    } = desk.submit(rt, alloc, seat, Event::Exit(ONE)).ok()?;
+    Some((seat, in_short(&reply), told))
 }
 
-/// A desk of tasks 1 and 2 to which `enable` was sent from here, and `enter 1` and `exit 1` from another thread.
-fn after_an_exit<R: Threads + Wait + Sync>(rt: &R, alloc: Global) -> Result<Started, Fail> {
-    let (desk, mut seats, control) = started(alloc, &BOTH)?;
-    let Ok(Commanded { control, .. }) = desk.command(rt, alloc, control, Event::Enable) else {
-        return Err("enable".into());
-    };
+/// What is told where `enable` is sent from here, and `enter 1` and `exit 1` from another thread.
+pub(super) fn after_an_exit<
+    'a,
+    M: Consistency + Send + Sync,
+    N: DeskName + Send + Sync,
+    R: Threads + Wait + Sync,
+>(
+    rt: &'a R,
+    alloc: Global,
+    started: Started<'a, M, N, R>,
+) -> Result<(Started<'a, M, N, R>, Told<N>), Fail> {
+    let Launched {
+        desk,
+        mut seats,
+        control,
+        readers,
+    } = Box::into_inner(started);
+    let (control, _) = command(rt, alloc, &desk, control, Event::Enable)?;
     let one = first(&mut seats)?;
     let (sent, _) = join(rt, || enter_and_exit(rt, alloc, &desk, one), || ());
-    match sent {
-        Some((one, Said::Switched(1))) => {
-            seats.push(one)?;
-            Ok((desk, seats, control))
-        }
-        _ => Err("task 1 switches".into()),
-    }
-}
-
-#[test]
-fn a_desk_closes_over_what_threads_sent(rt: HostRuntime) -> Result<(), Fail> {
-    let alloc = rt.alloc();
-    let (desk, seats, control) = after_an_exit(&rt, alloc)?;
-    let Ok(journal) = Box::into_inner(desk).close(alloc, seats, control) else {
-        return Err("not closed".into());
+    let Some((one, Said::Switched(1), told)) = sent else {
+        return Err("task 1 switches".into());
     };
-    for (entry, want) in journal
-        .entries()
-        .iter()
-        .zip([Event::Enable, Event::Enter(ONE), Event::Exit(ONE)])
-    {
-        assert_eq!(rt; entry.event, want);
-    }
-    assert_eq!(rt; journal.entries().len(), 3);
-    Ok(())
+    seats.push(one)?;
+    let started = Launched {
+        desk,
+        seats,
+        control,
+        readers,
+    };
+    Ok((Box::new(alloc, started)?, told))
 }
 
 /// Seat 2 is kept back, and the audit is made again with it.
 #[test]
 fn a_seat_that_is_kept_back_is_missed(rt: HostRuntime) -> Result<(), Fail> {
     let alloc = rt.alloc();
-    let (desk, mut seats, control) = after_an_exit(&rt, alloc)?;
+    let blank = blank(alloc, Hybrid, &BOTH, 1)?;
+    kept_back::<Hybrid, Brand, _>(&rt, alloc, blank)
+}
+
+fn kept_back<
+    M: Consistency + Send + Sync,
+    N: DeskName + Send + Sync,
+    R: Threads + Wait + Abort + Sync,
+>(rt: &R, alloc: Global, blank: Box<Blank<M>>) -> Result<(), Fail>
+    requires { name_of M.rules blank.value ≡ N.desk }
+{
+    let started = started::<M, N, R>(rt, alloc, blank)?;
+    let (started, _) = after_an_exit(rt, alloc, started)?;
+    let Launched {
+        desk,
+        mut seats,
+        control,
+        ..
+    } = Box::into_inner(started);
     let two = first(&mut seats)?;
-    let Err(unclosed) = Box::into_inner(desk).close(alloc, seats, control) else {
+    let Err(unclosed) = desk.close(rt, alloc, seats, control) else {
         return Err("closed".into());
     };
     let Unclosed {

@@ -3,7 +3,6 @@ use super::*;
 use lp_log::{Log, Opened};
 use lp_model::{Blame, Verdict};
 use lp_scan::{Judged, judge};
-use std::thread::Threads;
 
 /// A log in a box.
 type Boxed = Box<Log<Hybrid>>;
