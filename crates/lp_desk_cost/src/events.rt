@@ -1,0 +1,43 @@
+//! The events that are timed: a task enters the kernel and leaves it, again and again.
+
+use lp_patch::{PatchSet, PatchStack};
+use lp_stack::{Class, TaskId};
+use lp_symbols::{SymId, Symbols};
+use lp_transition::Event;
+use std::alloc::Global;
+
+/// How many events are sent.
+pub(crate) const COUNT: u32 = 1_000_000;
+
+/// How many are sent while so many readers read. Each event waits for the readers that are inside a read, and of more readers
+/// than processors some stand still there until they have their turn again.
+pub(crate) fn count_beside(readers: usize) -> u32 {
+    match readers {
+        0 | 1 => COUNT,
+        2..=8 => COUNT / 10,
+        _ => COUNT / 100,
+    }
+}
+
+pub(crate) const TASK: TaskId = TaskId(1);
+
+pub(crate) const BOOTS: [(TaskId, Class); 1] = [(TASK, Class::Normal)];
+
+/// The event at a place.
+pub(crate) fn event(place: u32) -> Event {
+    if place % 2 == 0 {
+        Event::Enter(TASK)
+    } else {
+        Event::Exit(TASK)
+    }
+}
+
+/// A stack of one patch of one function.
+pub(crate) fn patches(alloc: Global) -> Option<PatchStack> {
+    let mut symbols = Symbols::new(alloc).ok()?;
+    symbols.add("a").ok()?;
+    let set = PatchSet::build(alloc, &symbols, &[SymId(0)]).ok()?;
+    let mut sets = Vec::new(alloc);
+    sets.push(set).ok()?;
+    PatchStack::new(alloc, sets).ok()
+}
