@@ -11,7 +11,7 @@ use Rattle.lp_transition.specs.declared.reply.What.{What}
 use Rattle.lp_transition.specs.Leg.{State}
 use Rattle.lp_transition.specs.Laws.{StepsAsDefined}
 use Rattle.lp_transition.specs.Machine.{affected, answer, answer_by, refusal_of, switched_groups, switches_at, waits_in}
-use Rattle.lp_transition.specs.Run.{Run, leg_of, reply, switched}
+use Rattle.lp_transition.specs.Run.{Run, switched}
 use Rattle.lp_transition.specs.Steps.{StandsIn, IsStep}
 use Rattle.lp_transition.specs.Weigh.{is_switched, may_allocate}
 use Rattle.lp_log.specs.inside.Plain.{is_plain}

@@ -1,5 +1,4 @@
-use Rattle.std.proofs.Common.{◌≡◌, ◌∙◌, ◌+◌, ◌∷◌, ◌++◌, [], List, ap, arith, subst, sym, false}
-use Rattle.lp_transition.specs.Weigh.{is_switched}
+use Rattle.std.proofs.Common.{◌≡◌, ◌∙◌, ◌+◌, ◌∷◌, ◌++◌, [], List, ap, arith, subst, sym}
 use Rattle.lp_log.specs.declared.entry.Entry.{Entry}
 use Rattle.lp_log.specs.Journals.{Written, next_entry, reply_to, run_of}
 use Rattle.lp_log.specs.Logs.{IsLogged, Logged}
