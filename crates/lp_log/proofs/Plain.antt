@@ -1,20 +1,27 @@
--- An event that is no check switches no group, and wants no memory.
-use Rattle.std.proofs.Common.{◌≡◌, suc, ◌&&◌, Bool, true, false, List, [], ◌∷◌, ℕ, filter, refl, ap, subst, sym, ◌∙◌, if◌then◌else◌}
-use Rattle.std.specs.Prelude.{Option, Some, None}
+-- An event that is no check, or comes where nobody is left to switch, switches no group and wants no memory.
+use Rattle.std.proofs.Common.{◌≡◌, ◌<◌, ◌≤◌, arith, suc, ◌&&◌, ◌||◌, Bool, true, false, not, List, [], ◌∷◌, ℕ, filter, refl, ap, subst, sym, ◌∙◌, if◌then◌else◌}
+use Rattle.std.specs.Prelude.{Option, Some, None, nat_eq}
 use Rattle.std.specs.List.{range_with_len}
+use mathlib.Core.Path.{fun_ext}
+use Rattle.lp_stack.specs.declared.view.Mode.TheVariants.{User}
+use Rattle.lp_stack.specs.declared.number.TaskId.{TaskId}
 use Rattle.lp_model.specs.Rules.{Rules}
 use Rattle.lp_transition.specs.declared.event.Event.{Event}
-use Rattle.lp_transition.specs.declared.event.Event.TheVariants.{Call, Ret, Sleep, Wake, Enter}
+use Rattle.lp_transition.specs.declared.event.Event.TheVariants.{Call, Ret, Sleep, Wake, Enter, Exit, Idle}
+use Rattle.lp_transition.specs.declared.engine.step.Halt.{Halt}
+use Rattle.lp_transition.specs.declared.engine.step.Halt.TheVariants.{NoMemory, JournalFull}
 use Rattle.lp_transition.specs.declared.refusal.Refusal.{Refusal}
 use Rattle.lp_transition.specs.declared.reply.Reply.{Reply}
 use Rattle.lp_transition.specs.declared.reply.What.{What}
-use Rattle.lp_transition.specs.Leg.{State}
+use Rattle.lp_transition.specs.Tasks.{Fate, Unused, Live, Dead, map_live, on_live}
+use Rattle.lp_transition.specs.Leg.{Standing, State, each_live, some_live, some_task}
 use Rattle.lp_transition.specs.Laws.{StepsAsDefined}
-use Rattle.lp_transition.specs.Machine.{affected, answer, answer_by, refusal_of, switched_groups, switches_at, waits_in}
+use Rattle.lp_transition.specs.Machine.{affected, answer, answer_by, complete_in, put_in, refusal_of, switched_groups, switches_at, waits_in}
 use Rattle.lp_transition.specs.Run.{Run, switched}
 use Rattle.lp_transition.specs.Steps.{StandsIn, IsStep}
 use Rattle.lp_transition.specs.Weigh.{is_switched, may_allocate}
-use Rattle.lp_log.specs.inside.Plain.{is_plain}
+use Rattle.lp_transition.proofs.Quantifiers.{some_live-is, each_live-at}
+use Rattle.lp_log.specs.inside.Plain.{is_calm, is_plain, is_point}
 
 filter_none : {A : Type 0} (p : A → Bool) → ((x : A) → p x ≡ false) → (xs : List A) → filter p xs ≡ []
 filter_none p none [] = refl
@@ -24,7 +31,41 @@ and_false : (b : Bool) → (b && false) ≡ false
 and_false true = refl
 and_false false = refl
 
+false_unless : (b : Bool) → (b ≡ true → ⊥) → b ≡ false
+false_unless true never = absurd (never refl)
+false_unless false never = refl
+
+not_both : (a b : Bool) → b ≡ true → (a && not b) ≡ true → ⊥
+not_both true true is both = cc
+not_both true false is both = cc
+not_both false b is both = cc
+
+-- whether a task waits doesn't hang on where it is
+same_wait : (target group : ℕ) (b : Bool) (f : Fate Standing)
+    → on_live false (λ (x : Standing). nat_eq x.group group && not (nat_eq x.level target)) (if b then map_live (put_in User) f else f)
+      ≡ on_live false (λ (x : Standing). nat_eq x.group group && not (nat_eq x.level target)) f
+same_wait target group true Unused = refl
+same_wait target group true (Live x) = refl
+same_wait target group true Dead = refl
+same_wait target group false f = refl
+
 module _ (model : Rules) (s : State) where
+  -- where all are on the target no group waits
+  none_waits : complete_in s ≡ true → (group : ℕ) → waits_in s group ≡ false
+  none_waits complete group =
+      false_unless (waits_in s group) (λ waits.
+        let p = some_live-is s.bounds s.tasks (λ t (x : Standing). nat_eq x.group group && not (nat_eq x.level s.target)) waits in
+        let at = each_live-at s.bounds s.tasks (λ t (x : Standing). nat_eq x.level s.target) complete p.task p.life p.positive p.within p.live in
+        not_both (nat_eq p.life.group group) (nat_eq p.life.level s.target) at p.passed)
+
+  after_exit : (t : TaskId) (group : ℕ) → waits_in (affected model s (Exit t)) group ≡ waits_in s group
+  unfolding some_live
+  after_exit t group = ap (some_task s.bounds.tasks) (fun_ext (λ u. same_wait s.target group (nat_eq u t.0) (s.tasks u)))
+
+  calm_at : (now : State) (event : Event) (group : ℕ) → waits_in now group ≡ false → switches_at model now event group ≡ false
+  unfolding switches_at
+  calm_at now event group calm = cc
+
   none_at : (event : Event) → is_plain event ≡ true → (group : ℕ) → switches_at model (affected model s event) event group ≡ false
   unfolding switches_at
   none_at (Call t f) plain group = and_false (waits_in (affected model s (Call t f)) group)
@@ -34,35 +75,60 @@ module _ (model : Rules) (s : State) where
   none_at (Enter t) plain group = and_false (waits_in (affected model s (Enter t)) group)
   none_at _ plain group = cc
 
-  none_switched : (event : Event) → is_plain event ≡ true → is_switched (switched (switched_groups model (affected model s event) event)) ≡ false
+  none_at_point : (event : Event) → is_point event ≡ true → complete_in s ≡ true → (group : ℕ) → switches_at model (affected model s event) event group ≡ false
+  none_at_point (Exit t) point complete group = calm_at (affected model s (Exit t)) (Exit t) group (after_exit t group ∙ none_waits complete group)
+  none_at_point (Idle t) point complete group = calm_at (affected model s (Idle t)) (Idle t) group (none_waits complete group)
+  none_at_point _ point complete group = cc
+
+  none_switched : (event : Event) → ((group : ℕ) → switches_at model (affected model s event) event group ≡ false) → is_switched (switched (switched_groups model (affected model s event) event)) ≡ false
   unfolding switched_groups
-  none_switched event plain =
-      ap (λ groups. is_switched (switched groups)) (filter_none (switches_at model (affected model s event) event) (none_at event plain) (range_with_len 0 (suc (affected model s event).bounds.tasks)))
+  none_switched event none =
+      ap (λ groups. is_switched (switched groups)) (filter_none (switches_at model (affected model s event) event) none (range_with_len 0 (suc (affected model s event).bounds.tasks)))
 
   by : (event : Event) → is_plain event ≡ true → (why : Option Refusal) → is_switched (answer_by model s event why).what ≡ false
   by event plain (Some why) = refl
   by (Call t f) plain None = refl
-  by (Ret t) plain None = none_switched (Ret t) plain
-  by (Sleep t) plain None = none_switched (Sleep t) plain
-  by (Wake t) plain None = none_switched (Wake t) plain
-  by (Enter t) plain None = none_switched (Enter t) plain
+  by (Ret t) plain None = none_switched (Ret t) (none_at (Ret t) plain)
+  by (Sleep t) plain None = none_switched (Sleep t) (none_at (Sleep t) plain)
+  by (Wake t) plain None = none_switched (Wake t) (none_at (Wake t) plain)
+  by (Enter t) plain None = none_switched (Enter t) (none_at (Enter t) plain)
   by _ plain None = cc
 
-  plain_answer : (event : Event) → is_plain event ≡ true → is_switched (answer model s event).what ≡ false
+  by_point : (event : Event) → is_point event ≡ true → complete_in s ≡ true → (why : Option Refusal) → is_switched (answer_by model s event why).what ≡ false
+  by_point event point complete (Some why) = refl
+  by_point (Exit t) point complete None = none_switched (Exit t) (none_at_point (Exit t) point complete)
+  by_point (Idle t) point complete None = none_switched (Idle t) (none_at_point (Idle t) point complete)
+  by_point _ point complete None = cc
+
+  by_either : (event : Event) → (p : Bool) → is_plain event ≡ p → (q : Bool) → is_point event ≡ q → is_calm s event ≡ true → is_switched (answer_by model s event (refusal_of model s event)).what ≡ false
+  by_either event true plain q point calm = by event plain (refusal_of model s event)
+  by_either event false plain true point calm = by_point event point (cc (plain, point, calm)) (refusal_of model s event)
+  by_either event false plain false point calm = absurd (cc (plain, point, calm))
+
+  pub calm_answer : (event : Event) → is_calm s event ≡ true → is_switched (answer model s event).what ≡ false
   unfolding answer
-  plain_answer event plain = by event plain (refusal_of model s event)
+  calm_answer event calm = by_either event (is_plain event) refl (is_point event) refl calm
 
   -- the reply to such an event, as an engine gives it for a run that stands there, names no groups
-  pub plain_reply : (run : Run) (event : Event) (given : Reply) (after : State) → StepsAsDefined model → StandsIn model run s → IsStep model s event given after
-      → is_plain event ≡ true → is_switched given.what ≡ false
-  plain_reply run event given after law stands step plain =
+  pub calm_reply : (run : Run) (event : Event) (given : Reply) (after : State) → StepsAsDefined model → StandsIn model run s → IsStep model s event given after
+      → is_calm s event ≡ true → is_switched given.what ≡ false
+  calm_reply run event given after law stands step calm =
       let same : given ≡ answer model s event = step.replies run stands ∙ sym ((law.steps s event).replies run stands) in
-      subst (λ (r : Reply). is_switched r.what ≡ false) (sym same) (plain_answer event plain)
+      subst (λ (r : Reply). is_switched r.what ≡ false) (sym same) (calm_answer event calm)
 
-pub plain_allocates : (event : Event) (what : What) → is_plain event ≡ true → may_allocate event what ≡ false
-plain_allocates (Call t f) what plain = refl
-plain_allocates (Ret t) what plain = refl
-plain_allocates (Sleep t) what plain = refl
-plain_allocates (Wake t) what plain = refl
-plain_allocates (Enter t) what plain = refl
-plain_allocates _ what plain = cc
+  -- and it needs no memory
+  pub calm_allocates : (event : Event) → is_calm s event ≡ true → may_allocate event (answer model s event).what ≡ false
+  calm_allocates (Call t f) calm = refl
+  calm_allocates (Ret t) calm = refl
+  calm_allocates (Sleep t) calm = refl
+  calm_allocates (Wake t) calm = refl
+  calm_allocates (Enter t) calm = refl
+  calm_allocates (Exit t) calm = calm_answer (Exit t) calm
+  calm_allocates (Idle t) calm = calm_answer (Idle t) calm
+  calm_allocates _ calm = cc
+
+-- so nothing keeps an engine from taking it
+pub calm_taken : (event : Event) (what : What) (number : ℕ) (halt : Halt) → number < 1000000 → may_allocate event what ≡ false
+    → (halt ≡ JournalFull → 1000000 ≤ number) → (halt ≡ NoMemory → may_allocate event what ≡ true) → ⊥
+calm_taken event what number NoMemory left none full memory = cc (memory refl, none)
+calm_taken event what number JournalFull left none full memory = omega (arith, left, full refl)

@@ -9,7 +9,6 @@ ghost use Rattle.lp_log.specs.Journals.{IsReplayed, next_entry, reply_to, and_en
 ghost use Rattle.lp_log.specs.Logs.{AreSame, IsReady};
 ghost use Rattle.lp_log.specs.Seats.{owner, and_sent, child_seat};
 
-use super::stepped::is_plain;
 use super::{Log, Ready};
 use crate::Entry;
 use crate::seat::{Cause, Seat, Submitted, Turned};
@@ -66,7 +65,7 @@ impl<M: Consistency> Log<M> {
         if !is_own(event, seat.task) {
             return Err(Cause::NotYours);
         }
-        if is_plain(event) {
+        if self.is_calm(event) {
             return self.step_into(alloc, event, &mut seat.entries);
         }
         let step = self.weigh(alloc, event)?;

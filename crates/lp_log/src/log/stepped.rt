@@ -1,11 +1,12 @@
-//! Events of a seat that are no checks: the engine steps at once, as no step has to stand between. They are nearly all
-//! events of a recording.
+//! Events of a seat that switch nobody, as they are no checks or no transition is under way: the engine steps at once, as
+//! no step has to stand between. They are nearly all events of a recording.
 ghost use Rattle.std.specs.Prelude.{◌≡◌, ◌≢◌, ◌≤◌, ◌<◌, ◌↔◌, [], ◌∷◌, ◌++◌, true, false, IfOk, IfErr, OnErr, OnOk, length};
 ghost use Rattle.lp_transition.specs.Weigh.{is_switched};
 ghost use Rattle.lp_log.specs.declared.seat.Cause.TheVariants.{NotYours, JournalFull as Full};
 ghost use Rattle.lp_log.specs.Journals.{next_entry, reply_to, and_entry};
 ghost use Rattle.lp_log.specs.Logs.{AreSame};
-ghost use Rattle.lp_log.specs.inside.Plain.{is_plain};
+ghost use Rattle.lp_transition.specs.Table.{state_in};
+ghost use Rattle.lp_log.specs.inside.Plain.{is_calm, is_plain, is_point};
 
 use super::Log;
 use crate::Entry;
@@ -16,14 +17,22 @@ use lp_transition::{Event, Reply, What};
 use std::alloc::Global;
 
 impl<M: Consistency> Log<M> {
-    /// Takes an event that is no check, and adds its entry to a list of the sender's too.
+    /// Whether an event switches nobody, as far as one sees without weighing it.
+    #[inline(always)]
+    pub(super) fn is_calm(&self, event: Event) -> bool
+        ensures { result ≡ is_calm (state_in self.now.core) event }
+    {
+        is_plain(event) || (is_point(event) && !self.core.in_transition())
+    }
+
+    /// Takes an event that switches nobody, and adds its entry to a list of the sender's too.
     pub(super) fn step_into(
         &mut self,
         alloc: Global,
         event: Event,
         sent: &mut Vec<Entry>,
     ) -> Result<Reply, Cause>
-        requires { is_plain event ≡ true }
+        requires { is_calm (state_in self.old.core) event ≡ true }
         ensures reply { IfOk result (λ given. given ≡ reply_to M.rules self.old.journal event) }
         ensures journal { IfOk result (λ given. self.new.journal ≡ and_entry self.old.journal event given) }
         ensures sent { IfOk result (λ given. sent.new.items ≡ sent.old.items ++ next_entry self.old.journal.entries event given ∷ []) }
@@ -47,13 +56,13 @@ impl<M: Consistency> Log<M> {
         Ok(reply)
     }
 
-    /// Takes an event that is no check, for whose entry there is memory. Never allocates.
+    /// Takes an event that switches nobody, for whose entry there is memory. Never allocates.
     fn step_reserved(&mut self, alloc: Global, event: Event) -> Reply
-        requires plain { is_plain event ≡ true }
+        requires calm { is_calm (state_in self.old.core) event ≡ true }
         requires left { self.old.core.number < 1000000 }
         requires room { 0 < self.old.room }
         ensures reply { result ≡ reply_to M.rules self.old.journal event }
-        ensures plain { is_switched result.what ≡ false }
+        ensures calm { is_switched result.what ≡ false }
         ensures journal { self.new.journal ≡ and_entry self.old.journal event result }
     {
         the_machine_steps_as_defined::<M>();
@@ -70,15 +79,23 @@ impl<M: Consistency> Log<M> {
     }
 }
 
-/// Whether an event is no check, no fork, no death and no control event: it never allocates and switches no group.
+/// Whether an event is no check, no fork, no death and no control event.
 #[inline(always)]
-pub(super) fn is_plain(event: Event) -> bool
+fn is_plain(event: Event) -> bool
     ensures { result ≡ is_plain event }
 {
     matches!(
         event,
         Event::Call(..) | Event::Ret(_) | Event::Sleep(_) | Event::Wake(_) | Event::Enter(_)
     )
+}
+
+/// Whether an event is a check that a task makes alone.
+#[inline(always)]
+fn is_point(event: Event) -> bool
+    ensures { result ≡ is_point event }
+{
+    matches!(event, Event::Exit(_) | Event::Idle(_))
 }
 
 /// The same reply once more. It names no groups, and so takes no memory.
