@@ -43,7 +43,7 @@ not_both false b is both = cc
 -- whether a task waits doesn't hang on where it is
 same_wait : (target group : ℕ) (b : Bool) (f : Fate Standing)
     → on_live false (λ (x : Standing). nat_eq x.group group && not (nat_eq x.level target)) (if b then map_live (put_in User) f else f)
-      ≡ on_live false (λ (x : Standing). nat_eq x.group group && not (nat_eq x.level target)) f
+    ≡ on_live false (λ (x : Standing). nat_eq x.group group && not (nat_eq x.level target)) f
 same_wait target group true Unused = refl
 same_wait target group true (Live x) = refl
 same_wait target group true Dead = refl
@@ -54,9 +54,9 @@ module _ (model : Rules) (s : State) where
   none_waits : complete_in s ≡ true → (group : ℕ) → waits_in s group ≡ false
   none_waits complete group =
       false_unless (waits_in s group) (λ waits.
-        let p = some_live-is s.bounds s.tasks (λ t (x : Standing). nat_eq x.group group && not (nat_eq x.level s.target)) waits in
-        let at = each_live-at s.bounds s.tasks (λ t (x : Standing). nat_eq x.level s.target) complete p.task p.life p.positive p.within p.live in
-        not_both (nat_eq p.life.group group) (nat_eq p.life.level s.target) at p.passed)
+      let p = some_live-is s.bounds s.tasks (λ t (x : Standing). nat_eq x.group group && not (nat_eq x.level s.target)) waits in
+      let at = each_live-at s.bounds s.tasks (λ t (x : Standing). nat_eq x.level s.target) complete p.task p.life p.positive p.within p.live in
+      not_both (nat_eq p.life.group group) (nat_eq p.life.level s.target) at p.passed)
 
   after_exit : (t : TaskId) (group : ℕ) → waits_in (affected model s (Exit t)) group ≡ waits_in s group
   unfolding some_live
