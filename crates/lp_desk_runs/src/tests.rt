@@ -6,6 +6,7 @@ mod boards;
 mod closes;
 mod limits;
 mod meets;
+mod memory;
 mod threads;
 mod walks;
 
@@ -14,10 +15,10 @@ use lp_desk::{Commanded, Desk, Launched, Submitted};
 use lp_log::{Cause, Control, Seat, Turned};
 use lp_model::Consistency;
 use lp_models::Hybrid;
-use lp_patch::{PatchSet, PatchStack};
+use lp_patch::{PatchFault, PatchSet, PatchStack};
 use lp_scan::ScanGate;
 use lp_stack::{Class, TaskId};
-use lp_symbols::{SymId, Symbols};
+use lp_symbols::{SymFault, SymId, Symbols};
 use lp_transition::{Event, GroupList, Reply, What};
 use std::alloc::Global;
 use std::marker::Brand;
@@ -77,13 +78,19 @@ impl ScanGate for Open {
     fn pass(&self, _piece: usize) {}
 }
 
-/// A stack of one patch of `a`.
-fn patched(alloc: Global) -> Result<PatchStack, Fail> {
+/// The name `a`.
+fn name_a(alloc: Global) -> Result<Symbols, SymFault> {
     let mut symbols = Symbols::new(alloc)?;
     symbols.add("a")?;
+    Ok(symbols)
+}
+
+/// A stack of one patch of `a`. The fault is NoMemory also where the name gets no memory.
+fn patched(alloc: Global) -> Result<PatchStack, PatchFault> {
+    let symbols = name_a(alloc).map_err(|_| PatchFault::NoMemory)?;
     let mut sets = Vec::new(alloc);
     sets.push(PatchSet::build(alloc, &symbols, &[A])?)?;
-    Ok(PatchStack::new(alloc, sets)?)
+    PatchStack::new(alloc, sets)
 }
 
 /// How a desk with these tasks starts, which has so many readers.
