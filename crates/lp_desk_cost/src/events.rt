@@ -15,7 +15,7 @@ pub(crate) fn count_beside(readers: usize) -> u32 {
     match readers {
         0 | 1 => COUNT,
         2..=8 => COUNT / 10,
-        _ => COUNT / 1_000,
+        _ => COUNT / 10_000,
     }
 }
 
