@@ -106,7 +106,7 @@ fn add_what(text: &mut String, form: TraceForm, what: &What) -> Result<(), Alloc
 }
 
 /// Adds the line of a reply.
-fn add_reply(
+pub fn add_reply(
     text: &mut String,
     form: TraceForm,
     number: usize,
@@ -147,7 +147,18 @@ pub fn event_lines<M: Consistency>(
     Ok(text)
 }
 
-/// Those lines of a report.
+/// The lines of a report's events.
+pub fn reply_lines_of(alloc: Global, report: &str) -> Result<String, AllocError> {
+    let mut text = String::new(alloc);
+    for line in report.lines() {
+        if line.starts_with(|byte: char| byte.is_ascii_digit()) {
+            writeln!(text, "{line}")?;
+        }
+    }
+    Ok(text)
+}
+
+/// The lines of a report's events and of its stays.
 pub fn event_lines_of(alloc: Global, report: &str) -> Result<String, AllocError> {
     let mut text = String::new(alloc);
     for line in report.lines() {

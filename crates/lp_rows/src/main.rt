@@ -1,4 +1,5 @@
-//! Plays the worked rows of its data files, each under its model, and counts them.
+//! Plays the worked rows of its data files, each under its model, and counts them, their certificates, and those whose
+//! events went through a desk too.
 #![tactic(auto)]
 
 mod certificates;
@@ -6,6 +7,7 @@ mod difference;
 mod engine;
 mod play;
 mod rows;
+mod rows_through_desk;
 mod streams;
 #[cfg(test)]
 mod tests;
@@ -17,6 +19,8 @@ use rows::{Row, rows_of};
 use std::alloc::Global;
 use std::process::ExitCode;
 use std::rt::Files;
+use std::sync::Wait;
+use std::thread::Threads;
 use std::{fs, io};
 use trouble::Trouble;
 
@@ -38,14 +42,22 @@ const FILES: [&str; 10] = [
 struct Tally {
     rows: usize,
     certificates: usize,
+    through_desk: usize,
     differing: usize,
 }
 
 /// Plays a row, and says where something differs.
-fn play_row(rt: &impl Print, alloc: Global, row: &Row, tally: &mut Tally) -> Result<(), Trouble> {
-    match play(alloc, row) {
-        Ok(certificates) => {
-            tally.certificates = tally.certificates.saturating_add(certificates);
+fn play_row<R: Print + Threads + Wait + Sync>(
+    rt: &R,
+    alloc: Global,
+    row: &Row,
+    tally: &mut Tally,
+) -> Result<(), Trouble> {
+    match play(rt, alloc, row) {
+        Ok(played) => {
+            tally.certificates = tally.certificates.saturating_add(played.certificates);
+            let through_desk = usize::from(played.through_desk);
+            tally.through_desk = tally.through_desk.saturating_add(through_desk);
         }
         Err(Trouble::Differs(difference)) => {
             tally.differing = tally.differing.saturating_add(1);
@@ -71,7 +83,7 @@ fn read_rows<R: Files + AllocGlobal>(rt: &R, file: &str) -> Result<Vec<Row>, Tro
 }
 
 /// Plays the rows of a file.
-fn play_file<R: Files + AllocGlobal + Print>(
+fn play_file<R: Files + AllocGlobal + Print + Threads + Wait + Sync>(
     rt: &R,
     file: &str,
     tally: &mut Tally,
@@ -84,10 +96,13 @@ fn play_file<R: Files + AllocGlobal + Print>(
 }
 
 /// Plays all rows.
-fn play_all(rt: &HostRuntime) -> Result<ExitCode, Trouble> {
+fn play_all<R: Files + AllocGlobal + Print + Threads + Wait + Sync>(
+    rt: &R,
+) -> Result<ExitCode, Trouble> {
     let mut tally = Tally {
         rows: 0,
         certificates: 0,
+        through_desk: 0,
         differing: 0,
     };
     for file in FILES {
@@ -96,7 +111,10 @@ fn play_all(rt: &HostRuntime) -> Result<ExitCode, Trouble> {
     if tally.differing > 0 {
         return Ok(ExitCode::FAILURE);
     }
-    println!(rt; "{} rows, {} certificates", tally.rows, tally.certificates)?;
+    println!(rt;
+        "{} rows, {} certificates, {} through a desk",
+        tally.rows, tally.certificates, tally.through_desk
+    )?;
     Ok(ExitCode::SUCCESS)
 }
 

@@ -4,6 +4,7 @@ use crate::certificates::accept_all;
 use crate::difference::compare;
 use crate::engine::{event_lines, event_lines_of, lists_of};
 use crate::rows::{Row, Task};
+use crate::rows_through_desk::play_through_desk;
 use crate::streams::{Sink, Source};
 use crate::trouble::Trouble;
 use lp_model::Consistency;
@@ -12,9 +13,28 @@ use lp_process::ProcessGroup;
 use lp_trace::{CheckInput, ReadFault, RunFault, Trace, TraceFault, TraceForm, check, run};
 use std::alloc::{AllocError, Global};
 use std::str;
+use std::sync::Wait;
+use std::thread::Threads;
 
 /// How many bytes are read and written at a time.
 const SIZES: [usize; 3] = [1, 5, 1_000_000];
+
+/// What came of a row that was played.
+#[derive(Clone, Copy)]
+pub struct Played {
+    /// How many certificates of its report were accepted.
+    pub certificates: usize,
+    /// Whether its events went through a desk too.
+    pub through_desk: bool,
+}
+
+/// What comes of a row whose input is no trace.
+const fn no_trace() -> Played {
+    Played {
+        certificates: 0,
+        through_desk: false,
+    }
+}
 
 /// The line of a fault, as a data file has it.
 fn fault_line(alloc: Global, fault: TraceFault) -> Result<String, AllocError> {
@@ -88,13 +108,14 @@ fn written_again(alloc: Global, trace: &Trace) -> Result<Vec<u8>, Trouble> {
     }
 }
 
-/// Plays a trace of a row: its events one by one, its text made again, and its certificates.
-fn play_trace<M: Consistency + Copy>(
+/// Plays a trace of a row: its events one by one and through a desk, its text made again, and its certificates.
+fn play_trace<T: Threads + Wait + Sync, M: Consistency + Copy + Sync>(
+    rt: &T,
     alloc: Global,
     model: M,
     row: &Row,
     trace: &Trace,
-) -> Result<usize, Trouble> {
+) -> Result<Played, Trouble> {
     let report = str::from_utf8(row.wanted()).unwrap_or("");
     let wanted = event_lines_of(alloc, report)?;
     let given = event_lines(alloc, model, trace)?;
@@ -111,7 +132,10 @@ fn play_trace<M: Consistency + Copy>(
         row.input(),
         again.as_slice(),
     )?;
-    accept_all(alloc, model, row.input(), report)
+    Ok(Played {
+        through_desk: play_through_desk(rt, alloc, model, trace, report)?,
+        certificates: accept_all(alloc, model, row.input(), report)?,
+    })
 }
 
 /// The trace of a text, or the line of its first fault.
@@ -123,22 +147,23 @@ fn read(alloc: Global, text: &[u8]) -> Result<Result<Box<Trace>, String>, Troubl
     }
 }
 
-/// Plays a row whose input is a trace, and says how many certificates its report has.
-fn play_run<M: Consistency + Copy>(
+/// Plays a row whose input is a trace.
+fn play_run<T: Threads + Wait + Sync, M: Consistency + Copy + Sync>(
+    rt: &T,
     alloc: Global,
     name: &str,
     model: M,
     row: &Row,
-) -> Result<usize, Trouble> {
+) -> Result<Played, Trouble> {
     for most in SIZES {
         let given = reported(alloc, name, model, row.input(), most)?;
         compare(alloc, "its report", row.wanted(), given.as_slice())?;
     }
     match read(alloc, row.input())? {
-        Ok(trace) => play_trace(alloc, model, row, &trace),
+        Ok(trace) => play_trace(rt, alloc, model, row, &trace),
         Err(fault) => {
             compare(alloc, "the reader's fault", row.wanted(), fault.as_bytes())?;
-            Ok(0)
+            Ok(no_trace())
         }
     }
 }
@@ -156,42 +181,47 @@ fn read_input(alloc: Global, row: &Row) -> Result<(), Trouble> {
 }
 
 /// Plays a row whose input is a trace with a certificate behind it.
-fn play_check<M: Consistency + Copy>(alloc: Global, model: M, row: &Row) -> Result<usize, Trouble> {
+fn play_check<M: Consistency + Copy>(
+    alloc: Global,
+    model: M,
+    row: &Row,
+) -> Result<Played, Trouble> {
     for most in SIZES {
         let given = checked(alloc, model, row.input(), most)?;
         compare(alloc, "its answer", row.wanted(), given.as_slice())?;
     }
     read_input(alloc, row)?;
-    Ok(0)
+    Ok(no_trace())
 }
 
-/// Plays a row under its model, and says how many certificates of its report were accepted.
-fn play_under<M: Consistency + Copy>(
+/// Plays a row under its model.
+fn play_under<T: Threads + Wait + Sync, M: Consistency + Copy + Sync>(
+    rt: &T,
     alloc: Global,
     name: ModelName,
     model: M,
     is_run: bool,
     row: &Row,
-) -> Result<usize, Trouble> {
+) -> Result<Played, Trouble> {
     if is_run {
-        play_run(alloc, name.name(), model, row)
+        play_run(rt, alloc, name.name(), model, row)
     } else {
         play_check(alloc, model, row)
     }
 }
 
-/// Plays a row, and says how many certificates of its report were accepted.
-pub fn play(alloc: Global, row: &Row) -> Result<usize, Trouble> {
+/// Plays a row.
+pub fn play<T: Threads + Wait + Sync>(rt: &T, alloc: Global, row: &Row) -> Result<Played, Trouble> {
     let (name, is_run) = match row.task() {
         Some(Task::Run(name)) => (name, true),
         Some(Task::Check(name)) => (name, false),
         None => return Err(Trouble::NoRow),
     };
     match name {
-        ModelName::Hybrid => play_under(alloc, name, Hybrid, is_run, row),
-        ModelName::LeaveKernel => play_under(alloc, name, LeaveKernel, is_run, row),
-        ModelName::AllAtOnce => play_under(alloc, name, AllAtOnce, is_run, row),
-        ModelName::Immediate => play_under(alloc, name, Immediate, is_run, row),
-        ModelName::ProcessGroup => play_under(alloc, name, ProcessGroup, is_run, row),
+        ModelName::Hybrid => play_under(rt, alloc, name, Hybrid, is_run, row),
+        ModelName::LeaveKernel => play_under(rt, alloc, name, LeaveKernel, is_run, row),
+        ModelName::AllAtOnce => play_under(rt, alloc, name, AllAtOnce, is_run, row),
+        ModelName::Immediate => play_under(rt, alloc, name, Immediate, is_run, row),
+        ModelName::ProcessGroup => play_under(rt, alloc, name, ProcessGroup, is_run, row),
     }
 }

@@ -2,6 +2,7 @@
 
 use crate::difference::Difference;
 use lp_patch::PatchFault;
+use lp_threads::ThreadsFault;
 use lp_trace::{OfFault, RunFault, TraceFault};
 use lp_transition::{BootFault, Halt};
 use std::alloc::{AllocError, AllocFailed};
@@ -15,6 +16,8 @@ pub enum Trouble {
     File(io::Error),
     /// A line of a data file says nothing that a row has.
     NoRow,
+    /// No desk was launched for a trace, or it turned an event back, or it wasn't closed.
+    Desk(ThreadsFault),
     /// An allocation failed.
     NoMemory,
 }
@@ -34,6 +37,12 @@ impl<T: Drop> From<AllocFailed<T>> for Trouble {
 impl From<io::Error> for Trouble {
     fn from(error: io::Error) -> Trouble {
         Trouble::File(error)
+    }
+}
+
+impl From<ThreadsFault> for Trouble {
+    fn from(fault: ThreadsFault) -> Trouble {
+        Trouble::Desk(fault)
     }
 }
 

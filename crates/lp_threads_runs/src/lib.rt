@@ -1,4 +1,4 @@
-//! Worked traces, played by threads and in order.
+//! Worked traces, played by threads.
 #![tactic(auto)]
 
 #[cfg(test)]

@@ -1,6 +1,5 @@
 //! Traces in short form: lines between which ` / ` stands.
 mod reports;
-mod rows;
 
 use std::alloc::{AllocError, Global};
 

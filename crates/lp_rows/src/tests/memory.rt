@@ -1,7 +1,9 @@
-//! An allocation that fails: nothing is written, and the same check succeeds after it.
+//! An allocation that fails: nothing is written, and the same call succeeds after it.
 //!
-//! `scripts/refuse-memory` runs this test with each allocation refused in turn.
+//! `scripts/refuse-memory` runs these tests with each allocation refused in turn.
 use super::*;
+use lp_replay::{Outcome, ReplayFault, replay};
+use lp_text::ReadFault;
 use std::test::*;
 
 /// The child's trace with its certificate.
@@ -38,5 +40,68 @@ fn a_certificate_is_checked_after_a_failed_allocation(rt: HostRuntime) -> Result
         assert_eq!(rt; (answer?, rest), (accepted, left));
         assert!(rt; room.starts_with(line.as_bytes()));
     }
+    Ok(())
+}
+
+/// The child's trace.
+const TRACE: &str =
+    "lptrace 1\nsym a\npatch a\nboot 1 normal\nenter 1\nenable\nwalk\nfork 1 2 own\nexit 1\ncall 2 a\nsleep 2\nwalk\n";
+
+/// Its report.
+const REPORT: &str =
+    "lpreport 1\nmodel hybrid\n1 done\n2 done\n3 done\n4 done\n5 over 1\n6 ran old\n7 done\n8 done\nleg 2 new waiting 1\nwaiting 2 2 8\nbusy 1 1 3\nborn 2 1 4\nhold 2 2 6 8 8\nstays 1 mixed 0\n";
+
+/// The end of a run of the trace, and how many bytes of the room it has left.
+fn ran(alloc: Global, room: &mut [u8]) -> (Result<(), RunFault>, usize) {
+    let mut source = Source::new(TRACE.as_bytes(), 3);
+    let mut rest = room;
+    let answer = run(alloc, "hybrid", Hybrid, &mut source, &mut rest);
+    (answer, rest.len())
+}
+
+#[test]
+fn a_trace_is_run_after_a_failed_allocation(rt: HostRuntime) -> Result<(), Fail> {
+    let alloc = rt.alloc();
+    let mut room = [0; 200];
+    let (answer, rest) = match ran(alloc, &mut room) {
+        (Err(RunFault::NoMemory), rest) => {
+            assert_eq!(rt; rest, 200);
+            ran(alloc, &mut room)
+        }
+        given => given,
+    };
+    answer?;
+    assert_eq!(rt; rest, 200 - REPORT.len());
+    assert!(rt; room.starts_with(REPORT.as_bytes()));
+    Ok(())
+}
+
+/// The trace, read; in a box, as what comes of it.
+fn read_trace(alloc: Global) -> Result<Box<Trace>, ReadFault> {
+    let trace = Trace::read(alloc, TRACE.as_bytes())?;
+    Box::new(alloc, trace).map_err(|_| ReadFault::NoMemory)
+}
+
+fn replayed(alloc: Global, trace: &Trace) -> Result<Box<Outcome>, ReplayFault> {
+    let outcome = replay(alloc, Hybrid, trace)?;
+    Box::new(alloc, outcome).map_err(|_| ReplayFault::NoMemory)
+}
+
+#[test]
+fn a_trace_is_replayed_after_a_failed_allocation(rt: HostRuntime) -> Result<(), Fail> {
+    let alloc = rt.alloc();
+    let trace = match read_trace(alloc) {
+        Err(ReadFault::NoMemory) => read_trace(alloc)?,
+        given => given?,
+    };
+    let outcome = match replayed(alloc, &trace) {
+        Err(ReplayFault::NoMemory) => replayed(alloc, &trace)?,
+        given => given?,
+    };
+    let legs = outcome.legs.as_slice().len();
+    assert_eq!(rt;
+        (outcome.replies.len(), legs, outcome.stays, outcome.mixed),
+        (8, 1, 1, 0)
+    );
     Ok(())
 }

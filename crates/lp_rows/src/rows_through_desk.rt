@@ -1,0 +1,47 @@
+//! A trace's events through a desk, in their order, each by the seat of its task or by the control.
+
+use crate::difference::compare;
+use crate::engine::{add_reply, reply_lines_of};
+use crate::trouble::Trouble;
+use lp_log::Journal;
+use lp_model::Consistency;
+use lp_threads::play_in_order;
+use lp_trace::Trace;
+use std::alloc::Global;
+use std::sync::Wait;
+use std::thread::Threads;
+
+/// The lines of a journal's replies, as a report has them, as far as its events are the trace's.
+fn journal_lines(alloc: Global, journal: &Journal, trace: &Trace) -> Result<String, Trouble> {
+    let mut text = String::new(alloc);
+    for (entry, event) in journal.entries().iter().zip(trace.events()) {
+        if entry.event != *event {
+            return Ok(text);
+        }
+        add_reply(&mut text, trace.form(), entry.number as usize, &entry.reply)?;
+    }
+    Ok(text)
+}
+
+/// Plays a trace through a desk that is closed behind it, whose journal has to have the replies of the report. False,
+/// and nothing is looked at, where an event is of a task that was never born, so that nobody can send it.
+pub fn play_through_desk<T: Threads + Wait + Sync, M: Consistency + Sync>(
+    rt: &T,
+    alloc: Global,
+    model: M,
+    trace: &Trace,
+    report: &str,
+) -> Result<bool, Trouble> {
+    let Some(journal) = play_in_order(rt, alloc, model, trace)? else {
+        return Ok(false);
+    };
+    let wanted = reply_lines_of(alloc, report)?;
+    let given = journal_lines(alloc, &journal, trace)?;
+    compare(
+        alloc,
+        "the desk's reply",
+        wanted.as_bytes(),
+        given.as_bytes(),
+    )?;
+    Ok(true)
+}
