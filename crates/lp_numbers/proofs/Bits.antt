@@ -1,9 +1,9 @@
 -- The bits of one word.
-use Rattle.std.proofs.Common.{◌≡◌, ℕ, ◌+◌, ◌-◌, ◌*◌, ◌/◌, ◌%◌, ◌^◌, ◌≤◌, ◌<◌, Bool, true, false, ◌==◌, if◌then◌else◌, inl, inr, refl, sym, ap, ◌∙◌, arith, w64, bit_and, bit_or, zero-le}
+use Rattle.std.proofs.Common.{◌≡◌, ◌≢◌, ℕ, zero, suc, ◌+◌, ◌-◌, ◌*◌, ◌/◌, ◌%◌, ◌^◌, ◌≤◌, ◌<◌, Bool, true, false, ◌==◌, if◌then◌else◌, inl, inr, refl, sym, ap, ◌∙◌, arith, add-one, w64, bit_and, bit_or, zero-le}
 use Rattle.std.specs.Int.{bit_at, trailing_zeros}
-use Rattle.std.proofs.lemmas.Bool.{eqb-true, eqb-false, cases_lt, false≢true}
-use Rattle.std.proofs.lemmas.Nat.{shr-shr}
-use Rattle.std.proofs.lemmas.Nat.Bits.{bit_at-zero, bit_at_above, bit_at_set_same, bit_at_set_other, bit_at_clear_same, bit_at_clear_other, bit_at-trailing_zeros, shr_and_one}
+use Rattle.std.proofs.lemmas.Bool.{eqb-true, eqb-false, ne_eqb, cases_lt, false≢true}
+use Rattle.std.proofs.lemmas.Nat.{shr-shr, shr_below, and_le_l}
+use Rattle.std.proofs.lemmas.Nat.Bits.{bit_at-zero, bit_at-lt, bit_at_lowest, bit_at_above, bit_at_set_same, bit_at_set_other, bit_at_clear_same, bit_at_clear_other, bit_at-trailing_zeros, shr_and_one}
 use Rattle.lp_numbers.specs.Numbers.{IsLeastFrom}
 use Rattle.lp_numbers.specs.Words.{word_has}
 
@@ -32,13 +32,32 @@ word_has-set word bit k h = by (k == bit) refl
     by true e = rw (eqb-true k bit e) (has-one (bit_or word (1 * 2 ^ bit % 2 ^ 64)) bit (bit_at_set_same w64 word bit h))
     by false e = has-same (bit_or word (1 * 2 ^ bit % 2 ^ 64)) word k (bit_at_set_other w64 word bit h k (eqb-false k bit e))
 
--- `word & !(1 << bit)`
-pub word_has-clear : (word bit k : ℕ) → bit < 64 → k < 64 → word_has (bit_and word (2 ^ 64 - 1 - 1 * 2 ^ bit % 2 ^ 64)) k ≡ (if k == bit then false else word_has word k)
+-- `word & !(1 << bit)`, at the bits of a word
+word_has-clear : (word bit k : ℕ) → bit < 64 → k < 64 → word_has (bit_and word (2 ^ 64 - 1 - 1 * 2 ^ bit % 2 ^ 64)) k ≡ (if k == bit then false else word_has word k)
 word_has-clear word bit k h l = by (k == bit) refl
   where
     by : (b : Bool) → (k == bit) ≡ b → word_has (bit_and word (2 ^ 64 - 1 - 1 * 2 ^ bit % 2 ^ 64)) k ≡ (if b then false else word_has word k)
     by true e = rw (eqb-true k bit e) (has-none (bit_and word (2 ^ 64 - 1 - 1 * 2 ^ bit % 2 ^ 64)) bit (bit_at_clear_same w64 word bit h))
     by false e = has-same (bit_and word (2 ^ 64 - 1 - 1 * 2 ^ bit % 2 ^ 64)) word k (bit_at_clear_other w64 word bit h k l (eqb-false k bit e))
+
+-- `word & !(1 << bit)`
+pub word_has-without : (word bit k : ℕ) → word < 2 ^ 64 → bit < 64 → word_has (bit_and word (2 ^ 64 - 1 - 1 * 2 ^ bit % 2 ^ 64)) k ≡ (if k == bit then false else word_has word k)
+word_has-without word bit k fits h = elim (cases_lt k 64) [
+  | inl l ↦ word_has-clear word bit k h l
+  | inr m ↦
+      let le = and_le_l word (2 ^ 64 - 1 - 1 * 2 ^ bit % 2 ^ 64) in
+      let left : word_has (bit_and word (2 ^ 64 - 1 - 1 * 2 ^ bit % 2 ^ 64)) k ≡ false = has-none (bit_and word (2 ^ 64 - 1 - 1 * 2 ^ bit % 2 ^ 64)) k (bit_at_above (bit_and word (2 ^ 64 - 1 - 1 * 2 ^ bit % 2 ^ 64)) 64 k (omega arith) m) in
+      let other : k ≢ bit = λ e. absurd (omega arith) in
+      rw (ne_eqb k bit other, has-none word k (bit_at_above word 64 k fits m)) left
+]
+
+-- a word is less without one of its bits
+pub without-less : (word bit : ℕ) → bit < 64 → word_has word bit ≡ true → bit_and word (2 ^ 64 - 1 - 1 * 2 ^ bit % 2 ^ 64) < word
+without-less word bit h some =
+    let le = and_le_l word (2 ^ 64 - 1 - 1 * 2 ^ bit % 2 ^ 64) in
+    let none = has-none (bit_and word (2 ^ 64 - 1 - 1 * 2 ^ bit % 2 ^ 64)) bit (bit_at_clear_same w64 word bit h) in
+    let ne : bit_and word (2 ^ 64 - 1 - 1 * 2 ^ bit % 2 ^ 64) ≢ word = λ e. false≢true (sym none ∙ ap (λ (w : ℕ). word_has w bit) e ∙ some) in
+    omega arith
 
 -- the lowest bit of a word that isn't 0
 pub lowest-trailing_zeros : (word : ℕ) → 0 < word → word < 2 ^ 64 → IsLeastFrom (word_has word) 0 (trailing_zeros w64 word)
@@ -73,6 +92,10 @@ least-shifted word from bit lowest = record {
   least = λ k h l. word_has-from word from k h ∙ lowest.least (k - from) zero-le (omega arith);
 }
 
+-- the lowest bit of `word >> from >> 1` is the lowest above `from`
+pub least-shifted-twice : (word from bit : ℕ) → IsLeastFrom (word_has (word / 2 ^ from / 2 ^ 1)) 0 bit → IsLeastFrom (word_has word) (from + 1) (from + 1 + bit)
+least-shifted-twice word from bit lowest = least-shifted word (from + 1) bit (rw (shr-shr word from 1) at lowest)
+
 -- a word of 64 bits has no bit past them
 pub bit-below : (word bit : ℕ) → word < 2 ^ 64 → word_has word bit ≡ true → bit < 64
 bit-below word bit fits e = elim (cases_lt bit 64) [
@@ -84,3 +107,17 @@ bit-below word bit fits e = elim (cases_lt bit 64) [
 pub word_has-shr : (word bit : ℕ) → (bit_and (word / 2 ^ bit) 1 == 1) ≡ word_has word bit
 unfolding word_has
 word_has-shr word bit = rw (shr_and_one word bit) refl
+
+-- a number without bits is 0
+zero-below : (m n : ℕ) → n < 2 ^ m → ((bit : ℕ) → bit < m → word_has n bit ≡ false) → n ≡ 0
+unfolding word_has
+zero-below zero n h none = omega arith
+zero-below (suc m) n h none =
+    let within : n / 2 ^ 1 < 2 ^ m = shr_below n m 1 (rw add-one h) in
+    let half : n / 2 ^ 1 ≡ 0 = zero-below m (n / 2 ^ 1) within (λ bit l. word_has-shifted n 1 bit ∙ none (1 + bit) (omega arith)) in
+    let ne : bit_at n 0 ≢ 1 = eqb-false (bit_at n 0) 1 (none 0 (omega arith)) in
+    let last : n % 2 ≡ 0 = omega (arith, bit_at_lowest n, bit_at-lt n 0) in
+    omega arith
+
+pub word-zero : (word : ℕ) → word < 2 ^ 64 → ((bit : ℕ) → bit < 64 → word_has word bit ≡ false) → word ≡ 0
+word-zero word fits none = zero-below 64 word fits none

@@ -1,4 +1,4 @@
 pub mod Bits
 pub mod Rows
-pub mod TwoLevels
+pub mod ThreeLevels
 pub mod Sets

@@ -1,4 +1,4 @@
--- How a set is kept: as the bits of words of 64 bits, with a second row of words over the first.
+-- How a set is kept: as the bits of words of 64 bits, with a second row of words over the first, and one word over that.
 -- Only private clauses cite this file.
 use Rattle.std.specs.Prelude.{◌≡◌, ℕ, ◌*◌, ◌/◌, ◌%◌, Bool, not, List, map, length, slice_index, ◌==◌}
 use Rattle.std.specs.Int.{bit_at}
@@ -21,8 +21,9 @@ numbers_of row = map (row_has row) (range_with_len 0 (64 * length row))
 abbrev pub IsBlank : List ℕ → Type 0
 IsBlank row = (i : ℕ) → slice_index row i ≡ 0
 
--- 1,024 words, and 16 over them of which bit i says whether word i isn't 0
-pub record IsTwoLevel (words summary : List ℕ) : Type 0 where
+-- 1,024 words, 16 over them of which bit i says whether word i isn't 0, and one over those in the same way
+pub record IsThreeLevel (words summary : List ℕ) (top : ℕ) : Type 0 where
   pub count : length words ≡ 1024
   pub summaries : length summary ≡ 16
   pub right : (i : ℕ) → row_has summary i ≡ not (slice_index words i == 0)
+  pub high : (i : ℕ) → word_has top i ≡ not (slice_index summary i == 0)

@@ -1,9 +1,10 @@
-//! Words, and a summary over them of which bit i says whether word i isn't 0.
-ghost use Rattle.std.specs.Prelude.{◌≡◌, ℕ, ◌<◌, ◌==◌, if◌then◌else◌, length};
+//! Words, a summary over them of which bit i says whether word i isn't 0, and one word over the
+//! summary of which bit i says whether word i of the summary isn't 0.
+ghost use Rattle.std.specs.Prelude.{◌≡◌, ◌≢◌, ℕ, ◌+◌, ◌*◌, ◌/◌, ◌%◌, ◌<◌, ◌≤◌, ◌==◌, if◌then◌else◌, length, false, not, slice_index, IsTrue, ◌↔◌};
 ghost use Rattle.lp_numbers.specs.Numbers.{IsNextFrom};
-ghost use Rattle.lp_numbers.specs.Words.{row_has, IsBlank, IsTwoLevel};
+ghost use Rattle.lp_numbers.specs.Words.{word_has, row_has, IsBlank, IsThreeLevel};
 
-use crate::word::{lowest_bit, next_in_word};
+use crate::word::{later_in_word, lowest_bit, next_in_word, with_bit, without_bit};
 use crate::{NUMBERS, row};
 
 /// How many words there are, with 64 bits each.
@@ -12,44 +13,75 @@ pub(crate) const WORDS: usize = NUMBERS / 64;
 /// How many words the summary has, with 64 bits each.
 pub(crate) const SUMMARIES: usize = WORDS / 64;
 
-/// Makes each word 0, at the cost of those that aren't.
-pub(crate) fn clear(words: &mut [u64], summary: &mut [u64])
-    requires { IsTwoLevel words.old summary.old }
-    ensures two_level { IsTwoLevel words.new summary.new }
+/// Makes each word 0, at the cost of those that aren't. The word over the summary is 0 then too.
+pub(crate) fn clear(words: &mut [u64], summary: &mut [u64], top: u64)
+    requires { IsThreeLevel words.old summary.old top }
+    ensures levels { IsThreeLevel words.new summary.new 0 }
     ensures blank { IsBlank words.new }
 {
-    clear_named(words, summary);
-    row::clear(summary);
-}
-
-/// Makes each word 0 of which the summary says that it isn't.
-fn clear_named(words: &mut [u64], summary: &[u64])
-    requires { IsTwoLevel words.old summary.now }
-    ensures { IsBlank words.new }
-{
-    let mut from = 0;
-    while let Some(place) = row::next(summary, from) {
-        words[place] = 0;
-        from = place + 1;
+    let mut rest = top;
+    while rest != 0 {
+        rest = clear_lowest(words, summary, rest);
     }
 }
 
-/// Makes one bit of the words as it is asked for.
-pub(crate) fn put(words: &mut [u64], summary: &mut [u64], at: usize, is_set: bool)
-    requires two_level { IsTwoLevel words.old summary.old }
+/// Makes the words 0 that the lowest word of the summary names which isn't 0, and that word.
+/// Gives the word over the summary.
+fn clear_lowest(words: &mut [u64], summary: &mut [u64], top: u64) -> u64
+    requires levels { IsThreeLevel words.old summary.old top }
+    requires some { 0 < top }
+    ensures levels { IsThreeLevel words.new summary.new result }
+    ensures fewer { result < top }
+{
+    let place = lowest_bit(top);
+    clear_named(words, place, summary[place]);
+    summary[place] = 0;
+    without_bit(top, place)
+}
+
+/// Makes those words 0 that a word of the summary names.
+fn clear_named(words: &mut [u64], place: usize, named: u64)
+    requires within { place * 64 + 64 ≤ length words.old }
+    requires right { (i : ℕ) → i / 64 ≡ place → word_has named (i % 64) ≡ not (slice_index words.old i == 0) }
+    ensures blank { (i : ℕ) → i / 64 ≡ place → slice_index words.new i ≡ 0 }
+    ensures others { (i : ℕ) → i / 64 ≢ place → slice_index words.new i ≡ slice_index words.old i }
+{
+    let mut rest = named;
+    while rest != 0 {
+        let bit = lowest_bit(rest);
+        words[place * 64 + bit] = 0;
+        rest = without_bit(rest, bit);
+    }
+}
+
+/// Whether each word is 0.
+pub(crate) fn is_blank(words: &[u64], summary: &[u64], top: u64) -> bool
+    requires { IsThreeLevel words.now summary.now top }
+    ensures { IsTrue result ↔ ((k : ℕ) → row_has words.now k ≡ false) }
+{
+    let _ = words;
+    let _ = summary;
+    top == 0
+}
+
+/// Makes one bit of the words as it is asked for. Gives the word over the summary.
+pub(crate) fn put(words: &mut [u64], summary: &mut [u64], top: u64, at: usize, is_set: bool) -> u64
+    requires levels { IsThreeLevel words.old summary.old top }
     requires within { at < 65536 }
-    ensures two_level { IsTwoLevel words.new summary.new }
+    ensures levels { IsThreeLevel words.new summary.new result }
     ensures bits { (k : ℕ) → row_has words.new k ≡ (if k == at then is_set else row_has words.old k) }
 {
     row::put(words, at, is_set);
-    row::put(summary, at / 64, words[at / 64] != 0);
+    let place = at / 64;
+    row::put(summary, place, words[place] != 0);
+    with_bit(top, place / 64, summary[place / 64] != 0)
 }
 
 /// The lowest bit of the words that is at or above a place.
 ///
-/// Reads two of the words, and of the summary at most 16.
-pub(crate) fn next(words: &[u64], summary: &[u64], from: usize) -> Option<usize>
-    requires two_level { IsTwoLevel words.now summary.now }
+/// Reads at most two of the words, two of the summary and the one over it.
+pub(crate) fn next(words: &[u64], summary: &[u64], top: u64, from: usize) -> Option<usize>
+    requires levels { IsThreeLevel words.now summary.now top }
     requires within { from < 65536 }
     ensures { IsNextFrom (row_has words.now) from result }
 {
@@ -57,6 +89,21 @@ pub(crate) fn next(words: &[u64], summary: &[u64], from: usize) -> Option<usize>
     if let Some(bit) = next_in_word(words[first], from % 64) {
         return Some(first * 64 + bit);
     }
-    let place = row::next(summary, first + 1)?;
+    let place = later_word(summary, top, first)?;
     Some(place * 64 + lowest_bit(words[place]))
+}
+
+/// The first word above a place that isn't 0, by the summary and the word over it.
+fn later_word(summary: &[u64], top: u64, place: usize) -> Option<usize>
+    requires count { length summary.now ≡ 16 }
+    requires high { (i : ℕ) → word_has top i ≡ not (slice_index summary.now i == 0) }
+    requires within { place < 1024 }
+    ensures { IsNextFrom (row_has summary.now) (place + 1) result }
+{
+    let first = place / 64;
+    if let Some(bit) = later_in_word(summary[first], place % 64) {
+        return Some(first * 64 + bit);
+    }
+    let later = later_in_word(top, first)?;
+    Some(later * 64 + lowest_bit(summary[later]))
 }

@@ -3,7 +3,7 @@ ghost use Rattle.std.specs.Prelude.{◌≡◌, ◌≢◌, ℕ, ◌*◌, ◌/◌,
 ghost use Rattle.lp_numbers.specs.Numbers.{IsNextFrom};
 ghost use Rattle.lp_numbers.specs.Words.{row_has, IsBlank};
 
-use crate::word::{has_bit, next_in_word, with_bit};
+use crate::word::{has_bit, with_bit};
 use std::alloc::{AllocError, Global};
 
 /// As many words as are asked for, each of them 0.
@@ -12,13 +12,6 @@ pub(crate) fn blank(alloc: Global, count: usize) -> Result<Vec<u64>, AllocError>
     ensures count { IfOk result (λ row. length row.items ≡ count) }
 {
     vec![in alloc; 0; count]
-}
-
-/// Makes each word 0.
-pub(crate) fn clear(row: &mut [u64])
-    ensures { IsBlank row.new }
-{
-    row.fill(0);
 }
 
 /// Whether a bit is 1.
@@ -37,19 +30,4 @@ pub(crate) fn put(row: &mut [u64], at: usize, is_set: bool)
 {
     let place = at / 64;
     row[place] = with_bit(row[place], at % 64, is_set);
-}
-
-/// The lowest bit that is at or above a place.
-pub(crate) fn next(row: &[u64], from: usize) -> Option<usize>
-    requires { length row.now < 2 ^ 32 }
-    ensures { IsNextFrom (row_has row.now) from result }
-{
-    let mut low = from % 64;
-    for i in from / 64..row.len() {
-        if let Some(bit) = next_in_word(row[i], low) {
-            return Some(i * 64 + bit);
-        }
-        low = 0;
-    }
-    None
 }

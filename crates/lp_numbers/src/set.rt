@@ -24,17 +24,19 @@ pub struct NumberSet {
     words: Vec<u64>,
     /// Bit i % 64 of word i / 64 says whether word i isn't 0.
     summary: Vec<u64>,
+    /// Bit i says whether word i of the summary isn't 0.
+    top: u64,
 }
 
 impl Model for NumberSet {
     ghost use Rattle.lp_numbers.specs.Numbers.{Numbers};
-    ghost use Rattle.lp_numbers.specs.Words.{numbers_of, IsTwoLevel};
+    ghost use Rattle.lp_numbers.specs.Words.{numbers_of, IsThreeLevel};
 
     ghost Value = { Numbers };
 
     ghost view = { λ s. numbers_of s.words.items };
 
-    ghost invariant = { λ s. IsTwoLevel s.words.items s.summary.items };
+    ghost invariant = { λ s. IsThreeLevel s.words.items s.summary.items s.top };
 }
 
 impl NumberSet {
@@ -46,6 +48,7 @@ impl NumberSet {
         Ok(NumberSet {
             words: row::blank(alloc, WORDS)?,
             summary: row::blank(alloc, SUMMARIES)?,
+            top: 0,
         })
     }
 
@@ -57,6 +60,7 @@ impl NumberSet {
         Ok(NumberSet {
             words: Vec::from_slice(alloc, self.words.as_slice())?,
             summary: Vec::from_slice(alloc, self.summary.as_slice())?,
+            top: self.top,
         })
     }
 
@@ -72,17 +76,17 @@ impl NumberSet {
     pub fn is_empty(&self) -> bool
         ensures { IsTrue result ↔ IsEmpty self.now }
     {
-        self.next(0).is_none()
+        levels::is_blank(self.words.as_slice(), self.summary.as_slice(), self.top)
     }
 
     /// The least member that is at or above a number, in constant time; `None` where there is none.
     ///
-    /// Reads two words of members, and at most 16 words that say which of those have any.
+    /// Reads at most two words of members, and three that say which words have any.
     pub fn next(&self, from: u16) -> Option<u16>
         ensures { IsNextFrom (has self.now) from result }
     {
         let at = usize::from(from);
-        let number = levels::next(self.words.as_slice(), self.summary.as_slice(), at)?;
+        let number = levels::next(self.words.as_slice(), self.summary.as_slice(), self.top, at)?;
         Some(number as u16)
     }
 
@@ -107,7 +111,12 @@ impl NumberSet {
         ensures empty { IsEmpty self.new }
         ensures numbers { length self.new ≡ 65536 }
     {
-        levels::clear(self.words.as_mut_slice(), self.summary.as_mut_slice());
+        levels::clear(
+            self.words.as_mut_slice(),
+            self.summary.as_mut_slice(),
+            self.top,
+        );
+        self.top = 0;
     }
 
     /// Makes the set equal to another, at the cost of the whole set.
@@ -117,6 +126,7 @@ impl NumberSet {
     {
         self.words.copy_from_slice(other.words.as_slice());
         self.summary.copy_from_slice(other.summary.as_slice());
+        self.top = other.top;
     }
 
     /// Makes a number a member, or no member.
@@ -124,11 +134,13 @@ impl NumberSet {
         ensures after { self.new ≡ slice_set self.old number is_member }
         ensures numbers { length self.new ≡ 65536 }
     {
-        levels::put(
+        let top = levels::put(
             self.words.as_mut_slice(),
             self.summary.as_mut_slice(),
+            self.top,
             usize::from(number),
             is_member,
         );
+        self.top = top;
     }
 }

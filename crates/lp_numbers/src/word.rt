@@ -1,5 +1,5 @@
 //! The bits of one word.
-ghost use Rattle.std.specs.Prelude.{◌≡◌, ℕ, ◌<◌, ◌==◌, if◌then◌else◌, IfSome};
+ghost use Rattle.std.specs.Prelude.{◌≡◌, ℕ, ◌+◌, ◌<◌, ◌==◌, if◌then◌else◌, true, false, IfSome};
 ghost use Rattle.lp_numbers.specs.Numbers.{IsLeastFrom, IsNextFrom};
 ghost use Rattle.lp_numbers.specs.Words.{word_has};
 
@@ -14,10 +14,20 @@ pub(crate) fn has_bit(word: u64, bit: usize) -> bool
 /// The word with one bit as it is asked for.
 pub(crate) fn with_bit(word: u64, bit: usize, is_set: bool) -> u64
     requires { bit < 64 }
-    ensures { (k : ℕ) → k < 64 → word_has result k ≡ (if k == bit then is_set else word_has word k) }
+    ensures { (k : ℕ) → word_has result k ≡ (if k == bit then is_set else word_has word k) }
 {
     let mask = 1 << bit;
     if is_set { word | mask } else { word & !mask }
+}
+
+/// The word without one of its bits.
+pub(crate) fn without_bit(word: u64, bit: usize) -> u64
+    requires within { bit < 64 }
+    requires has { word_has word bit ≡ true }
+    ensures bits { (k : ℕ) → word_has result k ≡ (if k == bit then false else word_has word k) }
+    ensures fewer { result < word }
+{
+    word & !(1 << bit)
 }
 
 /// The lowest bit of a word that isn't 0.
@@ -40,4 +50,18 @@ pub(crate) fn next_in_word(word: u64, from: usize) -> Option<usize>
         return None;
     }
     Some(from + lowest_bit(rest))
+}
+
+/// The lowest bit of a word that is above a place.
+pub(crate) fn later_in_word(word: u64, bit: usize) -> Option<usize>
+    requires { bit < 64 }
+    ensures below { IfSome result (λ later. later < 64) }
+    ensures next { IsNextFrom (word_has word) (bit + 1) result }
+{
+    // Two shifts, since there may be 64 places to go.
+    let rest = word >> bit >> 1;
+    if rest == 0 {
+        return None;
+    }
+    Some(bit + 1 + lowest_bit(rest))
 }

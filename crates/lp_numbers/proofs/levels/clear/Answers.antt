@@ -1,6 +1,5 @@
-use Rattle.std.proofs.Common.{arith}
-use Rattle.lp_numbers.proofs.TwoLevels.{two_level-blank}
+use Rattle.lp_numbers.proofs.ThreeLevels.{three_level-end}
 use Rattle.lp_numbers.proofs.levels.clear.Goals as goal
 
-pub returns-clause-two_level : goal.returns-clause-two_level
-returns-clause-two_level c = two_level-blank c.clear_named.new.words c.clear.new.row (omega arith) (omega arith) c.clear_named.ensures c.clear.ensures
+pub returns-clause-blank : goal.returns-clause-blank
+returns-clause-blank c = three_level-end c.loop-rest.words c.loop-rest.summary c.loop-rest.rest c.loop-rest.invariant c.loop-rest-test.false

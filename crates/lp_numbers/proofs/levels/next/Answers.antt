@@ -1,8 +1,9 @@
-use Rattle.lp_numbers.proofs.TwoLevels.{next-none, next-later}
+use Rattle.lp_numbers.specs.Words.{row_has}
+use Rattle.lp_numbers.proofs.ThreeLevels.{next-none, next-later}
 use Rattle.lp_numbers.proofs.levels.next.Goals as goal
 
 pub returns-in_err-place : goal.returns-in_err-place
-returns-in_err-place c = rw c.from_residual.ensures (next-none c.args.words.now c.args.summary.now c.requires.two_level c.args.from c.in_default.ensures.next c.in_err-place.ensures)
+returns-in_err-place c = rw c.from_residual.ensures (next-none (row_has c.args.summary.now) c.args.words.now c.requires.levels.right c.args.from c.in_default.ensures.next c.in_err-place.ensures)
 
 pub returns : goal.returns
-returns c = next-later c.args.words.now c.args.summary.now c.requires.two_level c.args.from c.in_ok-place.place c.lowest_bit.result c.in_default.ensures.next c.in_ok-place.ensures c.lowest_bit.ensures.below c.lowest_bit.ensures.lowest
+returns c = next-later (row_has c.args.summary.now) c.args.words.now c.requires.levels.right c.args.from c.in_ok-place.place c.lowest_bit.result c.in_default.ensures.next c.in_ok-place.ensures c.lowest_bit.ensures.below c.lowest_bit.ensures.lowest

@@ -4,7 +4,7 @@ use Rattle.lp_numbers.proofs.set.NumberSet.put.Goals as goal
 
 pub returns-clause-after : goal.returns-clause-after
 returns-clause-after c =
-    let back : take c.self.inside.words.len (c.put.new.words ++ drop (length c.put.new.words) c.self.inside.words.items) ≡ c.put.new.words = written_back c.self.inside.words.len c.put.new.words (drop (length c.put.new.words) c.self.inside.words.items) (omega arith) in
-    let same : length c.put.new.words ≡ length c.self.inside.words.items = omega (arith, c.self.invariant.count, c.put.ensures.two_level.count) in
+    let back : take c.self.inside.words.len (c.put-top.new.words ++ drop (length c.put-top.new.words) c.self.inside.words.items) ≡ c.put-top.new.words = written_back c.self.inside.words.len c.put-top.new.words (drop (length c.put-top.new.words) c.self.inside.words.items) (omega arith) in
+    let same : length c.put-top.new.words ≡ length c.self.inside.words.items = omega (arith, c.self.invariant.count, c.put-top.ensures.levels.count) in
     let within : c.args.number < 64 * length c.self.inside.words.items = omega (arith, c.self.invariant.count) in
-    rw (back, ← c.self.view_is) (numbers_of-put c.self.inside.words.items c.put.new.words c.args.number c.args.is_member same within (simp (c.as_mut_slice.ensures.value, c.from.ensures) at c.put.ensures.bits))
+    rw (back, ← c.self.view_is) (numbers_of-put c.self.inside.words.items c.put-top.new.words c.args.number c.args.is_member same within (simp (c.as_mut_slice.ensures.value, c.from.ensures) at c.put-top.ensures.bits))
