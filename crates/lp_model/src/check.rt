@@ -1,5 +1,7 @@
 //! The words of a check.
 
+use std::fmt;
+
 /// The kinds of moments at which tasks are checked.
 #[derive(Clone, Copy, Debug, PartialEq, Eq)]
 pub enum CheckKind {
@@ -31,4 +33,34 @@ pub enum ForkKind {
     Own,
     /// A thread of the parent's process.
     Share,
+}
+
+impl fmt::Display for CheckKind {
+    fn fmt<W: fmt::Write>(&self, f: &mut fmt::Formatter<W>) -> fmt::Result {
+        f.write_str(match self {
+            CheckKind::KernelExit => "exit",
+            CheckKind::IdlePoint => "idle",
+            CheckKind::Walk => "walk",
+            CheckKind::Stop => "stop",
+        })
+    }
+}
+
+impl fmt::Display for Blame {
+    fn fmt<W: fmt::Write>(&self, f: &mut fmt::Formatter<W>) -> fmt::Result {
+        match self {
+            Blame::Unused => f.write_str("unused"),
+            Blame::Frame(serial) => write!(f, "frame {serial}"),
+            Blame::Busy => f.write_str("busy"),
+        }
+    }
+}
+
+impl fmt::Display for ForkKind {
+    fn fmt<W: fmt::Write>(&self, f: &mut fmt::Formatter<W>) -> fmt::Result {
+        f.write_str(match self {
+            ForkKind::Own => "own",
+            ForkKind::Share => "share",
+        })
+    }
 }

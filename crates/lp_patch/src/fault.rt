@@ -3,21 +3,28 @@ ghost use Rattle.lp_patch.specs.declared.fault.PatchFault.TheVariants.{NoMemory}
 
 use lp_symbols::SymId;
 use std::alloc::{AllocError, AllocFailed};
+use thiserror::Error;
 
 /// Why a patch, or a stack of patches, was not made.
-#[derive(Clone, Copy, Debug, PartialEq, Eq)]
+#[derive(Clone, Copy, Debug, PartialEq, Eq, Error)]
 pub enum PatchFault {
     /// P1: no symbol, or no patch.
+    #[error("P1: no symbol, or no patch")]
     Empty,
     /// P2: there is no such symbol.
+    #[error("P2: there is no symbol {}", .0.0)]
     Unknown(SymId),
     /// P3: the symbol is there twice.
+    #[error("P3: symbol {} is there twice", .0.0)]
     Doubled(SymId),
     /// P4: more than 256 symbols.
+    #[error("P4: more than 256 symbols")]
     TooMany,
     /// P5: an allocation failed.
+    #[error("P5: out of memory")]
     NoMemory,
     /// P6: more than 16 patches.
+    #[error("P6: more than 16 patches")]
     TooManyPatches,
 }
 

@@ -8,5 +8,7 @@ mod stack;
 
 pub use aim::Aim;
 pub use fault::PatchFault;
+pub use lp_stack::{Frame, Level};
+pub use lp_symbols::{SymId, Symbols};
 pub use set::{MOST_FUNCTIONS, PatchSet};
 pub use stack::{MOST_PATCHES, PatchStack};

@@ -8,6 +8,7 @@ mod view;
 mod view_copy;
 
 pub use frame::Frame;
+pub use lp_symbols::SymId;
 pub use number::{GroupId, Level, TaskId};
 pub use task_stack::{MOST_FRAMES, TaskStack};
 pub use view::{Class, Mode, View};

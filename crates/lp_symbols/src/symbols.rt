@@ -11,17 +11,22 @@ use crate::SymId;
 use indexmap::IndexSet;
 use std::alloc::{AllocError, AllocFailed, Global};
 use std::marker::Model;
+use thiserror::Error;
 
 /// Why a name was not added.
-#[derive(Clone, Copy, Debug, PartialEq, Eq)]
+#[derive(Clone, Copy, Debug, PartialEq, Eq, Error)]
 pub enum SymFault {
     /// S1: the name isn't of 1 to 512 bytes, or one of them isn't from 33 to 126.
+    #[error("S1: the name isn't of 1 to 512 bytes from 33 to 126")]
     BadName,
     /// S2: the name is there already.
+    #[error("S2: the name is there already")]
     Doubled,
     /// S3: 4,096 names are there.
+    #[error("S3: 4,096 names are there")]
     TooMany,
     /// S4: an allocation failed.
+    #[error("S4: out of memory")]
     NoMemory,
 }
 
