@@ -5,6 +5,7 @@ ghost use Rattle.lp_transition.specs.Events.{is_control, is_scan};
 use lp_model::ForkKind;
 use lp_stack::TaskId;
 use lp_symbols::SymId;
+use std::fmt;
 
 /// What happens to tasks and transitions, in one order for all tasks.
 #[derive(Clone, Copy, Debug, PartialEq, Eq)]
@@ -55,5 +56,27 @@ impl Event {
         ensures { result ≡ is_control self.now }
     {
         matches!(self, Event::Enable | Event::Disable | Event::Reverse)
+    }
+}
+
+/// As the trace text writes it, but with a function's number, as an event doesn't know its name.
+impl fmt::Display for Event {
+    fn fmt<W: fmt::Write>(&self, f: &mut fmt::Formatter<W>) -> fmt::Result {
+        match self {
+            Event::Call(task, func) => write!(f, "call {} {}", task.0, func.0),
+            Event::Ret(task) => write!(f, "ret {}", task.0),
+            Event::Sleep(task) => write!(f, "sleep {}", task.0),
+            Event::Wake(task) => write!(f, "wake {}", task.0),
+            Event::Enter(task) => write!(f, "enter {}", task.0),
+            Event::Exit(task) => write!(f, "exit {}", task.0),
+            Event::Idle(task) => write!(f, "idle {}", task.0),
+            Event::Fork(parent, child, how) => write!(f, "fork {} {} {how}", parent.0, child.0),
+            Event::Die(task) => write!(f, "die {}", task.0),
+            Event::Walk => f.write_str("walk"),
+            Event::Stop => f.write_str("stop"),
+            Event::Enable => f.write_str("enable"),
+            Event::Disable => f.write_str("disable"),
+            Event::Reverse => f.write_str("reverse"),
+        }
     }
 }

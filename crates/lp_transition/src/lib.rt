@@ -10,5 +10,10 @@ mod reply;
 
 pub use engine::{BootFault, Core, Halt, MOST_EVENTS, Opening, Step, verdicts};
 pub use event::Event;
+pub use lp_model::{CheckKind, Consistency, ForkKind, Verdict};
+pub use lp_numbers::NumberSet;
+pub use lp_patch::{Aim, PatchStack};
+pub use lp_stack::{Class, GroupId, Level, TaskId, View};
+pub use lp_symbols::SymId;
 pub use refusal::Refusal;
 pub use reply::{GroupList, Reply, What};

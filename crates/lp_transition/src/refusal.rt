@@ -2,6 +2,8 @@
 ghost use Rattle.std.specs.Prelude.{◌≡◌};
 ghost use Rattle.lp_transition.specs.Events.{refusal_number};
 
+use std::fmt;
+
 /// Why an event is refused. The first that fits is given; a refused event takes its number and
 /// changes nothing else.
 #[derive(Clone, Copy, Debug, PartialEq, Eq)]
@@ -51,5 +53,11 @@ impl Refusal {
             Refusal::NotInTransition => 11,
             Refusal::AlreadyThere => 12,
         }
+    }
+}
+
+impl fmt::Display for Refusal {
+    fn fmt<W: fmt::Write>(&self, f: &mut fmt::Formatter<W>) -> fmt::Result {
+        write!(f, "E{}", self.number())
     }
 }

@@ -1,16 +1,20 @@
 //! The answer to an event.
-ghost use Rattle.std.specs.Prelude.{◌≡◌, ◌↔◌, [], length, IsTrue, IfOk};
+ghost use Rattle.std.specs.Prelude.{◌≡◌, ◌↔◌, ◌<◌, ◌^◌, [], length, IsTrue, IfOk};
+ghost use Rattle.std.specs.Iterator.Runs.{EveryRun, ItemsMapTo};
+ghost use Rattle.std.specs.Slice.Iter.{iter_rest, iter_steps};
+ghost use Rattle.lp_stack.specs.declared.number.GroupId.{GroupId};
 ghost use Rattle.lp_transition.specs.Events.{group_numbers};
 
 use crate::Refusal;
 use lp_stack::{GroupId, Level};
 use std::alloc::{AllocError, Global};
 use std::marker::Model;
+use std::{fmt, slice};
 
 /// A list of groups. Contracts see the list of their numbers.
 ///
 /// The list stands behind a pointer, so that replies stay small.
-#[derive(Drop)]
+#[derive(Debug, Drop)]
 pub struct GroupList {
     groups: Box<Vec<GroupId>>,
 }
@@ -72,8 +76,34 @@ impl GroupList {
     }
 }
 
+/// The groups, parted by a space.
+impl fmt::Display for GroupList {
+    fn fmt<W: fmt::Write>(&self, f: &mut fmt::Formatter<W>) -> fmt::Result {
+        for (place, group) in self.as_slice().iter().enumerate() {
+            if place > 0 {
+                f.write_str(" ")?;
+            }
+            write!(f, "{}", group.0)?;
+        }
+        Ok(())
+    }
+}
+
+impl<'a> IntoIterator for &'a GroupList {
+    type Item = &'a GroupId;
+
+    type IntoIter = slice::Iter<'a, GroupId>;
+
+    ghost into_iter_gives = { λ l it. (group_numbers (iter_rest it) ≡ l.now) × (length (iter_rest it) < 2 ^ 64)
+        × EveryRun (iter_steps {A = GroupId}) (λ p. ItemsMapTo p (λ x. x.now) (iter_rest p.from)) };
+
+    fn into_iter(self) -> slice::Iter<'a, GroupId> {
+        self.as_slice().iter()
+    }
+}
+
 /// What an event did.
-#[derive(Drop)]
+#[derive(Debug, Drop)]
 pub enum What {
     /// The call runs the functions of this level, which is the task's.
     Ran(Level),
@@ -99,8 +129,20 @@ impl What {
     }
 }
 
+/// As the report of a stack of patches writes it.
+impl fmt::Display for What {
+    fn fmt<W: fmt::Write>(&self, f: &mut fmt::Formatter<W>) -> fmt::Result {
+        match self {
+            What::Ran(level) => write!(f, "ran {}", level.0),
+            What::Done => f.write_str("done"),
+            What::Switched(groups) => write!(f, "over {groups}"),
+            What::Refused(why) => write!(f, "refused {why}"),
+        }
+    }
+}
+
 /// The answer to an event.
-#[derive(Drop)]
+#[derive(Debug, Drop)]
 pub struct Reply {
     /// What the event did.
     pub what: What,
@@ -117,5 +159,17 @@ impl Reply {
             what: self.what.copy(alloc)?,
             completed: self.completed,
         })
+    }
+}
+
+/// As the report of a stack of patches writes it, behind the event's number.
+impl fmt::Display for Reply {
+    fn fmt<W: fmt::Write>(&self, f: &mut fmt::Formatter<W>) -> fmt::Result {
+        let what = &self.what;
+        write!(f, "{what}")?;
+        if self.completed {
+            f.write_str(" complete")?;
+        }
+        Ok(())
     }
 }

@@ -15,15 +15,19 @@ use lp_numbers::{NUMBERS, NumberSet};
 use lp_patch::PatchStack;
 use lp_stack::{Class, Level, Mode, TaskId};
 use std::alloc::{AllocError, AllocFailed, Global};
+use thiserror::Error;
 
 /// Why no engine was made.
-#[derive(Clone, Copy, Debug, PartialEq, Eq)]
+#[derive(Clone, Copy, Debug, PartialEq, Eq, Error)]
 pub enum BootFault {
     /// T1: a task has the number 0. Numbers go from 1 to 65,535.
+    #[error("T1: a task has the number 0")]
     TaskRange,
     /// T2: two tasks have one number.
+    #[error("T2: two tasks have one number")]
     TaskDoubled,
     /// T3: an allocation failed. Tested after all else.
+    #[error("T3: out of memory")]
     NoMemory,
 }
 

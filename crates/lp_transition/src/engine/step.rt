@@ -11,13 +11,16 @@ use lp_model::Verdict;
 use lp_numbers::NumberSet;
 use std::alloc::{AllocError, AllocFailed, Global};
 use std::marker::Model;
+use thiserror::Error;
 
 /// Why an event takes no number. The engine is then as it was.
-#[derive(Clone, Copy, Debug, PartialEq, Eq)]
+#[derive(Clone, Copy, Debug, PartialEq, Eq, Error)]
 pub enum Halt {
     /// E13: an allocation failed.
+    #[error("E13: out of memory")]
     NoMemory,
     /// E14: 1,000,000 events are numbered. Tested before all else.
+    #[error("E14: 1,000,000 events are numbered")]
     JournalFull,
 }
 
