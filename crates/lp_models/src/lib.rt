@@ -11,4 +11,5 @@ pub use all_at_once::AllAtOnce;
 pub use hybrid::Hybrid;
 pub use immediate::Immediate;
 pub use leave_kernel::LeaveKernel;
+pub use lp_model::Consistency;
 pub use name::ModelName;
