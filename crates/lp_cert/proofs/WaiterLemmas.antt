@@ -1,5 +1,5 @@
 -- The groups that wait, as the verdicts of a scan are noted one by one.
-use Rattle.std.proofs.Common.{◌≡◌, ◌≢◌, ℕ, ◌+◌, ◌<◌, ◌≤◌, Bool, true, false, List, [], ◌∷◌, ◌++◌, length, map, set, get_or, Option, Some, None, if◌then◌else◌, nat_eq, refl, sym, ap, ap₂, subst, ◌∙◌, arith}
+use Rattle.std.proofs.Common.{◌≡◌, ◌≢◌, ℕ, ◌+◌, ◌<◌, ◌≤◌, Bool, true, false, List, [], ◌∷◌, ◌++◌, length, map, set, get_or, not, ◌&&◌, Option, Some, None, if◌then◌else◌, nat_eq, refl, sym, ap, ap₂, subst, ◌∙◌, arith}
 use Rattle.std.specs.List.{AllByRecursion, list_any}
 use Rattle.std.specs.Option.{option_map}
 use Rattle.std.proofs.lemmas.Bool.{false≢true, cond-true, cond-false, eqb-true, eqb-false}
@@ -7,7 +7,7 @@ use Rattle.std.proofs.lemmas.List.{get_or-set_same, get_or-set_other, length-app
 use Rattle.lp_stack.specs.declared.number.GroupId.{GroupId}
 use Rattle.lp_stack.specs.declared.number.TaskId.{TaskId}
 use Rattle.lp_stack.specs.TaskView.{TaskView}
-use Rattle.lp_numbers.specs.Numbers.{Numbers, has}
+use Rattle.lp_numbers.specs.Numbers.{Numbers, has, IsEmpty}
 use Rattle.lp_model.specs.declared.check.Blame.{Blame}
 use Rattle.lp_model.specs.declared.verdict.Verdict.{Verdict}
 use Rattle.lp_transition.specs.Tasks.{on_live, first_of}
@@ -23,7 +23,7 @@ use Rattle.lp_cert.specs.Heads.{ongoing_reasons, head_lines, lines_of}
 use Rattle.lp_cert.specs.inside.Heads.{FitsIn, IsUnchecked, IsHead, Keeps, HasFrameAs, IsRefusedBy}
 use Rattle.lp_cert.specs.EventLines.{has_frame_in, member_verdict, first_refused}
 use Rattle.lp_cert.specs.Waiters.{LegReasons, head_of}
-use Rattle.lp_cert.specs.inside.Waiters.{lines_in, StandsAt, IsRefusedOnce, IsJudged, AreJudged, lines_at, after_verdict, scanned_lines}
+use Rattle.lp_cert.specs.inside.Waiters.{lines_in, StandsAt, IsRefusedOnce, IsJudged, AreJudged, is_left, lines_at, after_verdict, scanned_lines}
 use Rattle.lp_cert.proofs.HeadLemmas.{head_further}
 
 -- ---- Lists that stay
@@ -84,48 +84,67 @@ module _ (s : State) (verdict : Verdict) (why : Blame) (group : GroupId) (mine :
       ap (λ on. if on then option_map (λ (y : Blame). (verdict.task.0, y)) verdict.blame else None) (mine g ∙ e)
       ∙ ap (λ (o : Option Blame). if b then option_map (λ (y : Blame). (verdict.task.0, y)) o else None) blamed_is
 
+-- ---- The groups that a scan hasn't refused so far
+
+and_false : (b : Bool) → (b && false) ≡ false
+and_false true = refl
+and_false false = refl
+
+and_true : (b : Bool) → (b && true) ≡ b
+and_true true = refl
+and_true false = refl
+
+module _ (waiting refused more : Numbers) (group : ℕ) (more_is : more ≡ set refused group true) where
+  pub not_left : length more ≡ 65536 → group < 65536 → is_left waiting more group ≡ false
+  not_left wide few =
+      let h : group < length refused = omega (arith, length-set refused group true, ap length more_is) in
+      let there : has more group ≡ true = ap (λ (l : Numbers). has l group) more_is ∙ get_or-set_same refused group true false h in
+      ap (λ b. has waiting group && not b) there ∙ and_false (has waiting group)
+
+  pub others_left : (other : ℕ) → other ≢ group → is_left waiting more other ≡ is_left waiting refused other
+  others_left other ne = ap (λ b. has waiting other && not b) (ap (λ (l : Numbers). has l other) more_is ∙ get_or-set_other refused group other true false ne)
+
+-- at first these are all that wait
+pub all_left : (waiting refused : Numbers) → IsEmpty refused → (group : ℕ) → is_left waiting refused group ≡ has waiting group
+all_left waiting refused none group = ap (λ b. has waiting group && not b) (none group) ∙ and_true (has waiting group)
+
 -- ---- One verdict
 
-module _ (s : State) (at : ℕ) (verdict : Verdict) (why : Blame) (group : GroupId) (frame_stands : Bool) (groups left : Numbers) (old new : LegReasons)
+module _ (s : State) (at : ℕ) (verdict : Verdict) (why : Blame) (group : GroupId) (frame_stands : Bool) (groups left : ℕ → Bool) (old new : LegReasons)
     (mine : (g : ℕ) → on_live false (λ x. nat_eq x.group g) (s.tasks verdict.task.0) ≡ nat_eq group.0 g)
     (blamed_is : verdict.blame ≡ Some why)
-    (waits : has groups group.0 ≡ true)
+    (waits : groups group.0 ≡ true)
     (has_frame : HasFrameAs (has_frame_in s) (head_of old group.0).ongoing frame_stands)
     (after : IsRefusedBy (record { at = at; task = verdict.task; blame = why; frame_stands = frame_stands }) group old.scans (head_of old group.0) (head_of new group.0) old.lists new.lists)
     (rest : (other : ℕ) → other ≢ group.0 → head_of new other ≡ head_of old other)
     (scans : new.scans ≡ old.scans) (room : old.room ≤ new.room + 1) (scan_room : new.scan_room ≡ old.scan_room)
-    (left_is : left ≡ set groups group.0 false) (wide : length left ≡ 65536) (few : group.0 < 65536) where
-  out : has left group.0 ≡ false
-  out =
-      let h : group.0 < length groups = omega (arith, length-set groups group.0 false, ap length left_is) in
-      ap (λ (l : Numbers). has l group.0) left_is ∙ get_or-set_same groups group.0 false false h
-
+    (out : left group.0 ≡ false) (same_left : (other : ℕ) → other ≢ group.0 → left other ≡ groups other) where
   once : IsRefusedOnce s at group.0 (verdict.task.0, why) old new
   once = record { lines = after.lines (has_frame_in s) has_frame; stands = after.stands }
 
-  judges-yes : (g : ℕ) (blamed : ℕ × Blame) → has groups g ≡ true → member_verdict s g verdict ≡ Some blamed → (b : Bool) → nat_eq group.0 g ≡ b
-      → (has left g ≡ false) × IsRefusedOnce s at g blamed old new
+  judges-yes : (g : ℕ) (blamed : ℕ × Blame) → groups g ≡ true → member_verdict s g verdict ≡ Some blamed → (b : Bool) → nat_eq group.0 g ≡ b
+      → (left g ≡ false) × IsRefusedOnce s at g blamed old new
   judges-yes g blamed there is false e = absurd (some_none blamed (sym is ∙ member_at s verdict why group mine blamed_is g false e))
   judges-yes g blamed there is true e =
       let same : group.0 ≡ g = eqb-true group.0 g e in
       let told : Some (verdict.task.0, why) ≡ Some blamed = sym (member_at s verdict why group mine blamed_is g true e) ∙ is in
       let pair : (verdict.task.0, why) ≡ blamed = cc in
-      subst (λ k. (has left k ≡ false) × IsRefusedOnce s at k blamed old new) same
-      (subst (λ (bl : ℕ × Blame). (has left group.0 ≡ false) × IsRefusedOnce s at group.0 bl old new) pair
+      subst (λ k. (left k ≡ false) × IsRefusedOnce s at k blamed old new) same
+      (subst (λ (bl : ℕ × Blame). (left group.0 ≡ false) × IsRefusedOnce s at group.0 bl old new) pair
       (out, once))
 
-  judges-no : (g : ℕ) → (if has groups g then member_verdict s g verdict else None) ≡ None → (b : Bool) → nat_eq group.0 g ≡ b
-      → (has left g ≡ has groups g) × (head_of new g ≡ head_of old g)
+  judges-no : (g : ℕ) → (if groups g then member_verdict s g verdict else None) ≡ None → (b : Bool) → nat_eq group.0 g ≡ b
+      → (left g ≡ groups g) × (head_of new g ≡ head_of old g)
   judges-no g none true e =
       let same : group.0 ≡ g = eqb-true group.0 g e in
-      let there : has groups g ≡ true = ap (has groups) (sym same) ∙ waits in
+      let there : groups g ≡ true = ap groups (sym same) ∙ waits in
       absurd (some_none {A = ℕ × Blame} (verdict.task.0, why)
       (sym (member_at s verdict why group mine blamed_is g true e)
-      ∙ (sym (cond-true (has groups g) (member_verdict s g verdict) None there) ∙ none)))
+      ∙ (sym (cond-true (groups g) (member_verdict s g verdict) None there) ∙ none)))
   judges-no g none false e =
       let ne : group.0 ≢ g = eqb-false group.0 g e in
       let other : g ≢ group.0 = λ same. ne (sym same) in (
-        ap (λ (l : Numbers). has l g) left_is ∙ get_or-set_other groups group.0 g false false other,
+        same_left g other,
         rest g other,
       )
 
@@ -158,7 +177,7 @@ first_none s g vs v e =
     ap first_of (map-append (member_verdict s g) vs (v ∷ []))
     ∙ (first_of-push (map (member_verdict s g) vs) (member_verdict s g v) None e ∙ one_of (member_verdict s g v))
 
-pub none_judged : (s : State) (at : ℕ) (groups : Numbers) (old : LegReasons) → AreJudged s at [] groups groups old old
+pub none_judged : (s : State) (at : ℕ) (groups : ℕ → Bool) (old : LegReasons) → AreJudged s at [] groups groups old old
 none_judged s at groups old = record {
   judged = λ g blamed there is. absurd (some_none blamed (sym is));
   others = λ g e. (refl, refl);
@@ -168,21 +187,21 @@ none_judged s at groups old = record {
   scan_room = refl;
 }
 
-module _ (s : State) (at : ℕ) (vs : List Verdict) (v : Verdict) (groups mid left : Numbers) (old some new : LegReasons)
-    (stand : (g : ℕ) → has groups g ≡ true → StandsAt (length old.scans) old g)
+module _ (s : State) (at : ℕ) (vs : List Verdict) (v : Verdict) (groups mid left : ℕ → Bool) (old some new : LegReasons)
+    (stand : (g : ℕ) → groups g ≡ true → StandsAt (length old.scans) old g)
     (so_far : AreJudged s at vs groups mid old some) (next : IsJudged s at v mid left some new) where
   kept : Keeps old.lists new.lists
   kept = keeps_trans old.lists some.lists new.lists so_far.kept next.kept
 
   -- a group that this verdict leaves as it is
   abbrev Passed : ℕ → Type 0
-  Passed g = (has left g ≡ has mid g) × (head_of new g ≡ head_of some g)
+  Passed g = (left g ≡ mid g) × (head_of new g ≡ head_of some g)
 
   -- it was refused before
-  before : (g : ℕ) (blamed : ℕ × Blame) → (has mid g ≡ false) × IsRefusedOnce s at g blamed old some
-      → (has left g ≡ false) × IsRefusedOnce s at g blamed old new
+  before : (g : ℕ) (blamed : ℕ × Blame) → (mid g ≡ false) × IsRefusedOnce s at g blamed old some
+      → (left g ≡ false) × IsRefusedOnce s at g blamed old new
   before g blamed b =
-      let passed : Passed g = next.others g (cond-false (has mid g) (member_verdict s g v) None b.0) in (
+      let passed : Passed g = next.others g (cond-false (mid g) (member_verdict s g v) None b.0) in (
         passed.0 ∙ b.0,
         record {
           lines =
@@ -193,10 +212,10 @@ module _ (s : State) (at : ℕ) (vs : List Verdict) (v : Verdict) (groups mid le
       )
 
   -- it is refused by this verdict
-  at_last : (g : ℕ) (blamed : ℕ × Blame) → has groups g ≡ true → first_refused s g vs ≡ None → member_verdict s g v ≡ Some blamed
-      → (has left g ≡ false) × IsRefusedOnce s at g blamed old new
+  at_last : (g : ℕ) (blamed : ℕ × Blame) → groups g ≡ true → first_refused s g vs ≡ None → member_verdict s g v ≡ Some blamed
+      → (left g ≡ false) × IsRefusedOnce s at g blamed old new
   at_last g blamed there none is =
-      let calm = so_far.others g (cond-true (has groups g) (first_refused s g vs) None there ∙ none) in
+      let calm = so_far.others g (cond-true (groups g) (first_refused s g vs) None there ∙ none) in
       let last = next.judged g blamed (calm.0 ∙ there) is in
       let same : lines_in some g ≡ lines_in old g =
       ap₂ (λ scans (h : Head). head_lines some.lists scans (group_id g) h) so_far.scans calm.1
@@ -210,30 +229,30 @@ module _ (s : State) (at : ℕ) (vs : List Verdict) (v : Verdict) (groups mid le
         },
       )
 
-  judged-more : (g : ℕ) (blamed : ℕ × Blame) → has groups g ≡ true → first_refused s g (vs ++ v ∷ []) ≡ Some blamed → (first : Option (ℕ × Blame)) → first_refused s g vs ≡ first
-      → (has left g ≡ false) × IsRefusedOnce s at g blamed old new
+  judged-more : (g : ℕ) (blamed : ℕ × Blame) → groups g ≡ true → first_refused s g (vs ++ v ∷ []) ≡ Some blamed → (first : Option (ℕ × Blame)) → first_refused s g vs ≡ first
+      → (left g ≡ false) × IsRefusedOnce s at g blamed old new
   judged-more g blamed there is None e = at_last g blamed there e (sym (first_none s g vs v e) ∙ is)
   judged-more g blamed there is (Some b) e =
       let told : Some b ≡ Some blamed = sym (first_some s g vs v b e) ∙ is in
       let same : b ≡ blamed = cc in
       before g blamed (so_far.judged g blamed there (e ∙ ap {A = ℕ × Blame} {B = Option (ℕ × Blame)} Some same))
 
-  others-more : (g : ℕ) (b : Bool) → has groups g ≡ b → (if b then first_refused s g (vs ++ v ∷ []) else None) ≡ None → (first : Option (ℕ × Blame)) → first_refused s g vs ≡ first
-      → (has left g ≡ has groups g) × (head_of new g ≡ head_of old g)
+  others-more : (g : ℕ) (b : Bool) → groups g ≡ b → (if b then first_refused s g (vs ++ v ∷ []) else None) ≡ None → (first : Option (ℕ × Blame)) → first_refused s g vs ≡ first
+      → (left g ≡ groups g) × (head_of new g ≡ head_of old g)
   others-more g true there none (Some b) e = absurd (some_none b (sym (first_some s g vs v b e) ∙ none))
   others-more g true there none None e =
-      let calm = so_far.others g (cond-true (has groups g) (first_refused s g vs) None there ∙ e) in
-      let passed : Passed g = next.others g (cond-true (has mid g) (member_verdict s g v) None (calm.0 ∙ there) ∙ (sym (first_none s g vs v e) ∙ none)) in
+      let calm = so_far.others g (cond-true (groups g) (first_refused s g vs) None there ∙ e) in
+      let passed : Passed g = next.others g (cond-true (mid g) (member_verdict s g v) None (calm.0 ∙ there) ∙ (sym (first_none s g vs v e) ∙ none)) in
       (passed.0 ∙ calm.0, passed.1 ∙ calm.1)
   others-more g false there none first e =
-      let calm = so_far.others g (cond-false (has groups g) (first_refused s g vs) None there) in
-      let passed : Passed g = next.others g (cond-false (has mid g) (member_verdict s g v) None (calm.0 ∙ there)) in
+      let calm = so_far.others g (cond-false (groups g) (first_refused s g vs) None there) in
+      let passed : Passed g = next.others g (cond-false (mid g) (member_verdict s g v) None (calm.0 ∙ there)) in
       (passed.0 ∙ calm.0, passed.1 ∙ calm.1)
 
   pub one_judged : AreJudged s at (vs ++ v ∷ []) groups left old new
   one_judged = record {
     judged = λ g blamed there is. judged-more g blamed there is (first_refused s g vs) refl;
-    others = λ g none. others-more g (has groups g) refl none (first_refused s g vs) refl;
+    others = λ g none. others-more g (groups g) refl none (first_refused s g vs) refl;
     kept = kept;
     scans = next.scans ∙ so_far.scans;
     room = omega (arith, so_far.room, next.room, length-append vs (v ∷ []));
@@ -241,25 +260,37 @@ module _ (s : State) (at : ℕ) (vs : List Verdict) (v : Verdict) (groups mid le
   }
 
   -- the groups that were not refused stand as they stood
-  pub still_standing : (g : ℕ) → has left g ≡ true → StandsAt (length new.scans) new g
-  still_standing g there = by (has groups g) refl (first_refused s g (vs ++ v ∷ [])) refl
+  pub still_standing : (g : ℕ) → left g ≡ true → StandsAt (length new.scans) new g
+  still_standing g there = by (groups g) refl (first_refused s g (vs ++ v ∷ [])) refl
     where
-      stays : (has left g ≡ has groups g) × (head_of new g ≡ head_of old g) → StandsAt (length new.scans) new g
+      stays : (left g ≡ groups g) × (head_of new g ≡ head_of old g) → StandsAt (length new.scans) new g
       stays calm =
           let known = stand g (sym calm.0 ∙ there) in
           subst (λ scans. StandsAt (length scans) new g) (sym one_judged.scans)
           (subst (λ (h : Head). IsHead new.lists (length old.scans) h) (sym calm.1) (head_kept old.lists new.lists (length old.scans) (head_of old g) kept known))
 
-      by : (b : Bool) → has groups g ≡ b → (first : Option (ℕ × Blame)) → first_refused s g (vs ++ v ∷ []) ≡ first → StandsAt (length new.scans) new g
-      by false e first is = stays (one_judged.others g (cond-false (has groups g) _ None e))
-      by true e None is = stays (one_judged.others g (cond-true (has groups g) _ None e ∙ is))
+      by : (b : Bool) → groups g ≡ b → (first : Option (ℕ × Blame)) → first_refused s g (vs ++ v ∷ []) ≡ first → StandsAt (length new.scans) new g
+      by false e first is = stays (one_judged.others g (cond-false (groups g) _ None e))
+      by true e None is = stays (one_judged.others g (cond-true (groups g) _ None e ∙ is))
       by true e (Some b) is = absurd (false≢true (sym (one_judged.judged g b e is).0 ∙ there))
+
+-- by any test that says the same of each group
+pub judged_as : (s : State) (at : ℕ) (vs : List Verdict) (groups same left : ℕ → Bool) (old new : LegReasons) → ((g : ℕ) → same g ≡ groups g)
+    → AreJudged s at vs same left old new → AreJudged s at vs groups left old new
+judged_as s at vs groups same left old new is all = record {
+  judged = λ g blamed there first. all.judged g blamed (is g ∙ there) first;
+  others = λ g none. (let calm = all.others g (ap (λ b. if b then first_refused s g vs else None) (is g) ∙ none) in (calm.0 ∙ is g, calm.1));
+  kept = all.kept;
+  scans = all.scans;
+  room = all.room;
+  scan_room = all.scan_room;
+}
 
 -- ---- After a scan
 
-module _ (s : State) (at : ℕ) (vs : List Verdict) (groups left : Numbers) (old some new : LegReasons)
+module _ (s : State) (at : ℕ) (vs : List Verdict) (groups : Numbers) (left : ℕ → Bool) (old some new : LegReasons)
     (stand : (g : ℕ) → has groups g ≡ true → StandsAt (length old.scans) old g)
-    (all : AreJudged s at vs groups left old some) (heads : new.heads ≡ some.heads) (lists : new.lists ≡ some.lists) (scans : new.scans ≡ some.scans ++ at ∷ []) where
+    (all : AreJudged s at vs (has groups) left old some) (heads : new.heads ≡ some.heads) (lists : new.lists ≡ some.lists) (scans : new.scans ≡ some.scans ++ at ∷ []) where
   new_lines : (g : ℕ) → lines_in new g ≡ head_lines some.lists (old.scans ++ at ∷ []) (group_id g) (head_of some g)
   new_lines g =
       ap₂ (λ (hs : List Head) ls. head_lines ls new.scans (group_id g) (get_or hs g (record { ongoing = Nothing; older = record { 0 = 0 } }))) heads lists

@@ -1,8 +1,8 @@
 //! The groups that wait in a leg, each with its reasons.
-ghost use Rattle.std.specs.Prelude.{◌≡◌, ◌≢◌, ◌+◌, ◌<◌, ◌≤◌, ℕ, [], ◌∷◌, ◌++◌, true, false, Some, None, length, map, reverse, slice_set, IfOk, IfSome, OnOk, if◌then◌else◌, nat_eq};
+ghost use Rattle.std.specs.Prelude.{◌≡◌, ◌≢◌, Bool, ◌+◌, ◌<◌, ◌≤◌, ℕ, [], ◌∷◌, ◌++◌, true, false, Some, None, length, map, reverse, slice_set, IfOk, IfSome, OnOk, if◌then◌else◌, nat_eq};
 ghost use Rattle.std.specs.List.{AllByRecursion, list_any};
 ghost use Rattle.std.specs.Option.{option_map};
-ghost use Rattle.lp_numbers.specs.Numbers.{Numbers, has, IsEmpty, IsNextFrom};
+ghost use Rattle.lp_numbers.specs.Numbers.{has, IsEmpty, IsNextFrom};
 ghost use Rattle.lp_transition.specs.Sound.{IsSound};
 ghost use Rattle.lp_transition.specs.Scan.{passing};
 ghost use Rattle.lp_transition.specs.inside.ScanSteps.{IsNextBelow};
@@ -11,7 +11,7 @@ ghost use Rattle.lp_cert.specs.inside.Heads.{HasFrameAs};
 ghost use Rattle.lp_cert.specs.EventLines.{has_frame_in, first_refused};
 ghost use Rattle.lp_cert.specs.Invariant.{floor_waiters};
 ghost use Rattle.lp_cert.specs.Waiters.{waiter_in, waiters_of};
-ghost use Rattle.lp_cert.specs.inside.Waiters.{AreHeads, AreStanding, StandsAt, IsJudged, AreJudged, IsUsedVerdict, after_birth, has_off, lines_at, scanned_lines, AreTakenIn, IsTakenIn};
+ghost use Rattle.lp_cert.specs.inside.Waiters.{AreHeads, AreStanding, StandsAt, IsJudged, AreJudged, IsUsedVerdict, is_left, after_birth, has_off, lines_at, scanned_lines, AreTakenIn, IsTakenIn};
 
 use crate::chains::Chains;
 use crate::head::{OwnFork, Refused, Waiter};
@@ -31,8 +31,8 @@ use std::marker::Model;
 #[derive(Drop)]
 pub(crate) struct Waiters {
     groups: NumberSet,
-    /// Within a scan the groups that it hasn't refused so far.
-    unrefused: NumberSet,
+    /// Within a scan the groups that it has refused so far.
+    refused: NumberSet,
     reasons: Reasons,
 }
 
@@ -54,7 +54,7 @@ impl Waiters {
     {
         Ok(Waiters {
             groups: NumberSet::new(alloc)?,
-            unrefused: NumberSet::new(alloc)?,
+            refused: NumberSet::new(alloc)?,
             reasons: Reasons::new(alloc)?,
         })
     }
@@ -175,15 +175,8 @@ impl Waiters {
         ensures lines { (group : ℕ) → lines_at self.new group ≡ scanned_lines (state_in core.now) at verdicts.now self.old group }
         ensures stood { AreStanding self.old }
     {
-        let unrefused = &mut self.unrefused;
-        judge_waiting(
-            core,
-            at,
-            verdicts,
-            &self.groups,
-            unrefused,
-            &mut self.reasons,
-        );
+        let refused = &mut self.refused;
+        judge_waiting(core, at, verdicts, &self.groups, refused, &mut self.reasons);
         self.reasons.scanned(at);
     }
 
@@ -196,43 +189,43 @@ impl Waiters {
     }
 }
 
-/// Notes what a scan found of the groups that wait. What it hasn't refused of them is kept beside, at
-/// no cost where nothing was found.
+/// Notes what a scan found of the groups that wait, at no cost where nothing was found.
 fn judge_waiting<M: Consistency>(
     core: &Core<M>,
     at: u64,
     verdicts: &[Verdict],
     waiting: &NumberSet,
-    unrefused: &mut NumberSet,
+    refused: &mut NumberSet,
     reasons: &mut Reasons,
 )
     requires stand { (group : ℕ) → has waiting.now group ≡ true → StandsAt (length reasons.old.scans) reasons.old group }
     requires used { AllByRecursion IsUsedVerdict verdicts.now }
     requires room { length verdicts.now ≤ reasons.old.room }
-    ensures { (left : Numbers) × AreJudged (state_in core.now) at verdicts.now waiting.now left reasons.old reasons.new }
+    ensures { (left : ℕ → Bool) × AreJudged (state_in core.now) at verdicts.now (has waiting.now) left reasons.old reasons.new }
 {
     if verdicts.is_empty() {
         return;
     }
-    unrefused.copy_from(waiting);
-    judge_all(core, at, verdicts, unrefused, reasons);
+    refused.clear();
+    judge_all(core, at, verdicts, waiting, refused, reasons);
 }
 
-/// Notes what a scan found, and takes the groups that it refuses out of those that it hasn't refused.
+/// Notes what a scan found, and takes the groups that it refuses in among those that it has refused.
 fn judge_all<M: Consistency>(
     core: &Core<M>,
     at: u64,
     verdicts: &[Verdict],
-    groups: &mut NumberSet,
+    waiting: &NumberSet,
+    refused: &mut NumberSet,
     reasons: &mut Reasons,
 )
-    requires stand { (group : ℕ) → has groups.old group ≡ true → StandsAt (length reasons.old.scans) reasons.old group }
+    requires stand { (group : ℕ) → is_left waiting.now refused.old group ≡ true → StandsAt (length reasons.old.scans) reasons.old group }
     requires used { AllByRecursion IsUsedVerdict verdicts.now }
     requires room { length verdicts.now ≤ reasons.old.room }
-    ensures { AreJudged (state_in core.now) at verdicts.now groups.old groups.new reasons.old reasons.new }
+    ensures { AreJudged (state_in core.now) at verdicts.now (is_left waiting.now refused.old) (is_left waiting.now refused.new) reasons.old reasons.new }
 {
     for verdict in verdicts {
-        judge(core, at, verdict, groups, reasons);
+        judge(core, at, verdict, waiting, refused, reasons);
     }
 }
 
@@ -241,13 +234,14 @@ fn judge<M: Consistency>(
     core: &Core<M>,
     at: u64,
     verdict: &Verdict,
-    groups: &mut NumberSet,
+    waiting: &NumberSet,
+    refused: &mut NumberSet,
     reasons: &mut Reasons,
 )
-    requires stand { (group : ℕ) → has groups.old group ≡ true → StandsAt (length reasons.old.scans) reasons.old group }
+    requires stand { (group : ℕ) → is_left waiting.now refused.old group ≡ true → StandsAt (length reasons.old.scans) reasons.old group }
     requires used { IsUsedVerdict verdict.now }
     requires room { 0 < reasons.old.room }
-    ensures { IsJudged (state_in core.now) at verdict.now groups.old groups.new reasons.old reasons.new }
+    ensures { IsJudged (state_in core.now) at verdict.now (is_left waiting.now refused.old) (is_left waiting.now refused.new) reasons.old reasons.new }
 {
     let Some(blame) = verdict.blame else {
         return;
@@ -255,7 +249,7 @@ fn judge<M: Consistency>(
     let Some(group) = core.group_of(verdict.task) else {
         return;
     };
-    if !groups.contains(group.0) {
+    if !is_left(waiting, refused, group) {
         return;
     }
     let refusal = Refused {
@@ -265,7 +259,14 @@ fn judge<M: Consistency>(
         frame_stands: has_standing_frame(core, reasons.head(group).ongoing),
     };
     reasons.refuse(group, &refusal);
-    groups.remove(group.0);
+    refused.insert(group.0);
+}
+
+/// Whether a group waits and the scan hasn't refused it so far.
+fn is_left(waiting: &NumberSet, refused: &NumberSet, group: GroupId) -> bool
+    ensures { result ≡ is_left waiting.now refused.now group.0 }
+{
+    waiting.contains(group.0) && !refused.contains(group.0)
 }
 
 /// Of a hold that continues, whether its frame is still on its task's stack.

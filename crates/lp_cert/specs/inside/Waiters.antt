@@ -35,6 +35,10 @@ lines_in reasons group = head_lines reasons.lists reasons.scans (group_id group)
 abbrev pub StandsAt : ℕ → LegReasons → ℕ → Type 0
 StandsAt scans reasons group = IsHead reasons.lists scans (head_of reasons group)
 
+-- the group waits, and the scan hasn't refused it so far
+abbrev pub is_left : (waiting refused : Numbers) → (group : ℕ) → Bool
+is_left waiting refused group = has waiting group && not (has refused group)
+
 -- a scan refused the group, blaming this member
 pub record IsRefusedOnce (s : State) (at group : ℕ) (blamed : ℕ × Blame) (old new : LegReasons) : Type 0 where
   pub lines :
@@ -44,26 +48,26 @@ pub record IsRefusedOnce (s : State) (at group : ℕ) (blamed : ℕ × Blame) (o
 
 -- a verdict of a scan is noted: of a group that waits and wasn't refused before by this scan, which the verdict refuses, the
 -- reasons continue as after one scan more; of any other nothing changes
-pub record IsJudged (s : State) (at : ℕ) (verdict : Verdict) (groups left : Numbers) (old new : LegReasons) : Type 0 where
+pub record IsJudged (s : State) (at : ℕ) (verdict : Verdict) (groups left : ℕ → Bool) (old new : LegReasons) : Type 0 where
   pub judged :
-      (group : ℕ) (blamed : ℕ × Blame) → has groups group ≡ true → member_verdict s group verdict ≡ Some blamed →
-      (has left group ≡ false) × IsRefusedOnce s at group blamed old new
+      (group : ℕ) (blamed : ℕ × Blame) → groups group ≡ true → member_verdict s group verdict ≡ Some blamed →
+      (left group ≡ false) × IsRefusedOnce s at group blamed old new
   pub others :
-      (group : ℕ) → (if has groups group then member_verdict s group verdict else None) ≡ None →
-      (has left group ≡ has groups group) × (head_of new group ≡ head_of old group)
+      (group : ℕ) → (if groups group then member_verdict s group verdict else None) ≡ None →
+      (left group ≡ groups group) × (head_of new group ≡ head_of old group)
   pub kept : Keeps old.lists new.lists
   pub scans : new.scans ≡ old.scans
   pub room : old.room ≤ new.room + 1
   pub scan_room : new.scan_room ≡ old.scan_room
 
 -- verdicts of a scan are noted: each group that waits and is refused has its reasons as after one scan more
-pub record AreJudged (s : State) (at : ℕ) (verdicts : List Verdict) (groups left : Numbers) (old new : LegReasons) : Type 0 where
+pub record AreJudged (s : State) (at : ℕ) (verdicts : List Verdict) (groups left : ℕ → Bool) (old new : LegReasons) : Type 0 where
   pub judged :
-      (group : ℕ) (blamed : ℕ × Blame) → has groups group ≡ true → first_refused s group verdicts ≡ Some blamed →
-      (has left group ≡ false) × IsRefusedOnce s at group blamed old new
+      (group : ℕ) (blamed : ℕ × Blame) → groups group ≡ true → first_refused s group verdicts ≡ Some blamed →
+      (left group ≡ false) × IsRefusedOnce s at group blamed old new
   pub others :
-      (group : ℕ) → (if has groups group then first_refused s group verdicts else None) ≡ None →
-      (has left group ≡ has groups group) × (head_of new group ≡ head_of old group)
+      (group : ℕ) → (if groups group then first_refused s group verdicts else None) ≡ None →
+      (left group ≡ groups group) × (head_of new group ≡ head_of old group)
   pub kept : Keeps old.lists new.lists
   pub scans : new.scans ≡ old.scans
   pub room : old.room ≤ new.room + length verdicts

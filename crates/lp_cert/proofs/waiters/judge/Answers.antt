@@ -1,9 +1,10 @@
-use Rattle.std.proofs.Common.{subst, sym, ◌∙◌, arith}
+use Rattle.std.proofs.Common.{◌≡◌, ◌<◌, subst, sym, ◌∙◌, arith}
 use Rattle.lp_cert.specs.declared.head.Head.{Head}
 use Rattle.lp_cert.specs.inside.Heads.{HasFrameAs}
 use Rattle.lp_cert.specs.EventLines.{has_frame_in}
 use Rattle.lp_transition.specs.Table.{state_in}
-use Rattle.lp_cert.proofs.WaiterLemmas.{grouped, judges}
+use Rattle.lp_cert.specs.inside.Waiters.{is_left}
+use Rattle.lp_cert.proofs.WaiterLemmas.{grouped, judges, not_left, others_left}
 use Rattle.lp_cert.proofs.waiters.judge.Goals as goal
 
 pub returns : goal.returns
@@ -11,6 +12,9 @@ returns g c =
     let group = c.in-Some-group_of.group in
     let s = state_in c.args.core.now in
     let mine = grouped c.args.core.now.table c.args.verdict.now.task.0 group c.in-Some-group_of.ensures in
-    judges s c.args.at c.args.verdict.now c.in-Some.blame group c.has_standing_frame.result c.args.groups.now c.remove.new.self c.args.reasons.now c.refuse.new.self
-    mine c.in-Some.is (sym c.contains.ensures.member ∙ c.if-not-contains.false) (subst (λ (h : Head). HasFrameAs (has_frame_in s) h.ongoing c.has_standing_frame.result) c.head.ensures c.has_standing_frame.ensures) c.refuse.ensures.refused c.refuse.ensures.others c.refuse.ensures.scans c.refuse.ensures.room c.refuse.ensures.scan_room
-    c.remove.ensures.after c.remove.ensures.numbers (omega arith)
+    let left : is_left c.args.waiting.now c.args.refused.now group.0 ≡ c.is_left.result = sym c.is_left.ensures in
+    let waits = left ∙ c.if-not-is_left.false in
+    let few : group.0 < 65536 = omega arith in
+    judges s c.args.at c.args.verdict.now c.in-Some.blame group c.has_standing_frame.result (is_left c.args.waiting.now c.args.refused.now) (is_left c.args.waiting.now c.insert.new.self) c.args.reasons.now c.refuse.new.self
+    mine c.in-Some.is waits (subst (λ (h : Head). HasFrameAs (has_frame_in s) h.ongoing c.has_standing_frame.result) c.head.ensures c.has_standing_frame.ensures) c.refuse.ensures.refused c.refuse.ensures.others c.refuse.ensures.scans c.refuse.ensures.room c.refuse.ensures.scan_room
+    (not_left c.args.waiting.now c.args.refused.now c.insert.new.self group.0 c.insert.ensures.after c.insert.ensures.numbers few) (others_left c.args.waiting.now c.args.refused.now c.insert.new.self group.0 c.insert.ensures.after)
