@@ -2,12 +2,12 @@
 use Rattle.std.proofs.Common.{◌≡◌, ℕ, zero, suc, ◌+◌, ◌-◌, ◌<◌, ◌≤◌, List, [], ◌∷◌, ◌++◌, drop, length, get_or, refl, sym, ap, subst, ◌∙◌, arith}
 use Rattle.std.proofs.Math.ListN.{get_or-append}
 use Rattle.std.proofs.Math.Seq.{get_or-append_seam}
-use Rattle.std.proofs.lemmas.List.{length-append, length-drop, drop-drop}
+use Rattle.std.proofs.lemmas.List.{length-append, drop-drop}
 use Rattle.std.proofs.lemmas.List.Sums.{fold-append}
 use Rattle.std.specs.List.{fold}
 use Rattle.lp_cert.specs.declared.reason.Reason.{Reason}
 use Rattle.lp_cert.specs.declared.chains.Entry.{Entry}
-use Rattle.lp_cert.specs.inside.Chains.{with_entry, lists_of, AreLinked}
+use Rattle.lp_cert.specs.inside.Chains.{with_entry, lists_of, IsTail, IsLinked, AreLinked}
 
 -- an entry adds one list
 with_entry-length : (lists : List (List Reason)) (entry : Entry) → length (with_entry lists entry) ≡ suc (length lists)
@@ -33,58 +33,78 @@ fold-keeps lists (entry ∷ entries) k h =
     fold-keeps (with_entry lists entry) entries k further
     ∙ get_or-append lists ((entry.reason ∷ get_or lists entry.older.0 []) ∷ []) [] k h
 
+-- ---- Entries, among all lists
+
+-- what an entry is linked to stays
+still_linked : (lists all : List (List Reason)) (before : ℕ) (entry : Entry) → ((k : ℕ) → k < before → get_or all k [] ≡ get_or lists k []) → IsLinked lists before entry → IsLinked all before entry
+still_linked lists all before entry same is =
+    let older = same entry.older.0 is.older in
+    let jump = same entry.jump.0 is.jump in
+    record {
+      older = is.older;
+      count = is.count ∙ ap (λ rs. suc (length rs)) (sym older);
+      few = is.few;
+      jump = is.jump;
+      tail = subst (λ list. IsTail (get_or all entry.jump.0 []) list) (sym older) (subst (λ tail. IsTail tail (get_or lists entry.older.0 [])) (sym jump) is.tail);
+    }
+
+fold-linked : (lists : List (List Reason)) (entries : List Entry) (i : ℕ) (entry : Entry)
+    → AreLinked lists entries → i < length entries → entry ≡ get_or entries i entry
+    → IsLinked (fold with_entry lists entries) (length lists + i) entry
+fold-linked lists [] i entry linked h is = absurd (omega arith)
+fold-linked lists (first ∷ entries) zero entry linked h is =
+    let all = fold with_entry lists (first ∷ entries) in
+    let place : length lists ≡ length lists + 0 = omega arith in
+    let here : IsLinked all (length lists) first = still_linked lists all (length lists) first (fold-keeps lists (first ∷ entries)) linked.0 in
+    subst (λ n. IsLinked all n entry) place (subst (λ (x : Entry). IsLinked all (length lists) x) (sym is) here)
+fold-linked lists (first ∷ entries) (suc i) entry linked h is =
+    let e = with_entry-length lists first in
+    let place : length (with_entry lists first) + i ≡ length lists + suc i = omega arith in
+    subst (λ n. IsLinked (fold with_entry (with_entry lists first) entries) n entry) place
+    (fold-linked (with_entry lists first) entries i entry linked.1 (omega arith) is)
+
 -- the list of an entry
 fold-at : (lists : List (List Reason)) (entries : List Entry) (i : ℕ) (entry : Entry)
-    → AreLinked (length lists) entries → i < length entries → entry ≡ get_or entries i entry
+    → AreLinked lists entries → i < length entries → entry ≡ get_or entries i entry
     → get_or (fold with_entry lists entries) (length lists + i) [] ≡ entry.reason ∷ get_or (fold with_entry lists entries) entry.older.0 []
 fold-at lists [] i entry linked h is = absurd (omega arith)
 fold-at lists (first ∷ entries) zero entry linked h is =
     let all = fold with_entry (with_entry lists first) entries in
     let e = with_entry-length lists first in
     let there : length lists < length (with_entry lists first) = omega arith in
-    let older : first.older.0 < length (with_entry lists first) = omega (arith, linked.0) in
     let place : length lists + 0 ≡ length lists = omega arith in
     let this : get_or all (length lists + 0) [] ≡ first.reason ∷ get_or lists first.older.0 [] =
     ap (λ k. get_or all k []) place
     ∙ fold-keeps (with_entry lists first) entries (length lists) there
     ∙ get_or-append_seam lists (first.reason ∷ get_or lists first.older.0 []) [] [] in
-    let that : get_or all first.older.0 [] ≡ get_or lists first.older.0 [] =
-    fold-keeps (with_entry lists first) entries first.older.0 older
-    ∙ get_or-append lists ((first.reason ∷ get_or lists first.older.0 []) ∷ []) [] first.older.0 linked.0 in
+    let that : get_or all first.older.0 [] ≡ get_or lists first.older.0 [] = fold-keeps lists (first ∷ entries) first.older.0 linked.0.older in
     this ∙ ap (λ rest. first.reason ∷ rest) (sym that) ∙ ap (λ (x : Entry). x.reason ∷ get_or all x.older.0 []) (sym is)
 fold-at lists (first ∷ entries) (suc i) entry linked h is =
     let e = with_entry-length lists first in
     let place : length lists + suc i ≡ length (with_entry lists first) + i = omega arith in
-    let rest : AreLinked (length (with_entry lists first)) entries = subst (λ n. AreLinked n entries) (sym e) linked.1 in
     ap (λ k. get_or (fold with_entry (with_entry lists first) entries) k []) place
-    ∙ fold-at (with_entry lists first) entries i entry rest (omega arith) is
-
-pub list_at : (entries : List Entry) (i : ℕ) (entry : Entry)
-    → AreLinked 1 entries → i < length entries → entry ≡ get_or entries i entry
-    → get_or (lists_of entries) (i + 1) [] ≡ entry.reason ∷ get_or (lists_of entries) entry.older.0 []
-unfolding lists_of
-list_at entries i entry linked h is =
-    let place : i + 1 ≡ 1 + i = omega arith in
-    ap (λ k. get_or (lists_of entries) k []) place ∙ fold-at ([] ∷ []) entries i entry linked h is
-
--- an entry stands in front of an earlier list
-pub older_before : (known : ℕ) (entries : List Entry) (i : ℕ) (entry : Entry)
-    → AreLinked known entries → i < length entries → entry ≡ get_or entries i entry → entry.older.0 < known + i
-older_before known [] i entry linked h is = absurd (omega arith)
-older_before known (first ∷ entries) zero entry linked h is =
-    let e : entry.older.0 ≡ first.older.0 = ap (λ (x : Entry). x.older.0) is in
-    omega (arith, linked.0)
-older_before known (first ∷ entries) (suc i) entry linked h is =
-    let before = older_before (suc known) entries i entry linked.1 (omega arith) is in
-    omega arith
+    ∙ fold-at (with_entry lists first) entries i entry linked.1 (omega arith) is
 
 -- ---- One more entry
 
-pub AreLinked-push : (known : ℕ) (entries : List Entry) (entry : Entry)
-    → AreLinked known entries → entry.older.0 < known + length entries → AreLinked known (entries ++ entry ∷ [])
-AreLinked-push known [] entry linked h = (omega arith, tt)
-AreLinked-push known (first ∷ entries) entry linked h =
-    (linked.0, AreLinked-push (suc known) entries entry linked.1 (omega arith))
+fold-push : (lists : List (List Reason)) (entries : List Entry) (entry : Entry)
+    → AreLinked lists entries → IsLinked (fold with_entry lists entries) (length lists + length entries) entry → AreLinked lists (entries ++ entry ∷ [])
+fold-push lists [] entry linked last =
+    let place : length lists + 0 ≡ length lists = omega arith in
+    (subst (λ n. IsLinked lists n entry) place last, tt)
+fold-push lists (first ∷ entries) entry linked last =
+    let e = with_entry-length lists first in
+    let place : length lists + length (first ∷ entries) ≡ length (with_entry lists first) + length entries = omega arith in (
+      linked.0,
+      fold-push (with_entry lists first) entries entry linked.1 (subst (λ n. IsLinked (fold with_entry (with_entry lists first) entries) n entry) place last),
+    )
+
+pub AreLinked-push : (entries : List Entry) (entry : Entry)
+    → AreLinked ([] ∷ []) entries → IsLinked (lists_of entries) (length (lists_of entries)) entry → AreLinked ([] ∷ []) (entries ++ entry ∷ [])
+unfolding lists_of
+AreLinked-push entries entry linked last =
+    let place : length (lists_of entries) ≡ 1 + length entries = lists_of-length entries ∙ omega arith in
+    fold-push ([] ∷ []) entries entry linked (subst (λ n. IsLinked (lists_of entries) n entry) place last)
 
 pub lists_of-push : (entries : List Entry) (entry : Entry) → lists_of (entries ++ entry ∷ []) ≡ with_entry (lists_of entries) entry
 unfolding lists_of
@@ -101,35 +121,61 @@ empty_first entries = fold-keeps ([] ∷ []) entries 0 (omega arith)
 pub place_below : (entries : List Entry) (at : ℕ) → at < length (lists_of entries) → 0 < at → at - 1 < length entries
 place_below entries at known h = omega (arith, lists_of-length entries)
 
--- a list is its newest reason and an earlier list
-pub one_on : (entries : List Entry) (at : ℕ) (entry : Entry) → AreLinked 1 entries → at < length (lists_of entries) → 0 < at → entry ≡ get_or entries (at - 1) entry
-    → get_or (lists_of entries) at [] ≡ entry.reason ∷ get_or (lists_of entries) entry.older.0 []
-one_on entries at entry linked known h is =
-    let e : at ≡ at - 1 + 1 = omega arith in
-    ap (λ k. get_or (lists_of entries) k []) e ∙ list_at entries (at - 1) entry linked (place_below entries at known h) is
+module _ (entries : List Entry) (at : ℕ) (entry : Entry) (linked : AreLinked ([] ∷ []) entries) (known : at < length (lists_of entries)) (some : 0 < at) (is : entry ≡ get_or entries (at - 1) entry) where
+  -- a list is its newest reason and an earlier list
+  pub one_on : get_or (lists_of entries) at [] ≡ entry.reason ∷ get_or (lists_of entries) entry.older.0 []
+  unfolding lists_of
+  one_on =
+      let e : at ≡ 1 + (at - 1) = omega arith in
+      ap (λ k. get_or (lists_of entries) k []) e ∙ fold-at ([] ∷ []) entries (at - 1) entry linked (place_below entries at known some) is
 
-pub older_less : (entries : List Entry) (at : ℕ) (entry : Entry) → AreLinked 1 entries → at < length (lists_of entries) → 0 < at → entry ≡ get_or entries (at - 1) entry → entry.older.0 < at
-older_less entries at entry linked known h is =
-    omega (arith, older_before 1 entries (at - 1) entry linked (place_below entries at known h) is)
+  -- and its entry is linked to those before it
+  pub linked_at : IsLinked (lists_of entries) at entry
+  unfolding lists_of
+  linked_at =
+      let e : 1 + (at - 1) ≡ at = omega arith in
+      subst (λ n. IsLinked (lists_of entries) n entry) e (fold-linked ([] ∷ []) entries (at - 1) entry linked (place_below entries at known some) is)
 
--- a list of which some are left isn't the empty one
-pub some_on : (entries : List Entry) (at count left : ℕ) (list : List Reason) → get_or (lists_of entries) at [] ≡ drop (count - left) list
-    → count ≤ length list → 0 < left → left ≤ count → 0 < at
-some_on entries zero count left list rest enough more fewer =
-    let e = ap length (sym (empty_first entries) ∙ rest) in
-    let d = length-drop (count - left) list in
-    absurd (omega arith)
-some_on entries (suc at) count left list rest enough more fewer = omega arith
-
--- one reason less
-pub one_less : (count left : ℕ) (this list : List Reason) (reason : Reason) (older : List Reason) → this ≡ reason ∷ older
-    → this ≡ drop (count - left) list → 0 < left → left ≤ count → older ≡ drop (count - (left - 1)) list
-one_less count left this list reason older is rest more fewer =
-    let e : count - (left - 1) ≡ count - left + 1 = omega arith in
-    ap (drop 1) (sym is ∙ rest) ∙ (drop-drop 1 (count - left) list ∙ ap (λ n. drop n list) (sym e))
+  -- and counts its reasons
+  pub counted : entry.count ≡ length (get_or (lists_of entries) at [])
+  counted = linked_at.count ∙ ap length (sym one_on)
 
 pub some_place : (entries : List Entry) (at : ℕ) → 0 < length (get_or (lists_of entries) at []) → 0 < at
 some_place entries zero some =
     let e = ap length (empty_first entries) in
     absurd (omega arith)
 some_place entries (suc at) some = omega arith
+
+-- the empty list has no reason
+pub none_counted : (entries : List Entry) (at : ℕ) → at ≡ 0 → 0 ≡ length (get_or (lists_of entries) at [])
+none_counted entries at none = ap length (sym (ap (λ k. get_or (lists_of entries) k []) none ∙ empty_first entries))
+
+-- ---- Lists without some of their newest reasons
+
+pub same_tail : (list : List Reason) → IsTail list list
+same_tail list =
+    let none : length list - length list ≡ 0 = omega arith in
+    record { shorter = omega arith; rest = ap (λ n. drop n list) (sym none) }
+
+pub tail_of_tail : (far near list : List Reason) → IsTail far near → IsTail near list → IsTail far list
+tail_of_tail far near list first second =
+    let more : length list - length near + (length near - length far) ≡ length list - length far = omega (arith, first.shorter, second.shorter) in
+    record {
+      shorter = omega (arith, first.shorter, second.shorter);
+      rest =
+          first.rest
+          ∙ (ap (drop (length near - length far)) second.rest
+          ∙ (drop-drop (length near - length far) (length list - length near) list ∙ ap (λ n. drop n list) more));
+    }
+
+pub one_less : (list older : List Reason) (reason : Reason) → list ≡ reason ∷ older → IsTail older list
+one_less list older reason is =
+    let longer : length list ≡ suc (length older) = ap length is in
+    let one : 1 ≡ length list - length older = omega arith in
+    record { shorter = omega arith; rest = ap (drop 1) (sym is) ∙ ap (λ n. drop n list) one }
+
+-- a list without so many is the tail of that length
+pub tail_is : (tail list : List Reason) (count : ℕ) → IsTail tail list → count ≤ length list → length tail ≡ length list - count → tail ≡ drop count list
+tail_is tail list count is enough long =
+    let e : length list - length tail ≡ count = omega arith in
+    is.rest ∙ ap (λ n. drop n list) e

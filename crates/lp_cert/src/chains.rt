@@ -1,5 +1,6 @@
 //! Lists of reasons that share their older parts.
 ghost use Rattle.std.specs.Prelude.{◌≡◌, ◌+◌, ◌<◌, ◌≤◌, [], ◌∷◌, ◌++◌, Some, drop, length, slice_get, slice_index_or, IfOk, OnOk};
+ghost use Rattle.lp_cert.specs.inside.Chains.{IsTail};
 
 use crate::reason::Reason;
 use std::alloc::{AllocError, Global};
@@ -14,6 +15,11 @@ pub(crate) struct ChainId(pub(crate) usize);
 pub(crate) struct Entry {
     pub(crate) reason: Reason,
     pub(crate) older: ChainId,
+    /// How many reasons there are with this one.
+    pub(crate) count: usize,
+    /// The older list or one further back. Without such jumps each step to the oldest reasons of a
+    /// long list would follow all of its links.
+    pub(crate) jump: ChainId,
 }
 
 /// Lists of reasons, the newest in front: the empty one, and others that are each an earlier one
@@ -26,14 +32,14 @@ pub(crate) struct Chains {
 }
 
 impl Model for Chains {
-    ghost use Rattle.std.specs.Prelude.{◌-◌, vec_len, vec_capacity};
+    ghost use Rattle.std.specs.Prelude.{◌-◌, [], ◌∷◌, vec_len, vec_capacity};
     ghost use Rattle.lp_cert.specs.inside.Chains.{Lists, lists_of, AreLinked};
 
     ghost Value = { Lists };
 
     ghost view = { λ c. record { lists = lists_of c.entries.items; room = vec_capacity c.entries - vec_len c.entries } };
 
-    ghost invariant = { λ c. AreLinked 1 c.entries.items };
+    ghost invariant = { λ c. AreLinked ([] ∷ []) c.entries.items };
 }
 
 impl Chains {
@@ -79,22 +85,28 @@ impl Chains {
         ensures id { result.0 ≡ length self.old.lists }
         ensures room { self.new.room + 1 ≡ self.old.room }
     {
-        self.entries.push_reserved(Entry { reason, older });
+        let count = self.count(older) + 1;
+        let jump = self.jump_behind(older);
+        self.entries.push_reserved(Entry {
+            reason,
+            older,
+            count,
+            jump,
+        });
         ChainId(self.entries.len())
     }
 
     /// How many reasons a list has.
     pub(crate) fn count(&self, id: ChainId) -> usize
         requires { id.0 < length self.now.lists }
-        ensures { result ≡ length (slice_index_or self.now.lists id.0 []) }
+        ensures all { result ≡ length (slice_index_or self.now.lists id.0 []) }
+        ensures few { result ≤ id.0 }
     {
-        let mut count = 0;
-        let mut at = id.0;
-        while at > 0 {
-            count += 1;
-            at = self.entries[at - 1].older.0;
+        let entries = &self.entries;
+        if id.0 == 0 {
+            return 0;
         }
-        count
+        entries[id.0 - 1].count
     }
 
     /// The newest reason of a list that isn't empty.
@@ -106,19 +118,59 @@ impl Chains {
         self.entries[id.0 - 1].reason
     }
 
-    /// A list without so many of its newest reasons.
+    /// A list without so many of its newest reasons, in some `log n` jumps where it has `n`.
     pub(crate) fn without(&self, id: ChainId, count: usize) -> ChainId
         requires known { id.0 < length self.now.lists }
         requires enough { count ≤ length (slice_index_or self.now.lists id.0 []) }
         ensures known { result.0 < length self.now.lists }
         ensures list { slice_index_or self.now.lists result.0 [] ≡ drop count (slice_index_or self.now.lists id.0 []) }
     {
-        let mut at = id.0;
-        let mut left = count;
-        while left > 0 {
-            left -= 1;
-            at = self.entries[at - 1].older.0;
+        let kept = self.count(id) - count;
+        let mut at = id;
+        while self.count(at) > kept {
+            at = self.further(at, kept);
         }
-        ChainId(at)
+        at
+    }
+
+    /// A list further back that still has so many reasons, as far as one link leads.
+    #[inline(always)]
+    fn further(&self, id: ChainId, kept: usize) -> ChainId
+        requires known { id.0 < length self.now.lists }
+        requires more { kept < length (slice_index_or self.now.lists id.0 []) }
+        ensures before { result.0 < id.0 }
+        ensures tail { IsTail (slice_index_or self.now.lists result.0 []) (slice_index_or self.now.lists id.0 []) }
+        ensures enough { kept ≤ length (slice_index_or self.now.lists result.0 []) }
+    {
+        let Entry { older, jump, .. } = self.entries[id.0 - 1];
+        if self.count(jump) < kept { older } else { jump }
+    }
+
+    /// Where a list that has this one as its older part jumps to: as far again as the last two jumps
+    /// from here where those are of one length, and here else.
+    fn jump_behind(&self, older: ChainId) -> ChainId
+        requires { older.0 < length self.now.lists }
+        ensures known { result.0 < length self.now.lists }
+        ensures tail { IsTail (slice_index_or self.now.lists result.0 []) (slice_index_or self.now.lists older.0 []) }
+    {
+        let near = self.jump(older);
+        let far = self.jump(near);
+        if self.count(older) - self.count(near) == self.count(near) - self.count(far) {
+            far
+        } else {
+            older
+        }
+    }
+
+    /// Where a list jumps to; the empty one stays where it is.
+    fn jump(&self, id: ChainId) -> ChainId
+        requires { id.0 < length self.now.lists }
+        ensures known { result.0 < length self.now.lists }
+        ensures tail { IsTail (slice_index_or self.now.lists result.0 []) (slice_index_or self.now.lists id.0 []) }
+    {
+        if id.0 == 0 {
+            return id;
+        }
+        self.entries[id.0 - 1].jump
     }
 }

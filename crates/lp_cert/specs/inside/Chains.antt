@@ -1,5 +1,5 @@
 -- Lists of reasons that share their older parts.
-use Rattle.std.specs.Prelude.{ℕ, suc, ◌<◌, List, [], ◌∷◌, ◌++◌, slice_index_or}
+use Rattle.std.specs.Prelude.{◌≡◌, ℕ, suc, ◌-◌, ◌<◌, ◌≤◌, List, [], ◌∷◌, ◌++◌, drop, length, slice_index_or}
 use Rattle.std.specs.List.{fold}
 use Rattle.lp_cert.specs.declared.reason.Reason.{Reason}
 use Rattle.lp_cert.specs.declared.chains.Entry.{Entry}
@@ -17,7 +17,20 @@ with_entry lists entry = lists ++ (entry.reason ∷ slice_index_or lists entry.o
 unfoldable pub lists_of : List Entry → List (List Reason)
 lists_of entries = fold with_entry ([] ∷ []) entries
 
--- each entry stands in front of an earlier list, where so many are there before the first entry
-abbrev pub AreLinked : ℕ → List Entry → Type 0
-AreLinked known [] = Unit {0}
-AreLinked known (entry ∷ entries) = (entry.older.0 < known) × AreLinked (suc known) entries
+-- a list is the other without some of its newest reasons
+pub record IsTail (tail list : List Reason) : Type 0 where
+  pub shorter : length tail ≤ length list
+  pub rest : tail ≡ drop (length list - length tail) list
+
+-- an entry stands in front of one of the lists before it, counts its reasons, and jumps to that list or further back
+pub record IsLinked (lists : List (List Reason)) (before : ℕ) (entry : Entry) : Type 0 where
+  pub older : entry.older.0 < before
+  pub count : entry.count ≡ suc (length (slice_index_or lists entry.older.0 []))
+  pub few : entry.count ≤ before
+  pub jump : entry.jump.0 < before
+  pub tail : IsTail (slice_index_or lists entry.jump.0 []) (slice_index_or lists entry.older.0 [])
+
+-- each entry is linked to the lists before it, where these are there before the first entry
+abbrev pub AreLinked : List (List Reason) → List Entry → Type 0
+AreLinked lists [] = Unit {0}
+AreLinked lists (entry ∷ entries) = IsLinked lists (length lists) entry × AreLinked (with_entry lists entry) entries

@@ -1,4 +1,4 @@
-use Rattle.std.proofs.Common.{◌≡◌, ◌+◌, ◌<◌, suc, length, arith}
+use Rattle.std.proofs.Common.{◌≡◌, ◌+◌, suc, length, arith}
 use Rattle.lp_cert.specs.declared.chains.Entry.{Entry}
 use Rattle.lp_cert.proofs.ChainLemmas.{lists_of-length, lists_of-push, AreLinked-push}
 use Rattle.lp_cert.proofs.chains.Chains.push.Goals as goal
@@ -6,16 +6,28 @@ use Rattle.lp_cert.proofs.chains.Chains.push.Goals as goal
 count : (c : goal.After-len) → length c.args.self.now.lists ≡ suc (length c.self.inside.entries.items)
 count c = rw (← c.self.view_is) (lists_of-length c.self.inside.entries.items)
 
+pub overflow_add-count : goal.overflow_add-count
+overflow_add-count c =
+    let known = rw (← c.self.view_is) at c.requires.known in
+    omega (arith, known, lists_of-length c.self.inside.entries.items, c.self.inside.entries.ok, c.count-count.ensures.few)
+
 pub invariant_of-self : goal.invariant_of-self
 invariant_of-self c =
     let entries = c.self.inside.entries.items in
-    let entry : Entry = record { reason = c.args.reason; older = c.args.older } in
-    let older : c.args.older.0 < 1 + length entries = omega (arith, count c) in
-    rw c.push_reserved.ensures.items (AreLinked-push 1 entries entry c.self.invariant older)
+    let entry : Entry = record { reason = c.args.reason; older = c.args.older; count = c.count-count.result + 1; jump = c.jump_behind-jump.result } in
+    let known = rw (← c.self.view_is) at c.requires.known in
+    let all = rw (← c.self.view_is) at c.count-count.ensures.all in
+    rw c.push_reserved.ensures.items (AreLinked-push entries entry c.self.invariant (record {
+      older = known;
+      count = omega (arith, all);
+      few = omega (arith, c.count-count.ensures.few);
+      jump = rw (← c.self.view_is) at c.jump_behind-jump.ensures.known;
+      tail = rw (← c.self.view_is) at c.jump_behind-jump.ensures.tail;
+    }))
 
 pub returns-clause-lists : goal.returns-clause-lists
 returns-clause-lists c =
-    let entry : Entry = record { reason = c.args.reason; older = c.args.older } in
+    let entry : Entry = record { reason = c.args.reason; older = c.args.older; count = c.count-count.result + 1; jump = c.jump_behind-jump.result } in
     rw (c.push_reserved.ensures.items, ← c.self.view_is) (lists_of-push c.self.inside.entries.items entry)
 
 pub returns-clause-id : goal.returns-clause-id

@@ -1,13 +1,14 @@
-use Rattle.std.proofs.Common.{◌≡◌, ◌-◌, ◌<◌, ◌≤◌, [], drop, length, slice_index_or}
+use Rattle.std.proofs.Common.{◌<◌, ◌≤◌, [], length, slice_index_or}
+use Rattle.lp_cert.specs.inside.Chains.{IsTail}
 use Rattle.lp_cert.proofs.chains.Chains.without.Given as goal
 
--- the list from the present place on is without what was passed
-abbrev pub invariant-loop-left : goal.invariant-loop-left
-invariant-loop-left l = record {
-  known : l.at < length l.self.lists;
-  fewer : l.left ≤ l.fn.count;
-  rest : slice_index_or l.self.lists l.at [] ≡ drop (l.fn.count - l.left) (slice_index_or l.self.lists l.fn.id.0 []);
+-- the present list is without some of the newest reasons, and has enough
+abbrev pub invariant-loop-at : goal.invariant-loop-at
+invariant-loop-at l = record {
+  known : l.at.0 < length l.self.lists;
+  tail : IsTail (slice_index_or l.self.lists l.at.0 []) (slice_index_or l.self.lists l.fn.id.0 []);
+  enough : l.kept ≤ length (slice_index_or l.self.lists l.at.0 []);
 }
 
-abbrev pub decreases-loop-left : goal.decreases-loop-left
-decreases-loop-left l = l.left
+abbrev pub decreases-loop-at : goal.decreases-loop-at
+decreases-loop-at l = l.at.0
