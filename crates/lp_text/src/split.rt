@@ -10,6 +10,9 @@ use crate::fault::{Cause, LineFault};
 use crate::number::number_of;
 use memchr::memchr;
 
+/// How many bytes a line has at most whose words are cut byte by byte.
+const SHORT_LINE: usize = 32;
+
 /// What stands before the first place of a byte, and what stands after it, if there is such a place.
 #[inline(always)]
 pub(crate) fn cut(byte: u8, text: &[u8]) -> (&[u8], Option<&[u8]>)
@@ -23,8 +26,7 @@ pub(crate) fn cut(byte: u8, text: &[u8]) -> (&[u8], Option<&[u8]>)
     }
 }
 
-/// What stands before the first space, and what stands after it, if there is one. The same as `cut`
-/// for words, which are short.
+/// What stands before the first space, and what stands after it, if there is one.
 #[inline(always)]
 pub(crate) fn cut_word(line: &[u8]) -> (&[u8], Option<&[u8]>)
     ensures parts { parts 32 line.now ≡ result.0.now ∷ parts_left 32 (option_copied result.1) }
@@ -36,11 +38,15 @@ pub(crate) fn cut_word(line: &[u8]) -> (&[u8], Option<&[u8]>)
     }
 }
 
-/// The place of the first space.
+/// The place of the first space. `memchr` costs more than a loop on a short line, and far less on a name of
+/// hundreds of bytes.
 #[inline(always)]
 fn first_space(line: &[u8]) -> Option<usize>
     ensures { IsFirstByte (is_byte 32) line.now result }
 {
+    if line.len() > SHORT_LINE {
+        return memchr(b' ', line);
+    }
     line.iter().position(|byte| *byte == b' ')
 }
 
