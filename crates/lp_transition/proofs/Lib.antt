@@ -46,5 +46,6 @@ pub mod OwnGroups
 pub mod ScanAnswers
 pub mod ScanSwitches
 pub mod ScanTakes
+pub mod Unchanged
 pub mod BootLemmas
 pub mod OpeningLemmas

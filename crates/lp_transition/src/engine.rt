@@ -22,6 +22,7 @@ mod scan;
 mod step;
 mod take;
 mod task_table;
+mod unchanged;
 mod weigh;
 
 pub use boot::BootFault;
@@ -34,6 +35,7 @@ pub use opening::Opening;
 use std::marker::Model;
 pub use step::{Halt, Step};
 use task_table::TaskTable;
+use unchanged::Unchanged;
 
 /// The most events that are numbered.
 pub const MOST_EVENTS: u32 = 1_000_000;
@@ -54,17 +56,18 @@ pub struct Core<M: Consistency> {
     waiting: NumberSet,
     /// For each group, how many live members it has.
     members: Vec<u32>,
+    unchanged: Unchanged,
 }
 
 impl<M: Consistency> Model for Core<M> {
     ghost use Rattle.lp_transition.specs.Table.{Engine};
-    ghost use Rattle.lp_transition.specs.inside.Invariant.{IsEngine};
+    ghost use Rattle.lp_transition.specs.inside.Invariant.{IsCore};
 
     ghost Value = { Engine };
 
     ghost view = { λ c. record { number = c.events; from = c.from.0; target = c.target.0; patches = c.patches; table = c.tasks } };
 
-    ghost invariant = { λ c. IsEngine (record { number = c.events; from = c.from.0; target = c.target.0; patches = c.patches; table = c.tasks }) c.waiting c.members.items };
+    ghost invariant = { λ c. IsCore M.rules (record { number = c.events; from = c.from.0; target = c.target.0; patches = c.patches; table = c.tasks }) c.waiting c.members.items c.unchanged };
 }
 
 impl<M: Consistency> Core<M> {

@@ -10,6 +10,7 @@ ghost use Rattle.lp_transition.specs.declared.engine.boot.BootFault.TheVariants.
 use super::Core;
 use super::live_task::LiveTask;
 use super::task_table::TaskTable;
+use super::unchanged::Unchanged;
 use lp_model::Consistency;
 use lp_numbers::{NUMBERS, NumberSet};
 use lp_patch::PatchStack;
@@ -77,6 +78,7 @@ impl<M: Consistency> Core<M> {
             tasks: table,
             waiting: NumberSet::new(alloc)?,
             members,
+            unchanged: Unchanged::new(alloc)?,
         })
     }
 }

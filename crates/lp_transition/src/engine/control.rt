@@ -84,6 +84,7 @@ impl<M: Consistency> Core<M> {
         self.from = self.target;
         self.target = level;
         collect_off(&self.tasks, &mut self.waiting, level);
+        self.unchanged.reset();
     }
 
     /// Why the turning of the transition is refused.

@@ -6,7 +6,7 @@ ghost use Rattle.lp_patch.specs.Aimed.{aimed};
 ghost use Rattle.lp_transition.specs.declared.engine.step.Halt.TheVariants.{NoMemory, JournalFull};
 ghost use Rattle.lp_transition.specs.Events.{is_scan};
 ghost use Rattle.lp_transition.specs.Scan.{is_scan_kind, scan_event, verdict_of, verdicts_of, verdicts_used};
-ghost use Rattle.lp_transition.specs.Steps.{IsStep};
+ghost use Rattle.lp_transition.specs.Steps.{IsReply, IsStep};
 ghost use Rattle.lp_transition.specs.Table.{state_in};
 ghost use Rattle.lp_transition.specs.Weigh.{IsWeighed, born_of, is_switched, may_allocate, refusal_in, verdicts_for};
 ghost use Rattle.lp_transition.specs.Machine.{refusal_of, answer, next};
@@ -53,7 +53,7 @@ impl<M: Consistency> Core<M> {
         ensures step { IfOk result (λ reply. IsStep M.rules (state_in self.old) event reply (state_in self.new)) }
         ensures unchanged { OnErr result (self.new ≡ self.old) }
     {
-        let step = self.weigh_any(alloc, event)?;
+        let step = self.weigh_changed(alloc, event)?;
         Ok(self.take(step))
     }
 
@@ -122,9 +122,10 @@ impl<M: Consistency> Core<M> {
 
     /// A walk or a stop, weighed after a look at every waiting task, or at none where the model
     /// doesn't use the check.
-    fn weigh_check(&self, alloc: Global, kind: CheckKind) -> Result<Step, Halt>
+    pub(super) fn weigh_check(&self, alloc: Global, kind: CheckKind) -> Result<Step, Halt>
         requires scan { is_scan_kind kind ≡ true }
         ensures full { (result ≡ Err JournalFull) ↔ (1000000 ≤ self.now.number) }
+        ensures reply { IfOk result (λ step. IsReply M.rules (state_in self.now) (scan_event kind) step.reply) }
         ensures weighed { IfOk result (λ step. IsWeighed M.rules self.now step) }
         ensures event { IfOk result (λ step. step.event ≡ scan_event kind) }
         ensures verdicts { IfOk result (λ step. step.verdicts ≡ verdicts_used M.rules kind (state_in self.now)) }
@@ -133,12 +134,12 @@ impl<M: Consistency> Core<M> {
             return Err(Halt::JournalFull);
         }
         if !self.model.uses(kind) {
-            return self.weigh_found(alloc, kind, &[]);
+            return self.weigh_found(alloc, kind, Vec::new(alloc));
         }
         let views = self.views(alloc)?;
         let aim = self.aim();
-        let verdicts = verdicts(alloc, &self.model, kind, views.as_slice(), &aim)?;
-        self.weigh_scan(alloc, kind, verdicts.as_slice())
+        let found = verdicts(alloc, &self.model, kind, views.as_slice(), &aim)?;
+        self.weigh_found(alloc, kind, found)
     }
 
     /// It takes a number too: else the numbers of a run's events would depend on its replies.

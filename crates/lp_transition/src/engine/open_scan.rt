@@ -5,23 +5,56 @@ ghost use Rattle.std.specs.List.{filter, list_any};
 ghost use Rattle.lp_stack.specs.TaskView.{seen};
 ghost use Rattle.lp_numbers.specs.Numbers.{has};
 ghost use Rattle.lp_transition.specs.Table.{slot, state_in};
-ghost use Rattle.lp_transition.specs.Weigh.{IsWeighed};
+ghost use Rattle.lp_transition.specs.Weigh.{IsWeighed, may_allocate};
 ghost use Rattle.lp_transition.specs.Steps.{IsReply};
 ghost use Rattle.lp_transition.specs.Scan.{is_asked, is_scan_kind, scan_event, MayLeaveOut, passing, verdicts_among, views_of};
 ghost use Rattle.lp_transition.specs.inside.ScanSteps.{IsOwnGroup, task_switches, tasks_of};
-ghost use Rattle.lp_transition.specs.declared.engine.step.Halt.TheVariants.{JournalFull};
+ghost use Rattle.lp_transition.specs.declared.engine.step.Halt.TheVariants.{NoMemory, JournalFull};
+ghost use Rattle.lp_transition.specs.Machine.{answer};
 
 use super::dispatch::verdicts;
 use super::scan::{member_from, views_in};
 use super::step::{Halt, Step};
 use super::task_table::TaskTable;
 use super::{Core, MOST_EVENTS};
+use crate::Event;
 use lp_model::{CheckKind, Consistency, Verdict};
 use lp_numbers::NumberSet;
 use lp_stack::{TaskId, View};
 use std::alloc::{AllocError, Global};
 
 impl<M: Consistency> Core<M> {
+    /// Any event, weighed; a walk or a stop after a look at the waiting tasks alone whose groups
+    /// changed since the last scan of the leg, if that was of this kind. Makes each allocation that
+    /// `take` needs: NoMemory where one failed, JournalFull where no event is left.
+    pub fn weigh_changed(&self, alloc: Global, event: Event) -> Result<Step, Halt>
+        ensures full { (result ≡ Err JournalFull) ↔ (1000000 ≤ self.now.number) }
+        ensures memory { result ≡ Err NoMemory → IsTrue (may_allocate event (answer M.rules (state_in self.now) event).what) }
+        ensures reply { IfOk result (λ step. IsReply M.rules (state_in self.now) event step.reply) }
+        ensures weighed { IfOk result (λ step. IsWeighed M.rules self.now step) }
+        ensures event { IfOk result (λ step. step.event ≡ event) }
+    {
+        match event {
+            Event::Walk => self.weigh_changed_scan(alloc, CheckKind::Walk),
+            Event::Stop => self.weigh_changed_scan(alloc, CheckKind::Stop),
+            _ => self.weigh(alloc, event),
+        }
+    }
+
+    /// After the first scan of a leg a further one costs what changed, and not what waits.
+    fn weigh_changed_scan(&self, alloc: Global, kind: CheckKind) -> Result<Step, Halt>
+        requires scan { is_scan_kind kind ≡ true }
+        ensures full { (result ≡ Err JournalFull) ↔ (1000000 ≤ self.now.number) }
+        ensures reply { IfOk result (λ step. IsReply M.rules (state_in self.now) (scan_event kind) step.reply) }
+        ensures weighed { IfOk result (λ step. IsWeighed M.rules self.now step) }
+        ensures event { IfOk result (λ step. step.event ≡ scan_event kind) }
+    {
+        match self.unchanged.asked(kind) {
+            Some(asked) => self.weigh_asked(alloc, kind, asked),
+            None => self.weigh_check(alloc, kind),
+        }
+    }
+
     /// A walk or a stop, weighed after a look at the waiting tasks of some groups alone: of each of
     /// the others that waits it would refuse a member. NoMemory where an allocation failed,
     /// JournalFull where no event is left.
@@ -45,7 +78,7 @@ impl<M: Consistency> Core<M> {
         let views = self.asked_views(alloc, asked)?;
         let aim = self.aim();
         let found = verdicts(alloc, &self.model, kind, views.as_slice(), &aim)?;
-        self.weigh_found(alloc, kind, found.as_slice())
+        self.weigh_found(alloc, kind, found)
     }
 
     /// The waiting tasks of some groups as checks see them, by increasing number.

@@ -77,12 +77,14 @@ impl<M: Consistency> Core<M> {
         ensures { state_in self.new ≡ next M.rules (state_in self.old) (point_event kind task) }
     {
         self.events += 1;
+        self.unchanged.touch(&self.tasks, task);
         self.tasks.reach_point(kind, task);
         if !switching {
             return;
         }
         self.waiting.remove(task.0);
         self.tasks.set_level(task, self.target);
+        self.unchanged.reset_if_done(&self.waiting);
     }
 }
 

@@ -61,7 +61,11 @@ impl<M: Consistency> Core<M> {
         ensures event { IfOk result (λ step. step.event ≡ scan_event kind) }
         ensures verdicts { IfOk result (λ step. step.verdicts ≡ verdicts.now) }
     {
-        self.weigh_found(alloc, kind, verdicts)
+        if self.events >= MOST_EVENTS {
+            return Err(Halt::JournalFull);
+        }
+        let copied = Vec::from_slice(alloc, verdicts)?;
+        self.weigh_found(alloc, kind, copied)
     }
 
     /// Shared by scans that look at all and scans that leave out whom they would only refuse again.
@@ -69,26 +73,25 @@ impl<M: Consistency> Core<M> {
         &self,
         alloc: Global,
         kind: CheckKind,
-        verdicts: &[Verdict],
+        verdicts: Vec<Verdict>,
     ) -> Result<Step, Halt>
         requires scan { is_scan_kind kind ≡ true }
-        requires found { AreEnough M.rules kind (state_in self.now) verdicts.now }
+        requires found { AreEnough M.rules kind (state_in self.now) verdicts.items }
         ensures full { (result ≡ Err JournalFull) ↔ (1000000 ≤ self.now.number) }
         ensures reply { IfOk result (λ step. IsReply M.rules (state_in self.now) (scan_event kind) step.reply) }
         ensures weighed { IfOk result (λ step. IsWeighed M.rules self.now step) }
         ensures event { IfOk result (λ step. step.event ≡ scan_event kind) }
-        ensures verdicts { IfOk result (λ step. step.verdicts ≡ verdicts.now) }
+        ensures verdicts { IfOk result (λ step. step.verdicts ≡ verdicts.items) }
     {
         if self.events >= MOST_EVENTS {
             return Err(Halt::JournalFull);
         }
-        let (what, switching) = scanned(alloc, &self.tasks, verdicts)?;
-        let copied = Vec::from_slice(alloc, verdicts)?;
+        let (what, switching) = scanned(alloc, &self.tasks, verdicts.as_slice())?;
         let reply = Reply {
             what,
-            completed: completes(&self.waiting, verdicts),
+            completed: completes(&self.waiting, verdicts.as_slice()),
         };
-        Ok(Step::scan(scan_event(kind), reply, copied, switching))
+        Ok(Step::scan(scan_event(kind), reply, verdicts, switching))
     }
 
     /// Takes a walk or a stop that was weighed on this engine: the groups that switch do so. Never
@@ -106,6 +109,10 @@ impl<M: Consistency> Core<M> {
             step.switching(),
             self.target,
         );
+        let kind = scan_kind(step.event());
+        let is_used = self.model.uses(kind);
+        self.unchanged.scanned(kind, is_used);
+        self.unchanged.reset_if_done(&self.waiting);
     }
 }
 
@@ -170,6 +177,18 @@ fn scan_event(kind: CheckKind) -> Event
     match kind {
         CheckKind::Stop => Event::Stop,
         _ => Event::Walk,
+    }
+}
+
+/// The kind of check that a scan is.
+fn scan_kind(event: Event) -> CheckKind
+    requires { is_scan event ≡ true }
+    ensures scan { is_scan_kind result ≡ true }
+    ensures event { scan_event result ≡ event }
+{
+    match event {
+        Event::Stop => CheckKind::Stop,
+        _ => CheckKind::Walk,
     }
 }
 
@@ -255,7 +274,7 @@ pub(super) fn groups_in(
 }
 
 /// Takes in the group of a live task.
-fn add_group(groups: &mut NumberSet, tasks: &TaskTable, task: TaskId)
+pub(super) fn add_group(groups: &mut NumberSet, tasks: &TaskTable, task: TaskId)
     ensures { (group : ℕ) → has groups.new group ≡ (has groups.old group || is_in group (slot tasks.now task.0)) }
 {
     if let Some(live) = tasks.get(task) {

@@ -22,6 +22,7 @@ impl<M: Consistency> Core<M> {
         ensures { state_in self.new ≡ next M.rules (state_in self.old) (Event.Call task func) }
     {
         self.events += 1;
+        self.unchanged.touch(&self.tasks, task);
         self.tasks.call(task, func, self.events);
     }
 
@@ -33,6 +34,7 @@ impl<M: Consistency> Core<M> {
         ensures { state_in self.new ≡ next M.rules (state_in self.old) (Event.Ret task) }
     {
         self.events += 1;
+        self.unchanged.touch(&self.tasks, task);
         self.tasks.ret(task);
     }
 
@@ -44,6 +46,7 @@ impl<M: Consistency> Core<M> {
         ensures { state_in self.new ≡ next M.rules (state_in self.old) (Event.Sleep task) }
     {
         self.events += 1;
+        self.unchanged.touch(&self.tasks, task);
         self.tasks.set_mode(task, Mode::Asleep);
     }
 
@@ -55,6 +58,7 @@ impl<M: Consistency> Core<M> {
         ensures { state_in self.new ≡ next M.rules (state_in self.old) (Event.Wake task) }
     {
         self.events += 1;
+        self.unchanged.touch(&self.tasks, task);
         self.tasks.set_mode(task, Mode::Kernel);
     }
 
@@ -66,6 +70,7 @@ impl<M: Consistency> Core<M> {
         ensures { state_in self.new ≡ next M.rules (state_in self.old) (Event.Enter task) }
     {
         self.events += 1;
+        self.unchanged.touch(&self.tasks, task);
         self.tasks.set_mode(task, Mode::Kernel);
     }
 
@@ -88,6 +93,7 @@ impl<M: Consistency> Core<M> {
         self.members[group] += 1;
         put_number(&mut self.waiting, child.0, waits);
         self.tasks.put(child, live);
+        self.unchanged.touch(&self.tasks, child);
     }
 
     /// The number stays used: a name that meant two tasks would make certificates ambiguous.
@@ -100,6 +106,8 @@ impl<M: Consistency> Core<M> {
         self.events += 1;
         self.members[group] -= 1;
         self.waiting.remove(task.0);
+        self.unchanged.touch(&self.tasks, task);
         self.tasks.remove(task);
+        self.unchanged.reset_if_done(&self.waiting);
     }
 }

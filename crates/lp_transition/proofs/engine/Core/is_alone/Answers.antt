@@ -14,8 +14,8 @@ returns-in-Some g c = λ x there.
     let group : c.from.result ≡ x.group = c.from.ensures ∙ c.group.ensures ∙ ap (λ (y : Standing). y.group) is in
     let small : c.from.result < 65536 = omega arith in
     let within : x.group < 65536 = omega (arith, group, small) in
-    let wide : c.from.result < length i.members.items = omega (arith, c.self.invariant.groups, small) in
+    let wide : c.from.result < length i.members.items = omega (arith, c.self.invariant.engine.groups, small) in
     let number : c.index.result.now ≡ get_or i.members.items x.group 0 = value_at i.members.items c.from.result c.index.result.now wide c.index.ensures ∙ ap (λ k. get_or i.members.items k 0) group in
     let e : Engine = record { number = i.events; from = i.from.0; target = i.target.0; patches = i.patches; table = i.tasks } in
     rw (← c.self.view_is)
-    (alone-told e.table e.patches c.self.invariant.wide (slot-zero e c.self.invariant.sound) x.group c.args.task.0 (record { task = x; there = at; grouped = refl }) c.index.result.now (number ∙ c.self.invariant.counted x.group within))
+    (alone-told e.table e.patches c.self.invariant.engine.wide (slot-zero e c.self.invariant.engine.sound) x.group c.args.task.0 (record { task = x; there = at; grouped = refl }) c.index.result.now (number ∙ c.self.invariant.engine.counted x.group within))

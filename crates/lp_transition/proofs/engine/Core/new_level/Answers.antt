@@ -8,5 +8,5 @@ returns-in-Enable-clause-fits g c =
     let accepted = rw (c.in-Enable.is, ← c.self.view_is) at c.requires.accepted in
     let other = enable-below g.M.Consistency.rules (record { number = i.events; from = i.from.0; target = i.target.0; patches = i.patches; table = i.tasks }) accepted in
     let most = c.patches-most.ensures.value in
-    let fits = c.self.invariant.target_fits in
+    let fits = c.self.invariant.engine.target_fits in
     rw (← c.self.view_is) (omega (arith, other, most, fits, c.min.ensures))

@@ -1,10 +1,11 @@
 use Rattle.std.proofs.Common.{◌<◌, ◌+◌, refl, ap, sym, add-one, arith}
 use Rattle.lp_transition.specs.declared.event.Event.TheVariants.{Call}
 use Rattle.lp_transition.specs.Tasks.{change}
-use Rattle.lp_transition.specs.Table.{standings}
+use Rattle.lp_transition.specs.Table.{Engine, standings}
 use Rattle.lp_transition.specs.Machine.{calling}
 use Rattle.lp_transition.proofs.Accept.{call-room}
 use Rattle.lp_transition.proofs.Effects.{takes_change}
+use Rattle.lp_transition.proofs.Unchanged.{core_changes}
 use Rattle.lp_transition.proofs.engine.Core.take_call.Goals as goal
 
 pub call-requires : goal.call-requires
@@ -16,10 +17,13 @@ pub invariant_of-self : goal.invariant_of-self
 invariant_of-self g c =
     let h : c.args.task.0 < 65536 = omega arith in
     let i = c.self.inside in
-    (takes_change g.M.Consistency.rules g.met.M.Consistency.lawful (record { number = i.events; from = i.from.0; target = i.target.0; patches = i.patches; table = i.tasks }) c.args.self.now c.call.new.self i.waiting i.members.items (Call c.args.task c.args.func) c.args.task.0 (calling (i.events + 1) c.args.func) c.self.view_is c.call.ensures c.self.invariant h c.requires.room refl c.requires.accepted (ap (λ n. change c.args.task.0 (calling n c.args.func) (standings i.tasks)) (sym (add-one i.events))) (λ x. refl) (λ x. refl)).kept
+    let e : Engine = record { number = i.events; from = i.from.0; target = i.target.0; patches = i.patches; table = i.tasks } in
+    core_changes g.M.Consistency.rules e c.args.self.now _ i.waiting i.waiting i.members.items i.members.items (Call c.args.task c.args.func) i.unchanged c.touch.new.self c.self.view_is c.self.invariant
+    (takes_change g.M.Consistency.rules g.met.M.Consistency.lawful (record { number = i.events; from = i.from.0; target = i.target.0; patches = i.patches; table = i.tasks }) c.args.self.now c.call.new.self i.waiting i.members.items (Call c.args.task c.args.func) c.args.task.0 (calling (i.events + 1) c.args.func) c.self.view_is c.call.ensures c.self.invariant.engine h c.requires.room refl c.requires.accepted (ap (λ n. change c.args.task.0 (calling n c.args.func) (standings i.tasks)) (sym (add-one i.events))) (λ x. refl) (λ x. refl))
+    c.requires.accepted c.touch.ensures.kind c.args.task.0 (calling (i.events + 1) c.args.func) refl c.touch.ensures.changed (λ t. refl) (ap (λ n. change c.args.task.0 (calling n c.args.func) (standings i.tasks)) (sym (add-one i.events))) (λ x. refl)
 
 pub returns : goal.returns
 returns g c =
     let h : c.args.task.0 < 65536 = omega arith in
     let i = c.self.inside in
-    (takes_change g.M.Consistency.rules g.met.M.Consistency.lawful (record { number = i.events; from = i.from.0; target = i.target.0; patches = i.patches; table = i.tasks }) c.args.self.now c.call.new.self i.waiting i.members.items (Call c.args.task c.args.func) c.args.task.0 (calling (i.events + 1) c.args.func) c.self.view_is c.call.ensures c.self.invariant h c.requires.room refl c.requires.accepted (ap (λ n. change c.args.task.0 (calling n c.args.func) (standings i.tasks)) (sym (add-one i.events))) (λ x. refl) (λ x. refl)).state
+    (takes_change g.M.Consistency.rules g.met.M.Consistency.lawful (record { number = i.events; from = i.from.0; target = i.target.0; patches = i.patches; table = i.tasks }) c.args.self.now c.call.new.self i.waiting i.members.items (Call c.args.task c.args.func) c.args.task.0 (calling (i.events + 1) c.args.func) c.self.view_is c.call.ensures c.self.invariant.engine h c.requires.room refl c.requires.accepted (ap (λ n. change c.args.task.0 (calling n c.args.func) (standings i.tasks)) (sym (add-one i.events))) (λ x. refl) (λ x. refl)).state

@@ -1,17 +1,22 @@
 use Rattle.std.proofs.Common.{refl, ◌<◌, arith}
 use Rattle.lp_transition.specs.declared.event.Event.TheVariants.{Ret}
 use Rattle.lp_transition.specs.Machine.{returning}
+use Rattle.lp_transition.specs.Table.{Engine}
 use Rattle.lp_transition.proofs.Effects.{takes_change}
+use Rattle.lp_transition.proofs.Unchanged.{core_changes}
 use Rattle.lp_transition.proofs.engine.Core.take_ret.Goals as goal
 
 pub invariant_of-self : goal.invariant_of-self
 invariant_of-self g c =
     let h : c.args.task.0 < 65536 = omega arith in
     let i = c.self.inside in
-    (takes_change g.M.Consistency.rules g.met.M.Consistency.lawful (record { number = i.events; from = i.from.0; target = i.target.0; patches = i.patches; table = i.tasks }) c.args.self.now c.ret.new.self i.waiting i.members.items (Ret c.args.task) c.args.task.0 returning c.self.view_is c.ret.ensures c.self.invariant h c.requires.room refl c.requires.accepted refl (λ x. refl) (λ x. refl)).kept
+    let e : Engine = record { number = i.events; from = i.from.0; target = i.target.0; patches = i.patches; table = i.tasks } in
+    core_changes g.M.Consistency.rules e c.args.self.now _ i.waiting i.waiting i.members.items i.members.items (Ret c.args.task) i.unchanged c.touch.new.self c.self.view_is c.self.invariant
+    (takes_change g.M.Consistency.rules g.met.M.Consistency.lawful (record { number = i.events; from = i.from.0; target = i.target.0; patches = i.patches; table = i.tasks }) c.args.self.now c.ret.new.self i.waiting i.members.items (Ret c.args.task) c.args.task.0 returning c.self.view_is c.ret.ensures c.self.invariant.engine h c.requires.room refl c.requires.accepted refl (λ x. refl) (λ x. refl))
+    c.requires.accepted c.touch.ensures.kind c.args.task.0 returning refl c.touch.ensures.changed (λ t. refl) refl (λ x. refl)
 
 pub returns : goal.returns
 returns g c =
     let h : c.args.task.0 < 65536 = omega arith in
     let i = c.self.inside in
-    (takes_change g.M.Consistency.rules g.met.M.Consistency.lawful (record { number = i.events; from = i.from.0; target = i.target.0; patches = i.patches; table = i.tasks }) c.args.self.now c.ret.new.self i.waiting i.members.items (Ret c.args.task) c.args.task.0 returning c.self.view_is c.ret.ensures c.self.invariant h c.requires.room refl c.requires.accepted refl (λ x. refl) (λ x. refl)).state
+    (takes_change g.M.Consistency.rules g.met.M.Consistency.lawful (record { number = i.events; from = i.from.0; target = i.target.0; patches = i.patches; table = i.tasks }) c.args.self.now c.ret.new.self i.waiting i.members.items (Ret c.args.task) c.args.task.0 returning c.self.view_is c.ret.ensures c.self.invariant.engine h c.requires.room refl c.requires.accepted refl (λ x. refl) (λ x. refl)).state

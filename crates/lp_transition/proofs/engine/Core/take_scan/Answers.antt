@@ -1,15 +1,22 @@
-use Rattle.std.proofs.Common.{option_copied}
+use Rattle.std.proofs.Common.{option_copied, ◌∙◌}
 use Rattle.lp_transition.proofs.ScanTakes.{takes_scan}
+use Rattle.lp_transition.specs.Table.{Engine}
+use Rattle.lp_transition.proofs.Unchanged.{core_rests, core_scanned}
 use Rattle.lp_transition.proofs.engine.Core.take_scan.Goals as goal
 
 pub invariant_of-self : goal.invariant_of-self
 invariant_of-self g c =
     let i = c.self.inside in
     let are_switched = rw c.verdicts.ensures at c.switch_groups.ensures in
-    (takes_scan g.M.Consistency.rules g.met.M.Consistency.lawful (record { number = i.events; from = i.from.0; target = i.target.0; patches = i.patches; table = i.tasks }) c.args.self.now c.switch_groups.new.tasks i.waiting c.switch_groups.new.waiting i.members.items c.args.step.now (option_copied c.switching.result) c.self.view_is c.self.invariant c.requires.weighed c.requires.scan c.switching.ensures are_switched).kept
+    let e : Engine = record { number = i.events; from = i.from.0; target = i.target.0; patches = i.patches; table = i.tasks } in
+    core_rests g.M.Consistency.rules _ c.switch_groups.new.waiting _ c.scanned.new.self c.reset_if_done.new.self
+    (core_scanned g.M.Consistency.rules g.met.M.Consistency.lawful e c.args.self.now _ i.waiting c.switch_groups.new.waiting i.members.items _ c.args.step.now.event i.unchanged c.scanned.new.self c.self.view_is c.self.invariant
+    (takes_scan g.M.Consistency.rules g.met.M.Consistency.lawful (record { number = i.events; from = i.from.0; target = i.target.0; patches = i.patches; table = i.tasks }) c.args.self.now c.switch_groups.new.tasks i.waiting c.switch_groups.new.waiting i.members.items c.args.step.now (option_copied c.switching.result) c.self.view_is c.self.invariant.engine c.requires.weighed c.requires.scan c.switching.ensures are_switched)
+    c.scan_kind-kind.result c.scan_kind-kind.ensures.scan (c.scan_kind-kind.ensures.event ∙ c.event.ensures) c.scanned.ensures)
+    c.reset_if_done.ensures
 
 pub returns : goal.returns
 returns g c =
     let i = c.self.inside in
     let are_switched = rw c.verdicts.ensures at c.switch_groups.ensures in
-    (takes_scan g.M.Consistency.rules g.met.M.Consistency.lawful (record { number = i.events; from = i.from.0; target = i.target.0; patches = i.patches; table = i.tasks }) c.args.self.now c.switch_groups.new.tasks i.waiting c.switch_groups.new.waiting i.members.items c.args.step.now (option_copied c.switching.result) c.self.view_is c.self.invariant c.requires.weighed c.requires.scan c.switching.ensures are_switched).state
+    (takes_scan g.M.Consistency.rules g.met.M.Consistency.lawful (record { number = i.events; from = i.from.0; target = i.target.0; patches = i.patches; table = i.tasks }) c.args.self.now c.switch_groups.new.tasks i.waiting c.switch_groups.new.waiting i.members.items c.args.step.now (option_copied c.switching.result) c.self.view_is c.self.invariant.engine c.requires.weighed c.requires.scan c.switching.ensures are_switched).state

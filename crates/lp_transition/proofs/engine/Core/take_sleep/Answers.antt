@@ -2,17 +2,22 @@ use Rattle.lp_stack.specs.declared.view.Mode.TheVariants.{Asleep}
 use Rattle.std.proofs.Common.{refl, ◌<◌, arith}
 use Rattle.lp_transition.specs.declared.event.Event.TheVariants.{Sleep}
 use Rattle.lp_transition.specs.Machine.{put_in}
+use Rattle.lp_transition.specs.Table.{Engine}
 use Rattle.lp_transition.proofs.Effects.{takes_change}
+use Rattle.lp_transition.proofs.Unchanged.{core_changes}
 use Rattle.lp_transition.proofs.engine.Core.take_sleep.Goals as goal
 
 pub invariant_of-self : goal.invariant_of-self
 invariant_of-self g c =
     let h : c.args.task.0 < 65536 = omega arith in
     let i = c.self.inside in
-    (takes_change g.M.Consistency.rules g.met.M.Consistency.lawful (record { number = i.events; from = i.from.0; target = i.target.0; patches = i.patches; table = i.tasks }) c.args.self.now c.set_mode.new.self i.waiting i.members.items (Sleep c.args.task) c.args.task.0 (put_in Asleep) c.self.view_is c.set_mode.ensures c.self.invariant h c.requires.room refl c.requires.accepted refl (λ x. refl) (λ x. refl)).kept
+    let e : Engine = record { number = i.events; from = i.from.0; target = i.target.0; patches = i.patches; table = i.tasks } in
+    core_changes g.M.Consistency.rules e c.args.self.now _ i.waiting i.waiting i.members.items i.members.items (Sleep c.args.task) i.unchanged c.touch.new.self c.self.view_is c.self.invariant
+    (takes_change g.M.Consistency.rules g.met.M.Consistency.lawful (record { number = i.events; from = i.from.0; target = i.target.0; patches = i.patches; table = i.tasks }) c.args.self.now c.set_mode.new.self i.waiting i.members.items (Sleep c.args.task) c.args.task.0 (put_in Asleep) c.self.view_is c.set_mode.ensures c.self.invariant.engine h c.requires.room refl c.requires.accepted refl (λ x. refl) (λ x. refl))
+    c.requires.accepted c.touch.ensures.kind c.args.task.0 (put_in Asleep) refl c.touch.ensures.changed (λ t. refl) refl (λ x. refl)
 
 pub returns : goal.returns
 returns g c =
     let h : c.args.task.0 < 65536 = omega arith in
     let i = c.self.inside in
-    (takes_change g.M.Consistency.rules g.met.M.Consistency.lawful (record { number = i.events; from = i.from.0; target = i.target.0; patches = i.patches; table = i.tasks }) c.args.self.now c.set_mode.new.self i.waiting i.members.items (Sleep c.args.task) c.args.task.0 (put_in Asleep) c.self.view_is c.set_mode.ensures c.self.invariant h c.requires.room refl c.requires.accepted refl (λ x. refl) (λ x. refl)).state
+    (takes_change g.M.Consistency.rules g.met.M.Consistency.lawful (record { number = i.events; from = i.from.0; target = i.target.0; patches = i.patches; table = i.tasks }) c.args.self.now c.set_mode.new.self i.waiting i.members.items (Sleep c.args.task) c.args.task.0 (put_in Asleep) c.self.view_is c.set_mode.ensures c.self.invariant.engine h c.requires.room refl c.requires.accepted refl (λ x. refl) (λ x. refl)).state

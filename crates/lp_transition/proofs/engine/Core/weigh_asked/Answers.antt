@@ -16,14 +16,14 @@ weigh_found-requires-clause-found g c =
     record {
       asked = asked;
       others = c.requires.others;
-      found = asked-among rules c.args.kind (state_in c.args.self.now) asked (map seen c.in_ok-views.views.items) c.as_slice-2.result.now c.in_ok-views.ensures (c.as_slice-2.ensures.value ∙ found);
+      found = asked-among rules c.args.kind (state_in c.args.self.now) asked (map seen c.in_ok-views.views.items) c.in_ok-found.found.items c.in_ok-views.ensures found;
     }
 
 pub returns-clause-verdicts : goal.returns-clause-verdicts
 returns-clause-verdicts g c =
     let rules = g.M.Consistency.rules in
     let found = rw (c.aim-aim.ensures, c.as_slice.ensures.value) at c.in_ok-found.ensures in
-    let among = asked-among rules c.args.kind (state_in c.args.self.now) (has c.args.asked.now) (map seen c.in_ok-views.views.items) c.as_slice-2.result.now c.in_ok-views.ensures (c.as_slice-2.ensures.value ∙ found) in
+    let among = asked-among rules c.args.kind (state_in c.args.self.now) (has c.args.asked.now) (map seen c.in_ok-views.views.items) c.in_ok-found.found.items c.in_ok-views.ensures found in
     ok_map c.weigh_found.result c.weigh_found.ensures.verdicts among
   where
     ok_map : {vs ws : List Verdict} (r : Result Weighed Halt) → IfOk r (λ step. step.verdicts ≡ vs) → vs ≡ ws → IfOk r (λ step. step.verdicts ≡ ws)

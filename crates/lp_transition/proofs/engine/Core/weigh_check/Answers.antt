@@ -1,7 +1,12 @@
 use Rattle.std.proofs.Common.{sym, ◌∙◌}
 use Rattle.lp_transition.specs.Table.{state_in}
-use Rattle.lp_transition.proofs.AskedScans.{none-enough}
+use Rattle.lp_transition.proofs.AskedScans.{none-enough, all-enough}
 use Rattle.lp_transition.proofs.engine.Core.weigh_check.Goals as goal
 
 pub weigh_found-requires-clause-found : goal.weigh_found-requires-clause-found
-weigh_found-requires-clause-found g c = none-enough g.M.Consistency.rules g.met.M.Consistency.lawful c.args.kind (state_in c.args.self.now) (sym c.uses.ensures ∙ c.if-not-uses.true)
+weigh_found-requires-clause-found g c = rw c.new.ensures.items (none-enough g.M.Consistency.rules g.met.M.Consistency.lawful c.args.kind (state_in c.args.self.now) (sym c.uses.ensures ∙ c.if-not-uses.true))
+
+pub weigh_found-requires-2-clause-found : goal.weigh_found-requires-2-clause-found
+weigh_found-requires-2-clause-found g c =
+    let found = rw (c.aim-aim.ensures, c.as_slice.ensures.value, c.in_ok-views.ensures) at c.in_ok-found.ensures in
+    all-enough g.M.Consistency.rules c.args.kind (state_in c.args.self.now) c.in_ok-found.found.items found

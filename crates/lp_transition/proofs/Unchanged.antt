@@ -1,0 +1,380 @@
+-- What the engine keeps of its last scan stays true at each event.
+use Rattle.std.proofs.Common.{◌≡◌, ◌⊎◌, ℕ, suc, Bool, true, false, not, ◌&&◌, ◌||◌, List, Option, Some, None, is_some, is_none, if◌then◌else◌, nat_eq, refl, sym, ap, subst, ◌∙◌, ◌<◌, ⊎_elim, arith}
+use Rattle.std.proofs.lemmas.Bool.{false≢true, cond-false, cond-true, cases_Bool, eq-eqb, eqb-true, and_from, or_right, false_from_ne_true}
+use Rattle.std.specs.List.{list_any}
+use Rattle.lp_stack.specs.declared.number.TaskId.{TaskId}
+use Rattle.lp_stack.specs.declared.view.Mode.TheVariants.{User, Kernel, Asleep}
+use Rattle.lp_numbers.specs.Numbers.{Numbers, has}
+use Rattle.lp_model.specs.Rules.{Rules, IsLawful}
+use Rattle.lp_model.specs.declared.check.CheckKind.{CheckKind}
+use Rattle.lp_model.specs.declared.check.ForkKind.{ForkKind}
+use Rattle.lp_model.specs.declared.check.CheckKind.TheVariants as kind
+use Rattle.lp_transition.specs.declared.event.Event.{Event}
+use Rattle.lp_transition.specs.declared.event.Event.TheVariants.{Call, Ret, Sleep, Wake, Enter, Exit, Idle, Fork, Die, Walk, Stop, Enable, Disable, Reverse}
+use Rattle.lp_transition.specs.declared.refusal.Refusal.{Refusal}
+use Rattle.lp_transition.specs.Events.{is_control}
+use Rattle.lp_transition.specs.Tasks.{Fate, Unused, Live, Dead, map_live, change}
+use Rattle.lp_transition.specs.Leg.{Standing, State}
+use Rattle.lp_transition.specs.Sound.{IsSound}
+use Rattle.lp_transition.specs.Machine.{view_of, put_in, calling, returning, bearing, own_effect, switches_at, switched_task, refusal_of, counted, affected, with_switches, next}
+use Rattle.lp_transition.specs.Table.{Table, Engine, IsWide, slot, standings, state_in}
+use Rattle.lp_transition.specs.Scan.{is_scan_kind, scan_event, verdicts_of, RefusesMember, MayLeaveOut}
+use Rattle.lp_transition.specs.Weigh.{child_of, born_by, born_of}
+use Rattle.lp_transition.specs.inside.Table.{is_in, with_task}
+use Rattle.lp_transition.specs.inside.Invariant.{IsEngine, LastScan, AreUnchanged, IsCore}
+use Rattle.lp_transition.specs.inside.Points.{point_event}
+use Rattle.lp_transition.specs.inside.ScanSteps.{is_found, switches_by}
+use Rattle.lp_transition.proofs.EngineLemmas.{next-refused, next-accepted}
+use Rattle.lp_transition.proofs.Effects.{HasTaken}
+use Rattle.lp_transition.proofs.TableLemmas.{slot_from_live, slot-with_task}
+use Rattle.lp_transition.proofs.Accept.{fork-new}
+use Rattle.lp_transition.proofs.ScanAnswers.{switches-walk, switches-stop}
+use Rattle.lp_transition.proofs.ScanGroups.{found-from, found-is}
+
+-- something happens to the task at the event, or it is born there
+abbrev pub touches : Event → ℕ → Bool
+touches (Call a f) t = nat_eq t a.0
+touches (Ret a) t = nat_eq t a.0
+touches (Sleep a) t = nat_eq t a.0
+touches (Wake a) t = nat_eq t a.0
+touches (Enter a) t = nat_eq t a.0
+touches (Exit a) t = nat_eq t a.0
+touches (Idle a) t = nat_eq t a.0
+touches (Fork p c how) t = nat_eq t c.0
+touches (Die a) t = nat_eq t a.0
+touches Walk t = false
+touches Stop t = false
+touches Enable t = false
+touches Disable t = false
+touches Reverse t = false
+
+pub live_from : {A B : Type 0} (f : A → B) (fate : Fate A) (x : B) → map_live f fate ≡ Live x → (y : A) × (fate ≡ Live y) × (f y ≡ x)
+live_from f Unused x e = absurd (cc)
+live_from f (Live y) x e = (y, refl, cc)
+live_from f Dead x e = absurd (cc)
+
+module _ (model : Rules) (s : State) (event : Event) where
+  abbrev now : State
+  now = affected model s event
+
+  -- to whom nothing happens stands as before
+  own_same : (given : Event) (t : ℕ) → touches given t ≡ false → own_effect model.child_group (suc s.number) given s.tasks t ≡ s.tasks t
+  own_same (Call a f) t out = cond-false (nat_eq t a.0) (map_live (calling (suc s.number) f) (s.tasks t)) (s.tasks t) out
+  own_same (Ret a) t out = cond-false (nat_eq t a.0) (map_live returning (s.tasks t)) (s.tasks t) out
+  own_same (Sleep a) t out = cond-false (nat_eq t a.0) (map_live (put_in Asleep) (s.tasks t)) (s.tasks t) out
+  own_same (Wake a) t out = cond-false (nat_eq t a.0) (map_live (put_in Kernel) (s.tasks t)) (s.tasks t) out
+  own_same (Enter a) t out = cond-false (nat_eq t a.0) (map_live (put_in Kernel) (s.tasks t)) (s.tasks t) out
+  own_same (Exit a) t out = cond-false (nat_eq t a.0) (map_live (put_in User) (s.tasks t)) (s.tasks t) out
+  own_same (Idle a) t out = refl
+  own_same (Fork p c how) t out = cond-false (nat_eq t c.0) (map_live (bearing model.child_group c.0 how) (s.tasks p.0)) (s.tasks t) out
+  own_same (Die a) t out = cond-false (nat_eq t a.0) Dead (s.tasks t) out
+  own_same Walk t out = refl
+  own_same Stop t out = refl
+  own_same Enable t out = refl
+  own_same Disable t out = refl
+  own_same Reverse t out = refl
+
+  -- who is off the target afterwards didn't switch
+  not_switched : (y : Standing) (goes : Bool) → switches_at model now event y.group ≡ goes → nat_eq (switched_task model now event y).level s.target ≡ false → switches_at model now event y.group ≡ false
+  not_switched y true e off =
+      let there : nat_eq s.target s.target ≡ false = ap (λ b. nat_eq (if b then record y { level = s.target } else y).level s.target) (sym e) ∙ off in
+      absurd (false≢true (sym there ∙ eq-eqb s.target s.target refl))
+  not_switched y false e off = e
+
+  switched_not : (y : Standing) → switches_at model now event y.group ≡ false → switched_task model now event y ≡ y
+  switched_not y stays = cond-false (switches_at model now event y.group) (record y { level = s.target }) y stays
+
+  -- who waits afterwards stands as after the event's own effect, and its group didn't switch
+  left : (t : ℕ) (x : Standing) → (with_switches model s event).tasks t ≡ Live x → nat_eq x.level s.target ≡ false → (now.tasks t ≡ Live x) × (switches_at model now event x.group ≡ false)
+  left t x live off =
+      let w = live_from (switched_task model now event) (now.tasks t) x live in
+      let stays = not_switched w.0 (switches_at model now event w.0.group) refl (ap (λ y. nat_eq y.level s.target) w.2 ∙ off) in
+      let same : w.0 ≡ x = sym (switched_not w.0 stays) ∙ w.2 in
+      (w.1 ∙ ap Live same, ap (λ y. switches_at model now event y.group) (sym same) ∙ stays)
+
+  -- to whom nothing happens, and whose group doesn't switch, stands as before
+  stands_still : (t : ℕ) (x : Standing) → touches event t ≡ false → s.tasks t ≡ Live x → switches_at model now event x.group ≡ false → (with_switches model s event).tasks t ≡ Live x
+  stands_still t x apart live stays =
+      ap (map_live (switched_task model now event)) (own_same event t apart ∙ live) ∙ ap Live (switched_not x stays)
+
+  -- the groups of those to whom something happens are in the set before it and after it, and no group left the set
+  pub record TakesIn (old new : Numbers) : Type 0 where
+    pub keeps : (group : ℕ) → has new group ≡ false → has old group ≡ false
+    pub before : (t : ℕ) (x : Standing) → touches event t ≡ true → s.tasks t ≡ Live x → has new x.group ≡ true
+    pub after : (t : ℕ) (x : Standing) → touches event t ≡ true → (affected model s event).tasks t ≡ Live x → has new x.group ≡ true
+
+  -- a group to which nothing happens is refused as before
+  still_out : (on : CheckKind) (old new : Numbers) → TakesIn old new → MayLeaveOut model on s (has old) → MayLeaveOut model on (with_switches model s event) (has new)
+  still_out on old new takes was t x live off out =
+      let w = left t x live off in
+      let apart = false_from_ne_true (touches event t) (λ (hit : touches event t ≡ true). false≢true (sym out ∙ takes.after t x hit w.0)) in
+      let r = was t x (sym (own_same event t apart) ∙ w.0) off (takes.keeps x.group out) in
+      let apart_too = false_from_ne_true (touches event r.member) (λ (hit : touches event r.member ≡ true). false≢true (sym out ∙ (ap (has new) (sym r.grouped) ∙ takes.before r.member r.life hit r.live))) in
+      record {
+        member = r.member;
+        life = r.life;
+        live = stands_still r.member r.life apart_too r.live (ap (switches_at model now event) r.grouped ∙ w.1);
+        off = r.off;
+        grouped = r.grouped;
+        refused = r.refused;
+      }
+
+  -- and where nothing happens to anybody
+  counted_out : (on : CheckKind) (old : Numbers) → MayLeaveOut model on s (has old) → MayLeaveOut model on (counted model s) (has old)
+  counted_out on old was t x live off out =
+      let r = was t x live off out in
+      record { member = r.member; life = r.life; live = r.live; off = r.off; grouped = r.grouped; refused = r.refused }
+
+  still_unchanged : (o : Option CheckKind) (old new : Numbers) → (is_some o ≡ true → TakesIn old new) → AreUnchanged model s o old → AreUnchanged model (with_switches model s event) o new
+  still_unchanged None old new takes was = tt
+  still_unchanged (Some on) old new takes was = still_out on old new (takes refl) was
+
+  counted_unchanged : (o : Option CheckKind) (old : Numbers) → AreUnchanged model s o old → AreUnchanged model (counted model s) o old
+  counted_unchanged None old was = tt
+  counted_unchanged (Some on) old was = counted_out on old was
+
+-- ---- A scan
+
+scan_touches : (on : CheckKind) (t : ℕ) → touches (scan_event on) t ≡ false
+scan_touches kind.Walk t = refl
+scan_touches kind.Stop t = refl
+scan_touches kind.KernelExit t = refl
+scan_touches kind.IdlePoint t = refl
+
+module _ (model : Rules) (lawful : IsLawful model) (limit : ℕ) (s : State) (wide : suc s.bounds.tasks ≡ limit) (sound : IsSound s) (table : Table) (there : (t : ℕ) (x : Standing) → s.tasks t ≡ Live x → slot table t ≡ Some x) where
+  scan_switches : (on : CheckKind) → is_scan_kind on ≡ true → (group : ℕ) → switches_at model (affected model s (scan_event on)) (scan_event on) group ≡ switches_by table (verdicts_of model on s) group
+  scan_switches kind.Walk scan group = switches-walk model lawful limit s wide sound table there group
+  scan_switches kind.Stop scan group = switches-stop model lawful limit s wide sound table there group
+  scan_switches kind.KernelExit scan group = absurd (cc)
+  scan_switches kind.IdlePoint scan group = absurd (cc)
+
+  -- of a group that waits after a scan, the scan refused a member
+  scan_refused : (on : CheckKind) → is_scan_kind on ≡ true → (asked : ℕ → Bool) → MayLeaveOut model on (with_switches model s (scan_event on)) asked
+  scan_refused on scan asked t x live off out =
+      let w = left model s (scan_event on) t x live off in
+      let stood : s.tasks t ≡ Live x = sym (own_same model s (scan_event on) (scan_event on) t (scan_touches on t)) ∙ w.0 in
+      ⊎_elim
+      (λ (refused : is_some (model.blame on (view_of t x) s.aim) ≡ true).
+      let mine : RefusesMember model on (with_switches model s (scan_event on)) x.group = record { member = t; life = x; live = live; off = off; grouped = refl; refused = refused } in mine)
+      (λ (free : is_some (model.blame on (view_of t x) s.aim) ≡ false).
+      let whole = verdicts_of model on s in
+      let admitted = found-from model lawful on s sound table there false x.group t x stood off refl (none_of (model.blame on (view_of t x) s.aim) free) in
+      let refused = second (list_any (is_found table false x.group) whole) (list_any (is_found table true x.group) whole) admitted (sym (scan_switches on scan x.group) ∙ w.1) in
+      let r = found-is model lawful on s sound table there true x.group refused in
+      let other : RefusesMember model on (with_switches model s (scan_event on)) x.group = record {
+        member = r.number;
+        life = r.task;
+        live = stands_still model s (scan_event on) r.number r.task (scan_touches on r.number) r.live (ap (switches_at model (affected model s (scan_event on)) (scan_event on)) r.grouped ∙ w.1);
+        off = r.off;
+        grouped = r.grouped;
+        refused = r.told;
+      } in other)
+      (cases_Bool (is_some (model.blame on (view_of t x) s.aim)))
+    where
+      none_of : {A : Type 0} (o : Option A) → is_some o ≡ false → is_none o ≡ true
+      none_of None e = refl
+      none_of (Some a) e = absurd (cc)
+
+      second : (a b : Bool) → a ≡ true → (a && not b) ≡ false → b ≡ true
+      second true true h e = refl
+      second true false h e = absurd (cc)
+      second false b h e = absurd (cc)
+
+-- ---- What code keeps
+
+module _ (model : Rules) (e old new : Engine) (waiting left_waiting : Numbers) (members more : List ℕ) (event : Event) (before after : LastScan) (was : e ≡ old) (core : IsCore model e waiting members before) (taken : HasTaken model old event new left_waiting more) where
+  forget : (o : Option CheckKind) (set : Numbers) → o ≡ None → AreUnchanged model (state_in new) o set
+  forget o set none = subst (λ (p : Option CheckKind). AreUnchanged model (state_in new) p set) (sym none) tt
+
+  -- where it goes by no scan any longer
+  pub core_forgets : after.kind ≡ None → IsCore model new left_waiting more after
+  core_forgets none = record { engine = taken.kept; unchanged = forget after.kind after.changed none }
+
+  came : state_in new ≡ next model (state_in e) event
+  came = taken.state ∙ ap (λ (o : Engine). next model (state_in o) event) (sym was)
+
+  -- a refused event
+  pub core_counts : (why : Refusal) → refusal_of model (state_in old) event ≡ Some why → after ≡ before → IsCore model new left_waiting more after
+  core_counts why refused same =
+      let there = came ∙ next-refused model (state_in e) event why (ap (λ (o : Engine). refusal_of model (state_in o) event) was ∙ refused) in
+      record {
+        engine = taken.kept;
+        unchanged =
+            subst (λ (l : LastScan). AreUnchanged model (state_in new) l.kind l.changed) (sym same)
+            (subst (λ (st : State). AreUnchanged model st before.kind before.changed) (sym there)
+            (counted_unchanged model (state_in e) event before.kind before.changed core.unchanged));
+      }
+
+  module _ (accepted : refusal_of model (state_in old) event ≡ None) (plain : is_control event ≡ false) where
+    switched : state_in new ≡ with_switches model (state_in e) event
+    switched = came ∙ next-accepted model (state_in e) event (ap (λ (o : Engine). refusal_of model (state_in o) event) was ∙ accepted) plain
+
+    -- an accepted event whose task's group is noted
+    pub core_takes : after.kind ≡ before.kind → (is_some before.kind ≡ true → TakesIn model (state_in e) event before.changed after.changed) → IsCore model new left_waiting more after
+    core_takes same takes = record {
+      engine = taken.kept;
+      unchanged =
+          subst (λ (o : Option CheckKind). AreUnchanged model (state_in new) o after.changed) (sym same)
+          (subst (λ (st : State). AreUnchanged model st before.kind after.changed) (sym switched)
+          (still_unchanged model (state_in e) event before.kind before.changed after.changed takes core.unchanged));
+    }
+
+    -- a scan that the model doesn't use: nothing happens to anybody
+    pub core_stays : ((t : ℕ) → touches event t ≡ false) → after ≡ before → IsCore model new left_waiting more after
+    core_stays apart same =
+        core_takes (ap (λ (l : LastScan). l.kind) same) (λ some. record {
+          keeps = λ group out. sym (ap (λ (l : LastScan). has l.changed group) same) ∙ out;
+          before = λ t x hit live. absurd (false≢true (sym (apart t) ∙ hit));
+          after = λ t x hit live. absurd (false≢true (sym (apart t) ∙ hit));
+        })
+
+    -- a scan after which this is noted
+    pub core_scans : IsLawful model → (on : CheckKind) → is_scan_kind on ≡ true → scan_event on ≡ event → after.kind ≡ Some on → IsCore model new left_waiting more after
+    core_scans lawful on scan is noted =
+        let wide : suc (state_in e).bounds.tasks ≡ 65536 = omega arith in
+        let refused : MayLeaveOut model on (with_switches model (state_in e) (scan_event on)) (has after.changed) =
+        scan_refused model lawful 65536 (state_in e) wide core.engine.sound e.table (λ t x live. slot_from_live e.table t x live) on scan (has after.changed) in
+        record {
+          engine = taken.kept;
+          unchanged =
+              subst (λ (o : Option CheckKind). AreUnchanged model (state_in new) o after.changed) (sym noted)
+              (subst (λ (st : State). MayLeaveOut model on st (has after.changed)) (sym switched)
+              (subst (λ (given : Event). MayLeaveOut model on (with_switches model (state_in e) given) (has after.changed)) is refused));
+        }
+
+-- nothing was forgotten, or all
+pub core_rests : (model : Rules) (new : Engine) (waiting : Numbers) (members : List ℕ) (before after : LastScan) → IsCore model new waiting members before → (after ≡ before) ⊎ (after.kind ≡ None) → IsCore model new waiting members after
+core_rests model new waiting members before after core done =
+    ⊎_elim
+    (λ (same : after ≡ before). subst (λ (l : LastScan). IsCore model new waiting members l) (sym same) core)
+    (λ (none : after.kind ≡ None). record { engine = core.engine; unchanged = subst (λ (o : Option CheckKind). AreUnchanged model (state_in new) o after.changed) (sym none) tt })
+    done
+
+-- ---- What is noted of a task
+
+-- the group of the task that stands at a place of a table
+abbrev pub Notes : Table → ℕ → LastScan → LastScan → Type 0
+Notes table a before after = (group : ℕ) → has after.changed group ≡ (has before.changed group || (is_some before.kind && is_in group (slot table a)))
+
+module _ (table : Table) (a : ℕ) (before after : LastScan) (noted : Notes table a before after) (some : is_some before.kind ≡ true) where
+  kept_out : (group : ℕ) → has after.changed group ≡ false → has before.changed group ≡ false
+  kept_out group out = first_out (has before.changed group) (is_some before.kind && is_in group (slot table a)) (sym (noted group) ∙ out)
+    where
+      first_out : (b c : Bool) → (b || c) ≡ false → b ≡ false
+      first_out false c h = refl
+      first_out true c h = h
+
+  taken_in : (x : Standing) → slot table a ≡ Some x → has after.changed x.group ≡ true
+  taken_in x there =
+      noted x.group
+      ∙ or_right (has before.changed x.group) (is_some before.kind && is_in x.group (slot table a))
+      (and_from (is_some before.kind) (is_in x.group (slot table a)) some (ap (is_in x.group) there ∙ eq-eqb x.group x.group refl))
+
+module _ (model : Rules) (e : Engine) (event : Event) (before after : LastScan) where
+  -- an event whose own effect is a change of a task, which keeps its group
+  pub changes_in : (a : ℕ) (f : Standing → Standing) → Notes e.table a before after → ((t : ℕ) → touches event t ≡ nat_eq t a) → own_effect model.child_group (suc e.number) event (standings e.table) ≡ change a f (standings e.table) → ((x : Standing) → (f x).group ≡ x.group)
+      → is_some before.kind ≡ true → TakesIn model (state_in e) event before.changed after.changed
+  changes_in a f noted only own groups some = record {
+    keeps = kept_out e.table a before after noted some;
+    before = λ t x hit live. taken_in e.table a before after noted some x (slot_at t x hit live);
+    after = λ t x hit live.
+        let is = sym (only_t t hit) ∙ (sym (ap (λ (w : ℕ → Fate Standing). w t) own) ∙ live) in
+        let w = live_from f (standings e.table t) x is in
+        ap (has after.changed) (sym (sym (groups w.0) ∙ ap (λ (y : Standing). y.group) w.2)) ∙ taken_in e.table a before after noted some w.0 (slot_at t w.0 hit w.1);
+  }
+    where
+      at : (t : ℕ) → touches event t ≡ true → nat_eq t a ≡ true
+      at t hit = sym (only t) ∙ hit
+
+      slot_at : (t : ℕ) (x : Standing) → touches event t ≡ true → standings e.table t ≡ Live x → slot e.table a ≡ Some x
+      slot_at t x hit live = ap (slot e.table) (sym (eqb-true t a (at t hit))) ∙ slot_from_live e.table t x live
+
+      only_t : (t : ℕ) → touches event t ≡ true → change a f (standings e.table) t ≡ map_live f (standings e.table t)
+      only_t t hit = cond-true (nat_eq t a) (map_live f (standings e.table t)) (standings e.table t) (at t hit)
+
+-- the end of a task
+pub dies_in : (model : Rules) (e : Engine) (a : TaskId) (before after : LastScan) → Notes e.table a.0 before after → is_some before.kind ≡ true → TakesIn model (state_in e) (Die a) before.changed after.changed
+dies_in model e a before after noted some = record {
+  keeps = kept_out e.table a.0 before after noted some;
+  before = λ t x hit live. taken_in e.table a.0 before after noted some x (ap (slot e.table) (sym (eqb-true t a.0 hit)) ∙ slot_from_live e.table t x live);
+  after = λ t x hit live. absurd (dead_live x (sym (cond-true (nat_eq t a.0) Dead (standings e.table t) hit) ∙ live));
+}
+  where
+    dead_live : (x : Standing) → Dead ≡ Live x → ⊥
+    dead_live x e = absurd (cc)
+
+-- and a birth, which is noted of the table with the child
+pub bears_in : (model : Rules) (e : Engine) (p c : TaskId) (how : ForkKind) (x : Standing) (before after : LastScan) → IsWide e.table → c.0 < 65536 → refusal_of model (state_in e) (Fork p c how) ≡ None → born_of model (state_in e) (Fork p c how) ≡ Some x
+    → Notes (with_task c.0 x e.table) c.0 before after → is_some before.kind ≡ true → TakesIn model (state_in e) (Fork p c how) before.changed after.changed
+bears_in model e p c how x before after wide h accepted born noted some = record {
+  keeps = kept_out (with_task c.0 x e.table) c.0 before after noted some;
+  before = λ t y hit live. absurd (none_some y (sym new.0 ∙ (ap (slot e.table) (sym (eqb-true t c.0 hit)) ∙ slot_from_live e.table t y live)));
+  after = λ t y hit live.
+      let is = sym (cond-true (nat_eq t c.0) (map_live (bearing model.child_group c.0 how) (standings e.table p.0)) (standings e.table t) hit) ∙ live in
+      let w = live_from (bearing model.child_group c.0 how) (standings e.table p.0) y is in
+      let same : Some x ≡ Some y = sym brought ∙ (ap (child_of model.child_group c.0 (Fork p c how)) w.1 ∙ ap {A = Standing} {B = Option Standing} Some w.2) in
+      let one : x ≡ y = cc in
+      ap (λ (z : Standing). has after.changed z.group) (sym one) ∙ taken_in (with_task c.0 x e.table) c.0 before after noted some x (slot-with_task e.table c.0 x wide h);
+}
+  where
+    new : (slot e.table c.0 ≡ None) × (has e.table.used c.0 ≡ false)
+    new = fork-new model e p c how accepted
+
+    brought : child_of model.child_group c.0 (Fork p c how) (standings e.table p.0) ≡ Some x
+    brought = subst (λ o. born_by model.child_group o (Fork p c how) (standings e.table) ≡ Some x) accepted born
+
+    none_some : (y : Standing) → None ≡ Some y → ⊥
+    none_some y e = absurd (cc)
+
+pub point_touches : (on : CheckKind) (t : TaskId) (u : ℕ) → touches (point_event on t) u ≡ nat_eq u t.0
+point_touches kind.KernelExit t u = refl
+point_touches kind.IdlePoint t u = refl
+point_touches kind.Walk t u = refl
+point_touches kind.Stop t u = refl
+
+-- ---- The engine with what it noted
+
+module _ (model : Rules) (e old new : Engine) (waiting left_waiting : Numbers) (members more : List ℕ) (event : Event) (before after : LastScan) (was : e ≡ old) (core : IsCore model e waiting members before) (taken : HasTaken model old event new left_waiting more) (accepted : refusal_of model (state_in old) event ≡ None) (kind : after.kind ≡ before.kind) where
+  -- after a change of a task
+  pub core_changes : (a : ℕ) (f : Standing → Standing) → is_control event ≡ false → Notes e.table a before after → ((t : ℕ) → touches event t ≡ nat_eq t a) → own_effect model.child_group (suc e.number) event (standings e.table) ≡ change a f (standings e.table) → ((x : Standing) → (f x).group ≡ x.group)
+      → IsCore model new left_waiting more after
+  core_changes a f plain noted only own groups =
+      core_takes model e old new waiting left_waiting members more event before after was core taken accepted plain kind (changes_in model e event before after a f noted only own groups)
+
+-- ---- A scan that was taken
+
+scan_free : (model : Rules) (s : State) (on : CheckKind) → refusal_of model s (scan_event on) ≡ None
+unfolding refusal_of
+scan_free model s kind.Walk = refl
+scan_free model s kind.Stop = refl
+scan_free model s kind.KernelExit = refl
+scan_free model s kind.IdlePoint = refl
+
+scan_plain : (on : CheckKind) → is_control (scan_event on) ≡ false
+scan_plain kind.Walk = refl
+scan_plain kind.Stop = refl
+scan_plain kind.KernelExit = refl
+scan_plain kind.IdlePoint = refl
+
+module _ (model : Rules) (lawful : IsLawful model) (e old new : Engine) (waiting left_waiting : Numbers) (members more : List ℕ) (event : Event) (before after : LastScan) (was : e ≡ old) (core : IsCore model e waiting members before) (taken : HasTaken model old event new left_waiting more) where
+  -- after a scan, whether it was noted or not
+  pub core_scanned : (on : CheckKind) → is_scan_kind on ≡ true → scan_event on ≡ event → (after ≡ before) ⊎ (after.kind ≡ Some on) → IsCore model new left_waiting more after
+  core_scanned on scan is noted =
+      let accepted : refusal_of model (state_in old) event ≡ None = ap (refusal_of model (state_in old)) (sym is) ∙ scan_free model (state_in old) on in
+      let plain : is_control event ≡ false = ap is_control (sym is) ∙ scan_plain on in
+      ⊎_elim
+      (λ (same : after ≡ before). core_stays model e old new waiting left_waiting members more event before after was core taken accepted plain (λ t. ap (λ given. touches given t) (sym is) ∙ scan_touches on t) same)
+      (λ (some : after.kind ≡ Some on). core_scans model e old new waiting left_waiting members more event before after was core taken accepted plain lawful on scan is some)
+      noted
+
+-- ---- An engine that starts, and one that scans
+
+pub core_starts : (model : Rules) (e : Engine) (waiting : Numbers) (members : List ℕ) (last : LastScan) → IsEngine e waiting members → last.kind ≡ None → IsCore model e waiting members last
+core_starts model e waiting members last kept none = record { engine = kept; unchanged = subst (λ (o : Option CheckKind). AreUnchanged model (state_in e) o last.changed) (sym none) tt }
+
+-- a scan of the kind of the last one may leave out the groups that haven't changed
+pub leaves_out : (model : Rules) (e old : Engine) (waiting : Numbers) (members : List ℕ) (last : LastScan) (on : CheckKind) (asked : Numbers) → e ≡ old → IsCore model e waiting members last → (last.kind ≡ Some on) × (asked ≡ last.changed) → MayLeaveOut model on (state_in old) (has asked)
+leaves_out model e old waiting members last on asked was core told =
+    subst (λ (o : Engine). MayLeaveOut model on (state_in o) (has asked)) was
+    (subst (λ (set : Numbers). MayLeaveOut model on (state_in e) (has set)) (sym told.1)
+    (subst (λ (o : Option CheckKind). AreUnchanged model (state_in e) o last.changed) told.0 core.unchanged))
