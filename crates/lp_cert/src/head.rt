@@ -1,17 +1,16 @@
 //! The reasons of a group as it waits.
-ghost use Rattle.std.specs.Prelude.{◌≡◌, ◌+◌, ◌<◌, ◌≤◌, [], ◌++◌, length, reverse, slice_index_or, option_to_list, IfOk};
+ghost use Rattle.std.specs.Prelude.{◌≡◌, ◌+◌, ◌<◌, ◌≤◌, [], ◌++◌, length, reverse, slice_index_or, option_to_list};
 ghost use Rattle.lp_cert.specs.Heads.{ongoing_reasons, head_lines};
 ghost use Rattle.lp_cert.specs.inside.Heads.{continues_after, reason_begun_by, IsHead, IsUsed, IsRefusedBy, IsBornBy, Keeps};
 
 use crate::cert_lines::CertLines;
 use crate::chains::{ChainId, Chains};
-use crate::line::{Line, LineList};
+use crate::line::Line;
 use crate::oldest_first::OldestFirst;
 use crate::ongoing::Ongoing;
 use crate::reason::Reason;
 use lp_model::Blame;
 use lp_stack::{GroupId, TaskId};
-use std::alloc::{AllocError, Global};
 
 /// The reasons of a group: the one that continues, in front of a list.
 #[derive(Clone, Copy)]
@@ -54,37 +53,20 @@ pub(crate) struct Waiter {
 }
 
 impl Head {
-    /// The lines of the reasons as they stand, the oldest first; AllocError where an allocation
-    /// failed.
-    pub(crate) fn lines(
-        self,
-        alloc: Global,
-        chains: &Chains,
-        scans: &[u64],
-        group: GroupId,
-    ) -> Result<LineList, AllocError>
-        requires { IsHead chains.now.lists (length scans.now) self }
-        ensures { IfOk result (λ lines. lines ≡ reverse (head_lines chains.now.lists scans.now group self)) }
-    {
-        let reasons = self.oldest_first(chains, scans, group);
-        CertLines::new(group, scans, reasons).collect(alloc)
-    }
-
-    /// The reasons as they stand, of which the oldest comes first. Never allocates.
-    pub(crate) fn oldest_first<'a>(
+    /// The lines of the reasons as they stand, the oldest first: the one way from reasons to lines.
+    /// Never allocates.
+    pub(crate) fn lines<'a>(
         self,
         chains: &'a Chains,
-        scans: &[u64],
+        scans: &'a [u64],
         group: GroupId,
-    ) -> OldestFirst<'a>
-        requires { self.older.0 < length chains.now.lists }
-        ensures { result ≡ ongoing_reasons scans.now group self.ongoing ++ slice_index_or chains.now.lists self.older.0 [] }
+    ) -> CertLines<'a>
+        requires { IsHead chains.now.lists (length scans.now) self }
+        ensures { result ≡ reverse (head_lines chains.now.lists scans.now group self) }
     {
-        OldestFirst::new(
-            chains,
-            self.older,
-            ongoing_reason(scans, group, self.ongoing),
-        )
+        let ongoing = ongoing_reason(scans, group, self.ongoing);
+        let reasons = OldestFirst::new(chains, self.older, ongoing);
+        CertLines::new(group, scans, reasons)
     }
 
     /// The reasons as they stand, as a list. Never allocates.

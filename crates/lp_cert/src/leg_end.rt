@@ -102,16 +102,18 @@ impl CertList {
         if place >= self.waiters.len() {
             return Ok(None);
         }
-        let waiter = self.waiters[place];
-        let lines = waiter
-            .head
-            .lines(alloc, &self.chains, self.scans.as_slice(), waiter.group)?;
+        let CertHead {
+            claim,
+            leg,
+            group,
+            upto,
+        } = self.head(place);
         Ok(Some(Cert {
-            claim: self.claim,
-            leg: self.leg,
-            group: waiter.group,
-            upto: self.upto,
-            lines,
+            claim,
+            leg,
+            group,
+            upto,
+            lines: self.lines(place).collect(alloc)?,
         }))
     }
 
@@ -134,8 +136,6 @@ impl CertList {
         ensures { option_map (λ cert. cert.lines) (slice_get self.now place) ≡ Some result }
     {
         let Waiter { group, head } = self.waiters[place];
-        let scans = self.scans.as_slice();
-        let reasons = head.oldest_first(&self.chains, scans, group);
-        CertLines::new(group, scans, reasons)
+        head.lines(&self.chains, self.scans.as_slice(), group)
     }
 }

@@ -408,7 +408,7 @@ fn cert_of(
 ) -> Result<Option<Cert>, AllocError>
     ensures { IfOk result (λ found. found ≡ option_map (waiting_cert claim leg.opened noted group) (lines_at waiters.now group.0)) }
 {
-    let Some(lines) = waiters.lines(alloc, group)? else {
+    let Some(lines) = waiters.lines(group) else {
         return Ok(None);
     };
     Ok(Some(Cert {
@@ -416,6 +416,6 @@ fn cert_of(
         leg: leg.opened,
         group,
         upto: noted,
-        lines,
+        lines: lines.collect(alloc)?,
     }))
 }

@@ -5,9 +5,9 @@ ghost use Rattle.lp_cert.specs.Certificates.{group_id};
 ghost use Rattle.lp_cert.specs.Waiters.{no_head, head_of};
 ghost use Rattle.lp_cert.specs.inside.Waiters.{lines_in, StandsAt};
 
+use crate::cert_lines::CertLines;
 use crate::chains::{ChainId, Chains};
 use crate::head::{Head, OwnFork, Refused};
-use crate::line::LineList;
 use crate::ongoing::Ongoing;
 use lp_numbers::NUMBERS;
 use lp_stack::GroupId;
@@ -77,13 +77,13 @@ impl Reasons {
         self.heads[usize::from(group.0)]
     }
 
-    /// The lines of a group, the oldest first; AllocError where an allocation failed.
-    pub(crate) fn lines(&self, alloc: Global, group: GroupId) -> Result<LineList, AllocError>
+    /// The lines of a group, the oldest first. Never allocates.
+    pub(crate) fn lines(&self, group: GroupId) -> CertLines<'_>
         requires { StandsAt (length self.now.scans) self.now group.0 }
-        ensures { IfOk result (λ lines. lines ≡ reverse (lines_in self.now group.0)) }
+        ensures { result ≡ reverse (lines_in self.now group.0) }
     {
         let head = self.head(group);
-        head.lines(alloc, &self.chains, self.scans.as_slice(), group)
+        head.lines(&self.chains, self.scans.as_slice(), group)
     }
 
     /// A group without any reason. Never allocates.

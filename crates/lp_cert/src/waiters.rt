@@ -13,9 +13,9 @@ ghost use Rattle.lp_cert.specs.Invariant.{floor_waiters};
 ghost use Rattle.lp_cert.specs.Waiters.{waiter_in, waiters_of};
 ghost use Rattle.lp_cert.specs.inside.Waiters.{AreHeads, AreStanding, StandsAt, IsJudged, AreJudged, IsUsedVerdict, is_left, after_birth, has_off, lines_at, scanned_lines, AreTakenIn, IsTakenIn};
 
+use crate::cert_lines::CertLines;
 use crate::chains::Chains;
 use crate::head::{OwnFork, Refused, Waiter};
-use crate::line::LineList;
 use crate::ongoing::Ongoing;
 use crate::reasons::Reasons;
 use lp_model::{Consistency, Verdict};
@@ -89,18 +89,14 @@ impl Waiters {
         Some(GroupId(number))
     }
 
-    /// The lines of a group, the oldest first, if it waits; AllocError where an allocation failed.
-    pub(crate) fn lines(
-        &self,
-        alloc: Global,
-        group: GroupId,
-    ) -> Result<Option<LineList>, AllocError>
-        ensures { IfOk result (λ found. found ≡ option_map reverse (lines_at self.now group.0)) }
+    /// The lines of a group, the oldest first, if it waits. Never allocates.
+    pub(crate) fn lines(&self, group: GroupId) -> Option<CertLines<'_>>
+        ensures { result ≡ option_map reverse (lines_at self.now group.0) }
     {
         if !self.waits(group) {
-            return Ok(None);
+            return None;
         }
-        Ok(Some(self.reasons.lines(alloc, group)?))
+        Some(self.reasons.lines(group))
     }
 
     /// The groups that wait, in increasing order; AllocError where an allocation failed.
