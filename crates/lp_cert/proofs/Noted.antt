@@ -1,5 +1,5 @@
 -- What is made of a run, after one event more.
-use Rattle.std.proofs.Common.{is_some, ◌≡◌, ◌⊎◌, ℕ, suc, ◌+◌, ◌-◌, ◌<◌, Bool, true, false, not, ◌&&◌, ◌||◌, List, [], ◌∷◌, ◌++◌, length, map, filter, take, drop, Option, Some, None, is_none, option_to_list, if◌then◌else◌, nat_eq, refl, sym, ap, ap₂, subst, ◌∙◌, ⊎_elim, arith, append-nil, append_assoc, length-append}
+use Rattle.std.proofs.Common.{◌≡◌, ◌⊎◌, ℕ, suc, ◌+◌, ◌-◌, ◌<◌, Bool, true, false, not, ◌&&◌, ◌||◌, List, [], ◌∷◌, ◌++◌, length, map, filter, take, drop, Option, Some, None, is_none, option_to_list, if◌then◌else◌, nat_eq, refl, sym, ap, ap₂, subst, ◌∙◌, ⊎_elim, arith, append-nil, append_assoc, length-append}
 use mathlib.Core.Path.{fun_ext}
 use Rattle.std.specs.List.{range_with_len}
 use Rattle.std.specs.Option.{option_map}
@@ -31,6 +31,7 @@ use Rattle.lp_cert.specs.declared.line.Line.{Line}
 use Rattle.lp_cert.specs.declared.leg_end.LegEnd.{LegEnd}
 use Rattle.lp_cert.specs.declared.open_leg.Completion.{Completion}
 use Rattle.lp_cert.specs.declared.open_leg.OpenLeg.{OpenLeg}
+use Rattle.lp_cert.specs.declared.maker.Closing.{Closing}
 use Rattle.lp_cert.specs.declared.maker.Ready.{Ready}
 use Rattle.lp_cert.specs.Certificates.{lines, waiting_groups, waiting_certs, floor_certs, completion, certs_by}
 use Rattle.lp_cert.specs.Ends.{Made, IsMadeOf, Room, end_of, ended_legs, is_opening, under_way}
@@ -476,14 +477,22 @@ ends_are noted w None = refl
 ends_are noted w (Some leg) = refl
 
 -- there is room for the event
-pub ready_for : (current : Option OpenLeg) (w : WaitingGroups) (room : ℕ) (o : Option Ready) (ready : Ready) → IfReady current w room o → o ≡ Some ready → IsReady current w room ready
-ready_for current w room o ready h is = subst (IfReady current w room) is h
+pub ready_for : (current : Option OpenLeg) (w : WaitingGroups) (room : ℕ) (closing : Option Closing) (o : Option Ready) (ready : Ready) → IfReady current w room closing o → o ≡ Some ready → IsReady current w room closing ready
+ready_for current w room closing o ready h is = subst (IfReady current w room closing) is h
 
 -- whether it opens a leg
-pub opens_is : (o : Option Ready) (ready : Ready) (room : Room) → o ≡ Some ready → option_map room_of o ≡ Some room → is_some ready.closing ≡ room.opens
+pub opens_is : (o : Option Ready) (ready : Ready) (room : Room) → o ≡ Some ready → option_map room_of o ≡ Some room → ready.opens ≡ room.opens
 opens_is o ready room is told =
     let one : Option Room = Some (room_of ready) in
     let two : Option Room = Some room in
     let both : one ≡ two = sym (ap (option_map room_of) is) ∙ told in
     let same : room_of ready ≡ room = cc in
     ap (λ (r : Room). r.opens) same
+
+pub not_so : (b : Bool) → not b ≡ true → b ≡ false
+not_so true e = absurd (false≢true e)
+not_so false e = refl
+
+pub not_other : (b : Bool) → not b ≡ false → b ≡ true
+not_other true e = refl
+not_other false e = absurd (false≢true (sym e))

@@ -1,5 +1,5 @@
 -- The leg under way as it is kept.
-use Rattle.std.specs.Prelude.{ℕ, ◌-◌, List, [], ◌∷◌, map, Option, Some, None, is_some}
+use Rattle.std.specs.Prelude.{ℕ, ◌-◌, List, [], ◌∷◌, map, Option, Some, None}
 use Rattle.std.specs.Option.{option_map}
 use Rattle.lp_stack.specs.declared.number.GroupId.{GroupId}
 use Rattle.lp_cert.specs.declared.cert.Claim.{Claim}
@@ -48,4 +48,4 @@ open_end noted waiters leg =
 
 -- the room that is made
 abbrev pub room_of : Ready → Room
-room_of ready = record { event = ready.event; verdicts = ready.verdicts; opens = is_some ready.closing }
+room_of ready = record { event = ready.event; verdicts = ready.verdicts; opens = ready.opens }

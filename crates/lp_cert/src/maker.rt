@@ -10,7 +10,7 @@ ghost use Rattle.lp_transition.specs.declared.engine.step.Halt.TheVariants.{NoMe
 ghost use Rattle.lp_cert.specs.Ends.{IsFresh, IsMadeOf, floor_in, is_opening, is_plain, room_for, waiting_in};
 ghost use Rattle.lp_cert.specs.LastScan.{Suffices};
 ghost use Rattle.lp_cert.specs.Invariant.{end_waiters};
-ghost use Rattle.lp_cert.specs.inside.Invariant.{HasFloor, HasFloors, IsClosing, IsStepped, IsUnchangedOn, ends_with, leg_at, waiting_cert};
+ghost use Rattle.lp_cert.specs.inside.Invariant.{HasClosing, HasFloor, HasFloors, IsClosing, IsStepped, IsUnchangedOn, ends_with, leg_at, waiting_cert};
 ghost use Rattle.lp_cert.specs.inside.Waiters.{AreHeads, lines_at};
 ghost use Rattle.std.specs.Option.{option_map};
 
@@ -39,14 +39,14 @@ pub(crate) struct Closing {
 }
 
 /// An event for which there is room: `note` may not fail once the engine is to take it.
-#[derive(Drop)]
+#[derive(Clone, Copy)]
 pub(crate) struct Ready {
     /// The event.
     pub(crate) event: Event,
     /// How many verdicts it has.
     pub(crate) verdicts: usize,
-    /// Where it opens a leg, what the one under way leaves.
-    pub(crate) closing: Option<Closing>,
+    /// Whether it opens a leg.
+    pub(crate) opens: bool,
 }
 
 /// Makes the certificates of a run, event by event: why each group still waits, and why no leg was
@@ -63,6 +63,9 @@ pub struct Maker {
     /// The number of the last event noted.
     noted: u64,
     ready: Option<Ready>,
+    /// What the leg under way leaves, where `ready` opens another. It stands beside `ready`, since it
+    /// is large and few events need it.
+    closing: Option<Closing>,
 }
 
 impl Model for Maker {
@@ -76,7 +79,7 @@ impl Model for Maker {
 
     ghost view = { λ m. record { ended = m.ended.items; current = option_map (open_end m.noted m.waiters) m.current; ready = option_map room_of m.ready; last_scan = m.unchanged } };
 
-    ghost invariant = { λ m. IsMaker m.current m.waiters (vec_capacity m.ended - vec_len m.ended) m.ready };
+    ghost invariant = { λ m. IsMaker m.current m.waiters (vec_capacity m.ended - vec_len m.ended) m.closing m.ready };
 }
 
 impl Maker {
@@ -91,6 +94,7 @@ impl Maker {
             unchanged: Unchanged::new(alloc)?,
             noted: 0,
             ready: None,
+            closing: None,
         })
     }
 
@@ -137,12 +141,18 @@ impl Maker {
         self.ready = None;
         let verdicts = step.verdicts().len();
         self.waiters.reserve(verdicts + 2)?;
-        self.ended.reserve(1)?;
-        let closing = closing_for(alloc, step, self.current, &self.waiters)?;
+        let opens = close(
+            alloc,
+            step,
+            self.current,
+            &self.waiters,
+            &mut self.ended,
+            &mut self.closing,
+        )?;
         self.ready = Some(Ready {
             event: step.event(),
             verdicts,
-            closing,
+            opens,
         });
         Ok(())
     }
@@ -159,7 +169,7 @@ impl Maker {
         };
         let noted = self.noted;
         self.noted = number;
-        let Some(closing) = ready.closing else {
+        if !ready.opens {
             let Some(leg) = &mut self.current else {
                 self.unchanged.reset();
                 return;
@@ -173,6 +183,9 @@ impl Maker {
                 &mut self.unchanged,
             );
             return;
+        }
+        let Some(closing) = self.closing.take() else {
+            unreachable!()
         };
         self.unchanged.reset();
         let next = opened(core, step, number);
@@ -350,31 +363,49 @@ fn opened<M: Consistency>(core: &Core<M>, step: &Step, number: u64) -> OpenLeg
     }
 }
 
-/// What the leg under way leaves where an event opens another; None where it opens none. AllocError
-/// where an allocation failed.
-fn closing_for(
+/// Where an event opens a leg, makes room for the end of the one under way and what it leaves; says
+/// whether the event does. AllocError where an allocation failed.
+fn close(
     alloc: Global,
     step: &Step,
     current: Option<OpenLeg>,
     waiters: &Waiters,
-) -> Result<Option<Closing>, AllocError>
+    ended: &mut Vec<LegEnd>,
+    closing: &mut Option<Closing>,
+) -> Result<bool, AllocError>
     requires { HasFloors waiters.now current }
-    ensures opens { IfOk result (λ found. is_some found ≡ is_opening step.now) }
-    ensures closing { IfOk result (λ found. IfSome found (IsClosing current waiters.now)) }
+    ensures opens { IfOk result (λ opens. opens ≡ is_opening step.now) }
+    ensures room { IfOk result (λ opens. opens ≡ true → 0 < vec_capacity ended.new - vec_len ended.new) }
+    ensures closing { IfOk result (λ opens. HasClosing current waiters.now opens closing.new) }
+    ensures ended { ended.new.items ≡ ended.old.items }
 {
     if !opens(step) {
-        return Ok(None);
+        return Ok(false);
     }
+    ended.reserve(1)?;
+    *closing = Some(closing_of(alloc, current, waiters)?);
+    Ok(true)
+}
+
+/// What the leg under way leaves; AllocError where an allocation failed.
+fn closing_of(
+    alloc: Global,
+    current: Option<OpenLeg>,
+    waiters: &Waiters,
+) -> Result<Closing, AllocError>
+    requires { HasFloors waiters.now current }
+    ensures { IfOk result (IsClosing current waiters.now) }
+{
     let list = match current {
         Some(leg) => end_waiters(alloc, leg.completed, waiters)?,
         None => Vec::new(alloc),
     };
     let (chains, scans) = waiters.copy_past(alloc)?;
-    Ok(Some(Closing {
+    Ok(Closing {
         waiters: list,
         chains,
         scans,
-    }))
+    })
 }
 
 /// The groups that have a certificate, in increasing order; AllocError where an allocation failed.

@@ -102,10 +102,27 @@ impl Unchanged {
             return;
         };
         self.kind = Some(kind);
-        self.changed_since.clear();
-        take_in_all(core, verdicts, &mut self.changed_since);
-        keep_unchanged(core, verdicts, reasons, &mut self.changed_since);
+        keep_apart(core, verdicts, reasons, &mut self.changed_since);
     }
+}
+
+/// Puts the groups into a set that a scan has to look at again after one that found this. Most scans
+/// ask nobody, and then the set is empty as it is.
+#[inline(always)]
+fn keep_apart<M: Consistency>(
+    core: &Core<M>,
+    verdicts: &[Verdict],
+    reasons: &Reasons,
+    changed_since: &mut NumberSet,
+)
+    ensures { AreKeptApart core.now reasons.now verdicts.now changed_since.new }
+{
+    if verdicts.is_empty() && changed_since.is_empty() {
+        return;
+    }
+    changed_since.clear();
+    take_in_all(core, verdicts, changed_since);
+    keep_unchanged(core, verdicts, reasons, changed_since);
 }
 
 /// The task to which something happens at an event.

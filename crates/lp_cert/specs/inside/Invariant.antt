@@ -58,20 +58,26 @@ pub record IsClosing (current : Option OpenLeg) (waiters : WaitingGroups) (closi
   pub all : closing.waiters.items ≡ current_waiters current waiters
   pub heads : AreHeads closing.chains.lists (length closing.scans.items) closing.waiters.items
 
+-- where an event opens a leg, what the one under way leaves is there
+abbrev pub HasClosing : Option OpenLeg → WaitingGroups → Bool → Option Closing → Type 0
+HasClosing current waiters false closing = Unit {0}
+HasClosing current waiters true None = ⊥
+HasClosing current waiters true (Some closing) = IsClosing current waiters closing
+
 -- there is room for the event: for its reasons and its scan and, if it opens a leg, for the end of the one under way
-pub record IsReady (current : Option OpenLeg) (waiters : WaitingGroups) (ended_room : ℕ) (ready : Ready) : Type 0 where
+pub record IsReady (current : Option OpenLeg) (waiters : WaitingGroups) (ended_room : ℕ) (closing : Option Closing) (ready : Ready) : Type 0 where
   pub room : ready.verdicts + 1 < waiters.reasons.room
   pub scan_room : 0 < waiters.reasons.scan_room
-  pub end_room : 0 < ended_room
-  pub closing : IfSome ready.closing (IsClosing current waiters)
+  pub end_room : ready.opens ≡ true → 0 < ended_room
+  pub left : HasClosing current waiters ready.opens closing
 
-abbrev pub IfReady : Option OpenLeg → WaitingGroups → ℕ → Option Ready → Type 0
-IfReady current waiters ended_room None = Unit {0}
-IfReady current waiters ended_room (Some ready) = IsReady current waiters ended_room ready
+abbrev pub IfReady : Option OpenLeg → WaitingGroups → ℕ → Option Closing → Option Ready → Type 0
+IfReady current waiters ended_room closing None = Unit {0}
+IfReady current waiters ended_room closing (Some ready) = IsReady current waiters ended_room closing ready
 
-pub record IsMaker (current : Option OpenLeg) (waiters : WaitingGroups) (ended_room : ℕ) (ready : Option Ready) : Type 0 where
+pub record IsMaker (current : Option OpenLeg) (waiters : WaitingGroups) (ended_room : ℕ) (closing : Option Closing) (ready : Option Ready) : Type 0 where
   pub floors : HasFloors waiters current
-  pub for_event : IfReady current waiters ended_room ready
+  pub for_event : IfReady current waiters ended_room closing ready
 
 -- the leg that opens with this event, with the level to which it goes
 abbrev pub leg_at : (number level : ℕ) → Bool → OpenLeg

@@ -1,13 +1,12 @@
-use Rattle.std.proofs.Common.{inr, ◌≡◌, ◌+◌, ◌++◌, [], Some, None, true, false, is_some, if◌then◌else◌, refl, sym, ap, ap₂, subst, IfSome, Option, ◌∙◌}
+use Rattle.std.proofs.Common.{Bool, inr, ◌≡◌, ◌+◌, ◌++◌, [], Some, None, true, false, if◌then◌else◌, refl, sym, ap, ap₂, subst, ◌∙◌}
 use Rattle.std.specs.Option.{option_map}
 use Rattle.lp_transition.specs.Table.{state_in}
-use Rattle.lp_cert.specs.declared.maker.Closing.{Closing}
 use Rattle.lp_cert.specs.declared.open_leg.OpenLeg.{OpenLeg}
 use Rattle.lp_cert.specs.Ends.{Made, IsMadeOf, is_opening, room_for}
 use Rattle.lp_cert.specs.Invariant.{open_end, room_of}
-use Rattle.lp_cert.specs.inside.Invariant.{ends_with, IsClosing}
+use Rattle.lp_cert.specs.inside.Invariant.{ends_with, HasClosing, IsClosing}
 use Rattle.lp_cert.specs.inside.Waiters.{has_off}
-use Rattle.lp_cert.proofs.Noted.{none_made, still_made, turned_made, ends_are, ready_for, opens_is}
+use Rattle.lp_cert.proofs.Noted.{none_made, still_made, turned_made, ends_are, ready_for, opens_is, not_so, not_other}
 use Rattle.lp_cert.proofs.UnchangedSteps.{none_unchanged}
 use Rattle.lp_cert.proofs.maker.Maker.note.Goals as goal
 
@@ -20,14 +19,14 @@ returns-in_default-current g c = record {
       let new : Made = record { ended = i.ended.items; current = option_map (open_end number i.waiters) i.current; ready = option_map room_of c.take.new.self; last_scan = c.reset.new.self } in
       let was : IsMadeOf g.M.Consistency.rules run old = rw (← c.self.view_is) at is in
       let asked = rw (← c.self.view_is) at c.requires.ready in
-      let stays : is_opening c.args.step.now ≡ false = sym (opens_is i.ready c.in-Some.ready (room_for c.args.step.now) (sym c.take.ensures.value ∙ c.in-Some.is) asked) ∙ ap (λ (o : Option Closing). is_some o) c.in_default-closing.is in
+      let stays : is_opening c.args.step.now ≡ false = sym (opens_is i.ready c.in-Some.ready (room_for c.args.step.now) (sym c.take.ensures.value ∙ c.in-Some.is) asked) ∙ not_so c.in-Some.ready.opens c.if-not-ready.true in
       none_made g.M.Consistency.rules g.met.M.Consistency.lawful run c.args.core.now stands c.args.step.now c.requires.weighed old new was stays refl
       (ap (option_map (open_end i.noted i.waiters)) c.in_default-current.is) (ap (option_map (open_end number i.waiters)) c.in_default-current.is)
       (none_unchanged g.M.Consistency.rules _ _ c.reset.new.self c.reset.ensures);
 }
 
-pub returns-in_default-closing : goal.returns-in_default-closing
-returns-in_default-closing g c = record {
+pub returns-then-not-ready : goal.returns-then-not-ready
+returns-then-not-ready g c = record {
   made = λ run stands is suffices.
       let i = c.self.inside in
       let number = c.events-number.result + 1 in
@@ -35,7 +34,7 @@ returns-in_default-closing g c = record {
       let new : Made = record { ended = i.ended.items; current = Some (open_end number c.step_leg.new.waiters c.step_leg.new.leg); ready = option_map room_of c.take.new.self; last_scan = c.step_leg.new.unchanged } in
       let was : IsMadeOf g.M.Consistency.rules run old = rw (← c.self.view_is) at is in
       let asked = rw (← c.self.view_is) at c.requires.ready in
-      let stays : is_opening c.args.step.now ≡ false = sym (opens_is i.ready c.in-Some.ready (room_for c.args.step.now) (sym c.take.ensures.value ∙ c.in-Some.is) asked) ∙ ap (λ (o : Option Closing). is_some o) c.in_default-closing.is in
+      let stays : is_opening c.args.step.now ≡ false = sym (opens_is i.ready c.in-Some.ready (room_for c.args.step.now) (sym c.take.ensures.value ∙ c.in-Some.is) asked) ∙ not_so c.in-Some.ready.opens c.if-not-ready.true in
       still_made g.M.Consistency.rules g.met.M.Consistency.lawful run c.args.core.now stands c.args.step.now c.requires.weighed old new was stays refl
       i.noted number c.in-Some-current.leg c.step_leg.new.leg i.waiters c.step_leg.new.waiters (ap (λ m. m + 1) c.events-number.ensures.value) c.step_leg.ensures.gone_on (rw (← c.self.view_is) at suffices) (inr c.step_leg.ensures.unchanged)
       (ap (option_map (open_end i.noted i.waiters)) c.in-Some-current.is) refl;
@@ -50,20 +49,22 @@ returns g c = record {
       let step = c.args.step.now in
       let number = c.events-number.result + 1 in
       let later = c.open.new.self in
-      let left = c.in-Some-closing.closing in
+      let left = c.in-Some-take.closing in
       let old : Made = record { ended = i.ended.items; current = option_map (open_end i.noted i.waiters) i.current; ready = option_map room_of i.ready; last_scan = i.unchanged } in
       let new : Made = record { ended = c.end_leg.new.ended.items; current = Some (open_end number later c.opened-next.result); ready = option_map room_of c.take.new.self; last_scan = c.reset-2.new.self } in
       let was : IsMadeOf model run old = rw (← c.self.view_is) at is in
       let asked = rw (← c.self.view_is) at c.requires.ready in
       let kept : i.ready ≡ Some c.in-Some.ready = sym c.take.ensures.value ∙ c.in-Some.is in
-      let turns : is_opening step ≡ true = sym (opens_is i.ready c.in-Some.ready (room_for step) kept asked) ∙ ap (λ (o : Option Closing). is_some o) c.in-Some-closing.is in
-      let ready = ready_for i.current i.waiters _ i.ready c.in-Some.ready c.self.invariant.for_event kept in
-      let closing = subst (λ (o : Option Closing). IfSome o (IsClosing i.current i.waiters)) c.in-Some-closing.is ready.closing in
+      let turns : is_opening step ≡ true = sym (opens_is i.ready c.in-Some.ready (room_for step) kept asked) ∙ not_other c.in-Some.ready.opens c.if-not-ready.false in
+      let ready = ready_for i.current i.waiters _ i.closing i.ready c.in-Some.ready c.self.invariant.for_event kept in
+      let there : i.closing ≡ Some left = sym c.take-2.ensures.value ∙ c.in-Some-take.is in
+      let closing : IsClosing i.current i.waiters left =
+      subst (HasClosing i.current i.waiters true) there (subst (λ (opens : Bool). HasClosing i.current i.waiters opens i.closing) (not_other c.in-Some.ready.opens c.if-not-ready.false) ready.left) in
       let target = ap (λ (l : OpenLeg). l.target.0) c.opened-next.ensures in
       turned_made model g.met.M.Consistency.lawful run c.args.core.now stands step c.requires.weighed old new was turns
       number later (ap (λ m. m + 1) c.events-number.ensures.value)
       (λ sound group. c.open.ensures sound group ∙ ap (λ level. if has_off s level group then Some [] else None) target)
-      (rw c.in-Some-closing.is at c.end_leg.ensures
+      (c.end_leg.ensures
       ∙ ap (λ es. i.ended.items ++ es)
       (ap₂ (λ ls xs. ends_with i.noted i.current ls xs left.waiters.items) closing.lists closing.scans
       ∙ (ap (ends_with i.noted i.current i.waiters.reasons.lists i.waiters.reasons.scans) closing.all ∙ ends_are i.noted i.waiters i.current)))

@@ -6,13 +6,8 @@ returns-in_err-reserve-clause-current g c =
     let i = c.self.inside in
     rw (← c.self.view_is) (open_end_same i.noted c.reserve.new.self i.waiters c.reserve.ensures.groups c.reserve.ensures.heads c.reserve.ensures.lists c.reserve.ensures.scans i.current)
 
-pub returns-in_err-reserve-2-clause-current : goal.returns-in_err-reserve-2-clause-current
-returns-in_err-reserve-2-clause-current g c =
-    let i = c.self.inside in
-    rw (← c.self.view_is) (open_end_same i.noted c.reserve.new.self i.waiters c.reserve.ensures.groups c.reserve.ensures.heads c.reserve.ensures.lists c.reserve.ensures.scans i.current)
-
-pub returns-in_err-closing-clause-current : goal.returns-in_err-closing-clause-current
-returns-in_err-closing-clause-current g c =
+pub returns-in_err-opens-clause-current : goal.returns-in_err-opens-clause-current
+returns-in_err-opens-clause-current g c =
     let i = c.self.inside in
     rw (← c.self.view_is) (open_end_same i.noted c.reserve.new.self i.waiters c.reserve.ensures.groups c.reserve.ensures.heads c.reserve.ensures.lists c.reserve.ensures.scans i.current)
 
