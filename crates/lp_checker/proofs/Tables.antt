@@ -1,27 +1,79 @@
 -- What holds of the fold's table still holds after a change.
-use Rattle.std.proofs.Common.{◌≡◌, ℕ, ◌+◌, ◌<◌, ◌≤◌, true, false, List, length, count_by, get_or, set, Option, Some, None, is_some, if◌then◌else◌, nat_eq, refl, sym, ap, ap₂, subst, ◌∙◌, ⊎_elim, arith}
-use Rattle.std.proofs.lemmas.Bool.{cases_eq, eq-eqb, ne_eqb, cond-true, cond-false}
-use Rattle.std.proofs.lemmas.List.{length-set, get_or-set_same, get_or-set_other}
-use Rattle.std.proofs.lemmas.List.{length-map}
+use Rattle.std.proofs.Common.{◌≡◌, ℕ, zero, suc, ◌+◌, ◌-◌, ◌<◌, ◌≤◌, Bool, true, false, List, [], ◌∷◌, ◌++◌, length, count_by, get_or, set, Option, Some, None, is_some, Result, Ok, Err, OnOk, OnErr, if◌then◌else◌, nat_eq, refl, sym, ap, ap₂, subst, ◌∙◌, ⊎_elim, append_assoc, length-append, arith}
+use Rattle.std.proofs.Math.ListN.{replicate, get_or-eq_default}
+use Rattle.std.proofs.lemmas.Bool.{cases_eq, cases_lt, eq-eqb, ne_eqb, cond-true, cond-false}
+use Rattle.std.proofs.lemmas.List.{length-set, get_or-set_same, get_or-set_other, get_or_default, length-replicate, set-append_left}
 use Rattle.std.proofs.lemmas.List.Sums.{count_by-le-length}
 use mathlib.Core.Path.{fun_ext}
-use Rattle.std.specs.Global.{Box}
 use Rattle.std.specs.Option.{option_map}
 use Rattle.lp_numbers.specs.Numbers.{Numbers, has}
-use Rattle.lp_transition.specs.Tasks.{Dead, change}
+use Rattle.lp_transition.specs.Tasks.{Fate, Live, Dead, change, map_live}
 use Rattle.lp_transition.specs.Leg.{Standing}
 use Rattle.lp_transition.specs.Table.{Table, slot, fate_at, standings}
-use Rattle.lp_transition.specs.inside.Table.{is_in, changed, with_task, without_task}
-use Rattle.lp_transition.proofs.TableLemmas.{standings-changed, slot-changed, slot-changed_other, slot-with_task_other, used-with_task, used-with_task_other, slot-without_task, slot-without_task_other, IsWide-changed, IsWide-with_task, IsWide-without_task}
-use Rattle.lp_transition.specs.inside.Slots.{slots_of}
-use Rattle.lp_transition.proofs.SlotLemmas.{boxed, slots_of-change}
+use Rattle.lp_transition.specs.inside.Table.{is_in, changed, with_task, without_task, IsBlank}
+use Rattle.lp_transition.proofs.TableLemmas.{standings-changed, standings-with_task, standings-without_task, slot-changed, slot-changed_other, slot-with_task_other, used-with_task, used-with_task_other, slot-without_task, slot-without_task_other, IsWide-changed, IsWide-with_task, IsWide-without_task}
 use Rattle.lp_transition.proofs.CountLemmas.{count-changed, count-with_task, count-without_task}
 use Rattle.lp_transition.proofs.MemberLemmas.{count-blank}
-use Rattle.lp_checker.specs.inside.Tables.{IsCounted}
+use Rattle.lp_checker.specs.inside.Tables.{all_slots, IsCounted, IsKept}
 
 is_some-map : {A B : Type 0} (f : A → B) (o : Option A) → is_some (option_map f o) ≡ is_some o
 is_some-map f None = refl
 is_some-map f (Some x) = refl
+
+-- ---- Slots
+
+none_at : (n i : ℕ) → get_or {A = Option Standing} (replicate n None) i None ≡ None
+none_at zero i = refl
+none_at (suc n) zero = refl
+none_at (suc n) (suc i) = none_at n i
+
+none_behind : (xs : List (Option Standing)) (n i : ℕ) → get_or (xs ++ replicate n None) i None ≡ get_or xs i None
+none_behind [] n i = none_at n i
+none_behind (x ∷ xs) n zero = refl
+none_behind (x ∷ xs) n (suc i) = none_behind xs n i
+
+-- each slot holds what it held
+pub slot-all : (slots : List (Option Standing)) (i : ℕ) → get_or (all_slots slots) i None ≡ get_or slots i None
+unfolding all_slots
+slot-all slots i = none_behind slots (65536 - length slots) i
+
+-- behind the slots that there are nobody lives
+pub slot-past : (slots : List (Option Standing)) (i : ℕ) → length slots ≤ i → get_or (all_slots slots) i None ≡ None
+slot-past slots i past = slot-all slots i ∙ get_or-eq_default slots None past
+
+some_within : (slots : List (Option Standing)) (i : ℕ) (x : Standing) → get_or (all_slots slots) i None ≡ Some x → i < length slots
+some_within slots i x some = ⊎_elim (λ (h : i < length slots). h) (λ (past : length slots ≤ i). let none = slot-past slots i past in absurd (cc)) (cases_lt i (length slots))
+
+count_within : (members : List ℕ) (group : ℕ) → 1 ≤ get_or members group 0 → group < length members
+count_within members group some = ⊎_elim (λ (h : group < length members). h) (λ (past : length members ≤ group). let none = get_or-eq_default members 0 past in absurd (omega (arith, none, some))) (cases_lt group (length members))
+
+pub length-all : (slots : List (Option Standing)) → length slots ≤ 65536 → length (all_slots slots) ≡ 65536
+unfolding all_slots
+length-all slots few = omega (arith, length-append slots (replicate (65536 - length slots) None), length-replicate {A = Option Standing} (65536 - length slots) None, few)
+
+pub set-all : (slots : List (Option Standing)) (i : ℕ) (x : Option Standing) → i < length slots → all_slots (set slots i x) ≡ set (all_slots slots) i x
+unfolding all_slots
+set-all slots i x h =
+    ap (λ n. set slots i x ++ replicate (65536 - n) None) (length-set slots i x)
+    ∙ sym (set-append_left slots (replicate (65536 - length slots) None) i x h)
+
+one_less : (n : ℕ) → n < 65536 → 65536 - n ≡ suc (65536 - (n + 1))
+one_less n h = omega (arith, h)
+
+-- one more slot without a task
+pub push-all : (slots : List (Option Standing)) → length slots < 65536 → all_slots (slots ++ None ∷ []) ≡ all_slots slots
+unfolding all_slots
+push-all slots h =
+    ap (λ n. (slots ++ None ∷ []) ++ replicate (65536 - n) None) (length-append slots (None ∷ []))
+    ∙ append_assoc slots (None ∷ []) (replicate (65536 - (length slots + 1)) None)
+    ∙ ap (λ n. slots ++ replicate n None) (sym (one_less (length slots) h))
+
+-- one more zero
+pub push-zero : (numbers : List ℕ) (n : ℕ) → get_or (numbers ++ 0 ∷ []) n 0 ≡ get_or numbers n 0
+push-zero [] zero = refl
+push-zero [] (suc n) = refl
+push-zero (x ∷ numbers) zero = refl
+push-zero (x ∷ numbers) (suc n) = push-zero numbers n
 
 module _ (table : Table) (members : List ℕ) (now : IsCounted table members) where
   -- where one live task is changed, but for its group
@@ -30,7 +82,6 @@ module _ (table : Table) (members : List ℕ) (now : IsCounted table members) wh
     wide = IsWide-changed table t f now.wide;
     nobody = ⊎_elim (λ (e : 0 ≡ t). subst (λ v. slot (changed t f table) v ≡ None) (sym e) (slot-changed table t f now.wide h ∙ ap (option_map f) (subst (λ v. slot table v ≡ None) e now.nobody))) (λ (ne : 0 ≡ t → ⊥). slot-changed_other table t 0 f ne ∙ now.nobody) (cases_eq 0 t);
     known = λ u some. now.known u (sym (alive u) ∙ some);
-    groups = now.groups;
     counted = λ group lt. now.counted group lt ∙ sym (count-changed table t f group now.wide h same);
   }
     where
@@ -42,7 +93,7 @@ module _ (table : Table) (members : List ℕ) (now : IsCounted table members) wh
           (cases_eq u t)
 
   -- where a task becomes live
-  pub counted-with_task : (t : ℕ) (x : Standing) → 0 < t → t < 65536 → x.group < 65536 → slot table t ≡ None → IsCounted (with_task t x table) (set members x.group (get_or members x.group 0 + 1))
+  pub counted-with_task : (t : ℕ) (x : Standing) → 0 < t → t < 65536 → x.group < length members → slot table t ≡ None → IsCounted (with_task t x table) (set members x.group (get_or members x.group 0 + 1))
   counted-with_task t x positive h small none = record {
     wide = IsWide-with_task table t x now.wide;
     nobody = slot-with_task_other table t 0 x (λ e. omega (arith, positive, e)) ∙ now.nobody;
@@ -50,7 +101,6 @@ module _ (table : Table) (members : List ℕ) (now : IsCounted table members) wh
         (λ (e : u ≡ t). subst (λ v. has (with_task t x table).used v ≡ true) (sym e) (used-with_task table t x now.wide h))
         (λ (ne : u ≡ t → ⊥). used-with_task_other table t u x ne ∙ now.known u (ap is_some (sym (slot-with_task_other table t u x ne)) ∙ some))
         (cases_eq u t);
-    groups = length-set members x.group (get_or members x.group 0 + 1) ∙ now.groups;
     counted = λ group lt. one_more group lt;
   }
     where
@@ -60,7 +110,7 @@ module _ (table : Table) (members : List ℕ) (now : IsCounted table members) wh
           let before = now.counted group lt in
           ⊎_elim
           (λ (e : group ≡ x.group).
-          let here = get_or-set_same members x.group (get_or members x.group 0 + 1) 0 (omega (arith, small, now.groups)) in
+          let here = get_or-set_same members x.group (get_or members x.group 0 + 1) 0 small in
           let one = cond-true {A = ℕ} (nat_eq x.group group) 1 0 (eq-eqb x.group group (sym e)) in
           let at : get_or (set members x.group (get_or members x.group 0 + 1)) group 0 ≡ get_or members group 0 + 1 = subst (λ g. get_or (set members x.group (get_or members x.group 0 + 1)) g 0 ≡ get_or members g 0 + 1) (sym e) here in
           omega (arith, at, before, count, one))
@@ -71,12 +121,11 @@ module _ (table : Table) (members : List ℕ) (now : IsCounted table members) wh
           (cases_eq group x.group)
 
   -- where a live task ends
-  pub counted-without_task : (t : ℕ) (x : Standing) → t < 65536 → x.group < 65536 → slot table t ≡ Some x → (n : ℕ) → n + 1 ≡ get_or members x.group 0 → IsCounted (without_task t table) (set members x.group n)
+  pub counted-without_task : (t : ℕ) (x : Standing) → t < 65536 → x.group < length members → slot table t ≡ Some x → (n : ℕ) → n + 1 ≡ get_or members x.group 0 → IsCounted (without_task t table) (set members x.group n)
   counted-without_task t x h small some n less = record {
     wide = IsWide-without_task table t now.wide;
     nobody = ⊎_elim (λ (e : 0 ≡ t). subst (λ v. slot (without_task t table) v ≡ None) (sym e) (slot-without_task table t now.wide h)) (λ (ne : 0 ≡ t → ⊥). slot-without_task_other table t 0 ne ∙ now.nobody) (cases_eq 0 t);
     known = λ u alive. known_still u alive;
-    groups = length-set members x.group n ∙ now.groups;
     counted = λ group lt. one_less group lt;
   }
     where
@@ -93,7 +142,7 @@ module _ (table : Table) (members : List ℕ) (now : IsCounted table members) wh
           let before = now.counted group lt in
           ⊎_elim
           (λ (e : group ≡ x.group).
-          let at : get_or (set members x.group n) group 0 ≡ n = subst (λ g. get_or (set members x.group n) g 0 ≡ n) (sym e) (get_or-set_same members x.group n 0 (omega (arith, small, now.groups))) in
+          let at : get_or (set members x.group n) group 0 ≡ n = subst (λ g. get_or (set members x.group n) g 0 ≡ n) (sym e) (get_or-set_same members x.group n 0 small) in
           let one = cond-true {A = ℕ} (nat_eq x.group group) 1 0 (eq-eqb x.group group (sym e)) in
           let was : n + 1 ≡ get_or members group 0 = subst (λ g. n + 1 ≡ get_or members g 0) (sym e) less in
           omega (arith, at, before, count, one, was))
@@ -111,31 +160,153 @@ counted-some table members now t x h small some =
     let before = now.counted x.group small in
     omega (arith, count, one, before)
 
--- ---- Boxes
-
--- as many boxes as slots
-pub boxes_wide : (boxes : List (Option (Box Standing))) (used : Numbers) (members : List ℕ) → IsCounted (record { slots = slots_of boxes; used = used }) members → length boxes ≡ 65536
-boxes_wide boxes used members now = sym (length-map boxes boxed) ∙ now.wide.slots
-
--- where the live task in a slot's box is changed, but for its group
-pub counted-boxed : (boxes : List (Option (Box Standing))) (used : Numbers) (members : List ℕ) → IsCounted (record { slots = slots_of boxes; used = used }) members → (i : ℕ) (old new : Option (Box Standing)) (f : Standing → Standing) → i < 65536 → old ≡ get_or boxes i old → boxed new ≡ option_map f (boxed old) → ((x : Standing) → (f x).group ≡ x.group)
-    → IsCounted (record { slots = slots_of (set boxes i new); used = used }) members
-counted-boxed boxes used members now i old new f h e is same =
-    let wide = boxes_wide boxes used members now in
-    let table : Table = record { slots = slots_of boxes; used = used } in
-    subst (λ (slots : List (Option Standing)). IsCounted (record { slots = slots; used = used }) members) (sym (slots_of-change boxes i old new f (omega (arith, wide, h)) e is)) (counted-changed table members now i f h same)
+-- where the counts are the same
+pub counted-same : (table : Table) (members more : List ℕ) → IsCounted table members → ((n : ℕ) → get_or more n 0 ≡ get_or members n 0) → IsCounted table more
+counted-same table members more now same = record {
+  wide = now.wide;
+  nobody = now.nobody;
+  known = now.known;
+  counted = λ group lt. same group ∙ now.counted group lt;
+}
 
 -- a table without tasks
-pub counted-blank : (boxes : List (Option (Box Standing))) (used : Numbers) (members : List ℕ) → length boxes ≡ 65536 → length used ≡ 65536 → length members ≡ 65536 → ((t : ℕ) → get_or (slots_of boxes) t None ≡ None) → ((t : ℕ) → has used t ≡ false) → ((group : ℕ) → get_or members group 0 ≡ 0) → IsCounted (record { slots = slots_of boxes; used = used }) members
-counted-blank boxes used members wide used_wide groups empty none zero =
-    let table : Table = record { slots = slots_of boxes; used = used } in
+pub blank : (used : Numbers) → length used ≡ 65536 → ((t : ℕ) → has used t ≡ false) → IsBlank (record { slots = all_slots []; used = used })
+blank used wide none = record {
+  wide = record { slots = length-all [] (omega arith); used = wide };
+  no_task = λ t. slot-all [] t;
+  none_used = none;
+}
+
+pub kept-blank : (used : Numbers) → length used ≡ 65536 → ((t : ℕ) → has used t ≡ false) → IsKept [] used []
+kept-blank used wide none =
+    let table : Table = record { slots = all_slots []; used = used } in
     record {
-      wide = record { slots = length-map boxes boxed ∙ wide; used = used_wide };
-      nobody = empty 0;
-      known = λ t some. let dead = ap is_some (empty t) in absurd (cc);
-      groups = groups;
-      counted = λ group lt. zero group ∙ sym (count-blank table group (record { wide = record { slots = length-map boxes boxed ∙ wide; used = used_wide }; no_task = empty; none_used = none }));
+      few = omega arith;
+      counted = record {
+        wide = (blank used wide none).wide;
+        nobody = slot-all [] 0;
+        known = λ t some. let dead = ap is_some (slot-all [] t) in absurd (cc);
+        counted = λ group lt. sym (count-blank table group (blank used wide none));
+      };
     }
+
+-- ---- A slot that is changed
+
+module _ (slots : List (Option Standing)) (used : Numbers) (members : List ℕ) (now : IsKept slots used members) (i : ℕ) (h : i < length slots) where
+  abbrev table : Table
+  table = record { slots = all_slots slots; used = used }
+
+  -- a slot as it stands
+  pub slot-here : (old : Option Standing) → old ≡ get_or slots i old → slot table i ≡ old
+  slot-here old e = slot-all slots i ∙ get_or_default slots i None old h ∙ sym e
+
+  small : i < 65536
+  small = omega (arith, h, now.few)
+
+  module _ (old new : Option Standing) (f : Standing → Standing) (e : old ≡ get_or slots i old) (is : new ≡ option_map f old) where
+    all_changed : all_slots (set slots i new) ≡ set (all_slots slots) i (option_map f (slot table i))
+    all_changed = set-all slots i new h ∙ ap (set (all_slots slots) i) (is ∙ ap (option_map f) (sym (slot-here old e)))
+
+    -- the live task in a slot is changed, but for its group
+    pub kept-changed : ((x : Standing) → (f x).group ≡ x.group) → IsKept (set slots i new) used members
+    kept-changed same = record {
+      few = omega (arith, length-set slots i new, now.few);
+      counted = subst (λ (all : List (Option Standing)). IsCounted (record { slots = all; used = used }) members) (sym all_changed) (counted-changed table members now.counted i f small same);
+    }
+
+    pub standings-kept : standings (record { slots = all_slots (set slots i new); used = used }) ≡ change i f (standings table)
+    standings-kept = ap (λ (all : List (Option Standing)). standings (record { slots = all; used = used })) all_changed ∙ standings-changed table i f now.counted.wide small
+
+-- a change that is made only where a call went well
+abbrev pub where_ok : {T E : Type 0} → Result T E → (Standing → Standing) → Standing → Standing
+where_ok (Ok v) f x = f x
+where_ok (Err e) f x = x
+
+pub where_ok-is : {T E : Type 0} (r : Result T E) (f : Standing → Standing) (new old : Standing) → OnOk r (new ≡ f old) → OnErr r (new ≡ old) → new ≡ where_ok r f old
+where_ok-is (Ok v) f new old well ill = well
+where_ok-is (Err e) f new old well ill = ill
+
+pub where_ok-group : {T E : Type 0} (r : Result T E) (f : Standing → Standing) → ((x : Standing) → (f x).group ≡ x.group) → (x : Standing) → (where_ok r f x).group ≡ x.group
+where_ok-group (Ok v) f same x = same x
+where_ok-group (Err e) f same x = refl
+
+pub where_ok-on : {T E : Type 0} (r : Result T E) (f : Standing → Standing) (i : ℕ) (new old : ℕ → Fate Standing) → new ≡ change i (where_ok r f) old → OnOk r (new ≡ change i f old)
+where_ok-on (Ok v) f i new old e = e
+where_ok-on (Err e) f i new old h = tt
+
+-- ---- A task that comes or goes
+
+-- where more slots and counts are there, and say the same
+pub kept-same : (slots more : List (Option Standing)) (used : Numbers) (members counts : List ℕ) → IsKept slots used members → length more ≤ 65536 → all_slots more ≡ all_slots slots → ((n : ℕ) → get_or counts n 0 ≡ get_or members n 0) → IsKept more used counts
+kept-same slots more used members counts now few all same = record {
+  few = few;
+  counted = counted-same (record { slots = all_slots more; used = used }) members counts (subst (λ (them : List (Option Standing)). IsCounted (record { slots = them; used = used }) members) (sym all) now.counted) same;
+}
+
+module _ (slots : List (Option Standing)) (used : Numbers) (members : List ℕ) (now : IsKept slots used members) (t : ℕ) (x : Standing) where
+  abbrev its : Table
+  its = record { slots = all_slots slots; used = used }
+
+  module _ (h : t < length slots) where
+    below : t < 65536
+    below = omega (arith, h, now.few)
+
+    -- a task becomes live
+    pub kept-put : 0 < t → x.group < length members → slot its t ≡ None → IsKept (set slots t (Some x)) (set used t true) (set members x.group (get_or members x.group 0 + 1))
+    kept-put positive small none = record {
+      few = omega (arith, length-set slots t (Some x), now.few);
+      counted = subst (λ (all : List (Option Standing)). IsCounted (record { slots = all; used = set used t true }) (set members x.group (get_or members x.group 0 + 1))) (sym (set-all slots t (Some x) h)) (counted-with_task its members now.counted t x positive below small none);
+    }
+
+    pub standings-put : standings (record { slots = all_slots (set slots t (Some x)); used = set used t true }) ≡ (λ u. if nat_eq u t then Live x else standings its u)
+    standings-put = ap (λ (all : List (Option Standing)). standings (record { slots = all; used = set used t true })) (set-all slots t (Some x) h) ∙ standings-with_task its t x now.counted.wide below
+
+  module _ (some : slot its t ≡ Some x) (small : x.group < 65536) where
+    pub within : t < length slots
+    within = some_within slots t x some
+
+    t_small : t < 65536
+    t_small = omega (arith, within, now.few)
+
+    pub one_there : 1 ≤ get_or members x.group 0
+    one_there = counted-some its members now.counted t x t_small small some
+
+    pub group_within : x.group < length members
+    group_within = count_within members x.group one_there
+
+    -- a live task ends
+    pub kept-remove : (n : ℕ) → n + 1 ≡ get_or members x.group 0 → IsKept (set slots t None) used (set members x.group n)
+    kept-remove n less = record {
+      few = omega (arith, length-set slots t None, now.few);
+      counted = subst (λ (all : List (Option Standing)). IsCounted (record { slots = all; used = used }) (set members x.group n)) (sym (set-all slots t None within)) (counted-without_task its members now.counted t x t_small group_within some n less);
+    }
+
+    pub standings-remove : standings (record { slots = all_slots (set slots t None); used = used }) ≡ (λ u. if nat_eq u t then Dead else standings its u)
+    standings-remove =
+        ap (λ (all : List (Option Standing)). standings (record { slots = all; used = used })) (set-all slots t None within)
+        ∙ standings-without_task its t now.counted.wide t_small (now.counted.known t (ap is_some some))
+
+no_task : (f : Standing → Standing) (used : Bool) → map_live f (fate_at None used) ≡ fate_at None used
+no_task f true = refl
+no_task f false = refl
+
+same_fate : (f : Standing → Standing) (o : Option Standing) (used : Bool) → o ≡ None → fate_at o used ≡ map_live f (fate_at o used)
+same_fate f o used none = ap (λ (p : Option Standing). fate_at p used) none ∙ sym (no_task f used) ∙ sym (ap (λ (p : Option Standing). map_live f (fate_at p used)) none)
+
+either_fate : (b : Bool) (x y : Fate Standing) → x ≡ y → x ≡ (if b then y else x)
+either_fate true x y e = e
+either_fate false x y e = refl
+
+-- nobody is changed where there is no such task
+pub standings-absent : (slots : List (Option Standing)) (used : Numbers) (i : ℕ) (f : Standing → Standing) → length slots ≤ i → standings (record { slots = all_slots slots; used = used }) ≡ change i f (standings (record { slots = all_slots slots; used = used }))
+standings-absent slots used i f past =
+    let table : Table = record { slots = all_slots slots; used = used } in
+    let none : slot table i ≡ None = slot-past slots i past in
+    fun_ext (λ u.
+    ⊎_elim
+    (λ (e : u ≡ i). either_fate (nat_eq u i) (standings table u) (map_live f (standings table u)) (same_fate f (slot table u) (has used u) (ap (slot table) e ∙ none)))
+    (λ (ne : u ≡ i → ⊥). sym (cond-false (nat_eq u i) (map_live f (standings table u)) (standings table u) (ne_eqb u i ne)))
+    (cases_eq u i))
 
 -- where a number is used
 pub counted-used : (table : Table) (members : List ℕ) (t : ℕ) → IsCounted table members → t < 65536 → IsCounted (record table { used = set table.used t true }) members
@@ -147,18 +318,10 @@ counted-used table members t now h = record {
       (λ (e : u ≡ t). subst (λ v. has (set table.used t true) v ≡ true) (sym e) (get_or-set_same table.used t true false (omega (arith, h, now.wide.used))))
       (λ (ne : u ≡ t → ⊥). get_or-set_other table.used t u true false ne ∙ now.known u some)
       (cases_eq u t);
-  groups = now.groups;
   counted = now.counted;
 }
 
 -- ---- Fates
-
-pub standings-boxed : (boxes : List (Option (Box Standing))) (used : Numbers) (members : List ℕ) → IsCounted (record { slots = slots_of boxes; used = used }) members → (i : ℕ) (old new : Option (Box Standing)) (f : Standing → Standing) → i < 65536 → old ≡ get_or boxes i old → boxed new ≡ option_map f (boxed old)
-    → standings (record { slots = slots_of (set boxes i new); used = used }) ≡ change i f (standings (record { slots = slots_of boxes; used = used }))
-standings-boxed boxes used members now i old new f h e is =
-    let wide = boxes_wide boxes used members now in
-    let table : Table = record { slots = slots_of boxes; used = used } in
-    ap (λ (slots : List (Option Standing)). standings (record { slots = slots; used = used })) (slots_of-change boxes i old new f (omega (arith, wide, h)) e is) ∙ standings-changed table i f now.wide h
 
 -- a number that no live task has is used
 pub standings-used : (table : Table) (members : List ℕ) (t : ℕ) → IsCounted table members → t < 65536 → slot table t ≡ None → standings (record table { used = set table.used t true }) ≡ (λ u. if nat_eq u t then Dead else standings table u)

@@ -90,7 +90,7 @@ impl Fold {
         ensures tasks { OnOk result (standings self.new.tasks ≡ own_effect M.rules.child_group self.old.number event (standings self.old.tasks)) }
     {
         match event {
-            Event::Call(task, func) => self.tasks.call(task, func, self.number),
+            Event::Call(task, func) => return self.tasks.call(task, func, self.number),
             Event::Ret(task) => self.tasks.ret(task),
             Event::Sleep(task) => self.tasks.set_mode(task, Mode::Asleep),
             Event::Wake(task) | Event::Enter(task) => self.tasks.set_mode(task, Mode::Kernel),
@@ -128,9 +128,8 @@ impl Fold {
             unreachable!();
         };
         let group = model.child_group(live.group(), child, how);
-        let born = FoldedTask::new(child, Class::Normal, Mode::Kernel, group, live.level());
-        self.tasks.put(child, Box::new(alloc, born)?);
-        Ok(())
+        let born = FoldedTask::new(alloc, Class::Normal, Mode::Kernel, group, live.level());
+        self.tasks.put(child, born)
     }
 
     /// Takes an accepted end of a task.
@@ -235,13 +234,20 @@ fn has_serial(frames: &[Frame], serial: u64) -> bool
 }
 
 /// The live task that an opening has under a number.
-fn task_at(opening: &Opening, task: TaskId) -> Option<FoldedTask>
-    ensures { result ≡ slot opening.now.table task.0 }
+fn task_at(alloc: Global, opening: &Opening, task: TaskId) -> Result<Option<FoldedTask>, AllocError>
+    ensures { IfOk result (λ live. live ≡ slot opening.now.table task.0) }
 {
-    let view = opening.task(task)?;
-    let group = opening.group_of(task)?;
-    let level = opening.level_of(task)?;
-    Some(FoldedTask::of(&view, group, level))
+    let Some(view) = opening.task(task) else {
+        return Ok(None);
+    };
+    let Some(group) = opening.group_of(task) else {
+        return Ok(None);
+    };
+    let Some(level) = opening.level_of(task) else {
+        return Ok(None);
+    };
+    let live = FoldedTask::of(alloc, &view, group, level)?;
+    Ok(Some(live))
 }
 
 /// Puts what an opening says of a number into a table, where the number is free.
@@ -255,8 +261,8 @@ fn put_from(
     requires free { standings tasks.old task.0 ≡ Unused }
     ensures { OnOk result (standings tasks.new ≡ (λ t. if nat_eq t task.0 then standings opening.now.table t else standings tasks.old t)) }
 {
-    match task_at(opening, task) {
-        Some(live) => tasks.put(task, Box::new(alloc, live)?),
+    match task_at(alloc, opening, task)? {
+        Some(live) => return tasks.put(task, live),
         None if opening.used(task) => tasks.bury(task),
         None => {}
     }

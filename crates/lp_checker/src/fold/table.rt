@@ -1,37 +1,38 @@
 //! The live tasks by their numbers.
-ghost use Rattle.std.specs.Prelude.{◌≡◌, ℕ, ◌<◌, ◌≤◌, None, not, length, count_by, is_some, option_copied, slice_index, nat_eq, if◌then◌else◌, Some, IfOk};
+ghost use Rattle.std.specs.Prelude.{◌≡◌, ℕ, ◌<◌, ◌≤◌, None, not, length, count_by, is_some, option_copied, slice_index, nat_eq, if◌then◌else◌, Some, IfOk, OnOk};
 ghost use Rattle.std.specs.Option.{ForSome, option_map};
 ghost use Rattle.lp_numbers.specs.Numbers.{has};
-ghost use Rattle.lp_transition.specs.inside.Slots.{slots_of};
+ghost use Rattle.lp_checker.specs.inside.Tables.{all_slots};
 ghost use Rattle.lp_transition.specs.Tasks.{is_unused, change, Live, Dead};
 ghost use Rattle.lp_transition.specs.Machine.{put_in, calling, returning};
 
 use super::task::FoldedTask;
-use lp_numbers::{NUMBERS, NumberSet};
+use lp_numbers::NumberSet;
 use lp_stack::{GroupId, Mode, TaskId};
 use lp_symbols::SymId;
 use std::alloc::{AllocError, Global};
 use std::marker::Model;
 
-/// The live tasks, the numbers that were ever used, and how many live members each group has. Only
-/// `new` allocates.
+/// The live tasks, the numbers that were ever used, and how many live members each group has.
+///
+/// The lists go as far as the greatest number that was put: three folds of a check would else begin
+/// with a megabyte each, for a handful of tasks.
 #[derive(Drop)]
 pub(crate) struct FoldedTable {
-    slots: Vec<Option<Box<FoldedTask>>>,
+    slots: Vec<Option<FoldedTask>>,
     used: NumberSet,
     members: Vec<u32>,
 }
 
 impl Model for FoldedTable {
     ghost use Rattle.lp_transition.specs.Table.{Table};
-    ghost use Rattle.lp_transition.specs.inside.Slots.{slots_of};
-    ghost use Rattle.lp_checker.specs.inside.Tables.{IsCounted};
+    ghost use Rattle.lp_checker.specs.inside.Tables.{all_slots, IsKept};
 
     ghost Value = { Table };
 
-    ghost view = { λ t. record { slots = slots_of t.slots.items; used = t.used } };
+    ghost view = { λ t. record { slots = all_slots t.slots.items; used = t.used } };
 
-    ghost invariant = { λ t. IsCounted (record { slots = slots_of t.slots.items; used = t.used }) t.members.items };
+    ghost invariant = { λ t. IsKept t.slots.items t.used t.members.items };
 }
 
 impl FoldedTable {
@@ -43,14 +44,10 @@ impl FoldedTable {
     pub(crate) fn new(alloc: Global) -> Result<Self, AllocError>
         ensures { IfOk result (λ table. IsBlank table) }
     {
-        let mut slots = Vec::with_capacity(alloc, NUMBERS)?;
-        while slots.len() < NUMBERS {
-            slots.push(None)?;
-        }
         Ok(FoldedTable {
-            slots,
+            slots: Vec::new(alloc),
             used: NumberSet::new(alloc)?,
-            members: zeros(alloc, NUMBERS)?,
+            members: Vec::new(alloc),
         })
     }
 
@@ -60,7 +57,12 @@ impl FoldedTable {
         ensures wide { IsWide self.now }
         ensures known { IsKnown self.now task.0 }
     {
-        self.slots[usize::from(task.0)].as_deref()
+        let place = usize::from(task.0);
+        if place < self.slots.len() {
+            self.slots[place].as_ref()
+        } else {
+            None
+        }
     }
 
     /// Whether a number was ever used.
@@ -78,7 +80,12 @@ impl FoldedTable {
         ensures wide { IsWide self.now }
         ensures nobody { slot self.now 0 ≡ None }
     {
-        self.members[usize::from(group.0)]
+        let place = usize::from(group.0);
+        if place < self.members.len() {
+            self.members[place]
+        } else {
+            0
+        }
     }
 
     /// Says that a number was used, if no live task has it.
@@ -90,15 +97,19 @@ impl FoldedTable {
     }
 
     /// Makes a task live, under a number above 0 that no live task has.
-    pub(crate) fn put(&mut self, task: TaskId, live: Box<FoldedTask>)
+    pub(crate) fn put(&mut self, task: TaskId, live: FoldedTask) -> Result<(), AllocError>
         requires positive { 0 < task.0 }
         requires free { slot self.old task.0 ≡ None }
-        ensures { standings self.new ≡ (λ t. if nat_eq t task.0 then Live live.value else standings self.old t) }
+        ensures { OnOk result (standings self.new ≡ (λ t. if nat_eq t task.0 then Live live else standings self.old t)) }
     {
+        let place = usize::from(task.0);
         let group = usize::from(live.group().0);
+        add_slots(&mut self.slots, place)?;
+        add_zeros(&mut self.members, group)?;
         self.members[group] += 1;
-        self.slots[usize::from(task.0)] = Some(live);
+        self.slots[place] = Some(live);
         self.used.insert(task.0);
+        Ok(())
     }
 
     /// Ends a live task of a group.
@@ -111,12 +122,17 @@ impl FoldedTable {
     }
 
     /// The task calls a function, if it is live; it has room for one more frame.
-    pub(crate) fn call(&mut self, task: TaskId, func: SymId, serial: u32)
+    pub(crate) fn call(&mut self, task: TaskId, func: SymId, serial: u32) -> Result<(), AllocError>
         requires { ForSome (slot self.old task.0) (λ x. length x.frames < 100) }
-        ensures { standings self.new ≡ change task.0 (calling serial func) (standings self.old) }
+        ensures { OnOk result (standings self.new ≡ change task.0 (calling serial func) (standings self.old)) }
     {
-        if let Some(live) = &mut self.slots[usize::from(task.0)] {
-            live.call(func, serial);
+        let place = usize::from(task.0);
+        if place >= self.slots.len() {
+            return Ok(());
+        }
+        match &mut self.slots[place] {
+            Some(live) => live.call(func, serial),
+            None => Ok(()),
         }
     }
 
@@ -124,7 +140,11 @@ impl FoldedTable {
     pub(crate) fn ret(&mut self, task: TaskId)
         ensures { standings self.new ≡ change task.0 returning (standings self.old) }
     {
-        if let Some(live) = &mut self.slots[usize::from(task.0)] {
+        let place = usize::from(task.0);
+        if place >= self.slots.len() {
+            return;
+        }
+        if let Some(live) = &mut self.slots[place] {
             live.ret();
         }
     }
@@ -133,16 +153,38 @@ impl FoldedTable {
     pub(crate) fn set_mode(&mut self, task: TaskId, mode: Mode)
         ensures { standings self.new ≡ change task.0 (put_in mode) (standings self.old) }
     {
-        if let Some(live) = &mut self.slots[usize::from(task.0)] {
+        let place = usize::from(task.0);
+        if place >= self.slots.len() {
+            return;
+        }
+        if let Some(live) = &mut self.slots[place] {
             live.set_mode(mode);
         }
     }
 }
 
-/// As many zeros as are asked for.
-fn zeros(alloc: Global, count: usize) -> Result<Vec<u32>, AllocError>
-    ensures zero { IfOk result (λ numbers. (n : ℕ) → slice_index numbers.items n ≡ 0) }
-    ensures count { IfOk result (λ numbers. length numbers.items ≡ count) }
+/// Makes a list of slots go as far as a place, with none of them taken that wasn't.
+fn add_slots(slots: &mut Vec<Option<FoldedTask>>, place: usize) -> Result<(), AllocError>
+    requires within { place < 65536 }
+    requires few { length slots.old.items ≤ 65536 }
+    ensures room { OnOk result (place < length slots.new.items) }
+    ensures few { length slots.new.items ≤ 65536 }
+    ensures same { all_slots slots.new.items ≡ all_slots slots.old.items }
 {
-    vec![in alloc; 0; count]
+    while slots.len() <= place {
+        slots.push(None)?;
+    }
+    Ok(())
+}
+
+/// Makes a list of numbers go as far as a place, by zeros.
+fn add_zeros(numbers: &mut Vec<u32>, place: usize) -> Result<(), AllocError>
+    requires within { place < 65536 }
+    ensures room { OnOk result (place < length numbers.new.items) }
+    ensures same { (n : ℕ) → slice_index numbers.new.items n ≡ slice_index numbers.old.items n }
+{
+    while numbers.len() <= place {
+        numbers.push(0)?;
+    }
+    Ok(())
 }

@@ -1,14 +1,19 @@
 //! A live task.
-ghost use Rattle.std.specs.Prelude.{◌≡◌, ◌<◌, ◌≤◌, [], length};
+ghost use Rattle.std.specs.Prelude.{◌≡◌, ◌<◌, ◌≤◌, [], length, IfOk, OnOk, OnErr};
 
-use lp_stack::{Class, Frame, GroupId, Level, Mode, TaskId, TaskStack, View};
+use lp_stack::{Class, Frame, GroupId, Level, Mode, TaskId, View};
 use lp_symbols::SymId;
+use std::alloc::{AllocError, Global};
 use std::marker::Model;
 
-/// A live task with its level and its group, which it keeps. No call allocates.
+/// A live task with its level and its group, which it keeps. Its frames are a vector, unlike the
+/// engine's: any call of the checker may allocate, and room for 100 frames a task would be pages of
+/// zeros, since most stacks are short.
 #[derive(Drop)]
 pub(crate) struct FoldedTask {
-    stack: TaskStack,
+    frames: Vec<Frame>,
+    class: Class,
+    mode: Mode,
     level: Level,
     group: GroupId,
 }
@@ -19,7 +24,9 @@ impl Model for FoldedTask {
 
     ghost Value = { Standing };
 
-    ghost view = { λ t. record { class = t.stack.class; mode = t.stack.mode; group = t.group.0; level = t.level.0; frames = t.stack.frames } };
+    ghost view = { λ t. record { class = t.class; mode = t.mode; group = t.group.0; level = t.level.0; frames = t.frames.items } };
+
+    ghost invariant = { λ t. length t.frames.items ≤ 100 };
 }
 
 impl FoldedTask {
@@ -27,42 +34,45 @@ impl FoldedTask {
     ghost use Rattle.lp_transition.specs.Machine.{view_of, put_in, calling, returning};
 
     /// A task with an empty stack.
-    pub(crate) fn new(task: TaskId, class: Class, mode: Mode, group: GroupId, level: Level) -> Self
+    pub(crate) fn new(alloc: Global, class: Class, mode: Mode, group: GroupId, level: Level) -> Self
         ensures { result ≡ record { class = class; mode = mode; group = group.0; level = level.0; frames = [] } }
     {
         FoldedTask {
-            stack: TaskStack::new(task, class, mode),
+            frames: Vec::new(alloc),
+            class,
+            mode,
             level,
             group,
         }
     }
 
     /// A task with the stack that a view shows.
-    pub(crate) fn of(view: &View<'_>, group: GroupId, level: Level) -> Self
-        ensures { result ≡ record { class = view.now.class; mode = view.now.mode; group = group.0; level = level.0; frames = view.now.frames.now } }
+    pub(crate) fn of(
+        alloc: Global,
+        view: &View<'_>,
+        group: GroupId,
+        level: Level,
+    ) -> Result<Self, AllocError>
+        ensures { IfOk result (λ task. task ≡ record { class = view.now.class; mode = view.now.mode; group = group.0; level = level.0; frames = view.now.frames.now }) }
     {
-        let mut stack = TaskStack::new(view.task, view.class, view.mode);
-        for frame in view.frames {
-            // A view has no more frames than a stack has room for.
-            let _ = stack.push(*frame);
-        }
-        FoldedTask {
-            stack,
+        Ok(FoldedTask {
+            frames: Vec::from_slice(alloc, view.frames)?,
+            class: view.class,
+            mode: view.mode,
             level,
             group,
-        }
+        })
     }
 
     /// The task as a check sees it, under the number that it has.
     pub(crate) fn view(&self, task: TaskId) -> View<'_>
         ensures { seen result ≡ view_of task.0 self.now }
     {
-        let view = self.stack.view();
         View {
             task,
-            class: view.class,
-            mode: view.mode,
-            frames: view.frames,
+            class: self.class,
+            mode: self.mode,
+            frames: self.frames.as_slice(),
         }
     }
 
@@ -84,14 +94,14 @@ impl FoldedTask {
     pub(crate) fn class(&self) -> Class
         ensures { result ≡ self.now.class }
     {
-        self.stack.view().class
+        self.class
     }
 
     /// The mode of the task.
     pub(crate) fn mode(&self) -> Mode
         ensures { result ≡ self.now.mode }
     {
-        self.stack.view().mode
+        self.mode
     }
 
     /// How many frames are on the stack.
@@ -99,33 +109,35 @@ impl FoldedTask {
         ensures value { result ≡ length self.now.frames }
         ensures few { result ≤ 100 }
     {
-        self.stack.view().frames.len()
+        self.frames.len()
     }
 
     /// Pushes a frame of a function, on the task's level.
-    pub(crate) fn call(&mut self, func: SymId, serial: u32)
+    pub(crate) fn call(&mut self, func: SymId, serial: u32) -> Result<(), AllocError>
         requires { length self.old.frames < 100 }
-        ensures { self.new ≡ calling serial func self.old }
+        ensures called { OnOk result (self.new ≡ calling serial func self.old) }
+        ensures unchanged { OnErr result (self.new ≡ self.old) }
     {
         let frame = Frame {
             func,
             level: self.level,
             serial,
         };
-        let _ = self.stack.push(frame);
+        self.frames.push(frame)?;
+        Ok(())
     }
 
     /// Pops the frame that was pushed last, if there is one.
     pub(crate) fn ret(&mut self)
         ensures { self.new ≡ returning self.old }
     {
-        let _ = self.stack.pop();
+        let _ = self.frames.pop();
     }
 
     /// Puts the task in a mode.
     pub(crate) fn set_mode(&mut self, mode: Mode)
         ensures { self.new ≡ put_in mode self.old }
     {
-        self.stack.set_mode(mode);
+        self.mode = mode;
     }
 }

@@ -1,4 +1,5 @@
 use Rattle.std.proofs.Common.{◌≡◌, ℕ, [], if◌then◌else◌, nat_eq, sym, ap, ap₂, ◌∙◌}
+use Rattle.std.proofs.lemmas.Result.{on_ok_weaker}
 use Rattle.lp_stack.specs.declared.view.Class.TheVariants.{Normal}
 use Rattle.lp_stack.specs.declared.view.Mode.TheVariants.{Kernel}
 use Rattle.lp_transition.specs.Tasks.{Fate, Live, map_live}
@@ -15,7 +16,9 @@ returns-clause-tasks g c =
     let x = c.in-Some.live.now in
     let live = live_from_slot old c.args.parent.0 x (sym c.in-Some.ensures.value) in
     let group : c.child_group-group.result.0 ≡ grouping x.group c.args.child.0 c.args.how = c.child_group-group.ensures ∙ ap (λ k. grouping k c.args.child.0 c.args.how) c.group.ensures in
-    let born : c.in_ok-new.field-0.value ≡ bearing grouping c.args.child.0 c.args.how x =
-    c.in_ok-new.ensures.ok ∙ c.new-born.ensures ∙ ap₂ {A = ℕ} {B = ℕ} {C = Standing} (λ k l. record { class = Normal; mode = Kernel; group = k; level = l; frames = [] }) group c.level.ensures in
-    let fate : Live c.in_ok-new.field-0.value ≡ map_live (bearing grouping c.args.child.0 c.args.how) (standings old c.args.parent.0) = ap Live born ∙ sym (ap (map_live (bearing grouping c.args.child.0 c.args.how)) live) in
-    c.put.ensures ∙ ap (λ (f : Fate Standing). λ (t : ℕ). if nat_eq t c.args.child.0 then f else standings old t) fate
+    let born : c.new-born.result ≡ bearing grouping c.args.child.0 c.args.how x =
+    c.new-born.ensures ∙ ap₂ {A = ℕ} {B = ℕ} {C = Standing} (λ k l. record { class = Normal; mode = Kernel; group = k; level = l; frames = [] }) group c.level.ensures in
+    let fate : Live c.new-born.result ≡ map_live (bearing grouping c.args.child.0 c.args.how) (standings old c.args.parent.0) = ap Live born ∙ sym (ap (map_live (bearing grouping c.args.child.0 c.args.how)) live) in
+    on_ok_weaker c.put.result
+    (λ (e : standings c.put.new.self ≡ (λ t. if nat_eq t c.args.child.0 then Live c.new-born.result else standings old t)). e ∙ ap (λ (f : Fate Standing). λ (t : ℕ). if nat_eq t c.args.child.0 then f else standings old t) fate)
+    c.put.ensures

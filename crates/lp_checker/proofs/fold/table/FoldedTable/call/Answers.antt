@@ -1,29 +1,32 @@
-use Rattle.std.proofs.Common.{◌<◌, length, refl, ◌∙◌, arith}
+use Rattle.std.proofs.Common.{◌<◌, ◌≤◌, length, Some, refl, ap, ◌∙◌, arith}
 use Rattle.lp_transition.specs.Machine.{calling}
-use Rattle.lp_transition.proofs.SlotLemmas.{slot-boxed}
-use Rattle.lp_checker.proofs.Tables.{boxes_wide, counted-boxed, standings-boxed}
+use Rattle.lp_checker.proofs.Tables.{slot-here, where_ok, where_ok-is, where_ok-group, where_ok-on, kept-changed, standings-kept, standings-absent}
+use Rattle.lp_checker.proofs.fold.table.FoldedTable.call.Goals.{in-Some, in-None}
 use Rattle.lp_checker.proofs.fold.table.FoldedTable.call.Goals as goal
-use Rattle.lp_checker.proofs.fold.table.FoldedTable.call.Goals.{in-Some, in_default}
+
+pub returns-then-place-len : goal.returns-then-place-len
+returns-then-place-len c =
+    let past : length c.self.inside.slots.items ≤ c.from-place.result = omega arith in
+    rw (← c.self.view_is, ← c.from-place.ensures) (standings-absent c.self.inside.slots.items c.self.inside.used c.from-place.result (calling c.args.serial c.args.func) past)
+
+pub call-requires : goal.call-requires
+call-requires c =
+    let i = c.self.inside in
+    let h : c.from-place.result < length i.slots.items = omega arith in
+    c.requires c.in-Some.live (rw (← c.self.view_is, ← c.from-place.ensures) (slot-here i.slots.items i.used i.members.items c.self.invariant c.from-place.result h c.index_mut.result.now c.index_mut.ensures.value ∙ c.in-Some.is))
 
 pub invariant_of-self : goal.invariant_of-self
 invariant_of-self c =
-    let h : c.from.result < 65536 = omega arith in
+    let h : c.from-place.result < length c.self.inside.slots.items = omega arith in
     elim c.match-index_mut.branch [
-      | in-Some w ↦ rw w.self-inside-is (counted-boxed c.self.inside.slots.items _ _ c.self.invariant c.from.result c.index_mut.result.now _ (calling c.args.serial c.args.func) h c.index_mut.ensures.value (rw w.in-Some.is (rw (w.call.ensures, w.deref_mut.ensures.value) refl)) (λ x. refl))
-      | in_default w ↦ rw w.self-inside-is (counted-boxed c.self.inside.slots.items _ _ c.self.invariant c.from.result c.index_mut.result.now _ (calling c.args.serial c.args.func) h c.index_mut.ensures.value (rw w.in_default.is refl) (λ x. refl))
+      | in-Some w ↦ rw w.self-inside-is (kept-changed c.self.inside.slots.items c.self.inside.used c.self.inside.members.items c.self.invariant c.from-place.result h c.index_mut.result.now _ (where_ok w.call.result (calling c.args.serial c.args.func)) c.index_mut.ensures.value (rw w.in-Some.is (ap Some (where_ok-is w.call.result (calling c.args.serial c.args.func) _ _ w.call.ensures.called w.call.ensures.unchanged))) (where_ok-group w.call.result (calling c.args.serial c.args.func) (λ x. refl)))
+      | in-None w ↦ rw w.self-inside-is (kept-changed c.self.inside.slots.items c.self.inside.used c.self.inside.members.items c.self.invariant c.from-place.result h c.index_mut.result.now _ (calling c.args.serial c.args.func) c.index_mut.ensures.value (rw w.in-None.is refl) (λ x. refl))
     ]
 
 pub returns : goal.returns
 returns c =
-    let h : c.from.result < 65536 = omega arith in
+    let h : c.from-place.result < length c.self.inside.slots.items = omega arith in
     elim c.match-index_mut.branch [
-      | in-Some w ↦ rw (w.self-inside-is, ← c.self.view_is, ← c.from.ensures) (standings-boxed c.self.inside.slots.items _ _ c.self.invariant c.from.result c.index_mut.result.now _ (calling c.args.serial c.args.func) h c.index_mut.ensures.value (rw w.in-Some.is (rw (w.call.ensures, w.deref_mut.ensures.value) refl)))
-      | in_default w ↦ rw (w.self-inside-is, ← c.self.view_is, ← c.from.ensures) (standings-boxed c.self.inside.slots.items _ _ c.self.invariant c.from.result c.index_mut.result.now _ (calling c.args.serial c.args.func) h c.index_mut.ensures.value (rw w.in_default.is refl))
+      | in-Some w ↦ rw (w.result-is, w.self-inside-is, ← c.self.view_is, ← c.from-place.ensures) (where_ok-on w.call.result (calling c.args.serial c.args.func) c.from-place.result _ _ (standings-kept c.self.inside.slots.items c.self.inside.used c.self.inside.members.items c.self.invariant c.from-place.result h c.index_mut.result.now _ (where_ok w.call.result (calling c.args.serial c.args.func)) c.index_mut.ensures.value (rw w.in-Some.is (ap Some (where_ok-is w.call.result (calling c.args.serial c.args.func) _ _ w.call.ensures.called w.call.ensures.unchanged)))))
+      | in-None w ↦ rw (w.result-is, w.self-inside-is, ← c.self.view_is, ← c.from-place.ensures) (standings-kept c.self.inside.slots.items c.self.inside.used c.self.inside.members.items c.self.invariant c.from-place.result h c.index_mut.result.now _ (calling c.args.serial c.args.func) c.index_mut.ensures.value (rw w.in-None.is refl))
     ]
-
-pub call-requires : goal.call-requires
-call-requires c =
-    let boxes = c.self.inside.slots.items in
-    let within : c.from.result < length boxes = omega (arith, boxes_wide boxes _ _ c.self.invariant) in
-    let here = slot-boxed boxes c.from.result c.index_mut.result.now within c.index_mut.ensures.value in
-    c.requires c.deref_mut.result.now (rw (← c.self.view_is, ← c.from.ensures) (here ∙ rw c.in-Some.is (rw c.deref_mut.ensures.value refl)))

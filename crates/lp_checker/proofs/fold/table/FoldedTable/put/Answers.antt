@@ -1,44 +1,48 @@
-use Rattle.std.proofs.Common.{◌≡◌, ◌<◌, ◌+◌, length, get_or, set, sym, ap, ◌∙◌, subst, arith}
+use Rattle.std.proofs.Common.{◌≡◌, ◌<◌, ◌+◌, true, length, List, Option, Some, None, if◌then◌else◌, nat_eq, get_or, set, sym, ap, ◌∙◌, subst, arith}
 use Rattle.lp_transition.specs.Leg.{Standing}
-use Rattle.lp_transition.specs.inside.Slots.{slots_of}
-use Rattle.lp_transition.specs.Table.{Table}
-use Rattle.lp_transition.specs.inside.Table.{with_task}
-use Rattle.lp_transition.proofs.SlotLemmas.{slots_of-set}
-use Rattle.lp_transition.proofs.TableLemmas.{standings-with_task}
+use Rattle.lp_transition.specs.Table.{standings}
+use Rattle.lp_transition.specs.Tasks.{Live}
 use Rattle.lp_transition.proofs.Births.{value_at}
-use Rattle.lp_checker.specs.inside.Tables.{IsCounted}
-use Rattle.lp_checker.proofs.Tables.{counted-with_task, counted-few}
+use Rattle.lp_checker.specs.inside.Tables.{all_slots, IsKept}
+use Rattle.lp_checker.proofs.Tables.{counted-few, kept-same, kept-put, standings-put}
 use Rattle.lp_checker.proofs.fold.table.FoldedTable.put.Goals as goal
 
 pub overflow_add-index_mut : goal.overflow_add-index_mut
 overflow_add-index_mut c =
     let i = c.self.inside in
-    let within : c.from-group.result < 65536 = omega arith in
-    let few = counted-few (record { slots = slots_of i.slots.items; used = i.used }) i.members.items c.from-group.result c.self.invariant within in
-    let wide : c.from-group.result < length i.members.items = omega (arith, within, c.self.invariant.groups) in
-    let here = value_at i.members.items c.from-group.result c.index_mut.result.now wide c.index_mut.ensures.value in
-    omega (arith, few, here)
+    let group = c.from-group.result in
+    let small : group < 65536 = omega arith in
+    let few = counted-few (record { slots = all_slots i.slots.items; used = i.used }) i.members.items group c.self.invariant.counted small in
+    let here = value_at c.add_zeros.new.numbers.items group c.index_mut.result.now c.in_ok-add_zeros.ensures.room c.index_mut.ensures.value in
+    omega (arith, few, here, c.in_ok-add_zeros.ensures.same group)
 
-pub invariant_of-self : goal.invariant_of-self
-invariant_of-self c =
+pub invariant_of-self-2 : goal.invariant_of-self-2
+invariant_of-self-2 c =
     let i = c.self.inside in
-    let table : Table = record { slots = slots_of i.slots.items; used = i.used } in
-    let x = c.args.live.value in
-    let h : c.args.task.0 < 65536 = omega arith in
-    let within : c.from-group.result < 65536 = omega arith in
-    let same : x.group ≡ c.from-group.result = ap (λ (s : Standing). s.group) (sym c.deref.ensures) ∙ sym c.group.ensures ∙ sym c.from-group.ensures in
-    let small : x.group < 65536 = omega (arith, same, within) in
-    let wide : c.from-group.result < length i.members.items = omega (arith, within, c.self.invariant.groups) in
-    let here = value_at i.members.items c.from-group.result c.index_mut.result.now wide c.index_mut.ensures.value in
-    let kept = counted-with_task table i.members.items c.self.invariant c.args.task.0 x c.requires.positive h small (rw (← c.self.view_is) at c.requires.free) in
-    let members : IsCounted (with_task c.args.task.0 x table) (set i.members.items c.from-group.result (c.index_mut.result.now + 1)) =
-    subst (λ m. IsCounted (with_task c.args.task.0 x table) (set i.members.items c.from-group.result (m + 1))) (sym here)
-    (subst (λ n. IsCounted (with_task c.args.task.0 x table) (set i.members.items n (get_or i.members.items n 0 + 1))) same kept) in
-    rw (slots_of-set, c.insert.ensures.after, c.from.ensures) members
+    let t = c.args.task.0 in
+    let x = c.args.live in
+    let slots = c.add_slots.new.slots.items in
+    let members = c.add_zeros.new.numbers.items in
+    let now = kept-same i.slots.items slots i.used i.members.items members c.self.invariant c.in_ok-add_slots.ensures.few c.in_ok-add_slots.ensures.same c.in_ok-add_zeros.ensures.same in
+    let same : x.group ≡ c.from-group.result = sym c.group.ensures ∙ sym c.from-group.ensures in
+    let room : t < length slots = omega (arith, c.in_ok-add_slots.ensures.room, c.from-place.ensures) in
+    let small : x.group < length members = omega (arith, same, c.in_ok-add_zeros.ensures.room) in
+    let here = value_at members c.from-group.result c.index_mut.result.now c.in_ok-add_zeros.ensures.room c.index_mut.ensures.value in
+    let none : get_or (all_slots slots) t None ≡ None = ap (λ (all : List (Option Standing)). get_or all t None) c.in_ok-add_slots.ensures.same ∙ (rw (← c.self.view_is) at c.requires.free) in
+    let kept = kept-put slots i.used members now t x room c.requires.positive small none in
+    rw (c.from-place.ensures, c.insert.ensures.after)
+    (subst (λ m. IsKept (set slots t (Some x)) (set i.used t true) (set members c.from-group.result (m + 1))) (sym here)
+    (subst (λ n. IsKept (set slots t (Some x)) (set i.used t true) (set members n (get_or members n 0 + 1))) same kept))
 
 pub returns : goal.returns
 returns c =
     let i = c.self.inside in
-    let table : Table = record { slots = slots_of i.slots.items; used = i.used } in
-    let h : c.args.task.0 < 65536 = omega arith in
-    rw (← c.self.view_is, c.insert.ensures.after, c.from.ensures, slots_of-set) (standings-with_task table c.args.task.0 c.args.live.value c.self.invariant.wide h)
+    let t = c.args.task.0 in
+    let x = c.args.live in
+    let slots = c.add_slots.new.slots.items in
+    let members = c.add_zeros.new.numbers.items in
+    let now = kept-same i.slots.items slots i.used i.members.items members c.self.invariant c.in_ok-add_slots.ensures.few c.in_ok-add_slots.ensures.same c.in_ok-add_zeros.ensures.same in
+    let room : t < length slots = omega (arith, c.in_ok-add_slots.ensures.room, c.from-place.ensures) in
+    rw (← c.self.view_is, c.from-place.ensures, c.insert.ensures.after)
+    (standings-put slots i.used members now t x room
+    ∙ ap (λ (all : List (Option Standing)). λ u. if nat_eq u t then Live x else standings (record { slots = all; used = i.used }) u) c.in_ok-add_slots.ensures.same)
