@@ -17,3 +17,6 @@ mod sections;
 
 pub use check::{check_floor, check_waiting};
 pub use fault::CertFault;
+pub use lp_cert::Cert;
+pub use lp_model::Consistency;
+pub use lp_transition::{Event, Opening};
