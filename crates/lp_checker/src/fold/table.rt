@@ -15,8 +15,8 @@ use std::marker::Model;
 
 /// The live tasks, the numbers that were ever used, and how many live members each group has.
 ///
-/// The lists go as far as the greatest number that was put: three folds of a check would else begin
-/// with a megabyte each, for a handful of tasks.
+/// The lists go as far as the greatest number that was put: each fold of a check would else begin
+/// with more than a megabyte, for a handful of tasks.
 #[derive(Drop)]
 pub(crate) struct FoldedTable {
     slots: Vec<Option<FoldedTask>>,
