@@ -37,7 +37,7 @@ const THREE: TaskId = TaskId(3);
 const NINE: TaskId = TaskId(9);
 
 /// What a reply says.
-#[derive(Clone, Copy, Debug, PartialEq, Eq)]
+#[derive(Clone, Copy, PartialEq, Eq)]
 enum Said {
     Ran(u8),
     Done,

@@ -11,19 +11,21 @@ use lp_model::{CheckKind, Verdict};
 use lp_numbers::NumberSet;
 use lp_transition::Step;
 use std::alloc::AllocError;
-use std::process::Abort;
+
+const BOTH: [(TaskId, Class); 2] = [(ONE, Class::Normal), (TWO, Class::Normal)];
+
+const ASLEEP: [Event; 6] = [
+    Event::Enter(ONE),
+    Event::Sleep(ONE),
+    Event::Enter(TWO),
+    Event::Call(TWO, A),
+    Event::Sleep(TWO),
+    Event::Enable,
+];
 
 /// Two tasks that wait and sleep, of which the second is in a call.
 fn in_a_call(alloc: Global) -> Result<Box<Core<Hybrid>>, Fail> {
-    let events = [
-        Event::Enter(ONE),
-        Event::Sleep(ONE),
-        Event::Enter(TWO),
-        Event::Call(TWO, A),
-        Event::Sleep(TWO),
-        Event::Enable,
-    ];
-    engine_after(alloc, &[normal(1), normal(2)], &events)
+    engine_after(alloc, &BOTH, &ASLEEP)
 }
 
 /// Whether a task waits, and a check refuses it.
@@ -121,25 +123,26 @@ fn part_walk(alloc: Global, core: &mut Core<Hybrid>) -> Result<Shown, Fail> {
     Ok(shown)
 }
 
+/// Task 2 returns and sleeps.
+const RETURNS: [Event; 3] = [Event::Wake(TWO), Event::Ret(TWO), Event::Sleep(TWO)];
+
 /// Both of these walks, after which task 2 returns and sleeps.
 fn both_walks(alloc: Global, core: &mut Core<Hybrid>) -> Result<(Shown, Shown), Fail> {
     let whole = whole_walk(alloc, core)?;
     let part = part_walk(alloc, core)?;
-    give(
-        alloc,
-        core,
-        &[Event::Wake(TWO), Event::Ret(TWO), Event::Sleep(TWO)],
-    )?;
+    give(alloc, core, &RETURNS)?;
     Ok((part, whole))
 }
 
-/// The part of a walk looks at one task alone, and both walks come to the same.
-fn are_alike(rt: &impl Abort, walks: (Shown, Shown), waiting: usize, completes: bool) {
+/// Whether the part of a walk looks at one task alone, and both walks come to the same.
+fn are_alike(walks: (Shown, Shown), waiting: usize, completes: bool) -> bool {
     let (part, whole) = walks;
-    assert_eq!(rt; (part.verdicts, whole.verdicts), (1, waiting));
-    assert_eq!(rt; (part.completed, whole.completed), (completes, completes));
-    assert!(rt; part.over.is_some());
-    assert_eq!(rt; part.over, whole.over);
+    part.verdicts == 1
+        && whole.verdicts == waiting
+        && part.completed == completes
+        && whole.completed == completes
+        && part.over.is_some()
+        && part.over == whole.over
 }
 
 #[test]
@@ -147,7 +150,7 @@ fn who_is_refused_may_be_left_out(rt: HostRuntime) -> Result<(), Fail> {
     let mut core = in_a_call(rt.alloc())?;
     for (waiting, completes) in [(2, false), (1, true)] {
         let walks = both_walks(rt.alloc(), &mut core)?;
-        are_alike(&rt, walks, waiting, completes);
+        assert!(rt; are_alike(walks, waiting, completes));
     }
     assert!(rt; !core.in_transition());
     Ok(())
@@ -163,7 +166,6 @@ fn stop(alloc: Global) -> Result<(usize, bool), Fail> {
 
 #[test]
 fn a_scan_that_is_not_used_looks_at_nobody(rt: HostRuntime) -> Result<(), Fail> {
-    let stopped = stop(rt.alloc())?;
-    assert_eq!(rt; stopped, (0, true));
+    assert!(rt; stop(rt.alloc())? == (0, true));
     Ok(())
 }

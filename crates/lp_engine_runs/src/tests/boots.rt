@@ -4,40 +4,51 @@ use lp_models::Immediate;
 use lp_stack::Mode;
 use lp_transition::{BootFault, Opening};
 
+const ZERO: (TaskId, Class) = (TaskId(0), Class::Normal);
+
+const SEVEN: (TaskId, Class) = (TaskId(7), Class::Normal);
+
+/// Tasks with which no engine starts, and the fault of the first of them.
+const FAULTS: [(&[(TaskId, Class)], BootFault); 3] = [
+    (&[SEVEN, ZERO, SEVEN], BootFault::TaskRange),
+    (&[SEVEN, SEVEN, ZERO], BootFault::TaskDoubled),
+    (&[ZERO], BootFault::TaskRange),
+];
+
+/// The fault of these tasks.
+fn fault_of(alloc: Global, tasks: &[(TaskId, Class)]) -> Result<Option<BootFault>, Fail> {
+    let patches = patches(alloc, &[&[A]])?;
+    Ok(Core::boot(alloc, Immediate, patches, tasks).err())
+}
+
 #[test]
 fn the_first_task_at_fault_is_named(rt: HostRuntime) -> Result<(), Fail> {
-    for (tasks, fault) in [
-        (
-            [normal(7), normal(0), normal(7)].as_slice(),
-            BootFault::TaskRange,
-        ),
-        (
-            [normal(7), normal(7), normal(0)].as_slice(),
-            BootFault::TaskDoubled,
-        ),
-        ([normal(0)].as_slice(), BootFault::TaskRange),
-    ] {
-        let patches = patches(rt.alloc(), &[&[A]])?;
-        let core = Core::boot(rt.alloc(), Immediate, patches, tasks);
-        assert_eq!(rt; core.err(), Some(fault));
+    for (tasks, fault) in FAULTS {
+        assert!(rt; fault_of(rt.alloc(), tasks)? == Some(fault));
     }
     Ok(())
 }
 
+/// An idle task, and another.
+const TASKS: [(TaskId, Class); 2] = [(TaskId(65_535), Class::Idle), (TaskId(3), Class::Normal)];
+
 /// The engine of task 3 and an idle task 65,535.
 fn booted(alloc: Global) -> Result<Box<Core<Immediate>>, Fail> {
-    let tasks = [(TaskId(65_535), Class::Idle), normal(3)];
-    boot_over_a(alloc, Immediate, &tasks)
+    boot_over_a(alloc, Immediate, &TASKS)
+}
+
+/// Whether its two tasks are live, each alone in its group.
+fn are_live(core: &Core<Immediate>) -> bool {
+    core.next_live(0) == Some(3)
+        && core.next_live(4) == Some(65_535)
+        && core.is_alone(TaskId(3))
+        && !core.is_alone(TaskId(4))
 }
 
 #[test]
 fn tasks_are_live_as_they_start(rt: HostRuntime) -> Result<(), Fail> {
     let core = booted(rt.alloc())?;
-    let live = (core.next_live(0), core.next_live(4));
-    let alone = (core.is_alone(TaskId(3)), core.is_alone(TaskId(4)));
-    drop(core);
-    assert_eq!(rt; live, (Some(3), Some(65_535)));
-    assert_eq!(rt; alone, (true, false));
+    assert!(rt; are_live(&core));
     Ok(())
 }
 
@@ -47,45 +58,41 @@ fn opening(alloc: Global) -> Result<Box<Opening>, Fail> {
     Ok(Box::new(alloc, core.standing(alloc)?)?)
 }
 
-#[test]
-fn an_opening_has_no_events_and_the_first_level(rt: HostRuntime) -> Result<(), Fail> {
-    let opening = opening(rt.alloc())?;
-    let place = (opening.number(), opening.from(), opening.target());
-    let patches = opening.patches().patches();
-    drop(opening);
-    assert_eq!(rt; place, (0, Level(0), Level(0)));
-    assert_eq!(rt; patches, Level(1));
-    Ok(())
+/// Whether no event is numbered, and the first level is what it stands at and goes to, of one patch.
+fn is_at_the_first_level(opening: &Opening) -> bool {
+    opening.number() == 0
+        && opening.from() == Level(0)
+        && opening.target() == Level(0)
+        && opening.patches().patches() == Level(1)
 }
 
-#[test]
-fn an_opening_has_the_numbers_of_its_tasks(rt: HostRuntime) -> Result<(), Fail> {
-    let opening = opening(rt.alloc())?;
-    let live = (opening.next_live(0), opening.next_live(4));
-    let used = (opening.used(TaskId(3)), opening.used(TaskId(4)));
-    drop(opening);
-    assert_eq!(rt; live, (Some(3), Some(65_535)));
-    assert_eq!(rt; used, (true, false));
-    Ok(())
+/// Whether it has the numbers of its two tasks.
+fn has_its_numbers(opening: &Opening) -> bool {
+    opening.next_live(0) == Some(3)
+        && opening.next_live(4) == Some(65_535)
+        && opening.used(TaskId(3))
+        && !opening.used(TaskId(4))
 }
 
-/// Where a task runs, its level and its group.
-fn stands(opening: &Opening, task: TaskId) -> (Option<Mode>, Option<Level>, Option<GroupId>) {
-    let mode = opening.task(task).map(|view| view.mode);
-    (mode, opening.level_of(task), opening.group_of(task))
-}
-
-#[test]
-fn tasks_stand_as_they_start(rt: HostRuntime) -> Result<(), Fail> {
-    let opening = opening(rt.alloc())?;
-    for (task, mode) in [
-        (TaskId(65_535), Some(Mode::Kernel)),
-        (TaskId(3), Some(Mode::User)),
-        (TaskId(4), None),
-    ] {
-        let level = mode.map(|_| Level(0));
-        let group = mode.map(|_| GroupId(task.0));
-        assert_eq!(rt; stands(&opening, task), (mode, level, group));
+/// Whether a task runs so, on level 0 and in a group of its own; where it runs nowhere, whether it has none of the three.
+fn stands(opening: &Opening, task: TaskId, mode: Option<Mode>) -> bool {
+    let (level, group) = (opening.level_of(task), opening.group_of(task));
+    match (opening.task(task), mode) {
+        (Some(view), Some(mode)) => {
+            view.mode == mode && level == Some(Level(0)) && group == Some(GroupId(task.0))
+        }
+        (None, None) => level == None && group == None,
+        _ => false,
     }
+}
+
+#[test]
+fn an_opening_has_no_events_and_its_tasks_as_they_start(rt: HostRuntime) -> Result<(), Fail> {
+    let opening = opening(rt.alloc())?;
+    assert!(rt; is_at_the_first_level(&opening));
+    assert!(rt; has_its_numbers(&opening));
+    assert!(rt; stands(&opening, TaskId(65_535), Some(Mode::Kernel)));
+    assert!(rt; stands(&opening, TaskId(3), Some(Mode::User)));
+    assert!(rt; stands(&opening, TaskId(4), None));
     Ok(())
 }

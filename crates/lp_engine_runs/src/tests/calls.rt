@@ -18,16 +18,9 @@ fn shown_by(step: &Step) -> (Event, usize, Said) {
     (step.event(), step.verdicts().len(), in_short(step.reply()))
 }
 
-/// What is seen of an event.
-#[derive(Clone, Copy)]
-struct Course {
-    /// What it shows when it is weighed, and where the engine stands then.
-    weighed: (Event, usize, Said),
-    before: (u64, bool),
-    /// The answer when it is taken, and where the engine stands then.
-    taken: Said,
-    after: (u64, bool),
-}
+/// What an enabling shows when it is weighed, and where the engine stands then; the answer when it is taken, and where the
+/// engine stands after it.
+type Course = ((Event, usize, Said), (u64, bool), Said, (u64, bool));
 
 /// An enabling is weighed, and then taken.
 fn enable(alloc: Global, core: &mut Core<Hybrid>) -> Result<Course, Fail> {
@@ -35,27 +28,21 @@ fn enable(alloc: Global, core: &mut Core<Hybrid>) -> Result<Course, Fail> {
     let weighed = shown_by(&step);
     let before = place(core);
     let taken = in_short(&core.take(step));
-    Ok(Course {
-        weighed,
-        before,
-        taken,
-        after: place(core),
-    })
+    Ok((weighed, before, taken, place(core)))
 }
 
-/// The same, as the first event.
-fn first_enable(alloc: Global) -> Result<Course, Fail> {
-    let mut core = two_tasks_after(alloc, &[])?;
-    enable(alloc, &mut core)
-}
+/// The course of the first event.
+const ENABLED: Course = (
+    (Event::Enable, 0, Said::Done),
+    (0, false),
+    Said::Done,
+    (1, true),
+);
 
 #[test]
 fn an_event_is_weighed_and_then_taken(rt: HostRuntime) -> Result<(), Fail> {
-    let course = first_enable(rt.alloc())?;
-    assert_eq!(rt; course.weighed, (Event::Enable, 0, Said::Done));
-    assert_eq!(rt; course.before, (0, false));
-    assert_eq!(rt; course.taken, Said::Done);
-    assert_eq!(rt; course.after, (1, true));
+    let mut core = two_tasks_after(rt.alloc(), &[])?;
+    assert!(rt; enable(rt.alloc(), &mut core)? == ENABLED);
     Ok(())
 }
 
@@ -74,62 +61,54 @@ fn walk(alloc: Global, core: &mut Core<Hybrid>) -> Result<(usize, Said), Fail> {
     Ok((found.len(), in_short(&reply)))
 }
 
+/// Task 1 sleeps in the kernel as it waits.
+const ASLEEP: [Event; 3] = [Event::Enable, Event::Enter(ONE), Event::Sleep(ONE)];
+
 #[test]
 fn a_walk_is_taken_by_its_verdicts(rt: HostRuntime) -> Result<(), Fail> {
-    let events = [Event::Enable, Event::Enter(ONE), Event::Sleep(ONE)];
-    let mut core = two_tasks_after(rt.alloc(), &events)?;
+    let mut core = two_tasks_after(rt.alloc(), &ASLEEP)?;
     let walked = walk(rt.alloc(), &mut core)?;
-    let after = place(&core);
-    drop(core);
-    assert_eq!(rt; walked, (2, Said::Over(1)));
-    assert_eq!(rt; after, (4, true));
+    assert!(rt; walked == (2, Said::Over(1)) && place(&core) == (4, true));
     Ok(())
 }
 
-/// The engine of tasks 1 and 2 after an enabling, when task 1 has switched.
-fn one_switched(alloc: Global) -> Result<Box<Core<Hybrid>>, Fail> {
-    two_tasks_after(alloc, &[Event::Enable, Event::Enter(ONE), Event::Exit(ONE)])
+/// The events after which task 1 has switched, and task 2 waits.
+const ONE_OVER: [Event; 3] = [Event::Enable, Event::Enter(ONE), Event::Exit(ONE)];
+
+/// Whether such an engine says which model it has, and to which level it goes.
+fn has_a_model_and_a_target(core: &Core<Hybrid>) -> bool {
+    core.model() == Hybrid && core.target() == Level(1) && core.aim().target == Level(1)
 }
 
-#[test]
-fn an_engine_has_a_model_and_a_target(rt: HostRuntime) -> Result<(), Fail> {
-    let core = one_switched(rt.alloc())?;
-    assert_eq!(rt; core.model(), Hybrid);
-    assert_eq!(rt; (core.target(), core.aim().target), (Level(1), Level(1)));
-    Ok(())
+/// Whether it says on which side the tasks are, of which there is no third, and in which group.
+fn has_sides_and_groups(core: &Core<Hybrid>) -> bool {
+    core.side_of(ONE) == Some(Level(1))
+        && core.side_of(TWO) == Some(Level(0))
+        && core.side_of(THREE) == None
+        && core.group_of(TWO) == Some(GroupId(2))
 }
 
-#[test]
-fn a_task_has_a_side_and_a_group(rt: HostRuntime) -> Result<(), Fail> {
-    let core = one_switched(rt.alloc())?;
-    let sides = [core.side_of(ONE), core.side_of(TWO), core.side_of(THREE)];
-    let group = core.group_of(TWO);
-    drop(core);
-    assert_eq!(rt; sides, [Some(Level(1)), Some(Level(0)), None]);
-    assert_eq!(rt; group, Some(GroupId(2)));
-    Ok(())
+/// Whether it says which group waits.
+fn says_who_waits(alloc: Global, core: &Core<Hybrid>) -> Result<bool, Fail> {
+    let waiting = core.waiting(alloc)?;
+    Ok(waiting.as_slice() == [GroupId(2)].as_slice())
 }
 
-#[test]
-fn the_groups_that_wait_are_told(rt: HostRuntime) -> Result<(), Fail> {
-    let core = one_switched(rt.alloc())?;
-    let waiting = core.waiting(rt.alloc())?;
-    drop(core);
-    assert_eq!(rt; waiting.as_slice(), [GroupId(2)].as_slice());
-    Ok(())
-}
-
-/// How many tasks wait, and the first of them.
-fn seen(alloc: Global, core: &Core<Hybrid>) -> Result<(usize, Option<TaskId>), Fail> {
+/// Whether it shows the one task that waits.
+fn shows_who_waits(alloc: Global, core: &Core<Hybrid>) -> Result<bool, Fail> {
     let views = core.views(alloc)?;
-    let first = views.as_slice().first().map(|view| view.task);
-    Ok((views.len(), first))
+    Ok(match views.as_slice() {
+        [view] => view.task == TWO,
+        _ => false,
+    })
 }
 
 #[test]
-fn the_tasks_that_wait_are_seen(rt: HostRuntime) -> Result<(), Fail> {
-    let core = one_switched(rt.alloc())?;
-    let seen = seen(rt.alloc(), &core)?;
-    assert_eq!(rt; seen, (1, Some(TWO)));
+fn an_engine_is_asked_how_it_stands(rt: HostRuntime) -> Result<(), Fail> {
+    let core = two_tasks_after(rt.alloc(), &ONE_OVER)?;
+    assert!(rt; has_a_model_and_a_target(&core));
+    assert!(rt; has_sides_and_groups(&core));
+    assert!(rt; says_who_waits(rt.alloc(), &core)?);
+    assert!(rt; shows_who_waits(rt.alloc(), &core)?);
     Ok(())
 }

@@ -59,7 +59,7 @@ fn take(count: &mut StayCount, step: Step)
 
 /// How many stays and how many mixed stays there are after these steps.
 fn after(alloc: Global, lists: &[&[SymId]], steps: &[Step]) -> Result<(u64, u64), Fail> {
-    let mut counted = count(alloc, lists)?;
+    let mut counted = Box::new(alloc, count(alloc, lists)?)?;
     for step in steps {
         if counted.events() < 1_000_000 {
             take(&mut counted, *step);
@@ -68,100 +68,120 @@ fn after(alloc: Global, lists: &[&[SymId]], steps: &[Step]) -> Result<(u64, u64)
     Ok((counted.stays(), counted.mixed()))
 }
 
+/// A name, the functions of each patch, steps, and how many stays and how many mixed stays there are after them.
+type Row = (
+    &'static str,
+    &'static [&'static [SymId]],
+    &'static [Step],
+    (u64, u64),
+);
+
+/// Calls within a stay.
+const NESTED: [Step; 8] = [
+    Step::Other(Event::Enter(ONE)),
+    Step::Call(ONE, A, 0),
+    Step::Call(ONE, B, 0),
+    Step::Call(ONE, A, 0),
+    Step::Ret(ONE, A),
+    Step::Ret(ONE, B),
+    Step::Ret(ONE, A),
+    Step::Other(Event::Exit(ONE)),
+];
+
+/// A stay ends with its last call, and the next begins.
+const TWICE: [Step; 6] = [
+    Step::Call(ONE, C, 0),
+    Step::Call(ONE, A, 0),
+    Step::Ret(ONE, A),
+    Step::Call(ONE, A, 1),
+    Step::Ret(ONE, A),
+    Step::Ret(ONE, C),
+];
+
+const FIRST: Step = Step::Call(ONE, A, 0);
+
+const SECOND: Step = Step::Call(ONE, B, 1);
+
+/// A stay that is mixed again and again.
+const MIXED: [Step; 5] = [
+    FIRST,
+    SECOND,
+    Step::Ret(ONE, B),
+    Step::Call(ONE, A, 0),
+    Step::Call(ONE, A, 1),
+];
+
+/// Both sides, in stays of two tasks.
+const APART: [Step; 4] = [
+    Step::Call(ONE, A, 0),
+    Step::Call(LAST, A, 1),
+    Step::Ret(ONE, A),
+    Step::Call(ONE, A, 1),
+];
+
+/// A call that mixes the second of two patches.
+const MIXED_IN_THE_SECOND: [Step; 3] = [
+    Step::Call(ONE, A, 1),
+    Step::Call(ONE, B, 2),
+    Step::Call(ONE, C, 2),
+];
+
+/// Refused events about a call.
+const REFUSED: [Step; 4] = [
+    Step::Refused(ONE, A),
+    Step::Call(ONE, A, 0),
+    Step::Held(ONE, A),
+    Step::Call(ONE, A, 0),
+];
+
+const ROWS: [Row; 10] = [
+    ("nested calls are one stay", &[&[A]], &NESTED, (1, 0)),
+    ("a stay ends with its last call", &[&[A]], &TWICE, (2, 0)),
+    ("a stay that isn't mixed", &[&[A, B]], &[FIRST], (1, 0)),
+    ("it is mixed", &[&[A, B]], &[FIRST, SECOND], (1, 1)),
+    ("a stay is mixed once", &[&[A, B]], &MIXED, (1, 1)),
+    ("both sides in two stays mix none", &[&[A]], &APART, (3, 0)),
+    (
+        "a call of both patches",
+        &[&[A, B], &[A, C]],
+        &[FIRST],
+        (2, 0),
+    ),
+    (
+        "each patch counts by itself",
+        &[&[A, B], &[A, C]],
+        &MIXED_IN_THE_SECOND,
+        (2, 1),
+    ),
+    (
+        "a refused call is no stay",
+        &[&[A]],
+        &[Step::Refused(ONE, A)],
+        (0, 0),
+    ),
+    ("refused events change no stay", &[&[A]], &REFUSED, (1, 0)),
+];
+
 #[test]
-fn nested_calls_are_one_stay(rt: HostRuntime) -> Result<(), Fail> {
-    let steps = [
-        Step::Other(Event::Enter(ONE)),
-        Step::Call(ONE, A, 0),
-        Step::Call(ONE, B, 0),
-        Step::Call(ONE, A, 0),
-        Step::Ret(ONE, A),
-        Step::Ret(ONE, B),
-        Step::Ret(ONE, A),
-        Step::Other(Event::Exit(ONE)),
-    ];
-    assert_eq!(rt; after(rt.alloc(), &[&[A]], &steps)?, (1, 0));
+fn stays_are_counted_by_patch_and_task(rt: HostRuntime) -> Result<(), Fail> {
+    for (name, lists, steps, counted) in ROWS {
+        assert!(rt; after(rt.alloc(), lists, steps)? == counted, "{name}");
+    }
     Ok(())
 }
 
-#[test]
-fn a_stay_ends_with_its_last_call(rt: HostRuntime) -> Result<(), Fail> {
-    let steps = [
-        Step::Call(ONE, C, 0),
-        Step::Call(ONE, A, 0),
-        Step::Ret(ONE, A),
-        Step::Call(ONE, A, 1),
-        Step::Ret(ONE, A),
-        Step::Ret(ONE, C),
-    ];
-    assert_eq!(rt; after(rt.alloc(), &[&[A]], &steps)?, (2, 0));
-    Ok(())
-}
-
-#[test]
-fn a_stay_is_mixed_once(rt: HostRuntime) -> Result<(), Fail> {
-    let steps = [
-        Step::Call(ONE, A, 0),
-        Step::Call(ONE, B, 1),
-        Step::Ret(ONE, B),
-        Step::Call(ONE, A, 0),
-        Step::Call(ONE, A, 1),
-    ];
-    assert_eq!(rt; after(rt.alloc(), &[&[A, B]], &steps[..1])?, (1, 0));
-    assert_eq!(rt; after(rt.alloc(), &[&[A, B]], &steps[..2])?, (1, 1));
-    assert_eq!(rt; after(rt.alloc(), &[&[A, B]], &steps)?, (1, 1));
-    Ok(())
-}
-
-#[test]
-fn both_sides_in_two_stays_mix_none(rt: HostRuntime) -> Result<(), Fail> {
-    let steps = [
-        Step::Call(ONE, A, 0),
-        Step::Call(LAST, A, 1),
-        Step::Ret(ONE, A),
-        Step::Call(ONE, A, 1),
-    ];
-    assert_eq!(rt; after(rt.alloc(), &[&[A]], &steps)?, (3, 0));
-    Ok(())
-}
-
-#[test]
-fn each_patch_counts_by_itself(rt: HostRuntime) -> Result<(), Fail> {
-    let patches: &[&[SymId]] = &[&[A, B], &[A, C]];
-    let both = [Step::Call(ONE, A, 0)];
-    assert_eq!(rt; after(rt.alloc(), patches, &both)?, (2, 0));
-    let mixed_in_the_second = [
-        Step::Call(ONE, A, 1),
-        Step::Call(ONE, B, 2),
-        Step::Call(ONE, C, 2),
-    ];
-    assert_eq!(rt; after(rt.alloc(), patches, &mixed_in_the_second)?, (2, 1));
-    Ok(())
-}
-
-#[test]
-fn refused_events_change_no_stay(rt: HostRuntime) -> Result<(), Fail> {
-    let steps = [
-        Step::Refused(ONE, A),
-        Step::Call(ONE, A, 0),
-        Step::Held(ONE, A),
-        Step::Call(ONE, A, 0),
-    ];
-    assert_eq!(rt; after(rt.alloc(), &[&[A]], &steps[..1])?, (0, 0));
-    assert_eq!(rt; after(rt.alloc(), &[&[A]], &steps)?, (1, 0));
-    Ok(())
+/// How many events, stays and mixed stays are counted.
+fn counts(count: &StayCount) -> (u64, u64, u64) {
+    (count.events(), count.stays(), count.mixed())
 }
 
 #[test]
 fn each_event_counts(rt: HostRuntime) -> Result<(), Fail> {
-    let mut counted = count(rt.alloc(), &[&[A]])?;
-    assert_eq!(rt;
-        (counted.events(), counted.stays(), counted.mixed()),
-        (0, 0, 0)
-    );
+    let mut counted = Box::new(rt.alloc(), count(rt.alloc(), &[&[A]])?)?;
+    let before = counts(&counted);
     if counted.events() < 1_000_000 {
         take(&mut counted, Step::Refused(ONE, A));
     }
-    assert_eq!(rt; (counted.events(), counted.stays()), (1, 0));
+    assert!(rt; before == (0, 0, 0) && (counted.events(), counted.stays()) == (1, 0));
     Ok(())
 }

@@ -4,52 +4,60 @@ use super::*;
 use lp_model::ForkKind;
 use lp_transition::{GroupList, Refusal};
 
+/// An event, whether it is a scan, and whether it is a control event.
+const KINDS: [(Event, bool, bool); 8] = [
+    (Event::Call(ONE, A), false, false),
+    (Event::Fork(ONE, TWO, ForkKind::Own), false, false),
+    (Event::Idle(ONE), false, false),
+    (Event::Walk, true, false),
+    (Event::Stop, true, false),
+    (Event::Enable, false, true),
+    (Event::Disable, false, true),
+    (Event::Reverse, false, true),
+];
+
 #[test]
 fn events_have_kinds(rt: HostRuntime) {
-    for (event, scan, control) in [
-        (Event::Call(ONE, A), false, false),
-        (Event::Fork(ONE, TWO, ForkKind::Own), false, false),
-        (Event::Idle(ONE), false, false),
-        (Event::Walk, true, false),
-        (Event::Stop, true, false),
-        (Event::Enable, false, true),
-        (Event::Disable, false, true),
-        (Event::Reverse, false, true),
-    ] {
-        assert_eq!(rt; event.is_scan(), scan, "{event:?}");
-        assert_eq!(rt; event.is_control(), control, "{event:?}");
+    for (event, scan, control) in KINDS {
+        assert!(rt;
+            event.is_scan() == scan && event.is_control() == control,
+            "{event:?}"
+        );
     }
 }
 
 #[test]
 fn refusals_have_numbers(rt: HostRuntime) {
-    for (refusal, number) in [
-        (Refusal::UnknownTask, 1),
-        (Refusal::StackFull, 7),
-        (Refusal::AlreadyThere, 12),
-    ] {
-        assert_eq!(rt; refusal.number(), number);
-    }
+    assert!(rt; Refusal::UnknownTask.number() == 1);
+    assert!(rt; Refusal::StackFull.number() == 7);
+    assert!(rt; Refusal::AlreadyThere.number() == 12);
+}
+
+/// The groups 3 and 7.
+const BOTH: [GroupId; 2] = [GroupId(3), GroupId(7)];
+
+/// A reply by which they switch and the transition is complete.
+fn both_over(alloc: Global) -> Result<Reply, Fail> {
+    let groups = GroupList::from_vec(alloc, Vec::from_slice(alloc, &BOTH)?)?;
+    Ok(Reply {
+        what: What::Switched(groups),
+        completed: true,
+    })
+}
+
+/// Whether they alone switch, as each reader of the list says.
+fn are_both(what: What) -> bool {
+    let What::Switched(list) = what else {
+        return false;
+    };
+    let told = list.len() == 2 && !list.is_empty() && list.as_slice() == BOTH.as_slice();
+    told && list.into_vec().pop() == Some(GroupId(7))
 }
 
 #[test]
 fn replies_are_copied(rt: HostRuntime) -> Result<(), Fail> {
-    let groups = vec![in rt.alloc(); GroupId(3), GroupId(7)]?;
-    let switched = Reply {
-        what: What::Switched(GroupList::from_vec(rt.alloc(), groups)?),
-        completed: true,
-    };
-    let again = switched.copy(rt.alloc())?;
-    assert!(rt; again.completed);
-    match again.what {
-        What::Switched(list) => {
-            assert_eq!(rt; list.len(), 2);
-            assert!(rt; !list.is_empty());
-            assert_eq!(rt; list.as_slice(), [GroupId(3), GroupId(7)].as_slice());
-            assert_eq!(rt; list.into_vec().pop(), Some(GroupId(7)));
-        }
-        _ => assert!(rt; false),
-    }
+    let Reply { what, completed } = both_over(rt.alloc())?.copy(rt.alloc())?;
+    assert!(rt; completed && are_both(what));
     let ran = What::Ran(Level(2)).copy(rt.alloc())?;
     assert!(rt; matches!(&ran, What::Ran(Level(2))));
     Ok(())

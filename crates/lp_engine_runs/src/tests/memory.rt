@@ -11,6 +11,18 @@ use lp_transition::{BootFault, GroupList, Halt};
 use std::alloc::AllocError;
 use std::process::Abort;
 
+const ALONE: [(TaskId, Class); 1] = [(ONE, Class::Normal)];
+
+const BOTH: [(TaskId, Class); 2] = [(ONE, Class::Normal), (TWO, Class::Normal)];
+
+const WITH_IDLE: [(TaskId, Class); 2] = [(ONE, Class::Normal), (TWO, Class::Idle)];
+
+const THREE_TASKS: [(TaskId, Class); 3] = [
+    (ONE, Class::Normal),
+    (TWO, Class::Normal),
+    (THREE, Class::Normal),
+];
+
 /// The name `a`.
 fn name_a(alloc: Global) -> Result<Symbols, SymFault> {
     let mut symbols = Symbols::new(alloc)?;
@@ -51,7 +63,7 @@ fn booted<M: Consistency>(
 
 /// What an engine's readers say: how many events are numbered, the target, and the levels and
 /// groups of three tasks.
-#[derive(Clone, Copy, Debug, PartialEq, Eq)]
+#[derive(Clone, Copy, PartialEq, Eq)]
 struct Shown {
     events: u64,
     target: Level,
@@ -82,8 +94,7 @@ fn answer_again<M: Consistency>(
     before: (Shown, &[GroupId]),
 ) -> Result<Said, Fail> {
     let after = waiting(alloc, core)?;
-    assert_eq!(rt; shown_by(core), before.0);
-    assert_eq!(rt; after.as_slice(), before.1);
+    assert!(rt; shown_by(core) == before.0 && after.as_slice() == before.1);
     reply_to(alloc, core, event)
 }
 
@@ -135,143 +146,123 @@ fn replies<M: Consistency>(
     answers(rt, alloc, &mut core, events)
 }
 
+/// Births and walks, and the answers to them.
+const BIRTHS: [Event; 9] = [
+    Event::Enter(ONE),
+    Event::Fork(ONE, TWO, ForkKind::Share),
+    Event::Exit(ONE),
+    Event::Enable,
+    Event::Call(TWO, A),
+    Event::Walk,
+    Event::Ret(TWO),
+    Event::Exit(TWO),
+    Event::Walk,
+];
+
+const BORN: [Said; 9] = [
+    Said::Done,
+    Said::Done,
+    Said::Done,
+    Said::Done,
+    Said::Ran(0),
+    Said::Done,
+    Said::Done,
+    Said::Done,
+    Said::OverLast(1),
+];
+
 #[test]
 fn births_and_walks_go_on_after_a_failed_allocation(rt: HostRuntime) -> Result<(), Fail> {
-    let events = [
-        Event::Enter(ONE),
-        Event::Fork(ONE, TWO, ForkKind::Share),
-        Event::Exit(ONE),
-        Event::Enable,
-        Event::Call(TWO, A),
-        Event::Walk,
-        Event::Ret(TWO),
-        Event::Exit(TWO),
-        Event::Walk,
-    ];
-    let worked = [
-        Said::Done,
-        Said::Done,
-        Said::Done,
-        Said::Done,
-        Said::Ran(0),
-        Said::Done,
-        Said::Done,
-        Said::Done,
-        Said::OverLast(1),
-    ];
-    let replies = replies(&rt, rt.alloc(), ProcessGroup, &[normal(1)], &events)?;
-    assert_eq!(rt; replies.as_slice(), worked.as_slice());
+    let replies = replies(&rt, rt.alloc(), ProcessGroup, &ALONE, &BIRTHS)?;
+    assert!(rt; replies.as_slice() == BORN.as_slice());
     Ok(())
 }
+
+const STOPS: [Event; 6] = [
+    Event::Enter(TWO),
+    Event::Call(TWO, A),
+    Event::Enable,
+    Event::Stop,
+    Event::Ret(TWO),
+    Event::Stop,
+];
+
+const STOPPED: [Said; 6] = [
+    Said::Done,
+    Said::Ran(0),
+    Said::Done,
+    Said::Done,
+    Said::Done,
+    Said::OverLast(0),
+];
 
 #[test]
 fn stops_go_on_after_a_failed_allocation(rt: HostRuntime) -> Result<(), Fail> {
-    let events = [
-        Event::Enter(TWO),
-        Event::Call(TWO, A),
-        Event::Enable,
-        Event::Stop,
-        Event::Ret(TWO),
-        Event::Stop,
-    ];
-    let worked = [
-        Said::Done,
-        Said::Ran(0),
-        Said::Done,
-        Said::Done,
-        Said::Done,
-        Said::OverLast(0),
-    ];
-    let boots = [normal(1), normal(2)];
-    let replies = replies(&rt, rt.alloc(), AllAtOnce, &boots, &events)?;
-    assert_eq!(rt; replies.as_slice(), worked.as_slice());
+    let replies = replies(&rt, rt.alloc(), AllAtOnce, &BOTH, &STOPS)?;
+    assert!(rt; replies.as_slice() == STOPPED.as_slice());
     Ok(())
 }
 
+const POINTS: [Event; 4] = [
+    Event::Enable,
+    Event::Enter(ONE),
+    Event::Exit(ONE),
+    Event::Idle(TWO),
+];
+
+const SWITCHED: [Said; 4] = [Said::Done, Said::Done, Said::Over(1), Said::OverLast(2)];
+
 #[test]
 fn exits_and_idle_points_go_on_after_a_failed_allocation(rt: HostRuntime) -> Result<(), Fail> {
-    let events = [
-        Event::Enable,
-        Event::Enter(ONE),
-        Event::Exit(ONE),
-        Event::Idle(TWO),
-    ];
-    let worked = [Said::Done, Said::Done, Said::Over(1), Said::OverLast(2)];
-    let boots = [normal(1), (TWO, Class::Idle)];
-    let replies = replies(&rt, rt.alloc(), Hybrid, &boots, &events)?;
-    assert_eq!(rt; replies.as_slice(), worked.as_slice());
+    let replies = replies(&rt, rt.alloc(), Hybrid, &WITH_IDLE, &POINTS)?;
+    assert!(rt; replies.as_slice() == SWITCHED.as_slice());
     Ok(())
 }
 
 /// The engine of tasks 1 to 3 after an enabling, when task 2 has switched.
 fn one_switched(rt: &impl Abort, alloc: Global) -> Result<Box<Core<Hybrid>>, Fail> {
-    let boots = [normal(1), normal(2), normal(3)];
-    let mut core = booted(alloc, Hybrid, &boots)?;
+    let mut core = booted(alloc, Hybrid, &THREE_TASKS)?;
     for event in [Event::Enable, Event::Enter(TWO), Event::Exit(TWO)] {
         answer(rt, alloc, &mut core, event)?;
     }
     Ok(core)
 }
 
-/// How many waiting tasks a check sees, and the first of them.
-fn seen(alloc: Global, core: &Core<Hybrid>) -> Result<(usize, Option<TaskId>), AllocError> {
+/// The levels of its three tasks.
+const LEVELS: [Option<Level>; 3] = [Some(Level(0)), Some(Level(1)), Some(Level(0))];
+
+/// Whether a check sees the two tasks that wait.
+fn is_seen(alloc: Global, core: &Core<Hybrid>) -> Result<bool, AllocError> {
     let views = core.views(alloc).or_else(|_| core.views(alloc))?;
-    let first = views.as_slice().first().map(|view| view.task);
-    Ok((views.len(), first))
+    Ok(match views.as_slice() {
+        [first, _] => first.task == ONE,
+        _ => false,
+    })
 }
 
-/// How many events the copy of an engine has, and the levels of its tasks.
-fn standing(alloc: Global, core: &Core<Hybrid>) -> Result<(u64, [Option<Level>; 3]), AllocError> {
+/// Whether the copy of the engine has its events, and its tasks their levels.
+fn is_copied(alloc: Global, core: &Core<Hybrid>) -> Result<bool, AllocError> {
     let stands = core.standing(alloc).or_else(|_| core.standing(alloc))?;
     let levels = [
         stands.level_of(ONE),
         stands.level_of(TWO),
         stands.level_of(THREE),
     ];
-    Ok((stands.number(), levels))
+    Ok(stands.number() == 3 && levels == LEVELS)
 }
 
-/// The first groups that wait.
-fn first_waiting(alloc: Global, core: &Core<Hybrid>) -> Result<[Option<GroupId>; 3], AllocError> {
+/// Whether it says which groups wait.
+fn is_told(alloc: Global, core: &Core<Hybrid>) -> Result<bool, AllocError> {
     let groups = waiting(alloc, core)?;
-    let groups = groups.as_slice();
-    Ok([
-        groups.first().copied(),
-        groups.get(1).copied(),
-        groups.get(2).copied(),
-    ])
-}
-
-/// What an engine says where it is asked.
-#[derive(Clone, Copy)]
-struct Told {
-    waiting: [Option<GroupId>; 3],
-    seen: (usize, Option<TaskId>),
-    standing: (u64, [Option<Level>; 3]),
-    shown: Shown,
-}
-
-fn told_by(alloc: Global, core: &Core<Hybrid>) -> Result<Told, AllocError> {
-    Ok(Told {
-        waiting: first_waiting(alloc, core)?,
-        seen: seen(alloc, core)?,
-        standing: standing(alloc, core)?,
-        shown: shown_by(core),
-    })
-}
-
-fn told_by_one_switched(rt: &impl Abort, alloc: Global) -> Result<Told, Fail> {
-    let core = one_switched(rt, alloc)?;
-    Ok(told_by(alloc, &core)?)
+    Ok(groups.as_slice() == [GroupId(1), GroupId(3)].as_slice())
 }
 
 #[test]
 fn an_engine_is_asked_again_after_a_failed_allocation(rt: HostRuntime) -> Result<(), Fail> {
-    let told = told_by_one_switched(&rt, rt.alloc())?;
-    let levels = [Some(Level(0)), Some(Level(1)), Some(Level(0))];
-    assert_eq!(rt; told.waiting, [Some(GroupId(1)), Some(GroupId(3)), None]);
-    assert_eq!(rt; told.seen, (2, Some(ONE)));
-    assert_eq!(rt; told.standing, (3, levels));
-    assert_eq!(rt; told.shown.levels, levels);
+    let core = one_switched(&rt, rt.alloc())?;
+    assert!(rt; is_told(rt.alloc(), &core)?);
+    assert!(rt; is_seen(rt.alloc(), &core)?);
+    assert!(rt; is_copied(rt.alloc(), &core)?);
+    assert!(rt; shown_by(&core).levels == LEVELS);
     Ok(())
 }
