@@ -191,6 +191,17 @@ module _ (t func level : ℕ) (count : Counted) where
       let no_here : has below ≡ false = ap₂ (λ patches patch. patch_has patches patch func) (sym (ap (λ c. c.patches) e ∙ (call_same below).patches)) (sym next) ∙ found in
       made ∙ e ∙ sym (call_no below no_here) ∙ ap call_run (sym next)
 
+  -- patches that don't have the function are passed over
+  pub call_skip : (n m : ℕ) → n ≤ m → ((k : ℕ) → n ≤ k → k < m → has k ≡ false) → call_run m ≡ call_run n
+  call_skip n zero le none = ap call_run (omega arith)
+  call_skip n (suc m) le none =
+      ⊎_elim
+      (λ (same : n ≡ suc m). ap call_run (sym same))
+      (λ (other : n ≡ suc m → ⊥).
+      let less : n ≤ m = omega (arith, other) in
+      call_no m (none m less (omega arith)) ∙ call_skip n m less (λ k a b. none k a (omega arith)))
+      (cases_eq n (suc m))
+
   -- a call counts at most one stay a patch
   pub record HasFew (k : ℕ) (now : Counted) : Type 0 where
     pub stays : now.stays ≤ count.stays + k
@@ -283,6 +294,17 @@ module _ (t func : ℕ) (count : Counted) where
       let next : below + 1 ≡ suc below = omega arith in
       let no_here : had below ≡ false = ap₂ (λ patches patch. patch_has patches patch func) (sym (ap (λ c. c.patches) e ∙ (return_same below).patches)) (sym next) ∙ found in
       made ∙ e ∙ sym (return_no below no_here) ∙ ap return_run (sym next)
+
+  -- patches that don't have the function are passed over
+  pub return_skip : (n m : ℕ) → n ≤ m → ((k : ℕ) → n ≤ k → k < m → had k ≡ false) → return_run m ≡ return_run n
+  return_skip n zero le none = ap return_run (omega arith)
+  return_skip n (suc m) le none =
+      ⊎_elim
+      (λ (same : n ≡ suc m). ap return_run (sym same))
+      (λ (other : n ≡ suc m → ⊥).
+      let less : n ≤ m = omega (arith, other) in
+      return_no m (none m less (omega arith)) ∙ return_skip n m less (λ k a b. none k a (omega arith)))
+      (cases_eq n (suc m))
 
 -- ---- An event
 

@@ -2,6 +2,7 @@ pub mod OneMore
 pub mod Cells
 pub mod Sums
 pub mod Keeping
+pub mod Holding
 pub mod Stacks
 pub mod Versions
 pub mod Moments

@@ -1,10 +1,11 @@
 //! The count of stays.
 ghost use Rattle.std.specs.Prelude.{◌≡◌, ◌+◌, ◌*◌, ◌<◌, ◌≤◌, nat_le, length, replicate, IfOk};
-ghost use Rattle.lp_patch.specs.Patches.{patch_has};
 ghost use Rattle.lp_stays.specs.Invariant.{outside};
 ghost use Rattle.lp_stays.specs.inside.Calls.{after_call, after_return, calls, returns, by_call, by_return, after_event};
+ghost use Rattle.lp_stays.specs.inside.Holders.{IsHolders};
 ghost use Rattle.lp_stays.specs.Counts.{IsFirst, CountsOne};
 
+use crate::holders::{all_holders, holders, next_holder};
 use crate::present::Present;
 use lp_patch::PatchStack;
 use lp_stack::{Level, TaskId};
@@ -31,16 +32,19 @@ pub struct StayCount {
     mixed: u64,
     /// For each patch, one after the other, the stay that each task is in.
     present: Vec<Present>,
+    /// For each function, the patches that have it.
+    holders: Vec<u16>,
 }
 
 impl Model for StayCount {
-    ghost use Rattle.lp_stays.specs.Invariant.{Counted, IsKept};
+    ghost use Rattle.lp_stays.specs.Invariant.{Counted};
+    ghost use Rattle.lp_stays.specs.inside.Holders.{IsCount};
 
     ghost Value = { Counted };
 
     ghost view = { λ c. record { patches = c.patches; events = c.events; stays = c.stays; mixed = c.mixed; present = c.present.items } };
 
-    ghost invariant = { λ c. IsKept (record { patches = c.patches; events = c.events; stays = c.stays; mixed = c.mixed; present = c.present.items }) };
+    ghost invariant = { λ c. IsCount (record { patches = c.patches; events = c.events; stays = c.stays; mixed = c.mixed; present = c.present.items }) c.holders.items };
 }
 
 impl StayCount {
@@ -52,12 +56,14 @@ impl StayCount {
     {
         let patches = patches.copy(alloc)?;
         let present = all_outside(alloc, usize::from(patches.patches().0) * TASKS)?;
+        let holders = all_holders(alloc, &patches)?;
         Ok(StayCount {
             patches,
             events: 0,
             stays: 0,
             mixed: 0,
             present,
+            holders,
         })
     }
 
@@ -141,10 +147,11 @@ impl StayCount {
         requires mixed { self.old.mixed + 16 ≤ 16 * self.old.events }
         ensures { self.new ≡ calls (length self.old.patches) task.0 func.0 level.0 self.old }
     {
-        for below in 0..self.patches.patches().0 {
-            if self.has(below, func) {
-                self.call_in(below, task, has_patch(level, below));
-            }
+        let holders = self.holders(func);
+        let mut from = 0;
+        while let Some(below) = next_holder(holders, from) {
+            self.call_in(below, task, has_patch(level, below));
+            from = below + 1;
         }
     }
 
@@ -153,21 +160,23 @@ impl StayCount {
     fn ret(&mut self, task: TaskId, func: SymId)
         ensures { self.new ≡ returns (length self.old.patches) task.0 func.0 self.old }
     {
-        for below in 0..self.patches.patches().0 {
-            if self.has(below, func) {
-                self.return_in(below, task);
-            }
+        let holders = self.holders(func);
+        let mut from = 0;
+        while let Some(below) = next_holder(holders, from) {
+            self.return_in(below, task);
+            from = below + 1;
         }
     }
 
-    /// Whether the patch above so many has a function.
+    /// The patches that have a function.
     #[inline(always)]
-    fn has(&self, below: u8, func: SymId) -> bool
-        requires { below < 16 }
-        ensures { result ≡ patch_has self.now.patches (below + 1) func.0 }
+    fn holders(&self, func: SymId) -> u16
+        ensures { IsHolders self.now.patches func.0 result }
     {
-        let patch = Level(below + 1);
-        self.patches.version(func, patch) == patch
+        match self.holders.get(func.index()) {
+            Some(mask) => *mask,
+            None => holders(&self.patches, func),
+        }
     }
 
     /// A call of a function of the patch above so many.

@@ -2,6 +2,7 @@
 #![tactic(auto)]
 
 mod count;
+mod holders;
 mod present;
 
 pub use count::StayCount;

@@ -8,7 +8,7 @@ use Rattle.lp_stays.proofs.count.StayCount.step.Goals as goal
 
 pub returns-clause-counts : goal.returns-clause-counts
 returns-clause-counts c = λ model lawful run counts next.
-    let wide : length c.args.self.now.present ≡ length c.args.self.now.patches * 65536 = (subst IsKept c.self.view_is c.self.invariant).wide in
+    let wide : length c.args.self.now.present ≡ length c.args.self.now.patches * 65536 = (subst IsKept c.self.view_is c.self.invariant.kept).wide in
     subst (Counts model (plus run c.args.event)) (sym c.keep.ensures) (stepped model lawful run c.args.self.now counts wide c.args.reply.now c.args.top c.args.event next)
 
 pub returns-clause-events : goal.returns-clause-events
