@@ -1,5 +1,5 @@
 -- The certificates of the leg under way, as they are asked for.
-use Rattle.std.proofs.Common.{◌≡◌, ℕ, zero, suc, ◌+◌, ◌<◌, ◌≤◌, Bool, true, false, List, [], ◌∷◌, map, filter, take, Option, Some, None, is_some, if◌then◌else◌, nat_eq, slice_get, refl, sym, ap, ◌∙◌, ⊎_elim, arith}
+use Rattle.std.proofs.Common.{◌≡◌, ℕ, zero, suc, ◌+◌, ◌<◌, ◌≤◌, Bool, true, false, List, [], ◌∷◌, map, filter, take, Option, Some, None, is_some, if◌then◌else◌, nat_eq, slice_get, refl, sym, ap, ◌∙◌, ⊎_elim, arith, not}
 use Rattle.std.specs.List.{range_with_len, find}
 use Rattle.std.specs.Option.{option_map}
 use Rattle.std.proofs.lemmas.Bool.{false≢true, cond-true, cond-false, cases_Bool, cases_eq, eq-eqb, ne_eqb}
@@ -119,3 +119,11 @@ module _ (noted : ℕ) (w : WaitingGroups) (leg : OpenLeg) (unended : leg.comple
 pub not_some : {A : Type 0} (o : Option A) → is_some o ≡ false → o ≡ None
 not_some None e = refl
 not_some (Some a) e = absurd (false≢true (sym e))
+
+pub not_so : (b : Bool) → not b ≡ true → b ≡ false
+not_so true e = absurd (false≢true e)
+not_so false e = refl
+
+pub not_other : (b : Bool) → not b ≡ false → b ≡ true
+not_other true e = refl
+not_other false e = absurd (false≢true (sym e))

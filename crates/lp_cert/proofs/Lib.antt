@@ -1,4 +1,5 @@
 pub mod ChainLemmas
+pub mod GroupSets
 pub mod PartLemmas
 pub mod LineLemmas
 pub mod HeadLemmas

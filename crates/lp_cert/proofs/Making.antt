@@ -12,14 +12,15 @@ use Rattle.lp_cert.specs.declared.cert.Claim.{Claim}
 use Rattle.lp_cert.specs.declared.cert.Claim.TheVariants.{Floor}
 use Rattle.lp_cert.specs.declared.cert.Cert.{Cert}
 use Rattle.lp_cert.specs.declared.head.Head.{Head}
+use Rattle.lp_cert.specs.declared.head.Waiter.{Waiter}
 use Rattle.lp_cert.specs.declared.reason.Reason.{Reason}
 use Rattle.lp_cert.specs.declared.line.Line.{Line}
 use Rattle.lp_cert.specs.declared.leg_end.LegEnd.{LegEnd}
 use Rattle.lp_cert.specs.declared.open_leg.Completion.{Completion}
 use Rattle.lp_cert.specs.declared.open_leg.OpenLeg.{OpenLeg}
 use Rattle.lp_cert.specs.Certificates.{group_id}
-use Rattle.lp_cert.specs.Invariant.{open_end, floor_waiters}
-use Rattle.lp_cert.specs.Waiters.{WaitingGroups, kept_cert, waiter_in, waiters_of}
+use Rattle.lp_cert.specs.Invariant.{claim_of, upto_of, open_end, floor_waiters, end_waiters}
+use Rattle.lp_cert.specs.Waiters.{WaitingGroups, head_of, kept_cert, waiter_in, waiters_of}
 use Rattle.lp_cert.specs.inside.Waiters.{lines_in, lines_at}
 
 pub none_is : {A : Type 0} (o : Option A) → is_none o ≡ true → o ≡ None
@@ -28,32 +29,39 @@ none_is (Some a) h = absurd (false≢true h)
 
 -- ---- What room changes
 
-abbrev parts : Numbers → List Head → List (List Reason) → List ℕ → WaitingGroups
-parts groups heads lists scans = record { groups = groups; reasons = record { heads = heads; lists = lists; scans = scans; room = 0; scan_room = 0 } }
+map_same : {A B : Type 0} (f g : A → B) → ((x : A) → f x ≡ g x) → (xs : List A) → map f xs ≡ map g xs
+map_same f g same [] = refl
+map_same f g same (x ∷ xs) = ap₂ (λ y ys. y ∷ ys) (same x) (map_same f g same xs)
 
-floor_parts : (w : WaitingGroups) (o : Option GroupId) → floor_waiters w.reasons o ≡ floor_waiters (parts w.groups w.reasons.heads w.reasons.lists w.reasons.scans).reasons o
-floor_parts w None = refl
-floor_parts w (Some g) = refl
+module _ (new old : WaitingGroups) (groups : new.groups ≡ old.groups) (heads : (g : ℕ) → head_of new.reasons g ≡ head_of old.reasons g) where
+  same_waiter : (g : ℕ) → waiter_in new.reasons g ≡ waiter_in old.reasons g
+  same_waiter g = ap (λ (h : Head). record { group = group_id g; head = h }) (heads g)
 
-open_end_parts : (noted : ℕ) (w : WaitingGroups) (opened : ℕ) (target : ℕ) (completed : Option Completion)
-    → open_end noted w (record { opened = opened; target = record { 0 = target }; completed = completed }) ≡ open_end noted (parts w.groups w.reasons.heads w.reasons.lists w.reasons.scans) (record { opened = opened; target = record { 0 = target }; completed = completed })
-open_end_parts noted w opened target None = refl
-open_end_parts noted w opened target (Some done) =
-    ap (λ ws. record {
-      opened = opened;
-      target = record { 0 = target };
-      completed = Some done.at;
-      certs = map (kept_cert Floor opened (done.at - 1) w.reasons.lists w.reasons.scans) ws;
-    }) (floor_parts w done.floor)
+  same_floor : (o : Option GroupId) → floor_waiters new.reasons o ≡ floor_waiters old.reasons o
+  same_floor None = refl
+  same_floor (Some g) = ap (λ (w : Waiter). w ∷ []) (same_waiter g.0)
 
-pub open_end_same : (noted : ℕ) (new old : WaitingGroups) → new.groups ≡ old.groups → new.reasons.heads ≡ old.reasons.heads → new.reasons.lists ≡ old.reasons.lists → new.reasons.scans ≡ old.reasons.scans
-    → (current : Option OpenLeg) → option_map (open_end noted new) current ≡ option_map (open_end noted old) current
-open_end_same noted new old groups heads lists scans None = refl
-open_end_same noted new old groups heads lists scans (Some leg) =
-    let same : parts new.groups new.reasons.heads new.reasons.lists new.reasons.scans ≡ parts old.groups old.reasons.heads old.reasons.lists old.reasons.scans =
-    ap₂ (λ (gs : Numbers) (hs : List Head). parts gs hs new.reasons.lists new.reasons.scans) groups heads ∙ ap₂ (λ ls xs. parts old.groups old.reasons.heads ls xs) lists scans in
-    ap {A = LegEnd} {B = Option LegEnd} Some
-    (open_end_parts noted new leg.opened leg.target.0 leg.completed ∙ (ap (λ w. open_end noted w leg) same ∙ sym (open_end_parts noted old leg.opened leg.target.0 leg.completed)))
+  same_waiters : (completed : Option Completion) → end_waiters completed new ≡ end_waiters completed old
+  same_waiters None =
+      map_same (waiter_in new.reasons) (waiter_in old.reasons) same_waiter (passing 0 65536 (has new.groups))
+      ∙ ap (λ (gs : Numbers). map (waiter_in old.reasons) (passing 0 65536 (has gs))) groups
+  same_waiters (Some done) = same_floor done.floor
+
+  abbrev end_as : (noted : ℕ) (leg : OpenLeg) → List (List Reason) → List ℕ → List Waiter → Option LegEnd
+  end_as noted leg lists scans waiters =
+      Some (record {
+        opened = leg.opened;
+        target = leg.target;
+        completed = option_map (λ done. done.at) leg.completed;
+        certs = map (kept_cert (claim_of leg.completed) leg.opened (upto_of noted leg.completed) lists scans) waiters;
+      })
+
+  pub open_end_same : (noted : ℕ) → new.reasons.lists ≡ old.reasons.lists → new.reasons.scans ≡ old.reasons.scans
+      → (current : Option OpenLeg) → option_map (open_end noted new) current ≡ option_map (open_end noted old) current
+  open_end_same noted lists scans None = refl
+  open_end_same noted lists scans (Some leg) =
+      ap₂ (λ ls xs. end_as noted leg ls xs (end_waiters leg.completed new)) lists scans
+      ∙ ap (end_as noted leg old.reasons.lists old.reasons.scans) (same_waiters leg.completed)
 
 -- ---- Certificates by their groups
 

@@ -480,19 +480,13 @@ ends_are noted w (Some leg) = refl
 pub ready_for : (current : Option OpenLeg) (w : WaitingGroups) (room : ℕ) (closing : Option Closing) (o : Option Ready) (ready : Ready) → IfReady current w room closing o → o ≡ Some ready → IsReady current w room closing ready
 ready_for current w room closing o ready h is = subst (IfReady current w room closing) is h
 
--- whether it opens a leg
-pub opens_is : (o : Option Ready) (ready : Ready) (room : Room) → o ≡ Some ready → option_map room_of o ≡ Some room → ready.opens ≡ room.opens
-opens_is o ready room is told =
+-- it is what was asked for, and opens a leg or doesn't
+pub room_is : (o : Option Ready) (ready : Ready) (room : Room) → o ≡ Some ready → option_map room_of o ≡ Some room → room_of ready ≡ room
+room_is o ready room is told =
     let one : Option Room = Some (room_of ready) in
     let two : Option Room = Some room in
     let both : one ≡ two = sym (ap (option_map room_of) is) ∙ told in
-    let same : room_of ready ≡ room = cc in
-    ap (λ (r : Room). r.opens) same
+    cc
 
-pub not_so : (b : Bool) → not b ≡ true → b ≡ false
-not_so true e = absurd (false≢true e)
-not_so false e = refl
-
-pub not_other : (b : Bool) → not b ≡ false → b ≡ true
-not_other true e = refl
-not_other false e = absurd (false≢true (sym e))
+pub opens_is : (o : Option Ready) (ready : Ready) (room : Room) → o ≡ Some ready → option_map room_of o ≡ Some room → ready.opens ≡ room.opens
+opens_is o ready room is told = ap (λ (r : Room). r.opens) (room_is o ready room is told)

@@ -1,5 +1,6 @@
 -- What code and proofs share and no public contract names.
 pub mod Chains
+pub mod GroupSet
 pub mod StepLines
 pub mod Heads
 pub mod Invariant

@@ -4,6 +4,7 @@
 mod cert;
 mod cert_lines;
 mod chains;
+mod group_set;
 mod head;
 pub mod laws;
 mod leg_end;

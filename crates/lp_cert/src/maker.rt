@@ -11,7 +11,7 @@ ghost use Rattle.lp_cert.specs.Ends.{IsFresh, IsMadeOf, floor_in, is_opening, is
 ghost use Rattle.lp_cert.specs.LastScan.{Suffices};
 ghost use Rattle.lp_cert.specs.Invariant.{end_waiters};
 ghost use Rattle.lp_cert.specs.inside.Invariant.{HasClosing, HasFloor, HasFloors, IsClosing, IsStepped, IsUnchangedOn, ends_with, leg_at, waiting_cert};
-ghost use Rattle.lp_cert.specs.inside.Waiters.{AreHeads, lines_at};
+ghost use Rattle.lp_cert.specs.inside.Waiters.{AreHeads, HasHeadFor, HasHeads, lines_at};
 ghost use Rattle.std.specs.Option.{option_map};
 
 use crate::cert::{Cert, Claim};
@@ -140,7 +140,7 @@ impl Maker {
     {
         self.ready = None;
         let verdicts = step.verdicts().len();
-        self.waiters.reserve(verdicts + 2)?;
+        self.waiters.reserve(verdicts + 2, step.event())?;
         let opens = close(
             alloc,
             step,
@@ -298,6 +298,8 @@ fn step_leg<M: Consistency>(
 )
     requires weighed { IsWeighed M.rules core.now step.now }
     requires floor { HasFloor waiters.old leg.old.completed }
+    requires heads { HasHeads waiters.old }
+    requires child { HasHeadFor step.now.event waiters.old.reasons }
     requires room { length step.now.verdicts + 1 < waiters.old.reasons.room }
     requires scan_room { 0 < waiters.old.reasons.scan_room }
     ensures gone_on { IsStepped M.rules core.now step.now number leg.old leg.new waiters.old waiters.new }

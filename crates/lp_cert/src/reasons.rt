@@ -9,7 +9,6 @@ use crate::cert_lines::CertLines;
 use crate::chains::{ChainId, Chains};
 use crate::head::{Head, OwnFork, Refused};
 use crate::ongoing::Ongoing;
-use lp_numbers::NUMBERS;
 use lp_stack::GroupId;
 use std::alloc::{AllocError, Global};
 use std::marker::Model;
@@ -33,48 +32,53 @@ pub(crate) struct Reasons {
 }
 
 impl Model for Reasons {
-    ghost use Rattle.std.specs.Prelude.{◌≡◌, ◌-◌, length, vec_len, vec_capacity};
+    ghost use Rattle.std.specs.Prelude.{◌-◌, vec_len, vec_capacity};
     ghost use Rattle.lp_cert.specs.Waiters.{LegReasons};
 
     ghost Value = { LegReasons };
 
     ghost view = { λ r. record { heads = r.heads.items; lists = r.chains.lists; scans = r.scans.items; room = r.chains.room; scan_room = vec_capacity r.scans - vec_len r.scans } };
-
-    ghost invariant = { λ r. length r.heads.items ≡ 65536 };
 }
 
 impl Reasons {
-    /// No reason of any group; AllocError where an allocation failed.
-    pub(crate) fn new(alloc: Global) -> Result<Reasons, AllocError>
-        ensures heads { IfOk result (λ reasons. (group : ℕ) → head_of reasons group ≡ no_head) }
-        ensures lists { IfOk result (λ reasons. reasons.lists ≡ [] ∷ []) }
-        ensures scans { IfOk result (λ reasons. reasons.scans ≡ []) }
+    /// No reason of any group. Never allocates.
+    pub(crate) fn new(alloc: Global) -> Reasons
+        ensures heads { (group : ℕ) → head_of result group ≡ no_head }
+        ensures lists { result.lists ≡ [] ∷ [] }
+        ensures scans { result.scans ≡ [] }
     {
-        Ok(Reasons {
-            heads: no_heads(alloc, NUMBERS)?,
+        Reasons {
+            heads: Vec::new(alloc),
             chains: Chains::new(alloc),
             scans: Vec::new(alloc),
-        })
+        }
     }
 
-    /// Makes room for so many more reasons, and for one more scan; AllocError where an allocation
-    /// failed.
-    pub(crate) fn reserve(&mut self, more: usize) -> Result<(), AllocError>
-        ensures heads { self.new.heads ≡ self.old.heads }
+    /// Makes room for so many more reasons, for one more scan, and for the heads of the groups below
+    /// a number; AllocError where an allocation failed.
+    pub(crate) fn reserve(&mut self, more: usize, groups: usize) -> Result<(), AllocError>
+        ensures wide { OnOk result (groups ≤ length self.new.heads) }
+        ensures heads { (group : ℕ) → head_of self.new group ≡ head_of self.old group }
         ensures lists { self.new.lists ≡ self.old.lists }
         ensures scans { self.new.scans ≡ self.old.scans }
         ensures room { OnOk result (more ≤ self.new.room) }
         ensures scan_room { OnOk result (0 < self.new.scan_room) }
     {
         self.scans.reserve(1)?;
-        self.chains.reserve(more)
+        self.chains.reserve(more)?;
+        widen(&mut self.heads, groups)
     }
 
     /// How a group stands.
     pub(crate) fn head(&self, group: GroupId) -> Head
         ensures { result ≡ head_of self.now group.0 }
     {
-        self.heads[usize::from(group.0)]
+        let at = usize::from(group.0);
+        if at < self.heads.len() {
+            self.heads[at]
+        } else {
+            NO_REASON
+        }
     }
 
     /// The lines of a group, the oldest first. Never allocates.
@@ -93,16 +97,22 @@ impl Reasons {
         ensures lists { self.new.lists ≡ self.old.lists }
         ensures scans { self.new.scans ≡ self.old.scans }
     {
-        self.heads[usize::from(group.0)] = NO_REASON;
+        let at = usize::from(group.0);
+        if at >= self.heads.len() {
+            return;
+        }
+        self.heads[at] = NO_REASON;
     }
 
     /// A scan, which isn't noted yet, has refused a group. Never allocates.
     pub(crate) fn refuse(&mut self, group: GroupId, refused: &Refused)
         requires head { StandsAt (length self.old.scans) self.old group.0 }
+        requires wide { group.0 < length self.old.heads }
         requires room { 0 < self.old.room }
         requires used { IsUsed refused.now.blame }
         ensures refused { IsRefusedBy refused.now group self.old.scans (head_of self.old group.0) (head_of self.new group.0) self.old.lists self.new.lists }
         ensures others { (other : ℕ) → other ≢ group.0 → head_of self.new other ≡ head_of self.old other }
+        ensures width { length self.new.heads ≡ length self.old.heads }
         ensures scans { self.new.scans ≡ self.old.scans }
         ensures room { self.old.room ≤ self.new.room + 1 }
         ensures scan_room { self.new.scan_room ≡ self.old.scan_room }
@@ -115,6 +125,7 @@ impl Reasons {
     /// A group gives birth to another. Never allocates.
     pub(crate) fn bear(&mut self, group: GroupId, birth: &OwnFork)
         requires head { StandsAt (length self.old.scans) self.old group.0 }
+        requires wide { birth.now.child.0 < length self.old.heads }
         requires room { 1 < self.old.room }
         ensures born { IsBornBy birth.now group self.old.scans (head_of self.old group.0) (head_of self.new birth.now.child.0) self.old.lists self.new.lists }
         ensures others { (other : ℕ) → other ≢ birth.now.child.0 → head_of self.new other ≡ head_of self.old other }
@@ -164,10 +175,14 @@ impl Reasons {
     }
 }
 
-/// As many heads without any reason as are asked for.
-fn no_heads(alloc: Global, count: usize) -> Result<Vec<Head>, AllocError>
-    ensures none { IfOk result (λ heads. (n : ℕ) → slice_index_or heads.items n no_head ≡ no_head) }
-    ensures count { IfOk result (λ heads. length heads.items ≡ count) }
+/// Makes a table of heads so long at least, by heads without any reason; AllocError where an
+/// allocation failed.
+fn widen(heads: &mut Vec<Head>, groups: usize) -> Result<(), AllocError>
+    ensures wide { OnOk result (groups ≤ length heads.new.items) }
+    ensures same { (n : ℕ) → slice_index_or heads.new.items n no_head ≡ slice_index_or heads.old.items n no_head }
 {
-    vec![in alloc; NO_REASON; count]
+    while heads.len() < groups {
+        heads.push(NO_REASON)?;
+    }
+    Ok(())
 }

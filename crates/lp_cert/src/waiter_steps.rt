@@ -8,7 +8,7 @@ ghost use Rattle.lp_transition.specs.Weigh.{IsWeighed, refusal_in};
 ghost use Rattle.lp_cert.specs.LastScan.{used_kind, used_scan};
 ghost use Rattle.lp_cert.specs.inside.LastScan.{IsLastScanAfter};
 ghost use Rattle.lp_cert.specs.inside.StepLines.{stepped_lines, after_scan_kind, noted_lines};
-ghost use Rattle.lp_cert.specs.inside.Waiters.{AreStanding, HasFewGroups, IsUsedVerdict, after_switch, lines_at, own_lines};
+ghost use Rattle.lp_cert.specs.inside.Waiters.{AreStanding, HasFewGroups, HasHeadFor, HasHeads, IsUsedVerdict, after_switch, lines_at, own_lines};
 
 use crate::head::OwnFork;
 use crate::unchanged::Unchanged;
@@ -26,6 +26,8 @@ impl Waiters {
         unchanged: &mut Unchanged,
     )
         requires weighed { IsWeighed M.rules core.now step.now }
+        requires wide { HasHeads self.old }
+        requires child { HasHeadFor step.now.event self.old.reasons }
         requires room { length step.now.verdicts + 1 < self.old.reasons.room }
         requires scan_room { 0 < self.old.reasons.scan_room }
         ensures lines { (group : ℕ) → lines_at self.new group ≡ stepped_lines M.rules core.now step.now self.old group }
@@ -45,6 +47,8 @@ impl Waiters {
     /// The own effect of an accepted event. Never allocates.
     fn affect<M: Consistency>(&mut self, core: &Core<M>, step: &Step)
         requires weighed { IsWeighed M.rules core.now step.now }
+        requires wide { HasHeads self.old }
+        requires child { HasHeadFor step.now.event self.old.reasons }
         requires room { length step.now.verdicts + 1 < self.old.reasons.room }
         requires scan_room { 0 < self.old.reasons.scan_room }
         ensures lines { (group : ℕ) → lines_at self.new group ≡ noted_lines M.rules core.now step.now.event step.now.verdicts self.old group }
@@ -71,6 +75,7 @@ impl Waiters {
         verdicts: &[Verdict],
     )
         requires used { IsTrue (M.rules.uses kind) → AllByRecursion IsUsedVerdict verdicts.now }
+        requires wide { HasHeads self.old }
         requires room { length verdicts.now ≤ self.old.reasons.room }
         requires scan_room { 0 < self.old.reasons.scan_room }
         requires at { at ≡ suc (state_in core.now).number }
@@ -92,6 +97,7 @@ impl Waiters {
         how: ForkKind,
         at: u64,
     )
+        requires wide { child.0 < length self.old.reasons.heads }
         requires room { 1 < self.old.reasons.room }
         requires at { at ≡ suc core.now.number }
         ensures lines { (group : ℕ) → lines_at self.new group ≡ own_lines M.rules core.now (Event.Fork parent child how) [] (lines_at self.old) group }

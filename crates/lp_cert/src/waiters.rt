@@ -10,18 +10,19 @@ ghost use Rattle.lp_transition.specs.Table.{state_in};
 ghost use Rattle.lp_cert.specs.inside.Heads.{HasFrameAs};
 ghost use Rattle.lp_cert.specs.EventLines.{has_frame_in, first_refused};
 ghost use Rattle.lp_cert.specs.Invariant.{floor_waiters};
-ghost use Rattle.lp_cert.specs.Waiters.{waiter_in, waiters_of};
-ghost use Rattle.lp_cert.specs.inside.Waiters.{AreHeads, AreStanding, StandsAt, IsJudged, AreJudged, IsUsedVerdict, is_left, after_birth, has_off, lines_at, scanned_lines, AreTakenIn, IsTakenIn};
+ghost use Rattle.lp_cert.specs.Waiters.{head_of, waiter_in, waiters_of};
+ghost use Rattle.lp_cert.specs.inside.Waiters.{HasHeadFor, HasHeads, IsAboveChild, AreHeads, AreStanding, StandsAt, IsJudged, AreJudged, IsUsedVerdict, is_left, after_birth, has_off, lines_at, scanned_lines, AreTakenIn, IsTakenIn};
 
 use crate::cert_lines::CertLines;
 use crate::chains::Chains;
+use crate::group_set::{GroupSet, greater};
 use crate::head::{OwnFork, Refused, Waiter};
 use crate::ongoing::Ongoing;
 use crate::reasons::Reasons;
 use lp_model::{Consistency, Verdict};
 use lp_numbers::{NUMBERS, NumberSet};
 use lp_stack::{Frame, GroupId, Level, TaskId};
-use lp_transition::Core;
+use lp_transition::{Core, Event};
 use std::alloc::{AllocError, Global};
 use std::marker::Model;
 
@@ -30,7 +31,7 @@ use std::marker::Model;
 /// Contracts see the set of these groups, and the reasons of all.
 #[derive(Drop)]
 pub(crate) struct Waiters {
-    groups: NumberSet,
+    groups: GroupSet,
     /// Within a scan the groups that it has refused so far.
     refused: NumberSet,
     reasons: Reasons,
@@ -53,23 +54,27 @@ impl Waiters {
         ensures none { IfOk result (λ waiters. IsEmpty waiters.groups) }
     {
         Ok(Waiters {
-            groups: NumberSet::new(alloc)?,
+            groups: GroupSet::new(alloc)?,
             refused: NumberSet::new(alloc)?,
-            reasons: Reasons::new(alloc)?,
+            reasons: Reasons::new(alloc),
         })
     }
 
-    /// Makes room for so many more reasons, and for one more scan; AllocError where an allocation
-    /// failed.
-    pub(crate) fn reserve(&mut self, more: usize) -> Result<(), AllocError>
+    /// Makes room for an event with so many more reasons, for one more scan, and for what is kept of
+    /// each group that waits then; AllocError where an allocation failed.
+    pub(crate) fn reserve(&mut self, more: usize, event: Event) -> Result<(), AllocError>
         ensures groups { self.new.groups ≡ self.old.groups }
-        ensures heads { self.new.reasons.heads ≡ self.old.reasons.heads }
+        ensures wide { OnOk result (HasHeads self.new) }
+        ensures child { OnOk result (HasHeadFor event self.new.reasons) }
+        ensures heads { (group : ℕ) → head_of self.new.reasons group ≡ head_of self.old.reasons group }
         ensures lists { self.new.reasons.lists ≡ self.old.reasons.lists }
         ensures scans { self.new.reasons.scans ≡ self.old.reasons.scans }
         ensures room { OnOk result (more ≤ self.new.reasons.room) }
         ensures scan_room { OnOk result (0 < self.new.reasons.scan_room) }
     {
-        self.reasons.reserve(more)
+        let groups = greater(self.groups.bound(), above_child(event));
+        self.reasons.reserve(more, groups)?;
+        Ok(())
     }
 
     /// Whether a group waits.
@@ -144,6 +149,7 @@ impl Waiters {
     /// A group that waits gives birth to another, which waits too. Never allocates.
     pub(crate) fn bear(&mut self, parent: GroupId, birth: &OwnFork)
         requires waits { has self.old.groups parent.0 ≡ true }
+        requires wide { birth.now.child.0 < length self.old.reasons.heads }
         requires room { 1 < self.old.reasons.room }
         ensures { (group : ℕ) → lines_at self.new group ≡ after_birth birth.now parent.0 (lines_at self.old) group }
     {
@@ -166,6 +172,7 @@ impl Waiters {
     /// allocates.
     pub(crate) fn scan<M: Consistency>(&mut self, core: &Core<M>, at: u64, verdicts: &[Verdict])
         requires used { AllByRecursion IsUsedVerdict verdicts.now }
+        requires wide { HasHeads self.old }
         requires room { length verdicts.now ≤ self.old.reasons.room }
         requires scan_room { 0 < self.old.reasons.scan_room }
         ensures lines { (group : ℕ) → lines_at self.new group ≡ scanned_lines (state_in core.now) at verdicts.now self.old group }
@@ -190,11 +197,12 @@ fn judge_waiting<M: Consistency>(
     core: &Core<M>,
     at: u64,
     verdicts: &[Verdict],
-    waiting: &NumberSet,
+    waiting: &GroupSet,
     refused: &mut NumberSet,
     reasons: &mut Reasons,
 )
     requires stand { (group : ℕ) → has waiting.now group ≡ true → StandsAt (length reasons.old.scans) reasons.old group }
+    requires wide { (group : ℕ) → has waiting.now group ≡ true → group < length reasons.old.heads }
     requires used { AllByRecursion IsUsedVerdict verdicts.now }
     requires room { length verdicts.now ≤ reasons.old.room }
     ensures { (left : ℕ → Bool) × AreJudged (state_in core.now) at verdicts.now (has waiting.now) left reasons.old reasons.new }
@@ -211,11 +219,12 @@ fn judge_all<M: Consistency>(
     core: &Core<M>,
     at: u64,
     verdicts: &[Verdict],
-    waiting: &NumberSet,
+    waiting: &GroupSet,
     refused: &mut NumberSet,
     reasons: &mut Reasons,
 )
     requires stand { (group : ℕ) → is_left waiting.now refused.old group ≡ true → StandsAt (length reasons.old.scans) reasons.old group }
+    requires wide { (group : ℕ) → has waiting.now group ≡ true → group < length reasons.old.heads }
     requires used { AllByRecursion IsUsedVerdict verdicts.now }
     requires room { length verdicts.now ≤ reasons.old.room }
     ensures { AreJudged (state_in core.now) at verdicts.now (is_left waiting.now refused.old) (is_left waiting.now refused.new) reasons.old reasons.new }
@@ -230,14 +239,16 @@ fn judge<M: Consistency>(
     core: &Core<M>,
     at: u64,
     verdict: &Verdict,
-    waiting: &NumberSet,
+    waiting: &GroupSet,
     refused: &mut NumberSet,
     reasons: &mut Reasons,
 )
     requires stand { (group : ℕ) → is_left waiting.now refused.old group ≡ true → StandsAt (length reasons.old.scans) reasons.old group }
+    requires wide { (group : ℕ) → has waiting.now group ≡ true → group < length reasons.old.heads }
     requires used { IsUsedVerdict verdict.now }
     requires room { 0 < reasons.old.room }
-    ensures { IsJudged (state_in core.now) at verdict.now (is_left waiting.now refused.old) (is_left waiting.now refused.new) reasons.old reasons.new }
+    ensures width { length reasons.new.heads ≡ length reasons.old.heads }
+    ensures judged { IsJudged (state_in core.now) at verdict.now (is_left waiting.now refused.old) (is_left waiting.now refused.new) reasons.old reasons.new }
 {
     let Some(blame) = verdict.blame else {
         return;
@@ -259,8 +270,9 @@ fn judge<M: Consistency>(
 }
 
 /// Whether a group waits and the scan hasn't refused it so far.
-fn is_left(waiting: &NumberSet, refused: &NumberSet, group: GroupId) -> bool
-    ensures { result ≡ is_left waiting.now refused.now group.0 }
+fn is_left(waiting: &GroupSet, refused: &NumberSet, group: GroupId) -> bool
+    ensures left { result ≡ is_left waiting.now refused.now group.0 }
+    ensures waits { result ≡ true → has waiting.now group.0 ≡ true }
 {
     waiting.contains(group.0) && !refused.contains(group.0)
 }
@@ -285,8 +297,18 @@ fn has_serial(frames: &[Frame], serial: u64) -> bool
     frames.iter().any(|frame| u64::from(frame.serial) == serial)
 }
 
+/// A number above the group of a child's own that an event may bring.
+fn above_child(event: Event) -> usize
+    ensures { IsAboveChild event result }
+{
+    match event {
+        Event::Fork(_, child, _) => usize::from(child.0) + 1,
+        _ => 0,
+    }
+}
+
 /// The groups of a set as they stand, in increasing order.
-fn listed(alloc: Global, groups: &NumberSet, reasons: &Reasons) -> Result<Vec<Waiter>, AllocError>
+fn listed(alloc: Global, groups: &GroupSet, reasons: &Reasons) -> Result<Vec<Waiter>, AllocError>
     ensures { IfOk result (λ list. list.items ≡ map (waiter_in reasons.now) (passing 0 65536 (has groups.now))) }
 {
     let mut list = Vec::new(alloc);
@@ -303,7 +325,7 @@ fn listed(alloc: Global, groups: &NumberSet, reasons: &Reasons) -> Result<Vec<Wa
 }
 
 /// The least member of a set that is at or above a number, which may be past all members.
-fn member_from(set: &NumberSet, first: usize) -> Option<u16>
+fn member_from(set: &GroupSet, first: usize) -> Option<u16>
     ensures { IsNextBelow 65536 (has set.now) first result }
 {
     if first >= NUMBERS {
@@ -316,7 +338,7 @@ fn member_from(set: &NumberSet, first: usize) -> Option<u16>
 fn take_in_all<M: Consistency>(
     core: &Core<M>,
     level: Level,
-    groups: &mut NumberSet,
+    groups: &mut GroupSet,
     reasons: &mut Reasons,
 )
     requires { IsEmpty groups.old }
@@ -335,7 +357,7 @@ fn take_in<M: Consistency>(
     core: &Core<M>,
     level: Level,
     task: TaskId,
-    groups: &mut NumberSet,
+    groups: &mut GroupSet,
     reasons: &mut Reasons,
 )
     ensures { IsTakenIn core.now.table level.0 task.0 groups.old groups.new reasons.old reasons.new }

@@ -20,7 +20,7 @@ use Rattle.lp_cert.specs.inside.StepLines.{stepped_lines}
 use Rattle.lp_cert.specs.LastScan.{LastScan, used_scan}
 use Rattle.lp_cert.specs.inside.LastScan.{IsLastScanAfter}
 use Rattle.lp_cert.specs.Waiters.{WaitingGroups, kept_cert}
-use Rattle.lp_cert.specs.inside.Waiters.{AreHeads, AreStanding, HasFewGroups, lines_at}
+use Rattle.lp_cert.specs.inside.Waiters.{AreHeads, AreStanding, HasFewGroups, HasHeadFor, HasHeads, lines_at}
 use Rattle.lp_cert.specs.Invariant.{claim_of, upto_of, floor_waiters, end_waiters}
 
 -- the certificate of a group with these lines, the newest in front
@@ -68,6 +68,8 @@ HasClosing current waiters true (Some closing) = IsClosing current waiters closi
 pub record IsReady (current : Option OpenLeg) (waiters : WaitingGroups) (ended_room : ℕ) (closing : Option Closing) (ready : Ready) : Type 0 where
   pub room : ready.verdicts + 1 < waiters.reasons.room
   pub scan_room : 0 < waiters.reasons.scan_room
+  pub heads : HasHeads waiters
+  pub child : HasHeadFor ready.event waiters.reasons
   pub end_room : ready.opens ≡ true → 0 < ended_room
   pub left : HasClosing current waiters ready.opens closing
 

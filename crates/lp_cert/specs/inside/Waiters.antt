@@ -39,6 +39,20 @@ StandsAt scans reasons group = IsHead reasons.lists scans (head_of reasons group
 abbrev pub is_left : (waiting refused : Numbers) → (group : ℕ) → Bool
 is_left waiting refused group = has waiting group && not (has refused group)
 
+-- the table of what is kept of each group is long enough for those that wait
+abbrev pub HasHeads : WaitingGroups → Type 0
+HasHeads waiters = (group : ℕ) → has waiters.groups group ≡ true → group < length waiters.reasons.heads
+
+-- and for the group of a child's own that the event may bring
+abbrev pub HasHeadFor : Event → LegReasons → Type 0
+HasHeadFor (Fork p c how) reasons = c.0 < length reasons.heads
+HasHeadFor _ reasons = Unit {0}
+
+-- a number above the group of a child's own that the event may bring
+abbrev pub IsAboveChild : Event → ℕ → Type 0
+IsAboveChild (Fork p c how) bound = c.0 < bound
+IsAboveChild _ bound = Unit {0}
+
 -- a scan refused the group, blaming this member
 pub record IsRefusedOnce (s : State) (at group : ℕ) (blamed : ℕ × Blame) (old new : LegReasons) : Type 0 where
   pub lines :

@@ -7,12 +7,15 @@ use Rattle.lp_cert.specs.inside.Waiters.{is_left}
 use Rattle.lp_cert.proofs.WaiterLemmas.{grouped, judges, not_left, others_left}
 use Rattle.lp_cert.proofs.waiters.judge.Goals as goal
 
-pub returns : goal.returns
-returns g c =
+pub refuse-requires-clause-wide : goal.refuse-requires-clause-wide
+refuse-requires-clause-wide g c = c.requires.wide c.in-Some-group_of.group.0 (c.is_left.ensures.waits c.if-not-is_left.false)
+
+pub returns-clause-judged : goal.returns-clause-judged
+returns-clause-judged g c =
     let group = c.in-Some-group_of.group in
     let s = state_in c.args.core.now in
     let mine = grouped c.args.core.now.table c.args.verdict.now.task.0 group c.in-Some-group_of.ensures in
-    let left : is_left c.args.waiting.now c.args.refused.now group.0 ≡ c.is_left.result = sym c.is_left.ensures in
+    let left : is_left c.args.waiting.now c.args.refused.now group.0 ≡ c.is_left.result = sym c.is_left.ensures.left in
     let waits = left ∙ c.if-not-is_left.false in
     let few : group.0 < 65536 = omega arith in
     judges s c.args.at c.args.verdict.now c.in-Some.blame group c.has_standing_frame.result (is_left c.args.waiting.now c.args.refused.now) (is_left c.args.waiting.now c.insert.new.self) c.args.reasons.now c.refuse.new.self

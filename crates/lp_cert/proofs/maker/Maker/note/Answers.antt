@@ -1,14 +1,29 @@
 use Rattle.std.proofs.Common.{Bool, inr, ◌≡◌, ◌+◌, ◌++◌, [], Some, None, true, false, if◌then◌else◌, refl, sym, ap, ap₂, subst, ◌∙◌}
 use Rattle.std.specs.Option.{option_map}
+use Rattle.lp_transition.specs.declared.event.Event.{Event}
 use Rattle.lp_transition.specs.Table.{state_in}
 use Rattle.lp_cert.specs.declared.open_leg.OpenLeg.{OpenLeg}
-use Rattle.lp_cert.specs.Ends.{Made, IsMadeOf, is_opening, room_for}
+use Rattle.lp_cert.specs.Ends.{Made, Room, IsMadeOf, is_opening, room_for}
 use Rattle.lp_cert.specs.Invariant.{open_end, room_of}
 use Rattle.lp_cert.specs.inside.Invariant.{ends_with, HasClosing, IsClosing}
-use Rattle.lp_cert.specs.inside.Waiters.{has_off}
-use Rattle.lp_cert.proofs.Noted.{none_made, still_made, turned_made, ends_are, ready_for, opens_is, not_so, not_other}
+use Rattle.lp_cert.specs.inside.Waiters.{HasHeadFor, has_off}
+use Rattle.lp_cert.proofs.Noted.{none_made, still_made, turned_made, ends_are, ready_for, room_is, opens_is}
+use Rattle.lp_cert.proofs.Asked.{not_so, not_other}
 use Rattle.lp_cert.proofs.UnchangedSteps.{none_unchanged}
 use Rattle.lp_cert.proofs.maker.Maker.note.Goals as goal
+
+pub step_leg-requires-clause-heads : goal.step_leg-requires-clause-heads
+step_leg-requires-clause-heads g c =
+    let i = c.self.inside in
+    (ready_for i.current i.waiters _ i.closing i.ready c.in-Some.ready c.self.invariant.for_event (sym c.take.ensures.value ∙ c.in-Some.is)).heads
+
+pub step_leg-requires-clause-child : goal.step_leg-requires-clause-child
+step_leg-requires-clause-child g c =
+    let i = c.self.inside in
+    let kept : i.ready ≡ Some c.in-Some.ready = sym c.take.ensures.value ∙ c.in-Some.is in
+    let asked = rw (← c.self.view_is) at c.requires.ready in
+    let ready = ready_for i.current i.waiters _ i.closing i.ready c.in-Some.ready c.self.invariant.for_event kept in
+    subst (λ (event : Event). HasHeadFor event i.waiters.reasons) (ap (λ (r : Room). r.event) (room_is i.ready c.in-Some.ready (room_for c.args.step.now) kept asked)) ready.child
 
 pub returns-in_default-current : goal.returns-in_default-current
 returns-in_default-current g c = record {

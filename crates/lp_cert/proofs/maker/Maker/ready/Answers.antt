@@ -4,14 +4,14 @@ use Rattle.lp_cert.proofs.maker.Maker.ready.Goals as goal
 pub returns-in_err-reserve-clause-current : goal.returns-in_err-reserve-clause-current
 returns-in_err-reserve-clause-current g c =
     let i = c.self.inside in
-    rw (← c.self.view_is) (open_end_same i.noted c.reserve.new.self i.waiters c.reserve.ensures.groups c.reserve.ensures.heads c.reserve.ensures.lists c.reserve.ensures.scans i.current)
+    rw (← c.self.view_is) (open_end_same c.reserve.new.self i.waiters c.reserve.ensures.groups c.reserve.ensures.heads i.noted c.reserve.ensures.lists c.reserve.ensures.scans i.current)
 
 pub returns-in_err-opens-clause-current : goal.returns-in_err-opens-clause-current
 returns-in_err-opens-clause-current g c =
     let i = c.self.inside in
-    rw (← c.self.view_is) (open_end_same i.noted c.reserve.new.self i.waiters c.reserve.ensures.groups c.reserve.ensures.heads c.reserve.ensures.lists c.reserve.ensures.scans i.current)
+    rw (← c.self.view_is) (open_end_same c.reserve.new.self i.waiters c.reserve.ensures.groups c.reserve.ensures.heads i.noted c.reserve.ensures.lists c.reserve.ensures.scans i.current)
 
 pub returns-clause-current : goal.returns-clause-current
 returns-clause-current g c =
     let i = c.self.inside in
-    rw (← c.self.view_is) (open_end_same i.noted c.reserve.new.self i.waiters c.reserve.ensures.groups c.reserve.ensures.heads c.reserve.ensures.lists c.reserve.ensures.scans i.current)
+    rw (← c.self.view_is) (open_end_same c.reserve.new.self i.waiters c.reserve.ensures.groups c.reserve.ensures.heads i.noted c.reserve.ensures.lists c.reserve.ensures.scans i.current)

@@ -5,9 +5,12 @@ use Rattle.lp_model.specs.declared.check.CheckKind.TheVariants as kind
 use Rattle.lp_transition.specs.declared.event.Event.{Event}
 use Rattle.lp_transition.specs.Table.{state_in}
 use Rattle.lp_transition.specs.Weigh.{AreVerdictsFor}
-use Rattle.lp_cert.specs.inside.Waiters.{IsUsedVerdict}
+use Rattle.lp_cert.specs.inside.Waiters.{HasHeadFor, IsUsedVerdict}
 use Rattle.lp_cert.proofs.MoreWaiters.{used_enough}
 use Rattle.lp_cert.proofs.waiters.Waiters.affect.Goals as goal
+
+pub fork-requires-clause-wide : goal.fork-requires-clause-wide
+fork-requires-clause-wide g c = subst (λ (event : Event). HasHeadFor event c.args.self.now.reasons) (sym c.event.ensures ∙ c.in-Fork.is) c.requires.child
 
 pub scan_of-requires-clause-used : goal.scan_of-requires-clause-used
 scan_of-requires-clause-used g c = λ used.

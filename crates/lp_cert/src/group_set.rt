@@ -1,0 +1,96 @@
+//! Sets of groups.
+ghost use Rattle.std.specs.Prelude.{◌≡◌, ◌<◌, ◌≤◌, ℕ, true, false, length, slice_set, IfOk};
+ghost use Rattle.lp_numbers.specs.Numbers.{has, IsEmpty, IsNextFrom};
+
+use lp_numbers::NumberSet;
+use std::alloc::{AllocError, Global};
+use std::marker::Model;
+
+/// A set of groups that knows a number above all of them, so that a table of what is kept of each
+/// needn't be longer. Only `new` allocates.
+///
+/// Contracts see a list that says of each number whether it is a member.
+#[derive(Drop)]
+pub(crate) struct GroupSet {
+    groups: NumberSet,
+    bound: usize,
+}
+
+impl Model for GroupSet {
+    ghost use Rattle.lp_numbers.specs.Numbers.{Numbers};
+    ghost use Rattle.lp_cert.specs.inside.GroupSet.{IsBounded};
+
+    ghost Value = { Numbers };
+
+    ghost view = { λ s. s.groups };
+
+    ghost invariant = { λ s. IsBounded s.bound s.groups };
+}
+
+impl GroupSet {
+    /// No group; AllocError where an allocation failed.
+    pub(crate) fn new(alloc: Global) -> Result<GroupSet, AllocError>
+        ensures { IfOk result (λ set. IsEmpty set) }
+    {
+        Ok(GroupSet {
+            groups: NumberSet::new(alloc)?,
+            bound: 0,
+        })
+    }
+
+    /// A number above each member.
+    pub(crate) fn bound(&self) -> usize
+        ensures { (group : ℕ) → has self.now group ≡ true → group < result }
+    {
+        self.bound
+    }
+
+    /// Whether a group is a member.
+    pub(crate) fn contains(&self, group: u16) -> bool
+        ensures { result ≡ has self.now group }
+    {
+        self.groups.contains(group)
+    }
+
+    /// The least member that is at or above a number, if there is one.
+    pub(crate) fn next(&self, from: u16) -> Option<u16>
+        ensures { IsNextFrom (has self.now) from result }
+    {
+        self.groups.next(from)
+    }
+
+    /// Makes a group a member.
+    pub(crate) fn insert(&mut self, group: u16)
+        ensures after { self.new ≡ slice_set self.old group true }
+        ensures numbers { length self.new ≡ 65536 }
+    {
+        self.groups.insert(group);
+        let bound = greater(self.bound, usize::from(group) + 1);
+        self.bound = bound;
+    }
+
+    /// Makes a group no member.
+    pub(crate) fn remove(&mut self, group: u16)
+        ensures after { self.new ≡ slice_set self.old group false }
+        ensures numbers { length self.new ≡ 65536 }
+    {
+        self.groups.remove(group);
+    }
+
+    /// Takes every member out, at the cost of the members.
+    pub(crate) fn clear(&mut self)
+        ensures empty { IsEmpty self.new }
+        ensures numbers { length self.new ≡ 65536 }
+    {
+        self.groups.clear();
+        self.bound = 0;
+    }
+}
+
+/// The greater of two numbers.
+pub(crate) fn greater(one: usize, other: usize) -> usize
+    ensures first { one ≤ result }
+    ensures second { other ≤ result }
+{
+    if one < other { other } else { one }
+}
