@@ -5,18 +5,22 @@ ghost use Rattle.lp_board.specs.declared.launch.LaunchFault.TheVariants.{Boot};
 
 use lp_transition::BootFault;
 use std::alloc::AllocError;
+use thiserror::Error;
 
 /// The most readers of a board, and the most workers of a desk's scans.
 pub const MOST_CREW: usize = 64;
 
 /// Why no desk was launched. The first that fits is given.
-#[derive(Clone, Copy, Debug, PartialEq, Eq)]
+#[derive(Clone, Copy, Debug, PartialEq, Eq, Error)]
 pub enum LaunchFault {
     /// T4: a number of readers or of workers outside 1 to 64.
+    #[error("T4: a number of readers or of workers outside 1 to 64")]
     BadCrew,
     /// T1, T2 or T3: no engine was made, or an allocation failed after.
+    #[error("{0}")]
     Boot(BootFault),
     /// T5: a reader of the board couldn't be had.
+    #[error("T5: a reader of the board couldn't be had")]
     NoBoard,
 }
 

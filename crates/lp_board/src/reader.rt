@@ -15,6 +15,7 @@ use left_right::reader::Reader;
 use lp_stack::TaskId;
 use std::alloc::Global;
 use std::marker::Model;
+use thiserror::Error;
 
 pub(crate) type Raw<N> = Reader<Sheet<N>, (), Shows<N>>;
 
@@ -51,11 +52,13 @@ impl<N: DeskName> Told<N> {
 }
 
 /// Why a reader gave no snapshot. The reader is then as it was.
-#[derive(Clone, Copy, Debug, PartialEq, Eq)]
+#[derive(Clone, Copy, Debug, PartialEq, Eq, Error)]
 pub enum BoardFault {
     /// The board can't be entered, as it was given up.
+    #[error("the board was given up")]
     Shut,
     /// An allocation failed.
+    #[error("out of memory")]
     NoMemory,
 }
 

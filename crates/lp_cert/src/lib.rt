@@ -23,4 +23,7 @@ pub use cert::{Cert, CertHead, Claim};
 pub use cert_lines::CertLines;
 pub use leg_end::{CertList, LegEnd};
 pub use line::{Line, LineList};
+pub use lp_model::Consistency;
+pub use lp_stack::{GroupId, Level, TaskId};
+pub use lp_transition::{Core, Event, Halt, Step};
 pub use maker::Maker;

@@ -8,16 +8,19 @@ mod strangers;
 use crate::{Control, Journal, Seat};
 use lp_stack::TaskId;
 use std::alloc::{AllocError, Global};
+use thiserror::Error;
 
 /// Why a desk isn't closed. The first that fits is given.
-#[derive(Clone, Copy, Debug, PartialEq, Eq)]
+#[derive(Clone, Copy, Debug, PartialEq, Eq, Error)]
 pub enum CloseCause {
     /// D4: a seat, or an event of the journal, of a task that never was; or a second seat of one task.
+    #[error("D4: a seat or an event of task {task}, which never was, or a second seat of it")]
     Stranger {
         /// The least such task.
         task: TaskId,
     },
     /// D2: a seat that was given out is missing.
+    #[error("D2: {have} tasks have a seat, and {want} were given out")]
     Missing {
         /// How many tasks have a seat.
         have: usize,
@@ -25,6 +28,7 @@ pub enum CloseCause {
         want: usize,
     },
     /// D3: the entries of a seat aren't its task's part of the journal; or those of the control aren't its own part.
+    #[error("D3: what was sent for task {task} isn't its part of the journal, from place {place} on")]
     Differs {
         /// The least such task, or 0 for the control, which comes last.
         task: TaskId,
@@ -32,6 +36,7 @@ pub enum CloseCause {
         place: usize,
     },
     /// An allocation failed.
+    #[error("E13: out of memory")]
     NoMemory,
 }
 

@@ -6,6 +6,7 @@ use lp_stack::{Class, TaskId};
 use lp_transition::Reply;
 use std::alloc::{AllocError, Global};
 use std::marker::Model;
+use thiserror::Error;
 
 /// The right to send the events of a task, with the entries of those that were sent.
 ///
@@ -131,12 +132,15 @@ pub struct Turned<P: Drop> {
 }
 
 /// Why an event that was sent wasn't taken. The first that fits is given.
-#[derive(Clone, Copy, Debug, PartialEq, Eq)]
+#[derive(Clone, Copy, Debug, PartialEq, Eq, Error)]
 pub enum Cause {
     /// D1: it is the event of another task; or it is a task's event, and was sent from the control.
+    #[error("D1: the event is another task's, or a task's that was sent from the control")]
     NotYours,
     /// E14: 1,000,000 events are numbered.
+    #[error("E14: 1,000,000 events are numbered")]
     JournalFull,
     /// E13: an allocation failed.
+    #[error("E13: out of memory")]
     NoMemory,
 }

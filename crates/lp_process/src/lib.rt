@@ -3,4 +3,5 @@
 
 mod process_group;
 
+pub use lp_model::Consistency;
 pub use process_group::ProcessGroup;

@@ -10,25 +10,34 @@ use lp_threads::ThreadsFault;
 use lp_trace::{RunFault, TraceFault};
 use std::alloc::AllocError;
 use std::io::{self, Write};
+use thiserror::Error;
 
 /// Why the program ends with a status that isn't 0.
-#[derive(Clone, Copy, Debug, PartialEq, Eq)]
+#[derive(Clone, Copy, Debug, PartialEq, Eq, Error)]
 pub enum Fault {
     /// Standard input failed.
+    #[error("read fault")]
     Read,
     /// Standard output failed.
+    #[error("write fault")]
     Write,
     /// The words are none of the program's.
+    #[error("usage")]
     Usage,
     /// There is no such model.
+    #[error("unknown model")]
     UnknownModel,
     /// The input is no trace, or holds no certificate.
+    #[error("line {line}: L{number}", line = .0.line, number = .0.cause.number())]
     Trace(TraceFault),
     /// The certificate was refused, as standard output says.
+    #[error("the certificate was refused")]
     Refused,
     /// An allocation failed.
+    #[error("out of memory")]
     NoMemory,
     /// No desk was launched, or it wasn't closed, or a thread couldn't be started: this letter and number.
+    #[error("desk: {0}")]
     Desk(&'static str),
 }
 

@@ -28,13 +28,16 @@ pub enum Task {
 }
 
 /// Why the words ask for nothing that the program does.
-#[derive(Clone, Copy, Debug, PartialEq, Eq)]
+#[derive(Clone, Copy, Debug, PartialEq, Eq, thiserror::Error)]
 pub enum WordsFault {
     /// No line of the program's table, or a call for help.
+    #[error("usage")]
     Usage,
     /// The words are right but for the model's name.
+    #[error("unknown model")]
     UnknownModel,
     /// An allocation failed.
+    #[error("out of memory")]
     NoMemory,
 }
 

@@ -8,6 +8,12 @@ mod replays;
 mod replies;
 
 pub use leg_end::LegList;
+pub use lp_cert::LegEnd;
+pub use lp_model::Consistency;
+pub use lp_patch::PatchStack;
+pub use lp_stack::{GroupId, Level};
+pub use lp_text::Trace;
+pub use lp_transition::{Event, GroupList, Opening, Refusal, Reply};
 pub use outcome::Outcome;
 pub use replays::{ReplayFault, TraceLeg, leg_numbered, replay, stack};
 pub use replies::{ReplyList, ShortReply, ShortWhat, groups_at};

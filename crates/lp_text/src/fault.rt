@@ -6,36 +6,49 @@ ghost use Rattle.lp_text.specs.Faults.{cause_number};
 ghost use Rattle.lp_text.specs.inside.LineFaults.{read_fault};
 
 use std::alloc::{AllocError, AllocFailed};
+use thiserror::Error;
 
 /// What is wrong with a line of a trace text, or of the input of a check. On one line the first that
 /// fits, in this order.
-#[derive(Clone, Copy, Debug, PartialEq, Eq)]
+#[derive(Clone, Copy, Debug, PartialEq, Eq, Error)]
 pub enum Cause {
     /// L1: the first line is neither `lptrace 1` nor `lptrace 2`, or there are no bytes.
+    #[error("L1: the first line is no header")]
     Header,
     /// L2: the last line lacks its byte 10; before every other cause of that line.
+    #[error("L2: the last line lacks its end")]
     Unended,
     /// L3: the first word is none of the text's words, or begins an earlier part than the one reached.
+    #[error("L3: the first word is none of the text's, or belongs to an earlier part")]
     Word,
     /// L4: a wrong number of words, an empty word, a number not of 1 to 5 digits without leading
     /// zeros, a wrong class or kind of fork.
+    #[error("L4: a word too many or too few, or one that isn't as it has to be")]
     Shape,
     /// L5: in `sym`, more than 512 bytes, or a byte outside 33 to 126.
+    #[error("L5: no name")]
     Name,
     /// L6: in `sym`, the name is there already.
+    #[error("L6: the name is there already")]
     Doubled,
     /// L7: in `patch` or `call`, the name is no symbol.
+    #[error("L7: the name is no symbol")]
     Unknown,
     /// L8: in `patch`, the function or the patch's number is out of place; or no `patch` line stands
     /// before a boot or event line (then before L4), or before the end.
+    #[error("L8: a patch is out of place, or there is none")]
     Patch,
     /// L9: a task number outside 1 to 65,535; in `boot` also a doubled one.
+    #[error("L9: no task number, or a boot task is there already")]
     Task,
     /// L10: one line more than its part may have.
+    #[error("L10: one line more than its part may have")]
     Many,
     /// L11: more than 134,217,728 bytes; at line 0, before all others.
+    #[error("L11: more than 134,217,728 bytes")]
     Long,
     /// L12: in the input of a check, what follows the trace is no certificate.
+    #[error("L12: what follows the trace is no certificate")]
     Cert,
 }
 
@@ -62,7 +75,8 @@ impl Cause {
 }
 
 /// The first fault of a text that is no trace, or no input of a check.
-#[derive(Clone, Copy, Debug, PartialEq, Eq)]
+#[derive(Clone, Copy, Debug, PartialEq, Eq, Error)]
+#[error("line {line}: {cause}")]
 pub struct TraceFault {
     /// The number of the line, from 1; 0 for the text as a whole.
     pub line: u64,
@@ -71,11 +85,13 @@ pub struct TraceFault {
 }
 
 /// Why a text was not read.
-#[derive(Clone, Copy, Debug, PartialEq, Eq)]
+#[derive(Clone, Copy, Debug, PartialEq, Eq, Error)]
 pub enum ReadFault {
     /// The text is no trace; of a check, no trace with a certificate behind it.
+    #[error("{0}")]
     Trace(TraceFault),
     /// An allocation failed.
+    #[error("out of memory")]
     NoMemory,
 }
 

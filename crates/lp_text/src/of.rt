@@ -11,14 +11,17 @@ use lp_stack::{Class, TaskId};
 use lp_symbols::{SymId, Symbols};
 use lp_transition::Event;
 use std::alloc::Global;
+use thiserror::Error;
 
 /// Why parts made no trace.
-#[derive(Clone, Copy, Debug, PartialEq, Eq)]
+#[derive(Clone, Copy, Debug, PartialEq, Eq, Error)]
 pub enum OfFault {
     /// The part at this place, from 1 in the order of the text's lines after the first, is the first
     /// that has no spelling.
+    #[error("part {0} has no spelling")]
     Unwritable(u64),
     /// An allocation failed.
+    #[error("out of memory")]
     NoMemory,
 }
 

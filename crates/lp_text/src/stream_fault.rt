@@ -8,15 +8,19 @@ use crate::fault::{Cause, ReadFault, TraceFault};
 use crate::input::InputFault;
 use std::alloc::AllocError;
 use std::io;
+use thiserror::Error;
 
 /// Why a reader gave no trace, or no trace with a certificate behind it.
-#[derive(Debug, Drop)]
+#[derive(Debug, Drop, Error)]
 pub enum StreamFault {
     /// The reader failed, or was interrupted.
+    #[error("the input can't be read: {0}")]
     Read(io::Error),
     /// The text is no trace; of a check, no trace with a certificate behind it.
+    #[error("{0}")]
     Trace(TraceFault),
     /// An allocation failed.
+    #[error("out of memory")]
     NoMemory,
 }
 

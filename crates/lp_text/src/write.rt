@@ -15,13 +15,16 @@ use lp_stack::{Class, TaskId};
 use lp_symbols::{SymId, Symbols};
 use lp_transition::Event;
 use std::io::{self, Write};
+use thiserror::Error;
 
 /// Why a text was not written to its end. What was written is a prefix of it.
-#[derive(Debug, Drop)]
+#[derive(Debug, Drop, Error)]
 pub enum WriteFault {
     /// The writer failed, or was interrupted.
+    #[error("the output can't be written: {0}")]
     Failed(io::Error),
     /// The writer took no byte.
+    #[error("the output takes no byte")]
     Stopped,
 }
 

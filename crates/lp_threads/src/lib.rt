@@ -11,4 +11,10 @@ mod scripts;
 
 pub use fault::ThreadsFault;
 pub use in_order::play_in_order;
+pub use lp_board::LaunchFault;
+pub use lp_desk::Unclosed;
+pub use lp_log::{Cause, CloseCause, Journal};
+pub use lp_model::Consistency;
+pub use lp_scan::ScanGate;
+pub use lp_trace::{ReplayFault, RunFault, StreamFault, Trace, WriteFault};
 pub use playing::threads;

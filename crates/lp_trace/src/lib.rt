@@ -8,6 +8,7 @@ mod report;
 mod runs;
 
 pub use checks::check;
+pub use lp_model::Consistency;
 pub use lp_replay::{LegList, Outcome, ReplayFault, ReplyList, replay, stack};
 pub use lp_text::{
     Cause, CheckInput, OfFault, ReadFault, StreamFault, Trace, TraceFault, TraceForm, WriteFault,
