@@ -51,13 +51,14 @@ impl Ready {
 }
 
 impl<M: Consistency> Log<M> {
-    /// An event, weighed on the engine; a walk or a stop after a look at every waiting task.
+    /// An event, weighed on the engine; a walk or a stop after a look at the groups alone that a scan
+    /// of its kind may judge otherwise than the last one.
     pub fn weigh(&self, alloc: Global, event: Event) -> Result<Step, Halt>
         ensures full { (result ≡ Err JournalFull) ↔ (1000000 ≤ length self.now.journal.entries) }
         ensures weighed { IfOk result (λ step. IsWeighed M.rules self.now.core step) }
         ensures event { IfOk result (λ step. step.event ≡ event) }
     {
-        self.core.weigh_any(alloc, event)
+        self.core.weigh_changed(alloc, event)
     }
 
     /// A walk or a stop, weighed by what its checks found of the waiting tasks.
