@@ -1,6 +1,6 @@
 -- What is known where a choice or a step gave a value.
-use Rattle.std.proofs.Common.{◌≡◌, Bool, true, false, Option, Some, Result, Ok, Err, cond, subst, refl, ◌⊎◌, inl, inr}
-use Rattle.std.specs.Prelude.{IfSome}
+use Rattle.std.proofs.Common.{◌≡◌, Bool, true, false, Option, None, Some, Result, Ok, Err, cond, subst, refl, ◌⊎◌, inl, inr}
+use Rattle.std.specs.Prelude.{IfNone, IfSome}
 use Rattle.lp_text.specs.Reading.{◌>>=◌}
 
 pub chosen : {A : Type 0} (b : Bool) (x y z : A) → cond b x y ≡ z → ((b ≡ true) × (x ≡ z)) ⊎ ((b ≡ false) × (y ≡ z))
@@ -24,3 +24,7 @@ ok_is h = cc h
 
 pub at_some : {A : Type 0} (P : A → Type 0) (o : Option A) (x : A) → IfSome o P → o ≡ Some x → P x
 at_some {A} P o x h e = let Q : Option A → Type 0 = λ o. IfSome o P in subst Q e h
+
+pub at_none : {A : Type 0} (P : Type 0) (o : Option A) → IfNone o P → o ≡ None → P
+at_none P None h e = h
+at_none P (Some x) h e = absurd (cc e)

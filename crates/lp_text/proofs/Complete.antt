@@ -104,7 +104,7 @@ fork_clean fork.Share = refl
 
 -- ---- Lines without spaces and ends in their words
 
-event_clean : (s : List (List ℕ)) (e : Event) → AreNames s → IsEvent (length s) e → CleanLine (event_words s e)
+pub event_clean : (s : List (List ℕ)) (e : Event) → AreNames s → IsEvent (length s) e → CleanLine (event_words s e)
 event_clean s (Call task func) names h = (omega arith, (refl, (task_clean task h.0, (name_clean s func names h.1, tt))))
 event_clean s (Ret task) names h = (omega arith, (refl, (task_clean task h, tt)))
 event_clean s (Sleep task) names h = (omega arith, (refl, (task_clean task h, tt)))
@@ -181,7 +181,7 @@ words_again word (next ∷ rest) h =
     slice_split_at (λ b. b == 32) word 32 (join_with_byte 32 (next ∷ rest)) (clean_apart 32 word (omega arith) h.0) refl ∙ ap (λ ws. word ∷ ws) (words_again next rest h.1)
 
 -- bytes with no line end among them
-abbrev NoEnd : List ℕ → Type 0
+abbrev pub NoEnd : List ℕ → Type 0
 NoEnd bytes = list_all (λ b. nat_le 32 b) bytes ≡ true
 
 clean_no_end : (word : List ℕ) → Clean word → NoEnd word
@@ -191,7 +191,7 @@ clean_no_end (c ∷ cs) h =
     let low : 32 < c = ltb-true 32 c a.0 in
     both (nat_le 32 c) (list_all (λ b. nat_le 32 b) cs) (at_most 32 c (omega arith)) (clean_no_end cs a.1)
 
-joined_no_end : (ws : List (List ℕ)) → AllByRecursion (λ w. Clean w) ws → NoEnd (join_with_byte 32 ws)
+pub joined_no_end : (ws : List (List ℕ)) → AllByRecursion (λ w. Clean w) ws → NoEnd (join_with_byte 32 ws)
 joined_no_end [] h = refl
 joined_no_end (word ∷ []) h = clean_no_end word h.0
 joined_no_end (word ∷ next ∷ rest) h =

@@ -19,6 +19,7 @@ pub mod LastWords
 pub mod Rows
 pub mod Builders
 pub mod Parts
+pub mod QuickLines
 pub mod Goes
 pub mod Making
 pub mod BuildRows

@@ -1,7 +1,7 @@
 -- The line of a part, as a reader takes it.
 use Rattle.std.proofs.Common.{◌≡◌, ◌<◌, ◌≤◌, ◌-◌, ℕ, List, [], ◌∷◌, ◌++◌, length, take, Result, Ok, Err, refl, sym, ap, ◌∙◌, arith, ◌⊎◌, inl, inr}
 use Rattle.std.specs.Prelude.{nat_lt, nat_le, ◌==◌, ◌&&◌, decimal, slice_index_or, IsErr}
-use Rattle.std.specs.List.{list_any}
+use Rattle.std.specs.List.{IsDistinct, list_any}
 use Rattle.std.specs.Str.{bytes_eq}
 use Rattle.std.proofs.lemmas.List.{get_or_past}
 use Rattle.lp_symbols.specs.declared.sym_id.SymId.{SymId}
@@ -19,7 +19,7 @@ use Rattle.lp_text.specs.declared.keyword.EventKeyword.{EventKeyword}
 use Rattle.lp_text.specs.declared.keyword.EventKeyword.TheVariants as event
 use Rattle.lp_text.specs.inside.Builders.{IsOut}
 use Rattle.lp_text.specs.Words.{class_word, event_word, fork_kind_of, fork_word}
-use Rattle.lp_text.specs.Traces.{TraceValue, IsEvent, name, sym_words, patch_words, boot_words, event_words}
+use Rattle.lp_text.specs.Traces.{TraceValue, AreNames, IsEvent, name, sym_words, patch_words, boot_words, event_words}
 use Rattle.lp_text.specs.Reading.{◌>>=◌, needs, next_number, last_number, last_word, symbol_of, task_of, task_line, call_line, fork_line, patch_line, boot_line, event_line, add_symbol, add_function, add_boot, add_event, grown, part_reached, line_by_word, with_line}
 use Rattle.lp_text.proofs.Choices.{guard_ok, pass_ok, bind_ok, ok_is}
 use Rattle.lp_text.proofs.Spelled.{next_number_spelled, task_spelled}
@@ -111,11 +111,14 @@ boot_added t u task class h =
 
 -- ---- An event
 
-pub event_line_of : (t : TraceValue) (e : Event) → SoFar t → 0 < length t.patches → IsEvent (length t.symbols) e → with_line t (event_words t.symbols e) ≡ add_event t e
+pub event_read : (t : TraceValue) (e : Event) → AreNames t.symbols → IsDistinct bytes_eq t.symbols → 0 < length t.patches → IsEvent (length t.symbols) e → with_line t (event_words t.symbols e) ≡ add_event t e
 unfolding line_by_word
-event_line_of t e s patched fits =
-    let again = event_again t.symbols e s.names s.names_differ fits in
+event_read t e names differ patched fits =
+    let again = event_again t.symbols e names differ fits in
     ap (with_line t) again.words ∙ line_again t (line.Event (word_of e)) again.given (before_end t) (λ h. patched) ∙ rw again.reads refl
+
+pub event_line_of : (t : TraceValue) (e : Event) → SoFar t → 0 < length t.patches → IsEvent (length t.symbols) e → with_line t (event_words t.symbols e) ≡ add_event t e
+event_line_of t e s patched fits = event_read t e s.names s.names_differ patched fits
 
 pub event_added : (t u : TraceValue) (e : Event) → add_event t e ≡ Ok u → u ≡ record t { events = t.events ++ e ∷ [] }
 unfolding add_event

@@ -2,6 +2,7 @@
 pub mod LineFaults
 pub mod Cut
 pub mod Parsers
+pub mod QuickLines
 pub mod Writing
 pub mod Builders
 pub mod Streams

@@ -14,6 +14,7 @@ mod line;
 mod number;
 mod of;
 mod parser;
+mod quick;
 mod read;
 mod split;
 mod stream;

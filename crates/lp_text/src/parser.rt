@@ -1,6 +1,7 @@
 //! What the lines of a trace text have given so far.
-ghost use Rattle.std.specs.Prelude.{◌≡◌, ◌≤◌, ◌+◌, ◌-◌, ◌<◌, ◌++◌, ◌∷◌, [], ◌==◌, ℕ, length, take, map, OnOk, IfOk, Ok, false, slice_index_or};
+ghost use Rattle.std.specs.Prelude.{◌≡◌, ◌≤◌, ◌+◌, ◌-◌, ◌<◌, ◌++◌, ◌∷◌, [], ◌==◌, ℕ, length, take, map, OnOk, IfOk, IfNone, IfSome, Ok, false, slice_index_or};
 ghost use Rattle.lp_text.specs.inside.Parsers.{IsTable};
+ghost use Rattle.lp_text.specs.inside.QuickLines.{IsTaken};
 ghost use Rattle.lp_text.specs.Traces.{functions, IsTrace};
 ghost use Rattle.lp_text.specs.inside.LineFaults.{GivesLine};
 ghost use Rattle.lp_text.specs.Reading.{add_boot, add_event, add_function, add_symbol, at_end, begun, empty, first_word, grown, part_of, part_reached, with_line};
@@ -10,6 +11,7 @@ use crate::fault::{Cause, LineFault};
 use crate::form::TraceForm;
 use crate::keyword::LineKeyword;
 use crate::line::{boot_line, event_line, patch_line, symbol_of, task_of};
+use crate::quick::quick_event;
 use crate::split::{cut_word, last_word};
 use crate::symbol_cache::SymbolCache;
 use crate::trace::Trace;
@@ -107,6 +109,24 @@ impl Parser {
                 self.add_event(event)
             }
         }
+    }
+
+    /// Takes the line that a text begins with, if it is a plain one of an event and there is room for the event, and
+    /// gives what stands behind it. A line that isn't taken is left to `add_line`, with its faults.
+    #[inline(always)]
+    pub(crate) fn take_quick<'a>(&mut self, text: &'a [u8]) -> Option<&'a [u8]>
+        ensures taken { IfSome result (λ rest. IsTaken self.old self.new text.now rest.now) }
+        ensures none { IfNone result (self.new ≡ self.old) }
+    {
+        let count = self.events.len();
+        if self.patches.is_empty() || count >= MOST_EVENTS || count >= self.events.capacity() {
+            return None;
+        }
+        // No name is there twice, as the length's contract says.
+        let _ = self.symbols.len();
+        let (event, rest) = quick_event(&self.symbols, &self.cache, text)?;
+        self.events.push_reserved(event);
+        Some(rest)
     }
 
     /// The end of the text, where these bytes stand after the last line end.

@@ -90,6 +90,11 @@ pub(crate) fn read_lines(
     let mut number = first;
     let mut rest = text;
     loop {
+        if let Some(more) = parser.take_quick(rest) {
+            rest = more;
+            number += 1;
+            continue;
+        }
         let (line, left) = cut(b'\n', rest);
         let Some(more) = left else {
             return match parser.at_end(line) {

@@ -178,6 +178,11 @@ fn take_lines<'a>(
     let mut next = *number;
     let mut rest = text;
     loop {
+        if let Some(more) = parser.take_quick(rest) {
+            rest = more;
+            next += 1;
+            continue;
+        }
         let (line, left) = cut(b'\n', rest);
         let Some(more) = left else {
             *number = next;

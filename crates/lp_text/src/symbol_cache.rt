@@ -1,5 +1,5 @@
 //! Symbols that were looked up last: most names of a trace come again and again.
-ghost use Rattle.std.specs.Prelude.{◌≡◌, Ok, IsTrue, option_copied};
+ghost use Rattle.std.specs.Prelude.{◌≡◌, ◌<◌, [], Ok, IfSome, IsTrue, length, option_copied, slice_index_or};
 ghost use Rattle.lp_text.specs.inside.LineFaults.{GivesLine};
 ghost use Rattle.lp_text.specs.inside.Parsers.{last_symbol};
 ghost use Rattle.lp_text.specs.inside.Cut.{words_left};
@@ -41,15 +41,28 @@ impl SymbolCache {
         let Some(rest) = left else {
             return Err(LineFault::Cause(Cause::Shape));
         };
-        let place = usize::from(place_of(rest));
-        let cached = self.ids[place];
-        if is_name_of(symbols, cached, rest) {
+        if let Some(cached) = self.cached(symbols, rest) {
             return Ok(cached);
         }
         let name = last_word(left)?;
         let id = symbol_of(symbols, name)?;
-        self.ids[place] = id;
+        self.ids[usize::from(place_of(name))] = id;
         Ok(id)
+    }
+
+    /// The symbol of a name, if it was found last of the names that belong to its place.
+    #[inline(always)]
+    pub(crate) fn cached(&self, symbols: &Symbols, name: &[u8]) -> Option<SymId>
+        requires names { AreNames symbols.now }
+        ensures reads { IfSome result (λ id. last_symbol symbols.now (words name.now) ≡ Ok id) }
+        ensures known { IfSome result (λ id. id.0 < length symbols.now) }
+        ensures name { IfSome result (λ id. name.now ≡ slice_index_or symbols.now id.0 []) }
+    {
+        let id = self.ids[usize::from(place_of(name))];
+        if is_name_of(symbols, id, name) {
+            return Some(id);
+        }
+        None
     }
 }
 

@@ -1,0 +1,15 @@
+-- Lines that are read without a look at each word.
+use Rattle.std.specs.Prelude.{◌≡◌, ℕ, ◌+◌, ◌<◌, List, ◌++◌, length}
+use Rattle.lp_transition.specs.declared.event.Event.{Event}
+use Rattle.lp_text.specs.Words.{line_of, lines}
+use Rattle.lp_text.specs.Traces.{TraceValue, IsEvent, event_words}
+use Rattle.lp_text.specs.Reading.{reading_from}
+
+-- a text begins with the line of an event, and this stands behind the line
+abbrev pub BeginsWith : List (List ℕ) → List ℕ → Event → List ℕ → Type 0
+BeginsWith symbols text event rest = IsEvent (length symbols) event × (text ≡ line_of (event_words symbols event) ++ rest)
+
+-- a line of a text was taken: what is read of the text is what is read of its rest, whatever follows
+pub record IsTaken (so_far new : TraceValue) (text rest : List ℕ) : Type 0 where
+  pub shorter : length rest < length text
+  pub reads : (number : ℕ) (bytes : List ℕ) → reading_from number so_far (lines (text ++ bytes)) ≡ reading_from (number + 1) new (lines (rest ++ bytes))

@@ -1,0 +1,152 @@
+//! Event lines that are read by their first four bytes at once: calls, returns and the others of which a trace has
+//! the most.
+ghost use Rattle.std.specs.Prelude.{◌≡◌, ◌++◌, ◌∷◌, codes, decimal, drop, IfSome};
+ghost use Rattle.std.specs.Int.{w32, to_le_bytes};
+ghost use Rattle.lp_text.specs.Traces.{AreNames, IsTask};
+ghost use Rattle.lp_text.specs.inside.QuickLines.{BeginsWith};
+
+use crate::split::cut;
+use crate::symbol_cache::SymbolCache;
+use lp_stack::TaskId;
+use lp_symbols::Symbols;
+use lp_transition::Event;
+
+/// The bytes `call` as a number, the first one lowest; likewise the others.
+const CALL: u32 = 0x6c6c_6163;
+
+const RET: u32 = 0x2074_6572;
+
+const SLEE: u32 = 0x6565_6c73;
+
+const WAKE: u32 = 0x656b_6177;
+
+const ENTE: u32 = 0x6574_6e65;
+
+const EXIT: u32 = 0x7469_7865;
+
+const WALK: u32 = 0x6b6c_6177;
+
+/// The event of the line that a text begins with, and what stands behind the line. None says nothing of
+/// the text, whose line is then read word by word.
+#[inline(always)]
+pub(crate) fn quick_event<'a>(
+    symbols: &Symbols,
+    cache: &SymbolCache,
+    text: &'a [u8],
+) -> Option<(Event, &'a [u8])>
+    requires names { AreNames symbols.now }
+    ensures { IfSome result (λ x. BeginsWith symbols.now text.now x.0 x.1.now) }
+{
+    let (word, rest) = first_four(text)?;
+    if word == RET {
+        let (task, more) = task_and_end(rest)?;
+        Some((Event::Ret(task), more))
+    } else if word == CALL {
+        call_rest(symbols, cache, rest)
+    } else if word == ENTE {
+        let (task, more) = task_and_end(behind(b' ', behind(b'r', rest)?)?)?;
+        Some((Event::Enter(task), more))
+    } else if word == EXIT {
+        let (task, more) = task_and_end(behind(b' ', rest)?)?;
+        Some((Event::Exit(task), more))
+    } else if word == SLEE {
+        let (task, more) = task_and_end(behind(b' ', behind(b'p', rest)?)?)?;
+        Some((Event::Sleep(task), more))
+    } else if word == WAKE {
+        let (task, more) = task_and_end(behind(b' ', rest)?)?;
+        Some((Event::Wake(task), more))
+    } else if word == WALK {
+        let more = behind(b'\n', rest)?;
+        Some((Event::Walk, more))
+    } else {
+        None
+    }
+}
+
+/// The rest of a line behind `call`: a task and a name that was looked up before.
+#[inline(always)]
+fn call_rest<'a>(
+    symbols: &Symbols,
+    cache: &SymbolCache,
+    text: &'a [u8],
+) -> Option<(Event, &'a [u8])>
+    requires names { AreNames symbols.now }
+    ensures { IfSome result (λ x. BeginsWith symbols.now (codes "call" ++ text.now) x.0 x.1.now) }
+{
+    let first = behind(b' ', text)?;
+    let (task, second) = task_number(first)?;
+    let third = behind(b' ', second)?;
+    let (name, left) = cut(b'\n', third);
+    let Some(more) = left else {
+        return None;
+    };
+    let func = cache.cached(symbols, name)?;
+    Some((Event::Call(task, func), more))
+}
+
+/// A task's number that ends a line, and what stands behind the line.
+#[inline(always)]
+fn task_and_end(text: &[u8]) -> Option<(TaskId, &[u8])>
+    ensures task { IfSome result (λ x. IsTask x.0) }
+    ensures whole { IfSome result (λ x. text.now ≡ decimal x.0.0 ++ 10 ∷ x.1.now) }
+{
+    let (task, rest) = task_number(text)?;
+    let more = behind(b'\n', rest)?;
+    Some((task, more))
+}
+
+/// The task's number that a text begins with, and what stands behind it.
+#[inline(always)]
+fn task_number(text: &[u8]) -> Option<(TaskId, &[u8])>
+    ensures task { IfSome result (λ x. IsTask x.0) }
+    ensures whole { IfSome result (λ x. text.now ≡ decimal x.0.0 ++ x.1.now) }
+{
+    let (number, rest) = number_before(text)?;
+    if number == 0 || number > 65535 {
+        return None;
+    }
+    Some((TaskId(number as u16), rest))
+}
+
+/// The number of up to five digits that a text begins with, and what stands behind it, which is no digit.
+#[inline(always)]
+fn number_before(text: &[u8]) -> Option<(u32, &[u8])>
+    ensures { IfSome result (λ x. text.now ≡ decimal x.0 ++ x.1.now) }
+{
+    let mut number = 0;
+    for (i, byte) in text.iter().enumerate() {
+        if !byte.is_ascii_digit() {
+            if i == 0 || text[0] == b'0' {
+                return None;
+            }
+            return Some((number, &text[i..]));
+        }
+        if i == 5 {
+            return None;
+        }
+        number = number * 10 + u32::from(*byte - b'0');
+    }
+    None
+}
+
+/// What stands behind a byte that a text begins with.
+#[inline(always)]
+fn behind(first: u8, text: &[u8]) -> Option<&[u8]>
+    ensures { IfSome result (λ rest. text.now ≡ first ∷ rest.now) }
+{
+    match text {
+        [byte, rest @ ..] if *byte == first => Some(rest),
+        _ => None,
+    }
+}
+
+/// The first four bytes of a text as a number, the first one lowest, and what stands behind them.
+#[inline(always)]
+fn first_four(text: &[u8]) -> Option<(u32, &[u8])>
+    ensures { IfSome result (λ x. text.now ≡ to_le_bytes w32 x.0 ++ x.1.now) }
+{
+    match text {
+        [a, b, c, d, rest @ ..] => Some((u32::from_le_bytes([*a, *b, *c, *d]), rest)),
+        _ => None,
+    }
+}
