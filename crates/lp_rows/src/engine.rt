@@ -147,22 +147,12 @@ pub fn event_lines<M: Consistency>(
     Ok(text)
 }
 
-/// The lines of a report's events.
-pub fn reply_lines_of(alloc: Global, report: &str) -> Result<String, AllocError> {
+/// The lines of a report's events, and with them those of its stays where they are wanted.
+pub fn lines_of(alloc: Global, report: &str, with_stays: bool) -> Result<String, AllocError> {
     let mut text = String::new(alloc);
     for line in report.lines() {
-        if line.starts_with(|byte: char| byte.is_ascii_digit()) {
-            writeln!(text, "{line}")?;
-        }
-    }
-    Ok(text)
-}
-
-/// The lines of a report's events and of its stays.
-pub fn event_lines_of(alloc: Global, report: &str) -> Result<String, AllocError> {
-    let mut text = String::new(alloc);
-    for line in report.lines() {
-        if line.starts_with("stays ") || line.starts_with(|byte: char| byte.is_ascii_digit()) {
+        let is_event = line.starts_with(|byte: char| byte.is_ascii_digit());
+        if is_event || (with_stays && line.starts_with("stays ")) {
             writeln!(text, "{line}")?;
         }
     }

@@ -2,7 +2,7 @@
 
 use crate::certificates::accept_all;
 use crate::difference::compare;
-use crate::engine::{event_lines, event_lines_of, lists_of};
+use crate::engine::{event_lines, lines_of, lists_of};
 use crate::rows::{Row, Task};
 use crate::rows_through_desk::play_through_desk;
 use crate::streams::{Sink, Source};
@@ -117,7 +117,7 @@ fn play_trace<T: Threads + Wait + Sync, M: Consistency + Copy + Sync>(
     trace: &Trace,
 ) -> Result<Played, Trouble> {
     let report = str::from_utf8(row.wanted()).unwrap_or("");
-    let wanted = event_lines_of(alloc, report)?;
+    let wanted = lines_of(alloc, report, true)?;
     let given = event_lines(alloc, model, trace)?;
     compare(
         alloc,

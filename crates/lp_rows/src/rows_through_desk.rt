@@ -1,7 +1,7 @@
 //! A trace's events through a desk, in their order, each by the seat of its task or by the control.
 
 use crate::difference::compare;
-use crate::engine::{add_reply, reply_lines_of};
+use crate::engine::{add_reply, lines_of};
 use crate::trouble::Trouble;
 use lp_log::Journal;
 use lp_model::Consistency;
@@ -11,11 +11,13 @@ use std::alloc::Global;
 use std::sync::Wait;
 use std::thread::Threads;
 
-/// The lines of a journal's replies, as a report has them, as far as its events are the trace's.
+/// The lines of a journal's replies, as a report has them, as far as its events are the trace's; then one that no report
+/// has, where an entry is another event than the trace's, or one too many.
 fn journal_lines(alloc: Global, journal: &Journal, trace: &Trace) -> Result<String, Trouble> {
     let mut text = String::new(alloc);
-    for (entry, event) in journal.entries().iter().zip(trace.events()) {
-        if entry.event != *event {
+    for (index, entry) in journal.entries().iter().enumerate() {
+        if trace.events().get(index) != Some(&entry.event) {
+            writeln!(text, "{} of another event", entry.number)?;
             return Ok(text);
         }
         add_reply(&mut text, trace.form(), entry.number as usize, &entry.reply)?;
@@ -35,7 +37,7 @@ pub fn play_through_desk<T: Threads + Wait + Sync, M: Consistency + Sync>(
     let Some(journal) = play_in_order(rt, alloc, model, trace)? else {
         return Ok(false);
     };
-    let wanted = reply_lines_of(alloc, report)?;
+    let wanted = lines_of(alloc, report, false)?;
     let given = journal_lines(alloc, &journal, trace)?;
     compare(
         alloc,
