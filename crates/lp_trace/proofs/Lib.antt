@@ -1,4 +1,4 @@
-pub mod Tails
+pub mod Digits
 pub mod Pages
 pub mod RunFaults
 pub mod Reports

@@ -4,6 +4,7 @@
 mod checks;
 pub mod laws;
 mod page;
+mod place;
 mod report;
 mod runs;
 

@@ -5,17 +5,19 @@ ghost use Rattle.lp_text.specs.Words.{line_of};
 ghost use Rattle.lp_text.specs.Writing.{Writes};
 ghost use Rattle.lp_text.specs.inside.Writing.{Puts, line_rest};
 
-use itoa::write_digits;
+use crate::place::place_rest;
 use lp_text::{WriteFault, put};
 use std::alloc::{AllocError, Global};
 use std::io::Write;
-use std::marker::Model;
 
 /// How many bytes are gathered.
 const PAGE: usize = 65_536;
 
 /// Room for six numbers, each behind a space, and the line's end.
 const ROOM: usize = 128;
+
+/// So much room.
+static BLANK: [u8; ROOM] = [b'\n'; ROOM];
 
 /// Text that waits to be written. No call but `new` allocates.
 #[derive(Drop)]
@@ -135,72 +137,53 @@ impl Page {
         requires { length numbers.now ≤ 6 }
         ensures { Puts (W.contents writer.old) (W.contents writer.new) self.old.held.items self.new.held.items result (line_of (first.now ∷ map decimal numbers.now)) }
     {
-        let rest = Tail::of(numbers);
-        self.put_all(writer, &[first, rest.as_slice()])
+        self.put(writer, first)?;
+        self.put_rest(writer, numbers)
     }
-}
 
-/// The end of a line, in front of which numbers are put. No call allocates.
-///
-/// Contracts see the text.
-#[derive(Drop)]
-struct Tail {
-    bytes: [u8; ROOM],
-    start: usize,
-}
-
-impl Model for Tail {
-    ghost use Rattle.std.specs.Prelude.{◌≤◌, ℕ, List, drop};
-
-    ghost Value = { List ℕ };
-
-    ghost view = { λ t. drop t.start t.bytes };
-
-    ghost invariant = { λ t. t.start ≤ 128 };
-}
-
-impl Tail {
-    /// The end of a line, with these numbers in front of it, each behind a space.
+    /// Puts the end of a line: at most six numbers, each behind a space.
     #[inline(always)]
-    fn of(numbers: &[u64]) -> Tail
+    fn put_rest<W: Write>(&mut self, writer: &mut W, numbers: &[u64]) -> Result<(), WriteFault>
         requires { length numbers.now ≤ 6 }
-        ensures { result ≡ line_rest (map decimal numbers.now) }
+        ensures { Puts (W.contents writer.old) (W.contents writer.new) self.old.held.items self.new.held.items result (line_rest (map decimal numbers.now)) }
     {
-        let mut tail = Tail::new();
-        for number in numbers.iter().rev() {
-            tail.put_number(*number);
+        if self.hold_rest(numbers) {
+            return Ok(());
         }
-        tail
+        self.put_rest_flushed(writer, numbers)
     }
 
-    /// The end of a line alone.
+    /// Takes the end of a line if there is room for the longest, and says whether it did.
+    ///
+    /// The numbers are written where they stay: a line that is built apart and then copied is read
+    /// in larger pieces than it was written in, and each read waits until all of these are there.
     #[inline(always)]
-    fn new() -> Tail
-        ensures { result ≡ 10 ∷ [] }
+    fn hold_rest(&mut self, numbers: &[u64]) -> bool
+        requires { length numbers.now ≤ 6 }
+        ensures taken { IsTrue result → self.new.held.items ≡ self.old.held.items ++ line_rest (map decimal numbers.now) }
+        ensures kept { IsFalse result → self.new.held.items ≡ self.old.held.items }
     {
-        Tail {
-            bytes: [b'\n'; ROOM],
-            start: ROOM - 1,
+        let start = self.held.len();
+        if !self.hold(&BLANK) {
+            return false;
         }
+        let end = place_rest(self.held.as_mut_slice(), start, numbers);
+        self.held.truncate(end);
+        true
     }
 
-    /// Puts a number behind a space in front.
-    #[inline(always)]
-    fn put_number(&mut self, number: u64)
-        requires { length self.old + 21 ≤ 128 }
-        ensures text { self.new ≡ (32 ∷ [] ++ decimal number) ++ self.old }
-        ensures short { length self.new ≤ length self.old + 21 }
+    /// Puts the end of a line, where there is no room.
+    #[inline(never)]
+    fn put_rest_flushed<W: Write>(
+        &mut self,
+        writer: &mut W,
+        numbers: &[u64],
+    ) -> Result<(), WriteFault>
+        requires { length numbers.now ≤ 6 }
+        ensures { Puts (W.contents writer.old) (W.contents writer.new) self.old.held.items self.new.held.items result (line_rest (map decimal numbers.now)) }
     {
-        let start = write_digits(number, &mut self.bytes, self.start) - 1;
-        self.bytes[start] = b' ';
-        self.start = start;
-    }
-
-    /// The text.
-    #[inline(always)]
-    fn as_slice(&self) -> &[u8]
-        ensures { result.now ≡ self.now }
-    {
-        &self.bytes[self.start..]
+        let mut rest = [b'\n'; ROOM];
+        let end = place_rest(&mut rest, 0, numbers);
+        self.put_flushed(writer, &rest[..end])
     }
 }

@@ -1,14 +1,15 @@
-use Rattle.std.proofs.Common.{◌≡◌, ◌∷◌, [], ◌++◌, ◌∙◌, List, ℕ, ap, sym, decimal, map}
-use Rattle.std.specs.List.{concat}
-use Rattle.std.proofs.lemmas.List.{append-nil}
-use Rattle.lp_text.specs.Words.{line_of}
+use Rattle.std.proofs.Common.{List, ℕ, decimal, map, sym}
+use Rattle.lp_text.specs.inside.Writing.{line_rest}
 use Rattle.lp_text.proofs.Writing.{line_split}
-use Rattle.lp_trace.proofs.Pages.{puts_along}
+use Rattle.lp_trace.proofs.Pages.{held_prefix, puts_along, puts_both, puts_err}
 use Rattle.lp_trace.proofs.page.Page.put_numbers.Goals as goal
+
+pub returns-in_err-put : goal.returns-in_err-put
+returns-in_err-put g c =
+    let words : List (List ℕ) = map decimal c.args.numbers.now in
+    puts_err _ _ c.args.self.now.held.items _ _ c.from_residual.result c.from_residual.ensures.0 (held_prefix _ _ c.args.self.now.held.items c.args.first.now (line_rest words) _ (line_split c.args.first.now words) c.in_err-put.ensures)
 
 pub returns : goal.returns
 returns g c =
-    let first : List ℕ = c.args.first.now in
-    let same : concat (first ∷ c.as_slice.result.now ∷ []) ≡ line_of (first ∷ map decimal c.args.numbers.now) =
-    ap (λ l. first ++ l) (append-nil c.as_slice.result.now ∙ (c.as_slice.ensures ∙ c.of-rest.ensures)) ∙ sym (line_split first (map decimal c.args.numbers.now)) in
-    puts_along (g.W.Write.contents c.args.writer.now) (g.W.Write.contents c.put_all.new.writer) c.args.self.now.held.items c.put_all.new.self.held.items _ _ c.put_all.result same c.put_all.ensures
+    let words : List (List ℕ) = map decimal c.args.numbers.now in
+    puts_along _ _ c.args.self.now.held.items _ _ _ c.put_rest.result (sym (line_split c.args.first.now words)) (puts_both _ (g.W.Write.contents c.put.new.writer) _ c.args.self.now.held.items c.put.new.self.held.items _ c.args.first.now (line_rest words) c.put_rest.result c.in_ok-put.ensures c.put_rest.ensures)

@@ -1,0 +1,74 @@
+//! Numbers that are put into a text in place.
+ghost use Rattle.std.specs.Prelude.{◌≡◌, ◌≤◌, ◌<◌, ◌+◌, ◌*◌, ◌++◌, decimal, length, map, take};
+ghost use Rattle.lp_text.specs.inside.Writing.{line_rest};
+
+use itoa::write_digits;
+
+/// How many digits a number has.
+///
+/// Digits are written from the last to the first, so a number that begins at a place needs its end.
+#[inline(always)]
+fn digit_count(number: u64) -> usize
+    ensures { result ≡ length (decimal number) }
+{
+    let mut left = number;
+    let mut more = 0;
+    while left >= 100_000_000 {
+        left /= 100_000_000;
+        more += 8;
+    }
+    more + short_count(left)
+}
+
+/// How many digits a number of at most eight has.
+#[inline(always)]
+fn short_count(number: u64) -> usize
+    requires { number < 100000000 }
+    ensures { result ≡ length (decimal number) }
+{
+    if number < 10_000 {
+        if number < 100 {
+            if number < 10 { 1 } else { 2 }
+        } else if number < 1_000 {
+            3
+        } else {
+            4
+        }
+    } else if number < 1_000_000 {
+        if number < 100_000 { 5 } else { 6 }
+    } else if number < 10_000_000 {
+        7
+    } else {
+        8
+    }
+}
+
+/// Puts a number behind the first `at` bytes, and gives where it ends.
+#[inline(always)]
+pub(crate) fn place_number(text: &mut [u8], at: usize, number: u64) -> usize
+    requires { at + 20 ≤ length text.old }
+    ensures placed { take result text.new ≡ take at text.old ++ decimal number }
+    ensures near { result ≤ at + 20 }
+    ensures size { length text.new ≡ length text.old }
+{
+    let end = at + digit_count(number);
+    write_digits(number, text, end);
+    end
+}
+
+/// Puts the end of a line behind the first `at` bytes: numbers, each behind a space. Gives where it
+/// ends.
+#[inline(always)]
+pub(crate) fn place_rest(text: &mut [u8], at: usize, numbers: &[u64]) -> usize
+    requires { at + 21 * length numbers.now + 1 ≤ length text.old }
+    ensures placed { take result text.new ≡ take at text.old ++ line_rest (map decimal numbers.now) }
+    ensures within { result ≤ length text.new }
+{
+    let mut end = at;
+    for number in numbers {
+        text[end] = b' ';
+        end = place_number(text, end + 1, *number);
+    }
+    text[end] = b'\n';
+    end + 1
+}
