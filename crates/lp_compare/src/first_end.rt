@@ -7,7 +7,7 @@ ghost use Rattle.lp_compare.specs.inside.FirstEnds.{FewBirths, kept_end};
 
 use lp_cert::{CertLines, CertList, LegEnd, Line};
 use lp_model::Consistency;
-use lp_replay::{ReplayFault, replay};
+use lp_replay::{ReplayFault, first_leg_end};
 use lp_text::Trace;
 use std::alloc::{AllocError, Global};
 
@@ -34,11 +34,11 @@ pub(crate) fn first_end<M: Consistency>(
     requires { IsTrace trace.now }
     ensures { IfOk result (λ found. found ≡ option_map kept_end (first_end M.rules trace.now)) }
 {
-    let outcome = match replay(alloc, model, trace) {
-        Ok(outcome) => outcome,
+    let end = match first_leg_end(alloc, model, trace) {
+        Ok(end) => end,
         Err(ReplayFault::NoMemory) => return Err(AllocError),
     };
-    match outcome.legs.as_slice().first() {
+    match &end {
         Some(end) => Ok(Some(kept_end(end))),
         None => Ok(None),
     }

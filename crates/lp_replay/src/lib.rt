@@ -15,5 +15,5 @@ pub use lp_stack::{GroupId, Level};
 pub use lp_text::Trace;
 pub use lp_transition::{Event, GroupList, Opening, Refusal, Reply};
 pub use outcome::Outcome;
-pub use replays::{ReplayFault, TraceLeg, leg_numbered, replay, stack};
+pub use replays::{ReplayFault, TraceLeg, first_leg_end, leg_numbered, replay, stack};
 pub use replies::{ReplyList, ShortReply, ShortWhat, groups_at};

@@ -7,12 +7,14 @@ ghost use Rattle.lp_text.specs.Traces.{IsTrace};
 ghost use Rattle.lp_replay.specs.Outcome.{leg_ends, run_of, IsOutcome};
 
 mod fault;
+mod first;
 mod leg;
 mod recorder;
 mod start;
 
 use crate::outcome::Outcome;
 pub use fault::ReplayFault;
+pub use first::first_leg_end;
 pub use leg::{TraceLeg, leg_numbered};
 use lp_model::Consistency;
 use lp_text::Trace;

@@ -1,5 +1,5 @@
 -- What is kept of a run so far, and when it is that of the run.
-use Rattle.std.specs.Prelude.{◌≡◌, Bool, true, false, not, ◌&&◌, List}
+use Rattle.std.specs.Prelude.{◌≡◌, Bool, true, false, not, ◌&&◌, List, ◌++◌, Option, option_to_list, slice_get}
 use Rattle.lp_model.specs.Rules.{Rules}
 use Rattle.lp_transition.specs.declared.event.Event.{Event}
 use Rattle.lp_transition.specs.declared.reply.What.{What}
@@ -11,6 +11,7 @@ use Rattle.lp_transition.specs.Steps.{StandsIn}
 use Rattle.lp_transition.specs.Table.{Engine, state_in}
 use Rattle.lp_stays.specs.Invariant.{Counted}
 use Rattle.lp_stays.specs.Counts.{Counts}
+use Rattle.lp_cert.specs.declared.leg_end.LegEnd.{LegEnd}
 use Rattle.lp_cert.specs.Ends.{Made, IsMadeOf}
 
 -- ---- What is kept of a run
@@ -29,6 +30,10 @@ is_refused _ = false
 -- a control event that was accepted opens a leg
 abbrev pub is_opened : Event → What → Bool
 is_opened event what = is_control event && not (is_refused what)
+
+-- the end of the first leg, as far as it was made
+abbrev pub first_made : Made → Option LegEnd
+first_made made = slice_get (made.ended ++ option_to_list made.current) 0
 
 -- ---- When it is that of the run
 

@@ -107,7 +107,7 @@ impl<M: Consistency> Recorder<M> {
 
 /// Takes an event, which the maker of certificates notes before the engine takes it.
 #[inline(always)]
-fn take<M: Consistency>(
+pub(super) fn take<M: Consistency>(
     alloc: Global,
     core: &mut Core<M>,
     maker: &mut Maker,

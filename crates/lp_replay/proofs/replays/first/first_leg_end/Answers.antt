@@ -1,0 +1,25 @@
+use Rattle.std.proofs.Common.{◌≡◌, arith, ap, length, subst, List, Option, refl, ◌∙◌}
+use Rattle.std.specs.Prelude.{slice_get}
+use Rattle.lp_transition.specs.declared.event.Event.{Event}
+use Rattle.lp_transition.specs.Run.{first_leg}
+use Rattle.lp_cert.specs.declared.leg_end.LegEnd.{LegEnd}
+use Rattle.lp_cert.proofs.Tellings.{begins}
+use Rattle.lp_replay.specs.Outcome.{leg_ends, run_of}
+use Rattle.lp_replay.specs.inside.Recording.{first_made}
+use Rattle.lp_replay.proofs.Recording.{ok_weaker}
+use Rattle.lp_replay.proofs.replays.first.first_leg_end.Goals as goal
+
+pub take_first_leg-requires : goal.take_first_leg-requires
+take_first_leg-requires g c =
+    let run = run_of c.args.trace.now in
+    (run, c.in_ok-core.ensures, begins g.M.Consistency.rules run c.in_ok-maker.maker refl c.in_ok-maker.ensures, omega (arith, ap length c.events.ensures.value, c.events.ensures.limits.events_few))
+
+pub returns : goal.returns
+returns g c =
+    let model = g.M.Consistency.rules in
+    let trace = c.args.trace.now in
+    let run = run_of trace in
+    let maker = c.take_first_leg.new.maker in
+    let made = c.in_ok-take_first_leg.ensures run c.in_ok-core.ensures (begins model run c.in_ok-maker.maker refl c.in_ok-maker.ensures) in
+    let first = subst (λ (events : List Event). first_made maker ≡ slice_get (leg_ends model (first_leg model run) events) 0) c.events.ensures.value made in
+    ok_weaker (λ (found : Option LegEnd). found ≡ first_made maker) (λ (found : Option LegEnd). found ≡ slice_get (leg_ends model (first_leg model run) trace.events) 0) (λ found h. h ∙ first) c.first_of.result c.first_of.ensures

@@ -1,0 +1,35 @@
+use Rattle.std.proofs.Common.{arith, take, subst, sym, length, List, ◌+◌, ◌<◌}
+use Rattle.lp_cert.specs.declared.leg_end.LegEnd.{LegEnd}
+use Rattle.lp_replay.proofs.FirstEnd.{made_first, made_more, ended_early, ended_last, some_there}
+use Rattle.lp_replay.proofs.Legs.{longer, at_first, at_more, numbered}
+use Rattle.lp_replay.proofs.replays.first.take_first_leg.Goals as goal
+
+pub loop-event-init : goal.loop-event-init
+loop-event-init g c = λ run stands made.
+    (at_first g.M.Consistency.rules run c.args.events.now c.args.core.now stands, made_first g.M.Consistency.rules run c.args.maker.now made)
+
+pub take-requires : goal.take-requires
+take-requires g c =
+    let h = c.requires in
+    let here = c.loop-event.invariant h.0 h.1 h.2 in
+    record {
+      room = numbered g.M.Consistency.rules h.0 c.args.events.now c.loop-event.event-index c.loop-event.core (omega arith) h.3 here.0;
+      made = (longer h.0 (take c.loop-event.event-index c.args.events.now), here.0, here.1);
+    }
+
+pub loop-event-preserved : goal.loop-event-preserved
+loop-event-preserved g c = λ run stands made.
+    let here = c.loop-event.invariant run stands made in (
+      at_more g.M.Consistency.rules run c.args.events.now c.loop-event.event-index _ c.take.new.core (omega arith) (c.in_ok-take.ensures.step.reaches _ here.0),
+      made_more g.M.Consistency.rules run c.args.events.now c.loop-event.event-index _ c.take.new.maker (omega arith) (c.in_ok-take.ensures.made _ here.0 here.1),
+    )
+
+pub returns : goal.returns
+returns g c = λ run stands made.
+    ended_last g.M.Consistency.rules run c.args.events.now c.loop-event.event-index c.loop-event.maker (omega arith) ((c.loop-event.invariant run stands made).1)
+
+pub returns-then-not-is_empty : goal.returns-then-not-is_empty
+returns-then-not-is_empty g c = λ run stands made.
+    let here = c.loop-event.invariant run stands made in
+    let now = made_more g.M.Consistency.rules run c.args.events.now c.loop-event.event-index _ c.take.new.maker (omega arith) (c.in_ok-take.ensures.made _ here.0 here.1) in
+    ended_early g.M.Consistency.rules run c.args.events.now (c.loop-event.event-index + 1) c.take.new.maker now (subst (λ (l : List LegEnd). 0 < length l) c.ended.ensures (some_there c.ended.result.now (sym c.if-not-is_empty.ensures)))

@@ -1,0 +1,61 @@
+//! The first leg of a trace alone.
+ghost use Rattle.std.specs.Prelude.{◌≡◌, ◌≤◌, ◌+◌, ◌++◌, length, slice_get, IfOk, OnOk};
+ghost use Rattle.lp_transition.specs.Run.{Run, first_leg};
+ghost use Rattle.lp_transition.specs.Steps.{StandsIn};
+ghost use Rattle.lp_transition.specs.Table.{state_in};
+ghost use Rattle.lp_cert.specs.Ends.{IsMadeOf};
+ghost use Rattle.lp_replay.specs.Outcome.{leg_ends, run_of};
+ghost use Rattle.lp_replay.specs.inside.Recording.{first_made};
+
+use super::fault::ReplayFault;
+use super::recorder::take;
+use super::start;
+use lp_cert::{LegEnd, Maker};
+use lp_model::Consistency;
+use lp_text::Trace;
+use lp_transition::{Core, Event};
+use std::alloc::Global;
+
+/// How the first leg of a trace ended under a model, as `replay` tells it; None where no event
+/// opened one, NoMemory where an allocation failed.
+///
+/// The events behind the leg's end aren't taken, and neither replies nor stays are kept.
+pub fn first_leg_end<M: Consistency>(
+    alloc: Global,
+    model: M,
+    trace: &Trace,
+) -> Result<Option<LegEnd>, ReplayFault>
+    ensures { IfOk result (λ found. found ≡ slice_get (leg_ends M.rules (first_leg M.rules (run_of trace.now)) trace.now.events) 0) }
+{
+    let mut maker = Maker::new(alloc)?;
+    let mut core = start::engine(alloc, model, trace)?;
+    take_first_leg(alloc, &mut core, &mut maker, trace.events())?;
+    first_of(alloc, maker)
+}
+
+/// Takes these events up to the one that ends the first leg.
+fn take_first_leg<M: Consistency>(
+    alloc: Global,
+    core: &mut Core<M>,
+    maker: &mut Maker,
+    events: &[Event],
+) -> Result<(), ReplayFault>
+    requires { (run : Run) × StandsIn M.rules run (state_in core.old) × IsMadeOf M.rules run maker.old × (length run.events + length events.now ≤ 1000000) }
+    ensures { OnOk result ((run : Run) → StandsIn M.rules run (state_in core.old) → IsMadeOf M.rules run maker.old → first_made maker.new ≡ slice_get (leg_ends M.rules (first_leg M.rules run) (run.events ++ events.now)) 0) }
+{
+    for event in events {
+        take(alloc, core, maker, *event)?;
+        if !maker.ended().is_empty() {
+            return Ok(());
+        }
+    }
+    Ok(())
+}
+
+/// The first end that was made.
+fn first_of(alloc: Global, maker: Maker) -> Result<Option<LegEnd>, ReplayFault>
+    ensures { IfOk result (λ found. found ≡ first_made maker) }
+{
+    let ends = maker.into_ends(alloc)?;
+    Ok(ends.into_iter().next())
+}
