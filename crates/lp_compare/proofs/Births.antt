@@ -1,5 +1,5 @@
 -- How many births a certificate tells at most.
-use Rattle.std.proofs.Common.{◌≡◌, ◌+◌, ◌<◌, ◌≤◌, ◌^◌, ℕ, zero, suc, Bool, true, false, List, [], ◌∷◌, ◌++◌, map, length, take, All, Option, Some, None, ◌&&◌, nat_eq, cond, max, drop, refl, sym, ap, ◌∙◌, subst, arith}
+use Rattle.std.proofs.Common.{◌≡◌, ◌+◌, ◌<◌, ◌≤◌, ◌^◌, ℕ, zero, suc, Bool, List, [], ◌∷◌, ◌++◌, map, length, take, All, Option, Some, None, ◌&&◌, nat_eq, cond, max, drop, refl, ap, ◌∙◌, arith}
 use Rattle.std.specs.Prelude.{reverse, count_by, slice_get}
 use Rattle.std.specs.Option.{option_map}
 use Rattle.std.proofs.lemmas.Bool.{cond_both}

@@ -8,4 +8,4 @@ pub kept_end-requires : goal.kept_end-requires
 kept_end-requires g c =
     let model = g.M.Consistency.rules in
     let trace = c.args.trace.now in
-    few_in_first model g.met.M.Consistency.lawful trace c.requires (leg_ends model (first_leg model (run_of trace)) trace.events) c.in-Some.end.now refl (sym c.in-Ok.ensures ∙ c.in-Some.is)
+    few_in_first model g.met.M.Consistency.lawful trace c.requires (leg_ends model (first_leg model (run_of trace)) trace.events) c.in-Some.end refl (sym c.in-Ok.ensures ∙ c.in-Some.is)

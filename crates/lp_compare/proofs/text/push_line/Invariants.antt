@@ -1,5 +1,4 @@
 use Rattle.std.proofs.Common.{◌≡◌, ◌++◌, string_bytes, map, drop}
-use Rattle.lp_text.specs.Words.{line_of}
 use Rattle.lp_text.specs.inside.Writing.{line_rest}
 use Rattle.lp_compare.proofs.text.push_line.Given as goal
 

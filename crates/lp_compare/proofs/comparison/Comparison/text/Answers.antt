@@ -1,5 +1,4 @@
 use Rattle.lp_compare.proofs.Texts.{text_is}
-use Rattle.std.proofs.Common.{string_bytes}
 use Rattle.lp_compare.proofs.comparison.Comparison.text.Goals as goal
 
 pub returns : goal.returns
