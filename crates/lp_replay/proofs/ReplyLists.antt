@@ -138,3 +138,16 @@ pushed-over replies now lists left what groups completed counted added more what
     let counts : lists_of now ≡ lists_of replies + lists_of (reply ∷ []) = ap lists_of items ∙ lists-more replies (reply ∷ []) in
     let lefts : length left ≡ length lists + 1 = ap length more ∙ length-append lists (groups ∷ []) in
     (omega (arith, counts, lefts, counted), ap₂ replies_of items more ∙ push-over replies lists groups completed counted)
+
+-- the first reply and those after it, where so many lists are its
+pub kept-next : (reply : ShortReply) (replies : List ShortReply) (lists left : List (List ℕ)) (groups : List ℕ) → left ≡ drop (lists_in reply.what) lists → groups ≡ first_groups lists
+    → replies_of (reply ∷ replies) lists ≡ reply_of reply (groups ∷ []) ∷ replies_of replies left
+unfolding replies_of
+kept-next reply replies lists left groups rest first =
+    ap {A = What} {B = List Reply} (λ w. record { what = w; completed = reply.completed } ∷ replies_of replies (drop (lists_in reply.what) lists)) (sym (what-first reply.what lists) ∙ ap (λ g. what_of reply.what (g ∷ [])) (sym first))
+    ∙ ap (λ l. reply_of reply (groups ∷ []) ∷ replies_of replies l) (sym rest)
+
+pub none-left : (replies : List ShortReply) (lists : List (List ℕ)) → length replies ≡ 0 → replies_of replies lists ≡ []
+unfolding replies_of
+none-left [] lists h = refl
+none-left (reply ∷ replies) lists h = absurd (omega (arith, h))

@@ -6,6 +6,8 @@ use Rattle.lp_transition.specs.declared.reply.Reply.{Reply}
 use Rattle.lp_replay.specs.declared.replies.ShortWhat.{ShortWhat}
 use Rattle.lp_replay.specs.declared.replies.ShortWhat.TheVariants.{Ran, Done, Switched, Refused}
 use Rattle.lp_replay.specs.declared.replies.ShortReply.{ShortReply}
+use Rattle.lp_replay.specs.declared.replies.kept.KeptReply.{KeptReply}
+use Rattle.lp_transition.specs.Events.{group_numbers}
 
 -- the first of these lists of groups
 abbrev pub first_groups : List (List ℕ) → List ℕ
@@ -36,3 +38,7 @@ replies_of (reply ∷ replies) lists = reply_of reply lists ∷ replies_of repli
 abbrev pub lists_of : List ShortReply → ℕ
 lists_of [] = 0
 lists_of (reply ∷ replies) = lists_in reply.what + lists_of replies
+
+-- a reply as a list keeps it: in short, and its groups
+abbrev pub kept_reply : KeptReply → Reply
+kept_reply kept = reply_of kept.short (group_numbers kept.groups.now ∷ [])

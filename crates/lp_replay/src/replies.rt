@@ -1,5 +1,5 @@
 //! The replies of a run.
-ghost use Rattle.std.specs.Prelude.{◌≡◌, ◌≤◌, ◌↔◌, ◌∷◌, ◌++◌, [], drop, length, IsTrue, IfOk, OnOk};
+ghost use Rattle.std.specs.Prelude.{◌≡◌, ◌≤◌, ◌↔◌, ◌∷◌, ◌++◌, [], drop, length, IsTrue, IfOk, OnErr, OnOk};
 ghost use Rattle.lp_transition.specs.Events.{group_numbers};
 ghost use Rattle.lp_replay.specs.Replies.{first_groups, lists_in, replies_of, what_of};
 
@@ -8,8 +8,12 @@ use lp_transition::{GroupList, Refusal, Reply, What};
 use std::alloc::{AllocError, Global};
 use std::marker::Model;
 
+mod kept;
+
+pub use kept::{KeptReply, Replies};
+
 /// What an event did, without the groups that it switched.
-#[derive(Clone, Copy)]
+#[derive(Clone, Copy, Debug, PartialEq, Eq)]
 pub enum ShortWhat {
     Ran(Level),
     Done,
@@ -18,7 +22,7 @@ pub enum ShortWhat {
 }
 
 /// A reply without its groups.
-#[derive(Clone, Copy)]
+#[derive(Clone, Copy, Debug, PartialEq, Eq)]
 pub struct ShortReply {
     pub what: ShortWhat,
     pub completed: bool,
@@ -71,10 +75,11 @@ impl ReplyList {
         })
     }
 
-    /// Adds a reply; AllocError where an allocation failed.
+    /// Adds a reply; AllocError where an allocation failed, and then the list is as it was.
     #[inline(always)]
     pub fn push(&mut self, reply: Reply) -> Result<(), AllocError>
-        ensures { OnOk result (self.new ≡ self.old ++ reply ∷ []) }
+        ensures ok { OnOk result (self.new ≡ self.old ++ reply ∷ []) }
+        ensures err { OnErr result (self.new ≡ self.old) }
     {
         let Reply { what, completed } = reply;
         self.short.reserve(1)?;

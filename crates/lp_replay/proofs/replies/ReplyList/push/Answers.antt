@@ -19,8 +19,8 @@ invariant_of-self-2 c =
       | in-Switched+in_ok-push-in-Switched w ↦ (pushed-over i.short.items c.push_reserved.new.self.items i.groups.items c.match-what-2.self-inside.groups.items c.match-what-2.what w.in-Switched.groups c.args.reply.completed c.self.invariant (c.push_reserved.ensures.items ∙ ap (λ s. one s.short.items) w.self-inside-is ∙ ap one c.reserve.ensures.items) (ap (λ s. s.groups.items) w.self-inside-is ∙ w.in_ok-push-in-Switched.ensures.items) w.what-is).0
     ]
 
-pub returns : goal.returns
-returns c =
+pub returns-clause-ok : goal.returns-clause-ok
+returns-clause-ok c =
     let i = c.self.inside in
     let one : List ShortReply → List ShortReply = λ l. l ++ record { what = c.match-what-2.what; completed = c.args.reply.completed } ∷ [] in
     let whole : What → List Reply = λ said. c.args.self.now ++ record { what = said; completed = c.args.reply.completed } ∷ [] in

@@ -1,0 +1,40 @@
+use Rattle.std.proofs.Common.{◌≡◌, ◌<◌, drop, ℕ, length, List, [], ◌∷◌, arith, rules, refl, ap, sym, ◌∙◌}
+use Rattle.lp_transition.specs.declared.reply.Reply.{Reply}
+use Rattle.lp_replay.specs.declared.replies.kept.Replies.{Replies}
+use Rattle.lp_replay.specs.Replies.{replies_of, kept_reply, lists_in}
+use Rattle.lp_replay.proofs.ReplyLists.{kept-next, none-left}
+use Rattle.lp_replay.proofs.replies.kept.RepliesIterator.next.Goals as goal
+use Rattle.lp_replay.proofs.replies.kept.RepliesIterator.next.Goals.{then-lists-eq1, else-lists-eq1}
+
+pub returns-in_err-short-clause-steps : goal.returns-in_err-short-clause-steps
+returns-in_err-short-clause-steps c =
+    let none = none-left c.args.self.now.short.now c.args.self.now.groups.now c.in_err-short.ensures.cases in
+    rw c.from_residual.ensures (none, none)
+
+first_reply : (c : goal.After-result-1) → replies_of c.args.self.now.short.now c.args.self.now.groups.now ≡ kept_reply (record { short = c.in_ok-short.short.now; groups = c.groups_at-groups.result }) ∷ replies_of c.if-lists-eq1.self.short.now c.if-lists-eq1.self.groups.now
+first_reply c =
+    let short = c.in_ok-short.short.now in
+    let others = c.in_ok-short.others.now in
+    let lists : List (List ℕ) = c.args.self.now.groups.now in
+    let kept : Reply = kept_reply (record { short = short; groups = c.groups_at-groups.result }) in
+    let first = ap (λ l. replies_of l lists) c.in_ok-short.ensures.cases.0 in
+    elim c.if-lists-eq1.branch [
+      | then-lists-eq1 w ↦
+          let one : 1 ≡ lists_in short.what = omega (arith, c.lists.ensures.value, w.if-lists-eq1) in
+          first
+          ∙ kept-next short others lists w.behind_first-self.result.now _ (w.behind_first-self.ensures ∙ ap (λ (n : ℕ). drop n lists) one) c.groups_at-groups.ensures
+          ∙ ap {A = Replies} {B = List Reply} (λ s. kept ∷ replies_of s.short.now s.groups.now) (sym w.self-is)
+      | else-lists-eq1 w ↦
+          let none : 0 ≡ lists_in short.what = omega (arith, c.lists.ensures.value, c.lists.ensures.few, w.if-lists-eq1) in
+          first
+          ∙ kept-next short others lists lists _ (ap (λ (n : ℕ). drop n lists) none) c.groups_at-groups.ensures
+          ∙ ap {A = Replies} {B = List Reply} (λ s. kept ∷ replies_of s.short.now s.groups.now) (sym w.self-is)
+    ]
+
+pub returns-clause-steps : goal.returns-clause-steps
+returns-clause-steps c = first_reply c
+
+pub returns-clause-goes : goal.returns-clause-goes
+returns-clause-goes c =
+    let shorter = ap length (first_reply c) in
+    search rules

@@ -1,0 +1,93 @@
+//! The replies of a list, one after the other, as they are kept.
+ghost use Rattle.std.specs.Prelude.{◌≡◌, drop};
+ghost use Rattle.lp_replay.specs.Replies.{replies_of};
+
+use super::{ReplyList, ShortReply, ShortWhat, groups_at};
+use lp_stack::GroupId;
+use lp_transition::GroupList;
+use std::fmt;
+
+/// A reply as a list keeps it.
+#[derive(Clone, Copy, Debug)]
+pub struct KeptReply<'a> {
+    /// The reply without its groups.
+    pub short: ShortReply,
+    /// The groups that switched, in increasing order; of no use where none did.
+    pub groups: &'a [GroupId],
+}
+
+/// As the report of a stack of patches writes it, behind the event's number.
+impl fmt::Display for KeptReply<'_> {
+    fn fmt<W: fmt::Write>(&self, f: &mut fmt::Formatter<W>) -> fmt::Result {
+        match self.short.what {
+            ShortWhat::Ran(level) => write!(f, "ran {}", level.0)?,
+            ShortWhat::Done => f.write_str("done")?,
+            ShortWhat::Refused(why) => write!(f, "refused {why}")?,
+            ShortWhat::Switched => {
+                f.write_str("over")?;
+                for group in self.groups {
+                    write!(f, " {}", group.0)?;
+                }
+            }
+        }
+        if self.short.completed {
+            f.write_str(" complete")?;
+        }
+        Ok(())
+    }
+}
+
+/// The replies of a list that are left to be looked at.
+#[derive(Clone, Copy)]
+pub struct Replies<'a> {
+    short: &'a [ShortReply],
+    /// The groups of those that switched some.
+    groups: &'a [GroupList],
+}
+
+impl<'a> Iterator for Replies<'a> {
+    ghost use Rattle.std.specs.Iterator.{YieldsFirstBy, item_count};
+    ghost use Rattle.lp_replay.specs.Replies.{kept_reply, replies_of};
+
+    type Item = KeptReply<'a>;
+
+    ghost next_gives = { YieldsFirstBy kept_reply (λ s. replies_of s.short.now s.groups.now) };
+
+    ghost remaining = { item_count (λ s. replies_of s.short.now s.groups.now) };
+
+    fn next(&mut self) -> Option<KeptReply<'a>> {
+        let (short, others) = self.short.split_first()?;
+        let groups = groups_at(self.groups, 0);
+        self.short = others;
+        if short.lists() == 1 {
+            self.groups = behind_first(self.groups);
+        }
+        Some(KeptReply {
+            short: *short,
+            groups,
+        })
+    }
+}
+
+/// The lists behind the first; none where there is none.
+fn behind_first(lists: &[GroupList]) -> &[GroupList]
+    ensures { result.now ≡ drop 1 lists.now }
+{
+    match lists.split_first() {
+        Some((_, others)) => others,
+        None => &[],
+    }
+}
+
+impl<'a> IntoIterator for &'a ReplyList {
+    type Item = KeptReply<'a>;
+
+    type IntoIter = Replies<'a>;
+
+    ghost into_iter_gives = { λ l it. replies_of it.short.now it.groups.now ≡ l.now };
+
+    fn into_iter(self) -> Replies<'a> {
+        let (short, groups) = self.parts();
+        Replies { short, groups }
+    }
+}
