@@ -13,9 +13,11 @@ use Rattle.lp_transition.specs.Schedule.{Schedule, waits, complete, IsLegal, IsF
 use Rattle.lp_transition.specs.Chain.{Chain, IsRefusedBetween}
 use Rattle.lp_transition.specs.Run.{Run, AreInRange, first_leg, switched_at}
 use Rattle.lp_transition.specs.Stays.{moments, stays, is_mixed}
+use Rattle.lp_cert.specs.declared.cert.Cert.{Cert}
+use Rattle.lp_cert.specs.declared.cert.Claim.{Claim}
 use Rattle.lp_cert.specs.declared.cert.Claim.TheVariants.{Waiting, Floor}
 use Rattle.lp_cert.specs.declared.leg_end.LegEnd.{LegEnd}
-use Rattle.lp_cert.specs.Certificates.{cert, opened_legs}
+use Rattle.lp_cert.specs.Certificates.{opened_legs}
 use Rattle.lp_checker.specs.Verdict.{verdict_on}
 use Rattle.lp_replay.specs.declared.outcome.Outcome.{Outcome}
 use Rattle.lp_replay.specs.Outcome.{run_of, IsOutcome}
@@ -53,15 +55,16 @@ module _ (model : Rules) (leg : Leg) (first : Schedule) where
     pub completed :
         (at : ℕ) → end.completed ≡ Some at → (k : ℕ) × (at ≡ leg.number + k) × CompletesAt model leg first k
 
+  -- among the certificates of the end is one with this claim of the group after the first k events
+  abbrev pub HasCert : LegEnd → Claim → (k group : ℕ) → Type 0
+  HasCert end claim k group =
+      (made : Cert) × Contains end.certs made × (made.claim ≡ claim) × (made.group.0 ≡ group) × (made.upto ≡ leg.number + k)
+
   -- each waiting group has a certificate that the checker accepts, refusing every check so far
   pub record AreCertified (end : LegEnd) : Type 0 where
-    pub waiting :
-        (group : ℕ) → IsTrue (waits model leg first (length leg.events) group) →
-        Contains end.certs (cert model leg Waiting (length leg.events) group)
+    pub waiting : (group : ℕ) → IsTrue (waits model leg first (length leg.events) group) → HasCert end Waiting (length leg.events) group
     -- a leg that completed after its opening has one that it wasn't complete just before
-    pub floor :
-        (k : ℕ) → end.completed ≡ Some (leg.number + suc k) →
-        (group : ℕ) × Contains end.certs (cert model leg Floor k group)
+    pub floor : (k : ℕ) → end.completed ≡ Some (leg.number + suc k) → (group : ℕ) × HasCert end Floor k group
     pub accepted : All (λ made. verdict_on model leg made.claim made ≡ None) end.certs
     pub refused :
         (k group : ℕ) → IsTrue (waits model leg first k group) → IsRefusedBetween model leg first zero k group

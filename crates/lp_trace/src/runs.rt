@@ -82,9 +82,10 @@ pub fn run<M: Consistency, R: Read, W: Write>(
     // What was read spells a trace, and its report was written and nothing else.
     ensures report { OnOk result (ReadsTrace (R.remaining reader.old) (R.remaining reader.new)
         (λ trace. Appends (W.contents writer.old) (W.contents writer.new) (report trace.form name.now (outcome M.rules trace)))) }
-    // The headline holds of the outcome that was reported.
+    // The headline holds of the outcome that was reported, of the same trace.
     ensures headline { OnOk result (ReadsTrace (R.remaining reader.old) (R.remaining reader.new)
-        (λ trace. Headline M.rules (whole_run trace) (outcome M.rules trace))) }
+        (λ trace. Appends (W.contents writer.old) (W.contents writer.new) (report trace.form name.now (outcome M.rules trace))
+            × Headline M.rules (whole_run trace) (outcome M.rules trace))) }
     // Where the writer failed, a prefix of that report was written.
     ensures prefix { IfErr result (λ fault. AtWrite fault (ReadsTrace (R.remaining reader.old) (R.remaining reader.new)
         (λ trace. AppendsPrefix (W.contents writer.old) (W.contents writer.new) (report trace.form name.now (outcome M.rules trace))))) }

@@ -19,22 +19,29 @@ pub struct KeptReply<'a> {
 /// As the report of a stack of patches writes it, behind the event's number.
 impl fmt::Display for KeptReply<'_> {
     fn fmt<W: fmt::Write>(&self, f: &mut fmt::Formatter<W>) -> fmt::Result {
-        match self.short.what {
-            ShortWhat::Ran(level) => write!(f, "ran {}", level.0)?,
-            ShortWhat::Done => f.write_str("done")?,
-            ShortWhat::Refused(why) => write!(f, "refused {why}")?,
-            ShortWhat::Switched => {
-                f.write_str("over")?;
-                for group in self.groups {
-                    write!(f, " {}", group.0)?;
-                }
-            }
-        }
+        fmt_what(self, f)?;
         if self.short.completed {
             f.write_str(" complete")?;
         }
         Ok(())
     }
+}
+
+fn fmt_what<W: fmt::Write>(reply: &KeptReply<'_>, f: &mut fmt::Formatter<W>) -> fmt::Result {
+    match reply.short.what {
+        ShortWhat::Ran(level) => write!(f, "ran {}", level.0),
+        ShortWhat::Done => f.write_str("done"),
+        ShortWhat::Refused(why) => write!(f, "refused {why}"),
+        ShortWhat::Switched => fmt_over(reply.groups, f),
+    }
+}
+
+fn fmt_over<W: fmt::Write>(groups: &[GroupId], f: &mut fmt::Formatter<W>) -> fmt::Result {
+    f.write_str("over")?;
+    for group in groups {
+        write!(f, " {}", group.0)?;
+    }
+    Ok(())
 }
 
 /// The replies of a list that are left to be looked at.

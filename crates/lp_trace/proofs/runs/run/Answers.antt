@@ -4,7 +4,7 @@ use Rattle.lp_trace.proofs.runs.run.Goals as goal
 pub returns-in-Ok-clause-headline : goal.returns-in-Ok-clause-headline
 returns-in-Ok-clause-headline g c =
     let read = c.in_ok-trace.ensures.found in
-    headline_of_text g.M.Consistency.rules g.met.M.Consistency.lawful _ _ _ read.0 read.1
+    headline_of_text g.M.Consistency.rules g.met.M.Consistency.lawful _ _ c.in_ok-trace.trace _ read.0 read.1 c.in-Ok.ensures.report
 
 pub returns-clause-prefix : goal.returns-clause-prefix
 returns-clause-prefix g c =
