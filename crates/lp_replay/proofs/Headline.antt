@@ -178,7 +178,7 @@ module _ (model : Rules) (lawful : IsLawful model) (answered : List Reply) (leg 
             let j = completed (leg.number + suc k) (completion model leg) refl e in
             let same : j.0 ≡ suc k = omega (arith, j.2) in
             let made = floor k (j.1 ∙ ap Some same) in
-            (made.0, cert model leg Floor k made.0, made.1, refl, refl, refl);
+            (made.0, (cert model leg Floor k made.0, made.1, refl, refl, refl));
         accepted = (accepts_what_is_made model lawful).at_the_end leg is.sound is.few;
         refused = λ k group w. refused_so_far model leg lawful is.sound first is_first first is_first.legal k group (waits-is model leg first k group w);
         chain = λ k group w. chain model leg lawful is.sound first is_first first is_first.legal k group (waits-is model leg first k group w);

@@ -19,5 +19,5 @@ returns g c = λ run is.
     let next : IsNext model run c.args.event given c.last_function-top.result = record { in_range = is_kept.stands.in_range; replied = c.in_ok-reply.ensures.step.replies run is_kept.stands; leaves = λ t e. c.last_function-top.ensures run is_kept.stands t e } in
     let counts : Counts model (plus run c.args.event) c.step.new.self = c.step.ensures.counts model g.met.M.Consistency.lawful run is_kept.counts next in
     let after : List Reply → Recorded = λ replies. record { core = core; made = made; replies = replies; stays = c.step.new.self } in
-    subst (λ replies. IsRecorded model (plus run c.args.event) (after replies)) (sym c.in_ok-push.ensures)
+    subst (λ replies. IsRecorded model (plus run c.args.event) (after replies)) (sym c.in_ok-push.ensures.ok)
     (recorded model run c.args.event before given core made c.step.new.self is_kept counts c.in_ok-reply.ensures.step (c.in_ok-reply.ensures.made run is_kept.stands is_kept.made))
