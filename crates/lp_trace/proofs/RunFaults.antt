@@ -80,4 +80,4 @@ whole_outcome_of model trace (Err x) e h k m = tt
 -- what was read is a trace, of which this holds, and the headline holds of its outcome
 pub headline_of_text : (model : Rules) → IsLawful model → (old new : Option (List ℕ)) (trace : TraceValue) (P : TraceValue → Type 0) → IsTrace trace → ReadsAll old new (text_of trace) → P trace → ReadsTrace old new (λ read. P read × Headline model (whole_run read) (outcome model read))
 headline_of_text model lawful old new trace P is reads h =
-    (trace, is, reads, h, headline_of_trace model lawful trace is (outcome model trace) (outcome_is model lawful trace))
+    (trace, is, reads, (h, headline_of_trace model lawful trace is (outcome model trace) (outcome_is model lawful trace)))
