@@ -30,7 +30,8 @@ use Rattle.lp_transition.proofs.ScanLists.{verdict-from}
 use Rattle.lp_transition.proofs.TableLemmas.{slot_from_live}
 use Rattle.lp_cert.specs.declared.line.Line.{Line}
 use Rattle.lp_cert.specs.Certificates.{lines, after_check, after_refusal}
-use Rattle.lp_cert.specs.EventLines.{has_frame_in, member_verdict, first_refused, first_blamed_in, lines_after_scan}
+use Rattle.lp_transition.specs.Blames.{has_frame_in, member_verdict, first_refused, first_blamed_in}
+use Rattle.lp_cert.specs.EventLines.{lines_after_scan}
 use Rattle.lp_cert.specs.inside.Waiters.{after_scan}
 use Rattle.lp_cert.proofs.NextLines.{lines_at_scan, lines_at_unused_scan}
 use Rattle.lp_cert.proofs.OtherEvents.{lines_at_others}

@@ -25,7 +25,8 @@ use Rattle.lp_transition.proofs.Prefix.{after_same}
 use Rattle.lp_transition.proofs.Steps.{accepted_is, after_is, check_is, plain_refusal}
 use Rattle.lp_cert.specs.declared.line.Line.{Line}
 use Rattle.lp_cert.specs.Certificates.{after_check, birth_line, has_frame, first_blamed, member_blame, with_birth, lines}
-use Rattle.lp_cert.specs.EventLines.{has_frame_in, blame_in, first_blamed_in, lines_after_scan, lines_after_fork}
+use Rattle.lp_transition.specs.Blames.{has_frame_in, blame_in, first_blamed_in}
+use Rattle.lp_cert.specs.EventLines.{lines_after_scan, lines_after_fork}
 use Rattle.lp_cert.proofs.Past.{on_live_same, seen_same, lines_past}
 
 on_live_map : {A B C : Type 0} (other : C) (f : B → C) (g : A → B) (fate : Fate A) → on_live other f (map_live g fate) ≡ on_live other (λ x. f (g x)) fate

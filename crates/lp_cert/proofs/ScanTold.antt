@@ -18,7 +18,7 @@ use Rattle.lp_transition.proofs.ScanLists.{verdict-is}
 use Rattle.lp_cert.specs.declared.line.Line.{Line}
 use Rattle.lp_cert.specs.Certificates.{group_id, after_refusal}
 use Rattle.lp_cert.specs.Unchanged.{IsUnchanged, AreUnchanged}
-use Rattle.lp_cert.specs.EventLines.{has_frame_in, member_verdict, first_refused}
+use Rattle.lp_transition.specs.Blames.{has_frame_in, member_verdict, first_refused}
 use Rattle.lp_cert.specs.Waiters.{WaitingGroups, head_of}
 use Rattle.lp_cert.specs.inside.Waiters.{AreStanding, after_verdict, lines_in}
 use Rattle.lp_cert.proofs.UnchangedLines.{lines_again}

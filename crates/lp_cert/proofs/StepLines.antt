@@ -37,7 +37,7 @@ use Rattle.lp_cert.specs.Certificates.{lines, birth_line, after_refusal}
 use Rattle.lp_cert.specs.EventLines.{lines_after_fork}
 use Rattle.lp_cert.specs.inside.StepLines.{stepped_lines, noted_by, noted_lines}
 use Rattle.lp_cert.specs.LastScan.{LastScan, AreUnchangedBy, AreUnchangedSince, AreThoseOf, Suffices, used_kind, used_scan}
-use Rattle.lp_cert.specs.EventLines.{has_frame_in, first_refused}
+use Rattle.lp_transition.specs.Blames.{has_frame_in, first_refused}
 use Rattle.lp_cert.specs.Waiters.{WaitingGroups}
 use Rattle.lp_cert.specs.inside.Waiters.{AreStanding, own_lines, after_scan, after_scan_of, after_switch, after_verdict, after_fork, after_death, is_lone, lines_at, lines_in, scanned_lines}
 use Rattle.lp_cert.proofs.NextLines.{lines_at_fork}

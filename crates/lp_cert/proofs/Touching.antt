@@ -22,7 +22,7 @@ use Rattle.lp_cert.specs.Unchanged.{Continues, IsUnchanged, AreUnchanged}
 use Rattle.lp_cert.specs.inside.Touched.{touched, is_childs}
 use Rattle.lp_cert.specs.LastScan.{LastScan, AreUnchangedBy, AreUnchangedSince}
 use Rattle.lp_cert.specs.inside.LastScan.{IsTouched, disturbs, is_named_task, names, names_member}
-use Rattle.lp_cert.specs.EventLines.{has_frame_in}
+use Rattle.lp_transition.specs.Blames.{has_frame_in}
 use Rattle.lp_cert.specs.Waiters.{WaitingGroups, LegReasons, head_of}
 use Rattle.lp_cert.specs.inside.Waiters.{AreStanding, lines_at, lines_in}
 use Rattle.lp_cert.proofs.UnchangedLines.{OngoingContinues, head_ongoing}

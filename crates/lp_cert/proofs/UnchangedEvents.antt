@@ -28,7 +28,7 @@ use Rattle.lp_transition.proofs.Steps.{plain_refusal, refusal_is, does}
 use Rattle.lp_cert.specs.declared.line.Line.{Line}
 use Rattle.lp_cert.specs.declared.line.Line.TheVariants as line
 use Rattle.lp_cert.specs.Certificates.{lines, birth_line}
-use Rattle.lp_cert.specs.EventLines.{has_frame_in}
+use Rattle.lp_transition.specs.Blames.{has_frame_in}
 use Rattle.lp_cert.specs.Unchanged.{Continues, IsUnchanged, AreUnchanged, says_busy}
 use Rattle.lp_cert.specs.inside.Touched.{touched, is_childs}
 use Rattle.lp_cert.proofs.NextLines.{lines_at_fork, lines_at_unused_scan}

@@ -17,7 +17,7 @@ use Rattle.lp_transition.proofs.Quantifiers.{some_live-from}
 use Rattle.lp_transition.proofs.States.{state_sound}
 use Rattle.lp_cert.specs.declared.line.Line.{Line}
 use Rattle.lp_cert.specs.Certificates.{lines, after_check, after_refusal}
-use Rattle.lp_cert.specs.EventLines.{has_frame_in, blame_in, first_blamed_in}
+use Rattle.lp_transition.specs.Blames.{has_frame_in, blame_in, first_blamed_in}
 use Rattle.lp_cert.specs.Unchanged.{Continues, IsUnchanged, AreUnchanged, says_busy}
 use Rattle.lp_cert.specs.inside.Touched.{is_childs, touched}
 use Rattle.lp_cert.proofs.NextLines.{lines_at_scan}

@@ -30,7 +30,7 @@ use Rattle.lp_cert.specs.Certificates.{lines, group_id}
 use Rattle.lp_cert.specs.Unchanged.{Continues, IsUnchanged, AreUnchanged, says_busy}
 use Rattle.lp_cert.specs.LastScan.{LastScan, AreUnchangedBy, AreUnchangedSince, AreThoseOf, Suffices, used_kind, used_scan}
 use Rattle.lp_cert.specs.inside.LastScan.{AreKeptApart, IsLastScanAfter, continues_by as reason_goes_by, is_of_group, says_busy_on, leaves_unchanged, refuses_as_before}
-use Rattle.lp_cert.specs.EventLines.{has_frame_in}
+use Rattle.lp_transition.specs.Blames.{has_frame_in}
 use Rattle.lp_cert.specs.Waiters.{LegReasons, WaitingGroups, head_of}
 use Rattle.lp_cert.specs.inside.Waiters.{AreStanding, is_lone, lines_at}
 use Rattle.lp_cert.proofs.HeadLemmas.{busy_blame}

@@ -14,7 +14,7 @@ use Rattle.lp_transition.specs.Scan.{waiting_view, verdict_of, verdicts_of, view
 use Rattle.lp_transition.specs.Machine.{view_of, waits_in}
 use Rattle.lp_transition.specs.Sound.{IsSound}
 use Rattle.lp_transition.proofs.Quantifiers.{some_live-is}
-use Rattle.lp_cert.specs.EventLines.{blame_in, first_blamed_in, member_verdict, first_refused}
+use Rattle.lp_transition.specs.Blames.{blame_in, first_blamed_in, member_verdict, first_refused}
 
 module _ (model : Rules) (s : State) (sound : IsSound s) (on : CheckKind) (group : ℕ) (behind : IsTrue (waits_in s group)) where
   abbrev looked : ℕ → Option TaskView

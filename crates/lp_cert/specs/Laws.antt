@@ -18,7 +18,8 @@ use Rattle.lp_transition.specs.Machine.{waits_in, state_of}
 use Rattle.lp_cert.specs.declared.cert.Claim.TheVariants.{Waiting}
 use Rattle.lp_cert.specs.Certificates.{lines, cert, completion, floor_certs, opened_legs}
 use Rattle.lp_cert.specs.Ends.{Made, IsFresh, IsMadeOf, end_of, waiting_in, floor_in}
-use Rattle.lp_cert.specs.EventLines.{first_refused, first_blamed_in, lines_after_scan, lines_after_fork}
+use Rattle.lp_transition.specs.Blames.{first_refused, first_blamed_in}
+use Rattle.lp_cert.specs.EventLines.{lines_after_scan, lines_after_fork}
 
 -- the lines of a group come with the events of its leg: each leaves those before it as they are, or goes by the state
 -- in which an engine is before it

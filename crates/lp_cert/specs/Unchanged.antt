@@ -9,7 +9,7 @@ use Rattle.lp_transition.specs.Leg.{Standing, State}
 use Rattle.lp_transition.specs.Machine.{view_of}
 use Rattle.lp_cert.specs.declared.line.Line.{Line}
 use Rattle.lp_cert.specs.declared.line.Line.TheVariants.{Hold, Busy}
-use Rattle.lp_cert.specs.EventLines.{has_frame_in}
+use Rattle.lp_transition.specs.Blames.{has_frame_in}
 
 -- the newest line continues if the group is refused again, blaming this task so: a hold of its frame, which is still there, or
 -- the task is busy

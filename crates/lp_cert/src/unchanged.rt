@@ -8,7 +8,7 @@ ghost use Rattle.lp_transition.specs.Leg.{Standing};
 ghost use Rattle.lp_cert.specs.inside.Touched.{touched};
 ghost use Rattle.lp_cert.specs.LastScan.{used_scan};
 ghost use Rattle.lp_cert.specs.inside.LastScan.{AreKeptApart, IsLastScanAfter, IsTouched, continues_by, is_named, is_of_group, names, leaves_unchanged};
-ghost use Rattle.lp_cert.specs.EventLines.{has_frame_in};
+ghost use Rattle.lp_transition.specs.Blames.{has_frame_in};
 
 use crate::ongoing::Ongoing;
 use crate::reasons::Reasons;

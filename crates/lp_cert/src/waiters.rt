@@ -8,7 +8,7 @@ ghost use Rattle.lp_transition.specs.Scan.{passing};
 ghost use Rattle.lp_transition.specs.inside.ScanSteps.{IsNextBelow};
 ghost use Rattle.lp_transition.specs.Table.{state_in};
 ghost use Rattle.lp_cert.specs.inside.Heads.{HasFrameAs};
-ghost use Rattle.lp_cert.specs.EventLines.{has_frame_in, first_refused};
+ghost use Rattle.lp_transition.specs.Blames.{has_frame_in, first_refused};
 ghost use Rattle.lp_cert.specs.Invariant.{floor_waiters};
 ghost use Rattle.lp_cert.specs.Waiters.{head_of, waiter_in, waiters_of};
 ghost use Rattle.lp_cert.specs.inside.Waiters.{HasHeadFor, HasHeads, IsAboveChild, AreHeads, AreStanding, StandsAt, IsJudged, AreJudged, IsUsedVerdict, is_left, after_birth, has_off, lines_at, scanned_lines, AreTakenIn, IsTakenIn};

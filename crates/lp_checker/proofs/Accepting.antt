@@ -1,5 +1,5 @@
 -- What an accepted event finds.
-use Rattle.std.proofs.Common.{◌≡◌, ◌<◌, length, Some, None}
+use Rattle.std.proofs.Common.{◌≡◌, ◌<◌, [], length, Some, None}
 use Rattle.lp_symbols.specs.declared.sym_id.SymId.{SymId}
 use Rattle.lp_stack.specs.declared.number.TaskId.{TaskId}
 use Rattle.lp_patch.specs.Patches.{Patches}
@@ -19,7 +19,7 @@ module _ (patches : Patches) (table : Table) where
 
   -- an engine with these tasks, of any model
   abbrev pub engine : Engine
-  engine = record { number = 0; from = 0; target = 0; patches = patches; table = table }
+  engine = record { number = 0; from = 0; target = 0; patches = patches; table = table; blames = [] }
 
   call_too : (t : TaskId) (f : SymId) → Accepts (Call t f) → refusal_of immediate (state_in engine) (Call t f) ≡ None
   unfolding refusal_of

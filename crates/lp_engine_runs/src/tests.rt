@@ -11,6 +11,7 @@ mod events;
 mod laws;
 mod limits;
 mod memory;
+mod open;
 mod refusals;
 
 use lp_model::Consistency;

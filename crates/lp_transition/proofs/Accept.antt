@@ -10,7 +10,7 @@ use Rattle.lp_model.specs.Rules.{Rules}
 use Rattle.lp_model.specs.declared.check.ForkKind.{ForkKind}
 use Rattle.lp_transition.specs.declared.event.Event.TheVariants.{Call, Exit, Idle, Fork, Die, Enable}
 use Rattle.lp_transition.specs.declared.refusal.Refusal.{Refusal}
-use Rattle.lp_transition.specs.declared.refusal.Refusal.TheVariants.{UnknownTask, TaskRange, TaskUsed, StackFull, InTransition, AlreadyThere}
+use Rattle.lp_transition.specs.declared.refusal.Refusal.TheVariants.{UnknownTask, TaskRange, TaskUsed, StackFull, StackNotEmpty, InTransition, AlreadyThere}
 use Rattle.lp_numbers.specs.Numbers.{has}
 use Rattle.lp_transition.specs.Tasks.{on_live, map_live, is_unused, fits, first_of, unknown_task, unknown_symbol, out_of_range, used, not_of, not_in, stack_full, stack_not_empty}
 use Rattle.lp_transition.specs.Leg.{Standing}
@@ -78,6 +78,19 @@ module _ (model : Rules) (e : Engine) where
       let free = first_free d [] (others_free m (d ∷ []) (others_free b (m ∷ d ∷ []) (others_free a (b ∷ m ∷ d ∷ []) h))) in
       let full : nat_le 100 (length x.frames) ≡ false = fits-free (nat_le 100 (length x.frames)) StackFull (subst (λ o. fits (nat_le 100 (on_live 0 (λ y. y.depth) (map_live outline_of (fate_at o (has e.table.used t.0))))) StackFull ≡ None) there free) in
       grind (arith, nat_tests, full)
+
+  -- a task that ends has no frame
+  pub die-empty : (t : TaskId) (x : Standing) → refusal_of model (state_in e) (Die t) ≡ None → slot e.table t.0 ≡ Some x → length x.frames ≡ 0
+  unfolding refusal_of
+  die-empty t x h there =
+      let live = outlines_of (standings e.table) in
+      let a = unknown_task live t.0 in
+      let n = not_of Normal live t.0 in
+      let m = not_in Kernel live t.0 in
+      let d = stack_not_empty live t.0 in
+      let free = first_free d [] (others_free m (d ∷ []) (others_free n (m ∷ d ∷ []) (others_free a (n ∷ m ∷ d ∷ []) h))) in
+      let empty : not (nat_eq (length x.frames) 0) ≡ false = fits-free (not (nat_eq (length x.frames) 0)) StackNotEmpty (subst (λ o. fits (not (nat_eq (on_live 0 (λ y. y.depth) (map_live outline_of (fate_at o (has e.table.used t.0)))) 0)) StackNotEmpty ≡ None) there free) in
+      grind (arith, nat_tests, empty)
 
   -- a child's number is new
   pub fork-new : (p c : TaskId) (how : ForkKind) → refusal_of model (state_in e) (Fork p c how) ≡ None → (slot e.table c.0 ≡ None) × (has e.table.used c.0 ≡ false)

@@ -22,6 +22,7 @@ use Rattle.lp_transition.specs.Sound.{IsSound}
 use Rattle.lp_transition.specs.Steps.{StandsIn}
 use Rattle.lp_transition.specs.inside.Invariant.{IsEngine}
 use Rattle.lp_transition.specs.Boot.{boot_fault, boot_refusal}
+use Rattle.lp_transition.specs.declared.engine.blames.StandingBlame.{StandingBlame}
 use Rattle.lp_transition.specs.Table.{Table, Engine, state_in, bounds_of, slot, fate_at, standings, IsWide}
 use Rattle.lp_transition.specs.inside.Table.{IsBlank, with_task, is_off, is_in}
 use Rattle.lp_transition.proofs.Runs.{started}
@@ -194,8 +195,8 @@ one_put model boots i boot table new members x free h at small is group made put
 -- ---- The engine that starts
 
 -- an engine at its start
-abbrev pub at_start : Patches → Table → Engine
-at_start patches table = record { number = 0; from = 0; target = 0; patches = patches; table = table }
+abbrev pub at_start : Patches → Table → List (Option StandingBlame) → Engine
+at_start patches table blames = record { number = 0; from = 0; target = 0; patches = patches; table = table; blames = blames }
 
 -- a run with no event so far
 abbrev pub new_run : Patches → List (TaskId × Class) → Run
@@ -212,10 +213,10 @@ unfolding leg_after
 at_start-stands model patches boots now in_range is = record { in_range = in_range; there = is ∙ sym (started model (new_run patches boots)) }
 
 -- where the tasks of the list are put, and nobody waits
-starts : (model : Rules) → IsLawful model → (patches : Patches) (boots : List (TaskId × Class)) (table : Table) (waiting : Numbers) (members : List ℕ) → ArePut model boots table members → IsEmpty waiting → length waiting ≡ 65536 → HasStarted model patches boots (at_start patches table) waiting members
-starts model lawful patches boots table waiting members put none long =
+starts : (model : Rules) → IsLawful model → (patches : Patches) (boots : List (TaskId × Class)) (table : Table) (blames : List (Option StandingBlame)) (waiting : Numbers) (members : List ℕ) → ArePut model boots table members → IsEmpty waiting → length waiting ≡ 65536 → HasStarted model patches boots (at_start patches table blames) waiting members
+starts model lawful patches boots table blames waiting members put none long =
     let first = start model (bounds_of patches) patches boots in
-    let state : state_in (at_start patches table) ≡ first.opening = ap {A = ℕ → Fate Standing} {B = State} (λ tasks. record { number = 0; bounds = bounds_of patches; from = 0; aim = record { patches = patches; target = 0 }; tasks = tasks }) put.live in
+    let state : state_in (at_start patches table blames) ≡ first.opening = ap {A = ℕ → Fate Standing} {B = State} (λ tasks. record { number = 0; bounds = bounds_of patches; from = 0; aim = record { patches = patches; target = 0 }; tasks = tasks }) put.live in
     record {
       kept = record {
         sound = subst IsSound (sym state) (start_sound model lawful (bounds_of patches) patches boots put.in_range);
@@ -229,12 +230,12 @@ starts model lawful patches boots table waiting members put none long =
         number_fits = omega arith;
       };
       state = state;
-      stands = at_start-stands model patches boots (state_in (at_start patches table)) put.in_range state;
+      stands = at_start-stands model patches boots (state_in (at_start patches table blames)) put.in_range state;
     }
 
 -- the same, of the engine that code makes
-pub starts_with : (model : Rules) → IsLawful model → (held patches : Patches) (boots : List (TaskId × Class)) (now table : Table) (waiting : Numbers) (members : List ℕ) → held ≡ patches → now ≡ table → ArePut model boots table members → IsEmpty waiting → length waiting ≡ 65536 → HasStarted model patches boots (at_start held now) waiting members
-starts_with model lawful held patches boots now table waiting members same is put none long =
-    subst (λ p. HasStarted model patches boots (at_start p now) waiting members) (sym same)
-    (subst (λ t. HasStarted model patches boots (at_start patches t) waiting members) (sym is)
-    (starts model lawful patches boots table waiting members put none long))
+pub starts_with : (model : Rules) → IsLawful model → (held patches : Patches) (boots : List (TaskId × Class)) (now table : Table) (blames : List (Option StandingBlame)) (waiting : Numbers) (members : List ℕ) → held ≡ patches → now ≡ table → ArePut model boots table members → IsEmpty waiting → length waiting ≡ 65536 → HasStarted model patches boots (at_start held now blames) waiting members
+starts_with model lawful held patches boots now table blames waiting members same is put none long =
+    subst (λ p. HasStarted model patches boots (at_start p now blames) waiting members) (sym same)
+    (subst (λ t. HasStarted model patches boots (at_start patches t blames) waiting members) (sym is)
+    (starts model lawful patches boots table blames waiting members put none long))

@@ -47,5 +47,8 @@ pub mod ScanAnswers
 pub mod ScanSwitches
 pub mod ScanTakes
 pub mod Unchanged
+pub mod BlameLists
+pub mod Blames
+pub mod BlamedScans
 pub mod BootLemmas
 pub mod OpeningLemmas

@@ -22,7 +22,7 @@ use Rattle.lp_transition.proofs.Effects.{HasTaken, sound_next}
 
 -- the engine turned to another level
 abbrev pub turned_to : ℕ → Engine → Engine
-turned_to level e = record { number = e.number + 1; from = e.target; target = level; patches = e.patches; table = e.table }
+turned_to level e = record { number = e.number + 1; from = e.target; target = level; patches = e.patches; table = e.table; blames = e.blames }
 
 -- each live task is on a level
 module _ (e : Engine) (waiting : Numbers) (members : List ℕ) (kept : IsEngine e waiting members) (level : ℕ) where

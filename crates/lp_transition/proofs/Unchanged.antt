@@ -58,7 +58,7 @@ module _ (model : Rules) (s : State) (event : Event) where
   now = affected model s event
 
   -- to whom nothing happens stands as before
-  own_same : (given : Event) (t : ℕ) → touches given t ≡ false → own_effect model.child_group (suc s.number) given s.tasks t ≡ s.tasks t
+  pub own_same : (given : Event) (t : ℕ) → touches given t ≡ false → own_effect model.child_group (suc s.number) given s.tasks t ≡ s.tasks t
   own_same (Call a f) t out = cond-false (nat_eq t a.0) (map_live (calling (suc s.number) f) (s.tasks t)) (s.tasks t) out
   own_same (Ret a) t out = cond-false (nat_eq t a.0) (map_live returning (s.tasks t)) (s.tasks t) out
   own_same (Sleep a) t out = cond-false (nat_eq t a.0) (map_live (put_in Asleep) (s.tasks t)) (s.tasks t) out
@@ -81,7 +81,7 @@ module _ (model : Rules) (s : State) (event : Event) where
       absurd (false≢true (sym there ∙ eq-eqb s.target s.target refl))
   not_switched y false e off = e
 
-  switched_not : (y : Standing) → switches_at model now event y.group ≡ false → switched_task model now event y ≡ y
+  pub switched_not : (y : Standing) → switches_at model now event y.group ≡ false → switched_task model now event y ≡ y
   switched_not y stays = cond-false (switches_at model now event y.group) (record y { level = s.target }) y stays
 
   -- who waits afterwards stands as after the event's own effect, and its group didn't switch

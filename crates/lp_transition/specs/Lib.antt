@@ -17,4 +17,5 @@ pub mod Weigh
 pub mod Scan
 pub mod Boot
 pub mod Openings
+pub mod Blames
 pub mod inside

@@ -4,6 +4,7 @@ use Rattle.lp_numbers.specs.Numbers.{Numbers, has}
 use Rattle.lp_patch.specs.Patches.{Patches, symbols_of}
 use Rattle.lp_transition.specs.Tasks.{Fate, Unused, Live, Dead, Bounds}
 use Rattle.lp_transition.specs.Leg.{Standing, State}
+use Rattle.lp_transition.specs.declared.engine.blames.StandingBlame.{StandingBlame}
 
 -- ---- The tasks
 
@@ -32,13 +33,15 @@ pub record IsWide (table : Table) : Type 0 where
 
 -- ---- The engine
 
--- what the engine keeps: the number of events so far, the levels from which and to which it goes, the patches and the tasks
+-- what the engine keeps: the number of events so far, the levels from which and to which it goes, the patches, the tasks,
+-- and for each group the frame by which it is known to be refused, if there is one
 pub record Engine : Type 0 where
   pub number : ℕ
   pub from : ℕ
   pub target : ℕ
   pub patches : Patches
   pub table : Table
+  pub blames : List (Option StandingBlame)
 
 -- symbols are numbered below their count, tasks from 1 to 65,535
 abbrev pub task_numbers : ℕ → Bounds

@@ -1,14 +1,16 @@
 //! The engine: the tasks, and the transition that takes them from one level to another.
-ghost use Rattle.std.specs.Prelude.{◌≡◌, ◌≤◌, not, is_some};
+ghost use Rattle.std.specs.Prelude.{◌≡◌, ◌≤◌, None, not, is_some, false};
 ghost use Rattle.std.specs.Option.{ForSome, option_map};
 ghost use Rattle.lp_patch.specs.Aimed.{aimed};
 ghost use Rattle.lp_numbers.specs.Numbers.{IsNextFrom};
 ghost use Rattle.lp_transition.specs.Sound.{IsSound};
 ghost use Rattle.lp_transition.specs.Table.{IsWide, slot, standings, bounds_of, state_in};
+ghost use Rattle.lp_transition.specs.Blames.{blame_of};
 ghost use Rattle.lp_transition.specs.Leg.{is_alone};
 ghost use Rattle.lp_stack.specs.TaskView.{seen};
 ghost use Rattle.lp_transition.specs.Machine.{complete_in, outlines_of, view_of};
 
+mod blames;
 mod boot;
 mod control;
 mod dispatch;
@@ -25,6 +27,8 @@ mod task_table;
 mod unchanged;
 mod weigh;
 
+use blames::Blames;
+pub use blames::StandingBlame;
 pub use boot::BootFault;
 pub use dispatch::verdicts;
 use lp_model::Consistency;
@@ -43,7 +47,7 @@ pub const MOST_EVENTS: u32 = 1_000_000;
 /// The engine over a consistency model: it decides at each event which tasks switch.
 ///
 /// Contracts see what it keeps: the number of events so far, the levels from which and to which it
-/// goes, the patches, and the tasks by their numbers.
+/// goes, the patches, the tasks by their numbers, and the standing blames of the groups.
 #[derive(Drop)]
 pub struct Core<M: Consistency> {
     model: M,
@@ -57,17 +61,18 @@ pub struct Core<M: Consistency> {
     /// For each group, how many live members it has.
     members: Vec<u32>,
     unchanged: Unchanged,
+    blames: Blames,
 }
 
 impl<M: Consistency> Model for Core<M> {
     ghost use Rattle.lp_transition.specs.Table.{Engine};
-    ghost use Rattle.lp_transition.specs.inside.Invariant.{IsCore};
+    ghost use Rattle.lp_transition.specs.inside.Invariant.{IsWhole};
 
     ghost Value = { Engine };
 
-    ghost view = { λ c. record { number = c.events; from = c.from.0; target = c.target.0; patches = c.patches; table = c.tasks } };
+    ghost view = { λ c. record { number = c.events; from = c.from.0; target = c.target.0; patches = c.patches; table = c.tasks; blames = c.blames } };
 
-    ghost invariant = { λ c. IsCore M.rules (record { number = c.events; from = c.from.0; target = c.target.0; patches = c.patches; table = c.tasks }) c.waiting c.members.items c.unchanged };
+    ghost invariant = { λ c. IsWhole M.rules (record { number = c.events; from = c.from.0; target = c.target.0; patches = c.patches; table = c.tasks; blames = c.blames }) c.waiting c.members.items c.unchanged };
 }
 
 impl<M: Consistency> Core<M> {
@@ -134,9 +139,18 @@ impl<M: Consistency> Core<M> {
         self.tasks.group_of(task)
     }
 
+    /// The standing blame of a group: a frame by which every check of it is refused until the frame is
+    /// popped or the leg ends. None where there is none.
+    pub fn standing_blame(&self, group: GroupId) -> Option<StandingBlame>
+        ensures { result ≡ blame_of self.now group.0 }
+    {
+        self.blames.of(group)
+    }
+
     /// Whether a task is live, and the only live member of its group.
     pub fn is_alone(&self, task: TaskId) -> bool
-        ensures { ForSome (slot self.now.table task.0) (λ x. result ≡ is_alone (bounds_of self.now.patches) (outlines_of (standings self.now.table)) x.group task.0) }
+        ensures dead { slot self.now.table task.0 ≡ None → result ≡ false }
+        ensures alone { ForSome (slot self.now.table task.0) (λ x. result ≡ is_alone (bounds_of self.now.patches) (outlines_of (standings self.now.table)) x.group task.0) }
     {
         match self.tasks.get(task) {
             Some(live) => self.members[usize::from(live.group().0)] == 1,

@@ -8,7 +8,7 @@ pub mod laws;
 mod refusal;
 mod reply;
 
-pub use engine::{BootFault, Core, Halt, MOST_EVENTS, Opening, Step, verdicts};
+pub use engine::{BootFault, Core, Halt, MOST_EVENTS, Opening, StandingBlame, Step, verdicts};
 pub use event::Event;
 pub use lp_model::{CheckKind, Consistency, ForkKind, Verdict};
 pub use lp_numbers::NumberSet;

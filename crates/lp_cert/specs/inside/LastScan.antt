@@ -14,7 +14,7 @@ use Rattle.lp_cert.specs.declared.ongoing.Ongoing.{Ongoing}
 use Rattle.lp_cert.specs.declared.ongoing.Ongoing.TheVariants.{Nothing, Hold, Busy}
 use Rattle.lp_cert.specs.inside.Heads.{is_busy}
 use Rattle.lp_cert.specs.inside.Touched.{touched, is_childs}
-use Rattle.lp_cert.specs.EventLines.{has_frame_in}
+use Rattle.lp_transition.specs.Blames.{has_frame_in}
 use Rattle.lp_cert.specs.Waiters.{LegReasons, head_of}
 use Rattle.lp_cert.specs.inside.Waiters.{is_lone}
 use Rattle.lp_cert.specs.LastScan.{LastScan, used_scan}

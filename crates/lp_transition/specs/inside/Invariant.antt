@@ -8,6 +8,7 @@ use Rattle.lp_transition.specs.Scan.{MayLeaveOut}
 use Rattle.lp_transition.specs.Sound.{IsSound}
 use Rattle.lp_transition.specs.Table.{Engine, IsWide, state_in, slot}
 use Rattle.lp_transition.specs.inside.Table.{is_off, is_in}
+use Rattle.lp_transition.specs.inside.Blames.{AreBlamed}
 
 -- an engine, the numbers of the tasks that wait, and the number of live members of each group
 pub record IsEngine (engine : Engine) (waiting : Numbers) (members : List ℕ) : Type 0 where
@@ -36,3 +37,10 @@ AreUnchanged model s (Some kind) changed = MayLeaveOut model kind s (has changed
 pub record IsCore (model : Rules) (e : Engine) (waiting : Numbers) (members : List ℕ) (last : LastScan) : Type 0 where
   pub engine : IsEngine e waiting members
   pub unchanged : AreUnchanged model (state_in e) last.kind last.changed
+
+-- the same, with the standing blames
+pub record IsWhole (model : Rules) (e : Engine) (waiting : Numbers) (members : List ℕ) (last : LastScan) : Type 0 where
+  pub core : IsCore model e waiting members last
+  pub open core use {engine, unchanged}
+  pub groups : length e.blames ≡ 65536
+  pub blamed : AreBlamed model (state_in e) e.blames

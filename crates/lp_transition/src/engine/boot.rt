@@ -4,10 +4,12 @@ ghost use Rattle.lp_transition.specs.Run.{start, booted, at_boot, first_mode};
 ghost use Rattle.lp_transition.specs.Steps.{StandsIn};
 ghost use Rattle.lp_transition.specs.Boot.{boot_refusal};
 ghost use Rattle.lp_transition.specs.Table.{IsWide, standings, state_in, bounds_of};
+ghost use Rattle.lp_transition.specs.Blames.{blame_of};
 ghost use Rattle.lp_transition.specs.inside.Table.{IsBlank, is_in};
 ghost use Rattle.lp_transition.specs.declared.engine.boot.BootFault.TheVariants.{NoMemory};
 
 use super::Core;
+use super::blames::Blames;
 use super::live_task::LiveTask;
 use super::task_table::TaskTable;
 use super::unchanged::Unchanged;
@@ -62,6 +64,7 @@ impl<M: Consistency> Core<M> {
         ensures refused { IfSome (boot_refusal tasks.now) (λ fault. result ≡ Err fault) }
         ensures memory { boot_refusal tasks.now ≡ None → OnErr result (result ≡ Err NoMemory) }
         ensures started { IfOk result (λ core. state_in core ≡ (start M.rules (bounds_of patches) patches tasks.now).opening) }
+        ensures blameless { IfOk result (λ core. (group : ℕ) → blame_of core group ≡ None) }
         ensures stands { IfOk result (λ core. StandsIn M.rules (record { bounds = bounds_of patches; patches = patches; boots = tasks.now; events = [] }) (state_in core)) }
     {
         if let Some(fault) = first_fault(tasks) {
@@ -79,6 +82,7 @@ impl<M: Consistency> Core<M> {
             waiting: NumberSet::new(alloc)?,
             members,
             unchanged: Unchanged::new(alloc)?,
+            blames: Blames::new(alloc)?,
         })
     }
 }

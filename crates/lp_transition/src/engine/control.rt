@@ -1,9 +1,10 @@
 //! The events that begin a transition or turn it round.
-ghost use Rattle.std.specs.Prelude.{◌≡◌, ◌≤◌, ◌<◌, ◌↔◌, ℕ, None, true, false, IsTrue, if◌then◌else◌, length, nat_eq};
+ghost use Rattle.std.specs.Prelude.{◌≡◌, [], ◌≤◌, ◌<◌, ◌↔◌, ℕ, None, true, false, IsTrue, if◌then◌else◌, length, nat_eq};
 ghost use Rattle.lp_numbers.specs.Numbers.{has};
 ghost use Rattle.lp_transition.specs.Events.{is_control};
 ghost use Rattle.lp_transition.specs.Tasks.{first_of};
 ghost use Rattle.lp_transition.specs.Run.{control_tests, new_target};
+ghost use Rattle.lp_transition.specs.Blames.{AreBlamesAfter};
 ghost use Rattle.lp_transition.specs.Table.{slot, state_in};
 ghost use Rattle.lp_transition.specs.inside.Table.{is_off};
 ghost use Rattle.lp_transition.specs.Machine.{complete_in, refusal_of, answer, next};
@@ -77,7 +78,8 @@ impl<M: Consistency> Core<M> {
         requires room { self.old.number < 1000000 }
         requires accepted { refusal_of M.rules (state_in self.old) event ≡ None }
         requires control { is_control event ≡ true }
-        ensures { state_in self.new ≡ next M.rules (state_in self.old) event }
+        ensures state { state_in self.new ≡ next M.rules (state_in self.old) event }
+        ensures blames { AreBlamesAfter M.rules self.old event [] self.new }
     {
         let level = self.new_level(event);
         self.events += 1;
@@ -85,6 +87,7 @@ impl<M: Consistency> Core<M> {
         self.target = level;
         collect_off(&self.tasks, &mut self.waiting, level);
         self.unchanged.reset();
+        self.blames.clear();
     }
 
     /// Why the turning of the transition is refused.

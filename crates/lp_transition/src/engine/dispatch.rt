@@ -1,5 +1,5 @@
 //! The events of a run: each is weighed, and taken as it was answered.
-ghost use Rattle.std.specs.Prelude.{◌≡◌, ◌≤◌, ◌<◌, ◌↔◌, map, true, false, None, Some, Err, IfOk, OnErr, IsTrue};
+ghost use Rattle.std.specs.Prelude.{◌≡◌, [], ◌≤◌, ◌<◌, ◌↔◌, map, true, false, None, Some, Err, IfOk, OnErr, IsTrue};
 ghost use Rattle.std.specs.Option.{option_map};
 ghost use Rattle.lp_stack.specs.TaskView.{seen};
 ghost use Rattle.lp_patch.specs.Aimed.{aimed};
@@ -7,6 +7,7 @@ ghost use Rattle.lp_transition.specs.declared.engine.step.Halt.TheVariants.{NoMe
 ghost use Rattle.lp_transition.specs.Events.{is_scan};
 ghost use Rattle.lp_transition.specs.Scan.{is_scan_kind, scan_event, verdict_of, verdicts_of, verdicts_used};
 ghost use Rattle.lp_transition.specs.Steps.{IsReply, IsStep};
+ghost use Rattle.lp_transition.specs.Blames.{AreBlamesAfter, HasBlamesAfter};
 ghost use Rattle.lp_transition.specs.Table.{state_in};
 ghost use Rattle.lp_transition.specs.Weigh.{IsWeighed, born_of, is_switched, may_allocate, refusal_in, verdicts_for};
 ghost use Rattle.lp_transition.specs.Machine.{refusal_of, answer, next};
@@ -33,6 +34,7 @@ impl<M: Consistency> Core<M> {
         ensures full { (result ≡ Err JournalFull) ↔ (1000000 ≤ self.old.number) }
         ensures memory { result ≡ Err NoMemory → IsTrue (may_allocate event (answer M.rules (state_in self.old) event).what) }
         ensures step { IfOk result (λ reply. IsStep M.rules (state_in self.old) event reply (state_in self.new)) }
+        ensures blames { IfOk result (λ reply. HasBlamesAfter M.rules self.old event self.new) }
         ensures unchanged { OnErr result (self.new ≡ self.old) }
     {
         match event {
@@ -51,6 +53,7 @@ impl<M: Consistency> Core<M> {
         ensures full { (result ≡ Err JournalFull) ↔ (1000000 ≤ self.old.number) }
         ensures memory { result ≡ Err NoMemory → IsTrue (may_allocate event (answer M.rules (state_in self.old) event).what) }
         ensures step { IfOk result (λ reply. IsStep M.rules (state_in self.old) event reply (state_in self.new)) }
+        ensures blames { IfOk result (λ reply. HasBlamesAfter M.rules self.old event self.new) }
         ensures unchanged { OnErr result (self.new ≡ self.old) }
     {
         let step = self.weigh_changed(alloc, event)?;
@@ -70,6 +73,7 @@ impl<M: Consistency> Core<M> {
         requires found { verdicts.now ≡ verdicts_of M.rules kind (state_in self.old) }
         ensures full { (result ≡ Err JournalFull) ↔ (1000000 ≤ self.old.number) }
         ensures step { IfOk result (λ reply. IsStep M.rules (state_in self.old) (scan_event kind) reply (state_in self.new)) }
+        ensures blames { IfOk result (λ reply. AreBlamesAfter M.rules self.old (scan_event kind) verdicts.now self.new) }
         ensures unchanged { OnErr result (self.new ≡ self.old) }
     {
         let scan = self.weigh_scan(alloc, kind, verdicts)?;
@@ -81,6 +85,7 @@ impl<M: Consistency> Core<M> {
         requires { IsWeighed M.rules self.old step }
         ensures reply { result ≡ step.reply }
         ensures step { IsStep M.rules (state_in self.old) step.event result (state_in self.new) }
+        ensures blames { AreBlamesAfter M.rules self.old step.event step.verdicts self.new }
     {
         let event = step.event();
         if event.is_scan() {
@@ -147,7 +152,8 @@ impl<M: Consistency> Core<M> {
     pub(super) fn take_refused(&mut self, event: Event, why: Refusal)
         requires room { self.old.number < 1000000 }
         requires refused { refusal_of M.rules (state_in self.old) event ≡ Some why }
-        ensures { state_in self.new ≡ next M.rules (state_in self.old) event }
+        ensures state { state_in self.new ≡ next M.rules (state_in self.old) event }
+        ensures blames { AreBlamesAfter M.rules self.old event [] self.new }
     {
         self.events += 1;
     }
@@ -159,7 +165,8 @@ impl<M: Consistency> Core<M> {
         requires scan { is_scan event ≡ false }
         requires switching { switching ≡ is_switched (answer M.rules (state_in self.old) event).what }
         requires born { option_map (λ (b : Box Standing Global). b.value) born ≡ born_of M.rules (state_in self.old) event }
-        ensures { state_in self.new ≡ next M.rules (state_in self.old) event }
+        ensures state { state_in self.new ≡ next M.rules (state_in self.old) event }
+        ensures blames { AreBlamesAfter M.rules self.old event [] self.new }
     {
         let _ = &self.tasks;
         match event {

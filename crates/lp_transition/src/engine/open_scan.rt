@@ -5,6 +5,7 @@ ghost use Rattle.std.specs.List.{filter, list_any};
 ghost use Rattle.lp_stack.specs.TaskView.{seen};
 ghost use Rattle.lp_numbers.specs.Numbers.{has};
 ghost use Rattle.lp_transition.specs.Table.{slot, state_in};
+ghost use Rattle.lp_transition.specs.Blames.{is_open};
 ghost use Rattle.lp_transition.specs.Weigh.{IsWeighed, may_allocate};
 ghost use Rattle.lp_transition.specs.Steps.{IsReply};
 ghost use Rattle.lp_transition.specs.Scan.{is_asked, is_scan_kind, scan_event, MayLeaveOut, passing, verdicts_among, views_of};
@@ -79,6 +80,55 @@ impl<M: Consistency> Core<M> {
         let aim = self.aim();
         let found = verdicts(alloc, &self.model, kind, views.as_slice(), &aim)?;
         self.weigh_found(alloc, kind, found)
+    }
+
+    /// The waiting tasks as checks see them whose groups have no standing blame, by increasing number;
+    /// AllocError where an allocation failed.
+    pub fn open_views(&self, alloc: Global) -> Result<Vec<View<'_>>, AllocError>
+        ensures { IfOk result (λ views. map seen views.items ≡ filter (λ view. is_asked (state_in self.now) (is_open self.now) view.task) (views_of (state_in self.now))) }
+    {
+        let all = self.views(alloc)?;
+        let mut kept = Vec::new(alloc);
+        for view in &all {
+            if self.is_open_to(view.task) {
+                kept.push(*view)?;
+            }
+        }
+        Ok(kept)
+    }
+
+    /// Whether a task is live and its group has no standing blame.
+    fn is_open_to(&self, task: TaskId) -> bool
+        ensures { result ≡ is_asked (state_in self.now) (is_open self.now) task.0 }
+    {
+        match self.tasks.group_of(task) {
+            Some(group) => self.blames.of(group).is_none(),
+            None => false,
+        }
+    }
+
+    /// The answer to a walk or a stop, by what its checks found of the waiting tasks whose groups have
+    /// no standing blame: each other group it would refuse. NoMemory where an allocation failed,
+    /// JournalFull where no event is left.
+    pub fn weigh_open(
+        &self,
+        alloc: Global,
+        kind: CheckKind,
+        verdicts: &[Verdict],
+    ) -> Result<Step, Halt>
+        requires scan { is_scan_kind kind ≡ true }
+        requires found { verdicts.now ≡ verdicts_among M.rules kind (state_in self.now) (is_open self.now) }
+        ensures full { (result ≡ Err JournalFull) ↔ (1000000 ≤ self.now.number) }
+        ensures reply { IfOk result (λ step. IsReply M.rules (state_in self.now) (scan_event kind) step.reply) }
+        ensures weighed { IfOk result (λ step. IsWeighed M.rules self.now step) }
+        ensures event { IfOk result (λ step. step.event ≡ scan_event kind) }
+        ensures verdicts { IfOk result (λ step. step.verdicts ≡ verdicts.now) }
+    {
+        if self.events >= MOST_EVENTS {
+            return Err(Halt::JournalFull);
+        }
+        let copied = Vec::from_slice(alloc, verdicts)?;
+        self.weigh_found(alloc, kind, copied)
     }
 
     /// The waiting tasks of some groups as checks see them, by increasing number.

@@ -1,5 +1,5 @@
 //! The engine as it stood when a leg opened.
-ghost use Rattle.std.specs.Prelude.{◌≡◌, ◌≤◌, not, length, is_some, IfOk};
+ghost use Rattle.std.specs.Prelude.{◌≡◌, ◌≤◌, [], not, length, is_some, IfOk};
 ghost use Rattle.std.specs.Option.{option_map};
 ghost use Rattle.lp_numbers.specs.Numbers.{IsNextFrom};
 ghost use Rattle.lp_stack.specs.TaskView.{seen};
@@ -29,21 +29,22 @@ pub struct Opening {
 }
 
 impl Model for Opening {
+    ghost use Rattle.std.specs.Prelude.{[]};
     ghost use Rattle.lp_transition.specs.Table.{Engine};
     ghost use Rattle.lp_transition.specs.Openings.{IsOpening};
 
     ghost Value = { Engine };
 
-    ghost view = { λ o. record { number = o.number; from = o.from.0; target = o.target.0; patches = o.patches; table = o.tasks } };
+    ghost view = { λ o. record { number = o.number; from = o.from.0; target = o.target.0; patches = o.patches; table = o.tasks; blames = [] } };
 
-    ghost invariant = { λ o. IsOpening (record { number = o.number; from = o.from.0; target = o.target.0; patches = o.patches; table = o.tasks }) };
+    ghost invariant = { λ o. IsOpening (record { number = o.number; from = o.from.0; target = o.target.0; patches = o.patches; table = o.tasks; blames = [] }) };
 }
 
 impl<M: Consistency> Core<M> {
-    /// A copy of the engine as it stands, which just after an accepted control event is the opening
-    /// of that event's leg; an `Err` only where an allocation failed.
+    /// A copy of the engine as it stands but for the standing blames, which just after an accepted
+    /// control event is the opening of that event's leg; an `Err` only where an allocation failed.
     pub fn standing(&self, alloc: Global) -> Result<Opening, AllocError>
-        ensures same { IfOk result (λ opening. opening ≡ self.now) }
+        ensures same { IfOk result (λ opening. opening ≡ record self.now { blames = [] }) }
         ensures sound { IfOk result (λ opening. IsSound (state_in opening)) }
         ensures opens { IfOk result (λ opening. OpensLegs M.rules (state_in opening)) }
     {

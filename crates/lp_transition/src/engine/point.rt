@@ -1,7 +1,8 @@
 //! Checks that a task makes alone: where it returns to user space, and at an idle task's point.
-ghost use Rattle.std.specs.Prelude.{◌≡◌, ◌<◌, None, true, false, IfOk, IsErr, IsTrue};
+ghost use Rattle.std.specs.Prelude.{◌≡◌, [], ◌<◌, None, true, false, IfOk, IsErr, IsTrue};
 ghost use Rattle.std.specs.Option.{ForSome};
 ghost use Rattle.lp_transition.specs.Weigh.{is_switched};
+ghost use Rattle.lp_transition.specs.Blames.{AreBlamesAfter};
 ghost use Rattle.lp_transition.specs.Table.{slot, state_in};
 ghost use Rattle.lp_transition.specs.Machine.{affected, switches_at, refusal_of, answer, next};
 ghost use Rattle.lp_transition.specs.inside.Points.{is_point_kind, point_event, point_mode};
@@ -74,7 +75,8 @@ impl<M: Consistency> Core<M> {
         requires room { self.old.number < 1000000 }
         requires accepted { refusal_of M.rules (state_in self.old) (point_event kind task) ≡ None }
         requires switching { switching ≡ is_switched (answer M.rules (state_in self.old) (point_event kind task)).what }
-        ensures { state_in self.new ≡ next M.rules (state_in self.old) (point_event kind task) }
+        ensures state { state_in self.new ≡ next M.rules (state_in self.old) (point_event kind task) }
+        ensures blames { AreBlamesAfter M.rules self.old (point_event kind task) [] self.new }
     {
         self.events += 1;
         self.unchanged.touch(&self.tasks, task);

@@ -4,6 +4,7 @@ ghost use Rattle.std.specs.List.{filter_map, list_any};
 ghost use Rattle.std.specs.Option.{option_map};
 ghost use Rattle.lp_stack.specs.TaskView.{seen};
 ghost use Rattle.lp_numbers.specs.Numbers.{has};
+ghost use Rattle.lp_transition.specs.Blames.{AreBlamesAfter};
 ghost use Rattle.lp_transition.specs.Table.{state_in, slot};
 ghost use Rattle.lp_transition.specs.inside.Table.{is_in};
 ghost use Rattle.lp_transition.specs.Machine.{view_of, waits_in, next};
@@ -99,9 +100,11 @@ impl<M: Consistency> Core<M> {
     pub(super) fn take_scan(&mut self, step: &Step)
         requires weighed { IsWeighed M.rules self.old step.now }
         requires scan { is_scan step.now.event ≡ true }
-        ensures { state_in self.new ≡ next M.rules (state_in self.old) step.now.event }
+        ensures state { state_in self.new ≡ next M.rules (state_in self.old) step.now.event }
+        ensures blames { AreBlamesAfter M.rules self.old step.now.event step.now.verdicts self.new }
     {
         self.events += 1;
+        self.blames.note(&self.tasks, step.verdicts());
         switch_groups(
             &mut self.tasks,
             &mut self.waiting,

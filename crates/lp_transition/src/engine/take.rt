@@ -1,6 +1,7 @@
 //! What an accepted event does to the engine. Nothing here allocates.
-ghost use Rattle.std.specs.Prelude.{◌≡◌, ◌<◌, None, Some};
+ghost use Rattle.std.specs.Prelude.{◌≡◌, [], ◌<◌, None, Some};
 ghost use Rattle.lp_transition.specs.Weigh.{born_of};
+ghost use Rattle.lp_transition.specs.Blames.{AreBlamesAfter};
 ghost use Rattle.lp_transition.specs.Table.{state_in};
 ghost use Rattle.lp_transition.specs.Machine.{refusal_of, next};
 
@@ -19,7 +20,8 @@ impl<M: Consistency> Core<M> {
     pub(super) fn take_call(&mut self, task: TaskId, func: SymId)
         requires room { self.old.number < 1000000 }
         requires accepted { refusal_of M.rules (state_in self.old) (Event.Call task func) ≡ None }
-        ensures { state_in self.new ≡ next M.rules (state_in self.old) (Event.Call task func) }
+        ensures state { state_in self.new ≡ next M.rules (state_in self.old) (Event.Call task func) }
+        ensures blames { AreBlamesAfter M.rules self.old (Event.Call task func) [] self.new }
     {
         self.events += 1;
         self.unchanged.touch(&self.tasks, task);
@@ -31,11 +33,13 @@ impl<M: Consistency> Core<M> {
     pub(super) fn take_ret(&mut self, task: TaskId)
         requires room { self.old.number < 1000000 }
         requires accepted { refusal_of M.rules (state_in self.old) (Event.Ret task) ≡ None }
-        ensures { state_in self.new ≡ next M.rules (state_in self.old) (Event.Ret task) }
+        ensures state { state_in self.new ≡ next M.rules (state_in self.old) (Event.Ret task) }
+        ensures blames { AreBlamesAfter M.rules self.old (Event.Ret task) [] self.new }
     {
         self.events += 1;
         self.unchanged.touch(&self.tasks, task);
         self.tasks.ret(task);
+        self.blames.popped(&self.waiting, &self.tasks, task);
     }
 
     /// An accepted sleep.
@@ -43,7 +47,8 @@ impl<M: Consistency> Core<M> {
     pub(super) fn take_sleep(&mut self, task: TaskId)
         requires room { self.old.number < 1000000 }
         requires accepted { refusal_of M.rules (state_in self.old) (Event.Sleep task) ≡ None }
-        ensures { state_in self.new ≡ next M.rules (state_in self.old) (Event.Sleep task) }
+        ensures state { state_in self.new ≡ next M.rules (state_in self.old) (Event.Sleep task) }
+        ensures blames { AreBlamesAfter M.rules self.old (Event.Sleep task) [] self.new }
     {
         self.events += 1;
         self.unchanged.touch(&self.tasks, task);
@@ -55,7 +60,8 @@ impl<M: Consistency> Core<M> {
     pub(super) fn take_wake(&mut self, task: TaskId)
         requires room { self.old.number < 1000000 }
         requires accepted { refusal_of M.rules (state_in self.old) (Event.Wake task) ≡ None }
-        ensures { state_in self.new ≡ next M.rules (state_in self.old) (Event.Wake task) }
+        ensures state { state_in self.new ≡ next M.rules (state_in self.old) (Event.Wake task) }
+        ensures blames { AreBlamesAfter M.rules self.old (Event.Wake task) [] self.new }
     {
         self.events += 1;
         self.unchanged.touch(&self.tasks, task);
@@ -67,7 +73,8 @@ impl<M: Consistency> Core<M> {
     pub(super) fn take_enter(&mut self, task: TaskId)
         requires room { self.old.number < 1000000 }
         requires accepted { refusal_of M.rules (state_in self.old) (Event.Enter task) ≡ None }
-        ensures { state_in self.new ≡ next M.rules (state_in self.old) (Event.Enter task) }
+        ensures state { state_in self.new ≡ next M.rules (state_in self.old) (Event.Enter task) }
+        ensures blames { AreBlamesAfter M.rules self.old (Event.Enter task) [] self.new }
     {
         self.events += 1;
         self.unchanged.touch(&self.tasks, task);
@@ -85,7 +92,8 @@ impl<M: Consistency> Core<M> {
         requires room { self.old.number < 1000000 }
         requires accepted { refusal_of M.rules (state_in self.old) (Event.Fork parent child how) ≡ None }
         requires born { born_of M.rules (state_in self.old) (Event.Fork parent child how) ≡ Some live.value }
-        ensures { state_in self.new ≡ next M.rules (state_in self.old) (Event.Fork parent child how) }
+        ensures state { state_in self.new ≡ next M.rules (state_in self.old) (Event.Fork parent child how) }
+        ensures blames { AreBlamesAfter M.rules self.old (Event.Fork parent child how) [] self.new }
     {
         let group = usize::from(live.group().0);
         let waits = live.level() != self.target;
@@ -100,7 +108,8 @@ impl<M: Consistency> Core<M> {
     pub(super) fn take_die(&mut self, task: TaskId)
         requires room { self.old.number < 1000000 }
         requires accepted { refusal_of M.rules (state_in self.old) (Event.Die task) ≡ None }
-        ensures { state_in self.new ≡ next M.rules (state_in self.old) (Event.Die task) }
+        ensures state { state_in self.new ≡ next M.rules (state_in self.old) (Event.Die task) }
+        ensures blames { AreBlamesAfter M.rules self.old (Event.Die task) [] self.new }
     {
         let group = usize::from(group_of(&self.tasks, task).0);
         self.events += 1;

@@ -1,7 +1,7 @@
 use Rattle.std.proofs.Common.{◌≡◌, ◌<◌, subst, sym, ◌∙◌, arith}
 use Rattle.lp_cert.specs.declared.head.Head.{Head}
 use Rattle.lp_cert.specs.inside.Heads.{HasFrameAs}
-use Rattle.lp_cert.specs.EventLines.{has_frame_in}
+use Rattle.lp_transition.specs.Blames.{has_frame_in}
 use Rattle.lp_transition.specs.Table.{state_in}
 use Rattle.lp_cert.specs.inside.Waiters.{is_left}
 use Rattle.lp_cert.proofs.WaiterLemmas.{grouped, judges, not_left, others_left}

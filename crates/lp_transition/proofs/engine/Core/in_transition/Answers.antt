@@ -10,6 +10,6 @@ pub returns : goal.returns
 returns g c =
     let i = c.self.inside in
     let k = c.self.invariant.engine in
-    let empty = slot-zero (record { number = i.events; from = i.from.0; target = i.target.0; patches = i.patches; table = i.tasks }) k.sound in
+    let empty = slot-zero (record { number = i.events; from = i.from.0; target = i.target.0; patches = i.patches; table = i.tasks; blames = i.blames }) k.sound in
     let on_target = on_target i.tasks i.patches k.wide empty i.waiting i.target.0 k.waits in
-    rw (← c.self.view_is) (ap not (one_answer c.is_empty.result (complete_in (state_in (record { number = i.events; from = i.from.0; target = i.target.0; patches = i.patches; table = i.tasks }))) (c.is_empty.ensures.0, c.is_empty.ensures.1) (on_target.1, on_target.0)))
+    rw (← c.self.view_is) (ap not (one_answer c.is_empty.result (complete_in (state_in (record { number = i.events; from = i.from.0; target = i.target.0; patches = i.patches; table = i.tasks; blames = i.blames }))) (c.is_empty.ensures.0, c.is_empty.ensures.1) (on_target.1, on_target.0)))

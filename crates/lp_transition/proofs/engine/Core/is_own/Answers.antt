@@ -8,7 +8,7 @@ use Rattle.lp_transition.proofs.engine.Core.is_own.Goals as goal
 pub returns-then-group-number : goal.returns-then-group-number
 returns-then-group-number g c = λ one.
     let i = c.self.inside in
-    let e : Engine = record { number = i.events; from = i.from.0; target = i.target.0; patches = i.patches; table = i.tasks } in
+    let e : Engine = record { number = i.events; from = i.from.0; target = i.target.0; patches = i.patches; table = i.tasks; blames = i.blames } in
     let small : c.args.number < 65536 = omega arith in
     let at : slot i.tasks c.args.number ≡ Some c.in-Some.live.now = sym c.get.ensures.value ∙ ap option_copied c.in-Some.is in
     let mine : c.in-Some.live.now.group ≡ c.args.number = sym c.group.ensures ∙ c.if-group-number.true in

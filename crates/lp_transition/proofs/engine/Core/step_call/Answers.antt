@@ -5,11 +5,11 @@ use Rattle.lp_transition.proofs.Runs.{is_step}
 use Rattle.lp_transition.proofs.EngineLemmas.{answer-refused}
 use Rattle.lp_transition.proofs.engine.Core.step_call.Goals as goal
 
-pub returns-in-Some : goal.returns-in-Some
-returns-in-Some g c =
+pub returns-in-Some-clause-step : goal.returns-in-Some-clause-step
+returns-in-Some-clause-step g c =
     let s = state_in c.args.self.now in
     let event = (Call c.args.task c.args.func) in
-    is_step g.M.Consistency.rules g.met.M.Consistency.lawful s (state_in c.take_refused.new.self) event c.refused.result (c.refused.ensures ∙ sym (answer-refused g.M.Consistency.rules s event c.in-Some.why (sym c.refusal.ensures ∙ c.in-Some.is))) c.take_refused.ensures
+    is_step g.M.Consistency.rules g.met.M.Consistency.lawful s (state_in c.take_refused.new.self) event c.refused.result (c.refused.ensures ∙ sym (answer-refused g.M.Consistency.rules s event c.in-Some.why (sym c.refusal.ensures ∙ c.in-Some.is))) c.take_refused.ensures.state
 
-pub returns : goal.returns
-returns g c = is_step g.M.Consistency.rules g.met.M.Consistency.lawful (state_in c.args.self.now) (state_in c.take_call.new.self) (Call c.args.task c.args.func) c.answer_call-reply.result c.answer_call-reply.ensures c.take_call.ensures
+pub returns-clause-step : goal.returns-clause-step
+returns-clause-step g c = is_step g.M.Consistency.rules g.met.M.Consistency.lawful (state_in c.args.self.now) (state_in c.take_call.new.self) (Call c.args.task c.args.func) c.answer_call-reply.result c.answer_call-reply.ensures c.take_call.ensures.state

@@ -1,4 +1,7 @@
-use Rattle.std.proofs.Common.{◌≡◌, sym, ap, ◌∙◌}
+use Rattle.std.proofs.Common.{◌≡◌, false, [], sym, ap, subst, ◌∙◌}
+use Rattle.lp_transition.specs.Events.{is_scan}
+use Rattle.lp_transition.specs.Blames.{AreBlamesAfter}
+use Rattle.lp_transition.proofs.BlamedScans.{no_verdicts}
 use Rattle.lp_transition.specs.declared.reply.Reply.{Reply}
 use Rattle.lp_transition.specs.Table.{state_in}
 use Rattle.lp_transition.specs.Weigh.{refusal_in}
@@ -10,7 +13,7 @@ use Rattle.lp_transition.proofs.engine.Core.take.Goals.{in-Some, in-None}
 
 pub returns-then-is_scan-clause-step : goal.returns-then-is_scan-clause-step
 returns-then-is_scan-clause-step g c =
-    is_step g.M.Consistency.rules g.met.M.Consistency.lawful (state_in c.args.self.now) (state_in c.take_scan.new.self) c.args.step.event c.into_reply.result (c.into_reply.ensures ∙ c.requires.reply) c.take_scan.ensures
+    is_step g.M.Consistency.rules g.met.M.Consistency.lawful (state_in c.args.self.now) (state_in c.take_scan.new.self) c.args.step.event c.into_reply.result (c.into_reply.ensures ∙ c.requires.reply) c.take_scan.ensures.state
 
 pub take_refused-requires-clause-refused : goal.take_refused-requires-clause-refused
 take_refused-requires-clause-refused g c =
@@ -29,7 +32,19 @@ take_accepted-requires-clause-accepted g c =
 pub returns-clause-step : goal.returns-clause-step
 returns-clause-step g c =
     let went : state_in c.match-refusal_in.self ≡ next g.M.Consistency.rules (state_in c.args.self.now) c.args.step.event = elim c.match-refusal_in.branch [
-      | in-Some w ↦ rw w.self-is (w.take_refused.ensures ∙ ap (next g.M.Consistency.rules (state_in c.args.self.now)) c.event-event.ensures)
-      | in-None w ↦ rw w.self-is (w.take_accepted.ensures ∙ ap (next g.M.Consistency.rules (state_in c.args.self.now)) c.event-event.ensures)
+      | in-Some w ↦ rw w.self-is (w.take_refused.ensures.state ∙ ap (next g.M.Consistency.rules (state_in c.args.self.now)) c.event-event.ensures)
+      | in-None w ↦ rw w.self-is (w.take_accepted.ensures.state ∙ ap (next g.M.Consistency.rules (state_in c.args.self.now)) c.event-event.ensures)
     ] in
     is_step g.M.Consistency.rules g.met.M.Consistency.lawful (state_in c.args.self.now) (state_in c.match-refusal_in.self) c.args.step.event c.into_parts-reply.result.0 (c.into_parts-reply.ensures.reply ∙ c.requires.reply) went
+
+pub returns-clause-blames : goal.returns-clause-blames
+returns-clause-blames g c =
+    let rules = g.M.Consistency.rules in
+    let old = c.args.self.now in
+    let plain : is_scan c.args.step.event ≡ false = ap is_scan (sym c.event-event.ensures) ∙ (sym c.is_scan.ensures ∙ c.if-is_scan.false) in
+    let none : c.args.step.verdicts ≡ [] = no_verdicts rules (state_in old) c.args.step.event c.args.step.verdicts plain c.requires.verdicts in
+    let went : AreBlamesAfter rules old c.args.step.event [] c.match-refusal_in.self = elim c.match-refusal_in.branch [
+      | in-Some w ↦ rw w.self-is (subst (λ event. AreBlamesAfter rules old event [] w.take_refused.new.self) c.event-event.ensures w.take_refused.ensures.blames)
+      | in-None w ↦ rw w.self-is (subst (λ event. AreBlamesAfter rules old event [] w.take_accepted.new.self) c.event-event.ensures w.take_accepted.ensures.blames)
+    ] in
+    subst (λ vs. AreBlamesAfter rules old c.args.step.event vs c.match-refusal_in.self) (sym none) went

@@ -7,7 +7,7 @@ use Rattle.lp_transition.proofs.engine.Core.take_accepted.Goals as goal
 pub unreachable-requires : goal.unreachable-requires
 unreachable-requires g c =
     let i = c.self.inside in
-    let e : Engine = record { number = i.events; from = i.from.0; target = i.target.0; patches = i.patches; table = i.tasks } in
+    let e : Engine = record { number = i.events; from = i.from.0; target = i.target.0; patches = i.patches; table = i.tasks; blames = i.blames } in
     let accepted = rw (← c.self.view_is, c.in-Fork.is) at c.requires.accepted in
     let born = rw (← c.self.view_is, c.in-Fork.is, c.in_default.is) at c.requires.born in
     let live = fork-live g.M.Consistency.rules e c.in-Fork.parent c.in-Fork.child c.in-Fork.how accepted in

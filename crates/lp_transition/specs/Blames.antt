@@ -1,0 +1,102 @@
+-- The frame by which a waiting group is known to be refused, and what becomes of it at each event.
+use Rattle.std.specs.Prelude.{◌≡◌, ℕ, ◌<◌, Bool, false, List, map, Option, Some, None, is_none, if◌then◌else◌, nat_eq, slice_index_or}
+use Rattle.std.specs.List.{range_with_len, list_any}
+use Rattle.std.specs.Option.{option_map}
+use Rattle.lp_model.specs.declared.check.CheckKind.{CheckKind}
+use Rattle.lp_model.specs.declared.check.Blame.{Blame}
+use Rattle.lp_model.specs.declared.check.Blame.TheVariants as blame
+use Rattle.lp_model.specs.declared.verdict.Verdict.{Verdict}
+use Rattle.lp_model.specs.Rules.{Rules}
+use Rattle.lp_transition.specs.declared.event.Event.{Event}
+use Rattle.lp_transition.specs.declared.refusal.Refusal.{Refusal}
+use Rattle.lp_transition.specs.declared.engine.blames.StandingBlame.{StandingBlame}
+use Rattle.lp_transition.specs.Events.{is_control}
+use Rattle.lp_transition.specs.Tasks.{on_live, first_of}
+use Rattle.lp_transition.specs.Leg.{State}
+use Rattle.lp_transition.specs.Machine.{view_of, affected, refusal_of}
+use Rattle.lp_transition.specs.Table.{Engine, state_in}
+use Rattle.lp_transition.specs.Weigh.{AreVerdictsFor}
+
+-- ---- Who is refused
+
+-- a frame with this serial is on the stack of a live task
+abbrev pub has_frame_in : State → (task serial : ℕ) → Bool
+has_frame_in s t serial = on_live false (λ x. list_any (λ frame. nat_eq frame.serial serial) x.frames) (s.tasks t)
+
+-- the blame of a task, if it is a live member of the group that a check of this kind refuses
+abbrev pub blame_in : Rules → State → CheckKind → (group task : ℕ) → Option Blame
+blame_in model s kind group t =
+    on_live None (λ x. if nat_eq x.group group then model.blame kind (view_of t x) s.aim else None) (s.tasks t)
+
+-- the member of least number that a check of this kind refuses, with its blame
+abbrev pub first_blamed_in : Rules → State → CheckKind → (group : ℕ) → Option (ℕ × Blame)
+first_blamed_in model s kind group =
+    first_of (map (λ t. option_map (λ why. (t, why)) (blame_in model s kind group t)) (range_with_len 1 s.bounds.tasks))
+
+-- the verdict's task and blame, if it refuses a member of the group
+abbrev pub member_verdict : State → (group : ℕ) → Verdict → Option (ℕ × Blame)
+member_verdict s group verdict =
+    if on_live false (λ x. nat_eq x.group group) (s.tasks verdict.task.0)
+    then option_map (λ why. (verdict.task.0, why)) verdict.blame
+    else None
+
+-- the first of these verdicts that refuses a member of the group
+abbrev pub first_refused : State → (group : ℕ) → List Verdict → Option (ℕ × Blame)
+first_refused s group verdicts = first_of (map (member_verdict s group) verdicts)
+
+-- ---- Standing blames
+
+-- the standing blame of a group
+abbrev pub blame_of : Engine → (group : ℕ) → Option StandingBlame
+blame_of e group = slice_index_or e.blames group None
+
+-- the group has no standing blame
+abbrev pub is_open : Engine → (group : ℕ) → Bool
+is_open e group = is_none (blame_of e group)
+
+-- a refusal for a frame is a blame that stands
+abbrev pub frame_blame : Option (ℕ × Blame) → Option StandingBlame
+frame_blame (Some (t, blame.Frame serial)) = Some (record { task = record { 0 = t }; serial = serial })
+frame_blame (Some (t, blame.Busy)) = None
+frame_blame (Some (t, blame.Unused)) = None
+frame_blame None = None
+
+-- the blame, while its frame is on its task's stack
+abbrev pub while_there : State → Option StandingBlame → Option StandingBlame
+while_there s None = None
+while_there s (Some b) = if has_frame_in s b.task.0 b.serial then Some b else None
+
+-- the one that stands, or else the other
+abbrev pub or_blame : Option StandingBlame → Option StandingBlame → Option StandingBlame
+or_blame None found = found
+or_blame (Some b) found = Some b
+
+-- ---- One event
+
+module _ (model : Rules) (e : Engine) (event : Event) (verdicts : List Verdict) (group : ℕ) where
+  -- the group's blame after an accepted event. It goes at a control event, and when its frame is popped; a scan finds
+  -- one of a group that has none where it refuses its first member for a frame. An exit and an idle point find none, since
+  -- they are refused while there is a frame
+  abbrev pub blame_taken : Option StandingBlame
+  blame_taken =
+      if is_control event then None
+      else or_blame (while_there (affected model (state_in e) event) (blame_of e group)) (frame_blame (first_refused (state_in e) group verdicts))
+
+  abbrev pub blame_by : Option Refusal → Option StandingBlame
+  blame_by None = blame_taken
+  blame_by (Some why) = blame_of e group
+
+  -- the group's blame after the event, which these verdicts answered
+  abbrev pub blame_after : Option StandingBlame
+  blame_after = blame_by (refusal_of model (state_in e) event)
+
+-- the event, answered by these verdicts, leaves the blames that it has to
+abbrev pub AreBlamesAfter : Rules → Engine → Event → List Verdict → Engine → Type 0
+AreBlamesAfter model old event verdicts new =
+    (group : ℕ) → group < 65536 → blame_of new group ≡ blame_after model old event verdicts group
+
+-- the same, by verdicts with which the event may be answered
+pub record HasBlamesAfter (model : Rules) (old : Engine) (event : Event) (new : Engine) : Type 0 where
+  pub verdicts : List Verdict
+  pub enough : AreVerdictsFor model (state_in old) event verdicts
+  pub blames : AreBlamesAfter model old event verdicts new

@@ -1,0 +1,215 @@
+//! The frames by which the waiting groups are known to be refused.
+ghost use Rattle.std.specs.Prelude.{◌≡◌, ◌<◌, ◌≤◌, ℕ, List, Option, None, false, if◌then◌else◌, length, nat_eq, slice_index_or, IfOk};
+ghost use Rattle.std.specs.List.{list_any};
+ghost use Rattle.lp_numbers.specs.Numbers.{has};
+ghost use Rattle.lp_transition.specs.Table.{slot};
+ghost use Rattle.lp_transition.specs.Blames.{or_blame};
+ghost use Rattle.lp_transition.specs.inside.Blames.{blame_at, looked_at, found_by, told_of, IsDecided};
+
+use super::scan::member_from;
+use super::task_table::TaskTable;
+use lp_model::{Blame, Verdict};
+use lp_numbers::{NUMBERS, NumberSet};
+use lp_stack::{Frame, GroupId, TaskId};
+use std::alloc::{AllocError, Global};
+use std::marker::Model;
+
+/// A frame on the stack of a waiting task. Until it is popped or the leg ends, every check of the
+/// task's group is refused.
+#[derive(Clone, Copy, Debug, PartialEq, Eq)]
+pub struct StandingBlame {
+    /// The task.
+    pub task: TaskId,
+    /// The serial of the frame.
+    pub serial: u64,
+}
+
+/// For each group its standing blame, if it has one. Only `new` allocates.
+#[derive(Drop)]
+pub(super) struct Blames {
+    of_group: Vec<Option<StandingBlame>>,
+    /// The groups that got a blame since the last control event, so that one needn't go over all.
+    noted: NumberSet,
+    /// The groups of which the present scan refused a member; of use in a scan alone.
+    decided: NumberSet,
+}
+
+impl Model for Blames {
+    ghost use Rattle.std.specs.Prelude.{List, Option};
+    ghost use Rattle.lp_transition.specs.declared.engine.blames.StandingBlame.{StandingBlame};
+    ghost use Rattle.lp_transition.specs.inside.Blames.{AreNoted};
+
+    ghost Value = { List (Option StandingBlame) };
+
+    ghost view = { λ b. b.of_group.items };
+
+    ghost invariant = { λ b. AreNoted b.of_group.items b.noted };
+}
+
+impl Blames {
+    /// No group has a blame; AllocError where an allocation failed.
+    pub(super) fn new(alloc: Global) -> Result<Blames, AllocError>
+        ensures none { IfOk result (λ blames. (group : ℕ) → blame_at blames group ≡ None) }
+        ensures groups { IfOk result (λ blames. length blames ≡ 65536) }
+    {
+        Ok(Blames {
+            of_group: no_blames(alloc)?,
+            noted: NumberSet::new(alloc)?,
+            decided: NumberSet::new(alloc)?,
+        })
+    }
+
+    /// The standing blame of a group.
+    pub(super) fn of(&self, group: GroupId) -> Option<StandingBlame>
+        ensures { result ≡ blame_at self.now group.0 }
+    {
+        self.of_group[usize::from(group.0)]
+    }
+
+    /// Against another target a blame says nothing.
+    pub(super) fn clear(&mut self)
+        ensures none { (group : ℕ) → blame_at self.new group ≡ None }
+        ensures groups { length self.new ≡ 65536 }
+    {
+        clear_members(&mut self.of_group, &self.noted);
+        self.noted.clear();
+    }
+
+    /// After a return of a task. Of one that doesn't wait no blame stands, and a look at its bit is all
+    /// that it costs.
+    #[inline(always)]
+    pub(super) fn popped(&mut self, waiting: &NumberSet, tasks: &TaskTable, task: TaskId)
+        ensures blames { (group : ℕ) → blame_at self.new group ≡ (if has waiting.now task.0 then looked_at tasks.now task.0 group (blame_at self.old group) else blame_at self.old group) }
+        ensures groups { length self.new ≡ 65536 }
+    {
+        let _ = &self.of_group;
+        if waiting.contains(task.0) {
+            self.look_again(tasks, task);
+        }
+    }
+
+    /// The group's blame goes where it names a frame of this task that is on the stack no longer.
+    fn look_again(&mut self, tasks: &TaskTable, task: TaskId)
+        ensures blames { (group : ℕ) → blame_at self.new group ≡ looked_at tasks.now task.0 group (blame_at self.old group) }
+        ensures groups { length self.new ≡ 65536 }
+    {
+        let _ = &self.of_group;
+        let Some(live) = tasks.get(task) else {
+            return;
+        };
+        let group = live.group();
+        let Some(blame) = self.of(group) else {
+            return;
+        };
+        if blame.task.0 != task.0 {
+            return;
+        }
+        if has_serial(live.view(task).frames, blame.serial) {
+            return;
+        }
+        self.of_group[usize::from(group.0)] = None;
+    }
+
+    /// After a scan: a group without a blame gets that of the first member that was refused, if
+    /// that was for a frame.
+    pub(super) fn note(&mut self, tasks: &TaskTable, verdicts: &[Verdict])
+        ensures blames { (group : ℕ) → group < 65536 → blame_at self.new group ≡ or_blame (blame_at self.old group) (found_by tasks.now group verdicts.now) }
+        ensures groups { length self.new ≡ 65536 }
+    {
+        self.decided.clear();
+        decide_all(
+            &mut self.of_group,
+            &mut self.noted,
+            &mut self.decided,
+            tasks,
+            verdicts,
+        );
+    }
+}
+
+/// A place for each group.
+fn no_blames(alloc: Global) -> Result<Vec<Option<StandingBlame>>, AllocError>
+    ensures none { IfOk result (λ blames. (group : ℕ) → blame_at blames.items group ≡ None) }
+    ensures groups { IfOk result (λ blames. length blames.items ≡ 65536) }
+{
+    let mut blames = Vec::with_capacity(alloc, NUMBERS)?;
+    while blames.len() < NUMBERS {
+        blames.push(None)?;
+    }
+    Ok(blames)
+}
+
+/// Takes out the blames of some groups, of which alone there are any.
+fn clear_members(of_group: &mut Vec<Option<StandingBlame>>, groups: &NumberSet)
+    requires count { length of_group.old.items ≡ 65536 }
+    requires others { (group : ℕ) → has groups.now group ≡ false → blame_at of_group.old.items group ≡ None }
+    ensures none { (group : ℕ) → blame_at of_group.new.items group ≡ None }
+    ensures count { length of_group.new.items ≡ 65536 }
+{
+    let mut from = 0usize;
+    while let Some(number) = member_from(groups, from) {
+        of_group[usize::from(number)] = None;
+        from = usize::from(number) + 1;
+    }
+}
+
+/// Whether a frame has a serial.
+fn has_serial(frames: &[Frame], serial: u64) -> bool
+    ensures { result ≡ list_any (λ frame. nat_eq frame.serial serial) frames.now }
+{
+    frames.iter().any(|frame| u64::from(frame.serial) == serial)
+}
+
+/// The verdicts are by increasing task number: the first that refuses a member of a group decides.
+fn decide_all(
+    of_group: &mut Vec<Option<StandingBlame>>,
+    noted: &mut NumberSet,
+    decided: &mut NumberSet,
+    tasks: &TaskTable,
+    verdicts: &[Verdict],
+)
+    requires count { length of_group.old.items ≡ 65536 }
+    requires others { (group : ℕ) → has noted.old group ≡ false → blame_at of_group.old.items group ≡ None }
+    requires undecided { (group : ℕ) → has decided.old group ≡ false }
+    ensures blames { (group : ℕ) → group < 65536 → blame_at of_group.new.items group ≡ or_blame (blame_at of_group.old.items group) (found_by tasks.now group verdicts.now) }
+    ensures count { length of_group.new.items ≡ 65536 }
+    ensures others { (group : ℕ) → has noted.new group ≡ false → blame_at of_group.new.items group ≡ None }
+{
+    for verdict in verdicts {
+        decide(of_group, noted, decided, tasks, verdict);
+    }
+}
+
+/// Where this verdict is the first that refuses a member of its group, it decides of the group.
+fn decide(
+    of_group: &mut Vec<Option<StandingBlame>>,
+    noted: &mut NumberSet,
+    decided: &mut NumberSet,
+    tasks: &TaskTable,
+    verdict: &Verdict,
+)
+    requires { length of_group.old.items ≡ 65536 }
+    ensures { IsDecided (λ group. told_of tasks.now group verdict.now) of_group.old.items of_group.new.items noted.old noted.new decided.old decided.new }
+{
+    let Some(why) = verdict.blame else {
+        return;
+    };
+    let Some(group) = tasks.group_of(verdict.task) else {
+        return;
+    };
+    if decided.contains(group.0) {
+        return;
+    }
+    decided.insert(group.0);
+    let place = usize::from(group.0);
+    let Blame::Frame(serial) = why else {
+        return;
+    };
+    if of_group[place].is_none() {
+        noted.insert(group.0);
+        of_group[place] = Some(StandingBlame {
+            task: verdict.task,
+            serial,
+        });
+    }
+}
