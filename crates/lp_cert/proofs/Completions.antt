@@ -108,7 +108,7 @@ module _ (model : Rules) where
       let there = or_some (find (passes leg) (range_with_len 0 n)) n in
       (there.0, ap (find (passes leg)) (range_up n) ∙ (find-append (passes leg) (range_with_len 0 n) (n ∷ []) ∙ (ap (option_or (find (passes leg) (range_with_len 0 n))) (cond-true (passes leg n) (Some n) None e) ∙ there.1)))
 
-  completion_up : (leg : Leg) (event : Event) → completion model (and_then leg event) ≡ option_or (completion model leg) (if is_complete_now model (and_then leg event) then Some (suc (length leg.events)) else None)
+  pub completion_up : (leg : Leg) (event : Event) → completion model (and_then leg event) ≡ option_or (completion model leg) (if is_complete_now model (and_then leg event) then Some (suc (length leg.events)) else None)
   unfolding is_complete_now completion
   completion_up leg event =
       let n = length leg.events in

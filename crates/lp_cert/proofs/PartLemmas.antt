@@ -1,8 +1,10 @@
 -- Parts of lists of reasons.
-use Rattle.std.proofs.Common.{◌≡◌, ℕ, zero, suc, ◌+◌, ◌-◌, ◌<◌, List, [], ◌∷◌, ◌++◌, take, drop, Option, Some, None, IfNone, option_to_list, refl, sym, ap, ap₂, subst, ◌∙◌, arith}
+use Rattle.std.proofs.Common.{◌≡◌, ℕ, zero, suc, ◌+◌, ◌-◌, ◌<◌, List, [], ◌∷◌, ◌++◌, length, get_or, set, take, drop, Option, Some, None, IfNone, option_to_list, refl, sym, ap, ap₂, subst, ◌∙◌, arith}
 use Rattle.std.specs.List.{AllByRecursion, slice_get}
-use Rattle.std.proofs.lemmas.List.{append-nil, append_assoc, take_all}
+use Rattle.std.proofs.lemmas.List.{append-nil, append_assoc, drop-drop, get_or-set_other, get_or-set_same, take_all}
+use borrow.Author.Count.{below_more}
 use Rattle.lp_cert.specs.declared.reason.Reason.{Reason}
+use Rattle.lp_cert.specs.inside.Parts.{AreWithout, IsWithout}
 
 pub all_prefix : {A : Type 0} (P : A → Type 0) (xs ys : List A) → AllByRecursion P (xs ++ ys) → AllByRecursion P xs
 all_prefix P [] ys all = tt
@@ -56,3 +58,34 @@ module _ (ongoing left taken : Option Reason) (this : List Reason) (count : ℕ)
   nothing_left =
       subst (λ (o : Option Reason). IfNone taken (option_to_list o ++ take count this ≡ [])) is
       (subst (λ n. IfNone taken (option_to_list taken ++ take n this ≡ [])) (sym none) (none_then taken))
+
+-- ---- Places of a list without some of its newest reasons
+
+module _ (lists : List (List Reason)) (list first place : ℕ) where
+  -- without one more
+  pub next_without : (at older : ℕ) → IsWithout lists list (first + place) at → older < length lists → get_or lists older [] ≡ drop 1 (get_or lists at []) → IsWithout lists list (first + (place + 1)) older
+  next_without at older is known on =
+      let more : first + place + 1 ≡ first + (place + 1) = omega arith in
+      record {
+        known = known;
+        rest = on ∙ (ap (drop 1) is.rest ∙ (drop-drop 1 (first + place) (get_or lists list []) ∙ ap (λ n. drop n (get_or lists list [])) more));
+      }
+
+  -- one place more is found
+  pub one_found : (run : List ℕ) (at : ℕ) → place < length run → ((k : ℕ) → k < place → IsWithout lists list (first + k) (get_or run k 0)) → IsWithout lists list (first + place) at
+      → (k : ℕ) → k < place + 1 → IsWithout lists list (first + k) (get_or (set run place at) k 0)
+  one_found run at wide each here =
+      below_more (λ k. IsWithout lists list (first + k) (get_or (set run place at) k 0)) place
+      (λ k low. subst (λ p. IsWithout lists list (first + k) p) (sym (get_or-set_other run place k at 0 (λ (e : k ≡ place). absurd (omega arith)))) (each k low))
+      (subst (λ p. IsWithout lists list (first + place) p) (sym (get_or-set_same run place at 0 wide)) here)
+
+module _ (lists : List (List Reason)) (list first left : ℕ) (places : List ℕ) (found : AreWithout lists list first left places) (some : first < left) where
+  -- the last place found is that of the oldest reason that is left
+  pub oldest_found : IsWithout lists list (left - 1) (get_or places (left - 1 - first) 0)
+  oldest_found =
+      let at : first + (left - 1 - first) ≡ left - 1 = omega arith in
+      subst (λ n. IsWithout lists list n (get_or places (left - 1 - first) 0)) at (found.each (left - 1 - first) (omega arith))
+
+  -- it is among sixteen
+  pub place_below : left - 1 - first < 16
+  place_below = omega (arith, found.few)

@@ -1,5 +1,5 @@
 -- How the legs of a run ended, with their certificates, and what is made of a run so far.
-use Rattle.std.specs.Prelude.{◌≡◌, ℕ, ◌+◌, Bool, true, ◌&&◌, List, [], ◌∷◌, ◌++◌, map, drop, length, Option, Some, None, is_none, if◌then◌else◌, nat_eq, slice_get}
+use Rattle.std.specs.Prelude.{◌≡◌, ℕ, ◌+◌, Bool, true, ◌&&◌, List, [], ◌∷◌, ◌++◌, map, drop, length, Option, Some, None, is_none, is_some, false, if◌then◌else◌, nat_eq, slice_get}
 use Rattle.std.specs.List.{find}
 use Rattle.std.specs.Option.{option_map}
 use Rattle.lp_model.specs.Rules.{Rules}
@@ -61,6 +61,11 @@ waiting_in (Some leg) group = if is_none leg.completed then find (λ cert. nat_e
 abbrev pub floor_in : Option LegEnd → Option Cert
 floor_in None = None
 floor_in (Some leg) = if is_none leg.completed then option_map (λ (cert : Cert). record cert { claim = Floor }) (slice_get leg.certs 0) else None
+
+-- the leg is complete
+abbrev pub is_complete_in : Option LegEnd → Bool
+is_complete_in None = false
+is_complete_in (Some leg) = is_some leg.completed
 
 -- ---- The legs of a run
 

@@ -1,10 +1,14 @@
 //! Lists of reasons that share their older parts.
 ghost use Rattle.std.specs.Prelude.{◌≡◌, ◌+◌, ◌<◌, ◌≤◌, [], ◌∷◌, ◌++◌, Some, drop, length, slice_get, slice_index_or, IfOk, OnOk};
 ghost use Rattle.lp_cert.specs.inside.Chains.{IsTail};
+ghost use Rattle.lp_cert.specs.inside.Parts.{AreWithout};
 
 use crate::reason::Reason;
 use std::alloc::{AllocError, Global};
 use std::marker::Model;
+
+/// How many lists are found by one search.
+pub(crate) const RUN: usize = 16;
 
 /// One of the lists.
 #[derive(Clone, Copy, Default)]
@@ -131,6 +135,34 @@ impl Chains {
             at = self.further(at, kept);
         }
         at
+    }
+
+    /// The places of a list without so many of its newest reasons, without one more, and so on, before
+    /// it is without another number of them: one search, and then a link each.
+    pub(crate) fn run(&self, id: ChainId, first: usize, end: usize) -> [usize; RUN]
+        requires known { id.0 < length self.now.lists }
+        requires order { first ≤ end }
+        requires few { end ≤ first + 16 }
+        requires enough { end ≤ length (slice_index_or self.now.lists id.0 []) }
+        ensures { AreWithout self.now.lists id.0 first end result }
+    {
+        let mut run = [0; RUN];
+        let mut at = self.without(id, first);
+        for place in 0..end - first {
+            run[place] = at.0;
+            at = self.older(at);
+        }
+        run
+    }
+
+    /// A list without its newest reason, where it isn't empty.
+    fn older(&self, id: ChainId) -> ChainId
+        requires known { id.0 < length self.now.lists }
+        requires some { 0 < length (slice_index_or self.now.lists id.0 []) }
+        ensures known { result.0 < length self.now.lists }
+        ensures list { slice_index_or self.now.lists result.0 [] ≡ drop 1 (slice_index_or self.now.lists id.0 []) }
+    {
+        self.entries[id.0 - 1].older
     }
 
     /// A list further back that still has so many reasons, as far as one link leads.

@@ -7,7 +7,7 @@ ghost use Rattle.lp_transition.specs.Table.{state_in};
 ghost use Rattle.lp_transition.specs.Weigh.{IsWeighed, may_allocate};
 ghost use Rattle.lp_transition.specs.Machine.{answer};
 ghost use Rattle.lp_transition.specs.declared.engine.step.Halt.TheVariants.{NoMemory, JournalFull};
-ghost use Rattle.lp_cert.specs.Ends.{IsFresh, IsMadeOf, floor_in, is_opening, is_plain, room_for, waiting_in};
+ghost use Rattle.lp_cert.specs.Ends.{IsFresh, IsMadeOf, floor_in, is_complete_in, is_opening, is_plain, room_for, waiting_in};
 ghost use Rattle.lp_cert.specs.LastScan.{Suffices};
 ghost use Rattle.lp_cert.specs.Invariant.{end_waiters};
 ghost use Rattle.lp_cert.specs.inside.Invariant.{HasClosing, HasFloor, HasFloors, IsClosing, IsStepped, IsUnchangedOn, ends_with, leg_at, waiting_cert};
@@ -277,6 +277,17 @@ impl Maker {
             ended.push(leg.end(noted, list, chains, scans))?;
         }
         Ok(ended)
+    }
+
+    /// Whether the leg under way is complete; false where there is none. Its end stays the same from
+    /// then on.
+    pub fn is_complete(&self) -> bool
+        ensures { result ≡ is_complete_in self.now.current }
+    {
+        match self.current {
+            Some(leg) => leg.completed.is_some(),
+            None => false,
+        }
     }
 
     /// The ends of the legs that ended, borrowed.

@@ -1,12 +1,23 @@
 //! The reasons of a group with the oldest first, without memory.
 ghost use Rattle.std.specs.Prelude.{◌≡◌, ◌<◌, [], ◌++◌, length, option_to_list, slice_index_or, IfNone};
+ghost use Rattle.lp_cert.specs.inside.Parts.{AreWithout, IsPart};
 
-use crate::chains::{ChainId, Chains};
+use crate::chains::{ChainId, Chains, RUN};
 use crate::reason::Reason;
 use std::marker::Model;
 
+/// Places that are found already: of a list without so many of its newest reasons, without one
+/// more, and so on.
+#[derive(Clone, Copy)]
+pub(crate) struct Found {
+    /// How many reasons the list at the first place is without.
+    pub(crate) first: usize,
+    /// The places.
+    pub(crate) places: [usize; RUN],
+}
+
 /// The reasons of a group that are left, of which the oldest comes next. No call allocates, and each
-/// follows some `log n` links of a list of `n` reasons.
+/// sixteenth follows some `log n` links of a list of `n` reasons.
 ///
 /// Contracts see these reasons, the newest in front.
 #[derive(Drop)]
@@ -16,18 +27,20 @@ pub(crate) struct OldestFirst<'a> {
     list: ChainId,
     /// How many reasons of the list are left, its newest.
     left: usize,
+    /// Where the oldest of those that are left begin.
+    found: Found,
 }
 
 impl<'a> Model for OldestFirst<'a> {
     ghost use Rattle.std.specs.Prelude.{◌++◌, List, [], option_to_list, slice_index_or, take};
     ghost use Rattle.lp_cert.specs.declared.reason.Reason.{Reason};
-    ghost use Rattle.lp_cert.specs.inside.Parts.{IsPart};
+    ghost use Rattle.lp_cert.specs.inside.Parts.{AreWithout, IsPart};
 
     ghost Value = { List Reason };
 
     ghost view = { λ o. option_to_list o.ongoing ++ take o.left (slice_index_or o.chains.now.lists o.list.0 []) };
 
-    ghost invariant = { λ o. IsPart o.chains.now.lists o.list.0 o.left };
+    ghost invariant = { λ o. IsPart o.chains.now.lists o.list.0 o.left × AreWithout o.chains.now.lists o.list.0 o.found.first o.left o.found.places };
 }
 
 impl<'a> OldestFirst<'a> {
@@ -36,11 +49,16 @@ impl<'a> OldestFirst<'a> {
         requires { list.0 < length chains.now.lists }
         ensures { result ≡ option_to_list ongoing ++ slice_index_or chains.now.lists list.0 [] }
     {
+        let left = chains.count(list);
         OldestFirst {
             chains,
             ongoing,
             list,
-            left: chains.count(list),
+            left,
+            found: Found {
+                first: left,
+                places: [0; RUN],
+            },
         }
     }
 
@@ -52,8 +70,25 @@ impl<'a> OldestFirst<'a> {
         if self.left == 0 {
             return self.ongoing.take();
         }
+        find(self.chains, self.list, self.left, &mut self.found);
         self.left -= 1;
-        let oldest = self.chains.without(self.list, self.left);
+        let oldest = ChainId(self.found.places[self.left - self.found.first]);
         Some(self.chains.newest(oldest))
     }
+}
+
+/// Finds the oldest of so many reasons of a list, unless it is found already.
+#[inline(always)]
+fn find(chains: &Chains, list: ChainId, left: usize, found: &mut Found)
+    requires some { 0 < left }
+    requires part { IsPart chains.now.lists list.0 left }
+    requires found { AreWithout chains.now.lists list.0 found.old.first left found.old.places }
+    ensures some { found.new.first < left }
+    ensures found { AreWithout chains.now.lists list.0 found.new.first left found.new.places }
+{
+    if found.first < left {
+        return;
+    }
+    found.first = left.saturating_sub(RUN);
+    found.places = chains.run(list, found.first, left);
 }
