@@ -19,7 +19,8 @@ use std::alloc::Global;
 /// How the first leg of a trace ended under a model, as `replay` tells it; None where no event
 /// opened one, NoMemory where an allocation failed.
 ///
-/// The events behind the leg's end aren't taken, and neither replies nor stays are kept.
+/// The events behind the leg's end aren't taken, nor are those behind its completion, from which on
+/// its end stays the same. Neither replies nor stays are kept.
 pub fn first_leg_end<M: Consistency>(
     alloc: Global,
     model: M,
@@ -33,7 +34,7 @@ pub fn first_leg_end<M: Consistency>(
     first_of(alloc, maker)
 }
 
-/// Takes these events up to the one that ends the first leg.
+/// Takes these events up to the one that completes or ends the first leg.
 fn take_first_leg<M: Consistency>(
     alloc: Global,
     core: &mut Core<M>,
@@ -45,6 +46,9 @@ fn take_first_leg<M: Consistency>(
 {
     for event in events {
         take(alloc, core, maker, *event)?;
+        if maker.is_complete() {
+            return Ok(());
+        }
         if !maker.ended().is_empty() {
             return Ok(());
         }
