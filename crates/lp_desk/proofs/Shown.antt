@@ -16,7 +16,7 @@ use Rattle.lp_board.specs.Pages.{IsHeading, Leads}
 use Rattle.lp_board.specs.declared.sheet.Heading.{Heading}
 use Rattle.lp_board.specs.declared.sheet.Update.{Update}
 use Rattle.lp_board.proofs.Runs.{stands-there, after-more}
-use Rattle.lp_log.specs.declared.entry.Entry.{Entry}
+use Rattle.lp_log.specs.Entries.{Entry}
 use Rattle.lp_log.specs.Journals.{Written, and_entry, events_in, next_entry, run_of}
 use Rattle.lp_log.proofs.Longer.{length_map, map_append, number_is}
 use Rattle.lp_desk.specs.Books.{IsOf, IsShown, first_journal}

@@ -1,7 +1,7 @@
 -- The least difference of the seats, as one seat after another is looked at.
 use Rattle.std.proofs.Common.{ℕ, ◌<◌, ◌++◌, ◌∷◌, [], List, All, Option, Some, None, IfSome, refl, arith, get_or}
 use Rattle.std.proofs.lemmas.List.Elements.{All-push, Contains-append_left, Contains-push}
-use Rattle.lp_log.specs.declared.entry.Entry.{Entry}
+use Rattle.lp_log.specs.Entries.{Entry}
 use Rattle.lp_log.specs.Seats.{Seated}
 use Rattle.lp_log.specs.Audits.{part_of, DifferAt, IsItsPart, SeatDiffers}
 use Rattle.lp_log.specs.inside.Cursors.{IsLeastDifference}

@@ -6,7 +6,7 @@ use Rattle.std.proofs.lemmas.Bool.Decides.{eqb_tells, nat_tests}
 use Rattle.std.proofs.lemmas.List.{take-append-le, take_all, get_or-set_same, get_or-set_other, get_or-replicate, length-replicate}
 use Rattle.std.proofs.lemmas.List.Sums.{sum_by-cons}
 use Rattle.std.proofs.lemmas.List.Elements.{filter-append}
-use Rattle.lp_log.specs.declared.entry.Entry.{Entry}
+use Rattle.lp_log.specs.Entries.{Entry}
 use Rattle.lp_log.specs.declared.cursor.Cursor.{Cursor}
 use Rattle.lp_log.specs.Journals.{Written}
 use Rattle.lp_log.specs.Seats.{Seated, owner}

@@ -1,5 +1,5 @@
 -- An event that is no check, or comes where nobody is left to switch, switches no group and wants no memory.
-use Rattle.std.proofs.Common.{◌≡◌, ◌<◌, ◌≤◌, arith, suc, ◌&&◌, ◌||◌, Bool, true, false, not, List, [], ◌∷◌, ℕ, filter, refl, ap, subst, sym, ◌∙◌, if◌then◌else◌}
+use Rattle.std.proofs.Common.{◌≡◌, ◌<◌, ◌≤◌, arith, suc, ◌&&◌, Bool, true, false, not, List, [], ◌∷◌, ℕ, filter, refl, ap, subst, sym, ◌∙◌, if◌then◌else◌}
 use Rattle.std.specs.Prelude.{Option, Some, None, nat_eq}
 use Rattle.std.specs.List.{range_with_len}
 use mathlib.Core.Path.{fun_ext}
@@ -14,7 +14,7 @@ use Rattle.lp_transition.specs.declared.refusal.Refusal.{Refusal}
 use Rattle.lp_transition.specs.declared.reply.Reply.{Reply}
 use Rattle.lp_transition.specs.declared.reply.What.{What}
 use Rattle.lp_transition.specs.Tasks.{Fate, Unused, Live, Dead, map_live, on_live}
-use Rattle.lp_transition.specs.Leg.{Standing, State, each_live, some_live, some_task}
+use Rattle.lp_transition.specs.Leg.{Standing, State, some_live, some_task}
 use Rattle.lp_transition.specs.Laws.{StepsAsDefined}
 use Rattle.lp_transition.specs.Machine.{affected, answer, answer_by, complete_in, put_in, refusal_of, switched_groups, switches_at, waits_in}
 use Rattle.lp_transition.specs.Run.{Run, switched}

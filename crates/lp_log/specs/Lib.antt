@@ -1,3 +1,4 @@
+pub mod Entries
 pub mod Journals
 pub mod Logs
 pub mod Seats

@@ -1,6 +1,6 @@
 //! How far a list follows its part of the journal.
 ghost use Rattle.std.specs.Prelude.{◌≡◌, ◌↔◌, [], ◌∷◌, ◌++◌, List, IsTrue, MatchBool, Some, slice_get};
-ghost use Rattle.lp_log.specs.declared.entry.Entry.{Entry};
+ghost use Rattle.lp_log.specs.Entries.{Entry};
 ghost use Rattle.lp_log.specs.Audits.{DifferAt};
 ghost use Rattle.lp_log.specs.inside.Cursors.{Follows};
 

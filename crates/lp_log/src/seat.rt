@@ -77,7 +77,7 @@ pub struct Control {
 
 impl Model for Control {
     ghost use Rattle.std.specs.Prelude.{List};
-    ghost use Rattle.lp_log.specs.declared.entry.Entry.{Entry};
+    ghost use Rattle.lp_log.specs.Entries.{Entry};
 
     ghost Value = { List Entry };
 

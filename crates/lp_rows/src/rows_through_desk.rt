@@ -16,11 +16,11 @@ use std::thread::Threads;
 fn journal_lines(alloc: Global, journal: &Journal, trace: &Trace) -> Result<String, Trouble> {
     let mut text = String::new(alloc);
     for (index, entry) in journal.entries().iter().enumerate() {
-        if trace.events().get(index) != Some(&entry.event) {
-            writeln!(text, "{} of another event", entry.number)?;
+        if trace.events().get(index) != Some(&entry.event()) {
+            writeln!(text, "{} of another event", entry.number())?;
             return Ok(text);
         }
-        add_reply(&mut text, trace.form(), entry.number as usize, &entry.reply)?;
+        add_reply(&mut text, trace.form(), entry.number() as usize, &entry.reply(alloc)?)?;
     }
     Ok(text)
 }

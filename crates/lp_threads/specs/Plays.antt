@@ -2,7 +2,7 @@
 use Rattle.std.specs.Prelude.{◌≡◌, ℕ, ◌-◌, List, ◌++◌, length, decimal, codes}
 use Rattle.lp_model.specs.Rules.{Rules}
 use Rattle.lp_text.specs.Traces.{TraceValue}
-use Rattle.lp_log.specs.declared.entry.Entry.{Entry}
+use Rattle.lp_log.specs.Entries.{Entry}
 use Rattle.lp_log.specs.Audits.{IsClosed}
 use Rattle.lp_log.specs.Journals.{Written, IsReplayed}
 use Rattle.lp_log.specs.Seats.{Seated}

@@ -231,5 +231,5 @@ fn closed<M: Consistency, N: DeskName, R: Wait + Abort>(
 /// Whether the entries have the numbers from 1, without a gap.
 fn are_numbered(journal: &Journal) -> bool {
     let mut numbers = journal.entries().iter().zip(1u32..);
-    numbers.all(|(entry, number)| entry.number == number)
+    numbers.all(|(entry, number)| entry.number() == number)
 }

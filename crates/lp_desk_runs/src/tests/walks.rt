@@ -47,6 +47,6 @@ fn a_copy_that_has_changed_is_not_used(rt: HostRuntime) -> Result<(), Fail> {
     }
     let reply = log.apply_judged(alloc, &judged)?;
     assert_eq!(rt; in_short(&reply), Said::SwitchedLast(1));
-    assert_eq!(rt; log.entries().last().map(|entry| entry.number), Some(8));
+    assert_eq!(rt; log.entries().last().map(|entry| entry.number()), Some(8));
     Ok(())
 }

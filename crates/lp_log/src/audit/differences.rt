@@ -1,6 +1,6 @@
 //! Where the entries of a seat differ from its task's part.
 ghost use Rattle.std.specs.Prelude.{◌≡◌, ◌<◌, ◌↔◌, ◌++◌, ◌∷◌, [], List, length, IsTrue, IfSome, MatchOption};
-ghost use Rattle.lp_log.specs.declared.entry.Entry.{Entry};
+ghost use Rattle.lp_log.specs.Entries.{Entry};
 ghost use Rattle.lp_log.specs.Audits.{control_part, part_of, DifferAt};
 ghost use Rattle.lp_log.specs.inside.Cursors.{AllFollow, Follows, IsLeastDifference};
 ghost use Rattle.lp_log.specs.Seats.{Seated};

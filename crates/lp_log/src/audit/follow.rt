@@ -1,6 +1,6 @@
 //! One pass over the journal, with a cursor for each seat.
 ghost use Rattle.std.specs.Prelude.{◌≡◌, ◌∷◌, ◌++◌, [], List, ℕ, None, false, length, replicate, IfOk};
-ghost use Rattle.lp_log.specs.declared.entry.Entry.{Entry};
+ghost use Rattle.lp_log.specs.Entries.{Entry};
 ghost use Rattle.lp_log.specs.Audits.{control_part};
 ghost use Rattle.lp_log.specs.inside.Cursors.{AllFollow, AreDistinct, ArePlaces, Follows, cursor_at, place_at, place_of};
 ghost use Rattle.lp_log.specs.Seats.{owner};
@@ -9,7 +9,6 @@ use crate::cursor::Cursor;
 use crate::sender::owner;
 use crate::{Entry, Seat};
 use lp_numbers::NUMBERS;
-use lp_transition::Event;
 use std::alloc::{AllocError, Global};
 
 /// How far the entries of each seat follow its task's part.
@@ -35,7 +34,7 @@ fn follow(cursors: &mut [Cursor], seats: &[Seat], places: &[Option<usize>], entr
     requires count { length cursors.old ≡ length seats.now }
     ensures { (before : List Entry) → AllFollow before seats.now cursors.old → AllFollow (before ++ entry.now ∷ []) seats.now cursors.new }
 {
-    if let Some(place) = place_of(places, entry.event) {
+    if let Some(place) = place_of(places, entry) {
         let cursor = cursors[place];
         cursors[place] = cursor.after(seats[place].entries(), entry);
     }
@@ -47,7 +46,7 @@ pub(super) fn followed_control(entries: &[Entry], control: &[Entry]) -> Cursor
 {
     let mut cursor = Cursor::start();
     for entry in entries {
-        if owner(entry.event).is_none() {
+        if owner(entry.event()).is_none() {
             cursor = cursor.after(control, entry);
         }
     }
@@ -66,12 +65,12 @@ fn places(alloc: Global, seats: &[Seat]) -> Result<Vec<Option<usize>>, AllocErro
     Ok(places)
 }
 
-/// The place of the seat of the task whose event it is, if it has one.
-fn place_of(places: &[Option<usize>], event: Event) -> Option<usize>
+/// The place of the seat of the task whose event the entry has, if there is one.
+fn place_of(places: &[Option<usize>], entry: &Entry) -> Option<usize>
     requires { length places.now ≡ 65536 }
-    ensures { result ≡ place_of places.now (owner event) }
+    ensures { result ≡ place_of places.now (owner entry.now.event) }
 {
-    match owner(event) {
+    match owner(entry.event()) {
         Some(task) => places[usize::from(task)],
         None => None,
     }

@@ -96,11 +96,8 @@ impl<M: Consistency> Log<M> {
         ensures journal { self.new.journal ≡ and_entry self.old.journal ready.event result }
     {
         let Ready { step, answer } = ready;
-        let entry = Entry {
-            number: self.entries.len() as u32 + 1,
-            event: step.event(),
-            reply: answer,
-        };
+        let number = self.entries.len() as u32 + 1;
+        let entry = Entry::new(number, step.event(), answer);
         self.entries.push_reserved(entry);
         self.core.take(step)
     }

@@ -128,11 +128,7 @@ impl<M: Consistency> Log<M> {
         let number = self.next_number();
         let event = ready.step().event();
         let reply = self.commit(ready);
-        sent.push_reserved(Entry {
-            number,
-            event,
-            reply: answer,
-        });
+        sent.push_reserved(Entry::new(number, event, answer));
         reply
     }
 

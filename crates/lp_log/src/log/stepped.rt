@@ -48,11 +48,7 @@ impl<M: Consistency> Log<M> {
         sent.reserve(1)?;
         let number = self.next_number();
         let reply = self.step_reserved(alloc, event);
-        sent.push_reserved(Entry {
-            number,
-            event,
-            reply: copy_of(&reply),
-        });
+        sent.push_reserved(Entry::new(number, event, copy_of(&reply)));
         Ok(reply)
     }
 
@@ -70,11 +66,8 @@ impl<M: Consistency> Log<M> {
         let Ok(reply) = self.core.step(alloc, event) else {
             unreachable!()
         };
-        self.entries.push_reserved(Entry {
-            number,
-            event,
-            reply: copy_of(&reply),
-        });
+        self.entries
+            .push_reserved(Entry::new(number, event, copy_of(&reply)));
         reply
     }
 }

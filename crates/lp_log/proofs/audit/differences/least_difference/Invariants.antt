@@ -1,5 +1,5 @@
 use Rattle.std.proofs.Common.{List, take}
-use Rattle.lp_log.specs.declared.entry.Entry.{Entry}
+use Rattle.lp_log.specs.Entries.{Entry}
 use Rattle.lp_log.specs.inside.Cursors.{AllFollow, IsLeastDifference}
 use Rattle.lp_log.proofs.audit.differences.least_difference.Given as goal
 

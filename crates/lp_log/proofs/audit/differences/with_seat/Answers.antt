@@ -1,6 +1,6 @@
 use Rattle.std.proofs.Common.{◌≡◌, ◌<◌, ◌++◌, ◌∷◌, ◌∙◌, ℕ, [], List, subst, sym, true, IfSome}
 use Rattle.std.proofs.lemmas.Bool.Decides.{when_true, when_false}
-use Rattle.lp_log.specs.declared.entry.Entry.{Entry}
+use Rattle.lp_log.specs.Entries.{Entry}
 use Rattle.lp_log.specs.Audits.{DifferAt, IsItsPart, SeatDiffers, part_of}
 use Rattle.lp_log.specs.inside.Cursors.{Follows}
 use Rattle.lp_log.proofs.Differences.{alike_more, later_more, differs_more}

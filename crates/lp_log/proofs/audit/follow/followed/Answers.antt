@@ -1,6 +1,6 @@
 use Rattle.std.proofs.Common.{◌≡◌, ◌∙◌, ◌++◌, ◌+◌, ◌∷◌, [], List, ap, arith, length, subst, sym, take, drop}
 use Rattle.std.proofs.lemmas.List.{take_more}
-use Rattle.lp_log.specs.declared.entry.Entry.{Entry}
+use Rattle.lp_log.specs.Entries.{Entry}
 use Rattle.lp_log.specs.declared.cursor.Cursor.{Cursor}
 use Rattle.lp_log.specs.inside.Cursors.{AllFollow}
 use Rattle.lp_log.proofs.Places.{all_follow_none_yet, wrote_all}
