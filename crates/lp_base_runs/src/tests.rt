@@ -22,13 +22,26 @@ const B: SymId = SymId(1);
 
 const C: SymId = SymId(2);
 
+/// No names, in a box: docs/GATE.md says why.
+fn none(alloc: Global) -> Result<Box<Symbols>, SymFault> {
+    Ok(Box::new(alloc, Symbols::new(alloc)?)?)
+}
+
 /// The symbols `a`, `b` and `c`.
-fn three(alloc: Global) -> Result<Symbols, SymFault> {
-    let mut symbols = Symbols::new(alloc)?;
+fn three(alloc: Global) -> Result<Box<Symbols>, SymFault> {
+    let mut symbols = none(alloc)?;
     for name in ["a", "b", "c"] {
         symbols.add(name)?;
     }
     Ok(symbols)
+}
+
+/// The same. Where an allocation fails, the same calls make them.
+fn three_again(alloc: Global) -> Result<Box<Symbols>, SymFault> {
+    match three(alloc) {
+        Err(SymFault::NoMemory) => three(alloc),
+        answer => answer,
+    }
 }
 
 /// A patch of each of these symbols.
@@ -42,11 +55,22 @@ fn single(alloc: Global, symbols: &Symbols, ids: &[SymId]) -> Result<Vec<PatchSe
     Ok(sets)
 }
 
-/// A stack over `a`, `b` and `c` with a patch of each of these, in a box: docs/GATE.md says why.
-fn stacked(alloc: Global, ids: &[SymId]) -> Result<Box<PatchStack>, Fail> {
-    let symbols = three(alloc)?;
-    let sets = single(alloc, &symbols, ids)?;
-    Ok(Box::new(alloc, PatchStack::new(alloc, sets)?)?)
+/// A stack over these symbols with a patch of each of these, in a box.
+fn stacked_over(
+    alloc: Global,
+    symbols: &Symbols,
+    ids: &[SymId],
+) -> Result<Box<PatchStack>, PatchFault> {
+    let stack = PatchStack::new(alloc, single(alloc, symbols, ids)?)?;
+    Ok(Box::new(alloc, stack)?)
+}
+
+/// A stack over `a`, `b` and `c` with a patch of each of these.
+fn stacked(alloc: Global, ids: &[SymId]) -> Result<Box<PatchStack>, PatchFault> {
+    match three(alloc) {
+        Ok(symbols) => stacked_over(alloc, &symbols, ids),
+        Err(_) => Err(PatchFault::NoMemory),
+    }
 }
 
 /// A call at a level.

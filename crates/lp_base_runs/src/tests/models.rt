@@ -4,47 +4,48 @@ use lp_model::{Blame, CheckKind, Consistency, ForkKind, Verdict, lowest_stale};
 use lp_models::{AllAtOnce, Hybrid, Immediate, LeaveKernel, ModelName};
 use lp_patch::Aim;
 use lp_process::ProcessGroup;
-use lp_stack::GroupId;
-use std::process::Abort;
-use std::test::*;
+use lp_stack::{GroupId, View};
 
-const KINDS: [CheckKind; 4] = [
-    CheckKind::KernelExit,
-    CheckKind::IdlePoint,
-    CheckKind::Walk,
-    CheckKind::Stop,
-];
-
-/// Task 1 with calls at level 0, of which the first has serial 2, the next 3 and so on, in a box:
-/// docs/GATE.md says why.
-fn task_in(alloc: Global, mode: Mode, funcs: &[SymId]) -> Result<Box<TaskStack>, Fail> {
+/// Task 1 with calls at level 0, of which the first has serial 2, the next 3 and so on, in a box.
+fn task_in(alloc: Global, mode: Mode, funcs: &[SymId]) -> Result<Box<TaskStack>, PatchFault> {
     let mut stack = Box::new(alloc, TaskStack::new(TaskId(1), Class::Normal, mode))?;
-    for (func, serial) in funcs.iter().zip(2..) {
-        let _ = stack.push(frame(*func, 0, serial));
-    }
+    push_all(&mut stack, funcs);
     Ok(stack)
 }
 
-/// What a model blames a task for at each kind of check.
-fn blames<M: Consistency>(
-    rt: &impl Abort,
+fn push_all(stack: &mut TaskStack, funcs: &[SymId]) {
+    for (func, serial) in funcs.iter().zip(2..) {
+        let _ = stack.push(frame(*func, 0, serial));
+    }
+}
+
+/// Whether a model blames task 1 for this at a kind of check, in each of its calls.
+fn is_blamed<M: Consistency>(
     model: M,
     aim: &Aim<'_>,
-    task: &TaskStack,
-) -> [Option<Blame>; 4] {
-    let mut found = [None; 4];
-    for (i, kind) in KINDS.into_iter().enumerate() {
-        let verdict = Verdict::of(&model, kind, &task.view(), aim);
-        assert_eq!(rt; verdict.task, TaskId(1));
-        assert_eq!(rt; model.blame(kind, &task.view(), aim), verdict.blame);
-        assert_eq!(rt; model.uses(kind), verdict.blame != Some(Blame::Unused));
-        assert_eq!(rt;
-            model.admits(kind, &task.view(), aim),
-            verdict.blame.is_none()
-        );
-        found[i] = verdict.blame;
-    }
-    found
+    view: &View<'_>,
+    kind: CheckKind,
+    want: Option<Blame>,
+) -> bool {
+    let verdict = Verdict::of(&model, kind, view, aim);
+    verdict.task == TaskId(1)
+        && verdict.blame == want
+        && model.blame(kind, view, aim) == want
+        && model.uses(kind) == (want != UNUSED)
+        && model.admits(kind, view, aim) == want.is_none()
+}
+
+/// What a model blames a task for at a kernel exit, an idle point, a walk and a stop.
+type Blames = [Option<Blame>; 4];
+
+/// Whether a model blames a task for these.
+fn are_blamed<M: Consistency>(model: M, aim: &Aim<'_>, task: &TaskStack, want: &Blames) -> bool {
+    let view = task.view();
+    let [exit, idle, walk, stop] = *want;
+    is_blamed(model, aim, &view, CheckKind::KernelExit, exit)
+        && is_blamed(model, aim, &view, CheckKind::IdlePoint, idle)
+        && is_blamed(model, aim, &view, CheckKind::Walk, walk)
+        && is_blamed(model, aim, &view, CheckKind::Stop, stop)
 }
 
 const UNUSED: Option<Blame> = Some(Blame::Unused);
@@ -54,8 +55,8 @@ const BUSY: Option<Blame> = Some(Blame::Busy);
 /// The frame of serial 2.
 const FIRST: Option<Blame> = Some(Blame::Frame(2));
 
-/// What hybrid, leave-kernel, all-at-once and immediate blame a task for, at each kind of check.
-type Blamed = [[Option<Blame>; 4]; 4];
+/// What hybrid, leave-kernel, all-at-once and immediate blame a task for.
+type Blamed = [Blames; 4];
 
 const ASLEEP_IN_C: Blamed = [
     [None, None, None, UNUSED],
@@ -78,107 +79,164 @@ const ON_A_CPU: Blamed = [
     [None; 4],
 ];
 
-/// What these four models blame a task with these calls for, on the way to a patch of `a`.
-fn blamed(rt: &impl Abort, alloc: Global, mode: Mode, funcs: &[SymId]) -> Result<Blamed, Fail> {
-    let patches = stacked(alloc, &[A])?;
-    let task = task_in(alloc, mode, funcs)?;
+/// A task with these calls in a mode, and what each of the four blames it for.
+const BLAMED: [(Mode, &[SymId], &Blamed); 4] = [
+    (Mode::Asleep, &[C], &ASLEEP_IN_C),
+    (Mode::Asleep, &[A, C], &ASLEEP_IN_A),
+    (Mode::User, &[], &ON_A_CPU),
+    (Mode::Kernel, &[], &ON_A_CPU),
+];
+
+/// Whether each of the four blames a task for these, on the way to a patch of `a`.
+fn each_blames(patches: &PatchStack, task: &TaskStack, want: &Blamed) -> bool {
     let aim = Aim {
-        patches: &patches,
+        patches,
         target: Level(1),
     };
-    Ok([
-        blames(rt, Hybrid, &aim, &task),
-        blames(rt, LeaveKernel, &aim, &task),
-        blames(rt, AllAtOnce, &aim, &task),
-        blames(rt, Immediate, &aim, &task),
-    ])
+    let [hybrid, leave_kernel, all_at_once, immediate] = want;
+    are_blamed(Hybrid, &aim, task, hybrid)
+        && are_blamed(LeaveKernel, &aim, task, leave_kernel)
+        && are_blamed(AllAtOnce, &aim, task, all_at_once)
+        && are_blamed(Immediate, &aim, task, immediate)
+}
+
+/// How many of the rows of `BLAMED` are right, up to the first that isn't.
+fn rows_right(alloc: Global, patches: &PatchStack) -> Result<usize, PatchFault> {
+    for (row, (mode, funcs, want)) in BLAMED.into_iter().enumerate() {
+        let task = task_in(alloc, mode, funcs)?;
+        if !each_blames(patches, &task, want) {
+            return Ok(row);
+        }
+    }
+    Ok(BLAMED.len())
 }
 
 #[test]
 fn models_blame_frames_and_cpus(rt: HostRuntime) -> Result<(), Fail> {
-    let alloc = rt.alloc();
-    assert_eq!(rt; blamed(&rt, alloc, Mode::Asleep, &[C])?, ASLEEP_IN_C);
-    assert_eq!(rt; blamed(&rt, alloc, Mode::Asleep, &[A, C])?, ASLEEP_IN_A);
-    assert_eq!(rt; blamed(&rt, alloc, Mode::User, &[])?, ON_A_CPU);
-    assert_eq!(rt; blamed(&rt, alloc, Mode::Kernel, &[])?, ON_A_CPU);
+    let patches = stacked(rt.alloc(), &[A])?;
+    assert!(rt; rows_right(rt.alloc(), &patches)? == 4);
     Ok(())
 }
 
 /// A task with these calls in a mode, and what process-group blames it for at each kind of check.
-const BLAMED_IN_A_GROUP: [(Mode, &[SymId], [Option<Blame>; 4]); 4] = [
+const BLAMED_IN_A_GROUP: [(Mode, &[SymId], Blames); 4] = [
     (Mode::User, &[], [None, None, None, UNUSED]),
     (Mode::Kernel, &[], [None, None, BUSY, UNUSED]),
     (Mode::Asleep, &[], [None, None, None, UNUSED]),
     (Mode::Kernel, &[A], [FIRST, FIRST, FIRST, UNUSED]),
 ];
 
+/// How many of these rows are right, up to the first that isn't.
+fn rows_right_in_a_group(alloc: Global, patches: &PatchStack) -> Result<usize, PatchFault> {
+    let aim = Aim {
+        patches,
+        target: Level(1),
+    };
+    for (row, (mode, funcs, want)) in BLAMED_IN_A_GROUP.into_iter().enumerate() {
+        let task = task_in(alloc, mode, funcs)?;
+        if !are_blamed(ProcessGroup, &aim, &task, &want) {
+            return Ok(row);
+        }
+    }
+    Ok(BLAMED_IN_A_GROUP.len())
+}
+
 #[test]
 fn process_group_blames_frames_and_the_kernel(rt: HostRuntime) -> Result<(), Fail> {
     let patches = stacked(rt.alloc(), &[A])?;
+    assert!(rt; rows_right_in_a_group(rt.alloc(), &patches)? == 4);
+    Ok(())
+}
+
+/// Calls of a task, and the serial of the lowest that is stale.
+const LOWEST: [([SymId; 3], Option<u64>); 4] = [
+    ([C, C, C], None),
+    ([C, A, C], Some(3)),
+    ([C, A, A], Some(3)),
+    ([C, C, A], Some(4)),
+];
+
+/// How many of these are right, up to the first that isn't.
+fn lowest_right(alloc: Global, patches: &PatchStack) -> Result<usize, PatchFault> {
     let aim = Aim {
-        patches: &patches,
+        patches,
         target: Level(1),
     };
-    for (mode, funcs, want) in BLAMED_IN_A_GROUP {
-        let task = task_in(rt.alloc(), mode, funcs)?;
-        assert_eq!(rt; blames(&rt, ProcessGroup, &aim, &task), want);
+    for (row, (funcs, lowest)) in LOWEST.into_iter().enumerate() {
+        let task = task_in(alloc, Mode::User, &funcs)?;
+        if lowest_stale(&task.view(), &aim) != lowest {
+            return Ok(row);
+        }
     }
-    Ok(())
+    Ok(LOWEST.len())
 }
 
 #[test]
 fn the_lowest_stale_frame(rt: HostRuntime) -> Result<(), Fail> {
     let patches = stacked(rt.alloc(), &[A])?;
-    let aim = Aim {
-        patches: &patches,
-        target: Level(1),
-    };
-    for (funcs, lowest) in [
-        ([C, C, C], None),
-        ([C, A, C], Some(3)),
-        ([C, A, A], Some(3)),
-        ([C, C, A], Some(4)),
-    ] {
-        let task = task_in(rt.alloc(), Mode::User, &funcs)?;
-        assert_eq!(rt; lowest_stale(&task.view(), &aim), lowest);
-    }
+    assert!(rt; lowest_right(rt.alloc(), &patches)? == 4);
     Ok(())
 }
 
-/// The groups of task 7, and of a child 9 of group 3 by each kind of fork; and whether calls stay
-/// whole.
-fn groups<M: Consistency>(model: M) -> ([GroupId; 3], bool) {
-    let first = model.first_group(TaskId(7));
-    let own = model.child_group(GroupId(3), TaskId(9), ForkKind::Own);
-    let share = model.child_group(GroupId(3), TaskId(9), ForkKind::Share);
-    ([first, own, share], model.whole_call())
+/// Whether task 7 has this group, and a child 9 of group 3 these, by a fork of its own and a shared one.
+fn are_groups<M: Consistency>(model: M, first: u16, own: u16, share: u16) -> bool {
+    model.first_group(TaskId(7)) == GroupId(first)
+        && model.child_group(GroupId(3), TaskId(9), ForkKind::Own) == GroupId(own)
+        && model.child_group(GroupId(3), TaskId(9), ForkKind::Share) == GroupId(share)
+}
+
+/// Whether the models have their groups.
+fn have_groups() -> bool {
+    are_groups(Hybrid, 7, 9, 9)
+        && are_groups(LeaveKernel, 7, 9, 9)
+        && are_groups(AllAtOnce, 0, 3, 3)
+        && are_groups(Immediate, 7, 9, 9)
+        && are_groups(ProcessGroup, 7, 9, 3)
+}
+
+/// Whether `immediate` alone lets calls be torn.
+fn keep_calls_whole() -> bool {
+    Hybrid.whole_call()
+        && LeaveKernel.whole_call()
+        && AllAtOnce.whole_call()
+        && !Immediate.whole_call()
+        && ProcessGroup.whole_call()
 }
 
 #[test]
 fn groups_of_tasks(rt: HostRuntime) {
-    let alone = [GroupId(7), GroupId(9), GroupId(9)];
-    let together = [GroupId(0), GroupId(3), GroupId(3)];
-    let process = [GroupId(7), GroupId(9), GroupId(3)];
-    assert_eq!(rt; groups(Hybrid), (alone, true));
-    assert_eq!(rt; groups(LeaveKernel), (alone, true));
-    assert_eq!(rt; groups(AllAtOnce), (together, true));
-    assert_eq!(rt; groups(Immediate), (alone, false));
-    assert_eq!(rt; groups(ProcessGroup), (process, true));
+    assert!(rt; have_groups() && keep_calls_whole());
+}
+
+const NAMES: [(&str, ModelName); 5] = [
+    ("hybrid", ModelName::Hybrid),
+    ("leave-kernel", ModelName::LeaveKernel),
+    ("all-at-once", ModelName::AllAtOnce),
+    ("immediate", ModelName::Immediate),
+    ("process-group", ModelName::ProcessGroup),
+];
+
+/// The first of these names that isn't read, or that the model hasn't.
+fn name_misread() -> Option<&'static str> {
+    for (name, model) in NAMES {
+        if ModelName::read(name) != Some(model) || model.name() != name {
+            return Some(name);
+        }
+    }
+    None
+}
+
+/// The first of these that is read as a name.
+fn no_name_read() -> Option<&'static str> {
+    for other in ["", "Hybrid", "hybrid "] {
+        if ModelName::read(other) != None {
+            return Some(other);
+        }
+    }
+    None
 }
 
 #[test]
 fn names_are_read(rt: HostRuntime) {
-    for (name, model) in [
-        ("hybrid", ModelName::Hybrid),
-        ("leave-kernel", ModelName::LeaveKernel),
-        ("all-at-once", ModelName::AllAtOnce),
-        ("immediate", ModelName::Immediate),
-        ("process-group", ModelName::ProcessGroup),
-    ] {
-        assert_eq!(rt; ModelName::read(name), Some(model));
-        assert_eq!(rt; model.name(), name);
-    }
-    for other in ["", "Hybrid", "hybrid "] {
-        assert_eq!(rt; ModelName::read(other), None, "{other}");
-    }
+    assert!(rt; name_misread() == None && no_name_read() == None);
 }

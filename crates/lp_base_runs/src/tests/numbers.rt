@@ -1,13 +1,13 @@
 //! Sets of numbers through inserts, removals and walks.
 use super::*;
 use lp_numbers::NumberSet;
-use std::test::*;
+use std::alloc::AllocError;
 
 /// Members at the ends of words of 64 numbers, and at the ends of runs of 64 words.
 const MEMBERS: [u16; 9] = [0, 1, 63, 64, 4_095, 4_096, 4_160, 65_472, 65_535];
 
 /// The set of these numbers, in a box: docs/GATE.md says why.
-fn set_of(alloc: Global, numbers: &[u16]) -> Result<Box<NumberSet>, Fail> {
+fn set_of(alloc: Global, numbers: &[u16]) -> Result<Box<NumberSet>, AllocError> {
     let mut set = Box::new(alloc, NumberSet::new(alloc)?)?;
     for number in numbers {
         set.insert(*number);
@@ -15,8 +15,11 @@ fn set_of(alloc: Global, numbers: &[u16]) -> Result<Box<NumberSet>, Fail> {
     Ok(set)
 }
 
+/// From where a walk begins, and the member that it meets.
+type Walk = (u16, Option<u16>);
+
 /// The first of these walks that ends elsewhere.
-fn other_walk(set: &NumberSet, walks: &[(u16, Option<u16>)]) -> Option<u16> {
+fn other_walk(set: &NumberSet, walks: &[Walk]) -> Option<u16> {
     for (from, want) in walks {
         if set.next(*from) != *want {
             return Some(*from);
@@ -25,8 +28,8 @@ fn other_walk(set: &NumberSet, walks: &[(u16, Option<u16>)]) -> Option<u16> {
     None
 }
 
-/// From where a walk over all of `MEMBERS` begins, and the member that it meets.
-const WALKS: [(u16, Option<u16>); 11] = [
+/// Walks over all of `MEMBERS`.
+const WALKS: [Walk; 11] = [
     (0, Some(0)),
     (1, Some(1)),
     (2, Some(63)),
@@ -40,61 +43,93 @@ const WALKS: [(u16, Option<u16>); 11] = [
     (65_535, Some(65_535)),
 ];
 
-#[test]
-fn a_walk_meets_each_member(rt: HostRuntime) -> Result<(), Fail> {
-    let set = set_of(rt.alloc(), MEMBERS.as_slice())?;
-    assert_eq!(rt; other_walk(&set, &WALKS), None);
-    Ok(())
+/// Walks over 0 and 64.
+const SHORT_WALKS: [Walk; 3] = [(64, Some(64)), (65, None), (65_535, None)];
+
+/// Sets, and walks over each.
+const SETS: [(&[u16], &[Walk]); 2] = [(&MEMBERS, &WALKS), (&[0, 64], &SHORT_WALKS)];
+
+/// The first of these walks over the set of these numbers that ends elsewhere.
+fn other_walk_over(
+    alloc: Global,
+    numbers: &[u16],
+    walks: &[Walk],
+) -> Result<Option<u16>, AllocError> {
+    let set = set_of(alloc, numbers)?;
+    Ok(other_walk(&set, walks))
 }
 
 #[test]
-fn a_walk_ends_past_the_last_member(rt: HostRuntime) -> Result<(), Fail> {
-    let set = set_of(rt.alloc(), &[0, 64])?;
-    let walks = [(64, Some(64)), (65, None), (65_535, None)];
-    assert_eq!(rt; other_walk(&set, &walks), None);
+fn a_walk_meets_each_member_and_ends_past_the_last(rt: HostRuntime) -> Result<(), Fail> {
+    for (numbers, walks) in SETS {
+        assert!(rt; other_walk_over(rt.alloc(), numbers, walks)? == None);
+    }
     Ok(())
+}
+
+/// Walks after 0, 64, 4,096 and 65,472 were removed.
+const WALKS_PAST: [Walk; 4] = [
+    (0, Some(1)),
+    (64, Some(4_095)),
+    (4_096, Some(4_160)),
+    (4_161, Some(65_535)),
+];
+
+fn remove(set: &mut NumberSet, numbers: &[u16]) {
+    for number in numbers {
+        set.remove(*number);
+    }
 }
 
 #[test]
 fn what_is_removed_is_passed_over(rt: HostRuntime) -> Result<(), Fail> {
-    let mut set = set_of(rt.alloc(), MEMBERS.as_slice())?;
-    for number in [0, 64, 4_096, 65_472, 5] {
-        set.remove(number);
-    }
-    let walks = [
-        (0, Some(1)),
-        (64, Some(4_095)),
-        (4_096, Some(4_160)),
-        (4_161, Some(65_535)),
-    ];
-    assert_eq!(rt; other_walk(&set, &walks), None);
-    assert!(rt; !set.contains(64));
-    assert!(rt; set.contains(63));
+    let mut set = set_of(rt.alloc(), &MEMBERS)?;
+    remove(&mut set, &[0, 64, 4_096, 65_472, 5]);
+    let (walk, removed, kept) = (
+        other_walk(&set, &WALKS_PAST),
+        set.contains(64),
+        set.contains(63),
+    );
+    assert!(rt; walk == None && !removed && kept);
     Ok(())
+}
+
+/// Whether an empty set is empty, but where it has a member.
+fn is_empty_without_members(set: &mut NumberSet) -> bool {
+    let new = set.is_empty();
+    set.insert(65_535);
+    let inserted = set.is_empty();
+    set.remove(65_535);
+    let removed = set.is_empty();
+    set.insert(7);
+    set.clear();
+    new && !inserted && removed && set.is_empty() && set.next(0) == None
 }
 
 #[test]
 fn a_set_is_empty_until_it_has_a_member(rt: HostRuntime) -> Result<(), Fail> {
     let mut set = set_of(rt.alloc(), &[])?;
-    assert!(rt; set.is_empty());
-    set.insert(65_535);
-    assert!(rt; !set.is_empty());
-    set.remove(65_535);
-    assert!(rt; set.is_empty());
-    set.insert(7);
-    set.clear();
-    assert!(rt; set.is_empty());
-    assert_eq!(rt; set.next(0), None);
+    assert!(rt; is_empty_without_members(&mut set));
     Ok(())
+}
+
+/// Whether a copy changes alone, and is then made anew.
+fn is_apart(set: &NumberSet, copied: &mut NumberSet) -> bool {
+    copied.remove(64);
+    let apart = copied.next(4) == Some(128) && set.next(4) == Some(64);
+    copied.copy_from(set);
+    apart && copied.next(4) == Some(64)
+}
+
+/// Whether a copy of a set is one of its own.
+fn is_copied(alloc: Global, set: &NumberSet) -> Result<bool, AllocError> {
+    let mut copied = Box::new(alloc, set.copy(alloc)?)?;
+    Ok(is_apart(set, &mut copied))
 }
 
 #[test]
 fn sets_are_copied(rt: HostRuntime) -> Result<(), Fail> {
     let set = set_of(rt.alloc(), &[3, 64, 128])?;
-    let mut copied = Box::new(rt.alloc(), set.copy(rt.alloc())?)?;
-    copied.remove(64);
-    assert_eq!(rt; (copied.next(4), set.next(4)), (Some(128), Some(64)));
-    copied.copy_from(&set);
-    assert_eq!(rt; copied.next(4), Some(64));
+    assert!(rt; is_copied(rt.alloc(), &set)?);
     Ok(())
 }

@@ -1,113 +1,145 @@
 //! Names: their numbers, which are taken, and how many.
 use super::*;
-use std::process::Abort;
-use std::test::*;
 
-/// No names, in a box: docs/GATE.md says why.
-fn none(alloc: Global) -> Result<Box<Symbols>, SymFault> {
-    Ok(Box::new(alloc, Symbols::new(alloc)?)?)
+/// Whether an empty list numbers two names in order.
+fn are_numbered_in_order(symbols: &mut Symbols) -> bool {
+    symbols.is_empty()
+        && symbols.add("schedule") == Ok(SymId(0))
+        && symbols.add("do_exit") == Ok(SymId(1))
+        && !symbols.is_empty()
+        && symbols.len() == 2
+}
+
+/// Whether these two alone are found, by name and by number.
+fn are_found(symbols: &Symbols) -> bool {
+    symbols.find("do_exit") == Some(SymId(1))
+        && symbols.find("do_exi") == None
+        && symbols.name(SymId(0)) == Some("schedule")
+        && symbols.name(SymId(2)) == None
 }
 
 #[test]
 fn numbers_names_in_order(rt: HostRuntime) -> Result<(), Fail> {
     let mut symbols = none(rt.alloc())?;
-    assert!(rt; symbols.is_empty());
-    assert_eq!(rt; symbols.add("schedule")?, SymId(0));
-    assert_eq!(rt; symbols.add("do_exit")?, SymId(1));
-    assert!(rt; !symbols.is_empty());
-    assert_eq!(rt; symbols.len(), 2);
-    assert_eq!(rt; symbols.find("do_exit"), Some(SymId(1)));
-    assert_eq!(rt; symbols.find("do_exi"), None);
-    assert_eq!(rt; symbols.name(SymId(0)), Some("schedule"));
-    assert_eq!(rt; symbols.name(SymId(2)), None);
-    assert_eq!(rt; SymId(65_535).index(), 65_535);
+    assert!(rt; are_numbered_in_order(&mut symbols) && are_found(&symbols));
+    assert!(rt; SymId(65_535).index() == 65_535);
     Ok(())
 }
 
-/// The first of these names to which an empty list answers another fault, or to which it has none.
-fn not_refused<'a>(
-    alloc: Global,
-    names: &[&'a str],
-    fault: SymFault,
-) -> Result<Option<&'a str>, Fail> {
+/// How many of these names an empty list takes, up to the first that it refuses.
+fn taken(alloc: Global, names: &[&str]) -> Result<usize, SymFault> {
     let mut symbols = none(alloc)?;
     for name in names {
-        if symbols.add(name) != Err(fault) || !symbols.is_empty() {
+        if symbols.add(name).is_err() {
+            break;
+        }
+    }
+    Ok(symbols.len())
+}
+
+/// The first of these names that an empty list doesn't call bad, or of which it keeps something.
+fn not_bad<'a>(alloc: Global, names: &[&'a str]) -> Result<Option<&'a str>, SymFault> {
+    let mut symbols = none(alloc)?;
+    for name in names {
+        if symbols.add(name) != Err(SymFault::BadName) || !symbols.is_empty() {
             return Ok(Some(name));
         }
     }
     Ok(None)
 }
 
+/// How many are taken of four names, one of 512 bytes among them.
+fn taken_of_four(alloc: Global) -> Result<usize, SymFault> {
+    let longest = "f".repeat(alloc, 512)?;
+    taken(alloc, &["!", "~", "a.b$c", longest.as_str()])
+}
+
+/// Whether a name of 513 bytes is bad.
+fn is_too_long(alloc: Global) -> Result<bool, SymFault> {
+    let too_long = "f".repeat(alloc, 513)?;
+    Ok(not_bad(alloc, &[too_long.as_str()])? == None)
+}
+
+const BAD: [&str; 6] = ["", " ", "a b", "a\t", "\x7f", "caf\u{e9}"];
+
 #[test]
 fn takes_1_to_512_graphic_bytes(rt: HostRuntime) -> Result<(), Fail> {
-    let longest = "f".repeat(rt.alloc(), 512)?;
-    let too_long = "f".repeat(rt.alloc(), 513)?;
-    let mut symbols = none(rt.alloc())?;
-    for name in ["!", "~", "a.b$c", longest.as_str()] {
-        assert!(rt; symbols.add(name).is_ok(), "{name}");
-    }
-    assert_eq!(rt; symbols.len(), 4);
-    let wrong = [
-        "",
-        " ",
-        "a b",
-        "a\t",
-        "\x7f",
-        "caf\u{e9}",
-        too_long.as_str(),
-    ];
-    assert_eq!(rt; not_refused(rt.alloc(), &wrong, SymFault::BadName)?, None);
+    assert!(rt; taken_of_four(rt.alloc())? == 4);
+    assert!(rt; not_bad(rt.alloc(), &BAD)? == None && is_too_long(rt.alloc())?);
     Ok(())
 }
 
-/// The names `f0` to `f4095`.
-fn full(alloc: Global) -> Result<Box<Symbols>, Fail> {
-    let mut symbols = none(alloc)?;
+/// The number of the name `f` with this number.
+fn add_numbered(alloc: Global, symbols: &mut Symbols, number: u16) -> Result<SymId, SymFault> {
+    let name = format!(in alloc; "f{number}")?;
+    symbols.add(&name)
+}
+
+/// Adds the names `f0` to `f4095`; the first of them that gets another number.
+fn fill(alloc: Global, symbols: &mut Symbols) -> Result<Option<u16>, SymFault> {
     for number in 0..4_096 {
-        let name = format!(in alloc; "f{number}")?;
-        if symbols.add(&name)? != SymId(number) {
-            return Err("it has another number".into());
+        if add_numbered(alloc, symbols, number)? != SymId(number) {
+            return Ok(Some(number));
         }
     }
-    Ok(symbols)
+    Ok(None)
+}
+
+/// Whether 4,096 names are refused others, each for the first fault of it.
+fn is_full(symbols: &mut Symbols) -> bool {
+    symbols.add("f 0") == Err(SymFault::BadName)
+        && symbols.add("f4095") == Err(SymFault::Doubled)
+        && symbols.add("f4096") == Err(SymFault::TooMany)
+        && symbols.len() == 4_096
+        && symbols.find("f4095") == Some(SymId(4_095))
 }
 
 #[test]
 fn refuses_in_order_where_4096_names_are_there(rt: HostRuntime) -> Result<(), Fail> {
-    let mut symbols = full(rt.alloc())?;
-    assert_eq!(rt; symbols.add("f 0"), Err(SymFault::BadName));
-    assert_eq!(rt; symbols.add("f4095"), Err(SymFault::Doubled));
-    assert_eq!(rt; symbols.add("f4096"), Err(SymFault::TooMany));
-    assert_eq!(rt; symbols.len(), 4_096);
-    assert_eq!(rt; symbols.find("f4095"), Some(SymId(4_095)));
+    let mut symbols = none(rt.alloc())?;
+    assert!(rt; fill(rt.alloc(), &mut symbols)? == None && is_full(&mut symbols));
     Ok(())
 }
 
 /// The number that a name is given. Where an allocation fails, nothing changes, and the same call adds it.
-fn added_again(rt: &impl Abort, symbols: &mut Symbols, name: &str) -> Result<SymId, SymFault> {
+fn added_again(symbols: &mut Symbols, name: &str) -> Result<SymId, SymFault> {
     let before = symbols.len();
-    match symbols.add(name) {
-        Err(SymFault::NoMemory) => {
-            assert_eq!(rt; symbols.len(), before);
-            assert_eq!(rt; symbols.find(name), None);
-            symbols.add(name)
-        }
-        answer => answer,
+    let added = symbols.add(name);
+    if added == Err(SymFault::NoMemory) && symbols.len() == before && symbols.find(name) == None {
+        symbols.add(name)
+    } else {
+        added
     }
+}
+
+/// Whether a name has this number, and the first name is found too.
+fn is_added(symbols: &Symbols, name: &str, added: SymId, number: usize) -> bool {
+    added.index() == number
+        && symbols.name(added) == Some(name)
+        && symbols.find("schedule") == Some(SymId(0))
+}
+
+const NAMES: [&str; 5] = ["schedule", "do_exit", "vfs_read", "vfs_write", "kthread"];
+
+/// The first of these names that isn't added in its turn.
+fn not_added(symbols: &mut Symbols) -> Result<Option<&'static str>, SymFault> {
+    for (number, name) in NAMES.into_iter().enumerate() {
+        let added = added_again(symbols, name)?;
+        if !is_added(symbols, name, added, number) {
+            return Ok(Some(name));
+        }
+    }
+    Ok(None)
 }
 
 /// For `scripts/refuse-memory`: a failed allocation changes nothing, and the same call succeeds
 /// after it.
 #[test]
 fn adds_again_after_a_failed_allocation(rt: HostRuntime) -> Result<(), Fail> {
-    let mut symbols = none(rt.alloc()).or_else(|_| none(rt.alloc()))?;
-    let names = ["schedule", "do_exit", "vfs_read", "vfs_write", "kthread"];
-    for (number, name) in names.into_iter().enumerate() {
-        let added = added_again(&rt, &mut symbols, name)?;
-        assert_eq!(rt; added.index(), number);
-        assert_eq!(rt; symbols.name(added), Some(name));
-        assert_eq!(rt; symbols.find("schedule"), Some(SymId(0)));
-    }
+    let mut symbols = match none(rt.alloc()) {
+        Err(_) => none(rt.alloc())?,
+        Ok(symbols) => symbols,
+    };
+    assert!(rt; not_added(&mut symbols)? == None);
     Ok(())
 }
