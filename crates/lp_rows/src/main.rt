@@ -24,17 +24,22 @@ use std::thread::Threads;
 use std::{fs, io};
 use trouble::Trouble;
 
-const FILES: [&str; 10] = [
+const FILES: [&str; 15] = [
     "models.rows",
     "legs.rows",
     "tasks.rows",
     "stacked.rows",
     "faults.rows",
+    "lines.rows",
+    "shapes.rows",
+    "causes.rows",
     "inputs.rows",
+    "reasons.rows",
     "frames.rows",
     "births.rows",
     "floors.rows",
     "numbers.rows",
+    "refusals.rows",
 ];
 
 /// What was played.
