@@ -125,7 +125,7 @@ impl<M: Consistency + Sync> Log<M> {
         self.core.events() < u64::from(MOST_EVENTS) && self.core.model().uses(kind)
     }
 
-    /// A walk or a stop, weighed after a look at every waiting task, by several threads.
+    /// A walk or a stop, weighed after a look, by several threads, at every waiting task whose group has no standing blame.
     fn weigh_looked<R: Threads + Sync, G: ScanGate + Sync>(
         &self,
         rt: &R,
@@ -142,7 +142,7 @@ impl<M: Consistency + Sync> Log<M> {
         ensures weighed { IfOk result (λ step. IsWeighed M.rules self.now.core step) }
         ensures event { IfOk result (λ step. step.event ≡ scan_event kind) }
     {
-        let views = self.core.views(alloc)?;
+        let views = self.core.open_views(alloc)?;
         let aim = self.core.aim();
         let model = self.core.model();
         let found = scan_shared(
@@ -155,7 +155,7 @@ impl<M: Consistency + Sync> Log<M> {
             &aim,
             views.as_slice(),
         )?;
-        self.weigh_scan(alloc, kind, found.as_slice())
+        self.weigh_open(alloc, kind, found.as_slice())
     }
 }
 

@@ -3,7 +3,9 @@ ghost use Rattle.std.specs.Prelude.{◌≡◌, ◌≢◌, ◌≤◌, ◌↔◌, 
 ghost use Rattle.lp_stack.specs.TaskView.{seen};
 ghost use Rattle.lp_transition.specs.declared.event.Event.TheVariants.{Walk};
 ghost use Rattle.lp_transition.specs.declared.engine.step.Halt.TheVariants.{JournalFull};
-ghost use Rattle.lp_transition.specs.Scan.{views_of};
+ghost use Rattle.std.specs.List.{filter};
+ghost use Rattle.lp_transition.specs.Blames.{is_open};
+ghost use Rattle.lp_transition.specs.Scan.{is_asked, views_of};
 ghost use Rattle.lp_transition.specs.Table.{state_in};
 ghost use Rattle.lp_transition.specs.Weigh.{IsWeighed};
 ghost use Rattle.lp_log.specs.declared.seat.Cause.TheVariants.{NotYours, JournalFull as Full};
@@ -19,13 +21,14 @@ use lp_transition::{Event, Halt, MOST_EVENTS, Reply, Step};
 use std::alloc::{AllocError, Global};
 
 impl<M: Consistency> Log<M> {
-    /// Copies of the waiting tasks, to be judged while the tasks run on; AllocError where an allocation failed.
+    /// Copies of the waiting tasks whose groups have no standing blame, to be judged while the tasks run on: the other groups
+    /// a walk would refuse. AllocError where an allocation failed.
     pub fn batch(&self, alloc: Global) -> Result<Batch, AllocError>
         ensures target { IfOk result (λ batch. batch.target.0 ≡ self.now.core.target) }
         ensures patches { IfOk result (λ batch. batch.patches ≡ self.now.core.patches) }
-        ensures copies { IfOk result (λ batch. batch.copies.items ≡ views_of (state_in self.now.core)) }
+        ensures copies { IfOk result (λ batch. batch.copies.items ≡ filter (λ view. is_asked (state_in self.now.core) (is_open self.now.core) view.task) (views_of (state_in self.now.core))) }
     {
-        let views = self.core.views(alloc)?;
+        let views = self.core.open_views(alloc)?;
         let copies = copies_of(alloc, views.as_slice())?;
         let aim = self.core.aim();
         let patches = aim.patches.copy(alloc)?;
@@ -55,7 +58,7 @@ impl<M: Consistency> Log<M> {
 
     /// Takes a walk by what was judged before, and adds it to the journal with the answer. What was found of a copy is
     /// used where the patches and the target are the present ones and the copy shows the task as it is; every other
-    /// waiting task is looked at. Where it fails the engine and the journal are as they were: NoMemory where an allocation
+    /// waiting task is looked at, unless its group has a standing blame. Where it fails the engine and the journal are as they were: NoMemory where an allocation
     /// failed, JournalFull where no event is left.
     pub fn apply_judged(&mut self, alloc: Global, judged: &Judged<M>) -> Result<Reply, Halt>
         ensures full { (result ≡ Err JournalFull) ↔ (1000000 ≤ length self.old.journal.entries) }
@@ -77,10 +80,10 @@ impl<M: Consistency> Log<M> {
         if self.is_full() {
             return Err(Halt::JournalFull);
         }
-        let views = self.core.views(alloc)?;
+        let views = self.core.open_views(alloc)?;
         let aim = self.core.aim();
         let found = judged.find(alloc, &aim, views.as_slice())?;
-        self.weigh_scan(alloc, CheckKind::Walk, found.as_slice())
+        self.weigh_open(alloc, CheckKind::Walk, found.as_slice())
     }
 
     /// Whether no number is left for one more event.

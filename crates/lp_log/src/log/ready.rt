@@ -1,6 +1,7 @@
 //! An event is made ready, which allocates all that it needs, and then taken, which never allocates.
 ghost use Rattle.std.specs.Prelude.{◌≡◌, ◌≤◌, ◌<◌, ◌↔◌, true, Err, IfOk, OnErr, OnOk, length};
-ghost use Rattle.lp_transition.specs.Scan.{is_scan_kind, scan_event, verdicts_of};
+ghost use Rattle.lp_transition.specs.Scan.{is_scan_kind, scan_event, verdicts_among, verdicts_of};
+ghost use Rattle.lp_transition.specs.Blames.{is_open};
 ghost use Rattle.lp_transition.specs.Table.{state_in};
 ghost use Rattle.lp_transition.specs.Weigh.{IsWeighed};
 ghost use Rattle.lp_transition.specs.declared.engine.step.Halt.TheVariants.{JournalFull};
@@ -75,6 +76,22 @@ impl<M: Consistency> Log<M> {
         ensures event { IfOk result (λ step. step.event ≡ scan_event kind) }
     {
         self.core.weigh_scan(alloc, kind, verdicts)
+    }
+
+    /// A walk or a stop, weighed by what its checks found of the waiting tasks whose groups have no standing blame.
+    pub fn weigh_open(
+        &self,
+        alloc: Global,
+        kind: CheckKind,
+        verdicts: &[Verdict],
+    ) -> Result<Step, Halt>
+        requires scan { is_scan_kind kind ≡ true }
+        requires found { verdicts.now ≡ verdicts_among M.rules kind (state_in self.now.core) (is_open self.now.core) }
+        ensures full { (result ≡ Err JournalFull) ↔ (1000000 ≤ length self.now.journal.entries) }
+        ensures weighed { IfOk result (λ step. IsWeighed M.rules self.now.core step) }
+        ensures event { IfOk result (λ step. step.event ≡ scan_event kind) }
+    {
+        self.core.weigh_open(alloc, kind, verdicts)
     }
 
     /// Allocates all that the entry of an event needs: what fails here has changed nothing, and `commit` can't fail.
