@@ -12,6 +12,7 @@ pub mod Strays
 pub mod FirstBad
 pub mod GapLines
 pub mod Stages
+pub mod NoLeg
 pub mod Held
 pub mod MarkLines
 pub mod SpanLines

@@ -1,8 +1,9 @@
 //! The check of a certificate.
-ghost use Rattle.std.specs.Prelude.{◌≡◌, ◌⊎◌, None, Some, Ok, Err, IfOk, MatchResult};
+ghost use Rattle.std.specs.Prelude.{◌≡◌, ◌⊎◌, true, None, Some, Ok, Err, IfOk, MatchResult};
 ghost use Rattle.lp_checker.specs.Folds.{leg_with};
 ghost use Rattle.lp_checker.specs.Laws.{Holds};
 ghost use Rattle.lp_checker.specs.Verdict.{no_leg, same_claim, verdict_on};
+ghost use Rattle.lp_checker.specs.declared.fault.CertFault.TheVariants.{NoLeg};
 
 use crate::CertFault;
 use crate::births::birth_fault;
@@ -26,7 +27,7 @@ const MOST_EVENTS: u64 = 1_000_000;
 /// The first fault: C6 for another claim or leg, or an end outside of the leg or past event
 /// 1,000,000; C5 for the first `born` line at fault; C1 for a group that is none; C3 or C2 for the
 /// first other line at fault; C4 for the first check that no line covers. C7 (`NoMemory`) comes in
-/// place of any answer, only where an allocation failed.
+/// place of any answer but C6, only where an allocation failed.
 pub fn check_waiting<M: Consistency>(
     alloc: Global,
     model: M,
@@ -35,6 +36,8 @@ pub fn check_waiting<M: Consistency>(
     cert: &Cert,
 ) -> Result<(), CertFault>
     ensures answer { MatchResult result (λ _. verdict_on M.rules (leg_with opening.now events.now) Claim.Waiting cert.now ≡ None) (λ fault. fault ≡ CertFault.NoMemory ⊎ verdict_on M.rules (leg_with opening.now events.now) Claim.Waiting cert.now ≡ Some fault) }
+    // C6 comes before anything is allocated, so want of memory is never told in its place.
+    ensures early { verdict_on M.rules (leg_with opening.now events.now) Claim.Waiting cert.now ≡ Some NoLeg → result ≡ Err NoLeg }
     ensures sound { IfOk result (λ _. Holds M.rules (leg_with opening.now events.now) cert.now) }
 {
     check(alloc, model, opening, events, Claim::Waiting, cert)
@@ -50,12 +53,15 @@ pub fn check_floor<M: Consistency>(
     cert: &Cert,
 ) -> Result<(), CertFault>
     ensures answer { MatchResult result (λ _. verdict_on M.rules (leg_with opening.now events.now) Claim.Floor cert.now ≡ None) (λ fault. fault ≡ CertFault.NoMemory ⊎ verdict_on M.rules (leg_with opening.now events.now) Claim.Floor cert.now ≡ Some fault) }
+    // C6 comes before anything is allocated, so want of memory is never told in its place.
+    ensures early { verdict_on M.rules (leg_with opening.now events.now) Claim.Floor cert.now ≡ Some NoLeg → result ≡ Err NoLeg }
     ensures sound { IfOk result (λ _. Holds M.rules (leg_with opening.now events.now) cert.now) }
 {
     check(alloc, model, opening, events, Claim::Floor, cert)
 }
 
 /// Checks a certificate that is to make a claim.
+#[tactic(auto, using(crate::proofs::NoLeg::found_by_first))]
 fn check<M: Consistency>(
     alloc: Global,
     model: M,
@@ -65,6 +71,7 @@ fn check<M: Consistency>(
     cert: &Cert,
 ) -> Result<(), CertFault>
     ensures answer { MatchResult result (λ _. verdict_on M.rules (leg_with opening.now events.now) claim cert.now ≡ None) (λ fault. fault ≡ CertFault.NoMemory ⊎ verdict_on M.rules (leg_with opening.now events.now) claim cert.now ≡ Some fault) }
+    ensures early { verdict_on M.rules (leg_with opening.now events.now) claim cert.now ≡ Some NoLeg → result ≡ Err NoLeg }
     ensures sound { IfOk result (λ _. Holds M.rules (leg_with opening.now events.now) cert.now) }
 {
     let _ = opening.number();
@@ -83,7 +90,8 @@ fn fault_of<M: Consistency>(
     claim: Claim,
     cert: &Cert,
 ) -> Result<Option<CertFault>, AllocError>
-    ensures { IfOk result (λ fault. fault ≡ verdict_on M.rules (leg_with leg.now.opening.now leg.now.events.now) claim cert.now) }
+    ensures verdict { IfOk result (λ fault. fault ≡ verdict_on M.rules (leg_with leg.now.opening.now leg.now.events.now) claim cert.now) }
+    ensures early { no_leg M.rules (leg_with leg.now.opening.now leg.now.events.now) claim cert.now ≡ true → result ≡ Ok (Some NoLeg) }
 {
     if is_no_leg(model, leg, claim, cert) {
         return Ok(Some(CertFault::NoLeg));

@@ -35,7 +35,7 @@ pub fn run<R: Read, W: Write>(
         (λ trace. Appends (W.contents writer.old) (W.contents writer.new) (report trace.form (name_of model) (outcome (rules_named model) trace)))) }
     ensures headline { OnOk result (ReadsTrace (R.remaining reader.old) (R.remaining reader.new)
         (λ trace. Appends (W.contents writer.old) (W.contents writer.new) (report trace.form (name_of model) (outcome (rules_named model) trace))
-            × Headline (rules_named model) (whole_run trace) (outcome (rules_named model) trace))) }
+        × Headline (rules_named model) (whole_run trace) (outcome (rules_named model) trace))) }
     ensures prefix { IfErr result (λ fault. AtWrite fault (ReadsTrace (R.remaining reader.old) (R.remaining reader.new)
         (λ trace. AppendsPrefix (W.contents writer.old) (W.contents writer.new) (report trace.form (name_of model) (outcome (rules_named model) trace))))) }
     ensures untouched { IfErr result (λ fault. BeforeWriting fault (writer.new ≡ writer.old)) }

@@ -20,7 +20,12 @@ fn journal_lines(alloc: Global, journal: &Journal, trace: &Trace) -> Result<Stri
             writeln!(text, "{} of another event", entry.number())?;
             return Ok(text);
         }
-        add_reply(&mut text, trace.form(), entry.number() as usize, &entry.reply(alloc)?)?;
+        add_reply(
+            &mut text,
+            trace.form(),
+            entry.number() as usize,
+            &entry.reply(alloc)?,
+        )?;
     }
     Ok(text)
 }

@@ -4,14 +4,12 @@ use Rattle.std.specs.Prelude.{◌==◌, if◌then◌else◌}
 use Rattle.std.proofs.lemmas.Bool.{cond-true, cond-false}
 use Rattle.lp_cert.specs.declared.cert.Cert.{Cert}
 use Rattle.lp_cert.specs.declared.line.Line.{Line}
-use Rattle.lp_text.specs.declared.fault.LineFault.{LineFault}
-use Rattle.lp_text.specs.declared.fault.LineFault.TheVariants as line_fault
 use Rattle.lp_text.specs.declared.fault.ReadFault.{ReadFault}
 use Rattle.lp_text.specs.declared.fault.Cause.{Cause}
 use Rattle.lp_text.specs.declared.fault.Cause.TheVariants as cause
 use Rattle.lp_text.specs.declared.fault.TraceFault.{TraceFault}
 use Rattle.lp_text.specs.Faults.{IsReadFault}
-use Rattle.lp_text.specs.inside.LineFaults.{read_fault, IsLineFault}
+use Rattle.lp_text.specs.inside.LineFaults.{cause_at}
 use Rattle.lp_text.specs.inside.Cut.{parts_left}
 use Rattle.lp_text.specs.Words.{parts, words}
 use Rattle.lp_text.specs.Reading.{◌>>=◌, fault_at}
@@ -34,11 +32,6 @@ first number line (next ∷ more) h = refl
 pub cert_step : (number : ℕ) (line rest : List ℕ) → cert_from number (line ∷ parts 10 rest) ≡ (fault_at number (as_cert (claim_line (words line))) >>= λ (cert : Cert). reasons_from (number + 1) [] (parts 10 rest) >>= λ reasons. Ok (record cert { lines = reasons }))
 cert_step number line rest = first number line (parts 10 rest) (parts-some_there 10 rest)
 
--- a cause at a line is the text's fault there
-is_fault_after : (e : LineFault) (number : ℕ) (x : Result Line Cause) (f : Line → Result (List Line) TraceFault) → IsLineFault e x → IsReadFault (read_fault number e) (fault_at number x >>= f)
-is_fault_after line_fault.NoMemory number x f h = tt
-is_fault_after (line_fault.Cause why) number x f h = ap (λ y. fault_at number y >>= f) h
-
 -- the loop over the reasons: what it has come to, and the next line
 module _ (total : Result (List Line) TraceFault) (number : ℕ) (so_far : List Line) (rest line : List ℕ) (left : Option (List ℕ)) (here : total ≡ reasons_from number so_far (parts 10 rest)) (cut : parts 10 rest ≡ line ∷ parts_left 10 left) where
   pub ends : left ≡ None → total ≡ fault_at number (if length line == 0 then Ok so_far else Err cause.Unended)
@@ -52,11 +45,13 @@ module _ (total : Result (List Line) TraceFault) (number : ℕ) (so_far : List L
   line_ok more reason next h =
       goes_on more next ∙ ap (λ x. fault_at number x >>= λ reason. reasons_from (number + 1) (so_far ++ reason ∷ []) (parts 10 more)) h
 
-  pub line_err : (more : List ℕ) (e : LineFault) (r : ReadFault) → left ≡ Some more → IsLineFault e (as_cert (reason_line (words line))) → r ≡ read_fault number e → IsReadFault r total
-  line_err more e r next h at = rw (at, goes_on more next) (is_fault_after e number (as_cert (reason_line (words line))) _ h)
+  -- a cause at a line is the text's fault there
+  pub line_err : (more : List ℕ) (why : Cause) (r : ReadFault) → left ≡ Some more → as_cert (reason_line (words line)) ≡ Err why → r ≡ cause_at number why → IsReadFault r total
+  line_err more why r next h at =
+      rw at (goes_on more next ∙ ap (λ x. fault_at number x >>= λ reason. reasons_from (number + 1) (so_far ++ reason ∷ []) (parts 10 more)) h)
 
   pub end_ok : left ≡ None → (length line == 0) ≡ true → total ≡ Ok so_far
   end_ok last h = ends last ∙ ap (fault_at number) (cond-true _ _ _ h)
 
-  pub end_err : left ≡ None → (length line == 0) ≡ false → (r : ReadFault) → r ≡ read_fault number (line_fault.Cause cause.Unended) → IsReadFault r total
+  pub end_err : left ≡ None → (length line == 0) ≡ false → (r : ReadFault) → r ≡ cause_at number cause.Unended → IsReadFault r total
   end_err last h r at = rw at (ends last ∙ ap (fault_at number) (cond-false _ _ _ h))

@@ -1,10 +1,10 @@
 -- One line of a text after another.
-use Rattle.std.proofs.Common.{◌≡◌, ◌<◌, ◌+◌, ℕ, List, [], ◌∷◌, length, Option, None, Some, Result, Ok, refl, arith, ap, ◌∙◌}
+use Rattle.std.proofs.Common.{◌≡◌, ◌<◌, ◌+◌, ℕ, List, [], ◌∷◌, length, Option, None, Some, Result, Ok, Err, refl, arith, ap, ◌∙◌}
 use Rattle.lp_text.specs.declared.fault.LineFault.{LineFault}
 use Rattle.lp_text.specs.declared.fault.LineFault.TheVariants as line_fault
 use Rattle.lp_text.specs.declared.fault.ReadFault.{ReadFault}
 use Rattle.lp_text.specs.Faults.{IsReadFault}
-use Rattle.lp_text.specs.inside.LineFaults.{read_fault, IsLineFault}
+use Rattle.lp_text.specs.inside.LineFaults.{cause_at, read_fault, IsLineFault}
 use Rattle.lp_text.specs.inside.Cut.{parts_left}
 use Rattle.lp_text.specs.declared.fault.Cause.{Cause}
 use Rattle.lp_text.specs.declared.fault.Cause.TheVariants as cause
@@ -31,10 +31,6 @@ pub first_step : (line rest : List ℕ) → reading_lines (line ∷ parts 10 res
 first_step line rest = first line (parts 10 rest) (parts-some_there 10 rest)
 
 -- a cause at a line is the text's fault there
-pub is_fault : (e : LineFault) (number : ℕ) (x : Result TraceValue Cause) → IsLineFault e x → IsReadFault (read_fault number e) (fault_at number x)
-is_fault line_fault.NoMemory number x h = tt
-is_fault (line_fault.Cause why) number x h = ap (fault_at number) h
-
 pub is_fault_after : (e : LineFault) (number : ℕ) (x : Result TraceValue Cause) (f : TraceValue → Result TraceValue TraceFault) → IsLineFault e x → IsReadFault (read_fault number e) (fault_at number x >>= f)
 is_fault_after line_fault.NoMemory number x f h = tt
 is_fault_after (line_fault.Cause why) number x f h = ap (λ y. fault_at number y >>= f) h
@@ -51,8 +47,8 @@ module _ (total : Result TraceValue TraceFault) (number : ℕ) (so_far : TraceVa
   pub end_ok : left ≡ None → at_end so_far line ≡ Ok so_far → total ≡ Ok so_far
   end_ok last h = ends last ∙ ap (fault_at number) h
 
-  pub end_err : (e : LineFault) (r : ReadFault) → left ≡ None → IsLineFault e (at_end so_far line) → r ≡ read_fault number e → IsReadFault r total
-  end_err e r last h at = rw (at, ends last) (is_fault e number (at_end so_far line) h)
+  pub end_err : (why : Cause) (r : ReadFault) → left ≡ None → at_end so_far line ≡ Err why → r ≡ cause_at number why → IsReadFault r total
+  end_err why r last h at = rw at (ends last ∙ ap (fault_at number) h)
 
   pub line_ok : (more : List ℕ) (new : TraceValue) → left ≡ Some more → with_line so_far (words line) ≡ Ok new → total ≡ reading_from (number + 1) new (parts 10 more)
   line_ok more new next h = goes_on more next ∙ ap (λ x. fault_at number x >>= λ given. reading_from (number + 1) given (parts 10 more)) h

@@ -8,7 +8,7 @@ ghost use Rattle.lp_text.specs.Input.{AtText, ReadsAll};
 ghost use Rattle.lp_text.specs.Words.{lines};
 
 use crate::check_lines::{claim_line, reason_line};
-use crate::fault::{Cause, LineFault, ReadFault};
+use crate::fault::{Cause, ReadFault};
 use crate::input::read_input;
 use crate::keyword::is;
 use crate::read::MOST_BYTES;
@@ -51,7 +51,7 @@ impl CheckInput {
         ensures exact { Gives (λ input. input) result (check_reading text.now) }
     {
         if text.len() > MOST_BYTES {
-            return Err(LineFault::Cause(Cause::Long).at(0));
+            return Err(Cause::Long.at(0));
         }
         let division = divide(text);
         let trace = match Trace::read(alloc, division.trace) {
@@ -120,7 +120,7 @@ fn read_cert(alloc: Global, line: u64, text: Option<&[u8]>) -> Result<Cert, Read
 {
     match text {
         Some(text) => read_claim(alloc, line + 1, text),
-        None => Err(LineFault::Cause(Cause::Cert).at(line)),
+        None => Err(Cause::Cert.at(line)),
     }
 }
 
@@ -138,7 +138,7 @@ fn read_claim(alloc: Global, number: u64, text: &[u8]) -> Result<Cert, ReadFault
         } else {
             Cause::Unended
         };
-        return Err(LineFault::Cause(cause).at(number));
+        return Err(cause.at(number));
     };
     let mut cert = match claim_line(alloc, line) {
         Ok(cert) => cert,
@@ -164,7 +164,7 @@ fn read_reasons(alloc: Global, first: u64, text: &[u8]) -> Result<Vec<Line>, Rea
             if line.is_empty() {
                 return Ok(reasons);
             }
-            return Err(LineFault::Cause(Cause::Unended).at(number));
+            return Err(Cause::Unended.at(number));
         };
         let reason = match reason_line(line) {
             Ok(reason) => reason,

@@ -1,11 +1,11 @@
 //! Lines of a certificate, each by its words.
 ghost use Rattle.std.specs.Prelude.{◌≡◌, option_copied};
 ghost use Rattle.lp_text.specs.CheckReading.{as_cert, born_line, busy_line, claim_line, claim_of, hold_line, last_event, next_event, next_member, reason_line};
-ghost use Rattle.lp_text.specs.inside.LineFaults.{GivesLine};
+ghost use Rattle.lp_text.specs.inside.LineFaults.{GivesExactly};
 ghost use Rattle.lp_text.specs.inside.Cut.{words_left};
 ghost use Rattle.lp_text.specs.Words.{words};
 
-use crate::fault::{Cause, LineFault};
+use crate::fault::Cause;
 use crate::keyword::is;
 use crate::number::event_number_of;
 use crate::split::{last_word, next_number, next_word};
@@ -28,43 +28,43 @@ fn claim_of(word: &[u8]) -> Option<Claim>
 
 /// The next word of a line as the number of an event, and what is left after it.
 #[tactic(auto, unfolding(crate::specs::CheckReading::next_event))]
-fn next_event(left: Option<&[u8]>) -> Result<(u64, Option<&[u8]>), LineFault>
-    ensures { GivesLine (λ x. (x.0, words_left (option_copied x.1))) result (next_event (words_left (option_copied left.entry))) }
+fn next_event(left: Option<&[u8]>) -> Result<(u64, Option<&[u8]>), Cause>
+    ensures { GivesExactly (λ x. (x.0, words_left (option_copied x.1))) result (next_event (words_left (option_copied left.entry))) }
 {
     let (word, left) = next_word(left)?;
-    let number = event_number_of(word).ok_or(LineFault::Cause(Cause::Cert))?;
+    let number = event_number_of(word).ok_or(Cause::Cert)?;
     Ok((u64::from(number), left))
 }
 
 /// The next word of a line as the number of an event, which is to be the last.
 #[tactic(auto, unfolding(crate::specs::CheckReading::last_event))]
-fn last_event(left: Option<&[u8]>) -> Result<u64, LineFault>
-    ensures { GivesLine (λ number. number) result (last_event (words_left (option_copied left.entry))) }
+fn last_event(left: Option<&[u8]>) -> Result<u64, Cause>
+    ensures { GivesExactly (λ number. number) result (last_event (words_left (option_copied left.entry))) }
 {
     let word = last_word(left)?;
-    let number = event_number_of(word).ok_or(LineFault::Cause(Cause::Cert))?;
+    let number = event_number_of(word).ok_or(Cause::Cert)?;
     Ok(u64::from(number))
 }
 
 /// The next word of a line as the number of a group or a task, and what is left after it.
 #[tactic(auto, unfolding(crate::specs::CheckReading::next_member))]
-fn next_member(left: Option<&[u8]>) -> Result<(u16, Option<&[u8]>), LineFault>
-    ensures { GivesLine (λ x. (x.0, words_left (option_copied x.1))) result (next_member (words_left (option_copied left.entry))) }
+fn next_member(left: Option<&[u8]>) -> Result<(u16, Option<&[u8]>), Cause>
+    ensures { GivesExactly (λ x. (x.0, words_left (option_copied x.1))) result (next_member (words_left (option_copied left.entry))) }
 {
     let (number, left) = next_number(left)?;
     if number > 65535 {
-        return Err(LineFault::Cause(Cause::Cert));
+        return Err(Cause::Cert);
     }
     Ok((number as u16, left))
 }
 
 /// `waiting L G K` or `floor L G K`, with no reason yet.
 #[tactic(auto, unfolding(crate::specs::CheckReading::claim_line))]
-fn claim_words(alloc: Global, left: Option<&[u8]>) -> Result<Cert, LineFault>
-    ensures { GivesLine (λ cert. cert) result (claim_line (words_left (option_copied left.entry))) }
+fn claim_words(alloc: Global, left: Option<&[u8]>) -> Result<Cert, Cause>
+    ensures { GivesExactly (λ cert. cert) result (claim_line (words_left (option_copied left.entry))) }
 {
     let (word, left) = next_word(left)?;
-    let claim = claim_of(word).ok_or(LineFault::Cause(Cause::Cert))?;
+    let claim = claim_of(word).ok_or(Cause::Cert)?;
     let (leg, left) = next_event(left)?;
     let (group, left) = next_member(left)?;
     let upto = last_event(left)?;
@@ -79,8 +79,8 @@ fn claim_words(alloc: Global, left: Option<&[u8]>) -> Result<Cert, LineFault>
 
 /// `hold G T S F E`.
 #[tactic(auto, unfolding(crate::specs::CheckReading::hold_line))]
-fn hold_line(left: Option<&[u8]>) -> Result<Line, LineFault>
-    ensures { GivesLine (λ line. line) result (hold_line (words_left (option_copied left.entry))) }
+fn hold_line(left: Option<&[u8]>) -> Result<Line, Cause>
+    ensures { GivesExactly (λ line. line) result (hold_line (words_left (option_copied left.entry))) }
 {
     let (group, left) = next_member(left)?;
     let (task, left) = next_member(left)?;
@@ -98,8 +98,8 @@ fn hold_line(left: Option<&[u8]>) -> Result<Line, LineFault>
 
 /// `busy G T A`.
 #[tactic(auto, unfolding(crate::specs::CheckReading::busy_line))]
-fn busy_line(left: Option<&[u8]>) -> Result<Line, LineFault>
-    ensures { GivesLine (λ line. line) result (busy_line (words_left (option_copied left.entry))) }
+fn busy_line(left: Option<&[u8]>) -> Result<Line, Cause>
+    ensures { GivesExactly (λ line. line) result (busy_line (words_left (option_copied left.entry))) }
 {
     let (group, left) = next_member(left)?;
     let (task, left) = next_member(left)?;
@@ -113,8 +113,8 @@ fn busy_line(left: Option<&[u8]>) -> Result<Line, LineFault>
 
 /// `born G P A`.
 #[tactic(auto, unfolding(crate::specs::CheckReading::born_line))]
-fn born_line(left: Option<&[u8]>) -> Result<Line, LineFault>
-    ensures { GivesLine (λ line. line) result (born_line (words_left (option_copied left.entry))) }
+fn born_line(left: Option<&[u8]>) -> Result<Line, Cause>
+    ensures { GivesExactly (λ line. line) result (born_line (words_left (option_copied left.entry))) }
 {
     let (group, left) = next_member(left)?;
     let (parent, left) = next_member(left)?;
@@ -128,8 +128,8 @@ fn born_line(left: Option<&[u8]>) -> Result<Line, LineFault>
 
 /// The reason that a line gives, by its words.
 #[tactic(auto, unfolding(crate::specs::CheckReading::reason_line))]
-fn reason_words(left: Option<&[u8]>) -> Result<Line, LineFault>
-    ensures { GivesLine (λ line. line) result (reason_line (words_left (option_copied left.entry))) }
+fn reason_words(left: Option<&[u8]>) -> Result<Line, Cause>
+    ensures { GivesExactly (λ line. line) result (reason_line (words_left (option_copied left.entry))) }
 {
     let (word, left) = next_word(left)?;
     if is(word, "hold") {
@@ -139,28 +139,26 @@ fn reason_words(left: Option<&[u8]>) -> Result<Line, LineFault>
     } else if is(word, "born") {
         born_line(left)
     } else {
-        Err(LineFault::Cause(Cause::Cert))
+        Err(Cause::Cert)
     }
 }
 
 /// The claim of a certificate's first line, with no reason yet.
-pub(crate) fn claim_line(alloc: Global, line: &[u8]) -> Result<Cert, LineFault>
-    ensures { GivesLine (λ cert. cert) result (as_cert (claim_line (words line.now))) }
+pub(crate) fn claim_line(alloc: Global, line: &[u8]) -> Result<Cert, Cause>
+    ensures { GivesExactly (λ cert. cert) result (as_cert (claim_line (words line.now))) }
 {
     match claim_words(alloc, Some(line)) {
         Ok(cert) => Ok(cert),
-        Err(LineFault::Cause(_)) => Err(LineFault::Cause(Cause::Cert)),
-        Err(LineFault::NoMemory) => Err(LineFault::NoMemory),
+        Err(_) => Err(Cause::Cert),
     }
 }
 
 /// The reason of a certificate's later line.
-pub(crate) fn reason_line(line: &[u8]) -> Result<Line, LineFault>
-    ensures { GivesLine (λ reason. reason) result (as_cert (reason_line (words line.now))) }
+pub(crate) fn reason_line(line: &[u8]) -> Result<Line, Cause>
+    ensures { GivesExactly (λ reason. reason) result (as_cert (reason_line (words line.now))) }
 {
     match reason_words(Some(line)) {
         Ok(reason) => Ok(reason),
-        Err(LineFault::Cause(_)) => Err(LineFault::Cause(Cause::Cert)),
-        Err(LineFault::NoMemory) => Err(LineFault::NoMemory),
+        Err(_) => Err(Cause::Cert),
     }
 }

@@ -1,9 +1,9 @@
 //! Why a text is no trace or no input of a check, or could not be read.
 ghost use Rattle.std.specs.Prelude.{◌≡◌};
-ghost use Rattle.lp_text.specs.declared.fault.LineFault.TheVariants.{NoMemory as LineNoMemory};
+ghost use Rattle.lp_text.specs.declared.fault.LineFault.TheVariants.{Cause as LineCause, NoMemory as LineNoMemory};
 ghost use Rattle.lp_text.specs.declared.fault.ReadFault.TheVariants.{NoMemory as ReadNoMemory};
 ghost use Rattle.lp_text.specs.Faults.{cause_number};
-ghost use Rattle.lp_text.specs.inside.LineFaults.{read_fault};
+ghost use Rattle.lp_text.specs.inside.LineFaults.{cause_at, read_fault};
 
 use std::alloc::{AllocError, AllocFailed};
 use thiserror::Error;
@@ -72,6 +72,13 @@ impl Cause {
             Cause::Cert => 12,
         }
     }
+
+    /// The fault of a text that this is at the line of a number.
+    pub(crate) fn at(self, line: u64) -> ReadFault
+        ensures { result ≡ cause_at line self }
+    {
+        ReadFault::Trace(TraceFault { line, cause: self })
+    }
 }
 
 /// The first fault of a text that is no trace, or no input of a check.
@@ -95,7 +102,7 @@ pub enum ReadFault {
     NoMemory,
 }
 
-/// Why a line was not read.
+/// Why what a line says was not added. What reads its words alone needs no memory, and fails with a `Cause`.
 #[derive(Clone, Copy, Debug, PartialEq, Eq)]
 pub(crate) enum LineFault {
     /// The line is at fault.
@@ -110,9 +117,17 @@ impl LineFault {
         ensures { result ≡ read_fault line self }
     {
         match self {
-            LineFault::Cause(cause) => ReadFault::Trace(TraceFault { line, cause }),
+            LineFault::Cause(cause) => cause.at(line),
             LineFault::NoMemory => ReadFault::NoMemory,
         }
+    }
+}
+
+impl From<Cause> for LineFault {
+    ghost from_gives = { λ cause e. e ≡ LineCause cause };
+
+    fn from(cause: Cause) -> LineFault {
+        LineFault::Cause(cause)
     }
 }
 

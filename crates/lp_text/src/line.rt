@@ -1,11 +1,11 @@
 //! Lines of a trace text, each by its first word.
 ghost use Rattle.std.specs.Prelude.{◌≡◌, option_copied};
-ghost use Rattle.lp_text.specs.inside.LineFaults.{GivesLine};
+ghost use Rattle.lp_text.specs.inside.LineFaults.{GivesExactly};
 ghost use Rattle.lp_text.specs.Reading.{boot_line, call_line, event_line, fork_line, no_word, patch_line, symbol_of, task_line, task_of};
 ghost use Rattle.lp_text.specs.inside.Cut.{words_left};
 ghost use Rattle.lp_text.specs.Traces.{AreNames};
 
-use crate::fault::{Cause, LineFault};
+use crate::fault::Cause;
 use crate::form::TraceForm;
 use crate::keyword::{EventKeyword, class_of, fork_kind_of};
 use crate::split::{last_number, last_word, next_number};
@@ -18,27 +18,27 @@ use std::str;
 /// The symbol of a name.
 #[inline(always)]
 #[tactic(auto, using(crate::proofs::Symbols::found), unfolding(crate::specs::Reading::symbol_of))]
-pub(crate) fn symbol_of(symbols: &Symbols, name: &[u8]) -> Result<SymId, LineFault>
+pub(crate) fn symbol_of(symbols: &Symbols, name: &[u8]) -> Result<SymId, Cause>
     requires names { AreNames symbols.now }
-    ensures { GivesLine (λ id. id) result (symbol_of symbols.now name.now) }
+    ensures { GivesExactly (λ id. id) result (symbol_of symbols.now name.now) }
 {
     let Ok(text) = str::from_utf8(name) else {
-        return Err(LineFault::Cause(Cause::Unknown));
+        return Err(Cause::Unknown);
     };
     match symbols.find(text) {
         Some(id) => Ok(id),
-        None => Err(LineFault::Cause(Cause::Unknown)),
+        None => Err(Cause::Unknown),
     }
 }
 
 /// The task of a number.
 #[inline(always)]
 #[tactic(auto, unfolding(crate::specs::Reading::task_of))]
-pub(crate) fn task_of(number: u32) -> Result<TaskId, LineFault>
-    ensures { GivesLine (λ task. task) result (task_of number) }
+pub(crate) fn task_of(number: u32) -> Result<TaskId, Cause>
+    ensures { GivesExactly (λ task. task) result (task_of number) }
 {
     if number == 0 || number > 65535 {
-        return Err(LineFault::Cause(Cause::Task));
+        return Err(Cause::Task);
     }
     Ok(TaskId(number as u16))
 }
@@ -46,12 +46,12 @@ pub(crate) fn task_of(number: u32) -> Result<TaskId, LineFault>
 /// An event's line that has no further word.
 #[inline(always)]
 #[tactic(auto, using(crate::proofs::Cuts::no_word_more), unfolding(crate::specs::Reading::no_word))]
-fn no_word(event: Event, left: Option<&[u8]>) -> Result<Event, LineFault>
-    ensures { GivesLine (λ event. event) result (no_word event (words_left (option_copied left.entry))) }
+fn no_word(event: Event, left: Option<&[u8]>) -> Result<Event, Cause>
+    ensures { GivesExactly (λ event. event) result (no_word event (words_left (option_copied left.entry))) }
 {
     match left {
         None => Ok(event),
-        Some(_) => Err(LineFault::Cause(Cause::Shape)),
+        Some(_) => Err(Cause::Shape),
     }
 }
 
@@ -62,9 +62,9 @@ fn call_line(
     symbols: &Symbols,
     cache: &mut SymbolCache,
     left: Option<&[u8]>,
-) -> Result<Event, LineFault>
+) -> Result<Event, Cause>
     requires names { AreNames symbols.now }
-    ensures { GivesLine (λ event. event) result (call_line symbols.now (words_left (option_copied left.entry))) }
+    ensures { GivesExactly (λ event. event) result (call_line symbols.now (words_left (option_copied left.entry))) }
 {
     let (number, left) = next_number(left)?;
     let func = cache.last_symbol(symbols, left)?;
@@ -74,13 +74,13 @@ fn call_line(
 
 /// `fork P C own` or `fork P C share`.
 #[tactic(auto, unfolding(crate::specs::Reading::fork_line))]
-fn fork_line(left: Option<&[u8]>) -> Result<Event, LineFault>
-    ensures { GivesLine (λ event. event) result (fork_line (words_left (option_copied left.entry))) }
+fn fork_line(left: Option<&[u8]>) -> Result<Event, Cause>
+    ensures { GivesExactly (λ event. event) result (fork_line (words_left (option_copied left.entry))) }
 {
     let (first, left) = next_number(left)?;
     let (second, left) = next_number(left)?;
     let word = last_word(left)?;
-    let how = fork_kind_of(word).ok_or(LineFault::Cause(Cause::Shape))?;
+    let how = fork_kind_of(word).ok_or(Cause::Shape)?;
     let parent = task_of(first)?;
     let child = task_of(second)?;
     Ok(Event::Fork(parent, child, how))
@@ -89,8 +89,8 @@ fn fork_line(left: Option<&[u8]>) -> Result<Event, LineFault>
 /// The task of an event of one task, as `ret T`.
 #[inline(always)]
 #[tactic(auto, unfolding(crate::specs::Reading::task_line))]
-fn task_line(left: Option<&[u8]>) -> Result<TaskId, LineFault>
-    ensures { GivesLine (λ task. task) result (task_line (words_left (option_copied left.entry))) }
+fn task_line(left: Option<&[u8]>) -> Result<TaskId, Cause>
+    ensures { GivesExactly (λ task. task) result (task_line (words_left (option_copied left.entry))) }
 {
     let number = last_number(left)?;
     task_of(number)
@@ -104,9 +104,9 @@ pub(crate) fn event_line(
     cache: &mut SymbolCache,
     word: EventKeyword,
     left: Option<&[u8]>,
-) -> Result<Event, LineFault>
+) -> Result<Event, Cause>
     requires names { AreNames symbols.now }
-    ensures { GivesLine (λ event. event) result (event_line symbols.now word (words_left (option_copied left.entry))) }
+    ensures { GivesExactly (λ event. event) result (event_line symbols.now word (words_left (option_copied left.entry))) }
 {
     match word {
         EventKeyword::Call => call_line(symbols, cache, left),
@@ -128,8 +128,8 @@ pub(crate) fn event_line(
 
 /// The patch's number and the function's name: `patch NAME`, or `patch K NAME` in the second text.
 #[tactic(auto, unfolding(crate::specs::Reading::patch_line))]
-pub(crate) fn patch_line(form: TraceForm, left: Option<&[u8]>) -> Result<(u32, &[u8]), LineFault>
-    ensures { GivesLine (λ line. (line.0, line.1.now)) result (patch_line form (words_left (option_copied left.entry))) }
+pub(crate) fn patch_line(form: TraceForm, left: Option<&[u8]>) -> Result<(u32, &[u8]), Cause>
+    ensures { GivesExactly (λ line. (line.0, line.1.now)) result (patch_line form (words_left (option_copied left.entry))) }
 {
     match form {
         TraceForm::Single => {
@@ -146,11 +146,11 @@ pub(crate) fn patch_line(form: TraceForm, left: Option<&[u8]>) -> Result<(u32, &
 
 /// The boot task's number and class: `boot N normal` or `boot N idle`.
 #[tactic(auto, unfolding(crate::specs::Reading::boot_line))]
-pub(crate) fn boot_line(left: Option<&[u8]>) -> Result<(u32, Class), LineFault>
-    ensures { GivesLine (λ line. (line.0, line.1)) result (boot_line (words_left (option_copied left.entry))) }
+pub(crate) fn boot_line(left: Option<&[u8]>) -> Result<(u32, Class), Cause>
+    ensures { GivesExactly (λ line. (line.0, line.1)) result (boot_line (words_left (option_copied left.entry))) }
 {
     let (number, left) = next_number(left)?;
     let word = last_word(left)?;
-    let class = class_of(word).ok_or(LineFault::Cause(Cause::Shape))?;
+    let class = class_of(word).ok_or(Cause::Shape)?;
     Ok((number, class))
 }

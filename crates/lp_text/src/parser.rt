@@ -3,7 +3,7 @@ ghost use Rattle.std.specs.Prelude.{◌≡◌, ◌≤◌, ◌+◌, ◌-◌, ◌<
 ghost use Rattle.lp_text.specs.inside.Parsers.{IsTable};
 ghost use Rattle.lp_text.specs.inside.QuickLines.{IsTaken};
 ghost use Rattle.lp_text.specs.Traces.{functions, IsTrace};
-ghost use Rattle.lp_text.specs.inside.LineFaults.{GivesLine};
+ghost use Rattle.lp_text.specs.inside.LineFaults.{GivesExactly, GivesLine};
 ghost use Rattle.lp_text.specs.Reading.{add_boot, add_event, add_function, add_symbol, at_end, begun, empty, first_word, grown, part_of, part_reached, with_line};
 ghost use Rattle.lp_text.specs.Words.{words};
 
@@ -131,14 +131,14 @@ impl Parser {
 
     /// The end of the text, where these bytes stand after the last line end.
     #[tactic(auto, unfolding(crate::specs::Reading::at_end))]
-    pub(crate) fn at_end(&self, rest: &[u8]) -> Result<(), LineFault>
-        ensures { GivesLine (λ _. self.now) result (at_end self.now rest.now) }
+    pub(crate) fn at_end(&self, rest: &[u8]) -> Result<(), Cause>
+        ensures { GivesExactly (λ _. self.now) result (at_end self.now rest.now) }
     {
         if !rest.is_empty() {
-            return Err(LineFault::Cause(Cause::Unended));
+            return Err(Cause::Unended);
         }
         if self.patches.is_empty() {
-            return Err(LineFault::Cause(Cause::Patch));
+            return Err(Cause::Patch);
         }
         Ok(())
     }
@@ -163,15 +163,15 @@ impl Parser {
     /// The first word of the next line.
     #[inline(always)]
     #[tactic(auto, unfolding(crate::specs::Reading::first_word))]
-    fn first_word(&self, word: &[u8]) -> Result<LineKeyword, LineFault>
-        ensures { GivesLine (λ first. first) result (first_word self.now word.now) }
+    fn first_word(&self, word: &[u8]) -> Result<LineKeyword, Cause>
+        ensures { GivesExactly (λ first. first) result (first_word self.now word.now) }
     {
-        let first = LineKeyword::of(word).ok_or(LineFault::Cause(Cause::Word))?;
+        let first = LineKeyword::of(word).ok_or(Cause::Word)?;
         if part_of(first) < self.part_reached() {
-            return Err(LineFault::Cause(Cause::Word));
+            return Err(Cause::Word);
         }
         if part_of(first) > 2 && self.patches.is_empty() {
-            return Err(LineFault::Cause(Cause::Patch));
+            return Err(Cause::Patch);
         }
         Ok(first)
     }
@@ -277,32 +277,32 @@ fn part_of(word: LineKeyword) -> u8
 
 /// What the patch of a number has so far, where a line may add to it.
 #[tactic(auto, unfolding(crate::specs::Reading::begun))]
-fn begun(patches: &[Vec<SymId>], number: u32) -> Result<&[SymId], LineFault>
-    ensures { GivesLine (λ had. had.now) result (begun (functions patches.now) number) }
+fn begun(patches: &[Vec<SymId>], number: u32) -> Result<&[SymId], Cause>
+    ensures { GivesExactly (λ had. had.now) result (begun (functions patches.now) number) }
 {
     if number == 0 {
-        return Err(LineFault::Cause(Cause::Patch));
+        return Err(Cause::Patch);
     }
     let at = number as usize - 1;
     match patches.get(at) {
         Some(patch) if at + 1 == patches.len() => Ok(patch.as_slice()),
         None if at == patches.len() && number <= MOST_PATCHES => Ok(&[]),
-        _ => Err(LineFault::Cause(Cause::Patch)),
+        _ => Err(Cause::Patch),
     }
 }
 
 /// What the patch of a number has with one function more.
 #[tactic(auto, unfolding(crate::specs::Reading::grown))]
-fn check_function(patches: &[Vec<SymId>], number: u32, func: SymId) -> Result<(), LineFault>
-    ensures grown { GivesLine (λ _. slice_index_or (functions patches.now) (number - 1) [] ++ func ∷ []) result (grown (functions patches.now) number func) }
+fn check_function(patches: &[Vec<SymId>], number: u32, func: SymId) -> Result<(), Cause>
+    ensures grown { GivesExactly (λ _. slice_index_or (functions patches.now) (number - 1) [] ++ func ∷ []) result (grown (functions patches.now) number func) }
     ensures place { OnOk result ((1 ≤ number) × (number ≤ length patches.now + 1) × (length patches.now ≤ number)) }
 {
     let had = begun(patches, number)?;
     if had.contains(&func) {
-        return Err(LineFault::Cause(Cause::Patch));
+        return Err(Cause::Patch);
     }
     if had.len() == MOST_FUNCTIONS {
-        return Err(LineFault::Cause(Cause::Many));
+        return Err(Cause::Many);
     }
     Ok(())
 }

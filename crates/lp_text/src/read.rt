@@ -6,7 +6,7 @@ ghost use Rattle.lp_text.specs.declared.fault.Cause.TheVariants as cause;
 ghost use Rattle.lp_text.specs.Traces.{IsTrace, TraceValue, text_of};
 ghost use Rattle.lp_text.specs.Words.{form_of, lines};
 
-use crate::fault::{Cause, LineFault, ReadFault};
+use crate::fault::{Cause, ReadFault};
 use crate::form::TraceForm;
 use crate::parser::Parser;
 use crate::split::cut;
@@ -39,7 +39,7 @@ pub(crate) fn read_text(alloc: Global, text: &[u8]) -> Result<Parser, ReadFault>
     ensures { Gives (λ parser. parser) result (reading text.now) }
 {
     if text.len() > MOST_BYTES {
-        return Err(LineFault::Cause(Cause::Long).at(0));
+        return Err(Cause::Long.at(0));
     }
     read_all_lines(alloc, text)
 }
@@ -57,7 +57,7 @@ pub(crate) fn read_all_lines(alloc: Global, text: &[u8]) -> Result<Parser, ReadF
         } else {
             Cause::Unended
         };
-        return Err(LineFault::Cause(cause).at(1));
+        return Err(cause.at(1));
     };
     let parser = parser_of(alloc, first)?;
     read_lines(alloc, 2, parser, rest)
@@ -69,7 +69,7 @@ pub(crate) fn parser_of(alloc: Global, first: &[u8]) -> Result<Parser, ReadFault
     ensures empty { IfOk result (λ parser. parser ≡ empty parser.form) }
 {
     let Some(form) = TraceForm::of(first) else {
-        return Err(LineFault::Cause(Cause::Header).at(1));
+        return Err(Cause::Header.at(1));
     };
     match Parser::new(alloc, form) {
         Ok(parser) => Ok(parser),

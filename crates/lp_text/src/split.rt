@@ -2,11 +2,11 @@
 ghost use Rattle.std.specs.Prelude.{◌≡◌, ◌∷◌, ◌<◌, length, option_copied, IfSome};
 ghost use Rattle.lp_text.specs.Words.{parts};
 ghost use Rattle.memchr.specs.Find.{IsFirstByte, is_byte};
-ghost use Rattle.lp_text.specs.inside.LineFaults.{GivesLine};
+ghost use Rattle.lp_text.specs.inside.LineFaults.{GivesExactly};
 ghost use Rattle.lp_text.specs.Reading.{next_word, last_word, next_number, last_number};
 ghost use Rattle.lp_text.specs.inside.Cut.{IsCut, parts_left, words_left};
 
-use crate::fault::{Cause, LineFault};
+use crate::fault::Cause;
 use crate::number::number_of;
 use memchr::memchr;
 
@@ -53,15 +53,15 @@ fn first_space(line: &[u8]) -> Option<usize>
 /// The next word of a line, and what is left after it.
 #[inline(always)]
 #[tactic(auto, unfolding(crate::specs::Reading::next_word))]
-pub(crate) fn next_word(left: Option<&[u8]>) -> Result<(&[u8], Option<&[u8]>), LineFault>
-    ensures { GivesLine (λ x. (x.0.now, words_left (option_copied x.1))) result (next_word (words_left (option_copied left.entry))) }
+pub(crate) fn next_word(left: Option<&[u8]>) -> Result<(&[u8], Option<&[u8]>), Cause>
+    ensures { GivesExactly (λ x. (x.0.now, words_left (option_copied x.1))) result (next_word (words_left (option_copied left.entry))) }
 {
     let Some(line) = left else {
-        return Err(LineFault::Cause(Cause::Shape));
+        return Err(Cause::Shape);
     };
     let (word, left) = cut_word(line);
     if word.is_empty() {
-        return Err(LineFault::Cause(Cause::Shape));
+        return Err(Cause::Shape);
     }
     Ok((word, left))
 }
@@ -69,16 +69,16 @@ pub(crate) fn next_word(left: Option<&[u8]>) -> Result<(&[u8], Option<&[u8]>), L
 /// The next word of a line, which is to be the last.
 #[inline(always)]
 #[tactic(auto, using(crate::proofs::Cuts::last_word_more), unfolding(crate::specs::Reading::last_word))]
-pub(crate) fn last_word(left: Option<&[u8]>) -> Result<&[u8], LineFault>
-    ensures { GivesLine (λ word. word.now) result (last_word (words_left (option_copied left.entry))) }
+pub(crate) fn last_word(left: Option<&[u8]>) -> Result<&[u8], Cause>
+    ensures { GivesExactly (λ word. word.now) result (last_word (words_left (option_copied left.entry))) }
 {
     let Some(line) = left else {
-        return Err(LineFault::Cause(Cause::Shape));
+        return Err(Cause::Shape);
     };
     let (word, left) = cut_word(line);
     match left {
-        Some(_) => Err(LineFault::Cause(Cause::Shape)),
-        None if word.is_empty() => Err(LineFault::Cause(Cause::Shape)),
+        Some(_) => Err(Cause::Shape),
+        None if word.is_empty() => Err(Cause::Shape),
         None => Ok(word),
     }
 }
@@ -86,11 +86,11 @@ pub(crate) fn last_word(left: Option<&[u8]>) -> Result<&[u8], LineFault>
 /// The next word of a line as a number, and what is left after it.
 #[inline(always)]
 #[tactic(auto, unfolding(crate::specs::Reading::next_number))]
-pub(crate) fn next_number(left: Option<&[u8]>) -> Result<(u32, Option<&[u8]>), LineFault>
-    ensures { GivesLine (λ x. (x.0, words_left (option_copied x.1))) result (next_number (words_left (option_copied left.entry))) }
+pub(crate) fn next_number(left: Option<&[u8]>) -> Result<(u32, Option<&[u8]>), Cause>
+    ensures { GivesExactly (λ x. (x.0, words_left (option_copied x.1))) result (next_number (words_left (option_copied left.entry))) }
 {
     let (word, left) = next_word(left)?;
-    let number = number_of(word).ok_or(LineFault::Cause(Cause::Shape))?;
+    let number = number_of(word).ok_or(Cause::Shape)?;
     Ok((number, left))
 }
 
@@ -98,11 +98,11 @@ pub(crate) fn next_number(left: Option<&[u8]>) -> Result<(u32, Option<&[u8]>), L
 /// is all that is left.
 #[inline(always)]
 #[tactic(auto, using(crate::proofs::LastWords::number_alone), unfolding(crate::specs::Reading::last_number, crate::specs::Reading::last_word))]
-pub(crate) fn last_number(left: Option<&[u8]>) -> Result<u32, LineFault>
-    ensures { GivesLine (λ number. number) result (last_number (words_left (option_copied left.entry))) }
+pub(crate) fn last_number(left: Option<&[u8]>) -> Result<u32, Cause>
+    ensures { GivesExactly (λ number. number) result (last_number (words_left (option_copied left.entry))) }
 {
     let Some(word) = left else {
-        return Err(LineFault::Cause(Cause::Shape));
+        return Err(Cause::Shape);
     };
-    number_of(word).ok_or(LineFault::Cause(Cause::Shape))
+    number_of(word).ok_or(Cause::Shape)
 }

@@ -1,12 +1,12 @@
 //! Symbols that were looked up last: most names of a trace come again and again.
 ghost use Rattle.std.specs.Prelude.{◌≡◌, ◌<◌, [], Ok, IfSome, IsTrue, length, option_copied, slice_index_or};
-ghost use Rattle.lp_text.specs.inside.LineFaults.{GivesLine};
+ghost use Rattle.lp_text.specs.inside.LineFaults.{GivesExactly};
 ghost use Rattle.lp_text.specs.inside.Parsers.{last_symbol};
 ghost use Rattle.lp_text.specs.inside.Cut.{words_left};
 ghost use Rattle.lp_text.specs.Words.{words};
 ghost use Rattle.lp_text.specs.Traces.{AreNames};
 
-use crate::fault::{Cause, LineFault};
+use crate::fault::Cause;
 use crate::line::symbol_of;
 use crate::split::last_word;
 use lp_symbols::{SymId, Symbols};
@@ -34,12 +34,12 @@ impl SymbolCache {
         &mut self,
         symbols: &Symbols,
         left: Option<&[u8]>,
-    ) -> Result<SymId, LineFault>
+    ) -> Result<SymId, Cause>
         requires names { AreNames symbols.now }
-        ensures { GivesLine (λ id. id) result (last_symbol symbols.now (words_left (option_copied left.entry))) }
+        ensures { GivesExactly (λ id. id) result (last_symbol symbols.now (words_left (option_copied left.entry))) }
     {
         let Some(rest) = left else {
-            return Err(LineFault::Cause(Cause::Shape));
+            return Err(Cause::Shape);
         };
         if let Some(cached) = self.cached(symbols, rest) {
             return Ok(cached);

@@ -85,7 +85,7 @@ pub fn run<M: Consistency, R: Read, W: Write>(
     // The headline holds of the outcome that was reported, of the same trace.
     ensures headline { OnOk result (ReadsTrace (R.remaining reader.old) (R.remaining reader.new)
         (λ trace. Appends (W.contents writer.old) (W.contents writer.new) (report trace.form name.now (outcome M.rules trace))
-            × Headline M.rules (whole_run trace) (outcome M.rules trace))) }
+        × Headline M.rules (whole_run trace) (outcome M.rules trace))) }
     // Where the writer failed, a prefix of that report was written.
     ensures prefix { IfErr result (λ fault. AtWrite fault (ReadsTrace (R.remaining reader.old) (R.remaining reader.new)
         (λ trace. AppendsPrefix (W.contents writer.old) (W.contents writer.new) (report trace.form name.now (outcome M.rules trace))))) }

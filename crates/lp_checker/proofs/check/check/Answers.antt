@@ -5,4 +5,4 @@ use Rattle.lp_checker.proofs.check.check.Goals as goal
 
 pub returns-in-None-clause-sound : goal.returns-in-None-clause-sound
 returns-in-None-clause-sound g c =
-    holds g.M.Consistency.rules g.met.M.Consistency.lawful (leg_with c.args.opening.now c.args.events.now) c.number.ensures.opening.sound c.args.claim c.args.cert.now (sym c.in_ok-fault_of.ensures ∙ c.in-None.is)
+    holds g.M.Consistency.rules g.met.M.Consistency.lawful (leg_with c.args.opening.now c.args.events.now) c.number.ensures.opening.sound c.args.claim c.args.cert.now (sym c.in_ok-fault_of.ensures.verdict ∙ c.in-None.is)

@@ -11,11 +11,11 @@ use Rattle.lp_checker.proofs.PartLines.{none_is}
 use Rattle.lp_checker.proofs.Stages.{in_order, at_no_leg, at_birth, at_group, at_line, at_gap}
 use Rattle.lp_checker.proofs.check.fault_of.Goals as goal
 
-pub returns-then-is_no_leg : goal.returns-then-is_no_leg
-returns-then-is_no_leg g c = sym (at_no_leg g.M.Consistency.rules (leg_with c.args.leg.now.opening.now c.args.leg.now.events.now) c.args.claim c.args.cert.now (sym c.if-is_no_leg.ensures))
+pub returns-then-is_no_leg-clause-verdict : goal.returns-then-is_no_leg-clause-verdict
+returns-then-is_no_leg-clause-verdict g c = sym (at_no_leg g.M.Consistency.rules (leg_with c.args.leg.now.opening.now c.args.leg.now.events.now) c.args.claim c.args.cert.now (sym c.if-is_no_leg.ensures))
 
-pub returns-then-is_some : goal.returns-then-is_some
-returns-then-is_some g c =
+pub returns-then-is_some-clause-verdict : goal.returns-then-is_some-clause-verdict
+returns-then-is_some-clause-verdict g c =
     let leg = leg_with c.args.leg.now.opening.now c.args.leg.now.events.now in
     sym (at_birth g.M.Consistency.rules leg c.args.claim c.args.cert.now c.moment-last.result c.as_slice-lines.result.now (sym c.if-is_no_leg.ensures) c.moment-last.ensures c.as_slice-lines.ensures c.in_ok-fault.fault (c.in_ok-fault.ensures c.args.cert.now.group.0) c.if-is_some.ensures)
 
@@ -29,21 +29,21 @@ sections-requires g c =
     let leg = leg_with c.args.leg.now.opening.now c.args.leg.now.events.now in
     in_order g.M.Consistency.rules leg c.moment-last.result _ zero (births c.as_slice-lines.result.now) (omega arith) (sym (c.in_ok-fault.ensures 0) ∙ none_is c.in_ok-fault.fault c.if-is_some.ensures)
 
-pub returns-then-branch : goal.returns-then-branch
-returns-then-branch g c =
+pub returns-then-branch-clause-verdict : goal.returns-then-branch-clause-verdict
+returns-then-branch-clause-verdict g c =
     let leg = leg_with c.args.leg.now.opening.now c.args.leg.now.events.now in
     sym (at_group g.M.Consistency.rules leg c.args.claim c.args.cert.now c.moment-last.result c.as_slice-lines.result.now (sym c.if-is_no_leg.ensures) c.moment-last.ensures c.as_slice-lines.ensures c.in_ok-first.first.0 c.in_ok-first.ensures (sym (c.in_ok-fault.ensures c.args.cert.now.group.0) ∙ none_is c.in_ok-fault.fault c.if-is_some.ensures) (sym c.in_ok-is_no_such_group.ensures ∙ c.if-branch.true))
 
-pub returns-then-is_some-2 : goal.returns-then-is_some-2
-returns-then-is_some-2 g c =
+pub returns-then-is_some-2-clause-verdict : goal.returns-then-is_some-2-clause-verdict
+returns-then-is_some-2-clause-verdict g c =
     let model = g.M.Consistency.rules in
     let leg = leg_with c.args.leg.now.opening.now c.args.leg.now.events.now in
     let lines = c.as_slice-lines.result.now in
     sym (at_line model leg c.args.claim c.args.cert.now c.moment-last.result lines (sym c.if-is_no_leg.ensures) c.moment-last.ensures c.as_slice-lines.ensures c.in_ok-first.first.0 c.in_ok-first.ensures (sym (c.in_ok-fault.ensures c.args.cert.now.group.0) ∙ none_is c.in_ok-fault.fault c.if-is_some.ensures) (sym c.in_ok-is_no_such_group.ensures ∙ c.if-branch.false)
     (map (section_of lines) c.deref.result.now) c.in_ok-fault-2.fault (ap (λ (ps : List Part). map (section_of lines) ps) c.deref.ensures.value ∙ c.in_ok-parts.ensures.sections model) c.in_ok-fault-2.ensures c.if-is_some-2.ensures)
 
-pub returns : goal.returns
-returns g c =
+pub returns-clause-verdict : goal.returns-clause-verdict
+returns-clause-verdict g c =
     let model = g.M.Consistency.rules in
     let leg = leg_with c.args.leg.now.opening.now c.args.leg.now.events.now in
     let lines = c.as_slice-lines.result.now in

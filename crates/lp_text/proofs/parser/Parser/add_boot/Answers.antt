@@ -1,3 +1,5 @@
+use Rattle.lp_text.specs.Traces.{TraceValue, functions}
+use Rattle.std.proofs.Common.{rules}
 use Rattle.lp_text.proofs.Parsers.{boot_taken, boot_free}
 use Rattle.lp_text.proofs.parser.Parser.add_boot.Goals as goal
 
@@ -8,3 +10,10 @@ returns-then-index c =
 pub returns : goal.returns
 returns c =
     rw (← c.self.view_is, c.in_ok-push.ensures.items) (boot_free _ c.self.inside.booted.items c.args.number c.args.class c.in_ok-task.task c.from-place.result c.index.result.now c.self.invariant.1 c.in_ok-task.ensures c.from-place.ensures c.index.ensures c.if-index.false)
+
+pub returns-in_err-push : goal.returns-in_err-push
+returns-in_err-push c =
+    let d = c.self.inside in
+    let so_far : TraceValue = record { form = d.form; symbols = d.symbols; patches = functions d.patches.items; boots = d.boots.items; events = d.events.items } in
+    let free = boot_free so_far d.booted.items c.args.number c.args.class c.in_ok-task.task c.from-place.result c.index.result.now c.self.invariant.1 c.in_ok-task.ensures c.from-place.ensures c.index.ensures c.if-index.false in
+    rw (← c.self.view_is, free) (search rules)
