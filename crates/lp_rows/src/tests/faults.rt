@@ -103,7 +103,7 @@ fn a_read_that_fails_leaves_nothing_written(rt: HostRuntime) -> Result<(), Fail>
     let mut text = text_of(rt.alloc(), CHILD)?;
     text.push_str("lpcert 1\nwaiting 2 2 8\n")?;
     for reads in 0..=text.len() {
-        for end in [End::Fails, End::Interrupted] {
+        for end in [End::Fails, End::FailsOnce, End::Interrupted] {
             assert!(rt; fail_with(rt.alloc(), text.as_str(), 1, reads, end));
         }
     }
@@ -120,26 +120,29 @@ const WITH_CERT: &str = "lptrace 1\nsym a\npatch a\nenable\nlpcert 1\nwaiting 1 
 const REPORT: &str =
     "lpreport 1\nmodel hybrid\n1 done complete\nleg 1 new complete 1\nstays 0 mixed 0\n";
 
-/// Whether a run of it by reads of so many bytes has its report.
-fn is_run_by(alloc: Global, most: usize) -> bool {
-    let mut source = Broken::new(OF_NOBODY.as_bytes(), most, 100, End::Fails);
+/// Bytes of a read, and how many reads of them find the ends of the two: one gives no byte, and a further one fails.
+const READS: [(usize, usize, usize); 4] = [(1, 32, 55), (2, 17, 28), (7, 6, 9), (100, 2, 2)];
+
+/// Whether a run of it by reads of so many bytes, of which there are so many, has its report.
+fn is_run_by(alloc: Global, most: usize, reads: usize) -> bool {
+    let mut source = Broken::new(OF_NOBODY.as_bytes(), most, reads, End::Fails);
     let mut sink = Sink::new(alloc, 1_000);
     ending_of(alloc, &mut source, &mut sink) == Ended::Whole && sink.taken() == REPORT.as_bytes()
 }
 
-/// Whether a check of it by reads of so many bytes has its answer.
-fn is_checked_by(alloc: Global, most: usize) -> bool {
-    let mut source = Broken::new(WITH_CERT.as_bytes(), most, 100, End::Fails);
+/// Whether a check of it by reads of so many bytes, of which there are so many, has its answer.
+fn is_checked_by(alloc: Global, most: usize, reads: usize) -> bool {
+    let mut source = Broken::new(WITH_CERT.as_bytes(), most, reads, End::Fails);
     let mut sink = Sink::new(alloc, 1_000);
     check_ending_of(alloc, &mut source, &mut sink) == Ended::Whole
         && sink.taken() == b"refused C1\n".as_slice()
 }
 
 #[test]
-fn an_input_is_read_to_its_end(rt: HostRuntime) {
-    for most in [1, 2, 7, 100] {
-        assert!(rt; is_run_by(rt.alloc(), most), "{most}");
-        assert!(rt; is_checked_by(rt.alloc(), most), "{most}");
+fn an_input_is_read_to_its_end_and_no_further(rt: HostRuntime) {
+    for (most, run_reads, check_reads) in READS {
+        assert!(rt; is_run_by(rt.alloc(), most, run_reads), "{most}");
+        assert!(rt; is_checked_by(rt.alloc(), most, check_reads), "{most}");
     }
 }
 
@@ -192,8 +195,9 @@ fn a_fault_of_the_text_waits_for_the_end(rt: HostRuntime) {
 }
 
 /// The ends of writers, each with how a run or a check ends by it.
-const ENDS: [(End, Ended); 3] = [
+const ENDS: [(End, Ended); 4] = [
     (End::Fails, Ended::Failed),
+    (End::FailsOnce, Ended::Failed),
     (End::Interrupted, Ended::Failed),
     (End::Nothing, Ended::Stopped),
 ];
@@ -231,7 +235,7 @@ fn a_writer_that_ends_has_a_front(rt: HostRuntime) -> Result<(), Fail> {
     let report = report_of(rt.alloc(), text.as_str())?;
     assert!(rt; !report.is_empty());
     for writes in 0..report.len() {
-        let ends = ENDS[writes % 3];
+        let ends = ENDS[writes % 4];
         assert!(rt; has_a_front(rt.alloc(), text.as_str(), report.as_slice(), writes, ends));
     }
     Ok(())

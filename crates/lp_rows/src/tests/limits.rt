@@ -4,17 +4,37 @@ use lp_models::Immediate;
 use lp_trace::ReadFault;
 use std::test::*;
 
+/// Whether a line of a text is one more than its part may have.
+fn is_too_many(alloc: Global, text: &str, line: u64) -> bool {
+    match Trace::read(alloc, text.as_bytes()) {
+        Err(ReadFault::Trace(fault)) => (fault.line, fault.cause.number()) == (line, 10),
+        _ => false,
+    }
+}
+
+/// A text of so many symbols, and of a patch of so many of them.
+fn many_names(alloc: Global, symbols: u16, functions: u16) -> Result<String, Fail> {
+    let mut text = String::from_str(alloc, "lptrace 1\n")?;
+    for name in 0..symbols {
+        text.push_str(format!(in alloc; "sym s{name}\n")?.as_str())?;
+    }
+    for name in 0..functions {
+        text.push_str(format!(in alloc; "patch s{name}\n")?.as_str())?;
+    }
+    Ok(text)
+}
+
 #[test]
-fn a_million_events_are_the_most(rt: HostRuntime) -> Result<(), Fail> {
+fn a_line_too_many_has_its_fault(rt: HostRuntime) -> Result<(), Fail> {
     let mut text = text_of(rt.alloc(), "boot 1 normal")?;
     for _ in 0..1_000_001 {
         text.push_str("walk\n")?;
     }
-    let fault = match Trace::read(rt.alloc(), text.as_bytes()) {
-        Err(ReadFault::Trace(fault)) => (fault.line, fault.cause.number()),
-        _ => (0, 0),
-    };
-    assert_eq!(rt; fault, (1_000_007, 10));
+    assert!(rt; is_too_many(rt.alloc(), text.as_str(), 1_000_007));
+    let symbols = many_names(rt.alloc(), 4_097, 0)?;
+    assert!(rt; is_too_many(rt.alloc(), symbols.as_str(), 4_098));
+    let functions = many_names(rt.alloc(), 257, 257)?;
+    assert!(rt; is_too_many(rt.alloc(), functions.as_str(), 515));
     Ok(())
 }
 

@@ -9,6 +9,8 @@ use std::io::{self, ErrorKind, Read, Write};
 pub(super) enum End {
     /// It fails.
     Fails,
+    /// It fails, and would then go on.
+    FailsOnce,
     /// It is interrupted.
     Interrupted,
     /// It gives or takes nothing more.
@@ -16,11 +18,19 @@ pub(super) enum End {
 }
 
 impl End {
+    /// How often it would go on behind its end.
+    fn further(self) -> usize {
+        match self {
+            End::FailsOnce => usize::MAX,
+            _ => 0,
+        }
+    }
+
     fn answer(self) -> io::Result<usize>
         ensures { IfOk result (λ count. count ≡ 0) }
     {
         match self {
-            End::Fails => Err(io::Error::from(ErrorKind::BrokenPipe)),
+            End::Fails | End::FailsOnce => Err(io::Error::from(ErrorKind::BrokenPipe)),
             End::Interrupted => Err(io::Error::from(ErrorKind::Interrupted)),
             End::Nothing => Ok(0),
         }
@@ -48,6 +58,7 @@ impl<'a> Broken<'a> {
 impl<'a> Read for Broken<'a> {
     fn read(&mut self, buf: &mut [u8]) -> io::Result<usize> {
         if self.reads == 0 {
+            self.reads = self.end.further();
             return self.end.answer();
         }
         self.reads -= 1;
@@ -100,6 +111,7 @@ impl Full {
 impl Write for Full {
     fn write(&mut self, buf: &[u8]) -> io::Result<usize> {
         if self.writes == 0 {
+            self.writes = self.end.further();
             return self.end.answer();
         }
         self.writes -= 1;
