@@ -3,8 +3,8 @@
 #![tactic(auto)]
 
 use lp_models::Hybrid;
-use lp_replay::ShortWhat;
 use lp_trace::{Outcome, ReadFault, ReplayFault, Trace, replay};
+use lp_transition::What;
 use std::alloc::{AllocError, Global};
 use std::process::ExitCode;
 use std::rt::Files;
@@ -52,9 +52,9 @@ impl From<AllocError> for Fault {
 /// Who switched, a line each: the number of the event, and the group's, which is the task's.
 fn moves(alloc: Global, outcome: &Outcome) -> Result<String, AllocError> {
     let mut text = String::new(alloc);
-    for (index, reply) in (&outcome.replies).into_iter().enumerate() {
-        if reply.short.what == ShortWhat::Switched {
-            for group in reply.groups {
+    for (index, reply) in outcome.replies.to_vec(alloc)?.iter().enumerate() {
+        if let What::Switched(groups) = &reply.what {
+            for group in groups.as_slice() {
                 text.push_str(format!(in alloc; "{} {}\n", index + 1, group.0)?.as_str())?;
             }
         }
