@@ -1,3 +1,2 @@
 mod Asked
 mod Order
-mod Rows

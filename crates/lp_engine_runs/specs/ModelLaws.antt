@@ -1,7 +1,7 @@
 -- The laws of a transition at one model, and at two.
 use Rattle.std.specs.Prelude.{ℕ, ◌≤◌}
 use Rattle.lp_model.specs.Rules.{Rules}
-use Rattle.lp_transition.specs.Laws.{HasOneFirstCheck, KeepsThePast, SwitchesNoneLater, CompletesNoneLater, WaitsForAReason, TrustsChains, OpensSoundly, KeepsOneVersion, MixesNoStay, StepsAsDefined, StatesAreSound}
+use Rattle.lp_transition.specs.Laws.{HasOneFirstCheck, KeepsThePast, SwitchesNoneLater, CompletesNoneLater, WaitsForAReason, TrustsChains, OpensSoundly, KeepsOneVersion, MixesNoStay, StepsAsDefined, StatesAreSound, StatesTell}
 use Rattle.lp_transition.specs.Leg.{Leg}
 use Rattle.lp_transition.specs.Schedule.{Schedule, CompletesAt, IsFirstCheck}
 use Rattle.lp_transition.specs.Sound.{IsSound}
@@ -19,6 +19,7 @@ pub record KeepsAllLaws (model : Rules) : Type 0 where
   pub no_stay_is_mixed : MixesNoStay model
   pub the_machine_steps_as_defined : StepsAsDefined model
   pub a_leg_may_be_cut : StatesAreSound model
+  pub states_tell : StatesTell model
 
 -- under the first model each leg is complete at the same event as under the second, or before
 pub record IsNeverLaterThan (a b : Rules) : Type 0 where

@@ -58,6 +58,9 @@ impl Journal {
     ///
     /// Else the first cause that fits: a stranger, of whom the least is named; a seat that is missing; the first
     /// difference of the least task, or of the control; and NoMemory wherever an allocation failed.
+    ///
+    /// One table by task number has each seat's place, and one pass over the journal moves each seat's cursor along its
+    /// own list: a search for each seat would cost the journal's length times the seats.
     pub fn audit(&self, alloc: Global, seats: &[Seat], control: &Control) -> Result<(), CloseCause>
         ensures closed { OnOk result (IsClosed self.now seats.now control.now) }
         ensures belong { OnOk result (AllBelong self.now.entries seats.now) }

@@ -23,6 +23,10 @@ const TASKS: usize = 65_536;
 /// Stays are counted for each patch by itself, those that aren't over too. A count is made before
 /// the first event, and then steps by each event with its reply.
 ///
+/// It keeps what is under way alone: for each patch and task how many calls of the patch are on the
+/// stack, and which sides ran since the stack was last free of them. So an event costs the same
+/// however long the run is, and no stay is kept once it is over.
+///
 /// Contracts see what it keeps.
 #[derive(Drop)]
 pub struct StayCount {

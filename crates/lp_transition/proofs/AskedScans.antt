@@ -258,17 +258,21 @@ all-enough model kind s vs found = record {
     kept_all [] = refl
     kept_all (w ∷ ws) = ap (λ us. w ∷ us) (kept_all ws)
 
+-- a scan that leaves out all finds nothing
+pub asked_none : (model : Rules) (kind : CheckKind) (s : State) → [] ≡ verdicts_among model kind s (λ group. false)
+asked_none model kind s = sym (verdicts_agree model kind s (is_asked s (λ group. false)) (λ t. false) (λ t x live off. ap (on_live false (λ (y : Standing). false)) live) ∙ kept_none (verdicts_of model kind s))
+  where
+    kept_none : (ws : List Verdict) → filter (λ v. false) ws ≡ []
+    kept_none [] = refl
+    kept_none (w ∷ ws) = kept_none ws
+
 -- a scan of a kind that the model doesn't use may leave out all
 pub none-enough : (model : Rules) → IsLawful model → (kind : CheckKind) (s : State) → model.uses kind ≡ false → AreEnough model kind s []
 none-enough model lawful kind s unused = record {
   asked = λ group. false;
   others = λ t x live off out. record { member = t; life = x; live = live; off = off; grouped = refl; refused = ap is_some (lawful.blames_unused kind (view_of t x) s.aim unused) };
-  found = sym (verdicts_agree model kind s (is_asked s (λ group. false)) (λ t. false) (λ t x live off. ap (on_live false (λ (y : Standing). false)) live) ∙ kept_none (verdicts_of model kind s));
+  found = asked_none model kind s;
 }
-  where
-    kept_none : (ws : List Verdict) → filter (λ v. false) ws ≡ []
-    kept_none [] = refl
-    kept_none (w ∷ ws) = kept_none ws
 
 -- what a scan finds of the waiting tasks of some groups
 pub asked-among : (model : Rules) (kind : CheckKind) (s : State) (asked : ℕ → Bool) (views : List TaskView) (vs : List Verdict) → views ≡ filter (λ view. is_asked s asked view.task) (views_of s) → vs ≡ map (verdict_of model kind s.aim) views → vs ≡ verdicts_among model kind s asked

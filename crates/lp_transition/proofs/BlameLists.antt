@@ -1,7 +1,7 @@
 -- What code makes of a list of standing blames.
-use Rattle.std.proofs.Common.{◌≡◌, ℕ, zero, suc, ◌+◌, ◌<◌, Bool, true, false, not, ◌&&◌, ◌||◌, List, [], ◌∷◌, ◌++◌, length, map, take, set, get_or, Option, Some, None, is_some, if◌then◌else◌, nat_eq, refl, sym, ap, ◌∙◌, ⊎_elim}
+use Rattle.std.proofs.Common.{◌≡◌, ℕ, zero, suc, ◌+◌, ◌<◌, ◌≤◌, Bool, true, false, not, ◌&&◌, ◌||◌, List, [], ◌∷◌, ◌++◌, length, map, take, get_or, Option, Some, None, is_some, if◌then◌else◌, nat_eq, refl, sym, ap, ◌∙◌, ⊎_elim}
 use Rattle.std.proofs.lemmas.Bool.{cond-true, cond-false, cases_eq, eq-eqb, ne_eqb}
-use Rattle.std.proofs.lemmas.List.{get_or-set_same, get_or-set_other, map_more}
+use Rattle.std.proofs.lemmas.List.{map_more}
 use Rattle.std.specs.List.{list_any}
 use Rattle.lp_stack.specs.declared.frame.Frame.{Frame}
 use Rattle.lp_numbers.specs.Numbers.{Numbers, has}
@@ -15,13 +15,16 @@ use Rattle.lp_transition.specs.Blames.{or_blame, frame_blame}
 use Rattle.lp_transition.specs.inside.Table.{is_in}
 use Rattle.lp_transition.specs.inside.Blames.{blame_at, frame_there, looked_at, told_of, found_by, IsDecided}
 
--- ---- A list without blames
+-- ---- A place more
 
-pub none_more : (blames : List (Option StandingBlame)) → ((g : ℕ) → blame_at blames g ≡ None) → (g : ℕ) → blame_at (blames ++ None ∷ []) g ≡ None
-none_more [] none zero = refl
-none_more [] none (suc g) = refl
-none_more (b ∷ blames) none zero = none zero
-none_more (b ∷ blames) none (suc g) = none_more blames (λ n. none (suc n)) g
+no_blame_more : (blames : List (Option StandingBlame)) (g : ℕ) → blame_at (blames ++ None ∷ []) g ≡ blame_at blames g
+no_blame_more [] zero = refl
+no_blame_more [] (suc g) = refl
+no_blame_more (b ∷ blames) zero = refl
+no_blame_more (b ∷ blames) (suc g) = no_blame_more blames g
+
+pub same_more : (blames old : List (Option StandingBlame)) → ((g : ℕ) → blame_at blames g ≡ blame_at old g) → (g : ℕ) → blame_at (blames ++ None ∷ []) g ≡ blame_at old g
+same_more blames old same g = no_blame_more blames g ∙ same g
 
 -- ---- A look at a task
 
@@ -70,18 +73,19 @@ module _ (table : Table) (t group : ℕ) (x : Standing) (b : StandingBlame) (bla
           no true false = refl
           no false s = refl
 
-  pub looked-gone : b.task.0 ≡ t → (list_any (λ (f : Frame). nat_eq f.serial b.serial) x.frames ≡ false) → group < length blames → (g : ℕ) → blame_at (set blames group None) g ≡ looked_at table t g (blame_at blames g)
-  looked-gone named gone within g =
+  pub looked-gone : b.task.0 ≡ t → (list_any (λ (f : Frame). nat_eq f.serial b.serial) x.frames ≡ false) → (later : List (Option StandingBlame)) → ((g : ℕ) → blame_at later g ≡ (if nat_eq g group then None else blame_at blames g))
+      → (g : ℕ) → blame_at later g ≡ looked_at table t g (blame_at blames g)
+  looked-gone named gone later put g =
       ⊎_elim
       (λ (same : g ≡ group).
       let here = ap (blame_at blames) same ∙ stands in
-      ap (blame_at (set blames group None)) same
-      ∙ (get_or-set_same blames group None None within
+      put g
+      ∙ (cond-true (nat_eq g group) None (blame_at blames g) (eq-eqb g group same)
       ∙ (sym (ap (λ p. if p && (nat_eq b.task.0 t && not (frame_there (slot table t) b.serial)) then None else Some b) (ap (is_in g) live ∙ eq-eqb x.group g (sym (same ∙ grouped)))
       ∙ (ap (λ p. if p && not (frame_there (slot table t) b.serial) then None else Some b) (eq-eqb b.task.0 t named)
       ∙ ap (λ p. if not p then None else Some b) (ap (λ o. frame_there o b.serial) live ∙ gone)))
       ∙ ap (looked_at table t g) (sym here))))
-      (λ (ne : g ≡ group → ⊥). get_or-set_other blames group g None None ne ∙ apart g (blame_at blames g) (outside g ne))
+      (λ (ne : g ≡ group → ⊥). put g ∙ (cond-false (nat_eq g group) None (blame_at blames g) (ne_eqb g group ne) ∙ apart g (blame_at blames g) (outside g ne)))
       (cases_eq g group)
 
 -- ---- The verdicts of a scan
@@ -112,7 +116,7 @@ decided_more None (Some told) decided is = ap (λ p. p || true) is
 
 -- what some verdicts made of the groups' blames
 pub record AreDecided (table : Table) (verdicts : List Verdict) (old now : List (Option StandingBlame)) (noted decided : Numbers) : Type 0 where
-  pub count : length now ≡ 65536
+  pub few : length now ≤ 65536
   pub blames : (group : ℕ) → group < 65536 → blame_at now group ≡ or_blame (blame_at old group) (found_by table group verdicts)
   pub decides : (group : ℕ) → group < 65536 → has decided group ≡ is_some (first_of (map (told_of table group) verdicts))
   pub others : (group : ℕ) → has noted group ≡ false → blame_at now group ≡ None
@@ -120,7 +124,7 @@ pub record AreDecided (table : Table) (verdicts : List Verdict) (old now : List 
 pub decided_next : (table : Table) (verdicts : List Verdict) (i : ℕ) (d : Verdict) (old now later : List (Option StandingBlame)) (noted more_noted decided more_decided : Numbers) → i < length verdicts → AreDecided table (take i verdicts) old now noted decided
     → IsDecided (λ group. told_of table group (get_or verdicts i d)) now later noted more_noted decided more_decided → AreDecided table (take (i + 1) verdicts) old later more_noted more_decided
 decided_next table verdicts i d old now later noted more_noted decided more_decided within so_far is = record {
-  count = is.count;
+  few = is.few;
   blames = λ group small.
       let told = told_of table group in
       let first = first_of (map told (take i verdicts)) in

@@ -252,7 +252,7 @@ leaves_scanned model lawful e old new waiting left_waiting members more step was
         subst (IsBlamed model (affected model (state_in e) step.event) g) same (after g b (blamed g b is))
 
 -- a group with a blame has a place
-pub blame_within : (blames : List (Option StandingBlame)) (g : ℕ) (b : StandingBlame) → length blames ≡ 65536 → blame_at blames g ≡ Some b → g < 65536
+pub blame_within : (blames : List (Option StandingBlame)) (g : ℕ) (b : StandingBlame) → length blames ≤ 65536 → blame_at blames g ≡ Some b → g < 65536
 blame_within blames g b long is =
     ⊎_elim
     (λ (within : g < 65536). within)

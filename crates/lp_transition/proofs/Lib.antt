@@ -1,4 +1,3 @@
-pub mod Rows
 pub mod Quantifiers
 pub mod Plain
 pub mod Points
@@ -50,5 +49,7 @@ pub mod Unchanged
 pub mod BlameLists
 pub mod Blames
 pub mod BlamedScans
+pub mod QuietScans
 pub mod BootLemmas
 pub mod OpeningLemmas
+pub mod Readers

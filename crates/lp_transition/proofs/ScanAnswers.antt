@@ -115,7 +115,7 @@ abbrev pub Completes : Numbers → List Verdict → Bool → Type 0
 Completes waiting vs completed = (completed ≡ true) ↔ ((all_admit vs ≡ true) × (tasks_of vs ≡ passing 0 65536 (has waiting)))
 
 -- a scan is answered by verdicts that are enough
-verdicts-scan : (model : Rules) (s : State) (kind : CheckKind) (vs : List Verdict) → is_scan_kind kind ≡ true → AreEnough model kind s vs → AreVerdictsFor model s (scan_event kind) vs
+pub verdicts-scan : (model : Rules) (s : State) (kind : CheckKind) (vs : List Verdict) → is_scan_kind kind ≡ true → AreEnough model kind s vs → AreVerdictsFor model s (scan_event kind) vs
 verdicts-scan model s KernelExit vs h enough = absurd (false≢true h)
 verdicts-scan model s IdlePoint vs h enough = absurd (false≢true h)
 verdicts-scan model s Walk vs h enough = enough

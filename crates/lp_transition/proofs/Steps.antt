@@ -131,6 +131,13 @@ control_quiet model k now seen Disable group bounds e = record { calm = refl; un
 control_quiet model k now seen Reverse group bounds e = record { calm = refl; unchecked = refl }
 control_quiet model k now seen _ group bounds e = absurd (cc)
 
+-- a state is complete where the leg is that stands there
+pub complete_is : (model : Rules) (leg : Leg) → complete_in (state_of model leg) ≡ is_complete_now model leg
+unfolding is_complete_now shown complete
+complete_is model leg =
+    let k = length leg.events in
+    each_live-map leg.bounds (standing leg (first_check model leg) k) (after model leg k) (λ t y. nat_eq y.level leg.target)
+
 module _ (model : Rules) (leg : Leg) (event : Event) where
   abbrev k : ℕ
   k = length leg.events
@@ -180,16 +187,12 @@ module _ (model : Rules) (leg : Leg) (event : Event) where
   switched_is =
       ap (λ test. filter test (range_with_len 0 (suc leg.bounds.tasks))) (fun_ext (λ group. ap (λ n. is_at (suc k) (first_checks model longer n group)) long ∙ is_at_next model longer k group))
 
-  -- ---- Complete, and refused
-
-  complete_is : complete_in (state_of model leg) ≡ is_complete_now model leg
-  unfolding is_complete_now shown complete
-  complete_is = each_live-map leg.bounds (standing leg s k) now (λ t y. nat_eq y.level leg.target)
+  -- ---- Refused
 
   pub refusal_is : refusal_of model (state_of model leg) event ≡ refused_by model leg event
   unfolding refusal_of refused_by shown
   refusal_is =
-      ap₂ (λ seen tests_of_control. first_of (tests leg.bounds seen event ++ tests_of_control)) (outlines_same leg s k now) (ap (λ b. control_tests (state_of model leg) b event) complete_is ∙ control_tests_same (state_of model leg) leg.opening (is_complete_now model leg) event refl)
+      ap₂ (λ seen tests_of_control. first_of (tests leg.bounds seen event ++ tests_of_control)) (outlines_same leg s k now) (ap (λ b. control_tests (state_of model leg) b event) (complete_is model leg) ∙ control_tests_same (state_of model leg) leg.opening (is_complete_now model leg) event refl)
 
   pub plain_refusal : is_control event ≡ false → refused_by model leg event ≡ refusal leg.bounds now event
   unfolding refused_by refusal
@@ -293,7 +296,7 @@ module _ (model : Rules) where
   unfolding shown tasks_after first_checks
   open_shown o = fun_ext (λ t. open_fate o (o.tasks t))
 
-  new_target_same : (a b : State) (event : Event) → a.aim ≡ b.aim → a.from ≡ b.from → new_target a event ≡ new_target b event
+  pub new_target_same : (a b : State) (event : Event) → a.aim ≡ b.aim → a.from ≡ b.from → new_target a event ≡ new_target b event
   new_target_same a b Enable aims froms = ap (λ aim. suc aim.target) aims
   new_target_same a b Disable aims froms = ap (λ aim. pred aim.target) aims
   new_target_same a b Reverse aims froms = froms
@@ -352,7 +355,7 @@ module _ (model : Rules) (leg : Leg) (event : Event) where
       let quiet = λ (group : ℕ). refused_quiet model leg event why group e in
       let o : opens model leg event ≡ false = ap (λ r. is_control event && is_none r) e ∙ and-false (is_control event) in
       let same = quiet_state model leg event quiet in
-      let same_complete : is_complete_now model (and_then leg event) ≡ is_complete_now model leg = sym (complete_is model (and_then leg event) event) ∙ (ap complete_in (sym same) ∙ complete_is model leg event) in
+      let same_complete : is_complete_now model (and_then leg event) ≡ is_complete_now model leg = sym (complete_is model (and_then leg event)) ∙ (ap complete_in (sym same) ∙ complete_is model leg) in
       record {
         answers = answer_is (Some why) e ∙ (ap (λ b. record { what = Refused why; completed = b }) (sym (ap (λ b. b && not (is_complete_now model leg)) same_complete ∙ and-not_self (is_complete_now model leg))) ∙ sym (reply_is (Some why) false e o));
         next_state = next_is (Some why) e ∙ (same ∙ ap (state_of model) (sym (next_leg_is false o)));
@@ -363,7 +366,7 @@ module _ (model : Rules) (leg : Leg) (event : Event) where
       let quiet = λ (group : ℕ). control_quiet model (length leg.events) (after model leg (length leg.events)) (outlines (after model (and_then leg event) (suc (length leg.events)))) event group leg.bounds control in
       let o : opens model leg event ≡ true = ap₂ (λ c r. c && is_none r) control e in
       let same = turned_state model leg event in
-      let same_complete : complete_in (turned model st event) ≡ is_complete_now model (opened model leg event) = ap complete_in same ∙ complete_is model (opened model leg event) event in
+      let same_complete : complete_in (turned model st event) ≡ is_complete_now model (opened model leg event) = ap complete_in same ∙ complete_is model (opened model leg event) in
       record {
         answers = answer_is None e ∙ (cond-true _ _ _ control ∙ (ap₂ (λ w b. record { what = w; completed = b }) (sym (control_done model leg event control (quiet_switched model leg event quiet))) (same_complete ∙ sym (and_true (is_complete_now model (opened model leg event)))) ∙ sym (reply_is None true e o)));
         next_state = next_is None e ∙ (cond-true _ _ _ control ∙ (same ∙ ap (state_of model) (sym (next_leg_is true o))));
@@ -374,9 +377,9 @@ module _ (model : Rules) (leg : Leg) (event : Event) where
       let ok = sym (plain_refusal model leg event plain) ∙ e in
       let o : opens model leg event ≡ false = ap (λ c. c && is_none (refused_by model leg event)) plain in
       let same = switched_state model leg event lawful sound ok in
-      let same_complete : complete_in (with_switches model st event) ≡ is_complete_now model (and_then leg event) = ap complete_in same ∙ complete_is model (and_then leg event) event in
+      let same_complete : complete_in (with_switches model st event) ≡ is_complete_now model (and_then leg event) = ap complete_in same ∙ complete_is model (and_then leg event) in
       record {
-        answers = answer_is None e ∙ (cond-false _ _ _ plain ∙ (ap₂ (λ w b. record { what = w; completed = b }) (told_same model leg event (groups_is model leg event lawful sound ok)) (ap₂ (λ a b. a && not b) same_complete (complete_is model leg event)) ∙ sym (reply_is None false e o)));
+        answers = answer_is None e ∙ (cond-false _ _ _ plain ∙ (ap₂ (λ w b. record { what = w; completed = b }) (told_same model leg event (groups_is model leg event lawful sound ok)) (ap₂ (λ a b. a && not b) same_complete (complete_is model leg)) ∙ sym (reply_is None false e o)));
         next_state = next_is None e ∙ (cond-false _ _ _ plain ∙ (same ∙ ap (state_of model) (sym (next_leg_is false o))));
       }
 

@@ -1,17 +1,22 @@
 -- The laws of a transition, each a statement over the definitions, for one model.
-use Rattle.std.specs.Prelude.{◌≡◌, ℕ, zero, ◌≤◌, List, [], length, All, IsTrue, IsFalse}
+use Rattle.std.specs.Prelude.{◌≡◌, ℕ, zero, ◌≤◌, false, List, [], length, All, Some, None, IsTrue, IsFalse, if◌then◌else◌, nat_eq}
+use Rattle.std.specs.List.{filter_map, range_with_len}
 use Rattle.lp_model.specs.Rules.{Rules}
 use Rattle.lp_transition.specs.declared.event.Event.{Event}
-use Rattle.lp_transition.specs.Tasks.{Life, Live}
-use Rattle.lp_transition.specs.Leg.{Standing, State, Leg, after}
-use Rattle.lp_transition.specs.Schedule.{Schedule, has_come, view, waits, complete, CompletesAt, IsLegal, IsFirstCheck, first_check}
+use Rattle.lp_transition.specs.Tasks.{Life, Live, on_live, is_unused, outlines}
+use Rattle.lp_transition.specs.Leg.{Standing, State, Leg, is_alone, after}
+use Rattle.lp_transition.specs.Schedule.{Schedule, has_come, level, view, standing, waits, complete, CompletesAt, IsLegal, IsFirstCheck, first_check}
 use Rattle.lp_transition.specs.Sound.{IsSound, HasOneVersion, RunsOneVersion}
 use Rattle.lp_transition.specs.Chain.{nobody, IsRefusedBetween, Chain}
-use Rattle.lp_transition.specs.Run.{Run, AreInRange, first_leg, leg_of, and_then, shown, replies}
-use Rattle.lp_transition.specs.Machine.{answer, next, answers, state_of}
+use Rattle.lp_transition.specs.Run.{Run, AreInRange, first_leg, leg_of, and_then, new_target, refused_by, shown, next_leg, reply, replies}
+use Rattle.lp_transition.specs.Machine.{outlines_of, view_of, complete_in, waits_in, refusal_of, affected, answer, next, answers, state_of}
 use Rattle.lp_transition.specs.Steps.{StandsIn, IsStep, opening_at}
 use Rattle.lp_transition.specs.Stays.{moments, stays, is_mixed, mixed_count}
 use Rattle.lp_transition.specs.Order.{IsAtLeastAsPermissive}
+use Rattle.lp_transition.specs.Events.{is_control}
+use Rattle.lp_transition.specs.Scan.{views_of}
+use Rattle.lp_transition.specs.Table.{Engine, slot, standings, state_in}
+use Rattle.lp_transition.specs.Blames.{has_frame_in}
 
 -- Throughout, `first` is a first-check schedule of a leg, `other` any legal one, and k counts the leg's events so far.
 
@@ -138,3 +143,54 @@ pub record StatesAreSound (model : Rules) : Type 0 where
   pub cut :
       (leg : Leg) → IsSound leg.opening → (events : List Event) →
       replies model (opening_at (state_of model leg)) events ≡ replies model leg events
+
+-- ---- What readers tell
+
+module _ (model : Rules) (leg : Leg) where
+  -- how many events there are so far, and the first-check schedule
+  abbrev count : ℕ
+  count = length leg.events
+
+  abbrev first : Schedule
+  first = first_check model leg
+
+  -- the words in which an engine's readers speak say of where the leg stands what the definitions say there
+  pub record TellsLeg : Type 0 where
+    pub complete : complete_in (state_of model leg) ≡ complete model leg first count
+    pub waits : (group : ℕ) → waits_in (state_of model leg) group ≡ waits model leg first count group
+    pub alone :
+        (group t : ℕ) →
+        is_alone leg.bounds (outlines_of (shown model leg)) group t
+        ≡ is_alone leg.bounds (outlines (after model leg count)) group t
+    -- what a check sees of a live task
+    pub seen : (t : ℕ) (x : Life) → view_of t (standing leg first count x) ≡ view leg first t x
+    -- a scan looks at the live tasks off the target, by increasing number
+    pub views :
+        let waiting_view = λ (t : ℕ) (x : Life).
+        if nat_eq (level leg first count x) leg.target then None else Some (view leg first t x) in
+        views_of (state_of model leg)
+        ≡ filter_map (λ t. on_live None (waiting_view t) (after model leg count t)) (range_with_len 1 leg.bounds.tasks)
+    -- why an event is refused, and where a control event takes the tasks
+    pub refused : (event : Event) → refusal_of model (state_of model leg) event ≡ refused_by model leg event
+    pub turns : (event : Event) → new_target (state_of model leg) event ≡ new_target leg.opening event
+    -- the answer to an event, and where the leg stands then
+    pub answers :
+        IsSound leg.opening → (event : Event) → answer model (state_of model leg) event ≡ reply model leg event
+    pub steps :
+        IsSound leg.opening → (event : Event) → next model (state_of model leg) event ≡ state_of model (next_leg model leg event)
+    -- the frames that an accepted event, if it is no control event, leaves on the stacks
+    pub frames :
+        IsSound leg.opening → (event : Event) → refused_by model leg event ≡ None → is_control event ≡ false →
+        (t serial : ℕ) →
+        has_frame_in (affected model (state_of model leg) event) t serial
+        ≡ has_frame_in (state_of model (next_leg model leg event)) t serial
+
+  -- an engine that stands there has each live task in its slot, with its class, mode, group, level and frames
+  pub record TellsTask (e : Engine) (t : ℕ) : Type 0 where
+    pub live : slot e.table t ≡ on_live None (λ x. Some (standing leg first count x)) (after model leg count t)
+    pub used : is_unused (standings e.table t) ≡ is_unused (after model leg count t)
+
+-- what the readers of an engine tell of where it stands, in words of the machine, is what the definitions say there
+pub record StatesTell (model : Rules) : Type 0 where
+  pub leg : (leg : Leg) → TellsLeg model leg
+  pub task : (leg : Leg) (e : Engine) → state_in e ≡ state_of model leg → (t : ℕ) → TellsTask model leg e t

@@ -10,8 +10,6 @@ pub mod Stays
 pub mod Machine
 pub mod Steps
 pub mod Laws
-pub mod RowModels
-pub mod Rows
 pub mod Table
 pub mod Weigh
 pub mod Scan

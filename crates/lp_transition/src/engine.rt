@@ -10,6 +10,7 @@ ghost use Rattle.lp_transition.specs.Leg.{is_alone};
 ghost use Rattle.lp_stack.specs.TaskView.{seen};
 ghost use Rattle.lp_transition.specs.Machine.{complete_in, outlines_of, view_of};
 
+mod blame_table;
 mod blames;
 mod boot;
 mod control;
@@ -19,6 +20,7 @@ mod open_scan;
 mod opening;
 mod plain_events;
 mod point;
+mod quiet_scan;
 mod refuse;
 mod scan;
 mod step;

@@ -2,9 +2,7 @@
 //!
 //! The functions do nothing: each has a law as its contract, so a call of one at a model gives
 //! the law there.
-ghost use Rattle.lp_transition.specs.RowModels.{hybrid, leave_kernel, all_at_once, immediate, process_group};
-ghost use Rattle.lp_transition.specs.Rows.{RowsCompute};
-ghost use Rattle.lp_transition.specs.Laws.{KeepsThePast, HasOneFirstCheck, SwitchesNoneLater, CompletesNoneLater, NeverLoses, WaitsForAReason, OpensSoundly, KeepsOneVersion, MixesNoStay, StatesAreSound, StepsAsDefined, TrustsChains};
+ghost use Rattle.lp_transition.specs.Laws.{KeepsThePast, HasOneFirstCheck, SwitchesNoneLater, CompletesNoneLater, NeverLoses, WaitsForAReason, OpensSoundly, KeepsOneVersion, MixesNoStay, StatesAreSound, StatesTell, StepsAsDefined, TrustsChains};
 
 use lp_model::Consistency;
 
@@ -70,7 +68,7 @@ pub fn a_leg_may_be_cut<M: Consistency>()
     ensures { StatesAreSound M.rules }
 {}
 
-/// Short runs whose replies and stays are known, computed from the definitions.
-pub fn worked_rows()
-    ensures { RowsCompute hybrid leave_kernel all_at_once immediate process_group }
+/// What an engine's readers tell, by words of the machine, is what the definitions say where it stands.
+pub fn states_tell<M: Consistency>()
+    ensures { StatesTell M.rules }
 {}

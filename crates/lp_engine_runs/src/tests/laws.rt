@@ -5,7 +5,6 @@ ghost use Rattle.lp_model.specs.Row.{rules_of};
 ghost use Rattle.lp_models.specs.Models.{hybrid, leave_kernel, all_at_once, immediate};
 ghost use Rattle.lp_process.specs.Models.{process_group};
 ghost use Rattle.lp_transition.specs.Order.{IsAtLeastAsPermissive};
-ghost use Rattle.lp_transition.specs.Rows.{RowsCompute};
 ghost use Rattle.lp_engine_runs.specs.ModelLaws.{IsNeverLaterThan, KeepsAllLaws};
 
 use lp_model::Consistency;
@@ -28,6 +27,7 @@ fn keeps_all_laws<M: Consistency>()
     laws::no_stay_is_mixed::<M>();
     laws::the_machine_steps_as_defined::<M>();
     laws::a_leg_may_be_cut::<M>();
+    laws::states_tell::<M>();
 }
 
 fn hybrid_keeps_all_laws()
@@ -84,11 +84,6 @@ fn immediate_is_never_later_than_leave_kernel()
     laws::permissive_models_never_lose::<Immediate, LeaveKernel>();
 }
 
-/// The models as they are built answer the worked rows.
-fn models_answer_the_worked_rows()
-    ensures { RowsCompute (rules_of hybrid) (rules_of leave_kernel) (rules_of all_at_once) (rules_of immediate) (rules_of process_group) }
-{}
-
 #[test]
 fn laws_hold_at_each_model(_rt: HostRuntime) {
     hybrid_keeps_all_laws();
@@ -99,6 +94,4 @@ fn laws_hold_at_each_model(_rt: HostRuntime) {
     hybrid_is_never_later_than_leave_kernel();
     immediate_is_never_later_than_hybrid();
     immediate_is_never_later_than_leave_kernel();
-    laws::worked_rows();
-    models_answer_the_worked_rows();
 }

@@ -1,5 +1,5 @@
 -- How standing blames are kept.
-use Rattle.std.specs.Prelude.{◌≡◌, ℕ, ◌<◌, Bool, false, not, ◌&&◌, ◌||◌, List, map, length, Option, Some, None, is_some, if◌then◌else◌, nat_eq, slice_index_or, Contains}
+use Rattle.std.specs.Prelude.{◌≡◌, ℕ, ◌<◌, ◌≤◌, Bool, false, not, ◌&&◌, ◌||◌, List, map, length, Option, Some, None, is_some, if◌then◌else◌, nat_eq, slice_index_or, Contains}
 use Rattle.std.specs.List.{list_any}
 use Rattle.std.specs.Option.{option_map}
 use Rattle.lp_stack.specs.declared.frame.Frame.{Frame}
@@ -21,9 +21,14 @@ use Rattle.lp_transition.specs.Blames.{frame_blame, or_blame}
 abbrev pub blame_at : List (Option StandingBlame) → (group : ℕ) → Option StandingBlame
 blame_at blames group = slice_index_or blames group None
 
--- a place for each group, and a set with each group that has a blame
+-- no more places than groups, and room for one of each
+pub record HasPlaces (blames : List (Option StandingBlame)) (capacity : ℕ) : Type 0 where
+  pub few : length blames ≤ 65536
+  pub room : 65536 ≤ capacity
+
+-- no more places than groups, and a set with each group that has a blame
 pub record AreNoted (blames : List (Option StandingBlame)) (noted : Numbers) : Type 0 where
-  pub count : length blames ≡ 65536
+  pub few : length blames ≤ 65536
   pub others : (group : ℕ) → has noted group ≡ false → blame_at blames group ≡ None
 
 -- ---- After a return
@@ -52,7 +57,7 @@ found_by table group verdicts = frame_blame (first_of (map (told_of table group)
 
 -- what one verdict does, by what it tells of each group: where none before it told anything of the group it decides
 pub record IsDecided (told : ℕ → Option (ℕ × Blame)) (old new : List (Option StandingBlame)) (old_noted noted old_decided decided : Numbers) : Type 0 where
-  pub count : length new ≡ 65536
+  pub few : length new ≤ 65536
   pub blames : (group : ℕ) → group < 65536 → blame_at new group ≡ (if has old_decided group then blame_at old group else or_blame (blame_at old group) (frame_blame (told group)))
   pub decides : (group : ℕ) → group < 65536 → has decided group ≡ (has old_decided group || is_some (told group))
   pub others : ((group : ℕ) → has old_noted group ≡ false → blame_at old group ≡ None) → (group : ℕ) → has noted group ≡ false → blame_at new group ≡ None

@@ -42,5 +42,5 @@ pub record IsCore (model : Rules) (e : Engine) (waiting : Numbers) (members : Li
 pub record IsWhole (model : Rules) (e : Engine) (waiting : Numbers) (members : List ℕ) (last : LastScan) : Type 0 where
   pub core : IsCore model e waiting members last
   pub open core use {engine, unchanged}
-  pub groups : length e.blames ≡ 65536
+  pub groups : length e.blames ≤ 65536
   pub blamed : AreBlamed model (state_in e) e.blames

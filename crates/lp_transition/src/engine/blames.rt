@@ -6,10 +6,11 @@ ghost use Rattle.lp_transition.specs.Table.{slot};
 ghost use Rattle.lp_transition.specs.Blames.{or_blame};
 ghost use Rattle.lp_transition.specs.inside.Blames.{blame_at, looked_at, found_by, told_of, IsDecided};
 
+use super::blame_table::BlameTable;
 use super::scan::member_from;
 use super::task_table::TaskTable;
 use lp_model::{Blame, Verdict};
-use lp_numbers::{NUMBERS, NumberSet};
+use lp_numbers::NumberSet;
 use lp_stack::{Frame, GroupId, TaskId};
 use std::alloc::{AllocError, Global};
 use std::marker::Model;
@@ -27,7 +28,7 @@ pub struct StandingBlame {
 /// For each group its standing blame, if it has one. Only `new` allocates.
 #[derive(Drop)]
 pub(super) struct Blames {
-    of_group: Vec<Option<StandingBlame>>,
+    of_group: BlameTable,
     /// The groups that got a blame since the last control event, so that one needn't go over all.
     noted: NumberSet,
     /// The groups of which the present scan refused a member; of use in a scan alone.
@@ -41,19 +42,19 @@ impl Model for Blames {
 
     ghost Value = { List (Option StandingBlame) };
 
-    ghost view = { λ b. b.of_group.items };
+    ghost view = { λ b. b.of_group };
 
-    ghost invariant = { λ b. AreNoted b.of_group.items b.noted };
+    ghost invariant = { λ b. AreNoted b.of_group b.noted };
 }
 
 impl Blames {
     /// No group has a blame; AllocError where an allocation failed.
     pub(super) fn new(alloc: Global) -> Result<Blames, AllocError>
         ensures none { IfOk result (λ blames. (group : ℕ) → blame_at blames group ≡ None) }
-        ensures groups { IfOk result (λ blames. length blames ≡ 65536) }
+        ensures groups { IfOk result (λ blames. length blames ≤ 65536) }
     {
         Ok(Blames {
-            of_group: no_blames(alloc)?,
+            of_group: BlameTable::new(alloc)?,
             noted: NumberSet::new(alloc)?,
             decided: NumberSet::new(alloc)?,
         })
@@ -63,13 +64,13 @@ impl Blames {
     pub(super) fn of(&self, group: GroupId) -> Option<StandingBlame>
         ensures { result ≡ blame_at self.now group.0 }
     {
-        self.of_group[usize::from(group.0)]
+        self.of_group.of(group)
     }
 
     /// Against another target a blame says nothing.
     pub(super) fn clear(&mut self)
         ensures none { (group : ℕ) → blame_at self.new group ≡ None }
-        ensures groups { length self.new ≡ 65536 }
+        ensures groups { length self.new ≤ 65536 }
     {
         clear_members(&mut self.of_group, &self.noted);
         self.noted.clear();
@@ -80,7 +81,7 @@ impl Blames {
     #[inline(always)]
     pub(super) fn popped(&mut self, waiting: &NumberSet, tasks: &TaskTable, task: TaskId)
         ensures blames { (group : ℕ) → blame_at self.new group ≡ (if has waiting.now task.0 then looked_at tasks.now task.0 group (blame_at self.old group) else blame_at self.old group) }
-        ensures groups { length self.new ≡ 65536 }
+        ensures groups { length self.new ≤ 65536 }
     {
         let _ = &self.of_group;
         if waiting.contains(task.0) {
@@ -91,7 +92,7 @@ impl Blames {
     /// The group's blame goes where it names a frame of this task that is on the stack no longer.
     fn look_again(&mut self, tasks: &TaskTable, task: TaskId)
         ensures blames { (group : ℕ) → blame_at self.new group ≡ looked_at tasks.now task.0 group (blame_at self.old group) }
-        ensures groups { length self.new ≡ 65536 }
+        ensures groups { length self.new ≤ 65536 }
     {
         let _ = &self.of_group;
         let Some(live) = tasks.get(task) else {
@@ -107,14 +108,14 @@ impl Blames {
         if has_serial(live.view(task).frames, blame.serial) {
             return;
         }
-        self.of_group[usize::from(group.0)] = None;
+        self.of_group.put(group.0, None);
     }
 
     /// After a scan: a group without a blame gets that of the first member that was refused, if
     /// that was for a frame.
     pub(super) fn note(&mut self, tasks: &TaskTable, verdicts: &[Verdict])
         ensures blames { (group : ℕ) → group < 65536 → blame_at self.new group ≡ or_blame (blame_at self.old group) (found_by tasks.now group verdicts.now) }
-        ensures groups { length self.new ≡ 65536 }
+        ensures groups { length self.new ≤ 65536 }
     {
         self.decided.clear();
         decide_all(
@@ -127,28 +128,16 @@ impl Blames {
     }
 }
 
-/// A place for each group.
-fn no_blames(alloc: Global) -> Result<Vec<Option<StandingBlame>>, AllocError>
-    ensures none { IfOk result (λ blames. (group : ℕ) → blame_at blames.items group ≡ None) }
-    ensures groups { IfOk result (λ blames. length blames.items ≡ 65536) }
-{
-    let mut blames = Vec::with_capacity(alloc, NUMBERS)?;
-    while blames.len() < NUMBERS {
-        blames.push(None)?;
-    }
-    Ok(blames)
-}
-
 /// Takes out the blames of some groups, of which alone there are any.
-fn clear_members(of_group: &mut Vec<Option<StandingBlame>>, groups: &NumberSet)
-    requires count { length of_group.old.items ≡ 65536 }
-    requires others { (group : ℕ) → has groups.now group ≡ false → blame_at of_group.old.items group ≡ None }
-    ensures none { (group : ℕ) → blame_at of_group.new.items group ≡ None }
-    ensures count { length of_group.new.items ≡ 65536 }
+fn clear_members(of_group: &mut BlameTable, groups: &NumberSet)
+    requires count { length of_group.old ≤ 65536 }
+    requires others { (group : ℕ) → has groups.now group ≡ false → blame_at of_group.old group ≡ None }
+    ensures none { (group : ℕ) → blame_at of_group.new group ≡ None }
+    ensures count { length of_group.new ≤ 65536 }
 {
     let mut from = 0usize;
     while let Some(number) = member_from(groups, from) {
-        of_group[usize::from(number)] = None;
+        of_group.put(number, None);
         from = usize::from(number) + 1;
     }
 }
@@ -162,18 +151,18 @@ fn has_serial(frames: &[Frame], serial: u64) -> bool
 
 /// The verdicts are by increasing task number: the first that refuses a member of a group decides.
 fn decide_all(
-    of_group: &mut Vec<Option<StandingBlame>>,
+    of_group: &mut BlameTable,
     noted: &mut NumberSet,
     decided: &mut NumberSet,
     tasks: &TaskTable,
     verdicts: &[Verdict],
 )
-    requires count { length of_group.old.items ≡ 65536 }
-    requires others { (group : ℕ) → has noted.old group ≡ false → blame_at of_group.old.items group ≡ None }
+    requires count { length of_group.old ≤ 65536 }
+    requires others { (group : ℕ) → has noted.old group ≡ false → blame_at of_group.old group ≡ None }
     requires undecided { (group : ℕ) → has decided.old group ≡ false }
-    ensures blames { (group : ℕ) → group < 65536 → blame_at of_group.new.items group ≡ or_blame (blame_at of_group.old.items group) (found_by tasks.now group verdicts.now) }
-    ensures count { length of_group.new.items ≡ 65536 }
-    ensures others { (group : ℕ) → has noted.new group ≡ false → blame_at of_group.new.items group ≡ None }
+    ensures blames { (group : ℕ) → group < 65536 → blame_at of_group.new group ≡ or_blame (blame_at of_group.old group) (found_by tasks.now group verdicts.now) }
+    ensures count { length of_group.new ≤ 65536 }
+    ensures others { (group : ℕ) → has noted.new group ≡ false → blame_at of_group.new group ≡ None }
 {
     for verdict in verdicts {
         decide(of_group, noted, decided, tasks, verdict);
@@ -182,14 +171,14 @@ fn decide_all(
 
 /// Where this verdict is the first that refuses a member of its group, it decides of the group.
 fn decide(
-    of_group: &mut Vec<Option<StandingBlame>>,
+    of_group: &mut BlameTable,
     noted: &mut NumberSet,
     decided: &mut NumberSet,
     tasks: &TaskTable,
     verdict: &Verdict,
 )
-    requires { length of_group.old.items ≡ 65536 }
-    ensures { IsDecided (λ group. told_of tasks.now group verdict.now) of_group.old.items of_group.new.items noted.old noted.new decided.old decided.new }
+    requires { length of_group.old ≤ 65536 }
+    ensures { IsDecided (λ group. told_of tasks.now group verdict.now) of_group.old of_group.new noted.old noted.new decided.old decided.new }
 {
     let Some(why) = verdict.blame else {
         return;
@@ -201,15 +190,15 @@ fn decide(
         return;
     }
     decided.insert(group.0);
-    let place = usize::from(group.0);
     let Blame::Frame(serial) = why else {
         return;
     };
-    if of_group[place].is_none() {
+    if of_group.of(group).is_none() {
         noted.insert(group.0);
-        of_group[place] = Some(StandingBlame {
+        let blame = StandingBlame {
             task: verdict.task,
             serial,
-        });
+        };
+        of_group.put(group.0, Some(blame));
     }
 }

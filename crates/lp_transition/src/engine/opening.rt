@@ -64,6 +64,7 @@ impl Opening {
     /// How many events were numbered.
     pub fn number(&self) -> u64
         ensures value { result ≡ self.now.number }
+        ensures sound { IsSound (state_in self.now) }
         ensures opening { IsOpening self.now }
     {
         u64::from(self.number)

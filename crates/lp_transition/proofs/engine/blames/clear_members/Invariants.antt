@@ -7,9 +7,9 @@ use Rattle.lp_transition.proofs.engine.blames.clear_members.Given as goal
 abbrev pub invariant-loop-number : goal.invariant-loop-number
 invariant-loop-number l = record {
   fits : l.from ≤ 65536;
-  count : length l.of_group.items ≡ 65536;
-  below : (group : ℕ) → group < l.from → blame_at l.of_group.items group ≡ None;
-  others : (group : ℕ) → has l.groups group ≡ false → blame_at l.of_group.items group ≡ None;
+  count : length l.of_group ≤ 65536;
+  below : (group : ℕ) → group < l.from → blame_at l.of_group group ≡ None;
+  others : (group : ℕ) → has l.groups group ≡ false → blame_at l.of_group group ≡ None;
 }
 
 abbrev pub decreases-loop-number : goal.decreases-loop-number

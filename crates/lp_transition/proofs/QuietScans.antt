@@ -1,0 +1,114 @@
+-- Scans that may leave out every group that waits.
+use Rattle.std.proofs.Common.{◌≡◌, ◌↔◌, ℕ, ◌<◌, Bool, true, false, not, ◌&&◌, List, [], Option, Some, None, refl, sym, ap, ap₂, subst, inl, ◌∙◌, arith}
+use Rattle.std.proofs.lemmas.Bool.{false≢true}
+use mathlib.Core.Path.{fun_ext}
+use Rattle.lp_numbers.specs.Numbers.{Numbers, has}
+use Rattle.lp_model.specs.Rules.{Rules, IsLawful}
+use Rattle.lp_model.specs.declared.check.CheckKind.{CheckKind}
+use Rattle.lp_model.specs.declared.check.CheckKind.TheVariants as kind
+use Rattle.lp_model.specs.declared.verdict.Verdict.{Verdict}
+use Rattle.lp_transition.specs.declared.reply.What.TheVariants.{Done}
+use Rattle.lp_transition.specs.declared.reply.Reply.{Reply}
+use Rattle.lp_transition.specs.declared.engine.blames.StandingBlame.{StandingBlame}
+use Rattle.lp_transition.specs.Events.{is_scan}
+use Rattle.lp_transition.specs.Run.{switched}
+use Rattle.lp_transition.specs.Sound.{IsSound}
+use Rattle.lp_transition.specs.Steps.{IsStep}
+use Rattle.lp_transition.specs.Blames.{or_blame, HasBlamesAfter}
+use Rattle.lp_transition.specs.Scan.{is_scan_kind, scan_event, verdicts_of, verdicts_among, passing, MayLeaveOut}
+use Rattle.lp_transition.specs.Table.{Table, Engine, state_in}
+use Rattle.lp_transition.specs.Weigh.{Weighed, IsWeighed}
+use Rattle.lp_transition.specs.inside.Blames.{blame_at}
+use Rattle.lp_transition.specs.inside.Invariant.{LastScan, IsWhole}
+use Rattle.lp_transition.specs.inside.ScanSteps.{is_judged, is_switching, AreSwitched, switches_by, all_admit, tasks_of}
+use Rattle.lp_transition.proofs.AskedScans.{asked_none, switches-among, completes-among}
+use Rattle.lp_transition.proofs.Blames.{Leaves}
+use Rattle.lp_transition.proofs.BlamedScans.{leaves_scanned, blame_within}
+use Rattle.lp_transition.proofs.Effects.{HasTaken, with_table}
+use Rattle.lp_transition.proofs.Runs.{is_step}
+use Rattle.lp_transition.proofs.ScanAnswers.{answer-scan, born-scan, still, verdicts-scan}
+use Rattle.lp_transition.proofs.ScanTakes.{takes_scan}
+use Rattle.lp_transition.proofs.TableLemmas.{slot_from_live}
+use Rattle.lp_transition.proofs.Unchanged.{core_scanned}
+
+-- the scan, answered by no verdict
+abbrev pub quiet_step : CheckKind → Weighed
+quiet_step on = record { event = scan_event on; reply = record { what = Done; completed = false }; verdicts = []; born = None }
+
+-- ---- Its answer
+
+module _ (model : Rules) (lawful : IsLawful model) (on : CheckKind) (e : Engine) (sound : IsSound (state_in e)) (scan : is_scan_kind on ≡ true) (room : e.number < 1000000) (quiet : MayLeaveOut model on (state_in e) (λ group. false)) where
+  -- nobody switches, and nothing completes
+  quiet_reply : (record { what = Done; completed = false }) ≡ (let reply : Reply = record { what = switched (passing 0 65536 (switches_by e.table (verdicts_of model on (state_in e)))); completed = all_admit (verdicts_of model on (state_in e)) } in reply)
+  quiet_reply =
+      let s = state_in e in
+      let none = asked_none model on s in
+      let switches = fun_ext (λ (group : ℕ). ap (λ (vs : List Verdict). switches_by e.table vs group) none ∙ switches-among model lawful on s sound (λ group. false) quiet e.table (λ t x live. slot_from_live e.table t x live) group) in
+      let tells : (false ≡ true) ↔ ((all_admit (verdicts_among model on s (λ group. false)) ≡ true) × (tasks_of (verdicts_among model on s (λ group. false)) ≡ tasks_of (verdicts_of model on s))) =
+      ((λ no. absurd (false≢true no)), (λ both. absurd (false≢true (ap all_admit none ∙ both.0)))) in
+      ap (λ what. let reply : Reply = record { what = what; completed = false } in reply) (still e.table 65536 [] refl)
+      ∙ ap₂ (λ (goes : ℕ → Bool) (completed : Bool). let reply : Reply = record { what = switched (passing 0 65536 goes); completed = completed } in reply)
+      switches (completes-among model lawful on s sound (λ group. false) quiet false tells)
+
+  pub quiet_weighed : IsWeighed model e (quiet_step on)
+  quiet_weighed = record {
+    room = room;
+    reply = quiet_reply ∙ sym (answer-scan model lawful 65536 (state_in e) (omega arith) sound e.table (λ t x live. slot_from_live e.table t x live) on scan);
+    born = born-scan model (state_in e) on;
+    verdicts = verdicts-scan model (state_in e) on [] scan (record { asked = λ group. false; others = quiet; found = asked_none model on (state_in e) });
+  }
+
+-- ---- The engine after it
+
+event_scans : (on : CheckKind) → is_scan (scan_event on) ≡ true
+event_scans kind.Walk = refl
+event_scans kind.Stop = refl
+event_scans kind.KernelExit = refl
+event_scans kind.IdlePoint = refl
+
+kept_and : (b : Bool) → b ≡ (b && not false)
+kept_and true = refl
+kept_and false = refl
+
+-- nobody goes where nobody was looked at
+nobody_goes : (target : ℕ) (table : Table) (waiting : Numbers) → AreSwitched (is_judged []) (is_switching None) target table table waiting waiting
+nobody_goes target table waiting = record {
+  tasks = λ t. refl;
+  waits = λ t. kept_and (has waiting t);
+  numbers = refl;
+  used = refl;
+  wide = λ wide. wide;
+  members = λ wide group. refl;
+}
+
+or_none : (o : Option StandingBlame) → o ≡ or_blame o None
+or_none None = refl
+or_none (Some b) = refl
+
+module _ (model : Rules) (lawful : IsLawful model) (e old : Engine) (waiting : Numbers) (members : List ℕ) (last : LastScan) (on : CheckKind) (was : e ≡ old) (whole : IsWhole model e waiting members last) (scan : is_scan_kind on ≡ true) (room : old.number < 1000000) (quiet : MayLeaveOut model on (state_in old) (λ group. false)) where
+  weighed : IsWeighed model old (quiet_step on)
+  weighed = quiet_weighed model lawful on old (subst (λ (o : Engine). IsSound (state_in o)) was whole.engine.sound) scan room quiet
+
+  taken : HasTaken model old (scan_event on) (with_table e.table e) waiting members
+  taken = takes_scan model lawful e old e.table waiting waiting members (quiet_step on) None was whole.engine weighed (event_scans on) (λ scans group h. refl) (nobody_goes e.target e.table waiting)
+
+  leaves_blames : Leaves model old (scan_event on) [] (with_table e.table e)
+  leaves_blames =
+      leaves_scanned model lawful e old (with_table e.table e) waiting waiting members members (quiet_step on) was whole.engine whole.blamed taken weighed (event_scans on)
+      (λ g h. or_none (blame_at e.blames g))
+      (λ g b there. blame_within e.blames g b whole.groups there)
+
+  -- the engine keeps what it has to
+  pub quiet_whole : IsWhole model (with_table e.table e) waiting members last
+  quiet_whole = record {
+    core = core_scanned model lawful e old (with_table e.table e) waiting waiting members members (scan_event on) last last was whole.core taken on scan refl (inl refl);
+    groups = whole.groups;
+    blamed = leaves_blames.blamed;
+  }
+
+  -- the step is that of every run that stands here
+  pub quiet_steps : IsStep model (state_in old) (scan_event on) (record { what = Done; completed = false }) (state_in (with_table e.table e))
+  quiet_steps = is_step model lawful (state_in old) (state_in (with_table e.table e)) (scan_event on) (record { what = Done; completed = false }) weighed.reply taken.state
+
+  pub quiet_blames : HasBlamesAfter model old (scan_event on) (with_table e.table e)
+  quiet_blames = record { verdicts = []; enough = weighed.verdicts; blames = leaves_blames.after }
