@@ -24,5 +24,8 @@ pub mod Keeping
 pub mod Making
 pub mod Noted
 pub mod Passed
+pub mod QuietScans
 pub mod Asked
 pub mod Tellings
+pub mod GroupsInRange
+pub mod Floors

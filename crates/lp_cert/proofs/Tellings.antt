@@ -25,7 +25,7 @@ module _ (model : Rules) where
   }
 
   -- the legs are those that ended, and the last
-  legs-split : (leg : Leg) (events : List Event) → legs model leg events ≡ ended_legs model leg events ++ leg_after model leg events ∷ []
+  pub legs-split : (leg : Leg) (events : List Event) → legs model leg events ≡ ended_legs model leg events ++ leg_after model leg events ∷ []
   unfolding legs ended_legs leg_after
   legs-split leg [] = refl
   legs-split leg (event ∷ events) =

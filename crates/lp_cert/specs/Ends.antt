@@ -1,5 +1,5 @@
 -- How the legs of a run ended, with their certificates, and what is made of a run so far.
-use Rattle.std.specs.Prelude.{◌≡◌, ℕ, ◌+◌, Bool, true, ◌&&◌, List, [], ◌∷◌, ◌++◌, map, drop, length, Option, Some, None, is_none, is_some, false, if◌then◌else◌, nat_eq, slice_get}
+use Rattle.std.specs.Prelude.{◌≡◌, ℕ, pred, ◌+◌, ◌≤◌, Bool, true, ◌&&◌, List, [], ◌∷◌, ◌++◌, map, drop, length, Option, Some, None, is_none, is_some, false, if◌then◌else◌, nat_eq, slice_get, IsTrue}
 use Rattle.std.specs.List.{find}
 use Rattle.std.specs.Option.{option_map}
 use Rattle.lp_model.specs.Rules.{Rules}
@@ -9,12 +9,13 @@ use Rattle.lp_transition.specs.Events.{is_control}
 use Rattle.lp_transition.specs.Weigh.{Weighed, is_silent, refusal_in}
 use Rattle.lp_transition.specs.Leg.{Leg}
 use Rattle.lp_transition.specs.Run.{Run, first_leg, leg_of, opens, next_leg}
+use Rattle.lp_transition.specs.Schedule.{waits, first_check}
 use Rattle.lp_transition.specs.Machine.{state_of}
 use Rattle.lp_cert.specs.declared.cert.Claim.TheVariants.{Floor}
 use Rattle.lp_cert.specs.declared.cert.Cert.{Cert}
 use Rattle.lp_cert.specs.declared.cert.CertHead.{CertHead}
 use Rattle.lp_cert.specs.declared.leg_end.LegEnd.{LegEnd}
-use Rattle.lp_cert.specs.Certificates.{completion, certs_of, lines}
+use Rattle.lp_cert.specs.Certificates.{completion, certs_of, lines, opened_legs}
 use Rattle.lp_cert.specs.LastScan.{LastScan, AreUnchangedBy}
 
 -- the event opens a leg: it is a control event, and was accepted
@@ -102,3 +103,14 @@ module _ (model : Rules) where
     pub unchanged :
         AreUnchangedBy model (state_of model (leg_of model run)) (lines model (leg_of model run) (length (leg_of model run).events))
         made.last_scan
+
+  -- ---- The leg under way
+
+  -- the leg under way: the last that was opened
+  abbrev pub leg_under_way : Run → Option Leg
+  leg_under_way run = let opened = opened_legs model (first_leg model run) run.events in slice_get opened (pred (length opened))
+
+  -- the group of least number that waits after all events of the leg
+  pub record IsLeastWaiting (leg : Leg) (group : ℕ) : Type 0 where
+    pub waiting : IsTrue (waits model leg (first_check model leg) (length leg.events) group)
+    pub least : (other : ℕ) → IsTrue (waits model leg (first_check model leg) (length leg.events) other) → group ≤ other

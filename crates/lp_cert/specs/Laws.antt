@@ -1,5 +1,6 @@
 -- The laws of certificates, for one model.
-use Rattle.std.specs.Prelude.{◌≡◌, ℕ, suc, ◌≤◌, true, false, [], ◌++◌, length, map, Some, None, option_to_list, slice_get, if◌then◌else◌, IsTrue, IsFalse}
+use Rattle.std.specs.Prelude.{◌≡◌, ◌≢◌, ℕ, suc, pred, ◌≤◌, true, false, [], ◌++◌, length, map, take, Some, None, option_to_list, slice_get, if◌then◌else◌, IsTrue, IsFalse}
+use Rattle.std.specs.Option.{option_map}
 use Rattle.lp_stack.specs.declared.number.TaskId.{TaskId}
 use Rattle.lp_model.specs.declared.check.CheckKind.{CheckKind}
 use Rattle.lp_model.specs.declared.check.ForkKind.{ForkKind}
@@ -11,13 +12,13 @@ use Rattle.lp_transition.specs.Events.{is_scan}
 use Rattle.lp_transition.specs.Weigh.{is_fork}
 use Rattle.lp_transition.specs.Sound.{IsSound}
 use Rattle.lp_transition.specs.Leg.{State, Leg}
-use Rattle.lp_transition.specs.Run.{Run, and_then, first_leg, refused_by}
+use Rattle.lp_transition.specs.Run.{Run, AreInRange, and_then, first_leg, leg_of, refused_by}
 use Rattle.lp_transition.specs.Schedule.{waits, first_check}
 use Rattle.lp_transition.specs.Scan.{is_scan_kind, scan_event, verdicts_of}
 use Rattle.lp_transition.specs.Machine.{waits_in, state_of}
-use Rattle.lp_cert.specs.declared.cert.Claim.TheVariants.{Waiting}
+use Rattle.lp_cert.specs.declared.cert.Claim.TheVariants.{Waiting, Floor}
 use Rattle.lp_cert.specs.Certificates.{lines, cert, completion, floor_certs, opened_legs}
-use Rattle.lp_cert.specs.Ends.{Made, IsFresh, IsMadeOf, end_of, waiting_in, floor_in}
+use Rattle.lp_cert.specs.Ends.{Made, IsFresh, IsMadeOf, IsLeastWaiting, end_of, leg_under_way, waiting_in, floor_in}
 use Rattle.lp_transition.specs.Blames.{first_refused, first_blamed_in}
 use Rattle.lp_cert.specs.EventLines.{lines_after_scan, lines_after_fork}
 
@@ -66,6 +67,17 @@ pub record MakersTell (model : Rules) : Type 0 where
   pub legs :
       (run : Run) (made : Made) → IsMadeOf model run made →
       made.ended ++ option_to_list made.current ≡ map (end_of model) (opened_legs model (first_leg model run) run.events)
+  -- apart: those of all legs that were opened but the last
+  pub ended :
+      (run : Run) (made : Made) → IsMadeOf model run made →
+      made.ended
+      ≡ (let opened = opened_legs model (first_leg model run) run.events in map (end_of model) (take (pred (length opened)) opened))
+  -- and that of the last, the leg under way, as it stands. Before one is opened there is none
+  pub current :
+      (run : Run) (made : Made) → IsMadeOf model run made →
+      made.current ≡ option_map (end_of model) (leg_under_way model run)
+  -- which is the leg that the run is in
+  pub under_way : (run : Run) (leg : Leg) → leg_under_way model run ≡ Some leg → leg ≡ leg_of model run
   -- in a leg that isn't complete there is a certificate for each group that waits, and for no other
   pub waiting :
       (leg : Leg) (group : ℕ) → completion model leg ≡ None → group ≤ leg.bounds.tasks →
@@ -79,3 +91,12 @@ pub record MakersTell (model : Rules) : Type 0 where
   pub complete :
       (leg : Leg) (k group : ℕ) → completion model leg ≡ Some k →
       (waiting_in (Some (end_of model leg)) group ≡ None) × (floor_in (Some (end_of model leg)) ≡ None)
+  -- while a leg is under way and isn't complete there is a floor, for the least group that waits
+  pub floors :
+      (run : Run) (made : Made) → AreInRange run.bounds run.boots → IsMadeOf model run made →
+      (leg : Leg) → leg_under_way model run ≡ Some leg → completion model leg ≡ None →
+      (group : ℕ) × IsLeastWaiting model leg group × (floor_in made.current ≡ Some (cert model leg Floor (length leg.events) group))
+  -- and at any other time none
+  pub no_floor :
+      (run : Run) (made : Made) → IsMadeOf model run made →
+      ((leg : Leg) → leg_under_way model run ≡ Some leg → completion model leg ≢ None) → floor_in made.current ≡ None

@@ -14,6 +14,8 @@ ghost use Rattle.lp_cert.specs.inside.Invariant.{HasClosing, HasFloor, HasFloors
 ghost use Rattle.lp_cert.specs.inside.Waiters.{AreHeads, HasHeadFor, HasHeads, lines_at};
 ghost use Rattle.std.specs.Option.{option_map};
 
+mod quiet;
+
 use crate::cert::{Cert, Claim};
 use crate::chains::Chains;
 use crate::head::Waiter;

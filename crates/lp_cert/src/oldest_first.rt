@@ -19,6 +19,10 @@ pub(crate) struct Found {
 /// The reasons of a group that are left, of which the oldest comes next. No call allocates, and each
 /// sixteenth follows some `log n` links of a list of `n` reasons.
 ///
+/// A list leads from the newest reason to the oldest, and a certificate is written the other way. A
+/// search for each line cost more than the line, and an array of all places costs a certificate with
+/// no older reason too: so a search finds the next sixteen places by a link each.
+///
 /// Contracts see these reasons, the newest in front.
 #[derive(Drop)]
 pub(crate) struct OldestFirst<'a> {

@@ -1,5 +1,5 @@
 //! The reasons of each group in a leg.
-ghost use Rattle.std.specs.Prelude.{◌≡◌, ◌≢◌, ◌+◌, ◌<◌, ◌≤◌, ℕ, [], ◌∷◌, ◌++◌, length, reverse, slice_index_or, IfOk, OnOk};
+ghost use Rattle.std.specs.Prelude.{◌≡◌, ◌≢◌, ◌+◌, ◌<◌, ◌≤◌, ◌↔◌, ℕ, [], ◌∷◌, ◌++◌, length, reverse, slice_index_or, IfOk, IsTrue, OnOk};
 ghost use Rattle.lp_cert.specs.inside.Heads.{IsUsed, IsRefusedBy, IsBornBy};
 ghost use Rattle.lp_cert.specs.Certificates.{group_id};
 ghost use Rattle.lp_cert.specs.Waiters.{no_head, head_of};
@@ -162,6 +162,13 @@ impl Reasons {
     {
         self.chains.clear();
         self.scans.clear();
+    }
+
+    /// Whether one more scan can be noted.
+    pub(crate) fn has_scan_room(&self) -> bool
+        ensures { IsTrue result ↔ (0 < self.now.scan_room) }
+    {
+        self.scans.len() < self.scans.capacity()
     }
 
     /// A scan has refused the groups that were noted. Never allocates.

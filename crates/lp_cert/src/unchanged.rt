@@ -1,8 +1,8 @@
 //! The groups that a scan needn't look at again.
-ghost use Rattle.std.specs.Prelude.{◌≡◌, ◌||◌, ◌⊎◌, ◌<◌, ℕ, false, true, None, Some, IfOk, IfSome, nat_eq};
+ghost use Rattle.std.specs.Prelude.{◌≡◌, ◌||◌, ◌⊎◌, ◌<◌, ℕ, false, true, None, Some, IfOk, IfSome, IsTrue, nat_eq};
 ghost use Rattle.std.specs.List.{list_any};
 ghost use Rattle.std.specs.Option.{option_map};
-ghost use Rattle.lp_numbers.specs.Numbers.{has};
+ghost use Rattle.lp_numbers.specs.Numbers.{has, IsEmpty};
 ghost use Rattle.lp_transition.specs.Table.{slot, state_in};
 ghost use Rattle.lp_transition.specs.Leg.{Standing};
 ghost use Rattle.lp_cert.specs.inside.Touched.{touched};
@@ -59,6 +59,13 @@ impl Unchanged {
         } else {
             None
         }
+    }
+
+    /// Whether a scan of this kind needn't look at any group.
+    pub(crate) fn is_quiet(&self, kind: CheckKind) -> bool
+        ensures { IsTrue result → (self.now.kind ≡ Some kind) × IsEmpty self.now.changed_since }
+    {
+        self.kind == Some(kind) && self.changed_since.is_empty()
     }
 
     /// No group counts as unchanged any longer. Never allocates.

@@ -1,8 +1,9 @@
 //! The groups that wait in a leg, each with its reasons.
-ghost use Rattle.std.specs.Prelude.{◌≡◌, ◌≢◌, Bool, ◌+◌, ◌<◌, ◌≤◌, ℕ, [], ◌∷◌, ◌++◌, true, false, Some, None, length, map, reverse, slice_set, IfOk, IfSome, OnOk, if◌then◌else◌, nat_eq};
+ghost use Rattle.std.specs.Prelude.{◌≡◌, ◌≢◌, Bool, ◌+◌, ◌<◌, ◌≤◌, ◌↔◌, ℕ, [], ◌∷◌, ◌++◌, true, false, Some, None, length, map, reverse, slice_set, IfOk, IfSome, IsTrue, OnOk, if◌then◌else◌, nat_eq};
 ghost use Rattle.std.specs.List.{AllByRecursion, list_any};
 ghost use Rattle.std.specs.Option.{option_map};
 ghost use Rattle.lp_numbers.specs.Numbers.{has, IsEmpty, IsNextFrom};
+ghost use Rattle.lp_transition.specs.Leg.{State};
 ghost use Rattle.lp_transition.specs.Sound.{IsSound};
 ghost use Rattle.lp_transition.specs.Scan.{passing};
 ghost use Rattle.lp_transition.specs.inside.ScanSteps.{IsNextBelow};
@@ -180,6 +181,24 @@ impl Waiters {
     {
         let refused = &mut self.refused;
         judge_waiting(core, at, verdicts, &self.groups, refused, &mut self.reasons);
+        self.reasons.scanned(at);
+    }
+
+    /// Whether one more scan can be noted that looks at nobody.
+    pub(crate) fn has_scan_room(&self) -> bool
+        ensures { IsTrue result ↔ (0 < self.now.reasons.scan_room) }
+    {
+        self.reasons.has_scan_room()
+    }
+
+    /// A scan that looked at nobody: the reasons that continue by themselves do. Never allocates.
+    pub(crate) fn scan_nobody(&mut self, at: u64)
+        requires scan_room { 0 < self.old.reasons.scan_room }
+        ensures lines { (s : State) (group : ℕ) → lines_at self.new group ≡ scanned_lines s at [] self.old group }
+        ensures stood { AreStanding self.old }
+        ensures stands { AreStanding self.new }
+    {
+        let _ = &self.groups;
         self.reasons.scanned(at);
     }
 

@@ -1,34 +1,32 @@
 -- The headline holds of what is answered as the definitions say.
-use Rattle.std.proofs.Common.{◌≡◌, ◌+◌, ◌<◌, ◌≤◌, ℕ, zero, suc, Bool, true, false, List, [], ◌∷◌, map, filter, length, take, All, Contains, Option, Some, None, IsTrue, nat_eq, refl, sym, ap, ◌∙◌, subst, ⊎_elim, arith}
+use Rattle.std.proofs.Common.{◌≡◌, ◌+◌, ◌<◌, ◌≤◌, ℕ, zero, suc, Bool, true, false, List, [], ◌∷◌, map, filter, length, take, All, Contains, Option, Some, None, IsTrue, refl, sym, ap, ◌∙◌, subst, ⊎_elim, arith}
 use Rattle.std.specs.List.{AllByRecursion, AllZip, find, range_with_len}
 use Rattle.std.specs.Option.{option_map}
-use Rattle.std.proofs.lemmas.Bool.{cases_Bool, cases_eq, cases_lt, cond-true, cond-false, eqb-false}
+use Rattle.std.proofs.lemmas.Bool.{cases_Bool, cases_eq, cases_lt, cond-true, cond-false}
 use Rattle.std.proofs.lemmas.List.Elements.{All-from_recursion, All-head, All-tail}
 use Rattle.lp_stack.specs.declared.number.TaskId.{TaskId}
 use Rattle.lp_stack.specs.declared.view.Class.{Class}
 use Rattle.lp_model.specs.Rules.{Rules, IsLawful}
 use Rattle.lp_transition.specs.declared.reply.Reply.{Reply}
-use Rattle.lp_transition.specs.Leg.{Leg, after}
-use Rattle.lp_transition.specs.Schedule.{Schedule, level, waits, complete, first_check, IsLegal, IsFirstCheck, CompletesAt}
+use Rattle.lp_transition.specs.Leg.{Leg}
+use Rattle.lp_transition.specs.Schedule.{Schedule, waits, complete, first_check, IsLegal, IsFirstCheck, CompletesAt}
 use Rattle.lp_transition.specs.Run.{Run, AreInRange, first_leg, replies}
 use Rattle.lp_transition.proofs.Chains.{chain, refused_so_far}
 use Rattle.lp_transition.proofs.First.{first_check_is}
 use Rattle.lp_transition.proofs.LawProofs.{mixes_no_stay}
 use Rattle.lp_transition.proofs.NoEarlier.{completes_too, waits_too}
-use Rattle.lp_transition.proofs.Plain.{numbered}
-use Rattle.lp_transition.proofs.Quantifiers.{each_live-not}
-use Rattle.lp_transition.proofs.Waiting.{waits-is, waits-from, complete-is, complete_later}
+use Rattle.lp_transition.proofs.Waiting.{waits-is, complete-is, complete_later}
 use Rattle.lp_cert.specs.declared.cert.Cert.{Cert}
 use Rattle.lp_cert.specs.declared.cert.Claim.TheVariants.{Waiting, Floor}
 use Rattle.lp_cert.specs.Ends.{end_of}
 use Rattle.lp_cert.specs.Certificates.{cert, certs_by, completion, opened_legs, waiting_groups}
 use Rattle.lp_cert.proofs.Completions.{completion_below}
+use Rattle.lp_cert.proofs.Floors.{waiting_in_range, someone_waits}
 use Rattle.lp_checker.proofs.MadeOfRuns.{accepts_what_is_made}
 use Rattle.lp_replay.specs.declared.outcome.Outcome.{Outcome}
 use Rattle.lp_replay.specs.Outcome.{outcome, IsOutcome}
 use Rattle.lp_text.specs.Traces.{TraceValue, IsTask, IsTrace}
 use Rattle.lp_replay.specs.Headline.{HeadlineHolds, NoneIsEarlier, AreCertified, HeadlineOfLeg, Headline, whole_run}
-use Rattle.lp_replay.proofs.GroupsInRange.{group_in_range}
 use Rattle.lp_replay.proofs.LegByLeg.{IsLeg, legs_of}
 
 -- ---- What is found in a range
@@ -133,8 +131,7 @@ module _ (model : Rules) (lawful : IsLawful model) (answered : List Reply) (leg 
 
   contained : (f : ℕ → Cert) (k group : ℕ) → IsTrue (waits model leg first k group) → Contains (map f (waiting_groups model leg k)) (f group)
   contained f k group w =
-      let v = waits-is model leg first k group w in
-      let within = subst (λ g. g ≤ leg.bounds.tasks) v.member (group_in_range model lawful leg is.in_range k v.task v.life v.live) in
+      let within = waiting_in_range model lawful leg is.in_range k group w in
       contains_one f (waits model leg first k) 0 (suc leg.bounds.tasks) group (omega arith) (omega (arith, within)) w
 
   certified : (group : ℕ) → IsTrue (waits model leg first last group) → (o : Option ℕ) → completion model leg ≡ o → Contains (certs_by model leg o) (cert model leg Waiting last group)
@@ -147,17 +144,9 @@ module _ (model : Rules) (lawful : IsLawful model) (answered : List Reply) (leg 
       within : (k : ℕ) → completion model leg ≡ Some k → k ≤ last
       within k e = omega (arith, completion_below model leg k e)
 
-  -- a leg that isn't complete has a group that waits
-  someone : (k : ℕ) → complete model leg first k ≡ false → (group : ℕ) × IsTrue (waits model leg first k group)
-  unfolding complete
-  someone k e =
-      let r = each_live-not leg.bounds (after model leg k) (λ t x. nat_eq (level leg first k x) leg.target) e in
-      let number = numbered model.child_group leg is.sound k r.0 r.1 r.2 in
-      (r.1.group, waits-from model leg first k r.1.group (record { task = r.0; life = r.1; positive = number.0; within = number.1; live = r.2; member = refl; off = eqb-false _ _ r.3 }))
-
   floor : (k : ℕ) → completion model leg ≡ Some (suc k) → (group : ℕ) × Contains (certs_by model leg (completion model leg)) (cert model leg Floor k group)
   floor k e =
-      let waiter = someone k ((found_complete (suc k) e).least k (omega arith) (omega arith)) in
+      let waiter = someone_waits model lawful leg is.sound k ((found_complete (suc k) e).least k (omega arith) (omega arith)) in
       let made = cert model leg Floor k in
       let least = first_of_some made (waiting_groups model leg k) (made waiter.0) (contained made k waiter.0 waiter.1) in
       (least.0, subst (λ o. Contains (certs_by model leg o) (made least.0)) (sym e) least.1)

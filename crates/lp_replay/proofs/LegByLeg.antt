@@ -14,8 +14,8 @@ use Rattle.lp_transition.specs.Sound.{IsSound}
 use Rattle.lp_transition.specs.Run.{Run, AreInRange, and_then, first_leg, switched_at, opened, opens, next_leg, reply, replies}
 use Rattle.lp_transition.proofs.WholeRun.{next_sound, start_sound}
 use Rattle.lp_cert.specs.Certificates.{legs, opened_legs}
+use Rattle.lp_cert.proofs.GroupsInRange.{GroupsAreInRange, next_in_range, start_in_range}
 use Rattle.lp_replay.specs.Headline.{switched_groups, replies_in}
-use Rattle.lp_replay.proofs.GroupsInRange.{GroupsAreInRange, next_in_range, start_in_range}
 use Rattle.lp_replay.proofs.Switching.{control_switches_none, none_at_opening, past_switched, reply_names}
 
 -- the groups that replies name

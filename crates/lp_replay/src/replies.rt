@@ -44,7 +44,8 @@ impl ShortReply {
 
 /// A list of replies. Contracts see the list.
 ///
-/// A reply takes three bytes, and those that switched groups take the memory of these beside.
+/// A run has up to a million replies, of which few switched a group. So a reply takes three bytes, and
+/// the lists of groups stand apart from them, for those that switched any.
 #[derive(Drop)]
 pub struct ReplyList {
     short: Vec<ShortReply>,

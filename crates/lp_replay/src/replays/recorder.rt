@@ -1,8 +1,9 @@
 //! What a run comes to, event by event.
-ghost use Rattle.std.specs.Prelude.{◌≡◌, ◌≤◌, ◌<◌, ◌+◌, ◌++◌, length, IfOk, OnOk};
+ghost use Rattle.std.specs.Prelude.{◌≡◌, ◌≤◌, ◌<◌, ◌+◌, ◌++◌, true, length, IfOk, OnOk};
 ghost use Rattle.lp_transition.specs.Run.{Run, leg_of, plus};
 ghost use Rattle.lp_stack.specs.declared.number.TaskId.{TaskId};
 ghost use Rattle.lp_stays.specs.Counts.{top_of};
+ghost use Rattle.lp_transition.specs.Scan.{is_scan_kind, scan_event};
 ghost use Rattle.lp_transition.specs.Stays.{stack};
 ghost use Rattle.lp_transition.specs.Steps.{IsStep, StandsIn};
 ghost use Rattle.lp_transition.specs.Table.{state_in};
@@ -16,7 +17,7 @@ use crate::leg_end::LegList;
 use crate::outcome::Outcome;
 use crate::replies::ReplyList;
 use lp_cert::Maker;
-use lp_model::Consistency;
+use lp_model::{CheckKind, Consistency};
 use lp_stays::StayCount;
 use lp_symbols::SymId;
 use lp_text::Trace;
@@ -119,7 +120,7 @@ pub(super) fn take<M: Consistency>(
     ensures made { OnOk result ((run : Run) → StandsIn M.rules run (state_in core.old) → IsMadeOf M.rules run maker.old → IsMadeOf M.rules (plus run event) maker.new) }
 {
     if !is_plain(event) {
-        return take_weighed(alloc, core, maker, event);
+        return take_other(alloc, core, maker, event);
     }
     maker.note_plain(core, event);
     match core.step(alloc, event) {
@@ -127,6 +128,49 @@ pub(super) fn take<M: Consistency>(
         Err(Halt::NoMemory) => Err(ReplayFault::NoMemory),
         Err(Halt::JournalFull) => unreachable!(),
     }
+}
+
+/// Takes an event of any kind. Out of line, so that a plain event pays nothing for what the others
+/// need.
+#[inline(never)]
+fn take_other<M: Consistency>(
+    alloc: Global,
+    core: &mut Core<M>,
+    maker: &mut Maker,
+    event: Event,
+) -> Result<Reply, ReplayFault>
+    requires room { core.old.number < 1000000 }
+    requires made { (run : Run) × StandsIn M.rules run (state_in core.old) × IsMadeOf M.rules run maker.old }
+    ensures step { IfOk result (λ reply. IsStep M.rules (state_in core.old) event reply (state_in core.new)) }
+    ensures made { OnOk result ((run : Run) → StandsIn M.rules run (state_in core.old) → IsMadeOf M.rules run maker.old → IsMadeOf M.rules (plus run event) maker.new) }
+{
+    match event {
+        Event::Walk => take_scan(alloc, core, maker, CheckKind::Walk, event),
+        Event::Stop => take_scan(alloc, core, maker, CheckKind::Stop, event),
+        _ => take_weighed(alloc, core, maker, event),
+    }
+}
+
+/// Takes a walk or a stop: without a look at anybody where no group has to be asked, since then it
+/// switches nobody and each group's newest reason continues.
+fn take_scan<M: Consistency>(
+    alloc: Global,
+    core: &mut Core<M>,
+    maker: &mut Maker,
+    kind: CheckKind,
+    event: Event,
+) -> Result<Reply, ReplayFault>
+    requires scan { is_scan_kind kind ≡ true }
+    requires event { event ≡ scan_event kind }
+    requires room { core.old.number < 1000000 }
+    requires made { (run : Run) × StandsIn M.rules run (state_in core.old) × IsMadeOf M.rules run maker.old }
+    ensures step { IfOk result (λ reply. IsStep M.rules (state_in core.old) (scan_event kind) reply (state_in core.new)) }
+    ensures made { OnOk result ((run : Run) → StandsIn M.rules run (state_in core.old) → IsMadeOf M.rules run maker.old → IsMadeOf M.rules (plus run (scan_event kind)) maker.new) }
+{
+    if maker.note_quiet(core, kind) {
+        return Ok(core.step_quiet(kind));
+    }
+    take_weighed(alloc, core, maker, event)
 }
 
 /// Takes an event of any kind: it is weighed, a scan by those alone that have to be asked, and noted

@@ -9,7 +9,7 @@ use Rattle.lp_transition.specs.declared.event.Event.{Event}
 use Rattle.lp_transition.specs.Tasks.{Life, Fate, Unused, Live, Dead, Bounds, map_live}
 use Rattle.lp_transition.specs.Leg.{Standing, Leg, State, after}
 use Rattle.lp_transition.specs.Schedule.{first_check, standing}
-use Rattle.lp_transition.specs.Run.{at_boot, booted, start, and_then, shown, opened, opens, next_leg}
+use Rattle.lp_transition.specs.Run.{at_boot, booted, start, and_then, shown, opened, opens, next_leg, leg_after}
 use Rattle.lp_transition.specs.Sound.{IsSound}
 use Rattle.lp_transition.proofs.Plain.{changed_group, each_life}
 
@@ -44,6 +44,11 @@ module _ (model : Rules) (lawful : IsLawful model) where
   unfolding next_leg
   next_in_range leg event h =
       cond_both (opens model leg event) (opened model leg event) (and_then leg event) (λ l. GroupsAreInRange l.opening) (λ e. opened_in_range leg event h) (λ e. h)
+
+  pub run_in_range : (leg : Leg) (events : List Event) → GroupsAreInRange leg.opening → GroupsAreInRange (leg_after model leg events).opening
+  unfolding leg_after
+  run_in_range leg [] h = h
+  run_in_range leg (event ∷ events) h = run_in_range (next_leg model leg event) events (next_in_range leg event h)
 
   -- ---- The start
 
