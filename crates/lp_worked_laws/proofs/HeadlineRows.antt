@@ -12,7 +12,7 @@ use Rattle.lp_models.specs.Models.{hybrid}
 use Rattle.lp_models.specs.inside.ModelLaws.{hybrid_lawful}
 use Rattle.lp_transition.specs.declared.event.Event.{Event}
 use Rattle.lp_transition.specs.declared.reply.Reply.{Reply}
-use Rattle.lp_transition.specs.Rows.{normal}
+use Rattle.lp_worked_laws.specs.Rows.{normal}
 use Rattle.lp_transition.specs.Sound.{IsSound}
 use Rattle.lp_transition.specs.Tasks.{refusal, effect}
 use Rattle.lp_transition.specs.Leg.{Leg, tasks_after, each_live, some_live, check}

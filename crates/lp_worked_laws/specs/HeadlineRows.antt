@@ -7,7 +7,7 @@ use Rattle.lp_transition.specs.declared.event.Event.TheVariants.{Walk, Enable}
 use Rattle.lp_transition.specs.declared.reply.Reply.{Reply}
 use Rattle.lp_transition.specs.Events.{fork}
 use Rattle.lp_transition.specs.Run.{Run}
-use Rattle.lp_transition.specs.Rows.{a, c, task, normal, call, sleep, enter, exit, die, done, ran, over, complete, patch_a}
+use Rattle.lp_worked_laws.specs.Rows.{a, c, task, normal, call, sleep, enter, exit, die, done, ran, over, complete, patch_a}
 use Rattle.lp_cert.specs.declared.line.Line.{Line}
 use Rattle.lp_cert.specs.declared.line.Line.TheVariants.{Hold, Born}
 use Rattle.lp_cert.specs.declared.cert.Claim.{Claim}

@@ -1,20 +1,13 @@
 -- Worked certificates: the verdict on each, computed from the definitions.
-use Rattle.std.specs.Prelude.{◌≡◌, ℕ, Bool, true, false, List, [], ◌∷◌, Option, Some, None}
+use Rattle.std.specs.Prelude.{◌≡◌, ℕ, List, [], ◌∷◌, Option, Some, None}
 use Rattle.lp_stack.specs.declared.number.TaskId.{TaskId}
 use Rattle.lp_stack.specs.declared.view.Class.{Class}
-use Rattle.lp_stack.specs.declared.view.Mode.{Mode}
-use Rattle.lp_stack.specs.declared.view.Mode.TheVariants.{Kernel, Asleep}
-use Rattle.lp_patch.specs.Patches.{is_stale}
-use Rattle.lp_model.specs.declared.check.CheckKind.{CheckKind}
-use Rattle.lp_model.specs.declared.check.CheckKind.TheVariants.{Stop}
 use Rattle.lp_model.specs.declared.check.ForkKind.TheVariants.{Own, Share}
 use Rattle.lp_model.specs.Rules.{Rules}
-use Rattle.lp_model.specs.Row.{rules_of, is_no_stop, at_walk}
 use Rattle.lp_transition.specs.declared.event.Event.{Event}
-use Rattle.lp_transition.specs.declared.event.Event.TheVariants.{Walk, Stop as StopAll, Enable, Reverse}
+use Rattle.lp_transition.specs.declared.event.Event.TheVariants.{Walk, Stop, Enable, Reverse}
 use Rattle.lp_transition.specs.Events.{fork}
-use Rattle.lp_transition.specs.RowModels.{alone, all_in_one, child_alone, with_parent, as_forked}
-use Rattle.lp_transition.specs.Rows.{a, c, normal, call, ret, sleep, wake, enter, exit, die, patch_a}
+use Rattle.lp_worked_laws.specs.Rows.{a, c, normal, call, ret, sleep, wake, enter, exit, die, patch_a}
 use Rattle.lp_transition.specs.Run.{leg_of}
 use Rattle.lp_cert.specs.declared.cert.Claim.{Claim}
 use Rattle.lp_cert.specs.declared.cert.Claim.TheVariants.{Waiting, Floor}
@@ -23,56 +16,6 @@ use Rattle.lp_cert.specs.declared.line.Line.TheVariants.{Hold, Busy, Born}
 use Rattle.lp_checker.specs.declared.fault.CertFault.{CertFault}
 use Rattle.lp_checker.specs.declared.fault.CertFault.TheVariants.{NoSuchGroup, NotOnStack, NoBlame, Gap, BadBirth, NoLeg}
 use Rattle.lp_checker.specs.Verdict.{verdict_on}
-
--- ---- The models, with whom they blame
-
-abbrev pub is_awake : Mode → Bool
-is_awake Asleep = false
-is_awake _ = true
-
-abbrev pub is_in_kernel : Mode → Bool
-is_in_kernel Kernel = true
-is_in_kernel _ = false
-
-abbrev pub is_stop : CheckKind → Bool
-is_stop Stop = true
-is_stop _ = false
-
--- Linux livepatch: a task switches at kernel exit, at the idle point, or asleep when no function on its stack changes
-abbrev pub hybrid : Rules
-hybrid =
-    rules_of (record {
-      uses = is_no_stop;
-      keeps = is_stale;
-      busy = at_walk is_awake;
-      first_group = alone;
-      child_group = child_alone;
-      whole_call = true;
-    })
-
--- Ksplice: all tasks switch together while all CPUs are stopped
-abbrev pub all_at_once : Rules
-all_at_once =
-    rules_of (record {
-      uses = is_stop;
-      keeps = is_stale;
-      busy = λ kind mode. false;
-      first_group = all_in_one;
-      child_group = with_parent;
-      whole_call = true;
-    })
-
--- the threads of a process switch together
-abbrev pub process_group : Rules
-process_group =
-    rules_of (record {
-      uses = is_no_stop;
-      keeps = is_stale;
-      busy = at_walk is_in_kernel;
-      first_group = alone;
-      child_group = as_forked;
-      whole_call = true;
-    })
 
 -- ---- Words of the rows
 
@@ -133,7 +76,7 @@ sleeps_on = enter 1 ∷ call 1 a ∷ sleep 1 ∷ Enable ∷ Walk ∷ Walk ∷ []
 
 -- all CPUs are stopped while a task is in a changed function, and once more when it has left it
 abbrev pub stops_twice : List Event
-stops_twice = enter 2 ∷ call 2 a ∷ Enable ∷ StopAll ∷ ret 2 ∷ StopAll ∷ []
+stops_twice = enter 2 ∷ call 2 a ∷ Enable ∷ Stop ∷ ret 2 ∷ Stop ∷ []
 
 -- a task that waits forks, and switches; its child doesn't
 abbrev pub forks : List Event
@@ -154,7 +97,8 @@ a_thread_sleeps =
 
 -- ---- What they come to
 
-pub record VerdictsCompute : Type 0 where
+-- under the three models that the rows speak of
+pub record VerdictsCompute (hybrid all_at_once process_group : Rules) : Type 0 where
   -- accepted ones
   pub sleeper : says hybrid one sleeps (floor 4 1 7 (hold 1 1 2 5 5 ∷ [])) ≡ None
   pub stopped : says all_at_once two stops_twice (floor 3 0 5 (hold 0 2 2 4 4 ∷ [])) ≡ None

@@ -7,7 +7,13 @@ ghost use Rattle.lp_models.specs.Models.{all_at_once, hybrid, immediate, leave_k
 ghost use Rattle.lp_process.specs.Models.{process_group};
 ghost use Rattle.lp_worked_laws.specs.CertRows.{CertificatesCompute};
 ghost use Rattle.lp_worked_laws.specs.HeadlineRows.{HeadlineRefuses};
+ghost use Rattle.lp_worked_laws.specs.Rows.{RowsCompute};
 ghost use Rattle.lp_worked_laws.specs.VerdictRows.{VerdictsCompute};
+
+/// Short runs whose replies and stays are known, computed from the definitions.
+pub fn worked_rows()
+    ensures { RowsCompute (rules_of hybrid) (rules_of leave_kernel) (rules_of all_at_once) (rules_of immediate) (rules_of process_group) }
+{}
 
 /// Short runs whose certificates are known, computed from the definitions.
 pub fn worked_certificates()
@@ -16,7 +22,7 @@ pub fn worked_certificates()
 
 /// Certificates whose verdicts are known, computed from the definitions.
 pub fn worked_verdicts()
-    ensures { VerdictsCompute }
+    ensures { VerdictsCompute (rules_of hybrid) (rules_of all_at_once) (rules_of process_group) }
 {}
 
 /// Four short runs: the headline holds of the answer to each, and refuses what a wrong engine would
