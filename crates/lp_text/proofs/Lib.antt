@@ -10,6 +10,7 @@ pub mod Pushes
 pub mod Steps
 pub mod Sound
 pub mod Writing
+pub mod Counts
 pub mod Inputs
 pub mod Streams
 pub mod Again

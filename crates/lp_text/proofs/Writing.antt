@@ -1,6 +1,6 @@
 -- Bytes that were written one piece after another.
 use Rattle.std.proofs.Common.{◌≡◌, ◌<◌, ◌≤◌, ◌+◌, ◌-◌, ℕ, zero, suc, Bool, true, false, inl, inr, List, [], ◌∷◌, ◌++◌, length, take, drop, Option, None, Some, Result, Ok, Err, Bor, map, get_or, add-one, subst, refl, sym, ap, ◌∙◌, arith, append_assoc}
-use Rattle.std.specs.Prelude.{Vec, nat_le, nat_lt, ◌==◌, IsErr}
+use Rattle.std.specs.Prelude.{Vec, nat_le, nat_lt, ◌==◌, IsErr, OnErr, OnOk}
 use Rattle.std.specs.Io.KnownBytes.{Appends}
 use Rattle.std.specs.List.{list_any, AllByRecursion, join_with_byte, flat_map}
 use Rattle.std.proofs.lemmas.Bool.Decides.{leb_tells}
@@ -15,8 +15,9 @@ use Rattle.std.proofs.lemmas.List.{take-append-drop, take_all, length-drop, appe
 use Rattle.std.proofs.Math.ListN.{drop_of_length-le}
 use Rattle.std.proofs.Math.Seq.{drop-cons}
 use Rattle.lp_text.specs.Words.{line_of, header}
+use Rattle.lp_text.specs.Counts.{next}
 use Rattle.lp_text.specs.Writing.{AppendsPrefix, Writes}
-use Rattle.lp_text.specs.inside.Writing.{Left, line_rest}
+use Rattle.lp_text.specs.inside.Writing.{Left, Seen, Takes, TakesPrefix, Wrote, line_rest}
 
 pub appends_more : (a b c : Option (List ℕ)) (x y : List ℕ) → Appends a b x → Appends b c y → Appends a c (x ++ y)
 appends_more None b c x y h k = tt
@@ -24,15 +25,21 @@ appends_more (Some xs) None c x y h k = absurd h
 appends_more (Some xs) (Some ys) None x y h k = absurd k
 appends_more (Some xs) (Some ys) (Some zs) x y h k = k ∙ ap (λ l. l ++ y) h ∙ append_assoc xs x y
 
-pub prefix_more : (a b : Option (List ℕ)) (x y text : List ℕ) → text ≡ x ++ y → AppendsPrefix a b x → AppendsPrefix a b text
-prefix_more a b x y text e h = (h.0, h.1 ++ y, e ∙ ap (λ l. l ++ y) h.2 ∙ append_assoc h.0 h.1 y, h.3)
+pub takes_more : (a b c : Seen) (x y : List ℕ) → Takes a b x → Takes b c y → Takes a c (x ++ y)
+takes_more a b c x y h k = (appends_more a.held b.held c.held x y h.0 k.0, k.1 ∙ h.1)
 
-pub prefix_after : (a b c : Option (List ℕ)) (x y text : List ℕ) → text ≡ x ++ y → Appends a b x → AppendsPrefix b c y → AppendsPrefix a c text
+pub prefix_more : (a b : Seen) (x y text : List ℕ) → text ≡ x ++ y → TakesPrefix a b x → TakesPrefix a b text
+prefix_more a b x y text e h =
+    let it = h.0 in
+    ((it.0, it.1 ++ y, e ∙ ap (λ l. l ++ y) it.2 ∙ append_assoc it.0 it.1 y, it.3), h.1)
+
+pub prefix_after : (a b c : Seen) (x y text : List ℕ) → text ≡ x ++ y → Takes a b x → TakesPrefix b c y → TakesPrefix a c text
 prefix_after a b c x y text e h k =
-    (x ++ k.0, k.1, e ∙ ap (λ l. x ++ l) k.2 ∙ sym (append_assoc x k.0 k.1), appends_more a b c x k.0 h k.3)
+    let it = k.0 in
+    ((x ++ it.0, it.1, e ∙ ap (λ l. x ++ l) it.2 ∙ sym (append_assoc x it.0 it.1), appends_more a.held b.held c.held x it.0 h.0 it.3), k.1 ∙ ap next h.1)
 
 -- a piece of a text, between what was written before it and what comes after it
-pub prefix_within : (a b c : Option (List ℕ)) (x y z text : List ℕ) → text ≡ x ++ (y ++ z) → Appends a b x → AppendsPrefix b c y → AppendsPrefix a c text
+pub prefix_within : (a b c : Seen) (x y z text : List ℕ) → text ≡ x ++ (y ++ z) → Takes a b x → TakesPrefix b c y → TakesPrefix a c text
 prefix_within a b c x y z text e h k = prefix_after a b c x (y ++ z) text e h (prefix_more b c y z (y ++ z) refl k)
 
 -- a writer took some of the bytes that were left
@@ -45,14 +52,32 @@ took a b c bytes rest count h k =
     )
 
 -- a call gave up
-pub writes_err : {E : Type 0} (a b : Option (List ℕ)) (text : List ℕ) (r : Result (Unit {0}) E) → IsErr r → AppendsPrefix a b text → Writes a b r text
+pub writes_err : {E : Type 0} (a b : Seen) (text : List ℕ) (r : Result (Unit {0}) E) → IsErr r → TakesPrefix a b text → Wrote a b r text
 writes_err a b text (Ok x) is h = absurd (cc is)
 writes_err a b text (Err e) is h = h
 
 -- the last of several calls
-pub writes_after : {E : Type 0} (a b c : Option (List ℕ)) (x y text : List ℕ) (r : Result (Unit {0}) E) → text ≡ x ++ y → Appends a b x → Writes b c r y → Writes a c r text
-writes_after a b c x y text (Ok z) e h k = let P : List ℕ → Type 0 = λ t. Appends a c t in subst P (sym e) (appends_more a b c x y h k)
+pub writes_after : {E : Type 0} (a b c : Seen) (x y text : List ℕ) (r : Result (Unit {0}) E) → text ≡ x ++ y → Takes a b x → Wrote b c r y → Wrote a c r text
+writes_after a b c x y text (Ok z) e h k = let P : List ℕ → Type 0 = λ t. Takes a c t in subst P (sym e) (takes_more a b c x y h k)
 writes_after a b c x y text (Err z) e h k = prefix_after a b c x y text e h k
+
+-- what a call says of the bytes and of its failures, put together
+pub wrote : {E : Type 0} (a b : Seen) (text : List ℕ) (r : Result (Unit {0}) E) → Writes a.held b.held r text → OnErr r (b.failures ≡ next a.failures) → OnOk r (b.failures ≡ a.failures) → Wrote a b r text
+wrote a b text (Ok x) h failed unfailed = (h, unfailed)
+wrote a b text (Err e) h failed unfailed = (h, failed)
+
+-- and taken apart
+pub writes_of : {E : Type 0} (a b : Seen) (text : List ℕ) (r : Result (Unit {0}) E) → Wrote a b r text → Writes a.held b.held r text
+writes_of a b text (Ok x) h = h.0
+writes_of a b text (Err e) h = h.0
+
+pub failed_of : {E : Type 0} (a b : Seen) (text : List ℕ) (r : Result (Unit {0}) E) → Wrote a b r text → OnErr r (b.failures ≡ next a.failures)
+failed_of a b text (Ok x) h = tt
+failed_of a b text (Err e) h = h.1
+
+pub unfailed_of : {E : Type 0} (a b : Seen) (text : List ℕ) (r : Result (Unit {0}) E) → Wrote a b r text → OnOk r (b.failures ≡ a.failures)
+unfailed_of a b text (Ok x) h = h.1
+unfailed_of a b text (Err e) h = tt
 
 -- ---- Words of a line
 
@@ -69,19 +94,19 @@ rest_end words i h = rw (drop_of_length-le words h) refl
 
 -- ---- A loop that writes one piece after another
 
-pub left_prefix : (a b c : Option (List ℕ)) (text piece now next : List ℕ) → now ≡ piece ++ next → Left a b text now → AppendsPrefix b c piece → AppendsPrefix a c text
+pub left_prefix : (a b c : Seen) (text piece now next : List ℕ) → now ≡ piece ++ next → Left a b text now → TakesPrefix b c piece → TakesPrefix a c text
 left_prefix a b c text piece now next e h k = prefix_within a b c h.0 piece next text (h.1 ∙ ap (λ l. h.0 ++ l) e) h.2 k
 
-pub left_next : (a b c : Option (List ℕ)) (text piece now next : List ℕ) → now ≡ piece ++ next → Left a b text now → Appends b c piece → Left a c text next
+pub left_next : (a b c : Seen) (text piece now next : List ℕ) → now ≡ piece ++ next → Left a b text now → Takes b c piece → Left a c text next
 left_next a b c text piece now next e h k =
-    (h.0 ++ piece, h.1 ∙ ap (λ l. h.0 ++ l) e ∙ sym (append_assoc h.0 piece next), appends_more a b c h.0 piece h.2 k)
+    (h.0 ++ piece, h.1 ∙ ap (λ l. h.0 ++ l) e ∙ sym (append_assoc h.0 piece next), takes_more a b c h.0 piece h.2 k)
 
-pub left_last : {E : Type 0} (a b c : Option (List ℕ)) (text now last : List ℕ) (r : Result (Unit {0}) E) → now ≡ last → Left a b text now → Writes b c r last → Writes a c r text
+pub left_last : {E : Type 0} (a b c : Seen) (text now last : List ℕ) (r : Result (Unit {0}) E) → now ≡ last → Left a b text now → Wrote b c r last → Wrote a c r text
 left_last a b c text now last r e h k = writes_after a b c h.0 last text r (h.1 ∙ ap (λ l. h.0 ++ l) e) h.2 k
 
-pub left_none : (a b : Option (List ℕ)) (text now : List ℕ) → now ≡ [] → Left a b text now → Appends a b text
+pub left_none : (a b : Seen) (text now : List ℕ) → now ≡ [] → Left a b text now → Takes a b text
 left_none a b text now e h =
-    let P : List ℕ → Type 0 = λ t. Appends a b t in
+    let P : List ℕ → Type 0 = λ t. Takes a b t in
     subst P (sym (h.1 ∙ ap (λ l. h.0 ++ l) e ∙ append-nil h.0)) h.2
 
 -- ---- Lines of a list
@@ -153,15 +178,15 @@ module _ (t : TraceValue) where
   text_split = simp (flat_map-append, append_assoc)
 
 -- where a writer stands after each part
-module _ (t : TraceValue) (a b c d e f : Option (List ℕ)) where
-  pub before_symbols : Appends a b (line_of (header t.form ∷ [])) → Left a b (text_of t) (symbols_part t ++ (patches_part t ++ (boots_part t ++ events_part t)))
+module _ (t : TraceValue) (a b c d e f : Seen) where
+  pub before_symbols : Takes a b (line_of (header t.form ∷ [])) → Left a b (text_of t) (symbols_part t ++ (patches_part t ++ (boots_part t ++ events_part t)))
   before_symbols h = (line_of (header t.form ∷ []), text_split t, h)
 
-  pub before_patches : Appends a b (line_of (header t.form ∷ [])) → Appends b c (symbols_part t) → Left a c (text_of t) (patches_part t ++ (boots_part t ++ events_part t))
+  pub before_patches : Takes a b (line_of (header t.form ∷ [])) → Takes b c (symbols_part t) → Left a c (text_of t) (patches_part t ++ (boots_part t ++ events_part t))
   before_patches h k = left_next a b c (text_of t) (symbols_part t) _ _ refl (before_symbols h) k
 
-  pub before_boots : Appends a b (line_of (header t.form ∷ [])) → Appends b c (symbols_part t) → Appends c d (patches_part t) → Left a d (text_of t) (boots_part t ++ events_part t)
+  pub before_boots : Takes a b (line_of (header t.form ∷ [])) → Takes b c (symbols_part t) → Takes c d (patches_part t) → Left a d (text_of t) (boots_part t ++ events_part t)
   before_boots h k l = left_next a c d (text_of t) (patches_part t) _ _ refl (before_patches h k) l
 
-  pub before_events : Appends a b (line_of (header t.form ∷ [])) → Appends b c (symbols_part t) → Appends c d (patches_part t) → Appends d e (boots_part t) → Left a e (text_of t) (events_part t)
+  pub before_events : Takes a b (line_of (header t.form ∷ [])) → Takes b c (symbols_part t) → Takes c d (patches_part t) → Takes d e (boots_part t) → Left a e (text_of t) (events_part t)
   before_events h k l m = left_next a d e (text_of t) (boots_part t) _ _ refl (before_boots h k l) m

@@ -1,3 +1,4 @@
+pub mod Counts
 pub mod Words
 pub mod Traces
 pub mod Reading

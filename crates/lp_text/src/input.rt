@@ -1,10 +1,12 @@
 //! Reading an input to its end.
-ghost use Rattle.std.specs.Prelude.{◌≡◌, ℕ, ◌+◌, ◌<◌, ◌≤◌, List, length, take, IfOk, IfErr, OnOk};
+ghost use Rattle.std.specs.Prelude.{◌≡◌, ℕ, ◌+◌, ◌-◌, ◌<◌, ◌≤◌, List, length, take, IfOk, IfErr, MatchResult, OnOk};
 ghost use Rattle.std.specs.Io.KnownBytes.{Consumes, IsAtEnd};
+ghost use Rattle.lp_text.specs.Counts.{AtMost, next};
 ghost use Rattle.lp_text.specs.declared.input.InputFault.TheVariants.{NoMemory as InputNoMemory};
 ghost use Rattle.lp_text.specs.Input.{ReadsAll};
-ghost use Rattle.lp_text.specs.inside.Streams.{IsFaultBehind, IsInputFault};
+ghost use Rattle.lp_text.specs.inside.Streams.{Ended, Gave, InputFails, IsFaultBehind, IsInputFault};
 
+use crate::counted::Counted;
 use crate::read::MOST_BYTES;
 use std::alloc::{AllocError, Global};
 use std::io::{self, Read};
@@ -34,10 +36,15 @@ impl From<AllocError> for InputFault {
 /// All that a reader has, if it has no more than a text may have.
 ///
 /// Each read but the last gives a byte at least, so there are at most 134,217,729.
-pub(crate) fn read_input<R: Read>(alloc: Global, reader: &mut R) -> Result<Vec<u8>, InputFault>
-    ensures whole { IfOk result (λ text. ReadsAll (R.remaining reader.old) (R.remaining reader.new) text.items) }
+pub(crate) fn read_input<R: Read>(
+    alloc: Global,
+    reader: &mut Counted<R>,
+) -> Result<Vec<u8>, InputFault>
+    ensures whole { IfOk result (λ text. ReadsAll (R.remaining reader.old.stream) (R.remaining reader.new.stream) text.items) }
     ensures few { IfOk result (λ text. length text.items ≤ 134217728) }
-    ensures fault { IfErr result (λ fault. IsInputFault (R.remaining reader.old) (R.remaining reader.new) fault) }
+    ensures fault { IfErr result (λ fault. IsInputFault (R.remaining reader.old.stream) (R.remaining reader.new.stream) fault) }
+    ensures counted { MatchResult result (λ _. Ended reader.old reader.new) (InputFails reader.old reader.new) }
+    ensures calls { AtMost 134217729 reader.old.calls reader.new.calls }
 {
     let mut piece = vec![in alloc; 0; PIECE]?;
     read_pieces(alloc, reader, piece.as_mut_slice())
@@ -46,13 +53,15 @@ pub(crate) fn read_input<R: Read>(alloc: Global, reader: &mut R) -> Result<Vec<u
 /// The same, by reads into this piece.
 fn read_pieces<R: Read>(
     alloc: Global,
-    reader: &mut R,
+    reader: &mut Counted<R>,
     piece: &mut [u8],
 ) -> Result<Vec<u8>, InputFault>
     requires { 0 < length piece.old }
-    ensures whole { IfOk result (λ text. ReadsAll (R.remaining reader.old) (R.remaining reader.new) text.items) }
+    ensures whole { IfOk result (λ text. ReadsAll (R.remaining reader.old.stream) (R.remaining reader.new.stream) text.items) }
     ensures few { IfOk result (λ text. length text.items ≤ 134217728) }
-    ensures fault { IfErr result (λ fault. IsInputFault (R.remaining reader.old) (R.remaining reader.new) fault) }
+    ensures fault { IfErr result (λ fault. IsInputFault (R.remaining reader.old.stream) (R.remaining reader.new.stream) fault) }
+    ensures counted { MatchResult result (λ _. Ended reader.old reader.new) (InputFails reader.old reader.new) }
+    ensures calls { AtMost 134217729 reader.old.calls reader.new.calls }
 {
     let mut text = Vec::new(alloc);
     loop {
@@ -67,14 +76,16 @@ fn read_pieces<R: Read>(
 
 /// Reads what is left behind so many bytes, and keeps nothing of it.
 pub(crate) fn skip_rest<R: Read>(
-    reader: &mut R,
+    reader: &mut Counted<R>,
     piece: &mut [u8],
     before: usize,
 ) -> Result<(), InputFault>
     requires some { 0 < length piece.old }
     requires few { before ≤ 134217728 }
-    ensures end { OnOk result ((rest : List ℕ) × ReadsAll (R.remaining reader.old) (R.remaining reader.new) rest × (before + length rest ≤ 134217728)) }
-    ensures fault { IfErr result (λ fault. IsFaultBehind before (R.remaining reader.old) (R.remaining reader.new) fault) }
+    ensures end { OnOk result ((rest : List ℕ) × ReadsAll (R.remaining reader.old.stream) (R.remaining reader.new.stream) rest × (before + length rest ≤ 134217728)) }
+    ensures fault { IfErr result (λ fault. IsFaultBehind before (R.remaining reader.old.stream) (R.remaining reader.new.stream) fault) }
+    ensures counted { MatchResult result (λ _. Ended reader.old reader.new) (InputFails reader.old reader.new) }
+    ensures calls { AtMost (134217729 - before) reader.old.calls reader.new.calls }
 {
     let mut total = before;
     loop {
@@ -88,18 +99,20 @@ pub(crate) fn skip_rest<R: Read>(
 
 /// Reads a piece behind so many bytes, and gives how many it has: none at the end.
 pub(crate) fn read_piece<R: Read>(
-    reader: &mut R,
+    reader: &mut Counted<R>,
     piece: &mut [u8],
     before: usize,
 ) -> Result<usize, InputFault>
     requires some { 0 < length piece.old }
     requires few { before ≤ 134217728 }
-    ensures bytes { IfOk result (λ count. Consumes (R.remaining reader.old) (R.remaining reader.new) (take count piece.new)) }
+    ensures bytes { IfOk result (λ count. Consumes (R.remaining reader.old.stream) (R.remaining reader.new.stream) (take count piece.new)) }
     ensures size { length piece.new ≡ length piece.old }
     ensures within { IfOk result (λ count. count ≤ length piece.new) }
     ensures few { IfOk result (λ count. before + count ≤ 134217728) }
-    ensures end { IfOk result (λ count. count ≡ 0 → IsAtEnd (R.remaining reader.new)) }
-    ensures fault { IfErr result (λ fault. IsFaultBehind before (R.remaining reader.old) (R.remaining reader.new) fault) }
+    ensures end { IfOk result (λ count. count ≡ 0 → IsAtEnd (R.remaining reader.new.stream)) }
+    ensures fault { IfErr result (λ fault. IsFaultBehind before (R.remaining reader.old.stream) (R.remaining reader.new.stream) fault) }
+    ensures counted { MatchResult result (Gave reader.old reader.new) (InputFails reader.old reader.new) }
+    ensures calls { reader.new.calls ≡ next reader.old.calls }
 {
     match reader.read(piece) {
         Ok(count) if count > MOST_BYTES - before => Err(InputFault::Long),

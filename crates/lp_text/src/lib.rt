@@ -4,6 +4,7 @@
 mod builder;
 mod check_input;
 mod check_lines;
+mod counted;
 mod fault;
 mod form;
 mod input;
@@ -24,6 +25,7 @@ mod trace;
 mod write;
 
 pub use check_input::CheckInput;
+pub use counted::Counted;
 pub use fault::{Cause, ReadFault, TraceFault};
 pub use form::TraceForm;
 pub use lp_cert::Cert;

@@ -1,12 +1,14 @@
 //! Reading a trace from a reader piece by piece: of the text only the unfinished line is kept.
-ghost use Rattle.std.specs.Prelude.{◌≡◌, ◌+◌, ◌≤◌, ◌<◌, ◌++◌, ℕ, List, [], None, Ok, Err, length, IfOk, IfErr, IfSome, IfNone, OnOk};
+ghost use Rattle.std.specs.Prelude.{◌≡◌, ◌+◌, ◌≤◌, ◌<◌, ◌++◌, ℕ, List, [], None, Ok, Err, length, IfOk, IfErr, IfSome, IfNone, MatchResult, OnOk};
+ghost use Rattle.lp_text.specs.Counts.{AtMost, next};
 ghost use Rattle.lp_text.specs.Faults.{Gives, IsReadFault};
-ghost use Rattle.lp_text.specs.Input.{AtText, ReadsAll};
-ghost use Rattle.lp_text.specs.inside.Streams.{reading_after, reading_on};
+ghost use Rattle.lp_text.specs.Input.{AtRead, AtText, ButForReads, FailsOnce, ReadsAll};
+ghost use Rattle.lp_text.specs.inside.Streams.{Ended, StreamFails, reading_after, reading_on};
 ghost use Rattle.lp_text.specs.Reading.{reading, reading_from, reading_lines};
 ghost use Rattle.lp_text.specs.Traces.{IsTrace, text_of};
 ghost use Rattle.lp_text.specs.Words.{lines};
 
+use crate::counted::Counted;
 use crate::fault::ReadFault;
 use crate::input::{PIECE, read_piece, skip_rest};
 use crate::parser::Parser;
@@ -200,11 +202,19 @@ impl Trace {
     /// The trace that a reader has, read to its end.
     ///
     /// It makes at most 134,217,729 reads. A read that fails or is interrupted ends it.
-    pub fn read_from<R: Read>(alloc: Global, reader: &mut R) -> Result<Trace, StreamFault>
+    pub fn read_from<R: Read>(alloc: Global, reader: &mut Counted<R>) -> Result<Trace, StreamFault>
         // What was read spells a trace, and nothing is left.
-        ensures found { IfOk result (λ trace. IsTrace trace × ReadsAll (R.remaining reader.old) (R.remaining reader.new) (text_of trace)) }
+        ensures found { IfOk result (λ trace. IsTrace trace × ReadsAll (R.remaining reader.old.stream) (R.remaining reader.new.stream) (text_of trace)) }
         // The fault of a text is the one that the definitions give.
-        ensures trace { IfErr result (λ fault. AtText fault (λ why. IfSome (R.remaining reader.old) (λ text. reading text ≡ Err why))) }
+        ensures trace { IfErr result (λ fault. AtText fault (λ why. IfSome (R.remaining reader.old.stream) (λ text. reading text ≡ Err why))) }
+        // A fault of reading comes of a read that failed, which no other read follows.
+        ensures read_failed { IfErr result (λ fault. AtRead fault (FailsOnce reader.old reader.new)) }
+        // Else no read failed: one that failed is told before a fault of the text.
+        ensures unfailed { MatchResult result (λ _. reader.new.failures ≡ reader.old.failures) (λ fault. ButForReads fault (reader.new.failures ≡ reader.old.failures)) }
+        // Without a fault the end was found once: nothing is read behind it.
+        ensures once { OnOk result (reader.new.ends ≡ next reader.old.ends) }
+        // Each read but the last gives a byte at least.
+        ensures few { AtMost 134217729 reader.old.calls reader.new.calls }
     {
         let parser = parse_all(alloc, reader)?;
         Ok(parser.into_trace())
@@ -212,19 +222,27 @@ impl Trace {
 }
 
 /// What a reader's text gives, read to its end.
-fn parse_all<R: Read>(alloc: Global, reader: &mut R) -> Result<Parser, StreamFault>
-    ensures found { IfOk result (λ parser. (text : List ℕ) × ReadsAll (R.remaining reader.old) (R.remaining reader.new) text × (reading text ≡ Ok parser)) }
-    ensures trace { IfErr result (λ fault. AtText fault (λ why. IfSome (R.remaining reader.old) (λ text. reading text ≡ Err why))) }
+fn parse_all<R: Read>(alloc: Global, reader: &mut Counted<R>) -> Result<Parser, StreamFault>
+    ensures found { IfOk result (λ parser. (text : List ℕ) × ReadsAll (R.remaining reader.old.stream) (R.remaining reader.new.stream) text × (reading text ≡ Ok parser)) }
+    ensures trace { IfErr result (λ fault. AtText fault (λ why. IfSome (R.remaining reader.old.stream) (λ text. reading text ≡ Err why))) }
+    ensures counted { MatchResult result (λ _. Ended reader.old reader.new) (StreamFails reader.old reader.new) }
+    ensures calls { AtMost 134217729 reader.old.calls reader.new.calls }
 {
     let mut piece = vec![in alloc; 0; PIECE]?;
     read_by(alloc, reader, piece.as_mut_slice())
 }
 
 /// The same, by reads into this piece.
-fn read_by<R: Read>(alloc: Global, reader: &mut R, piece: &mut [u8]) -> Result<Parser, StreamFault>
+fn read_by<R: Read>(
+    alloc: Global,
+    reader: &mut Counted<R>,
+    piece: &mut [u8],
+) -> Result<Parser, StreamFault>
     requires { 0 < length piece.old }
-    ensures found { IfOk result (λ parser. (text : List ℕ) × ReadsAll (R.remaining reader.old) (R.remaining reader.new) text × (reading text ≡ Ok parser)) }
-    ensures trace { IfErr result (λ fault. AtText fault (λ why. IfSome (R.remaining reader.old) (λ text. reading text ≡ Err why))) }
+    ensures found { IfOk result (λ parser. (text : List ℕ) × ReadsAll (R.remaining reader.old.stream) (R.remaining reader.new.stream) text × (reading text ≡ Ok parser)) }
+    ensures trace { IfErr result (λ fault. AtText fault (λ why. IfSome (R.remaining reader.old.stream) (λ text. reading text ≡ Err why))) }
+    ensures counted { MatchResult result (λ _. Ended reader.old reader.new) (StreamFails reader.old reader.new) }
+    ensures calls { AtMost 134217729 reader.old.calls reader.new.calls }
 {
     let mut stream = Stream::new(alloc);
     let mut total = 0;

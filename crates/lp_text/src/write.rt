@@ -1,11 +1,14 @@
 //! Writing a trace text.
-ghost use Rattle.std.specs.Prelude.{◌≡◌, ◌<◌, ◌≤◌, ◌∷◌, ◌++◌, [], decimal, length, map, None, slice_index_or};
+ghost use Rattle.std.specs.Prelude.{◌≡◌, ◌<◌, ◌≤◌, ◌∷◌, ◌++◌, [], decimal, length, map, None, OnErr, OnOk, slice_index_or};
 ghost use Rattle.std.specs.List.{flat_map, AllByRecursion};
 ghost use Rattle.lp_patch.specs.Patches.{patch_refusal};
 ghost use Rattle.lp_text.specs.Traces.{functions, IsEvent, IsTrace, boot_words, event_words, name, patch_lines, patch_words, sym_words, text_of};
 ghost use Rattle.lp_text.specs.Words.{event_word, header, line_of};
+ghost use Rattle.lp_text.specs.Counts.{next};
 ghost use Rattle.lp_text.specs.Writing.{Writes};
+ghost use Rattle.lp_text.specs.inside.Writing.{Wrote, seen_of};
 
+use crate::counted::Counted;
 use crate::form::TraceForm;
 use crate::keyword::{EventKeyword, LineKeyword, class_word, fork_word};
 use crate::trace::Trace;
@@ -29,8 +32,12 @@ pub enum WriteFault {
 }
 
 /// Writes all of the bytes. Never allocates.
-pub fn put<W: Write>(writer: &mut W, bytes: &[u8]) -> Result<(), WriteFault>
-    ensures { Writes (W.contents writer.old) (W.contents writer.new) result bytes.now }
+pub fn put<W: Write>(writer: &mut Counted<W>, bytes: &[u8]) -> Result<(), WriteFault>
+    ensures written { Writes (W.contents writer.old.stream) (W.contents writer.new.stream) result bytes.now }
+    // A fault comes of a write that failed or took no byte, which no other write follows.
+    ensures write_failed { OnErr result (writer.new.failures ≡ next writer.old.failures) }
+    // Without a fault no write failed.
+    ensures unfailed { OnOk result (writer.new.failures ≡ writer.old.failures) }
 {
     let mut rest = bytes;
     while !rest.is_empty() {
@@ -44,16 +51,24 @@ pub fn put<W: Write>(writer: &mut W, bytes: &[u8]) -> Result<(), WriteFault>
 }
 
 /// Writes two pieces, one after the other.
-fn put_both<W: Write>(writer: &mut W, first: &[u8], second: &[u8]) -> Result<(), WriteFault>
-    ensures { Writes (W.contents writer.old) (W.contents writer.new) result (first.now ++ second.now) }
+fn put_both<W: Write>(
+    writer: &mut Counted<W>,
+    first: &[u8],
+    second: &[u8],
+) -> Result<(), WriteFault>
+    ensures { Wrote (seen_of W.contents writer.old) (seen_of W.contents writer.new) result (first.now ++ second.now) }
 {
     put(writer, first)?;
     put(writer, second)
 }
 
 /// Writes a line of these words.
-fn put_line<W: Write>(writer: &mut W, first: &[u8], words: &[&[u8]]) -> Result<(), WriteFault>
-    ensures { Writes (W.contents writer.old) (W.contents writer.new) result (line_of (first.now ∷ map (λ word. word.now) words.now)) }
+fn put_line<W: Write>(
+    writer: &mut Counted<W>,
+    first: &[u8],
+    words: &[&[u8]],
+) -> Result<(), WriteFault>
+    ensures { Wrote (seen_of W.contents writer.old) (seen_of W.contents writer.new) result (line_of (first.now ∷ map (λ word. word.now) words.now)) }
 {
     put(writer, first)?;
     for word in words {
@@ -78,29 +93,33 @@ pub(crate) fn name_of(symbols: &Symbols, id: SymId) -> &[u8]
 }
 
 /// Writes the line of an event of one task.
-fn put_task<W: Write>(writer: &mut W, word: EventKeyword, task: TaskId) -> Result<(), WriteFault>
-    ensures { Writes (W.contents writer.old) (W.contents writer.new) result (line_of (event_word word ∷ decimal task.0 ∷ [])) }
+fn put_task<W: Write>(
+    writer: &mut Counted<W>,
+    word: EventKeyword,
+    task: TaskId,
+) -> Result<(), WriteFault>
+    ensures { Wrote (seen_of W.contents writer.old) (seen_of W.contents writer.new) result (line_of (event_word word ∷ decimal task.0 ∷ [])) }
 {
     let mut buffer = Buffer::new();
     put_line(writer, word.bytes(), &[number(&mut buffer, task.0)])
 }
 
 /// Writes the line of an event of no task.
-fn put_word<W: Write>(writer: &mut W, word: EventKeyword) -> Result<(), WriteFault>
-    ensures { Writes (W.contents writer.old) (W.contents writer.new) result (line_of (event_word word ∷ [])) }
+fn put_word<W: Write>(writer: &mut Counted<W>, word: EventKeyword) -> Result<(), WriteFault>
+    ensures { Wrote (seen_of W.contents writer.old) (seen_of W.contents writer.new) result (line_of (event_word word ∷ [])) }
 {
     put_line(writer, word.bytes(), &[])
 }
 
 /// Writes the line of a call.
 fn put_call<W: Write>(
-    writer: &mut W,
+    writer: &mut Counted<W>,
     symbols: &Symbols,
     task: TaskId,
     func: SymId,
 ) -> Result<(), WriteFault>
     requires { func.0 < length symbols.now }
-    ensures { Writes (W.contents writer.old) (W.contents writer.new) result (line_of (event_words symbols.now (Event.Call task func))) }
+    ensures { Wrote (seen_of W.contents writer.old) (seen_of W.contents writer.new) result (line_of (event_words symbols.now (Event.Call task func))) }
 {
     let mut buffer = Buffer::new();
     let name = name_of(symbols, func);
@@ -113,12 +132,12 @@ fn put_call<W: Write>(
 
 /// Writes the line of a fork.
 fn put_fork<W: Write>(
-    writer: &mut W,
+    writer: &mut Counted<W>,
     parent: TaskId,
     child: TaskId,
     how: ForkKind,
 ) -> Result<(), WriteFault>
-    ensures { Writes (W.contents writer.old) (W.contents writer.new) result (line_of (event_words [] (Event.Fork parent child how))) }
+    ensures { Wrote (seen_of W.contents writer.old) (seen_of W.contents writer.new) result (line_of (event_words [] (Event.Fork parent child how))) }
 {
     let mut first = Buffer::new();
     let mut second = Buffer::new();
@@ -132,9 +151,13 @@ fn put_fork<W: Write>(
 }
 
 /// Writes the line of an event.
-fn put_event<W: Write>(writer: &mut W, symbols: &Symbols, event: Event) -> Result<(), WriteFault>
+fn put_event<W: Write>(
+    writer: &mut Counted<W>,
+    symbols: &Symbols,
+    event: Event,
+) -> Result<(), WriteFault>
     requires { IsEvent (length symbols.now) event }
-    ensures { Writes (W.contents writer.old) (W.contents writer.new) result (line_of (event_words symbols.now event)) }
+    ensures { Wrote (seen_of W.contents writer.old) (seen_of W.contents writer.new) result (line_of (event_words symbols.now event)) }
 {
     match event {
         Event::Call(task, func) => put_call(writer, symbols, task, func),
@@ -155,8 +178,8 @@ fn put_event<W: Write>(writer: &mut W, symbols: &Symbols, event: Event) -> Resul
 }
 
 /// Writes the line of a boot task.
-fn put_boot<W: Write>(writer: &mut W, task: TaskId, class: Class) -> Result<(), WriteFault>
-    ensures { Writes (W.contents writer.old) (W.contents writer.new) result (line_of (boot_words (task, class))) }
+fn put_boot<W: Write>(writer: &mut Counted<W>, task: TaskId, class: Class) -> Result<(), WriteFault>
+    ensures { Wrote (seen_of W.contents writer.old) (seen_of W.contents writer.new) result (line_of (boot_words (task, class))) }
 {
     let mut buffer = Buffer::new();
     put_line(
@@ -167,9 +190,13 @@ fn put_boot<W: Write>(writer: &mut W, task: TaskId, class: Class) -> Result<(), 
 }
 
 /// Writes the line of a symbol.
-fn put_symbol<W: Write>(writer: &mut W, symbols: &Symbols, id: SymId) -> Result<(), WriteFault>
+fn put_symbol<W: Write>(
+    writer: &mut Counted<W>,
+    symbols: &Symbols,
+    id: SymId,
+) -> Result<(), WriteFault>
     requires { id.0 < length symbols.now }
-    ensures { Writes (W.contents writer.old) (W.contents writer.new) result (line_of (sym_words (name symbols.now id))) }
+    ensures { Wrote (seen_of W.contents writer.old) (seen_of W.contents writer.new) result (line_of (sym_words (name symbols.now id))) }
 {
     let name = name_of(symbols, id);
     put_line(writer, LineKeyword::Sym.bytes(), &[name])
@@ -177,14 +204,14 @@ fn put_symbol<W: Write>(writer: &mut W, symbols: &Symbols, id: SymId) -> Result<
 
 /// Writes the line of a function of the patch of a number.
 fn put_function<W: Write>(
-    writer: &mut W,
+    writer: &mut Counted<W>,
     form: TraceForm,
     patch: u16,
     symbols: &Symbols,
     func: SymId,
 ) -> Result<(), WriteFault>
     requires { func.0 < length symbols.now }
-    ensures { Writes (W.contents writer.old) (W.contents writer.new) result (line_of (patch_words form patch (name symbols.now func))) }
+    ensures { Wrote (seen_of W.contents writer.old) (seen_of W.contents writer.new) result (line_of (patch_words form patch (name symbols.now func))) }
 {
     let mut buffer = Buffer::new();
     let name = name_of(symbols, func);
@@ -198,8 +225,8 @@ fn put_function<W: Write>(
 }
 
 /// Writes the lines of the symbols.
-fn put_symbols<W: Write>(writer: &mut W, symbols: &Symbols) -> Result<(), WriteFault>
-    ensures { Writes (W.contents writer.old) (W.contents writer.new) result (flat_map line_of (map sym_words symbols.now)) }
+fn put_symbols<W: Write>(writer: &mut Counted<W>, symbols: &Symbols) -> Result<(), WriteFault>
+    ensures { Wrote (seen_of W.contents writer.old) (seen_of W.contents writer.new) result (flat_map line_of (map sym_words symbols.now)) }
 {
     for i in 0..symbols.len() {
         put_symbol(writer, symbols, SymId(i as u16))?;
@@ -209,14 +236,14 @@ fn put_symbols<W: Write>(writer: &mut W, symbols: &Symbols) -> Result<(), WriteF
 
 /// Writes the lines of the patch of a number.
 fn put_patch<W: Write>(
-    writer: &mut W,
+    writer: &mut Counted<W>,
     form: TraceForm,
     number: u16,
     symbols: &Symbols,
     patch: &[SymId],
 ) -> Result<(), WriteFault>
     requires { patch_refusal (length symbols.now) patch.now ≡ None }
-    ensures { Writes (W.contents writer.old) (W.contents writer.new) result (flat_map line_of (map (λ func. patch_words form number (name symbols.now func)) patch.now)) }
+    ensures { Wrote (seen_of W.contents writer.old) (seen_of W.contents writer.new) result (flat_map line_of (map (λ func. patch_words form number (name symbols.now func)) patch.now)) }
 {
     for func in patch {
         put_function(writer, form, number, symbols, *func)?;
@@ -226,14 +253,14 @@ fn put_patch<W: Write>(
 
 /// Writes the lines of the patches.
 fn put_patches<W: Write>(
-    writer: &mut W,
+    writer: &mut Counted<W>,
     form: TraceForm,
     symbols: &Symbols,
     patches: &[Vec<SymId>],
 ) -> Result<(), WriteFault>
     requires few { length patches.now ≤ 16 }
     requires good { AllByRecursion (λ patch. patch_refusal (length symbols.now) patch ≡ None) (functions patches.now) }
-    ensures { Writes (W.contents writer.old) (W.contents writer.new) result (flat_map line_of (patch_lines form symbols.now 1 (functions patches.now))) }
+    ensures { Wrote (seen_of W.contents writer.old) (seen_of W.contents writer.new) result (flat_map line_of (patch_lines form symbols.now 1 (functions patches.now))) }
 {
     for (i, patch) in patches.iter().enumerate() {
         let number = i as u16 + 1;
@@ -243,8 +270,8 @@ fn put_patches<W: Write>(
 }
 
 /// Writes the lines of the boot tasks.
-fn put_boots<W: Write>(writer: &mut W, boots: &[(TaskId, Class)]) -> Result<(), WriteFault>
-    ensures { Writes (W.contents writer.old) (W.contents writer.new) result (flat_map line_of (map boot_words boots.now)) }
+fn put_boots<W: Write>(writer: &mut Counted<W>, boots: &[(TaskId, Class)]) -> Result<(), WriteFault>
+    ensures { Wrote (seen_of W.contents writer.old) (seen_of W.contents writer.new) result (flat_map line_of (map boot_words boots.now)) }
 {
     for (task, class) in boots {
         put_boot(writer, *task, *class)?;
@@ -254,12 +281,12 @@ fn put_boots<W: Write>(writer: &mut W, boots: &[(TaskId, Class)]) -> Result<(), 
 
 /// Writes the lines of the events.
 fn put_events<W: Write>(
-    writer: &mut W,
+    writer: &mut Counted<W>,
     symbols: &Symbols,
     events: &[Event],
 ) -> Result<(), WriteFault>
     requires { AllByRecursion (IsEvent (length symbols.now)) events.now }
-    ensures { Writes (W.contents writer.old) (W.contents writer.new) result (flat_map line_of (map (event_words symbols.now) events.now)) }
+    ensures { Wrote (seen_of W.contents writer.old) (seen_of W.contents writer.new) result (flat_map line_of (map (event_words symbols.now) events.now)) }
 {
     for event in events {
         put_event(writer, symbols, *event)?;
@@ -271,26 +298,37 @@ impl Trace {
     /// Writes the one spelling of the trace, in small pieces: give it a buffered writer.
     ///
     /// Never allocates. A fault of the writer, an interruption and a write that takes no byte end it.
-    pub fn write<W: Write>(&self, writer: &mut W) -> Result<(), WriteFault>
-        ensures { Writes (W.contents writer.old) (W.contents writer.new) result (text_of self.now) }
+    pub fn write<W: Write>(&self, writer: &mut Counted<W>) -> Result<(), WriteFault>
+        ensures written { Writes (W.contents writer.old.stream) (W.contents writer.new.stream) result (text_of self.now) }
+        // A fault comes of a write that failed or took no byte, which no other write follows.
+        ensures write_failed { OnErr result (writer.new.failures ≡ next writer.old.failures) }
+        // Without a fault no write failed.
+        ensures unfailed { OnOk result (writer.new.failures ≡ writer.old.failures) }
     {
-        let patches = self.patches.as_slice();
-        let boots = self.boots.as_slice();
-        let events = self.events.as_slice();
-        put_parts(writer, self.form, &self.symbols, patches, boots, events)
+        put_trace(writer, self)
     }
 }
 
+/// Writes the text of a trace.
+fn put_trace<W: Write>(writer: &mut Counted<W>, trace: &Trace) -> Result<(), WriteFault>
+    ensures { Wrote (seen_of W.contents writer.old) (seen_of W.contents writer.new) result (text_of trace.now) }
+{
+    let patches = trace.patches.as_slice();
+    let boots = trace.boots.as_slice();
+    let events = trace.events.as_slice();
+    put_parts(writer, trace.form, &trace.symbols, patches, boots, events)
+}
+
 /// Writes the first line.
-fn put_header<W: Write>(writer: &mut W, form: TraceForm) -> Result<(), WriteFault>
-    ensures { Writes (W.contents writer.old) (W.contents writer.new) result (line_of (header form ∷ [])) }
+fn put_header<W: Write>(writer: &mut Counted<W>, form: TraceForm) -> Result<(), WriteFault>
+    ensures { Wrote (seen_of W.contents writer.old) (seen_of W.contents writer.new) result (line_of (header form ∷ [])) }
 {
     put_line(writer, form.header(), &[])
 }
 
 /// Writes the text of these parts.
 fn put_parts<W: Write>(
-    writer: &mut W,
+    writer: &mut Counted<W>,
     form: TraceForm,
     symbols: &Symbols,
     patches: &[Vec<SymId>],
@@ -300,7 +338,7 @@ fn put_parts<W: Write>(
     requires few { length patches.now ≤ 16 }
     requires patches { AllByRecursion (λ patch. patch_refusal (length symbols.now) patch ≡ None) (functions patches.now) }
     requires events { AllByRecursion (IsEvent (length symbols.now)) events.now }
-    ensures { Writes (W.contents writer.old) (W.contents writer.new) result (text_of (record { form = form; symbols = symbols.now; patches = functions patches.now; boots = boots.now; events = events.now })) }
+    ensures { Wrote (seen_of W.contents writer.old) (seen_of W.contents writer.new) result (text_of (record { form = form; symbols = symbols.now; patches = functions patches.now; boots = boots.now; events = events.now })) }
 {
     put_header(writer, form)?;
     put_symbols(writer, symbols)?;

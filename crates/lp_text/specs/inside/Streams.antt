@@ -1,12 +1,14 @@
 -- Reading a text that comes in pieces: what came so far, what all comes to with the bytes that follow, and its faults.
-use Rattle.std.specs.Prelude.{ℕ, ◌+◌, ◌<◌, List, ◌++◌, length, Option, None, Some, Result}
+use Rattle.std.specs.Prelude.{◌≡◌, ℕ, ◌+◌, ◌<◌, List, ◌++◌, length, Option, None, Some, Result}
 use Rattle.std.specs.Io.KnownBytes.{Consumes}
+use Rattle.lp_text.specs.Counts.{Counts, next}
 use Rattle.lp_text.specs.declared.fault.Cause.TheVariants as cause
 use Rattle.lp_text.specs.declared.input.InputFault.{InputFault}
 use Rattle.lp_text.specs.declared.input.InputFault.TheVariants as input
 use Rattle.lp_text.specs.declared.stream_fault.StreamFault.{StreamFault}
 use Rattle.lp_text.specs.declared.stream_fault.StreamFault.TheVariants as stream
 use Rattle.lp_text.specs.declared.fault.TraceFault.{TraceFault}
+use Rattle.lp_text.specs.Input.{FailsOnce}
 use Rattle.lp_text.specs.Traces.{TraceValue}
 use Rattle.lp_text.specs.Words.{lines}
 use Rattle.lp_text.specs.Reading.{reading_from, reading_lines}
@@ -50,3 +52,30 @@ abbrev pub of_input : InputFault → StreamFault
 of_input (input.Failed error) = stream.Read error
 of_input input.Long = stream.Trace (record { line = 0; cause = cause.Long })
 of_input input.NoMemory = stream.NoMemory
+
+-- ---- Reads
+
+module _ {S : Type 0} where
+  -- every read so far gave bytes
+  abbrev pub Going : Counts S → Counts S → Type 0
+  Going old new = (new.failures ≡ old.failures) × (new.ends ≡ old.ends)
+
+  -- no read failed, and one found the end
+  abbrev pub Ended : Counts S → Counts S → Type 0
+  Ended old new = (new.failures ≡ old.failures) × (new.ends ≡ next old.ends)
+
+  -- a read gave so many bytes
+  abbrev pub Gave : Counts S → Counts S → ℕ → Type 0
+  Gave old new count = (0 < count → Going old new) × (count ≡ 0 → Ended old new)
+
+  -- what was read by the fault of an input
+  abbrev pub InputFails : Counts S → Counts S → InputFault → Type 0
+  InputFails old new (input.Failed error) = FailsOnce old new
+  InputFails old new input.Long = new.failures ≡ old.failures
+  InputFails old new input.NoMemory = new.failures ≡ old.failures
+
+  -- and by that of a stream
+  abbrev pub StreamFails : Counts S → Counts S → StreamFault → Type 0
+  StreamFails old new (stream.Read error) = FailsOnce old new
+  StreamFails old new (stream.Trace fault) = new.failures ≡ old.failures
+  StreamFails old new stream.NoMemory = new.failures ≡ old.failures
