@@ -14,6 +14,6 @@ mod text;
 pub use compares::compare;
 pub use comparison::{Comparison, Row, RowList};
 pub use lp_models::ModelName;
-pub use lp_text::Trace;
+pub use lp_text::{Counted, Trace};
 pub use lp_trace::RunFault;
 pub use runs::compare_run;

@@ -1,18 +1,18 @@
 //! A trace in, its comparison out.
-ghost use Rattle.std.specs.Prelude.{◌≡◌, string_bytes, IfSome, IfOk, IfErr, OnOk, Err};
+ghost use Rattle.std.specs.Prelude.{◌≡◌, string_bytes, IfSome, IfOk, IfErr, MatchResult, OnOk, Err};
 ghost use Rattle.std.specs.Io.KnownBytes.{Appends};
-ghost use Rattle.lp_text.specs.Input.{ReadsAll};
+ghost use Rattle.lp_text.specs.Counts.{AtMost, next};
+ghost use Rattle.lp_text.specs.Input.{FailsOnce};
 ghost use Rattle.lp_text.specs.Reading.{reading};
-ghost use Rattle.lp_text.specs.Traces.{IsTrace, text_of};
 ghost use Rattle.lp_text.specs.Writing.{AppendsPrefix};
-ghost use Rattle.lp_trace.specs.Runs.{ReadsTrace, AtTrace, AtWrite, BeforeWriting};
+ghost use Rattle.lp_trace.specs.Runs.{ReadsTrace, AtReading, AtTrace, AtWrite, BeforeWriting, ButForReading};
 ghost use Rattle.lp_compare.specs.Comparison.{comparison};
 ghost use Rattle.lp_compare.specs.Text.{written};
 
 use crate::compares::compare;
 use crate::comparison::Comparison;
-use lp_text::{Trace, put};
-use lp_trace::RunFault;
+use lp_text::{Counted, Trace, put};
+use lp_trace::{RunFault, read_trace};
 use std::alloc::{AllocError, Global};
 use std::io::{Read, Write};
 
@@ -23,19 +23,31 @@ use std::io::{Read, Write};
 pub fn compare_run<R: Read, W: Write>(
     alloc: Global,
     json: bool,
-    reader: &mut R,
-    writer: &mut W,
+    reader: &mut Counted<R>,
+    writer: &mut Counted<W>,
 ) -> Result<(), RunFault>
     // What was read spells a trace, and its comparison was written and nothing else.
-    ensures report { OnOk result (ReadsTrace (R.remaining reader.old) (R.remaining reader.new)
-        (λ trace. Appends (W.contents writer.old) (W.contents writer.new) (written json (comparison trace)))) }
+    ensures report { OnOk result (ReadsTrace (R.remaining reader.old.stream) (R.remaining reader.new.stream)
+        (λ trace. Appends (W.contents writer.old.stream) (W.contents writer.new.stream) (written json (comparison trace)))) }
     // Where the writer failed, a prefix of it was written.
-    ensures prefix { IfErr result (λ fault. AtWrite fault (ReadsTrace (R.remaining reader.old) (R.remaining reader.new)
-        (λ trace. AppendsPrefix (W.contents writer.old) (W.contents writer.new) (written json (comparison trace))))) }
+    ensures prefix { IfErr result (λ fault. AtWrite fault (ReadsTrace (R.remaining reader.old.stream) (R.remaining reader.new.stream)
+        (λ trace. AppendsPrefix (W.contents writer.old.stream) (W.contents writer.new.stream) (written json (comparison trace))))) }
     // Else a fault leaves the writer as it was.
     ensures untouched { IfErr result (λ fault. BeforeWriting fault (writer.new ≡ writer.old)) }
     // The fault of a text is the one that the definitions give.
-    ensures trace { IfErr result (λ fault. AtTrace fault (λ why. IfSome (R.remaining reader.old) (λ text. reading text ≡ Err why))) }
+    ensures trace { IfErr result (λ fault. AtTrace fault (λ why. IfSome (R.remaining reader.old.stream) (λ text. reading text ≡ Err why))) }
+    // A fault of reading comes of a read that failed, which no other read follows.
+    ensures read_failed { IfErr result (λ fault. AtReading fault (FailsOnce reader.old reader.new)) }
+    // Else no read failed: one that failed is told before a fault of the text.
+    ensures unfailed { MatchResult result (λ _. reader.new.failures ≡ reader.old.failures) (λ fault. ButForReading fault (reader.new.failures ≡ reader.old.failures)) }
+    // Without a fault the end was found once: nothing is read behind it.
+    ensures once { OnOk result (reader.new.ends ≡ next reader.old.ends) }
+    // Each read but the last gives a byte at least.
+    ensures few { AtMost 134217729 reader.old.calls reader.new.calls }
+    // A fault of writing comes of a write that failed or took no byte, which no other write follows.
+    ensures write_failed { IfErr result (λ fault. AtWrite fault (writer.new.failures ≡ next writer.old.failures)) }
+    // Without a fault no write failed.
+    ensures written { OnOk result (writer.new.failures ≡ writer.old.failures) }
 {
     let trace = read_trace(alloc, reader)?;
     match compare_on(alloc, json, &trace, writer) {
@@ -49,12 +61,15 @@ fn compare_on<W: Write>(
     alloc: Global,
     json: bool,
     trace: &Trace,
-    writer: &mut W,
+    writer: &mut Counted<W>,
 ) -> Result<(), RunFault>
-    ensures report { OnOk result (Appends (W.contents writer.old) (W.contents writer.new) (written json (comparison trace.now))) }
-    ensures prefix { IfErr result (λ fault. AtWrite fault (AppendsPrefix (W.contents writer.old) (W.contents writer.new) (written json (comparison trace.now)))) }
+    ensures report { OnOk result (Appends (W.contents writer.old.stream) (W.contents writer.new.stream) (written json (comparison trace.now))) }
+    ensures prefix { IfErr result (λ fault. AtWrite fault (AppendsPrefix (W.contents writer.old.stream) (W.contents writer.new.stream) (written json (comparison trace.now)))) }
     ensures untouched { IfErr result (λ fault. BeforeWriting fault (writer.new ≡ writer.old)) }
     ensures late { IfErr result (λ fault. AtTrace fault (λ _. ⊥)) }
+    ensures write_failed { IfErr result (λ fault. AtWrite fault (writer.new.failures ≡ next writer.old.failures)) }
+    ensures written { OnOk result (writer.new.failures ≡ writer.old.failures) }
+    ensures behind { IfErr result (λ fault. AtReading fault ⊥) }
 {
     let text = compared(alloc, json, trace)?;
     match put(writer, text.as_bytes()) {
@@ -80,14 +95,4 @@ fn text_of(alloc: Global, json: bool, found: &Comparison) -> Result<String, Allo
     } else {
         found.text(alloc)
     }
-}
-
-/// The trace that a reader has.
-fn read_trace<R: Read>(alloc: Global, reader: &mut R) -> Result<Trace, RunFault>
-    ensures found { IfOk result (λ trace. IsTrace trace × ReadsAll (R.remaining reader.old) (R.remaining reader.new) (text_of trace)) }
-    ensures trace { IfErr result (λ fault. AtTrace fault (λ why. IfSome (R.remaining reader.old) (λ text. reading text ≡ Err why))) }
-    ensures early { IfErr result (λ fault. AtWrite fault ⊥) }
-{
-    let trace = Trace::read_from(alloc, reader)?;
-    Ok(trace)
 }

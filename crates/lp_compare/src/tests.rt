@@ -40,10 +40,10 @@ const ROWS: [(&str, bool, &str); 5] = [
 
 /// What is written of a trace.
 fn written(alloc: Global, trace: &str, json: bool) -> Result<Vec<u8>, RunFault> {
-    let mut reader = trace.as_bytes();
-    let mut writer = Vec::new(alloc);
+    let mut reader = Counted::new(trace.as_bytes());
+    let mut writer = Counted::new(Vec::new(alloc));
     compare_run(alloc, json, &mut reader, &mut writer)?;
-    Ok(writer)
+    Ok(writer.into_stream())
 }
 
 #[test]

@@ -2,3 +2,15 @@ pub mod Digits
 pub mod Pages
 pub mod RunFaults
 pub mod Reports
+pub mod Sections
+pub mod Decimals
+pub mod ReportTexts
+pub mod ReportWords
+pub mod ReportTells
+pub mod OneOutcome
+pub mod RunLevels
+pub mod RunLines
+pub mod RunStays
+pub mod RunReplies
+pub mod RunLegs
+pub mod RunsFit

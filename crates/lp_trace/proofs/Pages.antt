@@ -6,29 +6,31 @@ use Rattle.std.specs.List.{concat}
 use Rattle.std.proofs.lemmas.List.{append-nil}
 use Rattle.std.proofs.Math.ListN.{drop_of_length-le}
 use Rattle.std.proofs.Math.Seq.{drop-cons}
-use Rattle.lp_text.specs.Writing.{AppendsPrefix, Writes}
-use Rattle.lp_text.specs.inside.Writing.{Left, Puts, line_rest}
-use Rattle.lp_text.proofs.Writing.{appends_more, prefix_more, left_prefix, left_last, rest_at}
+use Rattle.lp_text.specs.inside.Writing.{Left, Puts, Seen, Takes, TakesPrefix, Wrote, line_rest}
+use Rattle.lp_text.proofs.Writing.{takes_more, prefix_more, left_prefix, left_last, rest_at}
 
-pub appends_none : (a : Option (List ℕ)) → Appends a a []
+appends_none : (a : Option (List ℕ)) → Appends a a []
 appends_none None = tt
 appends_none (Some x) = sym (append-nil x)
 
+pub takes_none : (a : Seen) → Takes a a []
+takes_none a = (appends_none a.held, refl)
+
 -- a call gave up
-pub puts_err : {E : Type 0} (a b : Option (List ℕ)) (h k text : List ℕ) (r : Result (Unit {0}) E) → IsErr r → AppendsPrefix a b (h ++ text) → Puts a b h k r text
+pub puts_err : {E : Type 0} (a b : Seen) (h k text : List ℕ) (r : Result (Unit {0}) E) → IsErr r → TakesPrefix a b (h ++ text) → Puts a b h k r text
 puts_err a b h k text (Ok x) is prefix = absurd (cc is)
 puts_err a b h k text (Err e) is prefix = prefix
 
 -- the first of two pieces was not put to its end
-pub held_prefix : (a b : Option (List ℕ)) (h x y text : List ℕ) → text ≡ x ++ y → AppendsPrefix a b (h ++ x) → AppendsPrefix a b (h ++ text)
+pub held_prefix : (a b : Seen) (h x y text : List ℕ) → text ≡ x ++ y → TakesPrefix a b (h ++ x) → TakesPrefix a b (h ++ text)
 held_prefix a b h x y text e prefix = prefix_more a b (h ++ x) y (h ++ text) (ap (λ l. h ++ l) e ∙ sym (append_assoc h x y)) prefix
 
 -- nothing was put yet
-pub held_start : (a : Option (List ℕ)) (text : List ℕ) → Left a a text text
-held_start a text = ([], refl, appends_none a)
+pub held_start : (a : Seen) (text : List ℕ) → Left a a text text
+held_start a text = ([], refl, takes_none a)
 
-module _ (a b c : Option (List ℕ)) (text h piece now next : List ℕ) where
-  pub held_err : now ≡ piece ++ next → Left a b text (h ++ now) → AppendsPrefix b c (h ++ piece) → AppendsPrefix a c text
+module _ (a b c : Seen) (text h piece now next : List ℕ) where
+  pub held_err : now ≡ piece ++ next → Left a b text (h ++ now) → TakesPrefix b c (h ++ piece) → TakesPrefix a c text
   held_err e left prefix =
       left_prefix a b c text (h ++ piece) (h ++ now) next (ap (λ l. h ++ l) e ∙ sym (append_assoc h piece next)) left prefix
 
@@ -38,11 +40,11 @@ module _ (a b c : Option (List ℕ)) (text h piece now next : List ℕ) where
     left.1
         ∙ ap (λ l. left.0 ++ l) (ap (λ l. h ++ l) e ∙ sym (append_assoc h piece next) ∙ ap (λ l. l ++ next) more.1 ∙ append_assoc more.0 k next)
         ∙ sym (append_assoc left.0 more.0 (k ++ next)),
-    appends_more a b c left.0 more.0 left.2 more.2,
+    takes_more a b c left.0 more.0 left.2 more.2,
   )
 
 -- a piece was held
-pub held_taken : (a b : Option (List ℕ)) (text h k piece now next : List ℕ) → k ≡ h ++ piece → now ≡ piece ++ next → Left a b text (h ++ now) → Left a b text (k ++ next)
+pub held_taken : (a b : Seen) (text h k piece now next : List ℕ) → k ≡ h ++ piece → now ≡ piece ++ next → Left a b text (h ++ now) → Left a b text (k ++ next)
 held_taken a b text h k piece now next taken e left = (
   left.0,
   left.1 ∙ ap (λ l. left.0 ++ l) (ap (λ l. h ++ l) e ∙ sym (append_assoc h piece next) ∙ ap (λ l. l ++ next) (sym taken)),
@@ -50,7 +52,7 @@ held_taken a b text h k piece now next taken e left = (
 )
 
 -- the last piece
-pub held_last : {E : Type 0} (a b c : Option (List ℕ)) (text h k now last : List ℕ) (r : Result (Unit {0}) E) → now ≡ last → Left a b (h ++ text) (k ++ now) → (m : List ℕ) → Puts b c k m r last → Puts a c h m r text
+pub held_last : {E : Type 0} (a b c : Seen) (text h k now last : List ℕ) (r : Result (Unit {0}) E) → now ≡ last → Left a b (h ++ text) (k ++ now) → (m : List ℕ) → Puts b c k m r last → Puts a c h m r text
 held_last a b c text h k now last (Ok x) e left m puts =
     let P : List ℕ → Type 0 = λ l. Left a c (h ++ text) l in
     subst P (append-nil m) (held_next a b c (h ++ text) k last now [] m (e ∙ sym (append-nil last)) left puts)
@@ -58,16 +60,16 @@ held_last a b c text h k now last (Err x) e left m puts =
     held_err a b c (h ++ text) k last now [] (e ∙ sym (append-nil last)) left puts
 
 -- nothing is left to put
-pub held_end : (a b : Option (List ℕ)) (text k now : List ℕ) → now ≡ [] → Left a b text (k ++ now) → Left a b text k
+pub held_end : (a b : Seen) (text k now : List ℕ) → now ≡ [] → Left a b text (k ++ now) → Left a b text k
 held_end a b text k now e left =
     let P : List ℕ → Type 0 = λ l. Left a b text l in
     subst P (ap (λ l. k ++ l) e ∙ append-nil k) left
 
 -- what was held was written, and then these bytes went to the writer
-pub written_past : {E : Type 0} (a b c : Option (List ℕ)) (h k bytes : List ℕ) (r : Result (Unit {0}) E) → k ≡ [] → Appends a b h → Writes b c r bytes → Puts a c h k r bytes
+pub written_past : {E : Type 0} (a b c : Seen) (h k bytes : List ℕ) (r : Result (Unit {0}) E) → k ≡ [] → Takes a b h → Wrote b c r bytes → Puts a c h k r bytes
 written_past a b c h k bytes (Ok x) e held more =
     let P : List ℕ → Type 0 = λ l. Left a c (h ++ bytes) l in
-    subst P (sym e) (h ++ bytes, sym (append-nil (h ++ bytes)), appends_more a b c h bytes held more)
+    subst P (sym e) (h ++ bytes, sym (append-nil (h ++ bytes)), takes_more a b c h bytes held more)
 written_past a b c h k bytes (Err x) e held more = left_last a b c (h ++ bytes) bytes bytes (Err x) refl (h, refl, held) more
 
 -- ---- Pieces
@@ -87,10 +89,10 @@ pub words_at : (words : List (Bor (List ℕ))) (i : ℕ) (d : Bor (List ℕ)) �
 words_at words i d below = rest_at words i d below ∙ ap (λ l. l ++ line_rest (map (λ word. word.now) (drop (i + 1) words))) (spaced (get_or words i d).now)
 
 -- the same by another name of the text
-pub puts_along : {E : Type 0} (a b : Option (List ℕ)) (h k text other : List ℕ) (r : Result (Unit {0}) E) → text ≡ other → Puts a b h k r text → Puts a b h k r other
+pub puts_along : {E : Type 0} (a b : Seen) (h k text other : List ℕ) (r : Result (Unit {0}) E) → text ≡ other → Puts a b h k r text → Puts a b h k r other
 puts_along a b h k text other r e puts = let P : List ℕ → Type 0 = λ l. Puts a b h k r l in subst P e puts
 
 -- one piece after the other
-pub puts_both : {E : Type 0} (a b c : Option (List ℕ)) (h k m x y : List ℕ) (r : Result (Unit {0}) E) → Left a b (h ++ x) k → Puts b c k m r y → Puts a c h m r (x ++ y)
+pub puts_both : {E : Type 0} (a b c : Seen) (h k m x y : List ℕ) (r : Result (Unit {0}) E) → Left a b (h ++ x) k → Puts b c k m r y → Puts a c h m r (x ++ y)
 puts_both a b c h k m x y r first puts =
     held_last a b c (x ++ y) h k y y r refl (held_next a a b (h ++ (x ++ y)) h x (x ++ y) y k refl (held_start a (h ++ (x ++ y))) first) m puts

@@ -1,5 +1,5 @@
 -- The parts of a report, one after the other.
-use Rattle.std.proofs.Common.{◌≡◌, ◌<◌, ◌≤◌, ◌+◌, ℕ, suc, List, [], ◌∷◌, ◌++◌, length, drop, map, get_or, add-one, refl, sym, ap, ap₂, ◌∙◌, append_assoc, codes, decimal, Option, Some, zero, arith}
+use Rattle.std.proofs.Common.{◌≡◌, ◌<◌, ◌≤◌, ◌+◌, ℕ, suc, List, [], ◌∷◌, ◌++◌, length, drop, map, get_or, add-one, refl, sym, ap, ap₂, ◌∙◌, append_assoc, codes, decimal, Some, zero, arith}
 use Rattle.std.specs.Prelude.{slice_get}
 use Rattle.std.specs.List.{concat, flat_map}
 use Rattle.std.proofs.lemmas.List.{append-nil}
@@ -15,7 +15,7 @@ use Rattle.lp_cert.specs.Text.{reason_words}
 use Rattle.lp_text.specs.declared.form.TraceForm.{TraceForm}
 use Rattle.lp_replay.specs.declared.outcome.Outcome.{Outcome}
 use Rattle.lp_text.specs.Words.{line_of}
-use Rattle.lp_text.specs.inside.Writing.{Left, line_rest}
+use Rattle.lp_text.specs.inside.Writing.{Left, Seen, line_rest}
 use Rattle.lp_trace.specs.Report.{reply_line, reply_lines, leg_lines, stays_line, report, report_lines, report_header}
 use Rattle.lp_replay.specs.declared.replies.ShortReply.{ShortReply}
 use Rattle.lp_replay.specs.Replies.{first_groups, lists_in, replies_of, reply_of}
@@ -131,8 +131,8 @@ borrowed outcome replies legs e h =
 
 -- ---- Where a page and a writer stand after each part
 
-module _ (form : TraceForm) (name : List ℕ) (outcome : Outcome) (h h1 h2 h3 h4 : List ℕ) (a b c d e : Option (List ℕ)) where
-  abbrev Stands : Option (List ℕ) → List ℕ → List ℕ → Type 0
+module _ (form : TraceForm) (name : List ℕ) (outcome : Outcome) (h h1 h2 h3 h4 : List ℕ) (a b c d e : Seen) where
+  abbrev Stands : Seen → List ℕ → List ℕ → Type 0
   Stands known held rest = Left a known (h ++ report form name outcome) (held ++ rest)
 
   pub after_header : Left a b (h ++ header_part form name outcome) h1 → Stands b h1 (model_part form name outcome ++ (events_part form name outcome ++ (legs_part form name outcome ++ stays_part form name outcome)))

@@ -1,6 +1,6 @@
 -- Faults of a run, and outcomes put together.
 use Rattle.std.proofs.Common.{◌≡◌, ℕ, List, Option, Result, Ok, Err, ap, ◌∙◌, sym, subst}
-use Rattle.std.specs.Prelude.{IfErr, IfOk, IsErrAnd}
+use Rattle.std.specs.Prelude.{IfErr, IfOk, IsErrAnd, MatchResult}
 use Rattle.lp_model.specs.Rules.{Rules, IsLawful}
 use Rattle.lp_transition.specs.declared.reply.Reply.{Reply}
 use Rattle.lp_transition.specs.Run.{first_leg, replies}
@@ -9,7 +9,7 @@ use Rattle.lp_cert.specs.declared.leg_end.LegEnd.{LegEnd}
 use Rattle.lp_text.specs.declared.fault.TraceFault.{TraceFault}
 use Rattle.lp_text.specs.declared.stream_fault.StreamFault.{StreamFault}
 use Rattle.lp_text.specs.declared.stream_fault.StreamFault.TheVariants as stream
-use Rattle.lp_text.specs.Input.{AtText, ReadsAll}
+use Rattle.lp_text.specs.Input.{AtRead, AtText, ButForReads, ReadsAll}
 use Rattle.lp_text.specs.Traces.{TraceValue, IsTrace, text_of}
 use Rattle.lp_replay.specs.declared.outcome.Outcome.{Outcome}
 use Rattle.lp_replay.specs.Headline.{Headline, whole_run}
@@ -17,7 +17,7 @@ use Rattle.lp_replay.specs.Outcome.{outcome, leg_ends, run_of}
 use Rattle.lp_replay.proofs.Headline.{headline_of_trace, outcome_is}
 use Rattle.lp_trace.specs.declared.runs.RunFault.{RunFault}
 use Rattle.lp_trace.specs.declared.runs.RunFault.TheVariants as run
-use Rattle.lp_trace.specs.Runs.{AtTrace, AtWrite, ReadsTrace, of_stream}
+use Rattle.lp_trace.specs.Runs.{AtReading, AtTrace, AtWrite, ButForReading, ReadsTrace, of_stream}
 
 -- ---- Faults in reading
 
@@ -41,6 +41,39 @@ unwritten P stream.NoMemory = tt
 pub unwritten_of : {X : Type 0} (P : Type 0) (fault : StreamFault) (r : Result X RunFault) → IsErrAnd r (λ e. e ≡ of_stream fault) → IfErr r (λ e. AtWrite e P)
 unwritten_of P fault (Ok x) is = tt
 unwritten_of P fault (Err e) is = subst (λ x. AtWrite x P) (sym is) (unwritten P fault)
+
+module _ (P : Type 0) where
+  read_told : (fault : StreamFault) → AtRead fault P → AtReading (of_stream fault) P
+  read_told (stream.Read error) h = h
+  read_told (stream.Trace fault) h = tt
+  read_told stream.NoMemory h = tt
+
+  unread_told : (fault : StreamFault) → ButForReads fault P → ButForReading (of_stream fault) P
+  unread_told (stream.Read error) h = tt
+  unread_told (stream.Trace fault) h = h
+  unread_told stream.NoMemory h = h
+
+  -- the same, as they are returned
+  pub read_told_of : {X : Type 0} (fault : StreamFault) (r : Result X RunFault) → AtRead fault P → IsErrAnd r (λ e. e ≡ of_stream fault) → IfErr r (λ e. AtReading e P)
+  read_told_of fault (Ok x) h is = tt
+  read_told_of fault (Err e) h is = subst (λ x. AtReading x P) (sym is) (read_told fault h)
+
+  pub unread_told_of : {X : Type 0} (fault : StreamFault) (r : Result X RunFault) → ButForReads fault P → IsErrAnd r (λ e. e ≡ of_stream fault) → MatchResult r (λ _. P) (λ e. ButForReading e P)
+  unread_told_of fault (Ok x) h is = absurd is
+  unread_told_of fault (Err e) h is = subst (λ x. ButForReading x P) (sym is) (unread_told fault h)
+
+  -- no read failed behind the reading
+  pub no_read : (fault : RunFault) → AtReading fault ⊥ → AtReading fault P
+  no_read (run.Write fault) h = tt
+  no_read (run.Read error) h = absurd h
+  no_read (run.Trace fault) h = tt
+  no_read run.NoMemory h = tt
+
+  pub still_unread : (fault : RunFault) → P → ButForReading fault P
+  still_unread (run.Write fault) h = h
+  still_unread (run.Read error) h = tt
+  still_unread (run.Trace fault) h = h
+  still_unread run.NoMemory h = h
 
 -- ---- Faults in writing
 

@@ -1,8 +1,10 @@
 pub mod Report
 pub mod Runs
 pub mod Answer
+pub mod Laws
 pub use Rattle.lp_text.specs.CheckReading
 pub use Rattle.lp_text.specs.CheckTexts
+pub use Rattle.lp_text.specs.Counts
 pub use Rattle.lp_text.specs.Faults
 pub use Rattle.lp_text.specs.Input
 pub use Rattle.lp_text.specs.Reading

@@ -33,6 +33,20 @@ BeforeWriting (run.Read error) P = P
 BeforeWriting (run.Trace fault) P = P
 BeforeWriting run.NoMemory P = P
 
+-- this is so where the reader failed
+abbrev pub AtReading : RunFault → Type 0 → Type 0
+AtReading (run.Read error) P = P
+AtReading (run.Trace fault) P = Unit {0}
+AtReading run.NoMemory P = Unit {0}
+AtReading (run.Write fault) P = Unit {0}
+
+-- and this at every other fault
+abbrev pub ButForReading : RunFault → Type 0 → Type 0
+ButForReading (run.Read error) P = Unit {0}
+ButForReading (run.Trace fault) P = P
+ButForReading run.NoMemory P = P
+ButForReading (run.Write fault) P = P
+
 -- a fault in reading, as a fault of a run
 abbrev pub of_stream : StreamFault → RunFault
 of_stream (stream.Read error) = run.Read error

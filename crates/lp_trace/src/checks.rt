@@ -1,5 +1,5 @@
 //! A check: a trace and a certificate in, the answer out.
-ghost use Rattle.std.specs.Prelude.{◌≡◌, ◌++◌, codes, decimal, None, is_none, IfSome, IfOk, IfErr, IsTrue, Err};
+ghost use Rattle.std.specs.Prelude.{◌≡◌, ◌++◌, codes, decimal, None, is_none, IfSome, IfOk, IfErr, IsTrue, Err, MatchResult, OnErr, OnOk};
 ghost use Rattle.std.specs.Io.KnownBytes.{Appends};
 ghost use Rattle.lp_checker.specs.Folds.{leg_with};
 ghost use Rattle.lp_checker.specs.Laws.{Holds};
@@ -8,11 +8,12 @@ ghost use Rattle.lp_trace.specs.Answer.{HoldsInTrace, ReadsInput, answer_to, ans
 ghost use Rattle.lp_checker.specs.Faults.{fault_number};
 ghost use Rattle.lp_text.specs.CheckReading.{check_reading};
 ghost use Rattle.lp_text.specs.CheckTexts.{IsInput, input_text};
-ghost use Rattle.lp_text.specs.Input.{ReadsAll};
-ghost use Rattle.lp_trace.specs.Runs.{AtTrace, AtWrite, BeforeWriting};
+ghost use Rattle.lp_text.specs.Counts.{AtMost, next};
+ghost use Rattle.lp_text.specs.Input.{FailsOnce, ReadsAll};
+ghost use Rattle.lp_trace.specs.Runs.{AtReading, AtTrace, AtWrite, BeforeWriting, ButForReading};
 ghost use Rattle.lp_text.specs.Words.{line_of};
 ghost use Rattle.lp_text.specs.Writing.{AppendsPrefix, Writes};
-ghost use Rattle.lp_text.specs.inside.Writing.{Puts};
+ghost use Rattle.lp_text.specs.inside.Writing.{Puts, seen_of};
 
 use crate::page::Page;
 use crate::report::number;
@@ -22,7 +23,7 @@ use lp_cert::{Cert, Claim};
 use lp_checker::{CertFault, check_floor, check_waiting};
 use lp_model::Consistency;
 use lp_replay::{ReplayFault, TraceLeg, leg_numbered};
-use lp_text::{CheckInput, WriteFault};
+use lp_text::{CheckInput, Counted, WriteFault};
 use std::alloc::Global;
 use std::io::{Read, Write};
 
@@ -36,21 +37,33 @@ use std::io::{Read, Write};
 pub fn check<M: Consistency, R: Read, W: Write>(
     alloc: Global,
     model: M,
-    reader: &mut R,
-    writer: &mut W,
+    reader: &mut Counted<R>,
+    writer: &mut Counted<W>,
 ) -> Result<bool, RunFault>
     // What was read spells a trace and a certificate, and the answer to it was written and nothing else.
-    ensures answer { IfOk result (λ accepted. ReadsInput (R.remaining reader.old) (R.remaining reader.new)
-        (λ input. (accepted ≡ is_none (answer_to M.rules input)) × Appends (W.contents writer.old) (W.contents writer.new) (line_of (answer_words (answer_to M.rules input))))) }
+    ensures answer { IfOk result (λ accepted. ReadsInput (R.remaining reader.old.stream) (R.remaining reader.new.stream)
+        (λ input. (accepted ≡ is_none (answer_to M.rules input)) × Appends (W.contents writer.old.stream) (W.contents writer.new.stream) (line_of (answer_words (answer_to M.rules input))))) }
     // What an accepted certificate claims holds of the leg that it names.
-    ensures sound { IfOk result (λ accepted. IsTrue accepted → ReadsInput (R.remaining reader.old) (R.remaining reader.new) (λ input. HoldsInTrace M.rules input)) }
+    ensures sound { IfOk result (λ accepted. IsTrue accepted → ReadsInput (R.remaining reader.old.stream) (R.remaining reader.new.stream) (λ input. HoldsInTrace M.rules input)) }
     // Where the writer failed, a prefix of that answer was written.
-    ensures prefix { IfErr result (λ fault. AtWrite fault (ReadsInput (R.remaining reader.old) (R.remaining reader.new)
-        (λ input. AppendsPrefix (W.contents writer.old) (W.contents writer.new) (line_of (answer_words (answer_to M.rules input)))))) }
+    ensures prefix { IfErr result (λ fault. AtWrite fault (ReadsInput (R.remaining reader.old.stream) (R.remaining reader.new.stream)
+        (λ input. AppendsPrefix (W.contents writer.old.stream) (W.contents writer.new.stream) (line_of (answer_words (answer_to M.rules input)))))) }
     // Else a fault leaves the writer as it was.
     ensures untouched { IfErr result (λ fault. BeforeWriting fault (writer.new ≡ writer.old)) }
     // The fault of a text is the one that the definitions give.
-    ensures trace { IfErr result (λ fault. AtTrace fault (λ why. IfSome (R.remaining reader.old) (λ text. check_reading text ≡ Err why))) }
+    ensures trace { IfErr result (λ fault. AtTrace fault (λ why. IfSome (R.remaining reader.old.stream) (λ text. check_reading text ≡ Err why))) }
+    // A fault of reading comes of a read that failed, which no other read follows.
+    ensures read_failed { IfErr result (λ fault. AtReading fault (FailsOnce reader.old reader.new)) }
+    // Else no read failed: one that failed is told before a fault of the text.
+    ensures unfailed { MatchResult result (λ _. reader.new.failures ≡ reader.old.failures) (λ fault. ButForReading fault (reader.new.failures ≡ reader.old.failures)) }
+    // Without a fault the end was found once: nothing is read behind it.
+    ensures once { OnOk result (reader.new.ends ≡ next reader.old.ends) }
+    // Each read but the last gives a byte at least.
+    ensures few { AtMost 134217729 reader.old.calls reader.new.calls }
+    // A fault of writing comes of a write that failed or took no byte, which no other write follows.
+    ensures write_failed { IfErr result (λ fault. AtWrite fault (writer.new.failures ≡ next writer.old.failures)) }
+    // Without a fault no write failed.
+    ensures written { OnOk result (writer.new.failures ≡ writer.old.failures) }
 {
     let input = read_check(alloc, reader)?;
     match answer_on(alloc, model, &input, writer) {
@@ -65,13 +78,16 @@ fn answer_on<M: Consistency, W: Write>(
     alloc: Global,
     model: M,
     input: &CheckInput,
-    writer: &mut W,
+    writer: &mut Counted<W>,
 ) -> Result<bool, RunFault>
-    ensures answer { IfOk result (λ accepted. (accepted ≡ is_none (answer_to M.rules input.now)) × Appends (W.contents writer.old) (W.contents writer.new) (line_of (answer_words (answer_to M.rules input.now)))) }
+    ensures answer { IfOk result (λ accepted. (accepted ≡ is_none (answer_to M.rules input.now)) × Appends (W.contents writer.old.stream) (W.contents writer.new.stream) (line_of (answer_words (answer_to M.rules input.now)))) }
     ensures sound { IfOk result (λ accepted. IsTrue accepted → HoldsInTrace M.rules input.now) }
-    ensures prefix { IfErr result (λ fault. AtWrite fault (AppendsPrefix (W.contents writer.old) (W.contents writer.new) (line_of (answer_words (answer_to M.rules input.now))))) }
+    ensures prefix { IfErr result (λ fault. AtWrite fault (AppendsPrefix (W.contents writer.old.stream) (W.contents writer.new.stream) (line_of (answer_words (answer_to M.rules input.now))))) }
     ensures untouched { IfErr result (λ fault. BeforeWriting fault (writer.new ≡ writer.old)) }
     ensures late { IfErr result (λ fault. AtTrace fault (λ _. ⊥)) }
+    ensures write_failed { IfErr result (λ fault. AtWrite fault (writer.new.failures ≡ next writer.old.failures)) }
+    ensures written { OnOk result (writer.new.failures ≡ writer.old.failures) }
+    ensures behind { IfErr result (λ fault. AtReading fault ⊥) }
 {
     let answer = answer_to(alloc, model, input)?;
     let mut page = Page::new(alloc)?;
@@ -82,9 +98,13 @@ fn answer_on<M: Consistency, W: Write>(
 }
 
 /// The input that a reader has.
-fn read_check<R: Read>(alloc: Global, reader: &mut R) -> Result<CheckInput, RunFault>
-    ensures found { IfOk result (λ input. IsInput input × ReadsAll (R.remaining reader.old) (R.remaining reader.new) (input_text input)) }
-    ensures trace { IfErr result (λ fault. AtTrace fault (λ why. IfSome (R.remaining reader.old) (λ text. check_reading text ≡ Err why))) }
+fn read_check<R: Read>(alloc: Global, reader: &mut Counted<R>) -> Result<CheckInput, RunFault>
+    ensures found { IfOk result (λ input. IsInput input × ReadsAll (R.remaining reader.old.stream) (R.remaining reader.new.stream) (input_text input)) }
+    ensures trace { IfErr result (λ fault. AtTrace fault (λ why. IfSome (R.remaining reader.old.stream) (λ text. check_reading text ≡ Err why))) }
+    ensures read_failed { IfErr result (λ fault. AtReading fault (FailsOnce reader.old reader.new)) }
+    ensures unfailed { MatchResult result (λ _. reader.new.failures ≡ reader.old.failures) (λ fault. ButForReading fault (reader.new.failures ≡ reader.old.failures)) }
+    ensures once { OnOk result (reader.new.ends ≡ next reader.old.ends) }
+    ensures few { AtMost 134217729 reader.old.calls reader.new.calls }
     ensures early { IfErr result (λ fault. AtWrite fault ⊥) }
 {
     let input = CheckInput::read_from(alloc, reader)?;
@@ -130,10 +150,12 @@ fn verdict<M: Consistency>(
 /// Writes what the page holds, and then the line of an answer. Never allocates.
 fn write_answer<W: Write>(
     page: &mut Page,
-    writer: &mut W,
+    writer: &mut Counted<W>,
     answer: Option<CertFault>,
 ) -> Result<(), WriteFault>
-    ensures { Writes (W.contents writer.old) (W.contents writer.new) result (page.old.held.items ++ line_of (answer_words answer)) }
+    ensures written { Writes (W.contents writer.old.stream) (W.contents writer.new.stream) result (page.old.held.items ++ line_of (answer_words answer)) }
+    ensures write_failed { OnErr result (writer.new.failures ≡ next writer.old.failures) }
+    ensures unfailed { OnOk result (writer.new.failures ≡ writer.old.failures) }
 {
     put_answer(page, writer, answer)?;
     page.flush(writer)
@@ -142,10 +164,10 @@ fn write_answer<W: Write>(
 /// Puts the line of an answer.
 fn put_answer<W: Write>(
     page: &mut Page,
-    writer: &mut W,
+    writer: &mut Counted<W>,
     answer: Option<CertFault>,
 ) -> Result<(), WriteFault>
-    ensures { Puts (W.contents writer.old) (W.contents writer.new) page.old.held.items page.new.held.items result (line_of (answer_words answer)) }
+    ensures { Puts (seen_of W.contents writer.old) (seen_of W.contents writer.new) page.old.held.items page.new.held.items result (line_of (answer_words answer)) }
 {
     let Some(fault) = answer else {
         return page.put_line(writer, b"accepted", &[]);

@@ -12,7 +12,7 @@ pub use checks::check;
 pub use lp_model::Consistency;
 pub use lp_replay::{LegList, Outcome, ReplayFault, ReplyList, replay, stack};
 pub use lp_text::{
-    Cause, CheckInput, OfFault, ReadFault, StreamFault, Trace, TraceFault, TraceForm, WriteFault,
-    put,
+    Cause, CheckInput, Counted, OfFault, ReadFault, StreamFault, Trace, TraceFault, TraceForm,
+    WriteFault, put,
 };
-pub use runs::{RunFault, run};
+pub use runs::{RunFault, read_trace, run};

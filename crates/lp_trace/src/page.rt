@@ -2,11 +2,10 @@
 ghost use Rattle.std.specs.Prelude.{◌≡◌, ◌≤◌, ◌+◌, ◌∷◌, ◌++◌, [], decimal, length, map, IsTrue, IsFalse, IfOk, OnOk};
 ghost use Rattle.std.specs.List.{concat};
 ghost use Rattle.lp_text.specs.Words.{line_of};
-ghost use Rattle.lp_text.specs.Writing.{Writes};
-ghost use Rattle.lp_text.specs.inside.Writing.{Puts, line_rest};
+ghost use Rattle.lp_text.specs.inside.Writing.{Puts, line_rest, seen_of, Wrote};
 
 use crate::place::place_rest;
-use lp_text::{WriteFault, put};
+use lp_text::{Counted, WriteFault, put};
 use std::alloc::{AllocError, Global};
 use std::io::Write;
 
@@ -63,8 +62,8 @@ impl Page {
     }
 
     /// Writes what is held.
-    pub(crate) fn flush<W: Write>(&mut self, writer: &mut W) -> Result<(), WriteFault>
-        ensures written { Writes (W.contents writer.old) (W.contents writer.new) result self.old.held.items }
+    pub(crate) fn flush<W: Write>(&mut self, writer: &mut Counted<W>) -> Result<(), WriteFault>
+        ensures written { Wrote (seen_of W.contents writer.old) (seen_of W.contents writer.new) result self.old.held.items }
         ensures empty { OnOk result (self.new.held.items ≡ []) }
     {
         put(writer, self.held.as_slice())?;
@@ -74,8 +73,12 @@ impl Page {
 
     /// Puts bytes behind those that are held, and writes where there is no room.
     #[inline(always)]
-    pub(crate) fn put<W: Write>(&mut self, writer: &mut W, bytes: &[u8]) -> Result<(), WriteFault>
-        ensures { Puts (W.contents writer.old) (W.contents writer.new) self.old.held.items self.new.held.items result bytes.now }
+    pub(crate) fn put<W: Write>(
+        &mut self,
+        writer: &mut Counted<W>,
+        bytes: &[u8],
+    ) -> Result<(), WriteFault>
+        ensures { Puts (seen_of W.contents writer.old) (seen_of W.contents writer.new) self.old.held.items self.new.held.items result bytes.now }
     {
         if self.hold(bytes) {
             return Ok(());
@@ -85,8 +88,12 @@ impl Page {
 
     /// The same, where there is no room.
     #[inline(never)]
-    fn put_flushed<W: Write>(&mut self, writer: &mut W, bytes: &[u8]) -> Result<(), WriteFault>
-        ensures { Puts (W.contents writer.old) (W.contents writer.new) self.old.held.items self.new.held.items result bytes.now }
+    fn put_flushed<W: Write>(
+        &mut self,
+        writer: &mut Counted<W>,
+        bytes: &[u8],
+    ) -> Result<(), WriteFault>
+        ensures { Puts (seen_of W.contents writer.old) (seen_of W.contents writer.new) self.old.held.items self.new.held.items result bytes.now }
     {
         self.flush(writer)?;
         if self.hold(bytes) {
@@ -99,10 +106,10 @@ impl Page {
     #[inline(always)]
     pub(crate) fn put_all<W: Write>(
         &mut self,
-        writer: &mut W,
+        writer: &mut Counted<W>,
         pieces: &[&[u8]],
     ) -> Result<(), WriteFault>
-        ensures { Puts (W.contents writer.old) (W.contents writer.new) self.old.held.items self.new.held.items result (concat (map (λ piece. piece.now) pieces.now)) }
+        ensures { Puts (seen_of W.contents writer.old) (seen_of W.contents writer.new) self.old.held.items self.new.held.items result (concat (map (λ piece. piece.now) pieces.now)) }
     {
         for piece in pieces {
             self.put(writer, piece)?;
@@ -113,11 +120,11 @@ impl Page {
     /// Puts a line of these words.
     pub(crate) fn put_line<W: Write>(
         &mut self,
-        writer: &mut W,
+        writer: &mut Counted<W>,
         first: &[u8],
         words: &[&[u8]],
     ) -> Result<(), WriteFault>
-        ensures { Puts (W.contents writer.old) (W.contents writer.new) self.old.held.items self.new.held.items result (line_of (first.now ∷ map (λ word. word.now) words.now)) }
+        ensures { Puts (seen_of W.contents writer.old) (seen_of W.contents writer.new) self.old.held.items self.new.held.items result (line_of (first.now ∷ map (λ word. word.now) words.now)) }
     {
         self.put(writer, first)?;
         for word in words {
@@ -130,12 +137,12 @@ impl Page {
     #[inline(always)]
     pub(crate) fn put_numbers<W: Write>(
         &mut self,
-        writer: &mut W,
+        writer: &mut Counted<W>,
         first: &[u8],
         numbers: &[u64],
     ) -> Result<(), WriteFault>
         requires { length numbers.now ≤ 6 }
-        ensures { Puts (W.contents writer.old) (W.contents writer.new) self.old.held.items self.new.held.items result (line_of (first.now ∷ map decimal numbers.now)) }
+        ensures { Puts (seen_of W.contents writer.old) (seen_of W.contents writer.new) self.old.held.items self.new.held.items result (line_of (first.now ∷ map decimal numbers.now)) }
     {
         self.put(writer, first)?;
         self.put_rest(writer, numbers)
@@ -143,9 +150,13 @@ impl Page {
 
     /// Puts the end of a line: at most six numbers, each behind a space.
     #[inline(always)]
-    fn put_rest<W: Write>(&mut self, writer: &mut W, numbers: &[u64]) -> Result<(), WriteFault>
+    fn put_rest<W: Write>(
+        &mut self,
+        writer: &mut Counted<W>,
+        numbers: &[u64],
+    ) -> Result<(), WriteFault>
         requires { length numbers.now ≤ 6 }
-        ensures { Puts (W.contents writer.old) (W.contents writer.new) self.old.held.items self.new.held.items result (line_rest (map decimal numbers.now)) }
+        ensures { Puts (seen_of W.contents writer.old) (seen_of W.contents writer.new) self.old.held.items self.new.held.items result (line_rest (map decimal numbers.now)) }
     {
         if self.hold_rest(numbers) {
             return Ok(());
@@ -176,11 +187,11 @@ impl Page {
     #[inline(never)]
     fn put_rest_flushed<W: Write>(
         &mut self,
-        writer: &mut W,
+        writer: &mut Counted<W>,
         numbers: &[u64],
     ) -> Result<(), WriteFault>
         requires { length numbers.now ≤ 6 }
-        ensures { Puts (W.contents writer.old) (W.contents writer.new) self.old.held.items self.new.held.items result (line_rest (map decimal numbers.now)) }
+        ensures { Puts (seen_of W.contents writer.old) (seen_of W.contents writer.new) self.old.held.items self.new.held.items result (line_rest (map decimal numbers.now)) }
     {
         let mut rest = [b'\n'; ROOM];
         let end = place_rest(&mut rest, 0, numbers);

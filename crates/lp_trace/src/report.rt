@@ -1,12 +1,13 @@
 //! Writing the report of a run.
-ghost use Rattle.std.specs.Prelude.{◌≡◌, ℕ, ◌+◌, ◌<◌, ◌∷◌, ◌++◌, [], List, codes, decimal, map, IfSome, IsTrue, IsFalse};
+ghost use Rattle.std.specs.Prelude.{◌≡◌, ℕ, ◌+◌, ◌<◌, ◌∷◌, ◌++◌, [], List, codes, decimal, map, IfSome, IsTrue, IsFalse, OnErr, OnOk};
 ghost use Rattle.std.specs.List.{flat_map};
 ghost use Rattle.lp_transition.specs.Events.{group_numbers};
 ghost use Rattle.lp_text.specs.Words.{line_of};
 ghost use Rattle.lp_trace.specs.Report.{what_words, complete_words, reply_line, reply_lines, level_word, report, report_header, stays_line};
 ghost use Rattle.lp_replay.specs.Replies.{replies_of, reply_of, what_of};
+ghost use Rattle.lp_text.specs.inside.Writing.{Puts, line_rest, seen_of};
 ghost use Rattle.lp_text.specs.Writing.{Writes};
-ghost use Rattle.lp_text.specs.inside.Writing.{Puts, line_rest};
+ghost use Rattle.lp_text.specs.Counts.{next};
 
 mod legs;
 
@@ -15,7 +16,7 @@ use itoa::Buffer;
 use legs::put_legs;
 use lp_replay::{Outcome, ReplyList, ShortReply, ShortWhat, groups_at};
 use lp_stack::{GroupId, Level};
-use lp_text::{TraceForm, WriteFault};
+use lp_text::{Counted, TraceForm, WriteFault};
 use lp_transition::GroupList;
 use std::io::Write;
 
@@ -24,12 +25,14 @@ use std::io::Write;
 /// Never allocates. A fault of the writer, an interruption and a write that takes no byte end it.
 pub(crate) fn write_report<W: Write>(
     page: &mut Page,
-    writer: &mut W,
+    writer: &mut Counted<W>,
     form: TraceForm,
     name: &str,
     outcome: &Outcome,
 ) -> Result<(), WriteFault>
-    ensures { Writes (W.contents writer.old) (W.contents writer.new) result (page.old.held.items ++ report form name.now outcome.now) }
+    ensures written { Writes (W.contents writer.old.stream) (W.contents writer.new.stream) result (page.old.held.items ++ report form name.now outcome.now) }
+    ensures write_failed { OnErr result (writer.new.failures ≡ next writer.old.failures) }
+    ensures unfailed { OnOk result (writer.new.failures ≡ writer.old.failures) }
 {
     put_report(page, writer, form, name, outcome)?;
     page.flush(writer)
@@ -38,12 +41,12 @@ pub(crate) fn write_report<W: Write>(
 /// Puts the report.
 fn put_report<W: Write>(
     page: &mut Page,
-    writer: &mut W,
+    writer: &mut Counted<W>,
     form: TraceForm,
     name: &str,
     outcome: &Outcome,
 ) -> Result<(), WriteFault>
-    ensures { Puts (W.contents writer.old) (W.contents writer.new) page.old.held.items page.new.held.items result (report form name.now outcome.now) }
+    ensures { Puts (seen_of W.contents writer.old) (seen_of W.contents writer.new) page.old.held.items page.new.held.items result (report form name.now outcome.now) }
 {
     let legs = outcome.legs.as_slice();
     put_header(page, writer, form)?;
@@ -64,15 +67,23 @@ fn header(form: TraceForm) -> &'static [u8]
 }
 
 /// Puts the first line.
-fn put_header<W: Write>(page: &mut Page, writer: &mut W, form: TraceForm) -> Result<(), WriteFault>
-    ensures { Puts (W.contents writer.old) (W.contents writer.new) page.old.held.items page.new.held.items result (line_of (report_header form ∷ [])) }
+fn put_header<W: Write>(
+    page: &mut Page,
+    writer: &mut Counted<W>,
+    form: TraceForm,
+) -> Result<(), WriteFault>
+    ensures { Puts (seen_of W.contents writer.old) (seen_of W.contents writer.new) page.old.held.items page.new.held.items result (line_of (report_header form ∷ [])) }
 {
     page.put_line(writer, header(form), &[])
 }
 
 /// Puts the line of the model's name.
-fn put_model<W: Write>(page: &mut Page, writer: &mut W, name: &str) -> Result<(), WriteFault>
-    ensures { Puts (W.contents writer.old) (W.contents writer.new) page.old.held.items page.new.held.items result (line_of (codes "model" ∷ name.now ∷ [])) }
+fn put_model<W: Write>(
+    page: &mut Page,
+    writer: &mut Counted<W>,
+    name: &str,
+) -> Result<(), WriteFault>
+    ensures { Puts (seen_of W.contents writer.old) (seen_of W.contents writer.new) page.old.held.items page.new.held.items result (line_of (codes "model" ∷ name.now ∷ [])) }
 {
     page.put_line(writer, b"model", &[name.as_bytes()])
 }
@@ -138,11 +149,11 @@ fn hold_event(page: &mut Page, form: TraceForm, event: u64, reply: &ShortReply) 
 /// Puts the lines of the replies, the first of which has the number 1.
 fn put_events<W: Write>(
     page: &mut Page,
-    writer: &mut W,
+    writer: &mut Counted<W>,
     form: TraceForm,
     replies: &ReplyList,
 ) -> Result<(), WriteFault>
-    ensures { Puts (W.contents writer.old) (W.contents writer.new) page.old.held.items page.new.held.items result (flat_map line_of (reply_lines form 1 replies.now)) }
+    ensures { Puts (seen_of W.contents writer.old) (seen_of W.contents writer.new) page.old.held.items page.new.held.items result (flat_map line_of (reply_lines form 1 replies.now)) }
 {
     let (short, lists) = replies.parts();
     put_replies(page, writer, form, short, lists)
@@ -151,12 +162,12 @@ fn put_events<W: Write>(
 /// Puts the lines of these replies, to which these lists of groups belong.
 fn put_replies<W: Write>(
     page: &mut Page,
-    writer: &mut W,
+    writer: &mut Counted<W>,
     form: TraceForm,
     replies: &[ShortReply],
     lists: &[GroupList],
 ) -> Result<(), WriteFault>
-    ensures { Puts (W.contents writer.old) (W.contents writer.new) page.old.held.items page.new.held.items result (flat_map line_of (reply_lines form 1 (replies_of replies.now lists.now))) }
+    ensures { Puts (seen_of W.contents writer.old) (seen_of W.contents writer.new) page.old.held.items page.new.held.items result (flat_map line_of (reply_lines form 1 (replies_of replies.now lists.now))) }
 {
     let mut next = 0;
     for (i, reply) in replies.iter().enumerate() {
@@ -173,13 +184,13 @@ fn put_replies<W: Write>(
 #[inline(never)]
 fn put_event<W: Write>(
     page: &mut Page,
-    writer: &mut W,
+    writer: &mut Counted<W>,
     form: TraceForm,
     event: u64,
     reply: &ShortReply,
     groups: &[GroupId],
 ) -> Result<(), WriteFault>
-    ensures { Puts (W.contents writer.old) (W.contents writer.new) page.old.held.items page.new.held.items result (line_of (reply_line form event (reply_of reply.now (group_numbers groups.now ∷ [])))) }
+    ensures { Puts (seen_of W.contents writer.old) (seen_of W.contents writer.new) page.old.held.items page.new.held.items result (line_of (reply_line form event (reply_of reply.now (group_numbers groups.now ∷ [])))) }
 {
     let mut first = Buffer::new();
     let mut second = Buffer::new();
@@ -202,12 +213,12 @@ fn put_event<W: Write>(
 /// Puts the line of an event at which these groups switched.
 fn put_switched<W: Write>(
     page: &mut Page,
-    writer: &mut W,
+    writer: &mut Counted<W>,
     event: &[u8],
     groups: &[GroupId],
     end: &[u8],
 ) -> Result<(), WriteFault>
-    ensures { Puts (W.contents writer.old) (W.contents writer.new) page.old.held.items page.new.held.items result (event.now ++ (codes " over" ++ (flat_map (λ group. 32 ∷ decimal group) (group_numbers groups.now) ++ end.now))) }
+    ensures { Puts (seen_of W.contents writer.old) (seen_of W.contents writer.new) page.old.held.items page.new.held.items result (event.now ++ (codes " over" ++ (flat_map (λ group. 32 ∷ decimal group) (group_numbers groups.now) ++ end.now))) }
 {
     page.put_all(writer, &[event, b" over"])?;
     for group in groups {
@@ -217,16 +228,24 @@ fn put_switched<W: Write>(
 }
 
 /// Puts a group behind a space.
-fn put_group<W: Write>(page: &mut Page, writer: &mut W, group: GroupId) -> Result<(), WriteFault>
-    ensures { Puts (W.contents writer.old) (W.contents writer.new) page.old.held.items page.new.held.items result (32 ∷ decimal group.0) }
+fn put_group<W: Write>(
+    page: &mut Page,
+    writer: &mut Counted<W>,
+    group: GroupId,
+) -> Result<(), WriteFault>
+    ensures { Puts (seen_of W.contents writer.old) (seen_of W.contents writer.new) page.old.held.items page.new.held.items result (32 ∷ decimal group.0) }
 {
     let mut buffer = Buffer::new();
     page.put_all(writer, &[b" ", number(&mut buffer, u64::from(group.0))])
 }
 
 /// Puts the line of the stays.
-fn put_stays<W: Write>(page: &mut Page, writer: &mut W, outcome: &Outcome) -> Result<(), WriteFault>
-    ensures { Puts (W.contents writer.old) (W.contents writer.new) page.old.held.items page.new.held.items result (line_of (stays_line outcome.now)) }
+fn put_stays<W: Write>(
+    page: &mut Page,
+    writer: &mut Counted<W>,
+    outcome: &Outcome,
+) -> Result<(), WriteFault>
+    ensures { Puts (seen_of W.contents writer.old) (seen_of W.contents writer.new) page.old.held.items page.new.held.items result (line_of (stays_line outcome.now)) }
 {
     let mut first = Buffer::new();
     let mut second = Buffer::new();

@@ -1,13 +1,14 @@
 //! A run: a trace in, its report out.
-ghost use Rattle.std.specs.Prelude.{◌≡◌, IfSome, IfOk, IfErr, OnOk, Err};
+ghost use Rattle.std.specs.Prelude.{◌≡◌, IfSome, IfOk, IfErr, MatchResult, OnOk, Err};
 ghost use Rattle.std.specs.Io.KnownBytes.{Appends};
 ghost use Rattle.lp_trace.specs.declared.runs.RunFault.TheVariants.{NoMemory as RunNoMemory};
 ghost use Rattle.lp_replay.specs.Headline.{Headline, whole_run};
-ghost use Rattle.lp_text.specs.Input.{ReadsAll};
+ghost use Rattle.lp_text.specs.Counts.{AtMost, next};
+ghost use Rattle.lp_text.specs.Input.{FailsOnce, ReadsAll};
 ghost use Rattle.lp_replay.specs.Outcome.{outcome};
 ghost use Rattle.lp_text.specs.Reading.{reading};
 ghost use Rattle.lp_trace.specs.Report.{report};
-ghost use Rattle.lp_trace.specs.Runs.{ReadsTrace, AtTrace, AtWrite, BeforeWriting, of_stream};
+ghost use Rattle.lp_trace.specs.Runs.{ReadsTrace, AtReading, AtTrace, AtWrite, BeforeWriting, ButForReading, of_stream};
 ghost use Rattle.lp_text.specs.Traces.{IsTrace, text_of};
 ghost use Rattle.lp_text.specs.Writing.{AppendsPrefix};
 
@@ -15,7 +16,7 @@ use crate::page::Page;
 use crate::report::write_report;
 use lp_model::Consistency;
 use lp_replay::{Outcome, ReplayFault, replay};
-use lp_text::{StreamFault, Trace, TraceFault, WriteFault};
+use lp_text::{Counted, StreamFault, Trace, TraceFault, WriteFault};
 use std::alloc::{AllocError, Global};
 use std::io::{self, Read, Write};
 use thiserror::Error;
@@ -76,23 +77,35 @@ pub fn run<M: Consistency, R: Read, W: Write>(
     alloc: Global,
     name: &str,
     model: M,
-    reader: &mut R,
-    writer: &mut W,
+    reader: &mut Counted<R>,
+    writer: &mut Counted<W>,
 ) -> Result<(), RunFault>
     // What was read spells a trace, and its report was written and nothing else.
-    ensures report { OnOk result (ReadsTrace (R.remaining reader.old) (R.remaining reader.new)
-        (λ trace. Appends (W.contents writer.old) (W.contents writer.new) (report trace.form name.now (outcome M.rules trace)))) }
+    ensures report { OnOk result (ReadsTrace (R.remaining reader.old.stream) (R.remaining reader.new.stream)
+        (λ trace. Appends (W.contents writer.old.stream) (W.contents writer.new.stream) (report trace.form name.now (outcome M.rules trace)))) }
     // The headline holds of the outcome that was reported, of the same trace.
-    ensures headline { OnOk result (ReadsTrace (R.remaining reader.old) (R.remaining reader.new)
-        (λ trace. Appends (W.contents writer.old) (W.contents writer.new) (report trace.form name.now (outcome M.rules trace))
+    ensures headline { OnOk result (ReadsTrace (R.remaining reader.old.stream) (R.remaining reader.new.stream)
+        (λ trace. Appends (W.contents writer.old.stream) (W.contents writer.new.stream) (report trace.form name.now (outcome M.rules trace))
         × Headline M.rules (whole_run trace) (outcome M.rules trace))) }
     // Where the writer failed, a prefix of that report was written.
-    ensures prefix { IfErr result (λ fault. AtWrite fault (ReadsTrace (R.remaining reader.old) (R.remaining reader.new)
-        (λ trace. AppendsPrefix (W.contents writer.old) (W.contents writer.new) (report trace.form name.now (outcome M.rules trace))))) }
+    ensures prefix { IfErr result (λ fault. AtWrite fault (ReadsTrace (R.remaining reader.old.stream) (R.remaining reader.new.stream)
+        (λ trace. AppendsPrefix (W.contents writer.old.stream) (W.contents writer.new.stream) (report trace.form name.now (outcome M.rules trace))))) }
     // Else a fault leaves the writer as it was.
     ensures untouched { IfErr result (λ fault. BeforeWriting fault (writer.new ≡ writer.old)) }
     // The fault of a text is the one that the definitions give.
-    ensures trace { IfErr result (λ fault. AtTrace fault (λ why. IfSome (R.remaining reader.old) (λ text. reading text ≡ Err why))) }
+    ensures trace { IfErr result (λ fault. AtTrace fault (λ why. IfSome (R.remaining reader.old.stream) (λ text. reading text ≡ Err why))) }
+    // A fault of reading comes of a read that failed, which no other read follows.
+    ensures read_failed { IfErr result (λ fault. AtReading fault (FailsOnce reader.old reader.new)) }
+    // Else no read failed: one that failed is told before a fault of the text.
+    ensures unfailed { MatchResult result (λ _. reader.new.failures ≡ reader.old.failures) (λ fault. ButForReading fault (reader.new.failures ≡ reader.old.failures)) }
+    // Without a fault the end was found once: nothing is read behind it.
+    ensures once { OnOk result (reader.new.ends ≡ next reader.old.ends) }
+    // Each read but the last gives a byte at least.
+    ensures few { AtMost 134217729 reader.old.calls reader.new.calls }
+    // A fault of writing comes of a write that failed or took no byte, which no other write follows.
+    ensures write_failed { IfErr result (λ fault. AtWrite fault (writer.new.failures ≡ next writer.old.failures)) }
+    // Without a fault no write failed.
+    ensures written { OnOk result (writer.new.failures ≡ writer.old.failures) }
 {
     let trace = read_trace(alloc, reader)?;
     match report_on(alloc, name, model, &trace, writer) {
@@ -107,12 +120,15 @@ fn report_on<M: Consistency, W: Write>(
     name: &str,
     model: M,
     trace: &Trace,
-    writer: &mut W,
+    writer: &mut Counted<W>,
 ) -> Result<(), RunFault>
-    ensures report { OnOk result (Appends (W.contents writer.old) (W.contents writer.new) (report trace.now.form name.now (outcome M.rules trace.now))) }
-    ensures prefix { IfErr result (λ fault. AtWrite fault (AppendsPrefix (W.contents writer.old) (W.contents writer.new) (report trace.now.form name.now (outcome M.rules trace.now)))) }
+    ensures report { OnOk result (Appends (W.contents writer.old.stream) (W.contents writer.new.stream) (report trace.now.form name.now (outcome M.rules trace.now))) }
+    ensures prefix { IfErr result (λ fault. AtWrite fault (AppendsPrefix (W.contents writer.old.stream) (W.contents writer.new.stream) (report trace.now.form name.now (outcome M.rules trace.now)))) }
     ensures untouched { IfErr result (λ fault. BeforeWriting fault (writer.new ≡ writer.old)) }
     ensures late { IfErr result (λ fault. AtTrace fault (λ _. ⊥)) }
+    ensures write_failed { IfErr result (λ fault. AtWrite fault (writer.new.failures ≡ next writer.old.failures)) }
+    ensures written { OnOk result (writer.new.failures ≡ writer.old.failures) }
+    ensures behind { IfErr result (λ fault. AtReading fault ⊥) }
 {
     let mut page = Page::new(alloc)?;
     let outcome = outcome_of(alloc, model, trace)?;
@@ -125,9 +141,16 @@ fn report_on<M: Consistency, W: Write>(
 /// The trace that a reader has, read to its end.
 ///
 /// It makes at most 134,217,729 reads. A read that fails or is interrupted ends it.
-pub fn read_trace<R: Read>(alloc: Global, reader: &mut R) -> Result<Trace, RunFault>
-    ensures found { IfOk result (λ trace. IsTrace trace × ReadsAll (R.remaining reader.old) (R.remaining reader.new) (text_of trace)) }
-    ensures trace { IfErr result (λ fault. AtTrace fault (λ why. IfSome (R.remaining reader.old) (λ text. reading text ≡ Err why))) }
+pub fn read_trace<R: Read>(alloc: Global, reader: &mut Counted<R>) -> Result<Trace, RunFault>
+    ensures found { IfOk result (λ trace. IsTrace trace × ReadsAll (R.remaining reader.old.stream) (R.remaining reader.new.stream) (text_of trace)) }
+    ensures trace { IfErr result (λ fault. AtTrace fault (λ why. IfSome (R.remaining reader.old.stream) (λ text. reading text ≡ Err why))) }
+    ensures read_failed { IfErr result (λ fault. AtReading fault (FailsOnce reader.old reader.new)) }
+    // Else no read failed: one that failed is told before a fault of the text.
+    ensures unfailed { MatchResult result (λ _. reader.new.failures ≡ reader.old.failures) (λ fault. ButForReading fault (reader.new.failures ≡ reader.old.failures)) }
+    // Without a fault the end was found once: nothing is read behind it.
+    ensures once { OnOk result (reader.new.ends ≡ next reader.old.ends) }
+    // Each read but the last gives a byte at least.
+    ensures few { AtMost 134217729 reader.old.calls reader.new.calls }
     ensures early { IfErr result (λ fault. AtWrite fault ⊥) }
 {
     let trace = Trace::read_from(alloc, reader)?;

@@ -6,23 +6,23 @@ ghost use Rattle.lp_cert.specs.Ends.{cert_head};
 ghost use Rattle.lp_cert.specs.Text.{cert_lines, claim_word, claim_words, reason_words};
 ghost use Rattle.lp_text.specs.Words.{line_of};
 ghost use Rattle.lp_trace.specs.Report.{end_words, leg_line, leg_lines};
-ghost use Rattle.lp_text.specs.inside.Writing.{Puts};
+ghost use Rattle.lp_text.specs.inside.Writing.{Puts, seen_of};
 
 use super::{level_word, number};
 use crate::page::Page;
 use itoa::Buffer;
 use lp_cert::{CertHead, CertLines, CertList, Claim, LegEnd, Line};
-use lp_text::{TraceForm, WriteFault};
+use lp_text::{Counted, TraceForm, WriteFault};
 use std::io::Write;
 
 /// Puts the lines of the ends of legs.
 pub(super) fn put_legs<W: Write>(
     page: &mut Page,
-    writer: &mut W,
+    writer: &mut Counted<W>,
     form: TraceForm,
     legs: &[LegEnd],
 ) -> Result<(), WriteFault>
-    ensures { Puts (W.contents writer.old) (W.contents writer.new) page.old.held.items page.new.held.items result (flat_map line_of (flat_map (leg_lines form) legs.now)) }
+    ensures { Puts (seen_of W.contents writer.old) (seen_of W.contents writer.new) page.old.held.items page.new.held.items result (flat_map line_of (flat_map (leg_lines form) legs.now)) }
 {
     for leg in legs {
         put_leg(page, writer, form, leg)?;
@@ -33,11 +33,11 @@ pub(super) fn put_legs<W: Write>(
 /// Puts the line of the end of a leg, and those of its certificates.
 fn put_leg<W: Write>(
     page: &mut Page,
-    writer: &mut W,
+    writer: &mut Counted<W>,
     form: TraceForm,
     leg: &LegEnd,
 ) -> Result<(), WriteFault>
-    ensures { Puts (W.contents writer.old) (W.contents writer.new) page.old.held.items page.new.held.items result (flat_map line_of (leg_lines form leg.now)) }
+    ensures { Puts (seen_of W.contents writer.old) (seen_of W.contents writer.new) page.old.held.items page.new.held.items result (flat_map line_of (leg_lines form leg.now)) }
 {
     put_end(page, writer, form, leg)?;
     put_certs(page, writer, &leg.certs)
@@ -56,11 +56,11 @@ fn end_words<'a>(buffer: &'a mut Buffer, leg: &LegEnd) -> (&'static [u8], &'a [u
 /// Puts the line of the end of a leg.
 fn put_end<W: Write>(
     page: &mut Page,
-    writer: &mut W,
+    writer: &mut Counted<W>,
     form: TraceForm,
     leg: &LegEnd,
 ) -> Result<(), WriteFault>
-    ensures { Puts (W.contents writer.old) (W.contents writer.new) page.old.held.items page.new.held.items result (line_of (leg_line form leg.now)) }
+    ensures { Puts (seen_of W.contents writer.old) (seen_of W.contents writer.new) page.old.held.items page.new.held.items result (line_of (leg_line form leg.now)) }
 {
     let mut first = Buffer::new();
     let mut second = Buffer::new();
@@ -75,8 +75,12 @@ fn put_end<W: Write>(
 }
 
 /// Puts the lines of certificates.
-fn put_certs<W: Write>(page: &mut Page, writer: &mut W, certs: &CertList) -> Result<(), WriteFault>
-    ensures { Puts (W.contents writer.old) (W.contents writer.new) page.old.held.items page.new.held.items result (flat_map line_of (flat_map cert_lines certs.now)) }
+fn put_certs<W: Write>(
+    page: &mut Page,
+    writer: &mut Counted<W>,
+    certs: &CertList,
+) -> Result<(), WriteFault>
+    ensures { Puts (seen_of W.contents writer.old) (seen_of W.contents writer.new) page.old.held.items page.new.held.items result (flat_map line_of (flat_map cert_lines certs.now)) }
 {
     for place in 0..certs.len() {
         put_cert(page, writer, certs, place)?;
@@ -87,12 +91,12 @@ fn put_certs<W: Write>(page: &mut Page, writer: &mut W, certs: &CertList) -> Res
 /// Puts the lines of the certificate at a place.
 fn put_cert<W: Write>(
     page: &mut Page,
-    writer: &mut W,
+    writer: &mut Counted<W>,
     certs: &CertList,
     place: usize,
 ) -> Result<(), WriteFault>
     requires { place < length certs.now }
-    ensures { (cert : Cert) → slice_get certs.now place ≡ Some cert → Puts (W.contents writer.old) (W.contents writer.new) page.old.held.items page.new.held.items result (flat_map line_of (cert_lines cert)) }
+    ensures { (cert : Cert) → slice_get certs.now place ≡ Some cert → Puts (seen_of W.contents writer.old) (seen_of W.contents writer.new) page.old.held.items page.new.held.items result (flat_map line_of (cert_lines cert)) }
 {
     put_claim(page, writer, certs.head(place))?;
     put_reasons(page, writer, &mut certs.lines(place))
@@ -109,8 +113,12 @@ fn claim_word(claim: Claim) -> &'static [u8]
 }
 
 /// Puts the first line of a certificate, the one that begins so.
-fn put_claim<W: Write>(page: &mut Page, writer: &mut W, head: CertHead) -> Result<(), WriteFault>
-    ensures { (cert : Cert) → cert_head cert ≡ head → Puts (W.contents writer.old) (W.contents writer.new) page.old.held.items page.new.held.items result (line_of (claim_words cert)) }
+fn put_claim<W: Write>(
+    page: &mut Page,
+    writer: &mut Counted<W>,
+    head: CertHead,
+) -> Result<(), WriteFault>
+    ensures { (cert : Cert) → cert_head cert ≡ head → Puts (seen_of W.contents writer.old) (seen_of W.contents writer.new) page.old.held.items page.new.held.items result (line_of (claim_words cert)) }
 {
     let group = u64::from(head.group.0);
     page.put_numbers(
@@ -123,10 +131,10 @@ fn put_claim<W: Write>(page: &mut Page, writer: &mut W, head: CertHead) -> Resul
 /// Puts the reasons of a certificate that are left, a line each.
 fn put_reasons<W: Write>(
     page: &mut Page,
-    writer: &mut W,
+    writer: &mut Counted<W>,
     reasons: &mut CertLines<'_>,
 ) -> Result<(), WriteFault>
-    ensures { Puts (W.contents writer.old) (W.contents writer.new) page.old.held.items page.new.held.items result (flat_map line_of (map reason_words reasons.old)) }
+    ensures { Puts (seen_of W.contents writer.old) (seen_of W.contents writer.new) page.old.held.items page.new.held.items result (flat_map line_of (map reason_words reasons.old)) }
 {
     while let Some(reason) = reasons.next() {
         put_reason(page, writer, reason)?;
@@ -136,8 +144,12 @@ fn put_reasons<W: Write>(
 
 /// Puts the line of a reason.
 #[inline(always)]
-fn put_reason<W: Write>(page: &mut Page, writer: &mut W, reason: Line) -> Result<(), WriteFault>
-    ensures { Puts (W.contents writer.old) (W.contents writer.new) page.old.held.items page.new.held.items result (line_of (reason_words reason)) }
+fn put_reason<W: Write>(
+    page: &mut Page,
+    writer: &mut Counted<W>,
+    reason: Line,
+) -> Result<(), WriteFault>
+    ensures { Puts (seen_of W.contents writer.old) (seen_of W.contents writer.new) page.old.held.items page.new.held.items result (line_of (reason_words reason)) }
 {
     match reason {
         Line::Hold {

@@ -1,4 +1,4 @@
-use Rattle.lp_trace.proofs.RunFaults.{at_write, no_text}
+use Rattle.lp_trace.proofs.RunFaults.{at_write, no_read, no_text, still_unread}
 use Rattle.lp_compare.proofs.runs.compare_run.Goals as goal
 
 pub returns-clause-prefix : goal.returns-clause-prefix
@@ -8,3 +8,9 @@ returns-clause-prefix g c =
 
 pub returns-clause-trace : goal.returns-clause-trace
 returns-clause-trace g c = no_text c.in-Err.fault _ c.in-Err.ensures.late
+
+pub returns-clause-read_failed : goal.returns-clause-read_failed
+returns-clause-read_failed g c = no_read _ c.in-Err.fault c.in-Err.ensures.behind
+
+pub returns-clause-unfailed : goal.returns-clause-unfailed
+returns-clause-unfailed g c = still_unread _ c.in-Err.fault c.in_ok-trace.ensures.unfailed

@@ -14,9 +14,9 @@ returns-in-Ok-clause-sound g c = λ accepted.
 pub returns-clause-prefix : goal.returns-clause-prefix
 returns-clause-prefix g c =
     let model = g.M.Consistency.rules in
-    let old = g.W.Write.contents c.args.writer.now in
-    let new = g.W.Write.contents c.write_answer.new.writer in
+    let old = g.W.Write.contents c.args.writer.now.stream in
+    let new = g.W.Write.contents c.write_answer.new.writer.stream in
     let Prefix : List ℕ → Type 0 = AppendsPrefix old new in
     let Answered : Option CertFault → Type 0 = λ answer. Prefix (line_of (answer_words answer)) in
-    let held : Answered c.in_ok-answer.answer = subst Prefix (ap (λ l. l ++ line_of (answer_words c.in_ok-answer.answer)) c.in_ok-page.ensures) c.in-Err.ensures in
+    let held : Answered c.in_ok-answer.answer = subst Prefix (ap (λ l. l ++ line_of (answer_words c.in_ok-answer.answer)) c.in_ok-page.ensures) c.in-Err.ensures.written in
     subst Answered c.in_ok-answer.ensures.answer held

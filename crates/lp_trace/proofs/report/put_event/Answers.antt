@@ -5,7 +5,7 @@ use Rattle.lp_replay.specs.declared.replies.ShortWhat.{ShortWhat}
 use Rattle.lp_replay.specs.Replies.{what_of}
 use Rattle.lp_text.specs.Words.{line_of}
 use Rattle.lp_trace.specs.Report.{what_words, complete_words}
-use Rattle.lp_text.specs.inside.Writing.{Puts}
+use Rattle.lp_text.specs.inside.Writing.{Puts, seen_of}
 use Rattle.lp_trace.proofs.Reports.{switched_line}
 use Rattle.lp_trace.proofs.report.put_event.Goals as goal
 
@@ -18,5 +18,5 @@ returns-in-Switched g c =
     ∙ ap (λ l. decimal c.args.event ++ (codes " over" ++ (flat_map (λ group. 32 ∷ decimal group) groups ++ l))) c.line_end-end.ensures
     ∙ sym (switched_line (decimal c.args.event) groups (complete_words c.args.reply.now.completed))
     ∙ ap (λ (what : ShortWhat). line_of (decimal c.args.event ∷ (what_words c.args.form (what_of what (groups ∷ [])) ++ complete_words c.args.reply.now.completed))) (sym c.in-Switched.is) in
-    let P : List ℕ → Type 0 = λ l. Puts (g.W.Write.contents c.args.writer.now) (g.W.Write.contents c.put_switched.new.writer) c.args.page.now.held.items c.put_switched.new.page.held.items c.put_switched.result l in
+    let P : List ℕ → Type 0 = λ l. Puts (seen_of g.W.Write.contents c.args.writer.now) (seen_of g.W.Write.contents c.put_switched.new.writer) c.args.page.now.held.items c.put_switched.new.page.held.items c.put_switched.result l in
     subst P same c.put_switched.ensures

@@ -6,7 +6,7 @@ use Rattle.lp_cert.specs.declared.line.Line.{Line}
 use Rattle.lp_cert.specs.Ends.{cert_head}
 use Rattle.lp_cert.specs.Text.{cert_lines, claim_words, reason_words}
 use Rattle.lp_text.specs.Words.{line_of}
-use Rattle.lp_text.specs.inside.Writing.{Puts}
+use Rattle.lp_text.specs.inside.Writing.{Puts, seen_of}
 use Rattle.lp_trace.proofs.Pages.{puts_err, puts_both, held_prefix}
 use Rattle.lp_trace.proofs.report.legs.put_cert.Goals as goal
 
@@ -15,7 +15,7 @@ returns-in_err-put_claim g c = λ cert found.
     let claim : List ℕ = line_of (claim_words cert) in
     let reasons : List ℕ = flat_map line_of (map reason_words cert.lines) in
     let head : Some (cert_head cert) ≡ Some c.head.result = sym (ap (option_map cert_head) found) ∙ c.head.ensures in
-    puts_err (g.W.Write.contents c.args.writer.now) (g.W.Write.contents c.put_claim.new.writer) c.args.page.now.held.items c.put_claim.new.page.held.items _ c.from_residual.result c.from_residual.ensures.0 (held_prefix _ _ c.args.page.now.held.items claim reasons (flat_map line_of (cert_lines cert)) refl (c.in_err-put_claim.ensures cert (cc head)))
+    puts_err (seen_of g.W.Write.contents c.args.writer.now) (seen_of g.W.Write.contents c.put_claim.new.writer) c.args.page.now.held.items c.put_claim.new.page.held.items _ c.from_residual.result c.from_residual.ensures.0 (held_prefix _ _ c.args.page.now.held.items claim reasons (flat_map line_of (cert_lines cert)) refl (c.in_err-put_claim.ensures cert (cc head)))
 
 pub returns : goal.returns
 returns g c = λ cert found.
@@ -24,5 +24,5 @@ returns g c = λ cert found.
     let head : Some (cert_head cert) ≡ Some c.head.result = sym (ap (option_map cert_head) found) ∙ c.head.ensures in
     let some_lines : Some cert.lines ≡ Some c.lines.result = sym (ap (option_map (λ (cert : Cert). cert.lines)) found) ∙ c.lines.ensures in
     let lines : c.lines.result ≡ cert.lines = cc some_lines in
-    let P : List Line → Type 0 = λ ls. Puts (g.W.Write.contents c.put_claim.new.writer) (g.W.Write.contents c.put_reasons.new.writer) c.put_claim.new.page.held.items c.put_reasons.new.page.held.items c.put_reasons.result (flat_map line_of (map reason_words ls)) in
-    puts_both (g.W.Write.contents c.args.writer.now) (g.W.Write.contents c.put_claim.new.writer) (g.W.Write.contents c.put_reasons.new.writer) c.args.page.now.held.items c.put_claim.new.page.held.items c.put_reasons.new.page.held.items claim reasons c.put_reasons.result (c.in_ok-put_claim.ensures cert (cc head)) (subst P lines c.put_reasons.ensures)
+    let P : List Line → Type 0 = λ ls. Puts (seen_of g.W.Write.contents c.put_claim.new.writer) (seen_of g.W.Write.contents c.put_reasons.new.writer) c.put_claim.new.page.held.items c.put_reasons.new.page.held.items c.put_reasons.result (flat_map line_of (map reason_words ls)) in
+    puts_both (seen_of g.W.Write.contents c.args.writer.now) (seen_of g.W.Write.contents c.put_claim.new.writer) (seen_of g.W.Write.contents c.put_reasons.new.writer) c.args.page.now.held.items c.put_claim.new.page.held.items c.put_reasons.new.page.held.items claim reasons c.put_reasons.result (c.in_ok-put_claim.ensures cert (cc head)) (subst P lines c.put_reasons.ensures)
