@@ -1,12 +1,16 @@
 -- What threads played, under the rules and the name of a model.
 use Rattle.std.proofs.Common.{◌≡◌, ℕ, List, Option, Result, OnOk, sym, subst}
+use Rattle.std.specs.Prelude.{IfErr}
 use Rattle.std.specs.Io.KnownBytes.{Appends}
 use Rattle.lp_model.specs.Rules.{Rules}
 use Rattle.lp_models.specs.declared.name.ModelName.{ModelName}
 use Rattle.lp_models.specs.Names.{name_of}
+use Rattle.lp_text.specs.Writing.{AppendsPrefix}
+use Rattle.lp_threads.specs.Faults.{AtRun}
 use Rattle.lp_threads.specs.Plays.{IsPlay, play_text}
+use Rattle.lp_threads.specs.declared.fault.ThreadsFault.{ThreadsFault}
 use Rattle.lp_threads.specs.declared.report.Play.{Play}
-use Rattle.lp_trace.specs.Runs.{ReadsTrace}
+use Rattle.lp_trace.specs.Runs.{AtWrite, ReadsTrace}
 use Rattle.lp_program.specs.Named.{rules_named}
 use Rattle.lp_program.specs.Performed.{IsPlayed}
 
@@ -22,3 +26,17 @@ pub played_named : {X E : Type 0} (r : Result X E) (model : ModelName) (rules : 
 played_named r model rules name rules_are name_is before after old new h =
     subst (λ n. OnOk r (IsReported (rules_named model) n before after old new)) name_is
     (subst (λ m. OnOk r (IsReported m name before after old new)) (sym rules_are) h)
+
+-- where the writer failed, a prefix of such a report was written
+abbrev HasPrefix : {X : Type 0} → Result X ThreadsFault → Rules → List ℕ → Option (List ℕ) → Option (List ℕ) → Option (List ℕ) → Option (List ℕ) → Type 0
+HasPrefix r rules name before after old new =
+    IfErr r (λ fault. AtRun fault (λ why. AtWrite why (ReadsTrace before after
+    (λ trace. (play : Play) × IsPlay rules trace play × AppendsPrefix old new (play_text name play)))))
+
+pub prefix_named : {X : Type 0} (r : Result X ThreadsFault) (model : ModelName) (rules : Rules) (name : List ℕ)
+    → rules_named model ≡ rules → name ≡ name_of model → (before after old new : Option (List ℕ))
+    → HasPrefix r rules name before after old new
+    → IfErr r (λ fault. AtRun fault (λ why. AtWrite why (ReadsTrace before after (λ trace. IsPlayed model trace (AppendsPrefix old new)))))
+prefix_named r model rules name rules_are name_is before after old new h =
+    subst (λ n. HasPrefix r (rules_named model) n before after old new) name_is
+    (subst (λ m. HasPrefix r m name before after old new) (sym rules_are) h)

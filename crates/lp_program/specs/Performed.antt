@@ -65,26 +65,19 @@ module _ (before after old new : Option (List ℕ)) where
   IsRefused (Compare json) = ⊥
   IsRefused (Threads model) = ⊥
 
-  -- a prefix of what was to be written is; of threads nothing is said
+  -- a prefix of what was to be written is
   abbrev pub WritesPrefix : Task → Type 0
   WritesPrefix (Run model) = ReadsTrace before after (λ trace. AppendsPrefix old new (report_under model trace))
   WritesPrefix (Check model) = ReadsInput before after (λ input. AppendsPrefix old new (answer_line model input))
   WritesPrefix (Compare json) = ReadsTrace before after (λ trace. AppendsPrefix old new (compared json trace))
-  WritesPrefix (Threads model) = Unit {0}
+  WritesPrefix (Threads model) = ReadsTrace before after (λ trace. IsPlayed model trace (AppendsPrefix old new))
 
--- a text is no input of the task, for this reason; of threads nothing is said
+-- a text is no input of the task, for this reason
 abbrev pub IsTextFault : Task → TraceFault → List ℕ → Type 0
 IsTextFault (Run model) why text = reading text ≡ Err why
 IsTextFault (Check model) why text = check_reading text ≡ Err why
 IsTextFault (Compare json) why text = reading text ≡ Err why
-IsTextFault (Threads model) why text = Unit {0}
-
--- nothing was written, which is this; of threads nothing is said
-abbrev pub IsUnwritten : Task → Type 0 → Type 0
-IsUnwritten (Run model) same = same
-IsUnwritten (Check model) same = same
-IsUnwritten (Compare json) same = same
-IsUnwritten (Threads model) same = Unit {0}
+IsTextFault (Threads model) why text = reading text ≡ Err why
 
 -- the task is one of threads
 abbrev pub IsOfDesk : Task → Type 0
@@ -96,14 +89,14 @@ IsOfDesk (Threads model) = Unit {0}
 module _ (before after old new : Option (List ℕ)) where
   -- how a task ends by a fault; `same` says that the writer is as it was
   abbrev pub EndsBy : Type 0 → Task → Fault → Type 0
-  EndsBy same task fault.Read = IsUnwritten task same
+  EndsBy same task fault.Read = same
   EndsBy same task fault.Write = WritesPrefix before after old new task
   EndsBy same task fault.Usage = ⊥
   EndsBy same task fault.UnknownModel = ⊥
-  EndsBy same task (fault.Trace why) = IfSome before (IsTextFault task why) × IsUnwritten task same
+  EndsBy same task (fault.Trace why) = IfSome before (IsTextFault task why) × same
   EndsBy same task fault.Refused = IsRefused before after old new task
-  EndsBy same task fault.NoMemory = IsUnwritten task same
-  EndsBy same task (fault.Desk code) = IsOfDesk task
+  EndsBy same task fault.NoMemory = same
+  EndsBy same task (fault.Desk code) = IsOfDesk task × same
 
   -- the words ask for a task, and it is done
   abbrev pub Performs : List (List ℕ) → Type 0

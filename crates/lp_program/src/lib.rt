@@ -11,7 +11,7 @@ pub use dispatch::{check, run, threads};
 pub use fault::Fault;
 pub use lp_models::ModelName;
 pub use lp_threads::ThreadsFault;
-pub use lp_trace::{RunFault, TraceFault};
+pub use lp_trace::{Counted, RunFault, TraceFault};
 pub use process::start;
 pub use program::{act, act_check, act_compare, act_run, perform};
 pub use words::{Task, WordsFault, task_of};

@@ -2,6 +2,7 @@
 
 use crate::fault::Fault;
 use crate::program::perform;
+use lp_trace::Counted;
 use std::env::{self, Env};
 use std::io;
 use std::process::ExitCode;
@@ -28,8 +29,8 @@ fn started<T: Threads + Wait + Sync>(threads: &T, rt: &HostRuntime) -> Result<()
         threads,
         rt.alloc(),
         words.as_slice(),
-        &mut rt.stdin(),
-        &mut io::writer(rt),
+        &mut Counted::new(rt.stdin()),
+        &mut Counted::new(io::writer(rt)),
     )
 }
 

@@ -1,5 +1,7 @@
 //! What the program does at its words.
-ghost use Rattle.std.specs.Prelude.{◌≡◌, IfErr, OnOk, map};
+ghost use Rattle.std.specs.Prelude.{◌≡◌, ◌≢◌, Err, IfErr, OnOk, map};
+ghost use Rattle.lp_text.specs.Counts.{AtMost, next};
+ghost use Rattle.lp_text.specs.Input.{FailsOnce};
 ghost use Rattle.lp_program.specs.Performed.{EndsBy, Fails, IsDone, Performs};
 
 use crate::dispatch::{check, run, threads};
@@ -7,6 +9,7 @@ use crate::fault::Fault;
 use crate::words::{Task, task_of};
 use lp_compare::compare_run;
 use lp_models::ModelName;
+use lp_trace::Counted;
 use std::alloc::Global;
 use std::convert::AsStr;
 use std::io::{Read, Write};
@@ -19,12 +22,25 @@ pub fn perform<T: Threads + Wait + Sync, S: AsStr, R: Read, W: Write>(
     rt: &T,
     alloc: Global,
     words: &[S],
-    reader: &mut R,
-    writer: &mut W,
+    reader: &mut Counted<R>,
+    writer: &mut Counted<W>,
 ) -> Result<(), Fault>
-    ensures done { OnOk result (Performs (R.remaining reader.old) (R.remaining reader.new) (W.contents writer.old) (W.contents writer.new) (map S.text words.now)) }
-    ensures fails { IfErr result (Fails (R.remaining reader.old) (R.remaining reader.new) (W.contents writer.old) (W.contents writer.new)
+    ensures done { OnOk result (Performs (R.remaining reader.old.stream) (R.remaining reader.new.stream) (W.contents writer.old.stream) (W.contents writer.new.stream) (map S.text words.now)) }
+    ensures fails { IfErr result (Fails (R.remaining reader.old.stream) (R.remaining reader.new.stream) (W.contents writer.old.stream) (W.contents writer.new.stream)
         (reader.new ≡ reader.old) (writer.new ≡ writer.old) (map S.text words.now)) }
+    // A fault of reading comes of a read that failed, which no other read follows.
+    ensures read_failed { result ≡ Err Fault.Read → FailsOnce reader.old reader.new }
+    // Else no read failed: one that failed is told before a fault of the text.
+    ensures unfailed { result ≢ Err Fault.Read → reader.new.failures ≡ reader.old.failures }
+    // Where the task is done, or the certificate refused, the end was found once: nothing is read behind it.
+    ensures once { OnOk result (reader.new.ends ≡ next reader.old.ends) }
+    ensures refused_once { result ≡ Err Fault.Refused → reader.new.ends ≡ next reader.old.ends }
+    // Each read but the last gives a byte at least.
+    ensures few { AtMost 134217729 reader.old.calls reader.new.calls }
+    // A fault of writing comes of a write that failed or took no byte, which no other write follows.
+    ensures write_failed { result ≡ Err Fault.Write → writer.new.failures ≡ next writer.old.failures }
+    // Else no write failed.
+    ensures written { result ≢ Err Fault.Write → writer.new.failures ≡ writer.old.failures }
 {
     let task = task_of(alloc, words)?;
     act(rt, alloc, task, reader, writer)
@@ -36,11 +52,18 @@ pub fn act<T: Threads + Wait + Sync, R: Read, W: Write>(
     rt: &T,
     alloc: Global,
     task: Task,
-    reader: &mut R,
-    writer: &mut W,
+    reader: &mut Counted<R>,
+    writer: &mut Counted<W>,
 ) -> Result<(), Fault>
-    ensures done { OnOk result (IsDone (R.remaining reader.old) (R.remaining reader.new) (W.contents writer.old) (W.contents writer.new) task) }
-    ensures ends { IfErr result (EndsBy (R.remaining reader.old) (R.remaining reader.new) (W.contents writer.old) (W.contents writer.new) (writer.new ≡ writer.old) task) }
+    ensures done { OnOk result (IsDone (R.remaining reader.old.stream) (R.remaining reader.new.stream) (W.contents writer.old.stream) (W.contents writer.new.stream) task) }
+    ensures ends { IfErr result (EndsBy (R.remaining reader.old.stream) (R.remaining reader.new.stream) (W.contents writer.old.stream) (W.contents writer.new.stream) (writer.new ≡ writer.old) task) }
+    ensures read_failed { result ≡ Err Fault.Read → FailsOnce reader.old reader.new }
+    ensures unfailed { result ≢ Err Fault.Read → reader.new.failures ≡ reader.old.failures }
+    ensures once { OnOk result (reader.new.ends ≡ next reader.old.ends) }
+    ensures refused_once { result ≡ Err Fault.Refused → reader.new.ends ≡ next reader.old.ends }
+    ensures few { AtMost 134217729 reader.old.calls reader.new.calls }
+    ensures write_failed { result ≡ Err Fault.Write → writer.new.failures ≡ next writer.old.failures }
+    ensures written { result ≢ Err Fault.Write → writer.new.failures ≡ writer.old.failures }
 {
     match task {
         Task::Run(model) => act_run(alloc, model, reader, writer),
@@ -54,11 +77,18 @@ pub fn act<T: Threads + Wait + Sync, R: Read, W: Write>(
 pub fn act_run<R: Read, W: Write>(
     alloc: Global,
     model: ModelName,
-    reader: &mut R,
-    writer: &mut W,
+    reader: &mut Counted<R>,
+    writer: &mut Counted<W>,
 ) -> Result<(), Fault>
-    ensures done { OnOk result (IsDone (R.remaining reader.old) (R.remaining reader.new) (W.contents writer.old) (W.contents writer.new) (Task.Run model)) }
-    ensures ends { IfErr result (EndsBy (R.remaining reader.old) (R.remaining reader.new) (W.contents writer.old) (W.contents writer.new) (writer.new ≡ writer.old) (Task.Run model)) }
+    ensures done { OnOk result (IsDone (R.remaining reader.old.stream) (R.remaining reader.new.stream) (W.contents writer.old.stream) (W.contents writer.new.stream) (Task.Run model)) }
+    ensures ends { IfErr result (EndsBy (R.remaining reader.old.stream) (R.remaining reader.new.stream) (W.contents writer.old.stream) (W.contents writer.new.stream) (writer.new ≡ writer.old) (Task.Run model)) }
+    ensures read_failed { result ≡ Err Fault.Read → FailsOnce reader.old reader.new }
+    ensures unfailed { result ≢ Err Fault.Read → reader.new.failures ≡ reader.old.failures }
+    ensures once { OnOk result (reader.new.ends ≡ next reader.old.ends) }
+    ensures refused_once { result ≡ Err Fault.Refused → reader.new.ends ≡ next reader.old.ends }
+    ensures few { AtMost 134217729 reader.old.calls reader.new.calls }
+    ensures write_failed { result ≡ Err Fault.Write → writer.new.failures ≡ next writer.old.failures }
+    ensures written { result ≢ Err Fault.Write → writer.new.failures ≡ writer.old.failures }
 {
     match run(alloc, model, reader, writer) {
         Ok(()) => Ok(()),
@@ -70,11 +100,18 @@ pub fn act_run<R: Read, W: Write>(
 pub fn act_check<R: Read, W: Write>(
     alloc: Global,
     model: ModelName,
-    reader: &mut R,
-    writer: &mut W,
+    reader: &mut Counted<R>,
+    writer: &mut Counted<W>,
 ) -> Result<(), Fault>
-    ensures done { OnOk result (IsDone (R.remaining reader.old) (R.remaining reader.new) (W.contents writer.old) (W.contents writer.new) (Task.Check model)) }
-    ensures ends { IfErr result (EndsBy (R.remaining reader.old) (R.remaining reader.new) (W.contents writer.old) (W.contents writer.new) (writer.new ≡ writer.old) (Task.Check model)) }
+    ensures done { OnOk result (IsDone (R.remaining reader.old.stream) (R.remaining reader.new.stream) (W.contents writer.old.stream) (W.contents writer.new.stream) (Task.Check model)) }
+    ensures ends { IfErr result (EndsBy (R.remaining reader.old.stream) (R.remaining reader.new.stream) (W.contents writer.old.stream) (W.contents writer.new.stream) (writer.new ≡ writer.old) (Task.Check model)) }
+    ensures read_failed { result ≡ Err Fault.Read → FailsOnce reader.old reader.new }
+    ensures unfailed { result ≢ Err Fault.Read → reader.new.failures ≡ reader.old.failures }
+    ensures once { OnOk result (reader.new.ends ≡ next reader.old.ends) }
+    ensures refused_once { result ≡ Err Fault.Refused → reader.new.ends ≡ next reader.old.ends }
+    ensures few { AtMost 134217729 reader.old.calls reader.new.calls }
+    ensures write_failed { result ≡ Err Fault.Write → writer.new.failures ≡ next writer.old.failures }
+    ensures written { result ≢ Err Fault.Write → writer.new.failures ≡ writer.old.failures }
 {
     match check(alloc, model, reader, writer) {
         Ok(true) => Ok(()),
@@ -87,11 +124,18 @@ pub fn act_check<R: Read, W: Write>(
 pub fn act_compare<R: Read, W: Write>(
     alloc: Global,
     json: bool,
-    reader: &mut R,
-    writer: &mut W,
+    reader: &mut Counted<R>,
+    writer: &mut Counted<W>,
 ) -> Result<(), Fault>
-    ensures done { OnOk result (IsDone (R.remaining reader.old) (R.remaining reader.new) (W.contents writer.old) (W.contents writer.new) (Task.Compare json)) }
-    ensures ends { IfErr result (EndsBy (R.remaining reader.old) (R.remaining reader.new) (W.contents writer.old) (W.contents writer.new) (writer.new ≡ writer.old) (Task.Compare json)) }
+    ensures done { OnOk result (IsDone (R.remaining reader.old.stream) (R.remaining reader.new.stream) (W.contents writer.old.stream) (W.contents writer.new.stream) (Task.Compare json)) }
+    ensures ends { IfErr result (EndsBy (R.remaining reader.old.stream) (R.remaining reader.new.stream) (W.contents writer.old.stream) (W.contents writer.new.stream) (writer.new ≡ writer.old) (Task.Compare json)) }
+    ensures read_failed { result ≡ Err Fault.Read → FailsOnce reader.old reader.new }
+    ensures unfailed { result ≢ Err Fault.Read → reader.new.failures ≡ reader.old.failures }
+    ensures once { OnOk result (reader.new.ends ≡ next reader.old.ends) }
+    ensures refused_once { result ≡ Err Fault.Refused → reader.new.ends ≡ next reader.old.ends }
+    ensures few { AtMost 134217729 reader.old.calls reader.new.calls }
+    ensures write_failed { result ≡ Err Fault.Write → writer.new.failures ≡ next writer.old.failures }
+    ensures written { result ≢ Err Fault.Write → writer.new.failures ≡ writer.old.failures }
 {
     match compare_run(alloc, json, reader, writer) {
         Ok(()) => Ok(()),
@@ -104,11 +148,18 @@ fn act_threads<T: Threads + Wait + Sync, R: Read, W: Write>(
     rt: &T,
     alloc: Global,
     model: ModelName,
-    reader: &mut R,
-    writer: &mut W,
+    reader: &mut Counted<R>,
+    writer: &mut Counted<W>,
 ) -> Result<(), Fault>
-    ensures done { OnOk result (IsDone (R.remaining reader.old) (R.remaining reader.new) (W.contents writer.old) (W.contents writer.new) (Task.Threads model)) }
-    ensures ends { IfErr result (EndsBy (R.remaining reader.old) (R.remaining reader.new) (W.contents writer.old) (W.contents writer.new) (writer.new ≡ writer.old) (Task.Threads model)) }
+    ensures done { OnOk result (IsDone (R.remaining reader.old.stream) (R.remaining reader.new.stream) (W.contents writer.old.stream) (W.contents writer.new.stream) (Task.Threads model)) }
+    ensures ends { IfErr result (EndsBy (R.remaining reader.old.stream) (R.remaining reader.new.stream) (W.contents writer.old.stream) (W.contents writer.new.stream) (writer.new ≡ writer.old) (Task.Threads model)) }
+    ensures read_failed { result ≡ Err Fault.Read → FailsOnce reader.old reader.new }
+    ensures unfailed { result ≢ Err Fault.Read → reader.new.failures ≡ reader.old.failures }
+    ensures once { OnOk result (reader.new.ends ≡ next reader.old.ends) }
+    ensures refused_once { result ≡ Err Fault.Refused → reader.new.ends ≡ next reader.old.ends }
+    ensures few { AtMost 134217729 reader.old.calls reader.new.calls }
+    ensures write_failed { result ≡ Err Fault.Write → writer.new.failures ≡ next writer.old.failures }
+    ensures written { result ≢ Err Fault.Write → writer.new.failures ≡ writer.old.failures }
 {
     match threads(rt, alloc, model, reader, writer) {
         Ok(()) => Ok(()),

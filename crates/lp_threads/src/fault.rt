@@ -1,11 +1,14 @@
 //! Why threads didn't play a trace to its end.
 ghost use Rattle.std.specs.Prelude.{◌≡◌, Err, IfErr, IfOk, Ok};
 ghost use Rattle.lp_threads.specs.Codes.{code_of, of_cause, of_close, of_launch};
+ghost use Rattle.lp_threads.specs.Faults.{IsOfPlay};
+ghost use Rattle.lp_threads.specs.declared.fault.ThreadsFault.TheVariants.{Run};
+ghost use Rattle.lp_trace.specs.declared.runs.RunFault.TheVariants.{Write};
 
 use lp_board::LaunchFault;
 use lp_desk::Unclosed;
 use lp_log::{Cause, CloseCause};
-use lp_trace::{ReplayFault, RunFault, StreamFault, WriteFault};
+use lp_trace::{ReplayFault, RunFault, WriteFault};
 use lp_transition::BootFault;
 use std::alloc::AllocError;
 use thiserror::Error;
@@ -80,30 +83,32 @@ fn close_code(cause: CloseCause) -> &'static str
 }
 
 impl From<RunFault> for ThreadsFault {
+    ghost from_gives = { λ fault e. e ≡ Run fault };
+
     fn from(fault: RunFault) -> ThreadsFault {
         ThreadsFault::Run(fault)
     }
 }
 
-impl From<StreamFault> for ThreadsFault {
-    fn from(fault: StreamFault) -> ThreadsFault {
-        ThreadsFault::Run(RunFault::from(fault))
-    }
-}
-
 impl From<ReplayFault> for ThreadsFault {
+    ghost from_gives = { λ _ e. IsOfPlay e };
+
     fn from(fault: ReplayFault) -> ThreadsFault {
         ThreadsFault::Run(RunFault::from(fault))
     }
 }
 
 impl From<WriteFault> for ThreadsFault {
+    ghost from_gives = { λ fault e. e ≡ Run (Write fault) };
+
     fn from(fault: WriteFault) -> ThreadsFault {
         ThreadsFault::Run(RunFault::Write(fault))
     }
 }
 
 impl From<AllocError> for ThreadsFault {
+    ghost from_gives = { λ _ e. IsOfPlay e };
+
     fn from(_e: AllocError) -> ThreadsFault {
         ThreadsFault::Run(RunFault::NoMemory)
     }
@@ -111,6 +116,8 @@ impl From<AllocError> for ThreadsFault {
 
 /// Want of memory is a run's fault, whichever call of the desk meets it.
 impl From<LaunchFault> for ThreadsFault {
+    ghost from_gives = { λ _ e. IsOfPlay e };
+
     fn from(fault: LaunchFault) -> ThreadsFault {
         match fault {
             LaunchFault::Boot(BootFault::NoMemory) => ThreadsFault::Run(RunFault::NoMemory),
@@ -120,6 +127,8 @@ impl From<LaunchFault> for ThreadsFault {
 }
 
 impl From<Cause> for ThreadsFault {
+    ghost from_gives = { λ _ e. IsOfPlay e };
+
     fn from(cause: Cause) -> ThreadsFault {
         match cause {
             Cause::NoMemory => ThreadsFault::Run(RunFault::NoMemory),
@@ -129,6 +138,8 @@ impl From<Cause> for ThreadsFault {
 }
 
 impl From<Unclosed> for ThreadsFault {
+    ghost from_gives = { λ _ e. IsOfPlay e };
+
     fn from(unclosed: Unclosed) -> ThreadsFault {
         match unclosed.cause {
             CloseCause::NoMemory => ThreadsFault::Run(RunFault::NoMemory),

@@ -16,5 +16,5 @@ pub use lp_desk::Unclosed;
 pub use lp_log::{Cause, CloseCause, Journal};
 pub use lp_model::Consistency;
 pub use lp_scan::ScanGate;
-pub use lp_trace::{ReplayFault, RunFault, StreamFault, Trace, WriteFault};
+pub use lp_trace::{Counted, ReplayFault, RunFault, Trace, WriteFault};
 pub use playing::threads;

@@ -1,8 +1,13 @@
 //! A trace, played by threads.
-ghost use Rattle.std.specs.Prelude.{◌≡◌, IfOk, OnOk};
+ghost use Rattle.std.specs.Prelude.{◌≡◌, Err, IfErr, IfOk, IfSome, MatchResult, OnOk};
 ghost use Rattle.std.specs.Io.KnownBytes.{Appends};
 ghost use Rattle.lp_board.specs.Blanks.{name_of};
-ghost use Rattle.lp_trace.specs.Runs.{ReadsTrace};
+ghost use Rattle.lp_text.specs.Counts.{AtMost, next};
+ghost use Rattle.lp_text.specs.Input.{FailsOnce};
+ghost use Rattle.lp_text.specs.Reading.{reading};
+ghost use Rattle.lp_text.specs.Writing.{AppendsPrefix};
+ghost use Rattle.lp_trace.specs.Runs.{AtReading, AtTrace, AtWrite, ReadsTrace};
+ghost use Rattle.lp_threads.specs.Faults.{AtRun, ButForReader, ButForWriter, IsOfPlay};
 ghost use Rattle.lp_threads.specs.Plays.{IsPlay, play_text};
 ghost use Rattle.lp_threads.specs.declared.report.Play.{Play};
 
@@ -16,7 +21,7 @@ use lp_desk::{Desk, Launched};
 use lp_log::{Control, Seat};
 use lp_model::Consistency;
 use lp_scan::ScanGate;
-use lp_trace::{Trace, stack};
+use lp_trace::{Counted, Trace, read_trace, stack};
 use std::alloc::{AllocError, Global};
 use std::io::{Read, Write};
 use std::marker::Brand;
@@ -44,21 +49,40 @@ impl ScanGate for Open {
 /// desk with all that came back, and writes how many seats and events there were and how many events no seat played.
 ///
 /// The boot tasks are dealt out to at most 64 threads, which also play the children that are born to theirs; the control
-/// has one of its own. A read or write that fails or is interrupted ends it, and so does a write that takes no byte.
-/// Waits for the threads.
+/// has one of its own. It makes at most 134,217,729 reads. A read or write that fails or is interrupted ends it, and so
+/// does a write that takes no byte. Waits for the threads.
 pub fn threads<T: Threads + Wait + Sync, M: Consistency + Send + Sync, R: Read, W: Write>(
     rt: &T,
     alloc: Global,
     name: &str,
     model: M,
-    reader: &mut R,
-    writer: &mut W,
+    reader: &mut Counted<R>,
+    writer: &mut Counted<W>,
 ) -> Result<(), ThreadsFault>
     // What was read spells a trace, and its play was reported and nothing else.
-    ensures report { OnOk result (ReadsTrace (R.remaining reader.old) (R.remaining reader.new)
-        (λ trace. (play : Play) × IsPlay M.rules trace play × Appends (W.contents writer.old) (W.contents writer.new) (play_text name.now play))) }
+    ensures report { OnOk result (ReadsTrace (R.remaining reader.old.stream) (R.remaining reader.new.stream)
+        (λ trace. (play : Play) × IsPlay M.rules trace play × Appends (W.contents writer.old.stream) (W.contents writer.new.stream) (play_text name.now play))) }
+    // Where the writer failed, a prefix of such a report was written.
+    ensures prefix { IfErr result (λ fault. AtRun fault (λ why. AtWrite why (ReadsTrace (R.remaining reader.old.stream) (R.remaining reader.new.stream)
+        (λ trace. (play : Play) × IsPlay M.rules trace play × AppendsPrefix (W.contents writer.old.stream) (W.contents writer.new.stream) (play_text name.now play))))) }
+    // Else a fault leaves the writer as it was.
+    ensures untouched { IfErr result (λ fault. ButForWriter fault (writer.new ≡ writer.old)) }
+    // The fault of a text is the one that the definitions give.
+    ensures trace { IfErr result (λ fault. AtRun fault (λ why. AtTrace why (λ why. IfSome (R.remaining reader.old.stream) (λ text. reading text ≡ Err why)))) }
+    // A fault of reading comes of a read that failed, which no other read follows.
+    ensures read_failed { IfErr result (λ fault. AtRun fault (λ why. AtReading why (FailsOnce reader.old reader.new))) }
+    // Else no read failed: one that failed is told before a fault of the text.
+    ensures unfailed { MatchResult result (λ _. reader.new.failures ≡ reader.old.failures) (λ fault. ButForReader fault (reader.new.failures ≡ reader.old.failures)) }
+    // Without a fault the end was found once: nothing is read behind it.
+    ensures once { OnOk result (reader.new.ends ≡ next reader.old.ends) }
+    // Each read but the last gives a byte at least.
+    ensures few { AtMost 134217729 reader.old.calls reader.new.calls }
+    // A fault of writing comes of a write that failed or took no byte, which no other write follows.
+    ensures write_failed { IfErr result (λ fault. AtRun fault (λ why. AtWrite why (writer.new.failures ≡ next writer.old.failures))) }
+    // Without a fault no write failed.
+    ensures written { OnOk result (writer.new.failures ≡ writer.old.failures) }
 {
-    let trace = Trace::read_from(alloc, reader)?;
+    let trace = read_trace(alloc, reader)?;
     let play = play(rt, alloc, model, &trace)?;
     write_play(alloc, writer, name, play)
 }
@@ -70,7 +94,8 @@ fn play<T: Threads + Wait + Sync, M: Consistency + Send + Sync>(
     model: M,
     trace: &Trace,
 ) -> Result<Play, ThreadsFault>
-    ensures { IfOk result (λ play. IsPlay M.rules trace.now play) }
+    ensures play { IfOk result (λ play. IsPlay M.rules trace.now play) }
+    ensures fault { IfErr result (λ fault. IsOfPlay fault) }
 {
     let patches = stack(alloc, trace)?;
     let blank = Blank::new(alloc, model, patches, trace.boots(), READERS)?;
@@ -85,7 +110,8 @@ fn play_blank<T: Threads + Wait + Sync, M: Consistency + Send + Sync, N: DeskNam
     blank: Blank<M>,
 ) -> Result<Play, ThreadsFault>
     requires { name_of M.rules blank ≡ N.desk }
-    ensures { IfOk result (λ play. IsPlay M.rules trace.now play) }
+    ensures play { IfOk result (λ play. IsPlay M.rules trace.now play) }
+    ensures fault { IfErr result (λ fault. IsOfPlay fault) }
 {
     let scripts = Scripts::deal(alloc, trace.events())?;
     let launched = Desk::<M, N, Open, &T>::launch(rt, alloc, blank, SCAN_WORKERS, Open)?;
@@ -136,7 +162,9 @@ fn played<
     scripts: &Scripts,
     hands: Vec<Vec<Seat>>,
     control: Control,
-) -> Result<(Vec<Seat>, Control), ThreadsFault> {
+) -> Result<(Vec<Seat>, Control), ThreadsFault>
+    ensures { IfErr result (λ fault. IsOfPlay fault) }
+{
     let returns = Mutex::new(Returns::new(alloc));
     let shared = &returns;
     let started = thread::scope(thread::scope_env(), rt, |scope| {

@@ -1,10 +1,14 @@
 //! What is written of a play.
-ghost use Rattle.std.specs.Prelude.{◌≡◌, IfOk, OnOk, string_bytes};
+ghost use Rattle.std.specs.Prelude.{◌≡◌, IfErr, IfOk, OnOk, string_bytes};
 ghost use Rattle.std.specs.Io.KnownBytes.{Appends};
+ghost use Rattle.lp_text.specs.Counts.{next};
+ghost use Rattle.lp_trace.specs.Runs.{AtReading, AtTrace, AtWrite};
+ghost use Rattle.lp_text.specs.Writing.{AppendsPrefix};
+ghost use Rattle.lp_threads.specs.Faults.{AtRun, ButForWriter};
 ghost use Rattle.lp_threads.specs.Plays.{play_text};
 
 use crate::ThreadsFault;
-use lp_trace::put;
+use lp_trace::{Counted, put};
 use std::alloc::{AllocError, Global};
 use std::io::Write;
 
@@ -22,11 +26,17 @@ pub struct Play {
 /// Writes the report of a play.
 pub(crate) fn write_play<W: Write>(
     alloc: Global,
-    writer: &mut W,
+    writer: &mut Counted<W>,
     name: &str,
     play: Play,
 ) -> Result<(), ThreadsFault>
-    ensures { OnOk result (Appends (W.contents writer.old) (W.contents writer.new) (play_text name.now play)) }
+    ensures report { OnOk result (Appends (W.contents writer.old.stream) (W.contents writer.new.stream) (play_text name.now play)) }
+    ensures prefix { IfErr result (λ fault. AtRun fault (λ why. AtWrite why (AppendsPrefix (W.contents writer.old.stream) (W.contents writer.new.stream) (play_text name.now play)))) }
+    ensures untouched { IfErr result (λ fault. ButForWriter fault (writer.new ≡ writer.old)) }
+    ensures write_failed { IfErr result (λ fault. AtRun fault (λ why. AtWrite why (writer.new.failures ≡ next writer.old.failures))) }
+    ensures written { OnOk result (writer.new.failures ≡ writer.old.failures) }
+    ensures behind { IfErr result (λ fault. AtRun fault (λ why. AtReading why ⊥)) }
+    ensures late { IfErr result (λ fault. AtRun fault (λ why. AtTrace why (λ _. ⊥))) }
 {
     let text = text_of(alloc, name, play)?;
     put(writer, text.as_bytes())?;

@@ -1,4 +1,6 @@
 //! What the threads of a play hand in as they end.
+ghost use Rattle.std.specs.Prelude.{IfErr};
+ghost use Rattle.lp_threads.specs.Faults.{IsOfPlay};
 
 use crate::ThreadsFault;
 use lp_log::{Cause, Control, Seat};
@@ -43,7 +45,9 @@ impl Returns {
     }
 
     /// All seats and the control, once every thread has ended.
-    pub(crate) fn into_parts(self) -> Result<(Vec<Seat>, Control), ThreadsFault> {
+    pub(crate) fn into_parts(self) -> Result<(Vec<Seat>, Control), ThreadsFault>
+        ensures { IfErr result (λ fault. IsOfPlay fault) }
+    {
         let Returns {
             seats,
             control,

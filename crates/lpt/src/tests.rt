@@ -4,7 +4,7 @@ mod threads;
 mod words;
 
 use lp_program::{Fault, perform};
-use lp_trace::{Cause, TraceFault};
+use lp_trace::{Cause, Counted, TraceFault};
 use std::alloc::Global;
 use std::io::Read;
 use std::sync::Wait;
@@ -162,7 +162,8 @@ fn end_of<T: Threads + Wait + Sync, R: Read>(
     let words: Vec<&str> = words.split(' ').collect(alloc)?;
     let mut output = Vec::new(alloc);
     let mut errors = Vec::new(alloc);
-    let status = match perform(rt, alloc, words.as_slice(), reader, &mut output) {
+    let (mut source, mut sink) = (Counted::new(reader), Counted::new(&mut output));
+    let status = match perform(rt, alloc, words.as_slice(), &mut source, &mut sink) {
         Ok(()) => 0,
         Err(fault) => {
             fault.tell(&mut errors)?;
@@ -232,13 +233,13 @@ fn a_write_that_fails_has_its_status(rt: HostRuntime) -> Result<(), Fail> {
         ("compare", "--json", TRACE),
         ("threads", "hybrid", TRACE),
     ] {
-        let mut reader = input.as_bytes();
+        let mut reader = Counted::new(input.as_bytes());
         let end = perform(
             &rt,
             rt.alloc(),
             &["lpt", command, word],
             &mut reader,
-            &mut Full,
+            &mut Counted::new(Full),
         );
         assert!(rt; end == Err(Fault::Write), "{command} {word}");
     }

@@ -1,7 +1,7 @@
 //! What is written of a play.
 use super::*;
 use lp_models::Hybrid;
-use lp_threads::threads;
+use lp_threads::{Counted, threads};
 use std::test::Fail;
 
 /// A trace, and the numbers of its report: seats, events, skipped.
@@ -26,9 +26,10 @@ fn a_play_reports_its_numbers(rt: HostRuntime) -> Result<(), Fail> {
     let alloc = rt.alloc();
     for (lines, numbers) in PLAYS {
         let text = text_of(alloc, lines)?;
-        let mut reader = text.as_bytes();
-        let mut given = Vec::new(alloc);
-        threads(&rt, alloc, "hybrid", Hybrid, &mut reader, &mut given)?;
+        let mut reader = Counted::new(text.as_bytes());
+        let mut writer = Counted::new(Vec::new(alloc));
+        threads(&rt, alloc, "hybrid", Hybrid, &mut reader, &mut writer)?;
+        let given = writer.into_stream();
         let wanted = format!(in alloc; "lpthreads 1\nmodel hybrid\n{numbers}closed\n")?;
         assert_eq!(rt; given.as_slice(), wanted.as_bytes(), "{lines}");
     }

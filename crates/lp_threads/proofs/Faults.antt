@@ -1,0 +1,39 @@
+-- Faults behind the reader.
+use Rattle.std.proofs.Common.{◌≡◌, Result, Ok, Err, sym, subst}
+use Rattle.std.specs.Prelude.{IfErr, IsErrAnd}
+use Rattle.lp_text.specs.declared.write.WriteFault.{WriteFault}
+use Rattle.lp_trace.specs.Runs.{AtWrite}
+use Rattle.lp_trace.specs.declared.runs.RunFault.{RunFault}
+use Rattle.lp_trace.specs.declared.runs.RunFault.TheVariants.{NoMemory, Write}
+use Rattle.lp_threads.specs.Faults.{AtRun, AtRunElse, IsOfPlay}
+use Rattle.lp_threads.specs.declared.fault.ThreadsFault.{ThreadsFault}
+use Rattle.lp_threads.specs.declared.fault.ThreadsFault.TheVariants as threads
+
+-- what holds of want of memory, and at the desk's own faults, holds of a fault of the play
+pub in_play : (fault : ThreadsFault) (P : RunFault → Type 0) (Q : Type 0) → P NoMemory → Q → IsOfPlay fault → AtRunElse fault P Q
+in_play (threads.Run why) P Q h k is = subst P (sym is) h
+in_play (threads.Launch why) P Q h k is = k
+in_play (threads.Turned cause) P Q h k is = k
+in_play (threads.Close cause) P Q h k is = k
+in_play threads.NoThread P Q h k is = k
+
+-- what follows of the fault of a run
+pub at_run : (fault : ThreadsFault) (P Q : RunFault → Type 0) → ((why : RunFault) → P why → Q why) → AtRun fault P → AtRun fault Q
+at_run (threads.Run why) P Q f h = f why h
+at_run (threads.Launch why) P Q f h = tt
+at_run (threads.Turned cause) P Q f h = tt
+at_run (threads.Close cause) P Q f h = tt
+at_run threads.NoThread P Q f h = tt
+
+-- what is so of every fault of a run, and at the desk's own
+pub at_any : (fault : ThreadsFault) (P : RunFault → Type 0) (Q : Type 0) → ((why : RunFault) → P why) → Q → AtRunElse fault P Q
+at_any (threads.Run why) P Q f h = f why
+at_any (threads.Launch why) P Q f h = h
+at_any (threads.Turned cause) P Q f h = h
+at_any (threads.Close cause) P Q f h = h
+at_any threads.NoThread P Q f h = h
+
+-- a fault in writing, as it is returned
+pub at_write : {X : Type 0} (P : Type 0) (why : WriteFault) (r : Result X ThreadsFault) → IsErrAnd r (λ e. e ≡ threads.Run (Write why)) → P → IfErr r (λ e. AtRun e (λ fault. AtWrite fault P))
+at_write P why (Ok x) is h = tt
+at_write P why (Err e) is h = subst (λ fault. AtRun fault (λ why. AtWrite why P)) (sym is) h

@@ -1,0 +1,31 @@
+-- What is so at a fault of threads.
+use Rattle.std.specs.Prelude.{◌≡◌}
+use Rattle.lp_threads.specs.declared.fault.ThreadsFault.{ThreadsFault}
+use Rattle.lp_threads.specs.declared.fault.ThreadsFault.TheVariants as threads
+use Rattle.lp_trace.specs.Runs.{BeforeWriting, ButForReading}
+use Rattle.lp_trace.specs.declared.runs.RunFault.{RunFault}
+use Rattle.lp_trace.specs.declared.runs.RunFault.TheVariants.{NoMemory}
+
+-- this holds of a fault as of a run; and that is so at the desk's own
+abbrev pub AtRunElse : ThreadsFault → (RunFault → Type 0) → Type 0 → Type 0
+AtRunElse (threads.Run fault) P Q = P fault
+AtRunElse (threads.Launch fault) P Q = Q
+AtRunElse (threads.Turned cause) P Q = Q
+AtRunElse (threads.Close cause) P Q = Q
+AtRunElse threads.NoThread P Q = Q
+
+-- this holds of a fault as of a run
+abbrev pub AtRun : ThreadsFault → (RunFault → Type 0) → Type 0
+AtRun fault P = AtRunElse fault P (Unit {0})
+
+-- this is so at every fault but that of a reader which failed
+abbrev pub ButForReader : ThreadsFault → Type 0 → Type 0
+ButForReader fault P = AtRunElse fault (λ why. ButForReading why P) P
+
+-- this is so at every fault but that of a writer which failed
+abbrev pub ButForWriter : ThreadsFault → Type 0 → Type 0
+ButForWriter fault P = AtRunElse fault (λ why. BeforeWriting why P) P
+
+-- the fault comes while a trace is played, so that as of a run it is nothing but want of memory
+abbrev pub IsOfPlay : ThreadsFault → Type 0
+IsOfPlay fault = AtRun fault (λ why. why ≡ NoMemory)
