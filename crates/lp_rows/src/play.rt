@@ -10,7 +10,9 @@ use crate::trouble::Trouble;
 use lp_model::Consistency;
 use lp_models::{AllAtOnce, Hybrid, Immediate, LeaveKernel, ModelName};
 use lp_process::ProcessGroup;
-use lp_trace::{CheckInput, ReadFault, RunFault, Trace, TraceFault, TraceForm, check, run};
+use lp_trace::{
+    CheckInput, Counted, ReadFault, RunFault, Trace, TraceFault, TraceForm, check, run,
+};
 use std::alloc::{AllocError, Global};
 use std::str;
 use std::sync::Wait;
@@ -59,9 +61,10 @@ fn reported<M: Consistency>(
     text: &[u8],
     most: usize,
 ) -> Result<Vec<u8>, Trouble> {
-    let mut sink = Sink::new(alloc, most);
-    let ended = run(alloc, name, model, &mut Source::new(text, most), &mut sink);
-    let mut given = sink.into_taken();
+    let mut sink = Counted::new(Sink::new(alloc, most));
+    let mut source = Counted::new(Source::new(text, most));
+    let ended = run(alloc, name, model, &mut source, &mut sink);
+    let mut given = sink.into_stream().into_taken();
     if let Err(fault) = ended {
         add_fault(alloc, &mut given, fault)?;
     }
@@ -76,9 +79,10 @@ pub fn checked<M: Consistency>(
     text: &[u8],
     most: usize,
 ) -> Result<Vec<u8>, Trouble> {
-    let mut sink = Sink::new(alloc, most);
-    let ended = check(alloc, model, &mut Source::new(text, most), &mut sink);
-    let mut given = sink.into_taken();
+    let mut sink = Counted::new(Sink::new(alloc, most));
+    let mut source = Counted::new(Source::new(text, most));
+    let ended = check(alloc, model, &mut source, &mut sink);
+    let mut given = sink.into_stream().into_taken();
     match ended {
         Ok(accepted) if accepted == given.starts_with(b"accepted") => {}
         Ok(_) => given.extend_from_slice(b"but not as it says\n")?,
@@ -101,9 +105,9 @@ fn made_again(alloc: Global, trace: &Trace) -> Result<Box<Trace>, Trouble> {
 /// The text of a trace that is made anew of the parts of this one.
 fn written_again(alloc: Global, trace: &Trace) -> Result<Vec<u8>, Trouble> {
     let made = made_again(alloc, trace)?;
-    let mut text = Vec::new(alloc);
+    let mut text = Counted::new(Vec::new(alloc));
     match made.write(&mut text) {
-        Ok(()) => Ok(text),
+        Ok(()) => Ok(text.into_stream()),
         Err(_) => Err(Trouble::NoMemory),
     }
 }

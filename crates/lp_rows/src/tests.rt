@@ -7,6 +7,7 @@ mod limits;
 mod makers;
 mod memory;
 mod parts;
+mod replies;
 mod streams;
 mod traces;
 
@@ -15,7 +16,7 @@ use lp_cert::{CertHead, Claim, Line};
 use lp_models::Hybrid;
 use lp_stack::{Class, GroupId, Level, TaskId};
 use lp_symbols::{SymId, Symbols};
-use lp_trace::{RunFault, Trace, check, run};
+use lp_trace::{Counted, RunFault, Trace, check, run};
 use lp_transition::{Core, Event};
 use std::alloc::Global;
 use std::test::Fail;

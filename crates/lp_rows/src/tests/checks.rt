@@ -213,9 +213,13 @@ fn faults_have_numbers(rt: HostRuntime) {
 
 #[test]
 fn laws_are_called(_rt: HostRuntime) {
+    lp_worked_laws::worked_rows();
     lp_worked_laws::worked_certificates();
     lp_worked_laws::worked_verdicts();
     lp_worked_laws::headline_refuses();
     laws::accepted_certificates_hold::<Hybrid>();
     laws::made_certificates_are_accepted::<Hybrid>();
+    lp_trace::laws::one_outcome_a_report();
+    lp_trace::laws::runs_fit_reports::<Hybrid>();
+    lp_trace::laws::reports_tell_runs::<Hybrid, Hybrid>();
 }

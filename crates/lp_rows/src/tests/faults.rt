@@ -31,7 +31,8 @@ impl Ended {
 
 /// How the run between these two ended.
 fn ending_of<R: Read, W: Write>(alloc: Global, source: &mut R, sink: &mut W) -> Ended {
-    match run(alloc, "hybrid", Hybrid, source, sink) {
+    let (mut source, mut sink) = (Counted::new(source), Counted::new(sink));
+    match run(alloc, "hybrid", Hybrid, &mut source, &mut sink) {
         Ok(()) => Ended::Whole,
         Err(fault) => Ended::by(&fault),
     }
@@ -39,7 +40,8 @@ fn ending_of<R: Read, W: Write>(alloc: Global, source: &mut R, sink: &mut W) -> 
 
 /// How the check between these two ended.
 fn check_ending_of<R: Read, W: Write>(alloc: Global, source: &mut R, sink: &mut W) -> Ended {
-    match check(alloc, Hybrid, source, sink) {
+    let (mut source, mut sink) = (Counted::new(source), Counted::new(sink));
+    match check(alloc, Hybrid, &mut source, &mut sink) {
         Ok(_) => Ended::Whole,
         Err(fault) => Ended::by(&fault),
     }
@@ -108,6 +110,23 @@ fn a_read_that_fails_leaves_nothing_written(rt: HostRuntime) -> Result<(), Fail>
         }
     }
     assert!(rt; fail_with(rt.alloc(), text.as_str(), 7, 9, End::Fails));
+    Ok(())
+}
+
+/// Whether a run fails as its reader does, once, after so many reads of a byte, and leaves it then.
+fn is_left(alloc: Global, text: &str, reads: usize) -> bool {
+    let mut source = Broken::new(text.as_bytes(), 1, reads, End::FailsOnce);
+    let mut sink = Sink::new(alloc, 1_000);
+    let ended = ending_of(alloc, &mut source, &mut sink);
+    ended == Ended::Read(ErrorKind::BrokenPipe) && source.is_left()
+}
+
+#[test]
+fn a_reader_that_failed_is_not_read_again(rt: HostRuntime) -> Result<(), Fail> {
+    let text = text_of(rt.alloc(), CHILD)?;
+    for reads in 0..=text.len() {
+        assert!(rt; is_left(rt.alloc(), text.as_str(), reads), "{reads}");
+    }
     Ok(())
 }
 
@@ -216,6 +235,19 @@ fn has_a_front(
     ended == ends.1 && sink.taken().len() == writes && report.starts_with(sink.taken())
 }
 
+#[test]
+fn a_short_write_is_no_fault(rt: HostRuntime) {
+    for most in [1, 2, 7] {
+        let mut source = OF_NOBODY.as_bytes();
+        let mut sink = Sink::new(rt.alloc(), most);
+        assert!(rt;
+            ending_of(rt.alloc(), &mut source, &mut sink) == Ended::Whole,
+            "{most}"
+        );
+        assert!(rt; sink.taken() == REPORT.as_bytes(), "{most}");
+    }
+}
+
 /// The report of a text.
 fn report_of(alloc: Global, text: &str) -> Result<Vec<u8>, Fail> {
     let mut sink = Sink::new(alloc, 1_000);
@@ -223,8 +255,8 @@ fn report_of(alloc: Global, text: &str) -> Result<Vec<u8>, Fail> {
         alloc,
         "hybrid",
         Hybrid,
-        &mut Source::new(text.as_bytes(), 1),
-        &mut sink,
+        &mut Counted::new(Source::new(text.as_bytes(), 1)),
+        &mut Counted::new(&mut sink),
     )?;
     Ok(sink.into_taken())
 }
@@ -266,8 +298,9 @@ fn an_answers_writer_that_ends_has_a_front(rt: HostRuntime) -> Result<(), Fail> 
 
 #[test]
 fn a_fault_has_a_text(rt: HostRuntime) -> Result<(), Fail> {
-    let mut sink = Sink::new(rt.alloc(), 1_000);
-    let mut source = Source::new(b"lptrace 1\nfoo\n", 1_000);
+    let sink = Sink::new(rt.alloc(), 1_000);
+    let source = Source::new(b"lptrace 1\nfoo\n", 1_000);
+    let (mut source, mut sink) = (Counted::new(source), Counted::new(sink));
     let fault = run(rt.alloc(), "hybrid", Hybrid, &mut source, &mut sink)
         .err()
         .ok_or("that is no trace")?;

@@ -66,7 +66,13 @@ fn each_group_that_waits_has_a_certificate(rt: HostRuntime) -> Result<(), Fail> 
     for most in [1, 5, 1_000_000] {
         let mut sink = Sink::new(rt.alloc(), most);
         let mut source = Source::new(text.as_bytes(), 1);
-        run(rt.alloc(), "hybrid", Hybrid, &mut source, &mut sink)?;
+        run(
+            rt.alloc(),
+            "hybrid",
+            Hybrid,
+            &mut Counted::new(&mut source),
+            &mut Counted::new(&mut sink),
+        )?;
         assert!(rt; sink.taken() == wanted.as_bytes(), "{most}");
     }
     Ok(())
@@ -99,7 +105,13 @@ fn long_lines_are_whole(rt: HostRuntime) -> Result<(), Fail> {
     for most in [1, 5, 1_000_000] {
         let mut sink = Sink::new(rt.alloc(), most);
         let mut source = Source::new(text.as_bytes(), 1);
-        run(rt.alloc(), name.as_str(), Immediate, &mut source, &mut sink)?;
+        run(
+            rt.alloc(),
+            name.as_str(),
+            Immediate,
+            &mut Counted::new(&mut source),
+            &mut Counted::new(&mut sink),
+        )?;
         assert!(rt; sink.taken() == wanted.as_bytes(), "{most}");
     }
     Ok(())

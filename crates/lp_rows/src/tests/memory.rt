@@ -18,7 +18,12 @@ const REFUSED: &str =
 fn checked(alloc: Global, text: &str, room: &mut [u8]) -> (Result<bool, RunFault>, usize) {
     let mut source = Source::new(text.as_bytes(), 3);
     let mut rest = room;
-    let answer = check(alloc, Hybrid, &mut source, &mut rest);
+    let answer = check(
+        alloc,
+        Hybrid,
+        &mut Counted::new(&mut source),
+        &mut Counted::new(&mut rest),
+    );
     (answer, rest.len())
 }
 
@@ -55,7 +60,13 @@ const REPORT: &str =
 fn ran(alloc: Global, room: &mut [u8]) -> (Result<(), RunFault>, usize) {
     let mut source = Source::new(TRACE.as_bytes(), 3);
     let mut rest = room;
-    let answer = run(alloc, "hybrid", Hybrid, &mut source, &mut rest);
+    let answer = run(
+        alloc,
+        "hybrid",
+        Hybrid,
+        &mut Counted::new(&mut source),
+        &mut Counted::new(&mut rest),
+    );
     (answer, rest.len())
 }
 

@@ -53,6 +53,11 @@ impl<'a> Broken<'a> {
             end,
         }
     }
+
+    /// Whether it has failed once, and was not read again.
+    pub(super) fn is_left(&self) -> bool {
+        self.reads == usize::MAX
+    }
 }
 
 impl<'a> Read for Broken<'a> {

@@ -27,7 +27,8 @@ fn a_full_writer_ends_it(rt: HostRuntime) -> Result<(), Fail> {
     assert!(rt; trace.patch(1).len() == 1);
     let mut room = [0; 12];
     let mut rest = room.as_mut_slice();
-    assert!(rt; matches!(trace.write(&mut rest), Err(WriteFault::Stopped)));
+    let mut writer = Counted::new(&mut rest);
+    assert!(rt; matches!(trace.write(&mut writer), Err(WriteFault::Stopped)));
     assert!(rt; room.as_slice() == b"lptrace 1\nsy".as_slice());
     Ok(())
 }
