@@ -97,6 +97,7 @@ impl<W: Write> Counted<W> {
         ensures failed { OnErr result (self.new.failures ≡ next self.old.failures) }
         ensures some { IfOk result (λ count. 0 < count → self.new.failures ≡ self.old.failures) }
         ensures none { IfOk result (λ count. count ≡ 0 → self.new.failures ≡ next self.old.failures) }
+        ensures ends { self.new.ends ≡ self.old.ends }
     {
         self.calls = next(self.calls);
         match self.stream.write(bytes) {
