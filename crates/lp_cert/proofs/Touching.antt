@@ -18,27 +18,33 @@ use Rattle.lp_transition.proofs.TableLemmas.{slot_from_live}
 use Rattle.lp_cert.specs.declared.ongoing.Ongoing.{Ongoing}
 use Rattle.lp_cert.specs.declared.ongoing.Ongoing.TheVariants.{Nothing, Hold, Busy}
 use Rattle.lp_cert.specs.Certificates.{lines, group_id}
-use Rattle.lp_cert.specs.Unchanged.{Continues, IsUnchanged, AreUnchanged}
+use Rattle.lp_cert.specs.Unchanged.{Continues, IsUnchanged, AreUnchanged, says_busy}
 use Rattle.lp_cert.specs.inside.Touched.{touched, is_childs}
 use Rattle.lp_cert.specs.LastScan.{LastScan, AreUnchangedBy, AreUnchangedSince}
-use Rattle.lp_cert.specs.inside.LastScan.{IsTouched, disturbs, is_named_task, names, names_member}
+use Rattle.lp_cert.specs.inside.LastScan.{IsTouched, disturbs, rests_on, rests_on_member, says_busy_on, task_supports}
 use Rattle.lp_transition.specs.Blames.{has_frame_in}
 use Rattle.lp_cert.specs.Waiters.{WaitingGroups, LegReasons, head_of}
 use Rattle.lp_cert.specs.inside.Waiters.{AreStanding, lines_at, lines_in}
-use Rattle.lp_cert.proofs.UnchangedLines.{OngoingContinues, head_ongoing}
+use Rattle.lp_cert.proofs.UnchangedLines.{OngoingContinues, head_busy, head_ongoing}
 use Rattle.lp_cert.proofs.UnchangedEvents.{IsNoUsedScan, AreLeftAlone, lines_same, unchanged_by}
 
--- ---- What a reason names
+-- ---- Whom a reason rests on
 
--- a reason that continues with a refusal of a task names it
-names_task : (has_frame : (task serial : ℕ) → Bool) (t : ℕ) (why : Blame) (ongoing : Ongoing) → OngoingContinues has_frame t why ongoing → names ongoing t ≡ true
-names_task has_frame t why Nothing h = absurd h
-names_task has_frame t why (Hold task serial from) h = eq-eqb task.0 t h.0
-names_task has_frame t why (Busy task first) h = eq-eqb task.0 t h.0
+-- a reason that continues with a refusal of a task rests on it
+rests_on_task : (has_frame : (task serial : ℕ) → Bool) (t : ℕ) (why : Blame) (ongoing : Ongoing) → OngoingContinues has_frame t why ongoing → rests_on ongoing t ≡ true
+rests_on_task has_frame t why Nothing h = absurd h
+rests_on_task has_frame t why (Hold task serial from) h = eq-eqb task.0 t h.0
+rests_on_task has_frame t why (Busy task first) h = refl
 
--- of a member that isn't said to be named the newest reason names another
-not_named : (reasons : LegReasons) (t group : ℕ) (x : Standing) → x.group ≡ group → names_member reasons t group (Some x) ≡ false → names (head_of reasons group).ongoing t ≡ false
-not_named reasons t group x grouped h = sym (ap (λ a. a && names (head_of reasons group).ongoing t) (eq-eqb group x.group (sym grouped))) ∙ h
+-- that a member is busy rests on each
+busy_rests_on : (ongoing : Ongoing) (t : ℕ) → says_busy_on ongoing ≡ true → rests_on ongoing t ≡ true
+busy_rests_on Nothing t busy = absurd (false≢true busy)
+busy_rests_on (Hold task serial from) t busy = absurd (false≢true busy)
+busy_rests_on (Busy task first) t busy = refl
+
+-- of a member that isn't said to support it the newest reason rests on others
+rests_on_others : (reasons : LegReasons) (t group : ℕ) (x : Standing) → x.group ≡ group → rests_on_member reasons t group (Some x) ≡ false → rests_on (head_of reasons group).ongoing t ≡ false
+rests_on_others reasons t group x grouped h = sym (ap (λ a. a && rests_on (head_of reasons group).ongoing t) (eq-eqb group x.group (sym grouped))) ∙ h
 
 some_none : {A : Type 0} (a : A) → Some a ≡ None → ⊥
 some_none a e = absurd (cc)
@@ -93,20 +99,38 @@ module _ (model : Rules) (lawful : IsLawful model) (e : Engine) (leg : Leg) (leg
         head_ongoing (has_frame_in s) unchanged.member unchanged.why later.reasons.lists later.reasons.scans (group_id x.group) (head_of later.reasons x.group) (stand x.group kept.0)
         (subst (Continues (has_frame_in s) unchanged.member unchanged.why) (sym same ∙ kept.1) unchanged.continues)
 
-    not_touched : is_some old.kind ≡ true → is_named_task e later.reasons (touched event) x.group ≡ false → touched event ≡ Some unchanged.member → ⊥
+    -- the newest reason doesn't rest on a member that is touched
+    not_resting : is_some old.kind ≡ true → task_supports e later.reasons (touched event) x.group ≡ false → (u : ℕ) (y : Standing) → s.tasks u ≡ Live y → y.group ≡ x.group → touched event ≡ Some u
+        → (x.group < 65536) × (rests_on (head_of later.reasons x.group).ongoing u ≡ false)
+    not_resting scanned apart u y live_u mine at =
+        let slot_u = slot_from_live e.table u y (ap (λ (st : State). st.tasks u) there ∙ live_u) in
+        let told : rests_on_member later.reasons u x.group (Some y) ≡ false =
+        ap (rests_on_member later.reasons u x.group) (sym slot_u) ∙ (ap (λ o. task_supports e later.reasons o x.group) (sym at) ∙ apart) in
+        (subst (λ g. g < 65536) mine (is_touched.few scanned u y at slot_u), rests_on_others later.reasons u x.group y mine told)
+
+    not_touched : is_some old.kind ≡ true → task_supports e later.reasons (touched event) x.group ≡ false → touched event ≡ Some unchanged.member → ⊥
     not_touched scanned apart at =
-        let told : names_member later.reasons unchanged.member x.group (Some unchanged.life) ≡ false =
-        ap (names_member later.reasons unchanged.member x.group) (sym stands_there) ∙ (ap (λ o. is_named_task e later.reasons o x.group) (sym at) ∙ apart) in
-        let few : x.group < 65536 = subst (λ g. g < 65536) unchanged.grouped (is_touched.few scanned unchanged.member unchanged.life at stands_there) in
-        false≢true (sym (not_named later.reasons unchanged.member x.group unchanged.life unchanged.grouped told) ∙ names_task (has_frame_in s) unchanged.member unchanged.why (head_of later.reasons x.group).ongoing (continues few))
+        let told = not_resting scanned apart unchanged.member unchanged.life unchanged.live unchanged.grouped at in
+        false≢true (sym told.1 ∙ rests_on_task (has_frame_in s) unchanged.member unchanged.why (head_of later.reasons x.group).ongoing (continues told.0))
+
+    -- nor, where the newest line says that a member is busy, any member
+    none_touched : is_some old.kind ≡ true → task_supports e later.reasons (touched event) x.group ≡ false → says_busy (lines model leg n x.group) ≡ true
+        → (u : ℕ) (y : Standing) → s.tasks u ≡ Live y → y.group ≡ x.group → touched event ≡ Some u → ⊥
+    none_touched scanned apart busy u y live_u mine at =
+        let told = not_resting scanned apart u y live_u mine at in
+        let kept = lines_held model lawful longer leg_sound later (suc n) after_lines t x live off told.0 in
+        let same = subst (λ g. lines model longer (suc n) g ≡ lines model leg n g) unchanged.grouped (lines_same model lawful leg leg_sound event calm unchanged.member unchanged.life unchanged.live) in
+        let busy_on = head_busy (has_frame_in s) unchanged.member unchanged.why later.reasons.lists later.reasons.scans (group_id x.group) (head_of later.reasons x.group) (stand x.group kept.0) (continues told.0)
+        (ap says_busy (sym kept.1 ∙ same) ∙ busy) in
+        false≢true (sym told.1 ∙ busy_rests_on (head_of later.reasons x.group).ongoing u busy_on)
 
   left_alone : (on : CheckKind) → old.kind ≡ Some on → AreLeftAlone model lawful leg leg_sound event stays (state_of model longer) on (has old.changed_since) (has new.changed_since)
   left_alone on kind_is t x live off out =
       let told : (has old.changed_since x.group || disturbs e later.reasons event x.group) ≡ false =
       ap (λ (o : Option CheckKind). has old.changed_since x.group || (is_some o && disturbs e later.reasons event x.group)) (sym kind_is) ∙ (sym (is_touched.groups x.group) ∙ out) in
       let parts = or_parts (has old.changed_since x.group) (disturbs e later.reasons event x.group) told in
-      let apart = or_parts (is_named_task e later.reasons (touched event) x.group) (is_childs event x.group) parts.1 in
-      (parts.0, apart.1, λ unchanged. not_touched t x live off on unchanged (ap is_some kind_is) apart.0)
+      let apart = or_parts (task_supports e later.reasons (touched event) x.group) (is_childs event x.group) parts.1 in
+      (parts.0, apart.1, (λ unchanged. not_touched t x live off on unchanged (ap is_some kind_is) apart.0), λ unchanged busy. none_touched t x live off on unchanged (ap is_some kind_is) apart.0 busy)
 
   abbrev IsSettledSince : Option CheckKind → Type 0
   IsSettledSince o = AreUnchangedSince model (state_of model longer) (lines model longer (suc n)) o (has new.changed_since)

@@ -212,26 +212,26 @@ module _ (model : Rules) (s : State) (event : Event) where
         (λ (taken : s.tasks x.group ≢ Unused). taken (ap s.tasks same ∙ new.1))
         (sound.grouped t x live)
 
-    module _ (alone : (u : ℕ) (y : Standing) → s.tasks u ≡ Live y → y.group ≡ x.group → u ≡ t) (ok : refusal_of model s event ≡ None) (apart : touched event ≡ Some t → ⊥) where
+    module _ (ok : refusal_of model s event ≡ None) (apart : (u : ℕ) (y : Standing) → s.tasks u ≡ Live y → y.group ≡ x.group → touched event ≡ Some u → ⊥) where
       -- a child's group is that of another task, or its own
       child_elsewhere : (p c : TaskId) (how : ForkKind) (z : Standing) → event ≡ Fork p c how → s.tasks p.0 ≡ Live z → model.child_group z.group c.0 how ≡ x.group → ⊥
       child_elsewhere p c how z is parent same =
           ⊎_elim
-          (λ (stays : model.child_group z.group c.0 how ≡ z.group).
-          let parents : p.0 ≡ t = alone p.0 z parent (sym stays ∙ same) in
-          apart (ap touched is ∙ ap {A = ℕ} {B = Option ℕ} Some parents))
+          (λ (stays : model.child_group z.group c.0 how ≡ z.group). apart p.0 z parent (sym stays ∙ same) (ap touched is))
           (λ (own : model.child_group z.group c.0 how ≡ c.0).
           not_the_childs p c how (ap (refusal_of model s) (sym is) ∙ ok) (sym same ∙ own))
           (lawful.child z.group c.0 how)
 
-      pub alone_still : (u : ℕ) (y : Standing) → (with_switches model s event).tasks u ≡ Live y → y.group ≡ x.group → u ≡ t
-      alone_still u y there mine =
+      -- the members of a group that doesn't switch, and of which nobody is touched, stood so before
+      pub members_still : switches_at model now event x.group ≡ false → (u : ℕ) (y : Standing) → (with_switches model s event).tasks u ≡ Live y → y.group ≡ x.group → s.tasks u ≡ Live y
+      members_still stays u y there mine =
           let w = live_from (switched_task model now event) (now.tasks u) y there in
           let group : w.0.group ≡ x.group = switched_group w.0 (switches_at model now event w.0.group) refl ∙ (ap (λ z. z.group) w.2 ∙ mine) in
-          by w.0 group (own_from event refl u w.0 w.1)
+          let same : w.0 ≡ y = sym (switched_not w.0 (ap (switches_at model now event) group ∙ stays)) ∙ w.2 in
+          by w.0 group (own_from event refl u w.0 w.1) ∙ (w.1 ∙ ap Live same)
         where
-          by : (z : Standing) → z.group ≡ x.group → GroupFrom u z → u ≡ t
-          by z group (Stayed before was same level) = alone u before was (same ∙ group)
+          by : (z : Standing) → z.group ≡ x.group → GroupFrom u z → s.tasks u ≡ now.tasks u
+          by z group (Stayed before was same level) = sym (own_same event u (apart u before was (same ∙ group)) (unborn event ok u before was))
           by z group (Born p c how parent is at was own level) = absurd (child_elsewhere p c how parent is was (sym own ∙ group))
 
 -- ---- The lines of who is unchanged
@@ -293,11 +293,14 @@ module _ (model : Rules) (lawful : IsLawful model) (leg : Leg) (leg_sound : IsSo
     pub after_is : refusal_of model s event ≡ None → state_of model (and_then leg event) ≡ with_switches model s event
     after_is ok = sym next_is ∙ next-accepted model s event ok (no_control ok)
 
-    -- the event leaves a group that is unchanged alone: it isn't a child's own, and nothing happens to the member
+    -- the event leaves a group that is unchanged alone: it isn't a child's own, and nothing happens to the member or, where that
+    -- is said to be busy, to any
     abbrev pub IsLeftAlone : CheckKind → (old : ℕ → Bool) → (group : ℕ) → Type 0
     IsLeftAlone on old group =
         (old group ≡ false) × (is_childs event group ≡ false)
         × ((was : IsUnchanged model on s (lines model leg n group) group) → touched event ≡ Some was.member → ⊥)
+        × (IsUnchanged model on s (lines model leg n group) group → says_busy (lines model leg n group) ≡ true →
+        (u : ℕ) (y : Standing) → s.tasks u ≡ Live y → y.group ≡ group → touched event ≡ Some u → ⊥)
 
     -- and so each group that waits afterwards outside a set
     abbrev pub AreLeftAlone : State → CheckKind → (old new : ℕ → Bool) → Type 0
@@ -323,7 +326,7 @@ module _ (model : Rules) (lawful : IsLawful model) (leg : Leg) (leg_sound : IsSo
             why = was.why;
             refused = was.refused;
             continues = subst (Continues (has_frame_in s) was.member was.why) (sym same) was.continues;
-            alone = λ busy. was.alone (ap says_busy (sym same) ∙ busy);
+            first = λ busy. was.first (ap says_busy (sym same) ∙ busy);
           }
 
       switched_unchanged : refusal_of model s event ≡ None → Stay (with_switches model s event)
@@ -331,15 +334,16 @@ module _ (model : Rules) (lawful : IsLawful model) (leg : Leg) (leg_sound : IsSo
           let alone = less t x live off out in
           let stays = left model s event t x live off in
           let before = waited model s event lawful t x (own_from model s event event refl t x stays.0) off alone.1 in
-          by x.group stays.1 alone.2 (subst (λ g. IsUnchanged model on s (lines model leg n g) g) before.grouped
+          by x.group stays.1 alone.2 alone.3 (subst (λ g. IsUnchanged model on s (lines model leg n g) g) before.grouped
           (unchanged_before before.member before.life before.live before.off (ap old before.grouped ∙ alone.0)))
         where
           after : State
           after = with_switches model s event
 
           by : (group : ℕ) → switches_at model (affected model s event) event group ≡ false → ((was : IsUnchanged model on s (lines model leg n group) group) → touched event ≡ Some was.member → ⊥)
+              → (IsUnchanged model on s (lines model leg n group) group → says_busy (lines model leg n group) ≡ true → (u : ℕ) (y : Standing) → s.tasks u ≡ Live y → y.group ≡ group → touched event ≡ Some u → ⊥)
               → IsUnchanged model on s (lines model leg n group) group → IsUnchanged model on after (lines model (and_then leg event) (suc n) group) group
-          by group stays apart was =
+          by group stays apart apart_all was =
               let unborn = unborn model s event event ok was.member was.life was.live in
               let there = stands_still model s event was.member was.life (apart was) unborn was.live (ap (switches_at model (affected model s event) event) was.grouped ∙ stays) in
               let same = group_lines was.member was.life was.live group was.grouped in
@@ -353,9 +357,12 @@ module _ (model : Rules) (lawful : IsLawful model) (leg : Leg) (leg_sound : IsSo
                 continues =
                     continues_as (has_frame_in s) (has_frame_in after) was.member was.why (lines model (and_then leg event) (suc n) group) (frames_same s after was.member was.life was.live there)
                     (subst (Continues (has_frame_in s) was.member was.why) (sym same) was.continues);
-                alone = λ busy u y live_u mine.
-                    alone_still model s event lawful (state_sound model lawful leg leg_sound) was.member was.life was.live
-                    (λ v z live_v its. was.alone (ap says_busy (sym same) ∙ busy) v z live_v (its ∙ was.grouped)) ok (apart was) u y live_u (mine ∙ sym was.grouped);
+                first = λ busy u y live_u mine lower.
+                    let before = ap says_busy (sym same) ∙ busy in
+                    let still = members_still model s event lawful (state_sound model lawful leg leg_sound) was.member was.life was.live ok
+                    (λ v z live_v its. apart_all was before v z live_v (its ∙ was.grouped))
+                    (ap (switches_at model (affected model s event) event) was.grouped ∙ stays) u y live_u (mine ∙ sym was.grouped) in
+                    was.first before u y still mine lower;
               }
 
       -- a group that is unchanged stays so where nothing happens to its member

@@ -1,5 +1,5 @@
 -- Which groups are unchanged after an event that opens no leg.
-use Rattle.std.proofs.Common.{◌≡◌, ℕ, suc, ◌<◌, ◌⊎◌, Bool, true, false, not, ◌&&◌, ◌||◌, List, [], ◌∷◌, length, Option, Some, None, IsTrue, IsFalse, if◌then◌else◌, nat_eq, nat_lt, refl, sym, ap, ap₂, subst, ◌∙◌, ⊎_elim, inl, inr}
+use Rattle.std.proofs.Common.{◌≡◌, ℕ, suc, ◌<◌, ◌⊎◌, Bool, true, false, not, ◌&&◌, ◌||◌, List, [], ◌∷◌, length, Option, Some, None, is_some, IsTrue, IsFalse, if◌then◌else◌, nat_eq, nat_lt, refl, sym, ap, ap₂, subst, ◌∙◌, ⊎_elim, inl, inr}
 use Rattle.std.specs.List.{filter, list_any}
 use Rattle.std.proofs.lemmas.Bool.{false≢true, cond-true, cond-false, eqb-true, eq-eqb, ltb-true}
 use Rattle.lp_numbers.specs.Numbers.{has}
@@ -19,7 +19,6 @@ use Rattle.lp_transition.specs.Scan.{is_asked, is_scan_kind, scan_event, verdict
 use Rattle.lp_transition.specs.Table.{Engine, state_in, bounds_of, standings}
 use Rattle.lp_transition.specs.inside.Table.{is_in}
 use Rattle.lp_transition.specs.Weigh.{Weighed}
-use Rattle.lp_transition.proofs.Alone.{alone-other}
 use Rattle.lp_transition.proofs.ScanLists.{verdict-is, verdict-from}
 use Rattle.lp_transition.proofs.TableLemmas.{slot_from_live}
 use Rattle.lp_cert.specs.declared.line.Line.{Line}
@@ -32,12 +31,12 @@ use Rattle.lp_cert.specs.LastScan.{LastScan, AreUnchangedBy, AreUnchangedSince, 
 use Rattle.lp_cert.specs.inside.LastScan.{AreKeptApart, IsLastScanAfter, continues_by as reason_goes_by, is_of_group, says_busy_on, leaves_unchanged, refuses_as_before}
 use Rattle.lp_transition.specs.Blames.{has_frame_in}
 use Rattle.lp_cert.specs.Waiters.{LegReasons, WaitingGroups, head_of}
-use Rattle.lp_cert.specs.inside.Waiters.{AreStanding, is_lone, lines_at}
+use Rattle.lp_cert.specs.inside.Waiters.{AreStanding, lines_at}
 use Rattle.lp_cert.proofs.HeadLemmas.{busy_blame}
 use Rattle.lp_cert.proofs.UnchangedLines.{OngoingContinues, head_continues, head_busy}
 use Rattle.lp_cert.proofs.UnchangedEvents.{IsNoUsedScan}
 use Rattle.lp_cert.proofs.Touching.{lines_held, touched_unchanged}
-use Rattle.lp_cert.proofs.UnchangedScans.{scan_leaves_unchanged, after_scan_is}
+use Rattle.lp_cert.proofs.UnchangedScans.{scan_leaves_unchanged, after_scan_is, busy_is_first}
 
 some_none : {A : Type 0} (a : A) → Some a ≡ None → ⊥
 some_none a e = absurd (cc)
@@ -99,10 +98,6 @@ ongoing_is has_frame t why (Busy task first) h =
     let parts = both_true (nat_eq task.0 t) (is_busy why) h in
     (eqb-true task.0 t parts.0, busy_blame why parts.1)
 
-not_busy_or : (a b : Bool) → (not a || b) ≡ true → a ≡ true → b ≡ true
-not_busy_or true b h busy = h
-not_busy_or false b h busy = absurd (false≢true busy)
-
 -- a verdict of this member that leaves the group unchanged
 record Settles (e : Engine) (reasons : LegReasons) (g t : ℕ) (o : Option Blame) (x : Standing) : Type 0 where
   grouped : x.group ≡ g
@@ -110,16 +105,13 @@ record Settles (e : Engine) (reasons : LegReasons) (g t : ℕ) (o : Option Blame
   refused : o ≡ Some why
   few : g < 65536
   continues : reason_goes_by (has_frame_in (state_in e)) t why (head_of reasons g).ongoing ≡ true
-  lone : says_busy_on (head_of reasons g).ongoing ≡ true → is_lone e t g ≡ true
 
 leaves_unchanged_is : (e : Engine) (reasons : LegReasons) (g t : ℕ) (o : Option Blame) (x : Standing) → refuses_as_before e reasons g t o (Some x) ≡ true → Settles e reasons g t o x
 leaves_unchanged_is e reasons g t None x h = absurd (cc)
 leaves_unchanged_is e reasons g t (Some why) x h =
     let by_reason : ℕ → Bool = λ k. reason_goes_by (has_frame_in (state_in e)) t why (head_of reasons k).ongoing in
-    let by_busy : ℕ → Bool = λ k. not (says_busy_on (head_of reasons k).ongoing) || is_lone e t k in
-    let outer = both_true (nat_eq x.group g && nat_lt x.group 65536) (by_reason x.group && by_busy x.group) h in
+    let outer = both_true (nat_eq x.group g && nat_lt x.group 65536) (by_reason x.group) h in
     let member = both_true (nat_eq x.group g) (nat_lt x.group 65536) outer.0 in
-    let parts = both_true (by_reason x.group) (by_busy x.group) outer.1 in
     let mine : x.group ≡ g = eqb-true x.group g member.0 in
     let below : x.group < 65536 = ltb-true x.group 65536 member.1 in
     record {
@@ -127,8 +119,7 @@ leaves_unchanged_is e reasons g t (Some why) x h =
       why = why;
       refused = refl;
       few = subst (λ k. k < 65536) mine below;
-      continues = ap by_reason (sym mine) ∙ parts.0;
-      lone = λ busy. not_busy_or (says_busy_on (head_of reasons g).ongoing) (is_lone e t g) (ap by_busy (sym mine) ∙ parts.1) busy;
+      continues = ap by_reason (sym mine) ∙ outer.1;
     }
 
 any_filtered : (p q : Verdict → Bool) (vs : List Verdict) → list_any q (filter p vs) ≡ true → list_any q vs ≡ true
@@ -227,10 +218,25 @@ module _ (model : Rules) (lawful : IsLawful model) (e : Engine) (sound : IsSound
           leaves_unchanged = leaves_unchanged_is e later.reasons g j.number blame j.task (ap (refuses_as_before e later.reasons g j.number blame) (sym (slot_from_live e.table j.number j.task j.live)) ∙ j.passed);
         }
 
+    -- of the waiting task's group: where its newest line after the scan says that this member is busy, which is refused, no member
+    -- of a lesser number is
+    abbrev BusyIsFirst : (x : Standing) (m : ℕ) (why : Blame) → State → Leg → Type 0
+    BusyIsFirst x m why st l =
+        Continues (has_frame_in st) m why (lines model l (suc n) x.group) → says_busy (lines model l (suc n) x.group) ≡ true → (w : Standing) → st.tasks m ≡ Live w → w.group ≡ x.group
+        → is_some (model.blame on (view_of m w) st.aim) ≡ true
+        → (u : ℕ) (y : Standing) → st.tasks u ≡ Live y → y.group ≡ x.group → u < m → model.blame on (view_of u y) st.aim ≡ None
+
+    busy_first_on : (t : ℕ) (x : Standing) → s.tasks t ≡ Live x → nat_eq x.level s.target ≡ false → (m : ℕ) (why : Blame) → BusyIsFirst x m why s longer
+    busy_first_on t x live off m why =
+        let longer_is : longer ≡ and_then leg (scan_event on) = ap (and_then leg) is_scan.is in
+        subst (BusyIsFirst x m why s) (sym longer_is)
+        (subst (λ (st : State). BusyIsFirst x m why st (and_then leg (scan_event on))) (sym there)
+        (busy_is_first model lawful leg leg_sound on is_scan.scan is_scan.used t x (subst (λ (st : State). st.tasks t ≡ Live x) there live) (subst (λ (st : State). nat_eq x.level st.target ≡ false) there off) m why))
+
     -- a group that a verdict leaves unchanged
-    is_unchanged : (t : ℕ) (x : Standing) → (state_of model longer).tasks t ≡ Live x → nat_eq x.level (state_of model longer).target ≡ false
+    is_unchanged : (t : ℕ) (x : Standing) → s.tasks t ≡ Live x → nat_eq x.level s.target ≡ false → (state_of model longer).tasks t ≡ Live x → nat_eq x.level (state_of model longer).target ≡ false
         → list_any (leaves_unchanged e later.reasons x.group) step.verdicts ≡ true → IsUnchanged model on s (lines model longer (suc n) x.group) x.group
-    is_unchanged t x live_after off_after some =
+    is_unchanged t x live off live_after off_after some =
         let found = by_verdict x.group some in
         let by = found.leaves_unchanged in
         let kept = lines_held model lawful longer leg_sound later (suc n) after_lines t x live_after off_after by.few in
@@ -245,10 +251,11 @@ module _ (model : Rules) (lawful : IsLawful model) (e : Engine) (sound : IsSound
           continues =
               subst (Continues (has_frame_in s) found.member by.why) (sym kept.1)
               (head_continues (has_frame_in s) found.member by.why later.reasons.lists later.reasons.scans (group_id x.group) (head_of later.reasons x.group) (stand x.group kept.0) continues);
-          alone = λ busy u y live_u mine.
-              let busy_on = head_busy (has_frame_in s) found.member by.why later.reasons.lists later.reasons.scans (group_id x.group) (head_of later.reasons x.group) (stand x.group kept.0) continues (ap says_busy (sym kept.1) ∙ busy) in
-              let bounds = sound.numbered u y live_u in
-              alone-other (bounds_of e.patches) (standings e.table) x.group found.member found.life found.live by.grouped (by.lone busy_on) u y bounds.0 bounds.1 live_u mine;
+          first = λ busy.
+              let newest = busy_first_on t x live off found.member by.why in
+              newest (subst (Continues (has_frame_in s) found.member by.why) (sym kept.1)
+              (head_continues (has_frame_in s) found.member by.why later.reasons.lists later.reasons.scans (group_id x.group) (head_of later.reasons x.group) (stand x.group kept.0) continues))
+              busy found.life found.live by.grouped (ap is_some by.refused);
         }
 
     either : (t : ℕ) (x : Standing) → s.tasks t ≡ Live x → nat_eq x.level s.target ≡ false → (state_of model longer).tasks t ≡ Live x → has new.changed_since x.group ≡ false
@@ -257,7 +264,7 @@ module _ (model : Rules) (lawful : IsLawful model) (e : Engine) (sound : IsSound
         ⊎_elim
         (λ (none : list_any (is_of_group e x.group) step.verdicts ≡ false). inl (was_unchanged t x live off none))
         (λ (some : list_any (leaves_unchanged e later.reasons x.group) step.verdicts ≡ true).
-        inr (is_unchanged t x live_after (subst (λ (st : State). nat_eq x.level st.target ≡ false) there off) some))
+        inr (is_unchanged t x live off live_after (subst (λ (st : State). nat_eq x.level st.target ≡ false) there off) some))
         (apart x.group out)
 
     -- the state of a leg in the words of the engine's

@@ -1,5 +1,5 @@
 -- Groups that a scan needn't look at again: it refused a member, and nothing happened to that member since.
-use Rattle.std.specs.Prelude.{◌≡◌, ℕ, Bool, true, false, List, ◌∷◌, Some, nat_eq}
+use Rattle.std.specs.Prelude.{◌≡◌, ℕ, ◌<◌, Bool, true, false, List, ◌∷◌, Some, None, nat_eq}
 use Rattle.lp_model.specs.declared.check.CheckKind.{CheckKind}
 use Rattle.lp_model.specs.declared.check.Blame.{Blame}
 use Rattle.lp_model.specs.declared.check.Blame.TheVariants as blame
@@ -24,7 +24,7 @@ says_busy (Busy group task at ∷ older) = true
 says_busy _ = false
 
 -- a scan of this kind refuses the member of the group that its newest line names, and the line continues; where the line is that
--- the member is busy, the group has no other
+-- the member is busy, the scan refuses no member of a lesser number
 pub record IsUnchanged (model : Rules) (kind : CheckKind) (s : State) (lines : List Line) (group : ℕ) : Type 0 where
   pub member : ℕ
   pub life : Standing
@@ -33,7 +33,9 @@ pub record IsUnchanged (model : Rules) (kind : CheckKind) (s : State) (lines : L
   pub why : Blame
   pub refused : model.blame kind (view_of member life) s.aim ≡ Some why
   pub continues : Continues (has_frame_in s) member why lines
-  pub alone : says_busy lines ≡ true → (u : ℕ) (y : Standing) → s.tasks u ≡ Live y → y.group ≡ group → u ≡ member
+  pub first :
+      says_busy lines ≡ true → (u : ℕ) (y : Standing) → s.tasks u ≡ Live y → y.group ≡ group → u < member →
+      model.blame kind (view_of u y) s.aim ≡ None
 
 -- the waiting groups outside this set are unchanged
 abbrev pub AreUnchanged : Rules → State → (lines : ℕ → List Line) → CheckKind → (changed_since : ℕ → Bool) → Type 0

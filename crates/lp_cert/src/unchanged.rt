@@ -7,7 +7,7 @@ ghost use Rattle.lp_transition.specs.Table.{slot, state_in};
 ghost use Rattle.lp_transition.specs.Leg.{Standing};
 ghost use Rattle.lp_cert.specs.inside.Touched.{touched};
 ghost use Rattle.lp_cert.specs.LastScan.{used_scan};
-ghost use Rattle.lp_cert.specs.inside.LastScan.{AreKeptApart, IsLastScanAfter, IsTouched, continues_by, is_named, is_of_group, names, leaves_unchanged};
+ghost use Rattle.lp_cert.specs.inside.LastScan.{AreKeptApart, IsLastScanAfter, IsTouched, continues_by, is_of_group, leaves_unchanged, rests_on, supports};
 ghost use Rattle.lp_transition.specs.Blames.{has_frame_in};
 
 use crate::ongoing::Ongoing;
@@ -21,8 +21,8 @@ use std::alloc::{AllocError, Global};
 use std::marker::Model;
 
 /// Which waiting groups are unchanged: the last scan refused a member that the group's newest
-/// reason names, and nothing happened to that member since, so that a scan of this kind refuses it
-/// again.
+/// reason names, and nothing happened since to a member on which that reason rests, so that a scan
+/// of this kind refuses it again for the same reason.
 #[derive(Drop)]
 pub(crate) struct Unchanged {
     /// The kind of the last scan of the leg; None where there was none.
@@ -76,7 +76,7 @@ impl Unchanged {
     }
 
     /// An event of which the reasons afterwards are these: a group is unchanged no longer where
-    /// something happens to the member that its newest reason names, or where it is a child's own.
+    /// something happens to a member on which its newest reason rests, or where it is a child's own.
     /// Never allocates.
     #[inline(always)]
     pub(crate) fn touch<M: Consistency>(&mut self, core: &Core<M>, event: Event, reasons: &Reasons)
@@ -149,28 +149,30 @@ fn touched(event: Event) -> Option<TaskId>
     }
 }
 
-/// Something happens to a task: where its group's newest reason names it, the group becomes a
+/// Something happens to a task: where its group's newest reason rests on it, the group becomes a
 /// member of a set.
 #[inline(always)]
 fn disturb<M: Consistency>(core: &Core<M>, reasons: &Reasons, task: TaskId, groups: &mut NumberSet)
-    ensures groups { (group : ℕ) → has groups.new group ≡ (has groups.old group || is_named core.now reasons.now task.0 group) }
+    ensures groups { (group : ℕ) → has groups.new group ≡ (has groups.old group || supports core.now reasons.now task.0 group) }
     ensures few { (x : Standing) → slot core.now.table task.0 ≡ Some x → x.group < 65536 }
 {
     let Some(group) = core.group_of(task) else {
         return;
     };
-    if names(reasons.head(group).ongoing, task) {
+    if rests_on(reasons.head(group).ongoing, task) {
         take_in(groups, group);
     }
 }
 
-/// Whether a reason names a task.
-fn names(ongoing: Ongoing, task: TaskId) -> bool
-    ensures { result ≡ names ongoing task.0 }
+/// Whether the reason of a group rests on its member. A hold continues while its frame is there,
+/// whatever the others do; that a member is busy says too that none before it was refused.
+fn rests_on(ongoing: Ongoing, member: TaskId) -> bool
+    ensures { result ≡ rests_on ongoing member.0 }
 {
     match ongoing {
         Ongoing::Nothing => false,
-        Ongoing::Hold { task: member, .. } | Ongoing::Busy { task: member, .. } => member == task,
+        Ongoing::Hold { task, .. } => task == member,
+        Ongoing::Busy { .. } => true,
     }
 }
 
@@ -224,8 +226,7 @@ fn keep_unchanged<M: Consistency>(
 }
 
 /// The group that a verdict leaves unchanged, if it does: its task is refused, and is the member
-/// that the group's newest reason names, which continues if it is refused so again; a busy one is
-/// the only member.
+/// that the group's newest reason names, which continues if it is refused so again.
 fn unchanged_by<M: Consistency>(
     core: &Core<M>,
     verdict: &Verdict,
@@ -237,9 +238,6 @@ fn unchanged_by<M: Consistency>(
     let group = core.group_of(verdict.task)?;
     let ongoing = reasons.head(group).ongoing;
     if !continues_by(core, ongoing, verdict.task, blame) {
-        return None;
-    }
-    if matches!(ongoing, Ongoing::Busy { .. }) && !core.is_alone(verdict.task) {
         return None;
     }
     Some(group)

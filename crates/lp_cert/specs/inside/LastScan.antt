@@ -16,7 +16,6 @@ use Rattle.lp_cert.specs.inside.Heads.{is_busy}
 use Rattle.lp_cert.specs.inside.Touched.{touched, is_childs}
 use Rattle.lp_transition.specs.Blames.{has_frame_in}
 use Rattle.lp_cert.specs.Waiters.{LegReasons, head_of}
-use Rattle.lp_cert.specs.inside.Waiters.{is_lone}
 use Rattle.lp_cert.specs.LastScan.{LastScan, used_scan}
 
 -- the reason continues if this task is refused so
@@ -31,13 +30,11 @@ says_busy_on _ = false
 
 abbrev pub refuses_as_before : Engine → LegReasons → (group : ℕ) → ℕ → Option Blame → Option Standing → Bool
 refuses_as_before e reasons group t (Some why) (Some x) =
-    (nat_eq x.group group && nat_lt x.group 65536)
-    && (continues_by (has_frame_in (state_in e)) t why (head_of reasons x.group).ongoing
-    && (not (says_busy_on (head_of reasons x.group).ongoing) || is_lone e t x.group))
+    (nat_eq x.group group && nat_lt x.group 65536) && continues_by (has_frame_in (state_in e)) t why (head_of reasons x.group).ongoing
 refuses_as_before e reasons group t _ _ = false
 
 -- the verdict leaves the group unchanged: its task is refused, and is the member that the group's newest reason names, which
--- continues if it is refused so again; a busy one is the only member
+-- continues if it is refused so again
 abbrev pub leaves_unchanged : Engine → LegReasons → (group : ℕ) → Verdict → Bool
 leaves_unchanged e reasons group verdict = refuses_as_before e reasons group verdict.task.0 verdict.blame (slot e.table verdict.task.0)
 
@@ -51,27 +48,28 @@ AreKeptApart e reasons verdicts changed_since =
     (group : ℕ) → has changed_since group ≡ false →
     (list_any (is_of_group e group) verdicts ≡ false) ⊎ (list_any (leaves_unchanged e reasons group) verdicts ≡ true)
 
--- the reason names the task
-abbrev pub names : Ongoing → (task : ℕ) → Bool
-names Nothing t = false
-names (Hold task serial from) t = nat_eq task.0 t
-names (Busy task first) t = nat_eq task.0 t
+-- the reason of a group rests on its member: a hold on the one that it names; that a member is busy on each, as it was the first
+-- that was refused
+abbrev pub rests_on : Ongoing → (member : ℕ) → Bool
+rests_on Nothing t = false
+rests_on (Hold task serial from) t = nat_eq task.0 t
+rests_on (Busy task first) t = true
 
-abbrev pub names_member : LegReasons → (task group : ℕ) → Option Standing → Bool
-names_member reasons t group None = false
-names_member reasons t group (Some x) = nat_eq group x.group && names (head_of reasons group).ongoing t
+abbrev pub rests_on_member : LegReasons → (task group : ℕ) → Option Standing → Bool
+rests_on_member reasons t group None = false
+rests_on_member reasons t group (Some x) = nat_eq group x.group && rests_on (head_of reasons group).ongoing t
 
--- the task is the member of the group that its newest reason names
-abbrev pub is_named : Engine → LegReasons → (task group : ℕ) → Bool
-is_named e reasons t group = names_member reasons t group (slot e.table t)
+-- the task is a member of the group on which its newest reason rests
+abbrev pub supports : Engine → LegReasons → (task group : ℕ) → Bool
+supports e reasons t group = rests_on_member reasons t group (slot e.table t)
 
-abbrev pub is_named_task : Engine → LegReasons → Option ℕ → (group : ℕ) → Bool
-is_named_task e reasons None group = false
-is_named_task e reasons (Some t) group = is_named e reasons t group
+abbrev pub task_supports : Engine → LegReasons → Option ℕ → (group : ℕ) → Bool
+task_supports e reasons None group = false
+task_supports e reasons (Some t) group = supports e reasons t group
 
--- something happens at the event to the member of the group that its newest reason names, or the group is a child's own
+-- something happens at the event to a member of the group on which its newest reason rests, or the group is a child's own
 abbrev pub disturbs : Engine → LegReasons → Event → (group : ℕ) → Bool
-disturbs e reasons event group = is_named_task e reasons (touched event) group || is_childs event group
+disturbs e reasons event group = task_supports e reasons (touched event) group || is_childs event group
 
 -- the groups that the event disturbs are unchanged no longer
 pub record IsTouched (e : Engine) (reasons : LegReasons) (event : Event) (old new : LastScan) : Type 0 where
