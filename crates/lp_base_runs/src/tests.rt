@@ -3,6 +3,7 @@
 ghost use Rattle.std.specs.Prelude.{IfOk};
 ghost use Rattle.lp_patch.specs.Patches.{ShareSymbols};
 
+mod members;
 mod models;
 mod numbers;
 mod patches;

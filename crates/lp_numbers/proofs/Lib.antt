@@ -2,3 +2,5 @@ pub mod Bits
 pub mod Rows
 pub mod ThreeLevels
 pub mod Sets
+pub mod Chains
+pub mod Links

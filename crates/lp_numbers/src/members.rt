@@ -1,0 +1,180 @@
+//! The members of groups.
+#![tactic(auto, using(crate::proofs::Links::links))]
+
+ghost use Rattle.std.specs.Prelude.{◌≡◌, ℕ, ◌<◌, ◌&&◌, ◌||◌, false, true, length, [], nat_eq, not, slice_index, slice_index_or, IsTrue, ◌↔◌, IfOk};
+ghost use Rattle.lp_numbers.specs.Groups.{is_member};
+ghost use Rattle.lp_numbers.specs.Numbers.{has};
+ghost use Rattle.lp_numbers.specs.Links.{among, list_from, IsLinked};
+
+use crate::set::{NUMBERS, NumberSet};
+use std::alloc::{AllocError, Global};
+use std::marker::Model;
+
+/// Which 16-bit numbers are in which group, each in at most one: 0 is in none. Only `new` and `copy`
+/// allocate.
+///
+/// A group's members are linked, so a look at them costs the members and nothing else, and a number
+/// is put in and taken out in constant time.
+///
+/// Contracts see a list that says of each group which members it has.
+#[derive(Drop)]
+pub struct Members {
+    /// The first member of each group; 0 where it has none.
+    first: Vec<u16>,
+    /// The member after each member; 0 after the last. What stands at other numbers means nothing.
+    next: Vec<u16>,
+    /// The member before each member; 0 before the first. What stands at other numbers means nothing.
+    before: Vec<u16>,
+}
+
+impl Model for Members {
+    ghost use Rattle.lp_numbers.specs.Groups.{Groups};
+    ghost use Rattle.lp_numbers.specs.Links.{groups_of, IsLinked};
+
+    ghost Value = { Groups };
+
+    ghost view = { λ m. groups_of m.first.items m.next.items };
+
+    ghost invariant = { λ m. IsLinked m.first.items m.next.items m.before.items };
+}
+
+impl Members {
+    /// No number is in any group; an `Err` only where an allocation failed.
+    pub fn new(alloc: Global) -> Result<Members, AllocError>
+        ensures { IfOk result (λ members. (group n : ℕ) → is_member members group n ≡ false) }
+    {
+        Ok(Members {
+            first: zeros(alloc, NUMBERS)?,
+            next: zeros(alloc, NUMBERS)?,
+            before: zeros(alloc, NUMBERS)?,
+        })
+    }
+
+    /// A copy; an `Err` only where an allocation failed.
+    pub fn copy(&self, alloc: Global) -> Result<Members, AllocError>
+        ensures { IfOk result (λ copied. copied ≡ self.now) }
+    {
+        Ok(Members {
+            first: Vec::from_slice(alloc, self.first.as_slice())?,
+            next: Vec::from_slice(alloc, self.next.as_slice())?,
+            before: Vec::from_slice(alloc, self.before.as_slice())?,
+        })
+    }
+
+    /// Whether a group has no member, in constant time.
+    pub fn is_empty_group(&self, group: u16) -> bool
+        ensures { IsTrue result ↔ ((n : ℕ) → is_member self.now group n ≡ false) }
+    {
+        self.first[usize::from(group)] == 0
+    }
+
+    /// Whether a number is in a group and no other number is, in constant time.
+    pub fn is_only(&self, group: u16, number: u16) -> bool
+        ensures { IsTrue result ↔ ((n : ℕ) → is_member self.now group n ≡ nat_eq n number) }
+    {
+        if self.first[usize::from(group)] != number {
+            return false;
+        }
+        if number == 0 {
+            return false;
+        }
+        self.next[usize::from(number)] == 0
+    }
+
+    /// Whether a group has more members than a number says, at the cost of at most so many of them.
+    pub fn has_more_than(&self, group: u16, most: usize) -> bool
+        ensures { IsTrue result ↔ (most < length (slice_index_or self.now group [])) }
+    {
+        is_longer(
+            self.first.as_slice(),
+            self.next.as_slice(),
+            self.before.as_slice(),
+            group,
+            most,
+        )
+    }
+
+    /// Puts a number into a group, in constant time.
+    pub fn insert(&mut self, group: u16, number: u16)
+        requires positive { 0 < number }
+        requires free { (other : ℕ) → is_member self.old other number ≡ false }
+        ensures { (other n : ℕ) → is_member self.new other n ≡ (is_member self.old other n || (nat_eq other group && nat_eq n number)) }
+    {
+        let place = usize::from(group);
+        let at = usize::from(number);
+        let head = self.first[place];
+        self.first[place] = number;
+        self.next[at] = head;
+        self.before[at] = 0;
+        // Where there was no member, this is the place of no number.
+        self.before[usize::from(head)] = number;
+    }
+
+    /// Takes a number out of its group, in constant time.
+    pub fn remove(&mut self, group: u16, number: u16)
+        requires { is_member self.old group number ≡ true }
+        ensures { (other n : ℕ) → is_member self.new other n ≡ (is_member self.old other n && not (nat_eq n number)) }
+    {
+        let at = usize::from(number);
+        let before = self.before[at];
+        let next = self.next[at];
+        if before == 0 {
+            self.first[usize::from(group)] = next;
+        }
+        // Where none is before or after it, these are the places of no number.
+        self.next[usize::from(before)] = next;
+        self.before[usize::from(next)] = before;
+    }
+
+    /// Adds the members of a group to a set, at the cost of these members.
+    pub fn add_to(&self, group: u16, set: &mut NumberSet)
+        ensures { (n : ℕ) → has set.new n ≡ (has set.old n || is_member self.now group n) }
+    {
+        add_list(
+            self.first.as_slice(),
+            self.next.as_slice(),
+            self.before.as_slice(),
+            group,
+            set,
+        );
+    }
+}
+
+/// A table of as many zeros as are asked for.
+fn zeros(alloc: Global, count: usize) -> Result<Vec<u16>, AllocError>
+    ensures zero { IfOk result (λ table. (n : ℕ) → slice_index table.items n ≡ 0) }
+    ensures count { IfOk result (λ table. length table.items ≡ count) }
+{
+    vec![in alloc; 0; count]
+}
+
+/// Adds the members of a group to a set.
+fn add_list(first: &[u16], next: &[u16], before: &[u16], group: u16, set: &mut NumberSet)
+    requires { IsLinked first.now next.now before.now }
+    ensures { (n : ℕ) → has set.new n ≡ (has set.old n || among n (list_from next.now (slice_index first.now group))) }
+{
+    let _ = before;
+    let mut at = first[usize::from(group)];
+    while at != 0 {
+        set.insert(at);
+        at = next[usize::from(at)];
+    }
+}
+
+/// Whether a group has more members than a number says.
+fn is_longer(first: &[u16], next: &[u16], before: &[u16], group: u16, most: usize) -> bool
+    requires { IsLinked first.now next.now before.now }
+    ensures { IsTrue result ↔ (most < length (list_from next.now (slice_index first.now group))) }
+{
+    let _ = before;
+    let mut at = first[usize::from(group)];
+    let mut left = most;
+    while at != 0 {
+        if left == 0 {
+            return true;
+        }
+        left -= 1;
+        at = next[usize::from(at)];
+    }
+    false
+}
