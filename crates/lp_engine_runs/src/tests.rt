@@ -8,6 +8,8 @@ mod boots;
 mod calls;
 mod counts;
 mod events;
+mod first_refusals;
+mod large_groups;
 mod laws;
 mod limits;
 mod memory;

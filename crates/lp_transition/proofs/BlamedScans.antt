@@ -1,9 +1,9 @@
 -- The blame that a scan finds of a group.
 use Rattle.std.proofs.lemmas.List.{get_or_past}
-use Rattle.std.proofs.Common.{◌≡◌, ◌⊎◌, ⊎_elim, inl, inr, length, ◌≤◌, ℕ, suc, ◌<◌, Bool, true, false, ◌&&◌, ◌||◌, List, [], ◌∷◌, map, Option, Some, None, if◌then◌else◌, nat_eq, refl, sym, ap, subst, ◌∙◌, arith}
+use Rattle.std.proofs.Common.{◌≡◌, ◌⊎◌, ⊎_elim, inl, inr, length, ◌≤◌, ℕ, suc, ◌<◌, Bool, true, false, ◌&&◌, List, [], ◌∷◌, map, Option, Some, None, if◌then◌else◌, nat_eq, refl, sym, ap, subst, ◌∙◌, arith}
 use mathlib.Core.Path.{fun_ext}
 use Rattle.std.proofs.lemmas.Bool.{cond-true, cases_order, and_parts, and_from, or_left, or_right, eqb-true, eq-eqb}
-use Rattle.std.specs.List.{list_any, filter}
+use Rattle.std.specs.List.{list_any}
 use Rattle.std.specs.Option.{option_map}
 use Rattle.lp_model.specs.Rules.{Rules, IsLawful}
 use Rattle.lp_model.specs.declared.check.CheckKind.{CheckKind}
@@ -18,7 +18,7 @@ use Rattle.lp_transition.specs.Leg.{Standing, State}
 use Rattle.lp_transition.specs.Sound.{IsSound}
 use Rattle.lp_transition.specs.Machine.{view_of}
 use Rattle.lp_transition.specs.Table.{slot, standings, fate_at, Engine, state_in}
-use Rattle.lp_transition.specs.Scan.{is_asked, verdicts_of, AreEnough}
+use Rattle.lp_transition.specs.Scan.{verdicts_of, AreEnough}
 use Rattle.lp_transition.specs.Blames.{member_verdict, first_refused, frame_blame}
 use Rattle.lp_transition.specs.inside.Table.{is_in}
 use Rattle.lp_transition.specs.inside.Blames.{found_by, IsBlamed}
@@ -31,24 +31,9 @@ use Rattle.lp_transition.specs.Weigh.{Weighed, IsWeighed, AreVerdictsFor}
 use Rattle.lp_transition.specs.Blames.{while_there, or_blame, has_frame_in}
 use Rattle.lp_transition.specs.inside.Blames.{blame_at, AreBlamed}
 use Rattle.lp_transition.specs.inside.Invariant.{IsEngine}
+use Rattle.lp_transition.proofs.Admitted.{any-filter}
 use Rattle.lp_transition.proofs.Effects.{HasTaken}
 use Rattle.lp_transition.proofs.Blames.{Leaves, leaves, still, blamed_there}
-
-any-step : {X : Type 0} (p q : X → Bool) (x : X) (xs : List X) → (list_any p (filter q xs) ≡ true → list_any p xs ≡ true) → list_any p (filter q (x ∷ xs)) ≡ true → list_any p (x ∷ xs) ≡ true
-any-step {X} p q x xs more h = by (q x) refl
-  where
-    first : (b : Bool) → p x ≡ b → list_any p (x ∷ filter q xs) ≡ true → list_any p (x ∷ xs) ≡ true
-    first true passes kept = or_left (p x) (list_any p xs) passes
-    first false fails kept = or_right (p x) (list_any p xs) (more (sym (ap (λ (b : Bool). b || list_any p (filter q xs)) fails) ∙ kept))
-
-    by : (b : Bool) → q x ≡ b → list_any p (x ∷ xs) ≡ true
-    by true e = first (p x) refl (sym (ap (λ (b : Bool). list_any p (if b then x ∷ filter q xs else filter q xs)) e) ∙ h)
-    by false e = or_right (p x) (list_any p xs) (more (sym (ap (λ (b : Bool). list_any p (if b then x ∷ filter q xs else filter q xs)) e) ∙ h))
-
--- what passes among some elements passes among all
-any-filter : {X : Type 0} (p q : X → Bool) (xs : List X) → list_any p (filter q xs) ≡ true → list_any p xs ≡ true
-any-filter p q [] h = h
-any-filter p q (x ∷ xs) h = any-step p q x xs (λ later. any-filter p q xs later) h
 
 -- the blame is for this frame
 abbrev is_held : ℕ → Option Blame → Bool
@@ -133,7 +118,7 @@ module _ (model : Rules) (lawful : IsLawful model) (on : CheckKind) (s : State) 
           let some : Some here ≡ Some b = sym (ap frame_blame is) ∙ e in
           let same : here ≡ b = cc in
           let told = subst (λ ws. list_any (is_this s g t serial) ws ≡ true) enough.found (first-told s g t serial vs is) in
-          subst (IsBlamed model s g) same (made g t serial (any-filter (is_this s g t serial) (λ v. is_asked s enough.asked v.task.0) (verdicts_of model on s) told))
+          subst (IsBlamed model s g) same (made g t serial (any-filter (is_this s g t serial) (λ v. enough.looked v.task.0) (verdicts_of model on s) told))
 
 -- ---- In the words of the table
 
@@ -217,10 +202,10 @@ module _ (model : Rules) (lawful : IsLawful model) (e : Engine) where
   finds event.Disable scan sound vs enough g b e' = absurd (cc)
   finds event.Reverse scan sound vs enough g b e' = absurd (cc)
 
-pub leaves_scanned : (model : Rules) (lawful : IsLawful model) (e old new : Engine) (waiting left_waiting : Numbers) (members more : List ℕ) (step : Weighed) → e ≡ old → IsEngine e waiting members → AreBlamed model (state_in e) e.blames → HasTaken model old step.event new left_waiting more → IsWeighed model old step → is_scan step.event ≡ true
+pub leaves_scanned : (model : Rules) (lawful : IsLawful model) (e old new : Engine) (waiting left_waiting : Numbers) (step : Weighed) → e ≡ old → IsEngine e waiting → AreBlamed model (state_in e) e.blames → HasTaken model old step.event new left_waiting → IsWeighed model old step → is_scan step.event ≡ true
     → ((g : ℕ) → g < 65536 → blame_at new.blames g ≡ or_blame (blame_at e.blames g) (found_by e.table g step.verdicts)) → ((g : ℕ) (b : StandingBlame) → blame_at new.blames g ≡ Some b → g < 65536)
     → Leaves model old step.event step.verdicts new
-leaves_scanned model lawful e old new waiting left_waiting members more step was kept blamed taken weighed scan noted small =
+leaves_scanned model lawful e old new waiting left_waiting step was kept blamed taken weighed scan noted small =
     leaves model lawful e old new step.event was taken.kept.sound taken.state accepted (scan-plain model lawful e step.event scan) step.verdicts
     (λ g b at. right g b (blame_at e.blames g) refl (sym (now g (small g b at)) ∙ at))
     (λ g within. now g within ∙ ap (λ o. or_blame o (found g)) (all_there g (blame_at e.blames g) refl))

@@ -260,8 +260,8 @@ module _ (model : Rules) (lawful : IsLawful model) (e old new : Engine) (event :
 -- ---- What code does
 
 -- the same engine with other blames
-pub with_blames : (model : Rules) (old new : Engine) (event : Event) (waiting : Numbers) (members : List ℕ) (blames : List (Option StandingBlame)) → HasTaken model old event new waiting members → HasTaken model old event (record new { blames = blames }) waiting members
-with_blames model old new event waiting members blames taken =
+pub with_blames : (model : Rules) (old new : Engine) (event : Event) (waiting : Numbers) (blames : List (Option StandingBlame)) → HasTaken model old event new waiting → HasTaken model old event (record new { blames = blames }) waiting
+with_blames model old new event waiting blames taken =
     let kept = taken.kept in
     record {
       kept = record {
@@ -269,8 +269,6 @@ with_blames model old new event waiting members blames taken =
         wide = kept.wide;
         waiting_wide = kept.waiting_wide;
         waits = kept.waits;
-        groups = kept.groups;
-        counted = kept.counted;
         from_fits = kept.from_fits;
         target_fits = kept.target_fits;
         number_fits = kept.number_fits;
@@ -278,7 +276,7 @@ with_blames model old new event waiting members blames taken =
       state = taken.state;
     }
 
-module _ (model : Rules) (lawful : IsLawful model) (e old new : Engine) (waiting left_waiting : Numbers) (members more : List ℕ) (event : Event) (was : e ≡ old) (kept : IsEngine e waiting members) (blamed : AreBlamed model (state_in e) e.blames) (taken : HasTaken model old event new left_waiting more) where
+module _ (model : Rules) (lawful : IsLawful model) (e old new : Engine) (waiting left_waiting : Numbers) (event : Event) (was : e ≡ old) (kept : IsEngine e waiting) (blamed : AreBlamed model (state_in e) e.blames) (taken : HasTaken model old event new left_waiting) where
   -- a refused event
   pub leaves_refused : (why : Refusal) → refusal_of model (state_in old) event ≡ Some why → new.blames ≡ e.blames → Leaves model old event [] new
   leaves_refused why refused same = leaves_all model lawful e old new event was taken.kept.sound taken.state blamed why refused same
@@ -331,7 +329,7 @@ left_frame frames frame serial rise there is h =
     let same : some.1 ≡ frame = one_serial frames some.1 frame rise whole there (eqb-true some.1.serial serial some.4 ∙ sym is) in
     subst (Contains (take n frames)) same other
 
-module _ (model : Rules) (lawful : IsLawful model) (e : Engine) (a : TaskId) (waiting : Numbers) (members : List ℕ) (kept : IsEngine e waiting members) (within : a.0 < 65536) (g : ℕ) where
+module _ (model : Rules) (lawful : IsLawful model) (e : Engine) (a : TaskId) (waiting : Numbers) (kept : IsEngine e waiting) (within : a.0 < 65536) (g : ℕ) where
   s : State
   s = state_in e
 
@@ -397,9 +395,9 @@ module _ (model : Rules) (lawful : IsLawful model) (e : Engine) (a : TaskId) (wa
           left_frame w.life.frames w.frame b.serial (kept.sound.serials_rise b.task.0 w.life w.live) w.there w.serial there))
 
 -- the blames after a return
-pub leaves_returned : (model : Rules) (lawful : IsLawful model) (e old new : Engine) (table : Table) (waiting left_waiting : Numbers) (members more : List ℕ) (a : TaskId) → e ≡ old → IsEngine e waiting members → AreBlamed model (state_in e) e.blames → HasTaken model old (Ret a) new left_waiting more → refusal_of model (state_in old) (Ret a) ≡ None → a.0 < 65536
+pub leaves_returned : (model : Rules) (lawful : IsLawful model) (e old new : Engine) (table : Table) (waiting left_waiting : Numbers) (a : TaskId) → e ≡ old → IsEngine e waiting → AreBlamed model (state_in e) e.blames → HasTaken model old (Ret a) new left_waiting → refusal_of model (state_in old) (Ret a) ≡ None → a.0 < 65536
     → table ≡ changed a.0 returning e.table → ((g : ℕ) → blame_at new.blames g ≡ (if has waiting a.0 then looked_at table a.0 g (blame_at e.blames g) else blame_at e.blames g)) → Leaves model old (Ret a) [] new
-leaves_returned model lawful e old new table waiting left_waiting members more a was kept blamed taken accepted within is looked =
+leaves_returned model lawful e old new table waiting left_waiting a was kept blamed taken accepted within is looked =
     leaves model lawful e old new (Ret a) was taken.kept.sound taken.state accepted refl []
     (λ g b at. right g b (blame_at e.blames g) refl (sym (now g) ∙ at))
     (λ g small. now g ∙ or_none (while_there (affected model (state_in e) (Ret a)) (blame_at e.blames g)))
@@ -414,7 +412,7 @@ leaves_returned model lawful e old new table waiting left_waiting members more a
 
     at_option : (g : ℕ) (o : Option StandingBlame) → blame_at e.blames g ≡ o → (if has waiting a.0 then looked_at (changed a.0 returning e.table) a.0 g o else o) ≡ while_there (affected model (state_in e) (Ret a)) o
     at_option g None h = none_both (has waiting a.0) None
-    at_option g (Some b) h = looks model lawful e a waiting members kept within g b (blamed g b h)
+    at_option g (Some b) h = looks model lawful e a waiting kept within g b (blamed g b h)
 
     now : (g : ℕ) → blame_at new.blames g ≡ while_there (affected model (state_in e) (Ret a)) (blame_at e.blames g)
     now g =
@@ -424,7 +422,7 @@ leaves_returned model lawful e old new table waiting left_waiting members more a
 
     right : (g : ℕ) (c : StandingBlame) (o : Option StandingBlame) → blame_at e.blames g ≡ o → while_there (affected model (state_in e) (Ret a)) (blame_at e.blames g) ≡ Some c → IsBlamed model (affected model (state_in e) (Ret a)) g c
     right g c None h at = let none : None ≡ Some c = sym (ap (while_there (affected model (state_in e) (Ret a))) h) ∙ at in absurd (cc)
-    right g c (Some b) h at = right_after model lawful e a waiting members kept within g b c (blamed g b h) (sym (ap (while_there (affected model (state_in e) (Ret a))) h) ∙ at)
+    right g c (Some b) h at = right_after model lawful e a waiting kept within g b c (blamed g b h) (sym (ap (while_there (affected model (state_in e) (Ret a))) h) ∙ at)
 
 -- ---- Who may be left out
 

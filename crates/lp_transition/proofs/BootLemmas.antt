@@ -1,10 +1,9 @@
 -- The boot tasks, one after another.
-use Rattle.std.proofs.Common.{◌≡◌, ℕ, zero, suc, ◌+◌, ◌<◌, ◌≤◌, Bool, true, false, ◌||◌, List, [], ◌∷◌, ◌++◌, length, get_or, set, take, drop, replicate, count_by, All, if◌then◌else◌, nat_eq, Option, None, Some, refl, sym, ap, subst, ◌∙◌, ⊎_elim, append_assoc, append-nil, add-one, drop-cons, arith}
+use Rattle.std.proofs.Common.{◌≡◌, ℕ, zero, suc, ◌+◌, ◌<◌, ◌≤◌, Bool, true, false, ◌||◌, List, [], ◌∷◌, ◌++◌, length, get_or, set, take, drop, replicate, All, if◌then◌else◌, nat_eq, Option, None, Some, refl, sym, ap, subst, ◌∙◌, append_assoc, append-nil, add-one, drop-cons, arith}
 use Rattle.std.proofs.Math.Seq.{take-suc}
 use Rattle.std.specs.List.{list_any}
 use Rattle.std.proofs.lemmas.Grind.{common_steps, elements}
-use Rattle.std.proofs.lemmas.Bool.{cases_eq, eqb-true, eq-eqb, ne_eqb, cond-true, cond-false}
-use Rattle.std.proofs.lemmas.List.{length-set, get_or-set_same, get_or-set_other}
+use Rattle.std.proofs.lemmas.Bool.{eqb-true, eq-eqb, cond-false}
 use Rattle.std.proofs.lemmas.List.Elements.{All-nil, All-more}
 use Rattle.std.proofs.lemmas.Bool.Decides.{nat_tests}
 use Rattle.std.proofs.lemmas.List.Folds.{list_any_more}
@@ -24,12 +23,10 @@ use Rattle.lp_transition.specs.inside.Invariant.{IsEngine}
 use Rattle.lp_transition.specs.Boot.{boot_fault, boot_refusal}
 use Rattle.lp_transition.specs.declared.engine.blames.StandingBlame.{StandingBlame}
 use Rattle.lp_transition.specs.Table.{Table, Engine, state_in, bounds_of, slot, fate_at, standings, IsWide}
-use Rattle.lp_transition.specs.inside.Table.{IsBlank, with_task, is_off, is_in}
+use Rattle.lp_transition.specs.inside.Table.{IsBlank, with_task, is_off}
 use Rattle.lp_transition.proofs.Runs.{started}
 use Rattle.lp_transition.proofs.WholeRun.{start_sound}
 use Rattle.lp_transition.proofs.TableLemmas.{standings-blank, standings-with_task, IsWide-with_task}
-use Rattle.lp_transition.proofs.CountLemmas.{count-with_task}
-use Rattle.lp_transition.proofs.MemberLemmas.{count-blank}
 
 -- a boot task has the number
 abbrev pub has_number : ℕ → List (TaskId × Class) → Bool
@@ -143,52 +140,36 @@ module _ (model : Rules) where
 
 -- ---- The tasks that are put, one after another
 
--- the tasks of the list are live, and counted as members of their groups
-pub record ArePut (model : Rules) (boots : List (TaskId × Class)) (table : Table) (members : List ℕ) : Type 0 where
+-- the tasks of the list are live
+pub record ArePut (model : Rules) (boots : List (TaskId × Class)) (table : Table) : Type 0 where
   pub wide : IsWide table
   pub live : standings table ≡ booted model boots
-  pub groups : length members ≡ 65536
-  pub counted : (group : ℕ) → group < 65536 → get_or members group 0 ≡ count_by (is_in group) table.slots
   pub in_range : All (λ (boot : TaskId × Class). (0 < boot.0.0) × (boot.0.0 ≤ 65535)) boots
 
 -- no task is put yet
-pub none_put : (model : Rules) (table : Table) (members : List ℕ) → IsBlank table → length members ≡ 65536 → ((group : ℕ) → get_or members group 0 ≡ 0) → ArePut model [] table members
-none_put model table members blank groups uncounted = record {
+pub none_put : (model : Rules) (table : Table) → IsBlank table → ArePut model [] table
+none_put model table blank = record {
   wide = blank.wide;
   live = standings-blank table blank;
-  groups = groups;
-  counted = λ group h. uncounted group ∙ sym (count-blank table group blank);
   in_range = All-nil (λ (boot : TaskId × Class). (0 < boot.0.0) × (boot.0.0 ≤ 65535));
 }
 
--- one more member of a group
-counted-more : (table : Table) (members : List ℕ) (t group : ℕ) (x : Standing) → IsWide table → t < 65536 → slot table t ≡ None → x.group < length members → get_or members group 0 ≡ count_by (is_in group) table.slots
-    → get_or (set members x.group (get_or members x.group 0 + 1)) group 0 ≡ count_by (is_in group) (with_task t x table).slots
-counted-more table members t group x wide h empty within counted =
-    let more = count-with_task table t x group wide h empty in
-    ⊎_elim
-    (λ (e : group ≡ x.group).
-    let one = cond-true {A = ℕ} (nat_eq x.group group) 1 0 (eq-eqb x.group group (sym e)) in
-    ap (λ n. get_or (set members x.group (get_or members x.group 0 + 1)) n 0) e ∙ get_or-set_same members x.group (get_or members x.group 0 + 1) 0 within
-    ∙ ap (λ n. get_or members n 0 + 1) (sym e) ∙ omega (arith, more, one, counted))
-    (λ (ne : group ≡ x.group → ⊥).
-    let none = cond-false {A = ℕ} (nat_eq x.group group) 1 0 (ne_eqb x.group group (λ e. ne (sym e))) in
-    get_or-set_other members x.group group (get_or members x.group 0 + 1) 0 ne ∙ omega (arith, more, none, counted))
-    (cases_eq group x.group)
+-- the number of the task at the next place is from 1, and no live task has it
+pub next_free : (model : Rules) (boots : List (TaskId × Class)) (i : ℕ) (boot : TaskId × Class) (table : Table) → boot_refusal boots ≡ None → i < length boots → get_or boots i boot ≡ boot → ArePut model (take i boots) table → (0 < boot.0.0) × (slot table boot.0.0 ≡ None)
+next_free model boots i boot table free h at put =
+    let fit = subst (λ b. IsFit (take i boots) b) at (fit_at boots i boot free h) in
+    (fit.positive, no_slot model table (take i boots) boot.0.0 put.live fit.fresh)
 
 -- the task at one more place is put
-pub one_put : (model : Rules) (boots : List (TaskId × Class)) (i : ℕ) (boot : TaskId × Class) (table new : Table) (members : List ℕ) (x : Standing) → boot_refusal boots ≡ None → i < length boots → get_or boots i boot ≡ boot → boot.0.0 < 65536 → x ≡ at_boot model boot.0.0 boot.1 → x.group < 65536
-    → new ≡ with_task boot.0.0 x table → ArePut model (take i boots) table members → ArePut model (take (i + 1) boots) new (set members x.group (get_or members x.group 0 + 1))
-one_put model boots i boot table new members x free h at small is group made put =
+pub one_put : (model : Rules) (boots : List (TaskId × Class)) (i : ℕ) (boot : TaskId × Class) (table new : Table) (x : Standing) → boot_refusal boots ≡ None → i < length boots → get_or boots i boot ≡ boot → boot.0.0 < 65536 → x ≡ at_boot model boot.0.0 boot.1
+    → new ≡ with_task boot.0.0 x table → ArePut model (take i boots) table → ArePut model (take (i + 1) boots) new
+one_put model boots i boot table new x free h at small is made put =
     let fit = subst (λ b. IsFit (take i boots) b) at (fit_at boots i boot free h) in
-    let empty = no_slot model table (take i boots) boot.0.0 put.live fit.fresh in
     let more = subst (λ b. booted model (take (i + 1) boots) ≡ (λ t. if nat_eq t b.0.0 then Live (at_boot model b.0.0 b.1) else booted model (take i boots) t)) at (booted-more model boots i boot free h) in
-    subst (λ now. ArePut model (take (i + 1) boots) now (set members x.group (get_or members x.group 0 + 1))) (sym made)
+    subst (λ now. ArePut model (take (i + 1) boots) now) (sym made)
     (record {
       wide = IsWide-with_task table boot.0.0 x put.wide;
       live = standings-with_task table boot.0.0 x put.wide small ∙ ap (λ y. λ t. if nat_eq t boot.0.0 then Live y else standings table t) is ∙ ap (λ (old : ℕ → Fate Standing). λ t. if nat_eq t boot.0.0 then Live (at_boot model boot.0.0 boot.1) else old t) put.live ∙ sym more;
-      groups = length-set members x.group (get_or members x.group 0 + 1) ∙ put.groups;
-      counted = λ g within. counted-more table members boot.0.0 g x put.wide small empty (omega (arith, put.groups)) (put.counted g within);
       in_range = All-more (λ (b : TaskId × Class). (0 < b.0.0) × (b.0.0 ≤ 65535)) boots i boot h put.in_range (subst (λ b. (0 < b.0.0) × (b.0.0 ≤ 65535)) (sym at) (fit.positive, omega arith));
     })
 
@@ -203,8 +184,8 @@ abbrev pub new_run : Patches → List (TaskId × Class) → Run
 new_run patches boots = record { bounds = bounds_of patches; patches = patches; boots = boots; events = [] }
 
 -- an engine keeps what it has to, and stands at the start of a run over these patches
-pub record HasStarted (model : Rules) (patches : Patches) (boots : List (TaskId × Class)) (engine : Engine) (waiting : Numbers) (members : List ℕ) : Type 0 where
-  pub kept : IsEngine engine waiting members
+pub record HasStarted (model : Rules) (patches : Patches) (boots : List (TaskId × Class)) (engine : Engine) (waiting : Numbers) : Type 0 where
+  pub kept : IsEngine engine waiting
   pub state : state_in engine ≡ (start model (bounds_of patches) patches boots).opening
   pub stands : StandsIn model (new_run patches boots) (state_in engine)
 
@@ -213,8 +194,8 @@ unfolding leg_after
 at_start-stands model patches boots now in_range is = record { in_range = in_range; there = is ∙ sym (started model (new_run patches boots)) }
 
 -- where the tasks of the list are put, and nobody waits
-starts : (model : Rules) → IsLawful model → (patches : Patches) (boots : List (TaskId × Class)) (table : Table) (blames : List (Option StandingBlame)) (waiting : Numbers) (members : List ℕ) → ArePut model boots table members → IsEmpty waiting → length waiting ≡ 65536 → HasStarted model patches boots (at_start patches table blames) waiting members
-starts model lawful patches boots table blames waiting members put none long =
+starts : (model : Rules) → IsLawful model → (patches : Patches) (boots : List (TaskId × Class)) (table : Table) (blames : List (Option StandingBlame)) (waiting : Numbers) → ArePut model boots table → IsEmpty waiting → length waiting ≡ 65536 → HasStarted model patches boots (at_start patches table blames) waiting
+starts model lawful patches boots table blames waiting put none long =
     let first = start model (bounds_of patches) patches boots in
     let state : state_in (at_start patches table blames) ≡ first.opening = ap {A = ℕ → Fate Standing} {B = State} (λ tasks. record { number = 0; bounds = bounds_of patches; from = 0; aim = record { patches = patches; target = 0 }; tasks = tasks }) put.live in
     record {
@@ -223,8 +204,6 @@ starts model lawful patches boots table blames waiting members put none long =
         wide = put.wide;
         waiting_wide = long;
         waits = λ t. none t ∙ sym (none_off model table boots t put.live);
-        groups = put.groups;
-        counted = put.counted;
         from_fits = omega arith;
         target_fits = omega arith;
         number_fits = omega arith;
@@ -234,8 +213,8 @@ starts model lawful patches boots table blames waiting members put none long =
     }
 
 -- the same, of the engine that code makes
-pub starts_with : (model : Rules) → IsLawful model → (held patches : Patches) (boots : List (TaskId × Class)) (now table : Table) (blames : List (Option StandingBlame)) (waiting : Numbers) (members : List ℕ) → held ≡ patches → now ≡ table → ArePut model boots table members → IsEmpty waiting → length waiting ≡ 65536 → HasStarted model patches boots (at_start held now blames) waiting members
-starts_with model lawful held patches boots now table blames waiting members same is put none long =
-    subst (λ p. HasStarted model patches boots (at_start p now blames) waiting members) (sym same)
-    (subst (λ t. HasStarted model patches boots (at_start patches t blames) waiting members) (sym is)
-    (starts model lawful patches boots table blames waiting members put none long))
+pub starts_with : (model : Rules) → IsLawful model → (held patches : Patches) (boots : List (TaskId × Class)) (now table : Table) (blames : List (Option StandingBlame)) (waiting : Numbers) → held ≡ patches → now ≡ table → ArePut model boots table → IsEmpty waiting → length waiting ≡ 65536 → HasStarted model patches boots (at_start held now blames) waiting
+starts_with model lawful held patches boots now table blames waiting same is put none long =
+    subst (λ p. HasStarted model patches boots (at_start p now blames) waiting) (sym same)
+    (subst (λ t. HasStarted model patches boots (at_start patches t blames) waiting) (sym is)
+    (starts model lawful patches boots table blames waiting put none long))

@@ -1,5 +1,5 @@
 -- When an event completes a transition, and which groups it reports.
-use Rattle.std.proofs.Common.{◌≡◌, ◌≢◌, ◌<◌, ℕ, Bool, true, false, not, ◌&&◌, List, length, set, None, IsTrue, refl, sym, ap, ◌∙◌, subst, ⊎_elim, ◌↔◌, arith}
+use Rattle.std.proofs.Common.{◌≡◌, ◌≢◌, ◌<◌, ℕ, Bool, true, false, not, ◌&&◌, length, set, None, IsTrue, refl, sym, ap, ◌∙◌, subst, ⊎_elim, ◌↔◌, arith}
 use Rattle.std.proofs.lemmas.Bool.{cases_eq, cond-false}
 use Rattle.std.proofs.lemmas.List.{get_or-set_same, get_or-set_other}
 use Rattle.lp_numbers.specs.Numbers.{Numbers, has, IsEmpty}
@@ -16,8 +16,8 @@ use Rattle.lp_transition.proofs.TableLemmas.{slot-zero}
 use Rattle.lp_transition.proofs.MemberLemmas.{on_target}
 
 -- nobody waits exactly where the transition is complete
-pub complete_is_empty : (e : Engine) (waiting : Numbers) (members : List ℕ) → IsEngine e waiting members → IsEmpty waiting ↔ IsTrue (complete_in (state_in e))
-complete_is_empty e waiting members kept = on_target e.table e.patches kept.wide (slot-zero e kept.sound) waiting e.target kept.waits
+pub complete_is_empty : (e : Engine) (waiting : Numbers) → IsEngine e waiting → IsEmpty waiting ↔ IsTrue (complete_in (state_in e))
+complete_is_empty e waiting kept = on_target e.table e.patches kept.wide (slot-zero e kept.sound) waiting e.target kept.waits
 
 module _ (model : Rules) where
   -- the answer to an accepted event that is no control event
@@ -31,21 +31,21 @@ module _ (model : Rules) where
 
 -- ---- Whether it completes
 
-empty_completes : (e : Engine) (waiting : Numbers) (members : List ℕ) → IsEngine e waiting members → IsEmpty waiting → complete_in (state_in e) ≡ true
-empty_completes e waiting members kept empty = (complete_is_empty e waiting members kept).0 empty
+empty_completes : (e : Engine) (waiting : Numbers) → IsEngine e waiting → IsEmpty waiting → complete_in (state_in e) ≡ true
+empty_completes e waiting kept empty = (complete_is_empty e waiting kept).0 empty
 
 -- not, where it was complete already if it is complete afterwards
-pub not-completed : (e new : Engine) (waiting now : Numbers) (members counts : List ℕ) → IsEngine e waiting members → IsEngine new now counts → (IsEmpty now → IsEmpty waiting) → false ≡ (complete_in (state_in new) && not (complete_in (state_in e)))
-not-completed e new waiting now members counts kept kept' back = by (complete_in (state_in new)) refl
+pub not-completed : (e new : Engine) (waiting now : Numbers) → IsEngine e waiting → IsEngine new now → (IsEmpty now → IsEmpty waiting) → false ≡ (complete_in (state_in new) && not (complete_in (state_in e)))
+not-completed e new waiting now kept kept' back = by (complete_in (state_in new)) refl
   where
     by : (b : Bool) → complete_in (state_in new) ≡ b → false ≡ (b && not (complete_in (state_in e)))
     by false e' = refl
-    by true e' = ap not (sym (empty_completes e waiting members kept (back ((complete_is_empty new now counts kept').1 e'))))
+    by true e' = ap not (sym (empty_completes e waiting kept (back ((complete_is_empty new now kept').1 e'))))
 
 -- where a task leaves, the others are what is left to wait
-pub completed_by : (e : Engine) (waiting : Numbers) (members : List ℕ) (t : ℕ) (last after : Bool) → IsEngine e waiting members → IsTrue after ↔ ((u : ℕ) → u ≢ t → has waiting u ≡ false)
+pub completed_by : (e : Engine) (waiting : Numbers) (t : ℕ) (last after : Bool) → IsEngine e waiting → IsTrue after ↔ ((u : ℕ) → u ≢ t → has waiting u ≡ false)
     → IsTrue last ↔ ((has waiting t ≡ true) × ((u : ℕ) → u ≢ t → has waiting u ≡ false)) → last ≡ (after && not (complete_in (state_in e)))
-completed_by e waiting members t last after kept others lone = by after refl (complete_in (state_in e)) refl
+completed_by e waiting t last after kept others lone = by after refl (complete_in (state_in e)) refl
   where
     emptied_all : ((u : ℕ) → u ≢ t → has waiting u ≡ false) → has waiting t ≡ false → IsEmpty waiting
     emptied_all alone none u = ⊎_elim (λ (same : u ≡ t). subst (λ v. has waiting v ≡ false) (sym same) none) (λ (ne : u ≡ t → ⊥). alone u ne) (cases_eq u t)
@@ -57,7 +57,7 @@ completed_by e waiting members t last after kept others lone = by after refl (co
         never false h = h
         never true h =
             let waits = (lone.0 h).0 in
-            let none = (complete_is_empty e waiting members kept).1 e'' t in
+            let none = (complete_is_empty e waiting kept).1 e'' t in
             absurd (cc)
     by true e' false e'' =
         let alone = others.0 e' in
@@ -65,7 +65,7 @@ completed_by e waiting members t last after kept others lone = by after refl (co
       where
         sure : (w : Bool) → has waiting t ≡ w → ((u : ℕ) → u ≢ t → has waiting u ≡ false) → has waiting t ≡ true
         sure true h alone = h
-        sure false h alone = let calm = empty_completes e waiting members kept (emptied_all alone h) in absurd (cc)
+        sure false h alone = let calm = empty_completes e waiting kept (emptied_all alone h) in absurd (cc)
     by false e' a e'' = never last refl
       where
         never : (l : Bool) → last ≡ l → last ≡ false
@@ -73,11 +73,11 @@ completed_by e waiting members t last after kept others lone = by after refl (co
         never true h = let calm = others.1 (lone.0 h).1 in absurd (cc)
 
 -- so where the last task that waits switches
-pub completed : (e new : Engine) (waiting now : Numbers) (members counts : List ℕ) (t : ℕ) (last : Bool) → IsEngine e waiting members → IsEngine new now counts → t < 65536 → now ≡ set waiting t false
+pub completed : (e new : Engine) (waiting now : Numbers) (t : ℕ) (last : Bool) → IsEngine e waiting → IsEngine new now → t < 65536 → now ≡ set waiting t false
     → IsTrue last ↔ ((has waiting t ≡ true) × ((u : ℕ) → u ≢ t → has waiting u ≡ false)) → last ≡ (complete_in (state_in new) && not (complete_in (state_in e)))
-completed e new waiting now members counts t last kept kept' small removed lone =
-    completed_by e waiting members t last (complete_in (state_in new)) kept
-    ((λ all_on. others ((complete_is_empty new now counts kept').1 all_on)), (λ alone. (complete_is_empty new now counts kept').0 (emptied alone)))
+completed e new waiting now t last kept kept' small removed lone =
+    completed_by e waiting t last (complete_in (state_in new)) kept
+    ((λ all_on. others ((complete_is_empty new now kept').1 all_on)), (λ alone. (complete_is_empty new now kept').0 (emptied alone)))
     lone
   where
     others : IsEmpty now → (u : ℕ) → u ≢ t → has waiting u ≡ false

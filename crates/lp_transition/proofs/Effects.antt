@@ -1,5 +1,5 @@
 -- The engine after an accepted event that takes no group over.
-use Rattle.std.proofs.Common.{◌≡◌, ℕ, suc, ◌+◌, ◌<◌, true, false, List, Option, Some, None, not, nat_eq, refl, sym, ap, ◌∙◌, subst, ⊎_elim, add-one, arith}
+use Rattle.std.proofs.Common.{◌≡◌, ℕ, suc, ◌+◌, ◌<◌, true, false, Option, Some, None, not, nat_eq, refl, sym, ap, ◌∙◌, subst, ⊎_elim, add-one, arith}
 use Rattle.std.proofs.lemmas.Bool.{cases_eq}
 use Rattle.std.specs.Option.{option_map}
 use Rattle.lp_numbers.specs.Numbers.{Numbers}
@@ -17,15 +17,14 @@ use Rattle.lp_transition.specs.inside.Invariant.{IsEngine}
 use Rattle.lp_transition.proofs.States.{next_keeps_sound}
 use Rattle.lp_transition.proofs.EngineLemmas.{is_quiet, quiet-control, quiet-stays, next-still, next-refused}
 use Rattle.lp_transition.proofs.TableLemmas.{standings-changed, slot-changed, slot-changed_other, IsWide-changed}
-use Rattle.lp_transition.proofs.CountLemmas.{count-changed}
 
 -- one event more, and another table
 abbrev pub with_table : Table → Engine → Engine
 with_table table e = record e { number = e.number + 1; table = table }
 
 -- an engine has taken an event: it keeps what it has to, and is where the machine goes
-pub record HasTaken (model : Rules) (old : Engine) (event : Event) (new : Engine) (waiting : Numbers) (members : List ℕ) : Type 0 where
-  pub kept : IsEngine new waiting members
+pub record HasTaken (model : Rules) (old : Engine) (event : Event) (new : Engine) (waiting : Numbers) : Type 0 where
+  pub kept : IsEngine new waiting
   pub state : state_in new ≡ next model (state_in old) event
 
 -- the state of an engine whose table stands for these tasks
@@ -52,10 +51,10 @@ is_off-changed table t u target f wide h keeps =
 
 module _ (model : Rules) (lawful : IsLawful model) where
   -- an event at which no group switches, and whose own effect is a change of one live task, which keeps its level and its group
-  by_change : (e : Engine) (waiting : Numbers) (members : List ℕ) (event : Event) (t : ℕ) (f : Standing → Standing) → IsEngine e waiting members → t < 65536 → e.number < 1000000 → is_control event ≡ false → ((group : ℕ) → switches_at model (affected model (state_in e) event) event group ≡ false) → refusal_of model (state_in e) event ≡ None
+  by_change : (e : Engine) (waiting : Numbers) (event : Event) (t : ℕ) (f : Standing → Standing) → IsEngine e waiting → t < 65536 → e.number < 1000000 → is_control event ≡ false → ((group : ℕ) → switches_at model (affected model (state_in e) event) event group ≡ false) → refusal_of model (state_in e) event ≡ None
       → own_effect model.child_group (suc e.number) event (standings e.table) ≡ change t f (standings e.table) → ((x : Standing) → (f x).level ≡ x.level) → ((x : Standing) → (f x).group ≡ x.group)
-      → HasTaken model e event (with_table (changed t f e.table) e) waiting members
-  by_change e waiting members event t f kept h room plain none accepted own levels groups =
+      → HasTaken model e event (with_table (changed t f e.table) e) waiting
+  by_change e waiting event t f kept h room plain none accepted own levels groups =
       let there = state-with_table e (changed t f e.table) (own_effect model.child_group (suc e.number) event (standings e.table)) (standings-changed e.table t f kept.wide h ∙ sym own) ∙ sym (next-still model (state_in e) event accepted plain none) in
       record {
         kept = record {
@@ -63,8 +62,6 @@ module _ (model : Rules) (lawful : IsLawful model) where
           wide = IsWide-changed e.table t f kept.wide;
           waiting_wide = kept.waiting_wide;
           waits = λ u. kept.waits u ∙ sym (is_off-changed e.table t u e.target f kept.wide h levels);
-          groups = kept.groups;
-          counted = λ group within. sym (count-changed e.table t f group kept.wide h groups ∙ sym (kept.counted group within));
           from_fits = kept.from_fits;
           target_fits = kept.target_fits;
           number_fits = omega arith;
@@ -73,39 +70,37 @@ module _ (model : Rules) (lawful : IsLawful model) where
       }
 
   -- the same, of the engine that code holds
-  pub takes_change_still : (e old : Engine) (table : Table) (waiting : Numbers) (members : List ℕ) (event : Event) (t : ℕ) (f : Standing → Standing) → e ≡ old → table ≡ changed t f e.table → IsEngine e waiting members → t < 65536 → old.number < 1000000
+  pub takes_change_still : (e old : Engine) (table : Table) (waiting : Numbers) (event : Event) (t : ℕ) (f : Standing → Standing) → e ≡ old → table ≡ changed t f e.table → IsEngine e waiting → t < 65536 → old.number < 1000000
       → is_control event ≡ false → ((group : ℕ) → switches_at model (affected model (state_in old) event) event group ≡ false) → refusal_of model (state_in old) event ≡ None
       → own_effect model.child_group (suc e.number) event (standings e.table) ≡ change t f (standings e.table) → ((x : Standing) → (f x).level ≡ x.level) → ((x : Standing) → (f x).group ≡ x.group)
-      → HasTaken model old event (with_table table e) waiting members
-  takes_change_still e old table waiting members event t f was is kept h room plain none accepted own levels groups =
-      subst (λ o. HasTaken model o event (with_table table e) waiting members) was
-      (subst (λ now. HasTaken model e event (with_table now e) waiting members) (sym is)
-      (by_change e waiting members event t f kept h (subst (λ o. o.number < 1000000) (sym was) room) plain (subst (λ o. (group : ℕ) → switches_at model (affected model (state_in o) event) event group ≡ false) (sym was) none) (subst (λ o. refusal_of model (state_in o) event ≡ None) (sym was) accepted) own levels groups))
+      → HasTaken model old event (with_table table e) waiting
+  takes_change_still e old table waiting event t f was is kept h room plain none accepted own levels groups =
+      subst (λ o. HasTaken model o event (with_table table e) waiting) was
+      (subst (λ now. HasTaken model e event (with_table now e) waiting) (sym is)
+      (by_change e waiting event t f kept h (subst (λ o. o.number < 1000000) (sym was) room) plain (subst (λ o. (group : ℕ) → switches_at model (affected model (state_in o) event) event group ≡ false) (sym was) none) (subst (λ o. refusal_of model (state_in o) event ≡ None) (sym was) accepted) own levels groups))
 
   -- and for a quiet event
-  pub takes_change : (e old : Engine) (table : Table) (waiting : Numbers) (members : List ℕ) (event : Event) (t : ℕ) (f : Standing → Standing) → e ≡ old → table ≡ changed t f e.table → IsEngine e waiting members → t < 65536 → old.number < 1000000 → is_quiet event ≡ true → refusal_of model (state_in old) event ≡ None
+  pub takes_change : (e old : Engine) (table : Table) (waiting : Numbers) (event : Event) (t : ℕ) (f : Standing → Standing) → e ≡ old → table ≡ changed t f e.table → IsEngine e waiting → t < 65536 → old.number < 1000000 → is_quiet event ≡ true → refusal_of model (state_in old) event ≡ None
       → own_effect model.child_group (suc e.number) event (standings e.table) ≡ change t f (standings e.table) → ((x : Standing) → (f x).level ≡ x.level) → ((x : Standing) → (f x).group ≡ x.group)
-      → HasTaken model old event (with_table table e) waiting members
-  takes_change e old table waiting members event t f was is kept h room quiet accepted own levels groups =
-      takes_change_still e old table waiting members event t f was is kept h room (quiet-control model event quiet) (λ group. quiet-stays model (affected model (state_in old) event) event group quiet) accepted own levels groups
+      → HasTaken model old event (with_table table e) waiting
+  takes_change e old table waiting event t f was is kept h room quiet accepted own levels groups =
+      takes_change_still e old table waiting event t f was is kept h room (quiet-control model event quiet) (λ group. quiet-stays model (affected model (state_in old) event) event group quiet) accepted own levels groups
 
   -- an event that leaves the tasks alone, and at which no group switches
-  pub takes_nothing : (e old : Engine) (waiting : Numbers) (members : List ℕ) (event : Event) → e ≡ old → IsEngine e waiting members → old.number < 1000000
+  pub takes_nothing : (e old : Engine) (waiting : Numbers) (event : Event) → e ≡ old → IsEngine e waiting → old.number < 1000000
       → is_control event ≡ false → ((group : ℕ) → switches_at model (affected model (state_in old) event) event group ≡ false) → refusal_of model (state_in old) event ≡ None
       → own_effect model.child_group (suc e.number) event (standings e.table) ≡ standings e.table
-      → HasTaken model old event (with_table e.table e) waiting members
-  takes_nothing e old waiting members event was kept room plain none accepted own =
+      → HasTaken model old event (with_table e.table e) waiting
+  takes_nothing e old waiting event was kept room plain none accepted own =
       let there = state-with_table e e.table (own_effect model.child_group (suc e.number) event (standings e.table)) (sym own)
       ∙ sym (next-still model (state_in e) event (subst (λ o. refusal_of model (state_in o) event ≡ None) (sym was) accepted) plain (subst (λ o. (group : ℕ) → switches_at model (affected model (state_in o) event) event group ≡ false) (sym was) none)) in
       let fits : e.number < 1000000 = subst (λ o. o.number < 1000000) (sym was) room in
-      subst (λ o. HasTaken model o event (with_table e.table e) waiting members) was (record {
+      subst (λ o. HasTaken model o event (with_table e.table e) waiting) was (record {
         kept = record {
           sound = sound_next model lawful e (with_table e.table e) event kept.sound there;
           wide = kept.wide;
           waiting_wide = kept.waiting_wide;
           waits = kept.waits;
-          groups = kept.groups;
-          counted = kept.counted;
           from_fits = kept.from_fits;
           target_fits = kept.target_fits;
           number_fits = omega arith;
@@ -114,19 +109,17 @@ module _ (model : Rules) (lawful : IsLawful model) where
       })
 
   -- a refused event
-  pub takes_refused : (e old : Engine) (waiting : Numbers) (members : List ℕ) (event : Event) (why : Refusal) → e ≡ old → IsEngine e waiting members → old.number < 1000000 → refusal_of model (state_in old) event ≡ Some why
-      → HasTaken model old event (with_table e.table e) waiting members
-  takes_refused e old waiting members event why was kept room refused =
+  pub takes_refused : (e old : Engine) (waiting : Numbers) (event : Event) (why : Refusal) → e ≡ old → IsEngine e waiting → old.number < 1000000 → refusal_of model (state_in old) event ≡ Some why
+      → HasTaken model old event (with_table e.table e) waiting
+  takes_refused e old waiting event why was kept room refused =
       let there = state-with_table e e.table (standings e.table) refl ∙ sym (next-refused model (state_in e) event why (subst (λ o. refusal_of model (state_in o) event ≡ Some why) (sym was) refused)) in
       let fits : e.number < 1000000 = subst (λ o. o.number < 1000000) (sym was) room in
-      subst (λ o. HasTaken model o event (with_table e.table e) waiting members) was (record {
+      subst (λ o. HasTaken model o event (with_table e.table e) waiting) was (record {
         kept = record {
           sound = sound_next model lawful e (with_table e.table e) event kept.sound there;
           wide = kept.wide;
           waiting_wide = kept.waiting_wide;
           waits = kept.waits;
-          groups = kept.groups;
-          counted = kept.counted;
           from_fits = kept.from_fits;
           target_fits = kept.target_fits;
           number_fits = omega arith;

@@ -1,6 +1,6 @@
 -- The engine at a check that a task makes alone.
-use Rattle.std.proofs.Common.{◌≡◌, ◌≢◌, ◌<◌, ◌≤◌, ℕ, suc, Bool, true, false, not, ◌&&◌, List, length, get_or, set, Option, Some, None, IsTrue, nat_eq, refl, sym, ap, ap₂, ◌∙◌, subst, ⊎_elim, arith}
-use Rattle.std.proofs.lemmas.Bool.{cases_Bool, cases_eq, eq-eqb, ne_eqb, eqb-true, cond-true, cond-false}
+use Rattle.std.proofs.Common.{◌≡◌, ◌≢◌, ◌<◌, ◌≤◌, ℕ, suc, Bool, true, false, not, ◌&&◌, List, length, set, Option, Some, None, IsTrue, ◌↔◌, nat_eq, refl, sym, ap, ◌∙◌, subst, ⊎_elim, arith}
+use Rattle.std.proofs.lemmas.Bool.{cases_Bool, cases_eq, eq-eqb, ne_eqb, cond-true, cond-false}
 use Rattle.std.proofs.lemmas.List.{length-set, set-get_or, get_or-set_same, get_or-set_other}
 use Rattle.std.specs.Option.{option_map}
 use mathlib.Core.Path.{fun_ext}
@@ -17,8 +17,7 @@ use Rattle.lp_transition.specs.inside.Table.{changed, is_off}
 use Rattle.lp_transition.specs.inside.Invariant.{IsEngine}
 use Rattle.lp_transition.proofs.EngineLemmas.{next-accepted}
 use Rattle.lp_transition.proofs.TableLemmas.{standings-changed, slot-changed, slot-changed_other, IsWide-changed, slot-zero, live_from_slot}
-use Rattle.lp_transition.proofs.CountLemmas.{count-changed}
-use Rattle.lp_transition.proofs.MemberLemmas.{Member, slot-positive, alone-counted, behind}
+use Rattle.lp_transition.proofs.MemberLemmas.{Member, IsLone, slot-positive, lone-told, behind}
 use Rattle.lp_transition.proofs.Effects.{HasTaken, with_table, state-with_table, sound_next}
 use Rattle.lp_transition.proofs.Alone.{ChecksAlone, behind-same, alone-same, alone-other, alone-stays, other-stays, calm-stays, alone-switches}
 
@@ -30,7 +29,7 @@ asked e t f = record (state_in e) { number = suc e.number; tasks = change t f (s
 abbrev pub put_on : ℕ → Standing → Standing
 put_on level y = record y { level = level }
 
-module _ (model : Rules) (lawful : IsLawful model) (e : Engine) (waiting : Numbers) (members : List ℕ) (kept : IsEngine e waiting members) (event : Event) (kind : CheckKind) (t : ℕ) (small : t < 65536) (f : Standing → Standing) (levels : (x : Standing) → (f x).level ≡ x.level) (groups : (x : Standing) → (f x).group ≡ x.group) (x : Standing) (there : slot e.table t ≡ Some x) (checks : ChecksAlone (bounds_of e.patches) (change t f (standings e.table)) event t kind) where
+module _ (model : Rules) (lawful : IsLawful model) (e : Engine) (waiting : Numbers) (kept : IsEngine e waiting) (event : Event) (kind : CheckKind) (t : ℕ) (small : t < 65536) (f : Standing → Standing) (levels : (x : Standing) → (f x).level ≡ x.level) (groups : (x : Standing) → (f x).group ≡ x.group) (x : Standing) (there : slot e.table t ≡ Some x) (checks : ChecksAlone (bounds_of e.patches) (change t f (standings e.table)) event t kind) where
   empty : slot e.table 0 ≡ None
   empty = slot-zero e kept.sound
 
@@ -64,36 +63,20 @@ module _ (model : Rules) (lawful : IsLawful model) (e : Engine) (waiting : Numbe
           let same = ap (λ l. not (nat_eq l e.target)) level in
           absurd (cc)
 
-  -- the count of the group says whether the task is alone
-  counted : (f x).group < 65536 → (b : Bool) → nat_eq (get_or members (f x).group 0) 1 ≡ b → is_alone (bounds_of e.patches) (outlines_of (change t f (standings e.table))) (f x).group t ≡ b
-  counted within b is =
+  -- a test that tells whether the task is alone
+  told_alone : (one : Bool) → IsTrue one ↔ IsLone e.table (f x).group t → is_alone (bounds_of e.patches) (outlines_of (change t f (standings e.table))) (f x).group t ≡ one
+  told_alone one told =
       let member : Member e.table (f x).group t = record { task = x; there = there; grouped = sym (groups x) } in
-      let count = alone-counted e.table e.patches kept.wide empty (f x).group t member in
-      let number = kept.counted (f x).group within in
-      alone-same t f levels groups (bounds_of e.patches) (f x).group (standings e.table) ∙ by b is (is_alone (bounds_of e.patches) (outlines_of (standings e.table)) (f x).group t) refl
-    where
-      by : (b : Bool) → nat_eq (get_or members (f x).group 0) 1 ≡ b → (a : Bool) → is_alone (bounds_of e.patches) (outlines_of (standings e.table)) (f x).group t ≡ a → is_alone (bounds_of e.patches) (outlines_of (standings e.table)) (f x).group t ≡ b
-      by true is true h = h
-      by false is false h = h
-      by true is false h =
-          let lone = (alone-counted e.table e.patches kept.wide empty (f x).group t (record { task = x; there = there; grouped = sym (groups x) })).0 (sym (kept.counted (f x).group within) ∙ eqb-true _ _ is) in
-          absurd (cc)
-      by false is true h =
-          let one = (alone-counted e.table e.patches kept.wide empty (f x).group t (record { task = x; there = there; grouped = sym (groups x) })).1 h in
-          let same = eq-eqb (get_or members (f x).group 0) 1 (kept.counted (f x).group within ∙ one) in
-          absurd (cc)
+      alone-same t f levels groups (bounds_of e.patches) (f x).group (standings e.table) ∙ sym (lone-told e.table e.patches kept.wide empty (f x).group t member one told)
 
   within_bounds : t ≤ 65535
   within_bounds = omega (arith, small)
 
   -- what code asks of a task that is checked alone
-  pub switches-alone : (f x).group < 65536 → switches_at model (asked e t f) event (f x).group ≡ (has waiting t && (nat_eq (get_or members (f x).group 0) 1 && model.admits kind (view_of t (f x)) (record { patches = e.patches; target = e.target })))
-  switches-alone within = by (has waiting t) refl (nat_eq (get_or members (f x).group 0) 1) refl
-    where
-      by : (w : Bool) → has waiting t ≡ w → (one : Bool) → nat_eq (get_or members (f x).group 0) 1 ≡ one → switches_at model (asked e t f) event (f x).group ≡ (w && (one && model.admits kind (view_of t (f x)) (record { patches = e.patches; target = e.target })))
-      by false w one c = calm-stays model lawful (asked e t f) event t kind (f x) checks now_live positive within_bounds (f x).group (calm w)
-      by true w false c = alone-stays model lawful (asked e t f) event t kind (f x) checks now_live positive within_bounds (f x).group (counted within false c)
-      by true w true c = alone-switches model lawful (asked e t f) event t kind (f x) checks now_live positive within_bounds (waits_for w) (counted within true c)
+  pub switches-alone : (w : Bool) → has waiting t ≡ w → (one : Bool) → (w ≡ true → IsTrue one ↔ IsLone e.table (f x).group t) → switches_at model (asked e t f) event (f x).group ≡ (w && (one && model.admits kind (view_of t (f x)) (record { patches = e.patches; target = e.target })))
+  switches-alone false w one told = calm-stays model lawful (asked e t f) event t kind (f x) checks now_live positive within_bounds (f x).group (calm w)
+  switches-alone true w false told = alone-stays model lawful (asked e t f) event t kind (f x) checks now_live positive within_bounds (f x).group (told_alone false (told refl))
+  switches-alone true w true told = alone-switches model lawful (asked e t f) event t kind (f x) checks now_live positive within_bounds (waits_for w) (told_alone true (told refl))
 
   -- where its group doesn't switch, none does
   pub none-switches : switches_at model (asked e t f) event (f x).group ≡ false → (group : ℕ) → switches_at model (asked e t f) event group ≡ false
@@ -145,7 +128,7 @@ module _ (model : Rules) (lawful : IsLawful model) (e : Engine) (waiting : Numbe
 
   -- the engine after its task switched
   pub switches-switching : e.number < 1000000 → length waiting ≡ 65536 → is_control event ≡ false → refusal_of model (state_in e) event ≡ None → own_effect model.child_group (suc e.number) event (standings e.table) ≡ change t f (standings e.table)
-      → switches_at model (asked e t f) event (f x).group ≡ true → HasTaken model e event (with_table (changed t (put_on e.target) (changed t f e.table)) e) (set waiting t false) members
+      → switches_at model (asked e t f) event (f x).group ≡ true → HasTaken model e event (with_table (changed t (put_on e.target) (changed t f e.table)) e) (set waiting t false)
   switches-switching room long plain accepted own switches =
       let wide = IsWide-changed e.table t f kept.wide in
       let affected-is : affected model (state_in e) event ≡ asked e t f = ap {A = Standings} {B = State} (λ now. record (state_in e) { number = suc e.number; tasks = now }) own in
@@ -161,8 +144,6 @@ module _ (model : Rules) (lawful : IsLawful model) (e : Engine) (waiting : Numbe
           wide = IsWide-changed (changed t f e.table) t (put_on e.target) wide;
           waiting_wide = length-set waiting t false ∙ long;
           waits = λ u. off-after long u;
-          groups = kept.groups;
-          counted = λ group below. sym (count-changed (changed t f e.table) t (put_on e.target) group wide small (λ y. refl) ∙ count-changed e.table t f group kept.wide small groups ∙ sym (kept.counted group below));
           from_fits = kept.from_fits;
           target_fits = kept.target_fits;
           number_fits = omega arith;
@@ -171,24 +152,24 @@ module _ (model : Rules) (lawful : IsLawful model) (e : Engine) (waiting : Numbe
       }
 
   -- what code asks, of the engine that it holds
-  pub asks : (old : Engine) → e ≡ old → own_effect model.child_group (suc e.number) event (standings e.table) ≡ change t f (standings e.table) → (f x).group < 65536
-      → (w : Bool) → has waiting t ≡ w → (one : Bool) → nat_eq (get_or members (f x).group 0) 1 ≡ one
+  pub asks : (old : Engine) → e ≡ old → own_effect model.child_group (suc e.number) event (standings e.table) ≡ change t f (standings e.table)
+      → (w : Bool) → has waiting t ≡ w → (one : Bool) → (w ≡ true → IsTrue one ↔ IsLone e.table (f x).group t)
       → (w && (one && model.admits kind (view_of t (f x)) (record { patches = e.patches; target = e.target }))) ≡ switches_at model (affected model (state_in old) event) event (f x).group
-  asks old was own within w is one count =
+  asks old was own w is one told =
       let affected-is : affected model (state_in e) event ≡ asked e t f = ap {A = Standings} {B = State} (λ now. record (state_in e) { number = suc e.number; tasks = now }) own in
       subst (λ o. (w && (one && model.admits kind (view_of t (f x)) (record { patches = e.patches; target = e.target }))) ≡ switches_at model (affected model (state_in o) event) event (f x).group) was
-      (sym (ap {A = State} {B = Bool} (λ now. switches_at model now event (f x).group) affected-is ∙ switches-alone within ∙ ap₂ (λ a b. a && (b && model.admits kind (view_of t (f x)) (record { patches = e.patches; target = e.target }))) is count))
+      (sym (ap {A = State} {B = Bool} (λ now. switches_at model now event (f x).group) affected-is ∙ switches-alone w is one told))
 
   -- the engine that code holds after its task switched
   pub takes_switch : (old : Engine) (table : Table) (now : Numbers) → e ≡ old → table ≡ changed t (put_on e.target) (changed t f e.table) → now ≡ set waiting t false → length now ≡ 65536 → old.number < 1000000 → is_control event ≡ false → refusal_of model (state_in old) event ≡ None → own_effect model.child_group (suc e.number) event (standings e.table) ≡ change t f (standings e.table)
-      → switches_at model (affected model (state_in old) event) event (f x).group ≡ true → HasTaken model old event (with_table table e) now members
+      → switches_at model (affected model (state_in old) event) event (f x).group ≡ true → HasTaken model old event (with_table table e) now
   takes_switch old table now was is removed long room plain accepted own switches =
       let affected-is : affected model (state_in e) event ≡ asked e t f = ap {A = Standings} {B = State} (λ tasks. record (state_in e) { number = suc e.number; tasks = tasks }) own in
       let here : switches_at model (asked e t f) event (f x).group ≡ true = ap {A = State} {B = Bool} (λ s. switches_at model s event (f x).group) (sym affected-is) ∙ subst (λ o. switches_at model (affected model (state_in o) event) event (f x).group ≡ true) (sym was) switches in
       let wide : length waiting ≡ 65536 = sym (length-set waiting t false) ∙ ap length (sym removed) ∙ long in
-      subst (λ o. HasTaken model o event (with_table table e) now members) was
-      (subst (λ n. HasTaken model e event (with_table table e) n members) (sym removed)
-      (subst (λ tb. HasTaken model e event (with_table tb e) (set waiting t false) members) (sym is)
+      subst (λ o. HasTaken model o event (with_table table e) now) was
+      (subst (λ n. HasTaken model e event (with_table table e) n) (sym removed)
+      (subst (λ tb. HasTaken model e event (with_table tb e) (set waiting t false)) (sym is)
       (switches-switching (subst (λ o. o.number < 1000000) (sym was) room) wide plain (subst (λ o. refusal_of model (state_in o) event ≡ None) (sym was) accepted) own here)))
 
   -- where the task's group stays, every group does

@@ -1,6 +1,6 @@
 -- What the engine keeps beside its tasks answers what is asked of each live task.
 use Rattle.std.proofs.Common.{◌≡◌, ◌≢◌, ◌↔◌, ℕ, ◌+◌, ◌<◌, ◌≤◌, Bool, true, false, not, ◌&&◌, ◌||◌, count_by, Option, Some, None, IsTrue, nat_eq, refl, sym, ap, subst, ◌∙◌, ⊎_elim, arith}
-use Rattle.std.proofs.lemmas.Bool.{cases_eq, cases_lt, and_parts, and_from, or_cases, or_left, or_right, eqb-true, eq-eqb, not-true, not-false, not_from_true, not_from_false, cond-true, false_from_ne_true}
+use Rattle.std.proofs.lemmas.Bool.{cases_eq, cases_lt, and_parts, and_from, or_cases, or_left, or_right, eqb-true, eq-eqb, ne_eqb, not-true, not-false, not_from_true, not_from_false, cond-true, false_from_ne_true}
 use Rattle.std.proofs.lemmas.List.{get_or_past}
 use Rattle.lp_numbers.specs.Numbers.{Numbers, has, IsEmpty}
 use Rattle.lp_patch.specs.Patches.{Patches}
@@ -49,6 +49,10 @@ member-is table group t h = in_slot table group t (slot table t) refl h
 -- the slot of a member counts for the group
 pub member-from : (table : Table) (group t : ℕ) → Member table group t → is_in group (slot table t) ≡ true
 member-from table group t m = ap (is_in group) m.there ∙ eq-eqb m.task.group group m.grouped
+
+-- a task is the only member of a group
+abbrev pub IsLone : Table → ℕ → ℕ → Type 0
+IsLone table group t = (u : ℕ) → is_in group (slot table u) ≡ nat_eq u t
 
 -- in a blank table no group has a member
 pub count-blank : (table : Table) (group : ℕ) → IsBlank table → count_by (is_in group) table.slots ≡ 0
@@ -145,6 +149,26 @@ module _ (table : Table) (patches : Patches) (wide : IsWide table) (empty : slot
   pub alone-counted : (group t : ℕ) → Member table group t → (count_by (is_in group) table.slots ≡ 1) ↔ IsTrue (is_alone (bounds_of patches) (outlines_of (standings table)) group t)
   alone-counted group t m = (alone-from group t m, alone-is group t m)
 
+  -- a member that is alone is the only one
+  pub lone-is : (group t : ℕ) → Member table group t → IsTrue (is_alone (bounds_of patches) (outlines_of (standings table)) group t) → IsLone table group t
+  lone-is group t m h u =
+      ⊎_elim
+      (λ (e : u ≡ t). ap (λ v. is_in group (slot table v)) e ∙ member-from table group t m ∙ sym (eq-eqb u t e))
+      (λ (ne : u ≡ t → ⊥). false_from_ne_true (is_in group (slot table u)) (λ yes. let o = member-is table group u yes in ne (alone_parts group t h u o.task o.there o.grouped)) ∙ sym (ne_eqb u t ne))
+      (cases_eq u t)
+
+  -- the only member is alone
+  pub lone-from : (group t : ℕ) → Member table group t → IsLone table group t → IsTrue (is_alone (bounds_of patches) (outlines_of (standings table)) group t)
+  lone-from group t m lone =
+      and_from (on_live false (λ y. nat_eq y.group group) (outlines_of (standings table) t)) (each_live (bounds_of patches) (outlines_of (standings table)) (λ other y. not (nat_eq y.group group) || nat_eq other t))
+      (subst (λ fate. on_live false (λ y. nat_eq y.group group) (map_live outline_of fate) ≡ true) (sym (live_from_slot table t m.task m.there)) (eq-eqb m.task.group group m.grouped))
+      (each_live-map (bounds_of patches) outline_of (standings table) (λ other y. not (nat_eq y.group group) || nat_eq other t)
+      ∙ each_live-from (bounds_of patches) (standings table) (λ other y. not (nat_eq y.group group) || nat_eq other t) (λ u x positive within live.
+      ⊎_elim
+      (λ (same : u ≡ t). or_right (not (nat_eq x.group group)) (nat_eq u t) (eq-eqb u t same))
+      (λ (ne : u ≡ t → ⊥). or_left (not (nat_eq x.group group)) (nat_eq u t) (not_from_false (nat_eq x.group group) (sym (ap (is_in group) (slot_from_live table u x live)) ∙ lone u ∙ ne_eqb u t ne)))
+      (cases_eq u t)))
+
   -- ---- The tasks that wait
 
   module _ (waiting : Numbers) (target : ℕ) (waits : (n : ℕ) → has waiting n ≡ is_off target (slot table n)) where
@@ -199,12 +223,12 @@ module _ (table : Table) (patches : Patches) (wide : IsWide table) (empty : slot
     pub behind : (group : ℕ) → IsTrue (some_live (bounds_of patches) (standings table) (λ t x. nat_eq x.group group && not (nat_eq x.level target))) ↔ Waiter table waiting group
     behind group = (behind-is group, behind-from group)
 
-  -- whether a member is alone, by how many count
-  pub alone-told : (group t : ℕ) → Member table group t → (n : ℕ) → n ≡ count_by (is_in group) table.slots → nat_eq n 1 ≡ is_alone (bounds_of patches) (outlines_of (standings table)) group t
-  alone-told group t m n counts = by (nat_eq n 1) refl (is_alone (bounds_of patches) (outlines_of (standings table)) group t) refl
+  -- whether a member is alone, by a test that tells
+  pub lone-told : (group t : ℕ) → Member table group t → (lone : Bool) → IsTrue lone ↔ IsLone table group t → lone ≡ is_alone (bounds_of patches) (outlines_of (standings table)) group t
+  lone-told group t m lone told = by lone refl (is_alone (bounds_of patches) (outlines_of (standings table)) group t) refl
     where
-      by : (a : Bool) → nat_eq n 1 ≡ a → (b : Bool) → is_alone (bounds_of patches) (outlines_of (standings table)) group t ≡ b → nat_eq n 1 ≡ is_alone (bounds_of patches) (outlines_of (standings table)) group t
-      by true one true lone = one ∙ sym lone
+      by : (a : Bool) → lone ≡ a → (b : Bool) → is_alone (bounds_of patches) (outlines_of (standings table)) group t ≡ b → lone ≡ is_alone (bounds_of patches) (outlines_of (standings table)) group t
+      by true one true alone = one ∙ sym alone
       by false more false beside = more ∙ sym beside
-      by true one false beside = let yes = (alone-counted group t m).0 (sym counts ∙ eqb-true n 1 one) in absurd (cc)
-      by false more true lone = let yes = eq-eqb n 1 (counts ∙ (alone-counted group t m).1 lone) in absurd (cc)
+      by true one false beside = let yes = lone-from group t m (told.0 one) in absurd (cc)
+      by false more true alone = let yes = told.1 (lone-is group t m alone) in absurd (cc)

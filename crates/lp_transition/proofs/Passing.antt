@@ -12,13 +12,13 @@ use Rattle.lp_transition.specs.inside.ScanSteps.{passing_at, IsNextBelow}
 abbrev pub passes : (ℕ → Bool) → ℕ → ℕ → List ℕ
 passes test a k = filter test (range_with_len a k)
 
-skip_one : (test : ℕ → Bool) (a k : ℕ) → test a ≡ false → passes test a (suc k) ≡ passes test (a + 1) k
+pub skip_one : (test : ℕ → Bool) (a k : ℕ) → test a ≡ false → passes test a (suc k) ≡ passes test (a + 1) k
 skip_one test a k e = cond-false (test a) (a ∷ passes test (a + 1) k) (passes test (a + 1) k) e
 
-keep_one : (test : ℕ → Bool) (a k : ℕ) → test a ≡ true → passes test a (suc k) ≡ a ∷ passes test (a + 1) k
+pub keep_one : (test : ℕ → Bool) (a k : ℕ) → test a ≡ true → passes test a (suc k) ≡ a ∷ passes test (a + 1) k
 keep_one test a k e = cond-true (test a) (a ∷ passes test (a + 1) k) (passes test (a + 1) k) e
 
-none_in : (test : ℕ → Bool) (k a : ℕ) → ((n : ℕ) → a ≤ n → n < a + k → test n ≡ false) → passes test a k ≡ []
+pub none_in : (test : ℕ → Bool) (k a : ℕ) → ((n : ℕ) → a ≤ n → n < a + k → test n ≡ false) → passes test a k ≡ []
 none_in test zero a h = refl
 none_in test (suc k) a h = skip_one test a k (h a (omega arith) (omega arith)) ∙ none_in test k (a + 1) (λ n low high. h n (omega arith) (omega arith))
 

@@ -15,13 +15,13 @@ use Rattle.lp_transition.specs.Run.{switched}
 use Rattle.lp_transition.specs.Sound.{IsSound}
 use Rattle.lp_transition.specs.Steps.{IsStep}
 use Rattle.lp_transition.specs.Blames.{or_blame, HasBlamesAfter}
-use Rattle.lp_transition.specs.Scan.{is_scan_kind, scan_event, verdicts_of, verdicts_among, passing, MayLeaveOut}
+use Rattle.lp_transition.specs.Scan.{is_scan_kind, scan_event, verdicts_of, is_asked, verdicts_among, passing, MayLeaveOut}
 use Rattle.lp_transition.specs.Table.{Table, Engine, state_in}
 use Rattle.lp_transition.specs.Weigh.{Weighed, IsWeighed}
 use Rattle.lp_transition.specs.inside.Blames.{blame_at}
 use Rattle.lp_transition.specs.inside.Invariant.{LastScan, IsWhole}
 use Rattle.lp_transition.specs.inside.ScanSteps.{is_judged, is_switching, AreSwitched, switches_by, all_admit, tasks_of}
-use Rattle.lp_transition.proofs.AskedScans.{asked_none, switches-among, completes-among}
+use Rattle.lp_transition.proofs.AskedScans.{asked_none, among-enough, left-out, switches-among, completes-among}
 use Rattle.lp_transition.proofs.Blames.{Leaves}
 use Rattle.lp_transition.proofs.BlamedScans.{leaves_scanned, blame_within}
 use Rattle.lp_transition.proofs.Effects.{HasTaken, with_table}
@@ -43,19 +43,21 @@ module _ (model : Rules) (lawful : IsLawful model) (on : CheckKind) (e : Engine)
   quiet_reply =
       let s = state_in e in
       let none = asked_none model on s in
-      let switches = fun_ext (λ (group : ℕ). ap (λ (vs : List Verdict). switches_by e.table vs group) none ∙ switches-among model lawful on s sound (λ group. false) quiet e.table (λ t x live. slot_from_live e.table t x live) group) in
+      let looked = is_asked s (λ group. false) in
+      let others = left-out model on s (λ group. false) quiet in
+      let switches = fun_ext (λ (group : ℕ). ap (λ (vs : List Verdict). switches_by e.table vs group) none ∙ switches-among model lawful on s sound looked others e.table (λ t x live. slot_from_live e.table t x live) group) in
       let tells : (false ≡ true) ↔ ((all_admit (verdicts_among model on s (λ group. false)) ≡ true) × (tasks_of (verdicts_among model on s (λ group. false)) ≡ tasks_of (verdicts_of model on s))) =
       ((λ no. absurd (false≢true no)), (λ both. absurd (false≢true (ap all_admit none ∙ both.0)))) in
       ap (λ what. let reply : Reply = record { what = what; completed = false } in reply) (still e.table 65536 [] refl)
       ∙ ap₂ (λ (goes : ℕ → Bool) (completed : Bool). let reply : Reply = record { what = switched (passing 0 65536 goes); completed = completed } in reply)
-      switches (completes-among model lawful on s sound (λ group. false) quiet false tells)
+      switches (completes-among model lawful on s sound looked others false tells)
 
   pub quiet_weighed : IsWeighed model e (quiet_step on)
   quiet_weighed = record {
     room = room;
     reply = quiet_reply ∙ sym (answer-scan model lawful 65536 (state_in e) (omega arith) sound e.table (λ t x live. slot_from_live e.table t x live) on scan);
     born = born-scan model (state_in e) on;
-    verdicts = verdicts-scan model (state_in e) on [] scan (record { asked = λ group. false; others = quiet; found = asked_none model on (state_in e) });
+    verdicts = verdicts-scan model (state_in e) on [] scan (among-enough model on (state_in e) (λ group. false) [] quiet (asked_none model on (state_in e)));
   }
 
 -- ---- The engine after it
@@ -78,30 +80,29 @@ nobody_goes target table waiting = record {
   numbers = refl;
   used = refl;
   wide = λ wide. wide;
-  members = λ wide group. refl;
 }
 
 or_none : (o : Option StandingBlame) → o ≡ or_blame o None
 or_none None = refl
 or_none (Some b) = refl
 
-module _ (model : Rules) (lawful : IsLawful model) (e old : Engine) (waiting : Numbers) (members : List ℕ) (last : LastScan) (on : CheckKind) (was : e ≡ old) (whole : IsWhole model e waiting members last) (scan : is_scan_kind on ≡ true) (room : old.number < 1000000) (quiet : MayLeaveOut model on (state_in old) (λ group. false)) where
+module _ (model : Rules) (lawful : IsLawful model) (e old : Engine) (waiting : Numbers) (last : LastScan) (on : CheckKind) (was : e ≡ old) (whole : IsWhole model e waiting last) (scan : is_scan_kind on ≡ true) (room : old.number < 1000000) (quiet : MayLeaveOut model on (state_in old) (λ group. false)) where
   weighed : IsWeighed model old (quiet_step on)
   weighed = quiet_weighed model lawful on old (subst (λ (o : Engine). IsSound (state_in o)) was whole.engine.sound) scan room quiet
 
-  taken : HasTaken model old (scan_event on) (with_table e.table e) waiting members
-  taken = takes_scan model lawful e old e.table waiting waiting members (quiet_step on) None was whole.engine weighed (event_scans on) (λ scans group h. refl) (nobody_goes e.target e.table waiting)
+  taken : HasTaken model old (scan_event on) (with_table e.table e) waiting
+  taken = takes_scan model lawful e old e.table waiting waiting (quiet_step on) None was whole.engine weighed (event_scans on) (λ scans group h. refl) (nobody_goes e.target e.table waiting)
 
   leaves_blames : Leaves model old (scan_event on) [] (with_table e.table e)
   leaves_blames =
-      leaves_scanned model lawful e old (with_table e.table e) waiting waiting members members (quiet_step on) was whole.engine whole.blamed taken weighed (event_scans on)
+      leaves_scanned model lawful e old (with_table e.table e) waiting waiting (quiet_step on) was whole.engine whole.blamed taken weighed (event_scans on)
       (λ g h. or_none (blame_at e.blames g))
       (λ g b there. blame_within e.blames g b whole.groups there)
 
   -- the engine keeps what it has to
-  pub quiet_whole : IsWhole model (with_table e.table e) waiting members last
+  pub quiet_whole : IsWhole model (with_table e.table e) waiting last
   quiet_whole = record {
-    core = core_scanned model lawful e old (with_table e.table e) waiting waiting members members (scan_event on) last last was whole.core taken on scan refl (inl refl);
+    core = core_scanned model lawful e old (with_table e.table e) waiting waiting (scan_event on) last last was whole.core taken on scan refl [] weighed.verdicts (inl refl);
     groups = whole.groups;
     blamed = leaves_blames.blamed;
   }

@@ -122,31 +122,31 @@ verdicts-scan model s Walk vs h enough = enough
 verdicts-scan model s Stop vs h enough = enough
 
 -- the reply by verdicts that are enough is that by all
-reply-enough : (model : Rules) → IsLawful model → (e : Engine) (waiting : Numbers) (members : List ℕ) (kind : CheckKind) (vs : List Verdict) (completed : Bool) → IsEngine e waiting members → AreEnough model kind (state_in e) vs → Completes waiting vs completed
+reply-enough : (model : Rules) → IsLawful model → (e : Engine) (waiting : Numbers) (kind : CheckKind) (vs : List Verdict) (completed : Bool) → IsEngine e waiting → AreEnough model kind (state_in e) vs → Completes waiting vs completed
     → reply_by e.table vs completed ≡ reply_by e.table (verdicts_of model kind (state_in e)) (all_admit (verdicts_of model kind (state_in e)))
-reply-enough model lawful e waiting members kind vs completed kept enough tells =
+reply-enough model lawful e waiting kind vs completed kept enough tells =
     let s = state_in e in
     let among = subst (λ (ws : List Verdict). (completed ≡ true) ↔ ((all_admit ws ≡ true) × (tasks_of ws ≡ tasks_of (verdicts_of model kind s)))) enough.found
-    (subst (λ (ts : List ℕ). (completed ≡ true) ↔ ((all_admit vs ≡ true) × (tasks_of vs ≡ ts))) (sym (tasks-judged model kind e waiting members kept)) tells) in
+    (subst (λ (ts : List ℕ). (completed ≡ true) ↔ ((all_admit vs ≡ true) × (tasks_of vs ≡ ts))) (sym (tasks-judged model kind e waiting kept)) tells) in
     ap₂ (λ (switches : ℕ → Bool) (b : Bool). let r : Reply = record { what = switched (passing 0 65536 switches); completed = b } in r)
-    (fun_ext (λ (group : ℕ). ap (λ (ws : List Verdict). switches_by e.table ws group) enough.found ∙ switches-among model lawful kind s kept.sound enough.asked enough.others e.table (λ t x live. slot_from_live e.table t x live) group))
-    (completes-among model lawful kind s kept.sound enough.asked enough.others completed among)
+    (fun_ext (λ (group : ℕ). ap (λ (ws : List Verdict). switches_by e.table ws group) enough.found ∙ switches-among model lawful kind s kept.sound enough.looked enough.others e.table (λ t x live. slot_from_live e.table t x live) group))
+    (completes-among model lawful kind s kept.sound enough.looked enough.others completed among)
 
-weighs_here : (model : Rules) → IsLawful model → (e : Engine) (waiting : Numbers) (members : List ℕ) (kind : CheckKind) (vs : List Verdict) (completed : Bool) → IsEngine e waiting members → is_scan_kind kind ≡ true → AreEnough model kind (state_in e) vs → e.number < 1000000 → Completes waiting vs completed
+weighs_here : (model : Rules) → IsLawful model → (e : Engine) (waiting : Numbers) (kind : CheckKind) (vs : List Verdict) (completed : Bool) → IsEngine e waiting → is_scan_kind kind ≡ true → AreEnough model kind (state_in e) vs → e.number < 1000000 → Completes waiting vs completed
     → IsWeighed model e (step_by kind e.table vs completed)
-weighs_here model lawful e waiting members kind vs completed kept scan enough room tells =
+weighs_here model lawful e waiting kind vs completed kept scan enough room tells =
     let there = answer-scan model lawful 65536 (state_in e) (omega arith) kept.sound e.table (λ t x live. slot_from_live e.table t x live) kind scan in
     record {
       room = room;
-      reply = reply-enough model lawful e waiting members kind vs completed kept enough tells ∙ sym there;
+      reply = reply-enough model lawful e waiting kind vs completed kept enough tells ∙ sym there;
       born = born-scan model (state_in e) kind;
       verdicts = verdicts-scan model (state_in e) kind vs scan enough;
     }
 
 -- a scan is weighed by what its verdicts tell
-pub weighs : (model : Rules) → IsLawful model → (e old : Engine) (waiting : Numbers) (members : List ℕ) (kind : CheckKind) (vs : List Verdict) (completed : Bool) (step : Weighed) → e ≡ old → IsEngine e waiting members → is_scan_kind kind ≡ true → AreEnough model kind (state_in old) vs → e.number < 1000000
+pub weighs : (model : Rules) → IsLawful model → (e old : Engine) (waiting : Numbers) (kind : CheckKind) (vs : List Verdict) (completed : Bool) (step : Weighed) → e ≡ old → IsEngine e waiting → is_scan_kind kind ≡ true → AreEnough model kind (state_in old) vs → e.number < 1000000
     → Completes waiting vs completed → step ≡ step_by kind e.table vs completed → IsWeighed model old step
-weighs model lawful e old waiting members kind vs completed step was kept scan enough room tells is =
+weighs model lawful e old waiting kind vs completed step was kept scan enough room tells is =
     subst (λ (o : Engine). IsWeighed model o step) was
     (subst (λ (st : Weighed). IsWeighed model e st) (sym is)
-    (weighs_here model lawful e waiting members kind vs completed kept scan (subst (λ (o : Engine). AreEnough model kind (state_in o) vs) (sym was) enough) room tells))
+    (weighs_here model lawful e waiting kind vs completed kept scan (subst (λ (o : Engine). AreEnough model kind (state_in o) vs) (sym was) enough) room tells))

@@ -131,7 +131,7 @@ tasks_by limit s test wide none is =
     ∙ ap (λ n. filter test (range_with_len 1 n)) (sym count)
     ∙ sym (passing-skip 0 1 limit test (omega arith) (omega arith) (λ k low high. let zero_is : k ≡ 0 = omega arith in rw zero_is none))
 
-module _ (e : Engine) (waiting : Numbers) (members : List ℕ) (kept : IsEngine e waiting members) where
+module _ (e : Engine) (waiting : Numbers) (kept : IsEngine e waiting) where
   -- the waiting set says who has a view
   pub view-waiting : (t : ℕ) → waiting_view e.target t (standings e.table t) ≡ option_map (view_of t) (waiting_slot e.table waiting t)
   view-waiting t =
@@ -161,8 +161,8 @@ module _ (e : Engine) (waiting : Numbers) (members : List ℕ) (kept : IsEngine 
 -- ---- The groups that wait
 
 -- a group waits where a waiting task is a member
-pub behind-in_order : (e : Engine) (waiting : Numbers) (members : List ℕ) → IsEngine e waiting members → (group : ℕ) → list_any (λ t. is_in group (slot e.table t)) (passing 0 65536 (has waiting)) ≡ waits_in (state_in e) group
-behind-in_order e waiting members kept group =
+pub behind-in_order : (e : Engine) (waiting : Numbers) → IsEngine e waiting → (group : ℕ) → list_any (λ t. is_in group (slot e.table t)) (passing 0 65536 (has waiting)) ≡ waits_in (state_in e) group
+behind-in_order e waiting kept group =
     let empty = slot-zero e kept.sound in
     same_bool (list_any (λ t. is_in group (slot e.table t)) (passing 0 65536 (has waiting))) (waits_in (state_in e) group)
     (λ h.

@@ -1,15 +1,14 @@
 -- Waiting tasks switch with their groups, one after another.
-use Rattle.std.proofs.Common.{◌≡◌, ◌≢◌, ℕ, ◌<◌, Bool, true, false, not, ◌&&◌, ◌||◌, length, count_by, set, Option, Some, None, if◌then◌else◌, nat_eq, refl, sym, ap, ap₂, ◌∙◌, subst, ⊎_elim, arith}
+use Rattle.std.proofs.Common.{◌≡◌, ◌≢◌, ℕ, ◌<◌, Bool, true, false, not, ◌&&◌, ◌||◌, length, set, Option, Some, None, if◌then◌else◌, nat_eq, refl, sym, ap, ap₂, ◌∙◌, subst, ⊎_elim, arith}
 use Rattle.std.proofs.lemmas.Bool.{cond-true, cond-false, cases_Bool, cases_eq, eq-eqb, ne_eqb}
 use Rattle.std.proofs.lemmas.List.{length-set, get_or-set_same, get_or-set_other}
 use Rattle.std.specs.Option.{option_map}
 use Rattle.lp_numbers.specs.Numbers.{Numbers, has}
 use Rattle.lp_transition.specs.Leg.{Standing}
 use Rattle.lp_transition.specs.Table.{Table, slot, IsWide}
-use Rattle.lp_transition.specs.inside.Table.{changed, is_in}
+use Rattle.lp_transition.specs.inside.Table.{changed}
 use Rattle.lp_transition.specs.inside.ScanSteps.{switched_if, task_switches, IsTaskSwitched, AreSwitched}
 use Rattle.lp_transition.proofs.TableLemmas.{slot-changed, slot-changed_other, IsWide-changed}
-use Rattle.lp_transition.proofs.CountLemmas.{count-changed}
 
 -- ---- One task
 
@@ -42,7 +41,6 @@ task_stays switches target t table waiting h = record {
   numbers = refl;
   used = refl;
   wide = λ wide. wide;
-  members = λ wide group. refl;
 }
 
 slot_switches : (switches : ℕ → Bool) (target : ℕ) (o : Option Standing) → task_switches switches o ≡ true → option_map (λ (x : Standing). record x { level = target }) o ≡ option_map (switched_if switches target) o
@@ -63,7 +61,6 @@ task_went switches target t table new waiting left wide h went is out long =
       numbers = ap length out ∙ length-set waiting t false;
       used = ap (λ (n : Table). n.used) is;
       wide = λ old. subst IsWide (sym is) (IsWide-changed table t f old);
-      members = λ old group. ap (λ (n : Table). count_by (is_in group) n.slots) is ∙ count-changed table t f group old h (λ x. refl);
     }
 
 -- ---- One task after another
@@ -104,7 +101,6 @@ moving_none switches target table waiting = record {
   numbers = refl;
   used = refl;
   wide = λ wide. wide;
-  members = λ wide group. refl;
 }
 
 -- where no group switches, nothing changes
@@ -115,7 +111,6 @@ moving_still taken target table waiting = record {
   numbers = refl;
   used = refl;
   wide = λ wide. wide;
-  members = λ wide group. refl;
 }
   where
     still : (b : Bool) (o : Option Standing) → o ≡ (if b then option_map (switched_if (λ group. false) target) o else o)
@@ -144,7 +139,6 @@ moving_more taken more switches target n old now new waiting mid left so_far ste
   numbers = step.numbers ∙ so_far.numbers;
   used = step.used ∙ so_far.used;
   wide = λ wide. step.wide (so_far.wide wide);
-  members = λ wide group. step.members (so_far.wide wide) group ∙ so_far.members wide group;
 }
   where
     here : more n ≡ true

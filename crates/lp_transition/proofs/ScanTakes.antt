@@ -1,5 +1,5 @@
 -- The engine after a scan.
-use Rattle.std.proofs.Common.{◌≡◌, ℕ, suc, ◌<◌, ◌≤◌, Bool, true, false, not, ◌&&◌, List, length, count_by, Option, Some, None, if◌then◌else◌, nat_eq, refl, sym, ap, ap₂, ◌∙◌, subst, ⊎_elim, arith}
+use Rattle.std.proofs.Common.{◌≡◌, ℕ, suc, ◌<◌, ◌≤◌, Bool, true, false, not, ◌&&◌, List, length, Option, Some, None, if◌then◌else◌, nat_eq, refl, sym, ap, ap₂, ◌∙◌, subst, ⊎_elim, arith}
 use Rattle.std.proofs.lemmas.Bool.{false≢true, cond-true, cond-false, cases_Bool, cases_lt, eqb-true, eq-eqb, not-true, not_from_true, not_from_false, false_from_ne_true}
 use Rattle.std.proofs.lemmas.List.{get_or_past}
 use Rattle.std.specs.List.{list_any}
@@ -18,7 +18,7 @@ use Rattle.lp_transition.specs.Leg.{Standing, State}
 use Rattle.lp_transition.specs.Sound.{IsSound}
 use Rattle.lp_transition.specs.Machine.{switches_at, switched_groups, affected, refusal_of, next, answer}
 use Rattle.lp_transition.specs.Table.{Table, Engine, IsWide, slot, fate_at, standings, state_in}
-use Rattle.lp_transition.specs.inside.Table.{is_off, is_in}
+use Rattle.lp_transition.specs.inside.Table.{is_off}
 use Rattle.lp_transition.specs.inside.Invariant.{IsEngine}
 use Rattle.lp_transition.specs.Weigh.{Weighed, IsWeighed, AreVerdictsFor}
 use Rattle.lp_transition.specs.Scan.{verdicts_of, AreEnough}
@@ -79,7 +79,6 @@ record Went (switches : ℕ → Bool) (target : ℕ) (old new : Table) (waiting 
   numbers : length left ≡ length waiting
   used : new.used ≡ old.used
   wide : IsWide new
-  members : (group : ℕ) → count_by (is_in group) new.slots ≡ count_by (is_in group) old.slots
 
 slot_taken : (switches : ℕ → Bool) (target : ℕ) (taken waits : Bool) (o : Option Standing) → (taken ≡ true → waits ≡ true) → (waits ≡ true → task_switches switches o ≡ true → taken ≡ true) → (if taken then option_map (switched_if switches target) o else o) ≡ (if waits then option_map (switched_if switches target) o else o)
 slot_taken switches target true true o waiting switched_groups = refl
@@ -101,7 +100,6 @@ went_all taken switches target old new waiting left wide are_switched waits swit
   numbers = are_switched.numbers;
   used = are_switched.used;
   wide = are_switched.wide wide;
-  members = are_switched.members wide;
 }
 
 -- a waiting task is live and off the target
@@ -135,32 +133,30 @@ module _ (model : Rules) (lawful : IsLawful model) where
       same g h ∙ ap (list_any (nat_eq g)) (e ∙ switching_by model 65536 now event (switches_at model now event) wide (λ group. refl)) ∙ passing-any 65536 (switches_at model now event) g h
 
   -- the tasks after the groups switched
-  standings_switched : (e : Engine) (waiting left : Numbers) (members : List ℕ) (table : Table) (switches all : ℕ → Bool) → IsEngine e waiting members → Went switches e.target e.table table waiting left → ((g : ℕ) → g < 65536 → switches g ≡ all g) → standings table ≡ (λ t. map_live (switched_if all e.target) (standings e.table t))
-  standings_switched e waiting left members table switches all kept went same =
+  standings_switched : (e : Engine) (waiting left : Numbers) (table : Table) (switches all : ℕ → Bool) → IsEngine e waiting → Went switches e.target e.table table waiting left → ((g : ℕ) → g < 65536 → switches g ≡ all g) → standings table ≡ (λ t. map_live (switched_if all e.target) (standings e.table t))
+  standings_switched e waiting left table switches all kept went same =
       fun_ext (λ t.
       ap₂ fate_at
       (went.tasks t ∙ slot_switched switches all e.target (has waiting t) (slot e.table t) (kept.waits t) (λ x there. same x.group (group_fits e t x kept.sound kept.wide there)))
       (ap (λ set. has set t) went.used)
       ∙ fate-map (switched_if all e.target) (slot e.table t) (has e.table.used t))
 
-  kept_switched : (e : Engine) (waiting left : Numbers) (members : List ℕ) (table : Table) (switches : ℕ → Bool) → IsEngine e waiting members → Went switches e.target e.table table waiting left → e.number < 1000000 → IsSound (state_in (with_table table e)) → IsEngine (with_table table e) left members
-  kept_switched e waiting left members table switches kept went room sound = record {
+  kept_switched : (e : Engine) (waiting left : Numbers) (table : Table) (switches : ℕ → Bool) → IsEngine e waiting → Went switches e.target e.table table waiting left → e.number < 1000000 → IsSound (state_in (with_table table e)) → IsEngine (with_table table e) left
+  kept_switched e waiting left table switches kept went room sound = record {
     sound = sound;
     wide = went.wide;
     waiting_wide = went.numbers ∙ kept.waiting_wide;
     waits = λ t. went.waits t ∙ waits_switched switches e.target (has waiting t) (slot e.table t) (kept.waits t) ∙ ap (is_off e.target) (sym (went.tasks t));
-    groups = kept.groups;
-    counted = λ group within. kept.counted group within ∙ sym (went.members group);
     from_fits = kept.from_fits;
     target_fits = kept.target_fits;
     number_fits = omega arith;
   }
 
   -- an event after which the groups of a set switched
-  switches_there : (e : Engine) (waiting left : Numbers) (members : List ℕ) (table : Table) (switching : Option Numbers) (event : Event) → IsEngine e waiting members → e.number < 1000000 → Went (is_switching switching) e.target e.table table waiting left
-      → state_in (with_table table e) ≡ next model (state_in e) event → HasTaken model e event (with_table table e) left members
-  switches_there e waiting left members table switching event kept room went state = record {
-    kept = kept_switched e waiting left members table (is_switching switching) kept went room (sound_next model lawful e (with_table table e) event kept.sound state);
+  switches_there : (e : Engine) (waiting left : Numbers) (table : Table) (switching : Option Numbers) (event : Event) → IsEngine e waiting → e.number < 1000000 → Went (is_switching switching) e.target e.table table waiting left
+      → state_in (with_table table e) ≡ next model (state_in e) event → HasTaken model e event (with_table table e) left
+  switches_there e waiting left table switching event kept room went state = record {
+    kept = kept_switched e waiting left table (is_switching switching) kept went room (sound_next model lawful e (with_table table e) event kept.sound state);
     state = state;
   }
 
@@ -180,7 +176,7 @@ module _ (model : Rules) (lawful : IsLawful model) where
   unfolding refusal_of
   accepted_stop s = refl
 
-  module _ (e : Engine) (waiting left : Numbers) (members : List ℕ) (table : Table) (switching : Option Numbers) (vs : List Verdict) (kept : IsEngine e waiting members) (room : e.number < 1000000) (are_switched : AreSwitched (is_judged vs) (is_switching switching) e.target e.table table waiting left) where
+  module _ (e : Engine) (waiting left : Numbers) (table : Table) (switching : Option Numbers) (vs : List Verdict) (kept : IsEngine e waiting) (room : e.number < 1000000) (are_switched : AreSwitched (is_judged vs) (is_switching switching) e.target e.table table waiting left) where
     there : (t : ℕ) (x : Standing) → standings e.table t ≡ Live x → slot e.table t ≡ Some x
     there t x live = slot_from_live e.table t x live
 
@@ -197,27 +193,27 @@ module _ (model : Rules) (lawful : IsLawful model) where
         switches-judged model lawful kind (state_in e) kept.sound vs enough e.table there t w.task (live_from_slot e.table t w.task w.there) w.off
         (sym (switches w.task.group (group_fits e t w.task kept.sound kept.wide w.there)) ∙ group_switches))
 
-    takes_walk : AreEnough model Check.Walk (state_in e) vs → ((g : ℕ) → g < 65536 → is_switching switching g ≡ list_any (nat_eq g) (groups_of (answer model (state_in e) Walk).what)) → HasTaken model e Walk (with_table table e) left members
+    takes_walk : AreEnough model Check.Walk (state_in e) vs → ((g : ℕ) → g < 65536 → is_switching switching g ≡ list_any (nat_eq g) (groups_of (answer model (state_in e) Walk).what)) → HasTaken model e Walk (with_table table e) left
     takes_walk enough same =
         let s = state_in e in
         let now = affected model s Walk in
         let switches = over_is now Walk switching (groups_of (answer model s Walk).what) (omega arith) (walk_listed s) same in
         let went = went_by Check.Walk enough (λ g h. switches g h ∙ switches-walk model lawful 65536 s (omega arith) kept.sound e.table there g) in
-        switches_there e waiting left members table switching Walk kept room went
-        (state-with_table e table (λ t. map_live (switched_if (switches_at model now Walk) e.target) (standings e.table t)) (standings_switched e waiting left members table (is_switching switching) (switches_at model now Walk) kept went switches)
+        switches_there e waiting left table switching Walk kept room went
+        (state-with_table e table (λ t. map_live (switched_if (switches_at model now Walk) e.target) (standings e.table t)) (standings_switched e waiting left table (is_switching switching) (switches_at model now Walk) kept went switches)
         ∙ sym (next-accepted model s Walk (accepted s) refl))
 
-    takes_stop : AreEnough model Check.Stop (state_in e) vs → ((g : ℕ) → g < 65536 → is_switching switching g ≡ list_any (nat_eq g) (groups_of (answer model (state_in e) Stop).what)) → HasTaken model e Stop (with_table table e) left members
+    takes_stop : AreEnough model Check.Stop (state_in e) vs → ((g : ℕ) → g < 65536 → is_switching switching g ≡ list_any (nat_eq g) (groups_of (answer model (state_in e) Stop).what)) → HasTaken model e Stop (with_table table e) left
     takes_stop enough same =
         let s = state_in e in
         let now = affected model s Stop in
         let switches = over_is now Stop switching (groups_of (answer model s Stop).what) (omega arith) (stop_listed s) same in
         let went = went_by Check.Stop enough (λ g h. switches g h ∙ switches-stop model lawful 65536 s (omega arith) kept.sound e.table there g) in
-        switches_there e waiting left members table switching Stop kept room went
-        (state-with_table e table (λ t. map_live (switched_if (switches_at model now Stop) e.target) (standings e.table t)) (standings_switched e waiting left members table (is_switching switching) (switches_at model now Stop) kept went switches)
+        switches_there e waiting left table switching Stop kept room went
+        (state-with_table e table (λ t. map_live (switched_if (switches_at model now Stop) e.target) (standings e.table t)) (standings_switched e waiting left table (is_switching switching) (switches_at model now Stop) kept went switches)
         ∙ sym (next-accepted model s Stop (accepted_stop s) refl))
 
-    takes_event : (event : Event) → is_scan event ≡ true → AreVerdictsFor model (state_in e) event vs → ((g : ℕ) → g < 65536 → is_switching switching g ≡ list_any (nat_eq g) (groups_of (answer model (state_in e) event).what)) → HasTaken model e event (with_table table e) left members
+    takes_event : (event : Event) → is_scan event ≡ true → AreVerdictsFor model (state_in e) event vs → ((g : ℕ) → g < 65536 → is_switching switching g ≡ list_any (nat_eq g) (groups_of (answer model (state_in e) event).what)) → HasTaken model e event (with_table table e) left
     takes_event Walk scan enough same = takes_walk enough same
     takes_event Stop scan enough same = takes_stop enough same
     takes_event (Call t f) scan enough same = absurd (cc)
@@ -234,10 +230,10 @@ module _ (model : Rules) (lawful : IsLawful model) where
     takes_event Reverse scan enough same = absurd (cc)
 
   -- a scan that was weighed on the engine that code holds
-  pub takes_scan : (e old : Engine) (table : Table) (waiting left : Numbers) (members : List ℕ) (step : Weighed) (switching : Option Numbers) → e ≡ old → IsEngine e waiting members → IsWeighed model old step → is_scan step.event ≡ true → HasSwitching step.event step.reply.what switching → AreSwitched (is_judged step.verdicts) (is_switching switching) e.target e.table table waiting left
-      → HasTaken model old step.event (with_table table e) left members
-  takes_scan e old table waiting left members step switching was kept weighed scan listed are_switched =
+  pub takes_scan : (e old : Engine) (table : Table) (waiting left : Numbers) (step : Weighed) (switching : Option Numbers) → e ≡ old → IsEngine e waiting → IsWeighed model old step → is_scan step.event ≡ true → HasSwitching step.event step.reply.what switching → AreSwitched (is_judged step.verdicts) (is_switching switching) e.target e.table table waiting left
+      → HasTaken model old step.event (with_table table e) left
+  takes_scan e old table waiting left step switching was kept weighed scan listed are_switched =
       let here : IsWeighed model e step = subst (λ (o : Engine). IsWeighed model o step) (sym was) weighed in
-      subst (λ (o : Engine). HasTaken model o step.event (with_table table e) left members) was
-      (takes_event e waiting left members table switching step.verdicts kept here.room are_switched step.event scan here.verdicts
+      subst (λ (o : Engine). HasTaken model o step.event (with_table table e) left) was
+      (takes_event e waiting left table switching step.verdicts kept here.room are_switched step.event scan here.verdicts
       (λ g h. listed scan g h ∙ ap (λ r. list_any (nat_eq g) (groups_of r.what)) here.reply))

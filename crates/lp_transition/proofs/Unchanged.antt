@@ -1,7 +1,8 @@
 -- What the engine keeps of its last scan stays true at each event.
 use Rattle.std.proofs.Common.{◌≡◌, ◌⊎◌, ℕ, suc, Bool, true, false, not, ◌&&◌, ◌||◌, List, Option, Some, None, is_some, is_none, if◌then◌else◌, nat_eq, refl, sym, ap, subst, ◌∙◌, ◌<◌, ⊎_elim, arith}
-use Rattle.std.proofs.lemmas.Bool.{false≢true, cond-false, cond-true, cases_Bool, eq-eqb, eqb-true, and_from, or_right, false_from_ne_true}
+use Rattle.std.proofs.lemmas.Bool.{false≢true, cond-false, cond-true, cases_Bool, eq-eqb, eqb-true, and_from, or_right, not_from_false, false_from_ne_true}
 use Rattle.std.specs.List.{list_any}
+use Rattle.std.specs.Option.{ForSome}
 use Rattle.lp_stack.specs.declared.number.TaskId.{TaskId}
 use Rattle.lp_stack.specs.declared.view.Mode.TheVariants.{User, Kernel, Asleep}
 use Rattle.lp_numbers.specs.Numbers.{Numbers, has}
@@ -9,6 +10,7 @@ use Rattle.lp_model.specs.Rules.{Rules, IsLawful}
 use Rattle.lp_model.specs.declared.check.CheckKind.{CheckKind}
 use Rattle.lp_model.specs.declared.check.ForkKind.{ForkKind}
 use Rattle.lp_model.specs.declared.check.CheckKind.TheVariants as kind
+use Rattle.lp_model.specs.declared.verdict.Verdict.{Verdict}
 use Rattle.lp_transition.specs.declared.event.Event.{Event}
 use Rattle.lp_transition.specs.declared.event.Event.TheVariants.{Call, Ret, Sleep, Wake, Enter, Exit, Idle, Fork, Die, Walk, Stop, Enable, Disable, Reverse}
 use Rattle.lp_transition.specs.declared.refusal.Refusal.{Refusal}
@@ -18,18 +20,19 @@ use Rattle.lp_transition.specs.Leg.{Standing, State}
 use Rattle.lp_transition.specs.Sound.{IsSound}
 use Rattle.lp_transition.specs.Machine.{view_of, put_in, calling, returning, bearing, own_effect, switches_at, switched_task, refusal_of, counted, affected, with_switches, next}
 use Rattle.lp_transition.specs.Table.{Table, Engine, IsWide, slot, standings, state_in}
-use Rattle.lp_transition.specs.Scan.{is_scan_kind, scan_event, verdicts_of, RefusesMember, MayLeaveOut}
-use Rattle.lp_transition.specs.Weigh.{child_of, born_by, born_of}
-use Rattle.lp_transition.specs.inside.Table.{is_in, with_task}
-use Rattle.lp_transition.specs.inside.Invariant.{IsEngine, LastScan, AreUnchanged, IsCore}
+use Rattle.lp_transition.specs.Scan.{is_scan_kind, scan_event, verdicts_of, RefusesMember, MayLeaveOut, AreEnough}
+use Rattle.lp_transition.specs.Weigh.{child_of, born_by, born_of, AreVerdictsFor}
+use Rattle.lp_transition.specs.inside.Table.{is_off, is_in, with_task}
+use Rattle.lp_transition.specs.inside.Invariant.{IsEngine, LastScan, AreUnchanged, IsNoted, IsCore}
 use Rattle.lp_transition.specs.inside.Points.{point_event}
-use Rattle.lp_transition.specs.inside.ScanSteps.{is_found, switches_by}
+use Rattle.lp_transition.specs.inside.ScanSteps.{is_found, switches_by, admits_task}
 use Rattle.lp_transition.proofs.EngineLemmas.{next-refused, next-accepted}
 use Rattle.lp_transition.proofs.Effects.{HasTaken}
 use Rattle.lp_transition.proofs.TableLemmas.{slot_from_live, slot-with_task}
 use Rattle.lp_transition.proofs.Accept.{fork-new}
 use Rattle.lp_transition.proofs.ScanAnswers.{switches-walk, switches-stop}
 use Rattle.lp_transition.proofs.ScanGroups.{found-from, found-is}
+use Rattle.lp_transition.proofs.Admitted.{admitted-is, enough_for}
 
 -- something happens to the task at the event, or it is born there
 abbrev pub touches : Event → ℕ → Bool
@@ -52,6 +55,9 @@ pub live_from : {A B : Type 0} (f : A → B) (fate : Fate A) (x : B) → map_liv
 live_from f Unused x e = absurd (cc)
 live_from f (Live y) x e = (y, refl, cc)
 live_from f Dead x e = absurd (cc)
+
+none_some : {A : Type 0} (a : A) → None ≡ Some a → ⊥
+none_some a e = absurd (cc)
 
 module _ (model : Rules) (s : State) (event : Event) where
   abbrev now : State
@@ -97,19 +103,21 @@ module _ (model : Rules) (s : State) (event : Event) where
   stands_still t x apart live stays =
       ap (map_live (switched_task model now event)) (own_same event t apart ∙ live) ∙ ap Live (switched_not x stays)
 
-  -- the groups of those to whom something happens are in the set before it and after it, and no group left the set
-  pub record TakesIn (old new : Numbers) : Type 0 where
-    pub keeps : (group : ℕ) → has new group ≡ false → has old group ≡ false
-    pub before : (t : ℕ) (x : Standing) → touches event t ≡ true → s.tasks t ≡ Live x → has new x.group ≡ true
-    pub after : (t : ℕ) (x : Standing) → touches event t ≡ true → (affected model s event).tasks t ≡ Live x → has new x.group ≡ true
+  -- the groups of those to whom something happens are in the set before it and after it, and no group left the set; so too with those tasks
+  pub record TakesIn (old new : LastScan) : Type 0 where
+    pub keeps : (group : ℕ) → has new.changed group ≡ false → has old.changed group ≡ false
+    pub before : (t : ℕ) (x : Standing) → touches event t ≡ true → s.tasks t ≡ Live x → has new.changed x.group ≡ true
+    pub after : (t : ℕ) (x : Standing) → touches event t ≡ true → (affected model s event).tasks t ≡ Live x → has new.changed x.group ≡ true
+    pub spares : (t : ℕ) → has new.may_refuse t ≡ false → has old.may_refuse t ≡ false
+    pub doubts : (t : ℕ) → touches event t ≡ true → has new.may_refuse t ≡ true
 
   -- a group to which nothing happens is refused as before
-  still_out : (on : CheckKind) (old new : Numbers) → TakesIn old new → MayLeaveOut model on s (has old) → MayLeaveOut model on (with_switches model s event) (has new)
+  still_out : (on : CheckKind) (old new : LastScan) → TakesIn old new → MayLeaveOut model on s (has old.changed) → MayLeaveOut model on (with_switches model s event) (has new.changed)
   still_out on old new takes was t x live off out =
       let w = left t x live off in
       let apart = false_from_ne_true (touches event t) (λ (hit : touches event t ≡ true). false≢true (sym out ∙ takes.after t x hit w.0)) in
       let r = was t x (sym (own_same event t apart) ∙ w.0) off (takes.keeps x.group out) in
-      let apart_too = false_from_ne_true (touches event r.member) (λ (hit : touches event r.member ≡ true). false≢true (sym out ∙ (ap (has new) (sym r.grouped) ∙ takes.before r.member r.life hit r.live))) in
+      let apart_too = false_from_ne_true (touches event r.member) (λ (hit : touches event r.member ≡ true). false≢true (sym out ∙ (ap (has new.changed) (sym r.grouped) ∙ takes.before r.member r.life hit r.live))) in
       record {
         member = r.member;
         life = r.life;
@@ -125,13 +133,18 @@ module _ (model : Rules) (s : State) (event : Event) where
       let r = was t x live off out in
       record { member = r.member; life = r.life; live = r.live; off = r.off; grouped = r.grouped; refused = r.refused }
 
-  still_unchanged : (o : Option CheckKind) (old new : Numbers) → (is_some o ≡ true → TakesIn old new) → AreUnchanged model s o old → AreUnchanged model (with_switches model s event) o new
-  still_unchanged None old new takes was = tt
-  still_unchanged (Some on) old new takes was = still_out on old new (takes refl) was
+  -- what a scan told stands after an event
+  still_unchanged : (on : CheckKind) (old new : LastScan) → TakesIn old new → AreUnchanged model on s old → AreUnchanged model on (with_switches model s event) new
+  still_unchanged on old new takes was = record {
+    left_out = still_out on old new takes was.left_out;
+    admitted = λ t x live off out.
+        let w = left t x live off in
+        let apart = false_from_ne_true (touches event t) (λ (hit : touches event t ≡ true). false≢true (sym out ∙ takes.doubts t hit)) in
+        was.admitted t x (sym (own_same event t apart) ∙ w.0) off (takes.spares t out);
+  }
 
-  counted_unchanged : (o : Option CheckKind) (old : Numbers) → AreUnchanged model s o old → AreUnchanged model (counted model s) o old
-  counted_unchanged None old was = tt
-  counted_unchanged (Some on) old was = counted_out on old was
+  counted_unchanged : (on : CheckKind) (old : LastScan) → AreUnchanged model on s old → AreUnchanged model on (counted model s) old
+  counted_unchanged on old was = record { left_out = counted_out on (old.changed) was.left_out; admitted = was.admitted }
 
 -- ---- A scan
 
@@ -180,29 +193,47 @@ module _ (model : Rules) (lawful : IsLawful model) (limit : ℕ) (s : State) (wi
       second true false h e = absurd (cc)
       second false b h e = absurd (cc)
 
+-- who waits after a scan, and isn't among those that one of its kind may refuse, was admitted by it or by one before
+module _ (model : Rules) (s : State) (on : CheckKind) (verdicts : List Verdict) (enough : AreEnough model on s verdicts) (waiting : Numbers) (before after : LastScan) (noted : IsNoted on waiting verdicts before after) (was : ForSome before.kind (λ k. AreUnchanged model k s before)) where
+  scan_admits : (t : ℕ) (x : Standing) → (with_switches model s (scan_event on)).tasks t ≡ Live x → nat_eq x.level s.target ≡ false → has waiting t ≡ true → has after.may_refuse t ≡ false → model.blame on (view_of t x) s.aim ≡ None
+  scan_admits t x live off waits out =
+      let w = left model s (scan_event on) t x live off in
+      let stood : s.tasks t ≡ Live x = sym (own_same model s (scan_event on) (scan_event on) t (scan_touches on t)) ∙ w.0 in
+      ⊎_elim
+      (λ (told : list_any (admits_task t) verdicts ≡ true). admitted-is model on s verdicts enough t x stood told)
+      (λ (silent : list_any (admits_task t) verdicts ≡ false).
+      let sure = spared (has noted.doubted t) (list_any (admits_task t) verdicts) silent (sym (noted.left t) ∙ out) in
+      ⊎_elim
+      (λ (again : (before.kind ≡ Some on) × (noted.doubted ≡ before.may_refuse)). (was on again.0).admitted t x stood off (ap (λ set. has set t) (sym again.1) ∙ sure))
+      (λ (all : noted.doubted ≡ waiting). absurd (false≢true (sym sure ∙ (ap (λ set. has set t) all ∙ waits))))
+      noted.begun)
+      (cases_Bool (list_any (admits_task t) verdicts))
+    where
+      spared : (a b : Bool) → b ≡ false → (a && not b) ≡ false → a ≡ false
+      spared false b silent h = refl
+      spared true false silent h = absurd (cc)
+      spared true true silent h = absurd (cc)
+
 -- ---- What code keeps
 
-module _ (model : Rules) (e old new : Engine) (waiting left_waiting : Numbers) (members more : List ℕ) (event : Event) (before after : LastScan) (was : e ≡ old) (core : IsCore model e waiting members before) (taken : HasTaken model old event new left_waiting more) where
-  forget : (o : Option CheckKind) (set : Numbers) → o ≡ None → AreUnchanged model (state_in new) o set
-  forget o set none = subst (λ (p : Option CheckKind). AreUnchanged model (state_in new) p set) (sym none) tt
-
+module _ (model : Rules) (e old new : Engine) (waiting left_waiting : Numbers) (event : Event) (before after : LastScan) (was : e ≡ old) (core : IsCore model e waiting before) (taken : HasTaken model old event new left_waiting) where
   -- where it goes by no scan any longer
-  pub core_forgets : after.kind ≡ None → IsCore model new left_waiting more after
-  core_forgets none = record { engine = taken.kept; unchanged = forget after.kind after.changed none }
+  pub core_forgets : after.kind ≡ None → IsCore model new left_waiting after
+  core_forgets none = record { engine = taken.kept; unchanged = λ on some. absurd (none_some on (sym none ∙ some)) }
 
   came : state_in new ≡ next model (state_in e) event
   came = taken.state ∙ ap (λ (o : Engine). next model (state_in o) event) (sym was)
 
   -- a refused event
-  pub core_counts : (why : Refusal) → refusal_of model (state_in old) event ≡ Some why → after ≡ before → IsCore model new left_waiting more after
+  pub core_counts : (why : Refusal) → refusal_of model (state_in old) event ≡ Some why → after ≡ before → IsCore model new left_waiting after
   core_counts why refused same =
       let there = came ∙ next-refused model (state_in e) event why (ap (λ (o : Engine). refusal_of model (state_in o) event) was ∙ refused) in
       record {
         engine = taken.kept;
-        unchanged =
-            subst (λ (l : LastScan). AreUnchanged model (state_in new) l.kind l.changed) (sym same)
-            (subst (λ (st : State). AreUnchanged model st before.kind before.changed) (sym there)
-            (counted_unchanged model (state_in e) event before.kind before.changed core.unchanged));
+        unchanged = λ on some.
+            subst (λ (l : LastScan). AreUnchanged model on (state_in new) l) (sym same)
+            (subst (λ (st : State). AreUnchanged model on st before) (sym there)
+            (counted_unchanged model (state_in e) event on before (core.unchanged on (ap (λ (l : LastScan). l.kind) (sym same) ∙ some))));
       }
 
   module _ (accepted : refusal_of model (state_in old) event ≡ None) (plain : is_control event ≡ false) where
@@ -210,70 +241,92 @@ module _ (model : Rules) (e old new : Engine) (waiting left_waiting : Numbers) (
     switched = came ∙ next-accepted model (state_in e) event (ap (λ (o : Engine). refusal_of model (state_in o) event) was ∙ accepted) plain
 
     -- an accepted event whose task's group is noted
-    pub core_takes : after.kind ≡ before.kind → (is_some before.kind ≡ true → TakesIn model (state_in e) event before.changed after.changed) → IsCore model new left_waiting more after
+    pub core_takes : after.kind ≡ before.kind → (is_some before.kind ≡ true → TakesIn model (state_in e) event before after) → IsCore model new left_waiting after
     core_takes same takes = record {
       engine = taken.kept;
-      unchanged =
-          subst (λ (o : Option CheckKind). AreUnchanged model (state_in new) o after.changed) (sym same)
-          (subst (λ (st : State). AreUnchanged model st before.kind after.changed) (sym switched)
-          (still_unchanged model (state_in e) event before.kind before.changed after.changed takes core.unchanged));
+      unchanged = λ on some.
+          let was : before.kind ≡ Some on = sym same ∙ some in
+          subst (λ (st : State). AreUnchanged model on st after) (sym switched)
+          (still_unchanged model (state_in e) event on before after (takes (ap is_some was)) (core.unchanged on was));
     }
 
     -- a scan that the model doesn't use: nothing happens to anybody
-    pub core_stays : ((t : ℕ) → touches event t ≡ false) → after ≡ before → IsCore model new left_waiting more after
+    pub core_stays : ((t : ℕ) → touches event t ≡ false) → after ≡ before → IsCore model new left_waiting after
     core_stays apart same =
         core_takes (ap (λ (l : LastScan). l.kind) same) (λ some. record {
           keeps = λ group out. sym (ap (λ (l : LastScan). has l.changed group) same) ∙ out;
           before = λ t x hit live. absurd (false≢true (sym (apart t) ∙ hit));
           after = λ t x hit live. absurd (false≢true (sym (apart t) ∙ hit));
+          spares = λ t out. sym (ap (λ (l : LastScan). has l.may_refuse t) same) ∙ out;
+          doubts = λ t hit. absurd (false≢true (sym (apart t) ∙ hit));
         })
 
+    -- who waits after the event is in the set of those that wait
+    waits_after : (t : ℕ) (x : Standing) → (with_switches model (state_in e) event).tasks t ≡ Live x → nat_eq x.level (state_in e).target ≡ false → has left_waiting t ≡ true
+    waits_after t x live off =
+        let there = slot_from_live new.table t x (ap (λ (st : State). st.tasks t) switched ∙ live) in
+        taken.kept.waits t ∙ ap (is_off new.target) there ∙ not_from_false (nat_eq x.level new.target) (ap (λ (st : State). nat_eq x.level st.target) switched ∙ off)
+
     -- a scan after which this is noted
-    pub core_scans : IsLawful model → (on : CheckKind) → is_scan_kind on ≡ true → scan_event on ≡ event → after.kind ≡ Some on → IsCore model new left_waiting more after
-    core_scans lawful on scan is noted =
-        let wide : suc (state_in e).bounds.tasks ≡ 65536 = omega arith in
-        let refused : MayLeaveOut model on (with_switches model (state_in e) (scan_event on)) (has after.changed) =
-        scan_refused model lawful 65536 (state_in e) wide core.engine.sound e.table (λ t x live. slot_from_live e.table t x live) on scan (has after.changed) in
+    pub core_scans : IsLawful model → (on : CheckKind) → is_scan_kind on ≡ true → scan_event on ≡ event → (verdicts : List Verdict) → AreEnough model on (state_in e) verdicts → IsNoted on left_waiting verdicts before after → IsCore model new left_waiting after
+    core_scans lawful on scan is verdicts enough noted =
+        let s = state_in e in
+        let wide : suc s.bounds.tasks ≡ 65536 = omega arith in
+        let there = switched ∙ ap (with_switches model s) (sym is) in
+        let told : AreUnchanged model on (with_switches model s (scan_event on)) after = record {
+          left_out = scan_refused model lawful 65536 s wide core.engine.sound e.table (λ t x live. slot_from_live e.table t x live) on scan (has after.changed);
+          admitted = λ t x live off out. scan_admits model s on verdicts enough left_waiting before after noted core.unchanged t x live off (waits_after t x (ap (λ given. (with_switches model s given).tasks t) (sym is) ∙ live) off) out;
+        } in
         record {
           engine = taken.kept;
-          unchanged =
-              subst (λ (o : Option CheckKind). AreUnchanged model (state_in new) o after.changed) (sym noted)
-              (subst (λ (st : State). MayLeaveOut model on st (has after.changed)) (sym switched)
-              (subst (λ (given : Event). MayLeaveOut model on (with_switches model (state_in e) given) (has after.changed)) is refused));
+          unchanged = λ other some.
+              let same : Some on ≡ Some other = sym noted.noted ∙ some in
+              let one : on ≡ other = cc in
+              subst (λ k. AreUnchanged model k (state_in new) after) one (subst (λ (st : State). AreUnchanged model on st after) (sym there) told);
         }
 
 -- nothing was forgotten, or all
-pub core_rests : (model : Rules) (new : Engine) (waiting : Numbers) (members : List ℕ) (before after : LastScan) → IsCore model new waiting members before → (after ≡ before) ⊎ (after.kind ≡ None) → IsCore model new waiting members after
-core_rests model new waiting members before after core done =
+pub core_rests : (model : Rules) (new : Engine) (waiting : Numbers) (before after : LastScan) → IsCore model new waiting before → (after ≡ before) ⊎ (after.kind ≡ None) → IsCore model new waiting after
+core_rests model new waiting before after core done =
     ⊎_elim
-    (λ (same : after ≡ before). subst (λ (l : LastScan). IsCore model new waiting members l) (sym same) core)
-    (λ (none : after.kind ≡ None). record { engine = core.engine; unchanged = subst (λ (o : Option CheckKind). AreUnchanged model (state_in new) o after.changed) (sym none) tt })
+    (λ (same : after ≡ before). subst (λ (l : LastScan). IsCore model new waiting l) (sym same) core)
+    (λ (none : after.kind ≡ None). record { engine = core.engine; unchanged = λ on some. absurd (none_some on (sym none ∙ some)) })
     done
 
 -- ---- What is noted of a task
 
--- the group of the task that stands at a place of a table
+-- the task that stands at a place of a table, and its group
 abbrev pub Notes : Table → ℕ → LastScan → LastScan → Type 0
-Notes table a before after = (group : ℕ) → has after.changed group ≡ (has before.changed group || (is_some before.kind && is_in group (slot table a)))
+Notes table a before after =
+    ((group : ℕ) → has after.changed group ≡ (has before.changed group || (is_some before.kind && is_in group (slot table a))))
+    × ((t : ℕ) → has after.may_refuse t ≡ (has before.may_refuse t || (is_some before.kind && nat_eq t a)))
+
+first_out : (b c : Bool) → (b || c) ≡ false → b ≡ false
+first_out false c h = refl
+first_out true c h = h
 
 module _ (table : Table) (a : ℕ) (before after : LastScan) (noted : Notes table a before after) (some : is_some before.kind ≡ true) where
   kept_out : (group : ℕ) → has after.changed group ≡ false → has before.changed group ≡ false
-  kept_out group out = first_out (has before.changed group) (is_some before.kind && is_in group (slot table a)) (sym (noted group) ∙ out)
-    where
-      first_out : (b c : Bool) → (b || c) ≡ false → b ≡ false
-      first_out false c h = refl
-      first_out true c h = h
+  kept_out group out = first_out (has before.changed group) (is_some before.kind && is_in group (slot table a)) (sym (noted.0 group) ∙ out)
+
+  spared_out : (t : ℕ) → has after.may_refuse t ≡ false → has before.may_refuse t ≡ false
+  spared_out t out = first_out (has before.may_refuse t) (is_some before.kind && nat_eq t a) (sym (noted.1 t) ∙ out)
+
+  doubted_in : (t : ℕ) → nat_eq t a ≡ true → has after.may_refuse t ≡ true
+  doubted_in t hit =
+      noted.1 t
+      ∙ or_right (has before.may_refuse t) (is_some before.kind && nat_eq t a) (and_from (is_some before.kind) (nat_eq t a) some hit)
 
   taken_in : (x : Standing) → slot table a ≡ Some x → has after.changed x.group ≡ true
   taken_in x there =
-      noted x.group
+      noted.0 x.group
       ∙ or_right (has before.changed x.group) (is_some before.kind && is_in x.group (slot table a))
       (and_from (is_some before.kind) (is_in x.group (slot table a)) some (ap (is_in x.group) there ∙ eq-eqb x.group x.group refl))
 
 module _ (model : Rules) (e : Engine) (event : Event) (before after : LastScan) where
   -- an event whose own effect is a change of a task, which keeps its group
   pub changes_in : (a : ℕ) (f : Standing → Standing) → Notes e.table a before after → ((t : ℕ) → touches event t ≡ nat_eq t a) → own_effect model.child_group (suc e.number) event (standings e.table) ≡ change a f (standings e.table) → ((x : Standing) → (f x).group ≡ x.group)
-      → is_some before.kind ≡ true → TakesIn model (state_in e) event before.changed after.changed
+      → is_some before.kind ≡ true → TakesIn model (state_in e) event before after
   changes_in a f noted only own groups some = record {
     keeps = kept_out e.table a before after noted some;
     before = λ t x hit live. taken_in e.table a before after noted some x (slot_at t x hit live);
@@ -281,6 +334,8 @@ module _ (model : Rules) (e : Engine) (event : Event) (before after : LastScan) 
         let is = sym (only_t t hit) ∙ (sym (ap (λ (w : ℕ → Fate Standing). w t) own) ∙ live) in
         let w = live_from f (standings e.table t) x is in
         ap (has after.changed) (sym (sym (groups w.0) ∙ ap (λ (y : Standing). y.group) w.2)) ∙ taken_in e.table a before after noted some w.0 (slot_at t w.0 hit w.1);
+    spares = spared_out e.table a before after noted some;
+    doubts = λ t hit. doubted_in e.table a before after noted some t (at t hit);
   }
     where
       at : (t : ℕ) → touches event t ≡ true → nat_eq t a ≡ true
@@ -293,11 +348,13 @@ module _ (model : Rules) (e : Engine) (event : Event) (before after : LastScan) 
       only_t t hit = cond-true (nat_eq t a) (map_live f (standings e.table t)) (standings e.table t) (at t hit)
 
 -- the end of a task
-pub dies_in : (model : Rules) (e : Engine) (a : TaskId) (before after : LastScan) → Notes e.table a.0 before after → is_some before.kind ≡ true → TakesIn model (state_in e) (Die a) before.changed after.changed
+pub dies_in : (model : Rules) (e : Engine) (a : TaskId) (before after : LastScan) → Notes e.table a.0 before after → is_some before.kind ≡ true → TakesIn model (state_in e) (Die a) before after
 dies_in model e a before after noted some = record {
   keeps = kept_out e.table a.0 before after noted some;
   before = λ t x hit live. taken_in e.table a.0 before after noted some x (ap (slot e.table) (sym (eqb-true t a.0 hit)) ∙ slot_from_live e.table t x live);
   after = λ t x hit live. absurd (dead_live x (sym (cond-true (nat_eq t a.0) Dead (standings e.table t) hit) ∙ live));
+  spares = spared_out e.table a.0 before after noted some;
+  doubts = λ t hit. doubted_in e.table a.0 before after noted some t hit;
 }
   where
     dead_live : (x : Standing) → Dead ≡ Live x → ⊥
@@ -305,7 +362,7 @@ dies_in model e a before after noted some = record {
 
 -- and a birth, which is noted of the table with the child
 pub bears_in : (model : Rules) (e : Engine) (p c : TaskId) (how : ForkKind) (x : Standing) (before after : LastScan) → IsWide e.table → c.0 < 65536 → refusal_of model (state_in e) (Fork p c how) ≡ None → born_of model (state_in e) (Fork p c how) ≡ Some x
-    → Notes (with_task c.0 x e.table) c.0 before after → is_some before.kind ≡ true → TakesIn model (state_in e) (Fork p c how) before.changed after.changed
+    → Notes (with_task c.0 x e.table) c.0 before after → is_some before.kind ≡ true → TakesIn model (state_in e) (Fork p c how) before after
 bears_in model e p c how x before after wide h accepted born noted some = record {
   keeps = kept_out (with_task c.0 x e.table) c.0 before after noted some;
   before = λ t y hit live. absurd (none_some y (sym new.0 ∙ (ap (slot e.table) (sym (eqb-true t c.0 hit)) ∙ slot_from_live e.table t y live)));
@@ -315,6 +372,8 @@ bears_in model e p c how x before after wide h accepted born noted some = record
       let same : Some x ≡ Some y = sym brought ∙ (ap (child_of model.child_group c.0 (Fork p c how)) w.1 ∙ ap {A = Standing} {B = Option Standing} Some w.2) in
       let one : x ≡ y = cc in
       ap (λ (z : Standing). has after.changed z.group) (sym one) ∙ taken_in (with_task c.0 x e.table) c.0 before after noted some x (slot-with_task e.table c.0 x wide h);
+  spares = spared_out (with_task c.0 x e.table) c.0 before after noted some;
+  doubts = λ t hit. doubted_in (with_task c.0 x e.table) c.0 before after noted some t hit;
 }
   where
     new : (slot e.table c.0 ≡ None) × (has e.table.used c.0 ≡ false)
@@ -322,9 +381,6 @@ bears_in model e p c how x before after wide h accepted born noted some = record
 
     brought : child_of model.child_group c.0 (Fork p c how) (standings e.table p.0) ≡ Some x
     brought = subst (λ o. born_by model.child_group o (Fork p c how) (standings e.table) ≡ Some x) accepted born
-
-    none_some : (y : Standing) → None ≡ Some y → ⊥
-    none_some y e = absurd (cc)
 
 pub point_touches : (on : CheckKind) (t : TaskId) (u : ℕ) → touches (point_event on t) u ≡ nat_eq u t.0
 point_touches kind.KernelExit t u = refl
@@ -334,12 +390,12 @@ point_touches kind.Stop t u = refl
 
 -- ---- The engine with what it noted
 
-module _ (model : Rules) (e old new : Engine) (waiting left_waiting : Numbers) (members more : List ℕ) (event : Event) (before after : LastScan) (was : e ≡ old) (core : IsCore model e waiting members before) (taken : HasTaken model old event new left_waiting more) (accepted : refusal_of model (state_in old) event ≡ None) (kind : after.kind ≡ before.kind) where
+module _ (model : Rules) (e old new : Engine) (waiting left_waiting : Numbers) (event : Event) (before after : LastScan) (was : e ≡ old) (core : IsCore model e waiting before) (taken : HasTaken model old event new left_waiting) (accepted : refusal_of model (state_in old) event ≡ None) (kind : after.kind ≡ before.kind) where
   -- after a change of a task
   pub core_changes : (a : ℕ) (f : Standing → Standing) → is_control event ≡ false → Notes e.table a before after → ((t : ℕ) → touches event t ≡ nat_eq t a) → own_effect model.child_group (suc e.number) event (standings e.table) ≡ change a f (standings e.table) → ((x : Standing) → (f x).group ≡ x.group)
-      → IsCore model new left_waiting more after
+      → IsCore model new left_waiting after
   core_changes a f plain noted only own groups =
-      core_takes model e old new waiting left_waiting members more event before after was core taken accepted plain kind (changes_in model e event before after a f noted only own groups)
+      core_takes model e old new waiting left_waiting event before after was core taken accepted plain kind (changes_in model e event before after a f noted only own groups)
 
 -- ---- A scan that was taken
 
@@ -356,25 +412,25 @@ scan_plain kind.Stop = refl
 scan_plain kind.KernelExit = refl
 scan_plain kind.IdlePoint = refl
 
-module _ (model : Rules) (lawful : IsLawful model) (e old new : Engine) (waiting left_waiting : Numbers) (members more : List ℕ) (event : Event) (before after : LastScan) (was : e ≡ old) (core : IsCore model e waiting members before) (taken : HasTaken model old event new left_waiting more) where
+module _ (model : Rules) (lawful : IsLawful model) (e old new : Engine) (waiting left_waiting : Numbers) (event : Event) (before after : LastScan) (was : e ≡ old) (core : IsCore model e waiting before) (taken : HasTaken model old event new left_waiting) where
   -- after a scan, whether it was noted or not
-  pub core_scanned : (on : CheckKind) → is_scan_kind on ≡ true → scan_event on ≡ event → (after ≡ before) ⊎ (after.kind ≡ Some on) → IsCore model new left_waiting more after
-  core_scanned on scan is noted =
+  pub core_scanned : (on : CheckKind) → is_scan_kind on ≡ true → scan_event on ≡ event → (verdicts : List Verdict) → AreVerdictsFor model (state_in old) event verdicts → (after ≡ before) ⊎ IsNoted on left_waiting verdicts before after → IsCore model new left_waiting after
+  core_scanned on scan is verdicts enough noted =
       let accepted : refusal_of model (state_in old) event ≡ None = ap (refusal_of model (state_in old)) (sym is) ∙ scan_free model (state_in old) on in
       let plain : is_control event ≡ false = ap is_control (sym is) ∙ scan_plain on in
+      let here : AreEnough model on (state_in e) verdicts = enough_for model (state_in e) on verdicts scan (subst (λ given. AreVerdictsFor model (state_in e) given verdicts) (sym is) (subst (λ (o : Engine). AreVerdictsFor model (state_in o) event verdicts) (sym was) enough)) in
       ⊎_elim
-      (λ (same : after ≡ before). core_stays model e old new waiting left_waiting members more event before after was core taken accepted plain (λ t. ap (λ given. touches given t) (sym is) ∙ scan_touches on t) same)
-      (λ (some : after.kind ≡ Some on). core_scans model e old new waiting left_waiting members more event before after was core taken accepted plain lawful on scan is some)
+      (λ (same : after ≡ before). core_stays model e old new waiting left_waiting event before after was core taken accepted plain (λ t. ap (λ given. touches given t) (sym is) ∙ scan_touches on t) same)
+      (λ (some : IsNoted on left_waiting verdicts before after). core_scans model e old new waiting left_waiting event before after was core taken accepted plain lawful on scan is verdicts here some)
       noted
 
 -- ---- An engine that starts, and one that scans
 
-pub core_starts : (model : Rules) (e : Engine) (waiting : Numbers) (members : List ℕ) (last : LastScan) → IsEngine e waiting members → last.kind ≡ None → IsCore model e waiting members last
-core_starts model e waiting members last kept none = record { engine = kept; unchanged = subst (λ (o : Option CheckKind). AreUnchanged model (state_in e) o last.changed) (sym none) tt }
+pub core_starts : (model : Rules) (e : Engine) (waiting : Numbers) (last : LastScan) → IsEngine e waiting → last.kind ≡ None → IsCore model e waiting last
+core_starts model e waiting last kept none = record { engine = kept; unchanged = λ on some. absurd (none_some on (sym none ∙ some)) }
 
 -- a scan of the kind of the last one may leave out the groups that haven't changed
-pub leaves_out : (model : Rules) (e old : Engine) (waiting : Numbers) (members : List ℕ) (last : LastScan) (on : CheckKind) (asked : Numbers) → e ≡ old → IsCore model e waiting members last → (last.kind ≡ Some on) × (asked ≡ last.changed) → MayLeaveOut model on (state_in old) (has asked)
-leaves_out model e old waiting members last on asked was core told =
+pub leaves_out : (model : Rules) (e old : Engine) (waiting : Numbers) (last : LastScan) (on : CheckKind) (asked : Numbers) → e ≡ old → IsCore model e waiting last → (last.kind ≡ Some on) × (asked ≡ last.changed) → MayLeaveOut model on (state_in old) (has asked)
+leaves_out model e old waiting last on asked was core told =
     subst (λ (o : Engine). MayLeaveOut model on (state_in o) (has asked)) was
-    (subst (λ (set : Numbers). MayLeaveOut model on (state_in e) (has set)) (sym told.1)
-    (subst (λ (o : Option CheckKind). AreUnchanged model (state_in e) o last.changed) told.0 core.unchanged))
+    (subst (λ (set : Numbers). MayLeaveOut model on (state_in e) (has set)) (sym told.1) (core.unchanged on told.0).left_out)

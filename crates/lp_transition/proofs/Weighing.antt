@@ -35,24 +35,24 @@ use Rattle.lp_transition.proofs.Alone.{ChecksAlone}
 use Rattle.lp_transition.proofs.LoneChecks.{put_on, takes_switch, none-switches_now, others-stay_now}
 use Rattle.lp_transition.proofs.Completes.{answer-taken, not-completed, completed_by, completed}
 
-module _ (model : Rules) (lawful : IsLawful model) (e : Engine) (waiting : Numbers) (members : List ℕ) (kept : IsEngine e waiting members) (room : e.number < 1000000) where
+module _ (model : Rules) (lawful : IsLawful model) (e : Engine) (waiting : Numbers) (kept : IsEngine e waiting) (room : e.number < 1000000) where
   -- an event that changes one task and takes no group over completes nothing
   pub answer-change : (event : Event) (t : ℕ) (f : Standing → Standing) → t < 65536 → is_control event ≡ false → ((group : ℕ) → switches_at model (affected model (state_in e) event) event group ≡ false) → refusal_of model (state_in e) event ≡ None
       → own_effect model.child_group (suc e.number) event (standings e.table) ≡ change t f (standings e.table) → ((x : Standing) → (f x).level ≡ x.level) → ((x : Standing) → (f x).group ≡ x.group)
       → answer model (state_in e) event ≡ record { what = told model (state_in e) event; completed = false }
   answer-change event t f small plain none accepted own levels groups =
-      let taken = takes_change_still model lawful e e (changed t f e.table) waiting members event t f refl refl kept small room plain none accepted own levels groups in
+      let taken = takes_change_still model lawful e e (changed t f e.table) waiting event t f refl refl kept small room plain none accepted own levels groups in
       answer-taken model e (with_table (changed t f e.table) e) event accepted plain taken.state
-      ∙ ap {A = Bool} {B = Reply} (λ b. record { what = told model (state_in e) event; completed = b }) (sym (not-completed e (with_table (changed t f e.table) e) waiting waiting members members kept taken.kept (λ empty. empty)))
+      ∙ ap {A = Bool} {B = Reply} (λ b. record { what = told model (state_in e) event; completed = b }) (sym (not-completed e (with_table (changed t f e.table) e) waiting waiting kept taken.kept (λ empty. empty)))
 
   -- nor does one that leaves the tasks alone
   pub answer-nothing : (event : Event) → is_control event ≡ false → ((group : ℕ) → switches_at model (affected model (state_in e) event) event group ≡ false) → refusal_of model (state_in e) event ≡ None
       → own_effect model.child_group (suc e.number) event (standings e.table) ≡ standings e.table
       → answer model (state_in e) event ≡ record { what = told model (state_in e) event; completed = false }
   answer-nothing event plain none accepted own =
-      let taken = takes_nothing model lawful e e waiting members event refl kept room plain none accepted own in
+      let taken = takes_nothing model lawful e e waiting event refl kept room plain none accepted own in
       answer-taken model e (with_table e.table e) event accepted plain taken.state
-      ∙ ap {A = Bool} {B = Reply} (λ b. record { what = told model (state_in e) event; completed = b }) (sym (not-completed e (with_table e.table e) waiting waiting members members kept taken.kept (λ empty. empty)))
+      ∙ ap {A = Bool} {B = Reply} (λ b. record { what = told model (state_in e) event; completed = b }) (sym (not-completed e (with_table e.table e) waiting waiting kept taken.kept (λ empty. empty)))
 
   -- where no group switches, an event that is no call reports that it was done
   pub done-still : (event : Event) → ((group : ℕ) → switches_at model (affected model (state_in e) event) event group ≡ false) → told model (state_in e) event ≡ switched (switched_groups model (affected model (state_in e) event) event) → told model (state_in e) event ≡ Done
@@ -135,14 +135,14 @@ module _ (model : Rules) (lawful : IsLawful model) (e : Engine) (waiting : Numbe
       let none = still event refl in
       answer-accepted model s event accepted
       ∙ ap₂ {A = What} {B = Bool} {C = Reply} (λ what b. record { what = what; completed = b }) (done-still event none refl)
-      (ap {A = State} {B = Bool} (λ now. complete_in now && not (complete_in s)) (switched-still model s event none) ∙ sym (completed_by e waiting members t.0 last (complete_in (affected model s event)) kept (die-complete t) lone))
+      (ap {A = State} {B = Bool} (λ now. complete_in now && not (complete_in s)) (switched-still model s event none) ∙ sym (completed_by e waiting t.0 last (complete_in (affected model s event)) kept (die-complete t) lone))
 
   -- a check that a task makes alone
   module _ (event : Event) (kind : CheckKind) (t : ℕ) (small : t < 65536) (f : Standing → Standing) (levels : (x : Standing) → (f x).level ≡ x.level) (groups : (x : Standing) → (f x).group ≡ x.group) (x : Standing) (there : slot e.table t ≡ Some x) (checks : ChecksAlone (bounds_of e.patches) (change t f (standings e.table)) event t kind) (plain : is_control event ≡ false) (accepted : refusal_of model (state_in e) event ≡ None) (own : own_effect model.child_group (suc e.number) event (standings e.table) ≡ change t f (standings e.table)) (reports : told model (state_in e) event ≡ switched (switched_groups model (affected model (state_in e) event) event)) where
     -- its group stays
     pub answer-stays : switches_at model (affected model (state_in e) event) event (f x).group ≡ false → answer model (state_in e) event ≡ record { what = Done; completed = false }
     answer-stays stays =
-        let none = none-switches_now model lawful e waiting members kept event kind t small f levels groups x there checks e refl own stays in
+        let none = none-switches_now model lawful e waiting kept event kind t small f levels groups x there checks e refl own stays in
         answer-change event t f small plain none accepted own levels groups
         ∙ ap {A = What} {B = Reply} (λ what. record { what = what; completed = false }) (done-still event none reports)
 
@@ -151,17 +151,17 @@ module _ (model : Rules) (lawful : IsLawful model) (e : Engine) (waiting : Numbe
         → answer model (state_in e) event ≡ record { what = switched ((f x).group ∷ []); completed = last }
     answer-switches within last lone switches =
         let table = changed t (put_on e.target) (changed t f e.table) in
-        let taken = takes_switch model lawful e waiting members kept event kind t small f levels groups x there checks e table (set waiting t false) refl refl refl (length-set waiting t false ∙ kept.waiting_wide) room plain accepted own switches in
+        let taken = takes_switch model lawful e waiting kept event kind t small f levels groups x there checks e table (set waiting t false) refl refl refl (length-set waiting t false ∙ kept.waiting_wide) room plain accepted own switches in
         let new = with_table table e in
-        let one = switched-one-group model (affected model (state_in e) event) event (f x).group (omega (arith, within)) switches (λ n ne. others-stay_now model lawful e waiting members kept event kind t small f levels groups x there checks e refl own n (λ same. ne (sym same))) in
+        let one = switched-one-group model (affected model (state_in e) event) event (f x).group (omega (arith, within)) switches (λ n ne. others-stay_now model lawful e waiting kept event kind t small f levels groups x there checks e refl own n (λ same. ne (sym same))) in
         answer-taken model e new event accepted plain taken.state
         ∙ ap₂ {A = What} {B = Bool} {C = Reply} (λ what b. record { what = what; completed = b }) (reports ∙ ap switched one)
-        (sym (completed e new waiting (set waiting t false) members members t last kept taken.kept small refl lone))
+        (sym (completed e new waiting (set waiting t false) t last kept taken.kept small refl lone))
 
     -- and the answer says so
     pub switched-where_switches : (f x).group < 65536 → switches_at model (affected model (state_in e) event) event (f x).group ≡ true → is_switched (answer model (state_in e) event).what ≡ true
     switched-where_switches within switches =
-        let one = switched-one-group model (affected model (state_in e) event) event (f x).group (omega (arith, within)) switches (λ n ne. others-stay_now model lawful e waiting members kept event kind t small f levels groups x there checks e refl own n (λ same. ne (sym same))) in
+        let one = switched-one-group model (affected model (state_in e) event) event (f x).group (omega (arith, within)) switches (λ n ne. others-stay_now model lawful e waiting kept event kind t small f levels groups x there checks e refl own n (λ same. ne (sym same))) in
         ap (λ (r : Reply). is_switched r.what) (answer-accepted model (state_in e) event accepted ∙ cond-false _ _ _ plain) ∙ ap is_switched (reports ∙ ap switched one)
 
     -- it switches where the answer says that groups switched
@@ -263,8 +263,8 @@ weighed-as model e step event reply born plain room is answers bears =
     subst (IsWeighed model e) (sym is) there
 
 -- the group of a live task is a number below 65,536
-pub group-below : (e : Engine) (waiting : Numbers) (members : List ℕ) (t : ℕ) (x : Standing) → IsEngine e waiting members → slot e.table t ≡ Some x → x.group < 65536
-group-below e waiting members t x kept there = ⊎_elim (λ (h : x.group < 65536). h) (λ (h : 65536 ≤ x.group). absurd (past h)) (cases_lt x.group 65536)
+pub group-below : (e : Engine) (waiting : Numbers) (t : ℕ) (x : Standing) → IsEngine e waiting → slot e.table t ≡ Some x → x.group < 65536
+group-below e waiting t x kept there = ⊎_elim (λ (h : x.group < 65536). h) (λ (h : 65536 ≤ x.group). absurd (past h)) (cases_lt x.group 65536)
   where
     unused : 65536 ≤ x.group → standings e.table x.group ≡ Unused
     unused h = ap₂ fate_at (get_or_past e.table.slots x.group None (omega (arith, h, kept.wide.slots))) (get_or_past e.table.used x.group false (omega (arith, h, kept.wide.used)))

@@ -1,5 +1,5 @@
 -- The frame by which a waiting group is known to be refused, and what becomes of it at each event.
-use Rattle.std.specs.Prelude.{◌≡◌, ℕ, ◌<◌, Bool, false, List, map, Option, Some, None, is_none, if◌then◌else◌, nat_eq, slice_index_or}
+use Rattle.std.specs.Prelude.{◌≡◌, ℕ, ◌<◌, Bool, true, false, List, map, Option, Some, None, is_none, if◌then◌else◌, nat_eq, slice_index_or}
 use Rattle.std.specs.List.{range_with_len, list_any}
 use Rattle.std.specs.Option.{option_map}
 use Rattle.lp_model.specs.declared.check.CheckKind.{CheckKind}
@@ -11,9 +11,10 @@ use Rattle.lp_transition.specs.declared.event.Event.{Event}
 use Rattle.lp_transition.specs.declared.refusal.Refusal.{Refusal}
 use Rattle.lp_transition.specs.declared.engine.blames.StandingBlame.{StandingBlame}
 use Rattle.lp_transition.specs.Events.{is_control}
-use Rattle.lp_transition.specs.Tasks.{on_live, first_of}
-use Rattle.lp_transition.specs.Leg.{State}
+use Rattle.lp_transition.specs.Tasks.{Live, on_live, first_of}
+use Rattle.lp_transition.specs.Leg.{Standing, State}
 use Rattle.lp_transition.specs.Machine.{view_of, affected, refusal_of}
+use Rattle.lp_transition.specs.Scan.{verdicts_of, verdicts_at}
 use Rattle.lp_transition.specs.Table.{Engine, state_in}
 use Rattle.lp_transition.specs.Weigh.{AreVerdictsFor}
 
@@ -33,6 +34,10 @@ abbrev pub first_blamed_in : Rules → State → CheckKind → (group : ℕ) →
 first_blamed_in model s kind group =
     first_of (map (λ t. option_map (λ why. (t, why)) (blame_in model s kind group t)) (range_with_len 1 s.bounds.tasks))
 
+-- the verdict is of a member of the group
+abbrev pub is_of : State → (group : ℕ) → Verdict → Bool
+is_of s group verdict = on_live false (λ x. nat_eq x.group group) (s.tasks verdict.task.0)
+
 -- the verdict's task and blame, if it refuses a member of the group
 abbrev pub member_verdict : State → (group : ℕ) → Verdict → Option (ℕ × Blame)
 member_verdict s group verdict =
@@ -43,6 +48,19 @@ member_verdict s group verdict =
 -- the first of these verdicts that refuses a member of the group
 abbrev pub first_refused : State → (group : ℕ) → List Verdict → Option (ℕ × Blame)
 first_refused s group verdicts = first_of (map (member_verdict s group) verdicts)
+
+-- of each group that passes a test these verdicts tell the first member that a scan refuses, or that it refuses none; of the
+-- others nothing
+pub record TellOf (model : Rules) (kind : CheckKind) (s : State) (asked : ℕ → Bool) (verdicts : List Verdict) : Type 0 where
+  pub looked : ℕ → Bool
+  pub found : verdicts ≡ verdicts_at model kind s looked
+  -- nobody of another group is looked at
+  pub only : (t : ℕ) (x : Standing) → s.tasks t ≡ Live x → looked t ≡ true → asked x.group ≡ true
+  -- somebody of each that waits is
+  pub each :
+      (t : ℕ) (x : Standing) → s.tasks t ≡ Live x → nat_eq x.level s.target ≡ false → asked x.group ≡ true →
+      list_any (is_of s x.group) verdicts ≡ true
+  pub first : (group : ℕ) → asked group ≡ true → first_refused s group verdicts ≡ first_refused s group (verdicts_of model kind s)
 
 -- ---- Standing blames
 

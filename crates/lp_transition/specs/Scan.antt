@@ -77,11 +77,30 @@ verdicts_among model kind s asked = filter (λ v. is_asked s asked v.task.0) (ve
 abbrev pub verdicts_used : Rules → CheckKind → State → List Verdict
 verdicts_used model kind s = if model.uses kind then verdicts_of model kind s else []
 
--- these verdicts are enough to answer a scan: they are of the waiting tasks of some groups, and the others may be left out
+-- ---- Whom a scan may pass over
+
+-- a check of this kind refuses a waiting member of the group, and a scan that looks at any waiting member looks at this one
+pub record RefusesLooked (model : Rules) (kind : CheckKind) (s : State) (looked : ℕ → Bool) (group : ℕ) : Type 0 where
+  pub refusal : RefusesMember model kind s group
+  pub seen : (t : ℕ) (x : Standing) → s.tasks t ≡ Live x → nat_eq x.level s.target ≡ false → x.group ≡ group → looked t ≡ true → looked refusal.member ≡ true
+
+-- a scan of this kind may pass over the tasks that fail a test: of the group of each that waits it would refuse a member, and it
+-- looks at that one where it looks at any member. So the members of a group that switches are all looked at, and one that is
+-- refused is not taken for one that switches
+abbrev pub MayPassOver : Rules → CheckKind → State → (looked : ℕ → Bool) → Type 0
+MayPassOver model kind s looked =
+    (t : ℕ) (x : Standing) → s.tasks t ≡ Live x → nat_eq x.level s.target ≡ false → looked t ≡ false →
+    RefusesLooked model kind s looked x.group
+
+-- what a scan finds of the waiting tasks that pass a test, by increasing number
+abbrev pub verdicts_at : Rules → CheckKind → State → (looked : ℕ → Bool) → List Verdict
+verdicts_at model kind s looked = filter (λ v. looked v.task.0) (verdicts_of model kind s)
+
+-- these verdicts are enough to answer a scan: they are of some waiting tasks, and the others may be passed over
 pub record AreEnough (model : Rules) (kind : CheckKind) (s : State) (verdicts : List Verdict) : Type 0 where
-  pub asked : ℕ → Bool
-  pub others : MayLeaveOut model kind s asked
-  pub found : verdicts ≡ verdicts_among model kind s asked
+  pub looked : ℕ → Bool
+  pub others : MayPassOver model kind s looked
+  pub found : verdicts ≡ verdicts_at model kind s looked
 
 -- ---- Numbers in increasing order
 

@@ -4,5 +4,7 @@ pub mod Blames
 pub mod Invariant
 pub mod ScanSteps
 pub mod Slots
+pub mod Deep
 pub mod Unswitched
 pub mod Table
+pub mod FirstRefusals

@@ -14,8 +14,12 @@ mod blame_table;
 mod blames;
 mod boot;
 mod control;
+mod deep_stack;
+mod deep_stacks;
 mod dispatch;
+mod first_refusals;
 mod live_task;
+mod live_view;
 mod open_scan;
 mod opening;
 mod plain_events;
@@ -60,8 +64,6 @@ pub struct Core<M: Consistency> {
     tasks: TaskTable,
     /// The live tasks off the target.
     waiting: NumberSet,
-    /// For each group, how many live members it has.
-    members: Vec<u32>,
     unchanged: Unchanged,
     blames: Blames,
 }
@@ -74,7 +76,7 @@ impl<M: Consistency> Model for Core<M> {
 
     ghost view = { λ c. record { number = c.events; from = c.from.0; target = c.target.0; patches = c.patches; table = c.tasks; blames = c.blames } };
 
-    ghost invariant = { λ c. IsWhole M.rules (record { number = c.events; from = c.from.0; target = c.target.0; patches = c.patches; table = c.tasks; blames = c.blames }) c.waiting c.members.items c.unchanged };
+    ghost invariant = { λ c. IsWhole M.rules (record { number = c.events; from = c.from.0; target = c.target.0; patches = c.patches; table = c.tasks; blames = c.blames }) c.waiting c.unchanged };
 }
 
 impl<M: Consistency> Core<M> {
@@ -155,7 +157,7 @@ impl<M: Consistency> Core<M> {
         ensures alone { ForSome (slot self.now.table task.0) (λ x. result ≡ is_alone (bounds_of self.now.patches) (outlines_of (standings self.now.table)) x.group task.0) }
     {
         match self.tasks.get(task) {
-            Some(live) => self.members[usize::from(live.group().0)] == 1,
+            Some(live) => self.tasks.is_alone(live.group(), task),
             None => false,
         }
     }

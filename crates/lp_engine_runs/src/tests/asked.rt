@@ -54,7 +54,10 @@ fn take_in<M: Consistency>(core: &Core<M>, task: TaskId, groups: &mut NumberSet)
 }
 
 /// The groups that wait.
-fn waiting<M: Consistency>(alloc: Global, core: &Core<M>) -> Result<NumberSet, AllocError>
+pub(super) fn waiting<M: Consistency>(
+    alloc: Global,
+    core: &Core<M>,
+) -> Result<NumberSet, AllocError>
     ensures { IfOk result (λ set. (task : ℕ) (x : Standing) → slot core.now.table task ≡ Some x → nat_eq x.level core.now.target ≡ false → has set x.group ≡ true) }
 {
     let mut set = NumberSet::new(alloc)?;

@@ -1,8 +1,9 @@
 //! An allocation that fails: nothing has happened, and the same call succeeds after it.
 //!
 //! `scripts/refuse-memory` runs these tests with each allocation refused in turn.
+use super::first_refusals::{RETURNS, Row, weighed};
 use super::*;
-use lp_model::ForkKind;
+use lp_model::{CheckKind, ForkKind, Verdict};
 use lp_models::AllAtOnce;
 use lp_patch::PatchFault;
 use lp_process::ProcessGroup;
@@ -264,5 +265,39 @@ fn an_engine_is_asked_again_after_a_failed_allocation(rt: HostRuntime) -> Result
     assert!(rt; is_seen(rt.alloc(), &core)?);
     assert!(rt; is_copied(rt.alloc(), &core)?);
     assert!(rt; shown_by(&core).levels == LEVELS);
+    Ok(())
+}
+
+/// Whether a walk, weighed by first refusals, has these verdicts. Where an allocation fails, the same
+/// call weighs it.
+fn is_weighed(alloc: Global, core: &Core<ProcessGroup>, found: &[Verdict]) -> Result<bool, Halt> {
+    let scan = match weighed(alloc, core, CheckKind::Walk) {
+        Err(Halt::NoMemory) => weighed(alloc, core, CheckKind::Walk)?,
+        answer => answer?,
+    };
+    Ok(scan.verdicts() == found)
+}
+
+/// Whether each of these walks, before it is taken, is weighed so.
+fn are_weighed(
+    rt: &impl Abort,
+    alloc: Global,
+    core: &mut Core<ProcessGroup>,
+    rows: &[Row],
+) -> Result<bool, Fail> {
+    for (events, found, _) in rows {
+        answers(rt, alloc, core, events)?;
+        if !is_weighed(alloc, core, found)? {
+            return Ok(false);
+        }
+        answer(rt, alloc, core, Event::Walk)?;
+    }
+    Ok(true)
+}
+
+#[test]
+fn first_refusals_are_weighed_after_a_failed_allocation(rt: HostRuntime) -> Result<(), Fail> {
+    let mut core = booted(rt.alloc(), ProcessGroup, &ALONE)?;
+    assert!(rt; are_weighed(&rt, rt.alloc(), &mut core, &RETURNS)?);
     Ok(())
 }

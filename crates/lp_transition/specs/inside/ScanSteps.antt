@@ -1,5 +1,5 @@
 -- How the engine goes from the verdicts of a scan to who switches, and what it leaves.
-use Rattle.std.specs.Prelude.{◌≡◌, ◌≢◌, ◌↔◌, ℕ, ◌<◌, ◌≤◌, Bool, true, false, not, ◌&&◌, List, [], length, map, count_by, Option, Some, None, is_some, is_none, if◌then◌else◌, nat_eq}
+use Rattle.std.specs.Prelude.{◌≡◌, ◌≢◌, ◌↔◌, ℕ, ◌<◌, ◌≤◌, Bool, true, false, not, ◌&&◌, List, [], length, map, Option, Some, None, is_some, is_none, if◌then◌else◌, nat_eq}
 use Rattle.std.specs.List.{list_any}
 use Rattle.std.specs.Option.{option_map}
 use Rattle.lp_model.specs.declared.verdict.Verdict.{Verdict}
@@ -26,6 +26,10 @@ tasks_of verdicts = map (λ v. v.task.0) verdicts
 -- the task is one of those looked at
 abbrev pub is_judged : List Verdict → ℕ → Bool
 is_judged verdicts t = list_any (nat_eq t) (tasks_of verdicts)
+
+-- the verdict is this task's, and admits it
+abbrev pub admits_task : ℕ → Verdict → Bool
+admits_task t v = is_none v.blame && nat_eq t v.task.0
 
 -- ---- Who switches by the verdicts
 
@@ -84,7 +88,6 @@ pub record IsTaskSwitched (switches : ℕ → Bool) (target t : ℕ) (old new : 
   pub numbers : length left ≡ length waiting
   pub used : new.used ≡ old.used
   pub wide : IsWide old → IsWide new
-  pub members : IsWide old → (group : ℕ) → count_by (is_in group) new.slots ≡ count_by (is_in group) old.slots
 
 -- each task that passes a test switched with its group, and waits no longer
 pub record AreSwitched (taken switches : ℕ → Bool) (target : ℕ) (old new : Table) (waiting left : Numbers) : Type 0 where
@@ -93,7 +96,6 @@ pub record AreSwitched (taken switches : ℕ → Bool) (target : ℕ) (old new :
   pub numbers : length left ≡ length waiting
   pub used : new.used ≡ old.used
   pub wide : IsWide old → IsWide new
-  pub members : IsWide old → (group : ℕ) → count_by (is_in group) new.slots ≡ count_by (is_in group) old.slots
 
 -- ---- Going through a set of numbers
 

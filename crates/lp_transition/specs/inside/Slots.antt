@@ -3,16 +3,19 @@ use Rattle.std.specs.Prelude.{◌≡◌, ℕ, true, List, Option, None, map, len
 use Rattle.std.specs.Global.{Box}
 use Rattle.std.specs.Option.{option_map}
 use Rattle.lp_numbers.specs.Numbers.{Numbers, has}
+use Rattle.lp_numbers.specs.Groups.{Groups, is_member}
 use Rattle.lp_transition.specs.Leg.{Standing}
+use Rattle.lp_transition.specs.inside.Table.{is_in}
 
 -- the live tasks that the boxes hold
 abbrev pub slots_of : List (Option (Box Standing)) → List (Option Standing)
 slots_of boxes = map (option_map (λ (b : Box Standing). b.value)) boxes
 
--- slots for all numbers, and the set of those that have a live task
-pub record IsTable (slots : List (Option Standing)) (live used : Numbers) : Type 0 where
+-- slots for all numbers, the set of those that have a live task, and the members of each group
+pub record IsTable (slots : List (Option Standing)) (live used : Numbers) (members : Groups) : Type 0 where
   pub slots_wide : length slots ≡ 65536
   pub used_wide : length used ≡ 65536
   pub living : (t : ℕ) → has live t ≡ is_some (slice_index_or slots t None)
   -- who lives has a number that was used
   pub known : (t : ℕ) → is_some (slice_index_or slots t None) ≡ true → has used t ≡ true
+  pub grouped : (group t : ℕ) → is_member members group t ≡ is_in group (slice_index_or slots t None)

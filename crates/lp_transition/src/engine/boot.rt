@@ -1,11 +1,11 @@
 //! The start of an engine.
-ghost use Rattle.std.specs.Prelude.{◌≡◌, ℕ, ◌<◌, ◌≤◌, [], Err, None, length, count_by, slice_index, All, IfSome, IfOk, OnOk, OnErr};
+ghost use Rattle.std.specs.Prelude.{◌≡◌, ℕ, ◌<◌, ◌≤◌, [], Err, None, length, All, IfSome, IfOk, OnOk, OnErr};
 ghost use Rattle.lp_transition.specs.Run.{start, booted, at_boot, first_mode};
 ghost use Rattle.lp_transition.specs.Steps.{StandsIn};
 ghost use Rattle.lp_transition.specs.Boot.{boot_refusal};
 ghost use Rattle.lp_transition.specs.Table.{IsWide, standings, state_in, bounds_of};
 ghost use Rattle.lp_transition.specs.Blames.{blame_of};
-ghost use Rattle.lp_transition.specs.inside.Table.{IsBlank, is_in};
+ghost use Rattle.lp_transition.specs.inside.Table.{IsBlank};
 ghost use Rattle.lp_transition.specs.declared.engine.boot.BootFault.TheVariants.{NoMemory};
 
 use super::Core;
@@ -71,7 +71,7 @@ impl<M: Consistency> Core<M> {
             return Err(fault);
         }
         let mut table = TaskTable::new(alloc)?;
-        let members = put_all(alloc, model, tasks, &mut table)?;
+        put_all(alloc, model, tasks, &mut table)?;
         Ok(Core {
             model,
             patches,
@@ -80,7 +80,6 @@ impl<M: Consistency> Core<M> {
             events: 0,
             tasks: table,
             waiting: NumberSet::new(alloc)?,
-            members,
             unchanged: Unchanged::new(alloc)?,
             blames: Blames::new(alloc)?,
         })
@@ -121,39 +120,26 @@ fn at_boot<M: Consistency>(model: M, task: TaskId, class: Class) -> LiveTask
     ensures number { task.0 ≤ 65535 }
 {
     let group = model.first_group(task);
-    LiveTask::new(task, class, first_mode(class), group, Level(0))
+    LiveTask::new(class, first_mode(class), group, Level(0))
 }
 
-/// As many zeros as are asked for.
-fn zeros(alloc: Global, count: usize) -> Result<Vec<u32>, AllocError>
-    ensures zero { IfOk result (λ numbers. (n : ℕ) → slice_index numbers.items n ≡ 0) }
-    ensures count { IfOk result (λ numbers. length numbers.items ≡ count) }
-{
-    vec![in alloc; 0; count]
-}
-
-/// Makes each boot task live; answers how many members each group has.
+/// Makes each boot task live.
 fn put_all<M: Consistency>(
     alloc: Global,
     model: M,
     boots: &[(TaskId, Class)],
     tasks: &mut TaskTable,
-) -> Result<Vec<u32>, BootFault>
+) -> Result<(), BootFault>
     requires no_fault { boot_refusal boots.now ≡ None }
     requires blank { IsBlank tasks.old }
     ensures live { OnOk result (standings tasks.new ≡ booted M.rules boots.now) }
     ensures wide { OnOk result (IsWide tasks.new) }
-    ensures groups { IfOk result (λ members. length members.items ≡ 65536) }
-    ensures counted { IfOk result (λ members. (group : ℕ) → group < 65536 → slice_index members.items group ≡ count_by (is_in group) tasks.new.slots) }
     ensures in_range { OnOk result (All (λ boot. (0 < boot.0.0) × (boot.0.0 ≤ 65535)) boots.now) }
     ensures memory { OnErr result (result ≡ Err NoMemory) }
 {
-    let mut members = zeros(alloc, NUMBERS)?;
     for (task, class) in boots {
         let live = at_boot(model, *task, *class);
-        let group = usize::from(live.group().0);
         tasks.put(*task, Box::new(alloc, live)?);
-        members[group] += 1;
     }
-    Ok(members)
+    Ok(())
 }

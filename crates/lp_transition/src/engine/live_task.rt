@@ -1,18 +1,28 @@
-//! A live task.
-ghost use Rattle.std.specs.Prelude.{◌≡◌, ◌<◌, ◌≤◌, [], length};
+//! The record of a live task.
+ghost use Rattle.std.specs.Prelude.{◌≡◌, ◌≢◌, ℕ, ◌<◌, ◌≤◌, [], Some, length};
+ghost use Rattle.std.specs.Option.{ForSome, option_map};
+ghost use Rattle.lp_transition.specs.inside.Deep.{deep_at, with_deep, IsRecorded};
 
+use super::deep_stacks::DeepStacks;
+use super::live_view::LiveView;
 use super::point::point_mode;
+use arrayvec::ArrayVec;
 use lp_model::CheckKind;
-use lp_stack::{Class, Frame, GroupId, Level, Mode, TaskId, TaskStack, View};
+use lp_stack::{Class, Frame, GroupId, Level, Mode, TaskId};
 use lp_symbols::SymId;
 use std::marker::Model;
 
-/// A live task with its level and its group. No call allocates.
+/// The most frames that the record of a task has room for.
+pub(crate) const OWN_FRAMES: usize = 6;
+
+/// A live task with its level and its group, and at most 6 frames. No call allocates.
 #[derive(Drop)]
 pub(crate) struct LiveTask {
-    stack: TaskStack,
+    class: Class,
+    mode: Mode,
     level: Level,
     group: GroupId,
+    frames: ArrayVec<Frame, OWN_FRAMES>,
 }
 
 impl Model for LiveTask {
@@ -21,37 +31,26 @@ impl Model for LiveTask {
 
     ghost Value = { Standing };
 
-    ghost view = { λ t. record { class = t.stack.class; mode = t.stack.mode; group = t.group.0; level = t.level.0; frames = t.stack.frames } };
+    ghost view = { λ t. record { class = t.class; mode = t.mode; group = t.group.0; level = t.level.0; frames = t.frames.items } };
+
+    ghost invariant = { λ t. length t.frames.items ≤ 6 };
 }
 
 impl LiveTask {
-    ghost use Rattle.lp_stack.specs.TaskView.{seen};
     ghost use Rattle.lp_transition.specs.Leg.{Standing};
-    ghost use Rattle.lp_transition.specs.Machine.{view_of, put_in, calling, returning};
+    ghost use Rattle.lp_transition.specs.Machine.{put_in, calling, returning};
     ghost use Rattle.lp_transition.specs.inside.Points.{at_point};
 
     /// A task with an empty stack.
-    pub(crate) fn new(task: TaskId, class: Class, mode: Mode, group: GroupId, level: Level) -> Self
+    pub(crate) fn new(class: Class, mode: Mode, group: GroupId, level: Level) -> Self
         ensures { result ≡ record { class = class; mode = mode; group = group.0; level = level.0; frames = [] } }
     {
         LiveTask {
-            stack: TaskStack::new(task, class, mode),
+            class,
+            mode,
             level,
             group,
-        }
-    }
-
-    /// The task as a check sees it, under the number that it has.
-    #[inline(always)]
-    pub(crate) fn view(&self, task: TaskId) -> View<'_>
-        ensures { seen result ≡ view_of task.0 self.now }
-    {
-        let view = self.stack.view();
-        View {
-            task,
-            class: view.class,
-            mode: view.mode,
-            frames: view.frames,
+            frames: ArrayVec::new(),
         }
     }
 
@@ -59,10 +58,43 @@ impl LiveTask {
     pub(crate) fn copy(&self) -> LiveTask
         ensures { result ≡ self.now }
     {
+        let mut frames = ArrayVec::new();
+        // As many frames as fit one record fit another.
+        let _ = frames.try_extend_from_slice(self.frames.as_slice());
         LiveTask {
-            stack: self.stack.copy(),
+            class: self.class,
+            mode: self.mode,
             level: self.level,
             group: self.group,
+            frames,
+        }
+    }
+
+    /// The task of this number as it stands, with the deep stack that it may have.
+    #[inline(always)]
+    pub(crate) fn view<'a>(&'a self, deep: &'a DeepStacks, task: TaskId) -> LiveView<'a>
+        requires { IsRecorded (Some self.now) (deep_at deep.now task.0) }
+        ensures { Some result ≡ with_deep (Some self.now) (deep_at deep.now task.0) }
+    {
+        let own = self.frames.as_slice();
+        if own.len() < OWN_FRAMES {
+            return self.with_frames(own);
+        }
+        self.with_frames(deep.frames(task).unwrap_or(own))
+    }
+
+    /// The task with these frames in place of its own.
+    #[inline(always)]
+    fn with_frames<'a>(&self, frames: &'a [Frame]) -> LiveView<'a>
+        requires { length frames.now ≤ 100 }
+        ensures { result ≡ record self.now { frames = frames.now } }
+    {
+        LiveView {
+            class: self.class,
+            mode: self.mode,
+            group: self.group,
+            level: self.level,
+            frames,
         }
     }
 
@@ -81,51 +113,44 @@ impl LiveTask {
         self.group
     }
 
-    /// The class of the task.
+    /// The task of this number calls a function, on its level; it has room for one more frame.
     #[inline(always)]
-    pub(crate) fn class(&self) -> Class
-        ensures { result ≡ self.now.class }
-    {
-        self.stack.view().class
-    }
-
-    /// The mode of the task.
-    #[inline(always)]
-    pub(crate) fn mode(&self) -> Mode
-        ensures { result ≡ self.now.mode }
-    {
-        self.stack.view().mode
-    }
-
-    /// How many frames are on the stack.
-    #[inline(always)]
-    pub(crate) fn depth(&self) -> usize
-        ensures value { result ≡ length self.now.frames }
-        ensures few { result ≤ 100 }
-    {
-        self.stack.view().frames.len()
-    }
-
-    /// Pushes a frame of a function, on the task's level.
-    #[inline(always)]
-    pub(crate) fn call(&mut self, func: SymId, serial: u32)
-        requires { length self.old.frames < 100 }
-        ensures { self.new ≡ calling serial func self.old }
+    pub(crate) fn call(&mut self, deep: &mut DeepStacks, task: TaskId, func: SymId, serial: u32)
+        requires recorded { IsRecorded (Some self.old) (deep_at deep.old task.0) }
+        requires room { ForSome (with_deep (Some self.old) (deep_at deep.old task.0)) (λ x. length x.frames < 100) }
+        ensures called { with_deep (Some self.new) (deep_at deep.new task.0) ≡ option_map (calling serial func) (with_deep (Some self.old) (deep_at deep.old task.0)) }
+        ensures recorded { IsRecorded (Some self.new) (deep_at deep.new task.0) }
+        ensures others { (other : ℕ) → other ≢ task.0 → deep_at deep.new other ≡ deep_at deep.old other }
     {
         let frame = Frame {
             func,
             level: self.level,
             serial,
         };
-        let _ = self.stack.push(frame);
+        if self.frames.len() < OWN_FRAMES {
+            self.frames.push(frame);
+            return;
+        }
+        deep.push(task, self.frames.as_slice(), frame);
     }
 
-    /// Pops the frame that was pushed last, if there is one.
+    /// The task of this number returns from the function that it called last, if there is one.
     #[inline(always)]
-    pub(crate) fn ret(&mut self)
-        ensures { self.new ≡ returning self.old }
+    pub(crate) fn ret(&mut self, deep: &mut DeepStacks, task: TaskId)
+        requires recorded { IsRecorded (Some self.old) (deep_at deep.old task.0) }
+        ensures returned { with_deep (Some self.new) (deep_at deep.new task.0) ≡ option_map returning (with_deep (Some self.old) (deep_at deep.old task.0)) }
+        ensures recorded { IsRecorded (Some self.new) (deep_at deep.new task.0) }
+        ensures others { (other : ℕ) → other ≢ task.0 → deep_at deep.new other ≡ deep_at deep.old other }
     {
-        let _ = self.stack.pop();
+        if self.frames.len() < OWN_FRAMES {
+            let _ = self.frames.pop();
+            return;
+        }
+        // A record keeps the lowest frames of a deep stack, so nothing is moved back.
+        if deep.pop(task) {
+            return;
+        }
+        let _ = self.frames.pop();
     }
 
     /// Puts the task in a mode.
@@ -133,15 +158,14 @@ impl LiveTask {
     pub(crate) fn set_mode(&mut self, mode: Mode)
         ensures { self.new ≡ put_in mode self.old }
     {
-        self.stack.set_mode(mode);
+        self.mode = mode;
     }
 
     /// The task is checked alone.
     pub(crate) fn reach_point(&mut self, kind: CheckKind)
         ensures { self.new ≡ at_point kind self.old }
     {
-        let mode = point_mode(kind, self.mode());
-        self.set_mode(mode);
+        self.mode = point_mode(kind, self.mode);
     }
 
     /// Puts the task on a level.

@@ -9,7 +9,8 @@ ghost use Rattle.lp_transition.specs.Blames.{is_open};
 ghost use Rattle.lp_transition.specs.Weigh.{IsWeighed, may_allocate};
 ghost use Rattle.lp_transition.specs.Steps.{IsReply};
 ghost use Rattle.lp_transition.specs.Scan.{is_asked, is_scan_kind, scan_event, MayLeaveOut, passing, verdicts_among, views_of};
-ghost use Rattle.lp_transition.specs.inside.ScanSteps.{IsOwnGroup, task_switches, tasks_of};
+ghost use Rattle.lp_transition.specs.inside.ScanSteps.{IsOwnGroup, tasks_of};
+ghost use Rattle.lp_transition.specs.inside.Table.{is_in};
 ghost use Rattle.lp_transition.specs.declared.engine.step.Halt.TheVariants.{NoMemory, JournalFull};
 ghost use Rattle.lp_transition.specs.Machine.{answer};
 
@@ -21,7 +22,7 @@ use super::{Core, MOST_EVENTS};
 use crate::Event;
 use lp_model::{CheckKind, Consistency, Verdict};
 use lp_numbers::NumberSet;
-use lp_stack::{TaskId, View};
+use lp_stack::{GroupId, TaskId, View};
 use std::alloc::{AllocError, Global};
 
 impl<M: Consistency> Core<M> {
@@ -51,7 +52,7 @@ impl<M: Consistency> Core<M> {
         ensures event { IfOk result (λ step. step.event ≡ scan_event kind) }
     {
         match self.unchanged.asked(kind) {
-            Some(asked) => self.weigh_asked(alloc, kind, asked),
+            Some(asked) => self.weigh_first_refusals(alloc, kind, asked),
             None => self.weigh_check(alloc, kind),
         }
     }
@@ -76,10 +77,22 @@ impl<M: Consistency> Core<M> {
         if self.events >= MOST_EVENTS {
             return Err(Halt::JournalFull);
         }
-        let views = self.asked_views(alloc, asked)?;
-        let aim = self.aim();
-        let found = verdicts(alloc, &self.model, kind, views.as_slice(), &aim)?;
+        let found = self.asked_verdicts(alloc, kind, asked)?;
         self.weigh_found(alloc, kind, found)
+    }
+
+    /// What a check finds of the waiting tasks of some groups, by increasing number.
+    pub(super) fn asked_verdicts(
+        &self,
+        alloc: Global,
+        kind: CheckKind,
+        groups: &NumberSet,
+    ) -> Result<Vec<Verdict>, AllocError>
+        ensures { IfOk result (λ found. found.items ≡ verdicts_among M.rules kind (state_in self.now) (has groups.now)) }
+    {
+        let views = self.asked_views(alloc, groups)?;
+        let aim = self.aim();
+        verdicts(alloc, &self.model, kind, views.as_slice(), &aim)
     }
 
     /// The waiting tasks as checks see them whose groups have no standing blame, by increasing number;
@@ -138,13 +151,13 @@ impl<M: Consistency> Core<M> {
         if self.are_own(groups) {
             return views_in(alloc, &self.tasks, &self.waiting, groups);
         }
-        let members = members_of(alloc, &self.tasks, &self.waiting, groups)?;
+        let members = members_of(alloc, &self.tasks, groups)?;
         views_in(alloc, &self.tasks, &self.waiting, &members)
     }
 
     /// Most groups have one member, of their own number: then the groups are the tasks to look at, and
     /// no set of members has to be made.
-    fn are_own(&self, groups: &NumberSet) -> bool
+    pub(super) fn are_own(&self, groups: &NumberSet) -> bool
         ensures { IsTrue result → (group : ℕ) → group < 65536 → has groups.now group ≡ true → IsOwnGroup self.now.table group }
     {
         let mut next = member_from(groups, 0);
@@ -161,41 +174,30 @@ impl<M: Consistency> Core<M> {
     fn is_own(&self, number: u16) -> bool
         ensures { IsTrue result → IsOwnGroup self.now.table number }
     {
-        let members = self.members[usize::from(number)];
-        match self.tasks.get(TaskId(number)) {
-            Some(live) => live.group().0 == number && members == 1,
-            None => members == 0,
+        let group = GroupId(number);
+        let task = TaskId(number);
+        match self.tasks.get(task) {
+            Some(_) => self.tasks.is_alone(group, task),
+            None => self.tasks.is_empty_group(group),
         }
     }
 }
 
-/// The waiting tasks of some groups.
-fn members_of(
+/// The live tasks of some groups, at the cost of the groups and of these tasks.
+pub(super) fn members_of(
     alloc: Global,
     tasks: &TaskTable,
-    waiting: &NumberSet,
     groups: &NumberSet,
 ) -> Result<NumberSet, AllocError>
-    ensures { IfOk result (λ set. (task : ℕ) → has set task ≡ list_any (λ t. nat_eq t task && task_switches (has groups.now) (slot tasks.now t)) (passing 0 65536 (has waiting.now))) }
+    ensures { IfOk result (λ set. (task : ℕ) → has set task ≡ list_any (λ group. is_in group (slot tasks.now task)) (passing 0 65536 (has groups.now))) }
 {
     let mut members = NumberSet::new(alloc)?;
-    let mut next = member_from(waiting, 0);
-    while let Some(number) = next {
-        add_member(&mut members, tasks, groups, TaskId(number));
-        next = member_from(waiting, usize::from(number) + 1);
+    let mut next = member_from(groups, 0);
+    while let Some(group) = next {
+        tasks.add_members(GroupId(group), &mut members);
+        next = member_from(groups, usize::from(group) + 1);
     }
     Ok(members)
-}
-
-/// Takes in a live task whose group is one of these.
-fn add_member(members: &mut NumberSet, tasks: &TaskTable, groups: &NumberSet, task: TaskId)
-    ensures { (other : ℕ) → has members.new other ≡ (has members.old other || (nat_eq task.0 other && task_switches (has groups.now) (slot tasks.now task.0))) }
-{
-    if let Some(live) = tasks.get(task) {
-        if groups.contains(live.group().0) {
-            members.insert(task.0);
-        }
-    }
 }
 
 /// Whether these verdicts, which are by increasing number, are of all members of the waiting set.

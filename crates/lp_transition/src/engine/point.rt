@@ -50,11 +50,11 @@ impl<M: Consistency> Core<M> {
         let Some(live) = self.tasks.get(task) else {
             return false;
         };
-        let members = self.members[usize::from(live.group().0)];
         if !self.waiting.contains(task.0) {
             return false;
         }
-        if members != 1 {
+        let alone = self.tasks.is_alone(live.group(), task);
+        if !alone {
             return false;
         }
         let view = live.view(task);

@@ -16,7 +16,7 @@ ghost use Rattle.lp_transition.specs.Scan.{is_scan_kind, scan_event, views_of, v
 ghost use Rattle.lp_transition.specs.inside.ScanSteps.{IsNextBelow, waiting_slot, tasks_of, is_judged, is_found, switches_by, all_admit, groups_of, is_switching, IsTaskSwitched, AreSwitched};
 ghost use Rattle.lp_transition.specs.declared.engine.step.Halt.TheVariants.{JournalFull};
 
-use super::live_task::LiveTask;
+use super::live_view::LiveView;
 use super::open_scan::looks_at_all;
 use super::step::{Halt, Step};
 use super::task_table::TaskTable;
@@ -114,7 +114,8 @@ impl<M: Consistency> Core<M> {
         );
         let kind = scan_kind(step.event());
         let is_used = self.model.uses(kind);
-        self.unchanged.scanned(kind, is_used);
+        self.unchanged
+            .scanned(kind, is_used, &self.waiting, step.verdicts());
         self.unchanged.reset_if_done(&self.waiting);
     }
 }
@@ -141,8 +142,12 @@ pub(super) fn views_in<'a>(
 }
 
 /// The live task of a number, where it waits.
-fn waiting_task<'a>(tasks: &'a TaskTable, waiting: &NumberSet, task: TaskId) -> Option<&'a LiveTask>
-    ensures { option_copied result ≡ waiting_slot tasks.now waiting.now task.0 }
+pub(super) fn waiting_task<'a>(
+    tasks: &'a TaskTable,
+    waiting: &NumberSet,
+    task: TaskId,
+) -> Option<LiveView<'a>>
+    ensures { result ≡ waiting_slot tasks.now waiting.now task.0 }
 {
     if !waiting.contains(task.0) {
         return None;
@@ -286,7 +291,7 @@ pub(super) fn add_group(groups: &mut NumberSet, tasks: &TaskTable, task: TaskId)
 }
 
 /// Takes out the group of a live task.
-fn remove_group(groups: &mut NumberSet, tasks: &TaskTable, task: TaskId)
+pub(super) fn remove_group(groups: &mut NumberSet, tasks: &TaskTable, task: TaskId)
     ensures { (group : ℕ) → has groups.new group ≡ (has groups.old group && not (is_in group (slot tasks.now task.0))) }
 {
     if let Some(live) = tasks.get(task) {

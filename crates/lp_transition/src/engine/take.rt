@@ -8,7 +8,6 @@ ghost use Rattle.lp_transition.specs.Machine.{refusal_of, next};
 use super::Core;
 use super::control::put_number;
 use super::live_task::LiveTask;
-use super::weigh::group_of;
 use crate::Event;
 use lp_model::{Consistency, ForkKind};
 use lp_stack::{Mode, TaskId};
@@ -95,10 +94,8 @@ impl<M: Consistency> Core<M> {
         ensures state { state_in self.new ≡ next M.rules (state_in self.old) (Event.Fork parent child how) }
         ensures blames { AreBlamesAfter M.rules self.old (Event.Fork parent child how) [] self.new }
     {
-        let group = usize::from(live.group().0);
         let waits = live.level() != self.target;
         self.events += 1;
-        self.members[group] += 1;
         put_number(&mut self.waiting, child.0, waits);
         self.tasks.put(child, live);
         self.unchanged.touch(&self.tasks, child);
@@ -111,9 +108,7 @@ impl<M: Consistency> Core<M> {
         ensures state { state_in self.new ≡ next M.rules (state_in self.old) (Event.Die task) }
         ensures blames { AreBlamesAfter M.rules self.old (Event.Die task) [] self.new }
     {
-        let group = usize::from(group_of(&self.tasks, task).0);
         self.events += 1;
-        self.members[group] -= 1;
         self.waiting.remove(task.0);
         self.unchanged.touch(&self.tasks, task);
         self.tasks.remove(task);

@@ -1,15 +1,18 @@
 //! The live tasks by their numbers.
-ghost use Rattle.std.specs.Prelude.{◌≡◌, ℕ, ◌<◌, ◌≤◌, not, length, is_some, option_copied, IfOk};
+ghost use Rattle.std.specs.Prelude.{◌≡◌, ℕ, ◌<◌, ◌≤◌, ◌&&◌, ◌||◌, false, not, length, nat_eq, true, None, IfSome, IfNone, IsTrue, ◌↔◌, is_some, IfOk};
 ghost use Rattle.std.specs.Option.{ForSome, option_map};
 ghost use Rattle.lp_numbers.specs.Numbers.{has, IsNextFrom};
+ghost use Rattle.lp_numbers.specs.Groups.{is_member};
 ghost use Rattle.lp_transition.specs.inside.Slots.{slots_of};
 ghost use Rattle.lp_transition.specs.Tasks.{is_unused};
 ghost use Rattle.lp_transition.specs.Machine.{put_in, calling, returning};
 ghost use Rattle.lp_transition.specs.inside.Points.{at_point};
 
+use super::deep_stacks::DeepStacks;
 use super::live_task::LiveTask;
+use super::live_view::LiveView;
 use lp_model::CheckKind;
-use lp_numbers::{NUMBERS, NumberSet};
+use lp_numbers::{Members, NUMBERS, NumberSet};
 use lp_stack::{GroupId, Level, Mode, TaskId};
 use lp_symbols::SymId;
 use std::alloc::{AllocError, Global};
@@ -19,8 +22,12 @@ use std::marker::Model;
 #[derive(Drop)]
 pub(crate) struct TaskTable {
     slots: Vec<Option<Box<LiveTask>>>,
+    /// The stacks that the records have no room for.
+    deep: DeepStacks,
     live: NumberSet,
     used: NumberSet,
+    /// The live tasks of each group.
+    members: Members,
 }
 
 impl Model for TaskTable {
@@ -30,18 +37,19 @@ impl Model for TaskTable {
     ghost use Rattle.lp_transition.specs.Leg.{Standing};
     ghost use Rattle.lp_transition.specs.Table.{Table, slot, IsWide};
     ghost use Rattle.lp_transition.specs.inside.Slots.{slots_of, IsTable};
+    ghost use Rattle.lp_transition.specs.inside.Deep.{deep_at, with_stacks, IsKept};
 
     ghost Value = { Table };
 
-    ghost view = { λ t. record { slots = slots_of t.slots.items; used = t.used } };
+    ghost view = { λ t. record { slots = with_stacks (slots_of t.slots.items) (deep_at t.deep); used = t.used } };
 
-    ghost invariant = { λ t. IsTable (slots_of t.slots.items) t.live t.used };
+    ghost invariant = { λ t. IsKept (slots_of t.slots.items) (deep_at t.deep) t.live t.used t.members };
 }
 
 impl TaskTable {
     ghost use Rattle.lp_transition.specs.Leg.{Standing};
     ghost use Rattle.lp_transition.specs.Table.{slot, standings, IsWide};
-    ghost use Rattle.lp_transition.specs.inside.Table.{changed, with_task, without_task, IsKnown, IsBlank};
+    ghost use Rattle.lp_transition.specs.inside.Table.{changed, with_task, without_task, is_in, IsKnown, IsBlank};
 
     /// A table without tasks.
     pub(crate) fn new(alloc: Global) -> Result<Self, AllocError>
@@ -53,19 +61,24 @@ impl TaskTable {
         }
         Ok(TaskTable {
             slots,
+            deep: DeepStacks::new(alloc)?,
             live: NumberSet::new(alloc)?,
             used: NumberSet::new(alloc)?,
+            members: Members::new(alloc)?,
         })
     }
 
     /// The live task of a number.
     #[inline(always)]
-    pub(crate) fn get(&self, task: TaskId) -> Option<&LiveTask>
-        ensures value { option_copied result ≡ slot self.now task.0 }
+    pub(crate) fn get(&self, task: TaskId) -> Option<LiveView<'_>>
+        ensures value { result ≡ slot self.now task.0 }
         ensures wide { IsWide self.now }
         ensures known { IsKnown self.now task.0 }
     {
-        self.slots[usize::from(task.0)].as_deref()
+        match &self.slots[usize::from(task.0)] {
+            Some(live) => Some(live.view(&self.deep, task)),
+            None => None,
+        }
     }
 
     /// The group of a live task; None for any other.
@@ -112,10 +125,44 @@ impl TaskTable {
         }
     }
 
-    /// Makes a task live, under a number.
+    /// Whether a task is the only live one of a group.
+    pub(crate) fn is_alone(&self, group: GroupId, task: TaskId) -> bool
+        ensures { IsTrue result ↔ ((t : ℕ) → is_in group.0 (slot self.now t) ≡ nat_eq t task.0) }
+    {
+        let _ = &self.slots;
+        self.members.is_only(group.0, task.0)
+    }
+
+    /// Whether a group has no live task.
+    pub(crate) fn is_empty_group(&self, group: GroupId) -> bool
+        ensures { IsTrue result ↔ ((t : ℕ) → is_in group.0 (slot self.now t) ≡ false) }
+    {
+        let _ = &self.slots;
+        self.members.is_empty_group(group.0)
+    }
+
+    /// Whether a group has more live tasks than a number says, at the cost of at most so many of them.
+    /// Only what a scan costs depends on it.
+    pub(crate) fn has_more_than(&self, group: GroupId, most: usize) -> bool {
+        let _ = &self.slots;
+        self.members.has_more_than(group.0, most)
+    }
+
+    /// Adds the live tasks of a group to a set, at the cost of these tasks.
+    pub(crate) fn add_members(&self, group: GroupId, set: &mut NumberSet)
+        ensures { (t : ℕ) → has set.new t ≡ (has set.old t || is_in group.0 (slot self.now t)) }
+    {
+        let _ = &self.slots;
+        self.members.add_to(group.0, set);
+    }
+
+    /// Makes a task live, under a number from 1 that no live task has.
     pub(crate) fn put(&mut self, task: TaskId, live: Box<LiveTask>)
+        requires positive { 0 < task.0 }
+        requires free { slot self.old task.0 ≡ None }
         ensures { self.new ≡ with_task task.0 live.value self.old }
     {
+        self.members.insert(live.group().0, task.0);
         self.slots[usize::from(task.0)] = Some(live);
         self.live.insert(task.0);
         self.used.insert(task.0);
@@ -126,6 +173,9 @@ impl TaskTable {
         ensures removed { self.new ≡ without_task task.0 self.old }
         ensures known { IsKnown self.old task.0 }
     {
+        let group = self.group_of(task);
+        leave(&mut self.members, group, task);
+        self.deep.remove(task);
         self.slots[usize::from(task.0)] = None;
         self.live.remove(task.0);
     }
@@ -137,7 +187,7 @@ impl TaskTable {
         ensures { self.new ≡ changed task.0 (calling serial func) self.old }
     {
         if let Some(live) = &mut self.slots[usize::from(task.0)] {
-            live.call(func, serial);
+            live.call(&mut self.deep, task, func, serial);
         }
     }
 
@@ -147,7 +197,7 @@ impl TaskTable {
         ensures { self.new ≡ changed task.0 returning self.old }
     {
         if let Some(live) = &mut self.slots[usize::from(task.0)] {
-            live.ret();
+            live.ret(&mut self.deep, task);
         }
     }
 
@@ -185,9 +235,22 @@ impl TaskTable {
     {
         Ok(TaskTable {
             slots: copied_slots(alloc, self.slots.as_slice())?,
+            deep: self.deep.copy(alloc)?,
             live: self.live.copy(alloc)?,
             used: self.used.copy(alloc)?,
+            members: self.members.copy(alloc)?,
         })
+    }
+}
+
+/// Takes a task out of its group, if it has one.
+fn leave(members: &mut Members, group: Option<GroupId>, task: TaskId)
+    requires member { IfSome group (λ own. is_member members.old own.0 task.0 ≡ true) }
+    requires stranger { IfNone group ((other : ℕ) → is_member members.old other task.0 ≡ false) }
+    ensures { (other n : ℕ) → is_member members.new other n ≡ (is_member members.old other n && not (nat_eq n task.0)) }
+{
+    if let Some(own) = group {
+        members.remove(own.0, task.0);
     }
 }
 

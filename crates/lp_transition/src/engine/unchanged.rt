@@ -1,19 +1,23 @@
-//! Which waiting groups a scan needn't ask again.
-ghost use Rattle.std.specs.Prelude.{◌≡◌, ◌⊎◌, ◌&&◌, ◌||◌, ℕ, None, Some, is_some, IfOk, IfSome};
+//! Which waiting groups a scan needn't ask again, and which waiting tasks it would admit again.
+ghost use Rattle.std.specs.Prelude.{◌≡◌, ◌⊎◌, ◌&&◌, ◌||◌, not, ℕ, None, Some, is_some, nat_eq, IfOk, IfSome};
+ghost use Rattle.std.specs.List.{list_any};
 ghost use Rattle.lp_numbers.specs.Numbers.{has};
 ghost use Rattle.lp_transition.specs.Table.{slot};
+ghost use Rattle.lp_transition.specs.inside.Invariant.{IsNoted};
+ghost use Rattle.lp_transition.specs.inside.ScanSteps.{admits_task};
 ghost use Rattle.lp_transition.specs.inside.Table.{is_in};
 
 use super::scan::add_group;
 use super::task_table::TaskTable;
-use lp_model::CheckKind;
+use lp_model::{CheckKind, Verdict};
 use lp_numbers::NumberSet;
 use lp_stack::TaskId;
 use std::alloc::{AllocError, Global};
 use std::marker::Model;
 
 /// What the engine keeps of its last scan: each group that waits and hasn't changed since is
-/// refused by a scan of this kind again.
+/// refused by a scan of this kind again, and each task that waits is admitted by one, but for those
+/// of a set.
 #[derive(Drop)]
 pub(super) struct Unchanged {
     /// The kind of the leg's last scan that the model uses; None where there was none, or nobody
@@ -21,6 +25,9 @@ pub(super) struct Unchanged {
     kind: Option<CheckKind>,
     /// The groups to which something happened since, and of use where there was a scan.
     changed: NumberSet,
+    /// The tasks that a scan may refuse, and of use where there was a scan. A task that doesn't wait
+    /// may be among them.
+    may_refuse: NumberSet,
 }
 
 impl Model for Unchanged {
@@ -28,7 +35,7 @@ impl Model for Unchanged {
 
     ghost Value = { LastScan };
 
-    ghost view = { λ u. record { kind = u.kind; changed = u.changed } };
+    ghost view = { λ u. record { kind = u.kind; changed = u.changed; may_refuse = u.may_refuse } };
 }
 
 impl Unchanged {
@@ -39,6 +46,7 @@ impl Unchanged {
         Ok(Unchanged {
             kind: None,
             changed: NumberSet::new(alloc)?,
+            may_refuse: NumberSet::new(alloc)?,
         })
     }
 
@@ -53,27 +61,59 @@ impl Unchanged {
         }
     }
 
+    /// The tasks that a scan of this kind may refuse, if not all that wait: it would admit each other
+    /// one that waits.
+    pub(super) fn may_refuse(&self, kind: CheckKind) -> Option<&NumberSet>
+        ensures { IfSome result (λ some. (self.now.kind ≡ Some kind) × (some.now ≡ self.now.may_refuse)) }
+    {
+        if self.kind != Some(kind) {
+            return None;
+        }
+        Some(&self.may_refuse)
+    }
+
     /// Something happens to a task, or it is born. Without a scan before there is nothing to note,
     /// so that a plain event then costs a look at the kind.
     #[inline(always)]
     pub(super) fn touch(&mut self, tasks: &TaskTable, task: TaskId)
         ensures kind { self.new.kind ≡ self.old.kind }
         ensures changed { (group : ℕ) → has self.new.changed group ≡ (has self.old.changed group || (is_some self.old.kind && is_in group (slot tasks.now task.0))) }
+        ensures may_refuse { (t : ℕ) → has self.new.may_refuse t ≡ (has self.old.may_refuse t || (is_some self.old.kind && nat_eq t task.0)) }
     {
         if self.kind.is_some() {
             add_group(&mut self.changed, tasks, task);
+            self.may_refuse.insert(task.0);
         }
     }
 
-    /// A scan refused each group that waits after it. One that the model doesn't use would refuse
-    /// them as well, but what the last one told is of more use.
-    pub(super) fn scanned(&mut self, kind: CheckKind, is_used: bool)
-        ensures { (self.new ≡ self.old) ⊎ (self.new.kind ≡ Some kind) }
+    /// A scan of these verdicts refused each group that waits after it. One that the model doesn't
+    /// use would refuse them as well, but what the last one told is of more use.
+    pub(super) fn scanned(
+        &mut self,
+        kind: CheckKind,
+        is_used: bool,
+        waiting: &NumberSet,
+        verdicts: &[Verdict],
+    )
+        ensures { (self.new ≡ self.old) ⊎ IsNoted kind waiting.now verdicts.now self.old self.new }
     {
         if is_used {
-            self.kind = Some(kind);
-            self.changed.clear();
+            self.begin(kind, waiting);
+            remove_admitted(&mut self.may_refuse, verdicts);
         }
+    }
+
+    /// Whom a scan of another kind admitted says nothing of one of this kind, so that it may refuse
+    /// all that wait.
+    fn begin(&mut self, kind: CheckKind, waiting: &NumberSet)
+        ensures kind { self.new.kind ≡ Some kind }
+        ensures may_refuse { ((self.old.kind ≡ Some kind) × (self.new.may_refuse ≡ self.old.may_refuse)) ⊎ (self.new.may_refuse ≡ waiting.now) }
+    {
+        if self.kind != Some(kind) {
+            self.may_refuse.copy_from(waiting);
+        }
+        self.kind = Some(kind);
+        self.changed.clear();
     }
 
     /// Against another target the last scan says nothing.
@@ -89,6 +129,17 @@ impl Unchanged {
     {
         if waiting.is_empty() {
             self.reset();
+        }
+    }
+}
+
+/// Takes out the tasks that were admitted.
+fn remove_admitted(tasks: &mut NumberSet, verdicts: &[Verdict])
+    ensures { (t : ℕ) → has tasks.new t ≡ (has tasks.old t && not (list_any (admits_task t) verdicts.now)) }
+{
+    for verdict in verdicts {
+        if verdict.blame.is_none() {
+            tasks.remove(verdict.task.0);
         }
     }
 }

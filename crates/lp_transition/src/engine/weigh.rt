@@ -119,7 +119,7 @@ impl<M: Consistency> Core<M> {
             .model
             .child_group(group_of(&self.tasks, parent), child, how);
         let level = level_of(&self.tasks, parent);
-        LiveTask::new(child, Class::Normal, Mode::Kernel, group, level)
+        LiveTask::new(Class::Normal, Mode::Kernel, group, level)
     }
 }
 

@@ -8,5 +8,5 @@ pub returns : goal.returns
 returns g c =
     let i = c.self.inside in
     let h : c.args.task.0 < 65536 = omega arith in
-    let answered = answer-call g.M.Consistency.rules g.met.M.Consistency.lawful (record { number = i.events; from = i.from.0; target = i.target.0; patches = i.patches; table = i.tasks; blames = i.blames }) i.waiting i.members.items c.self.invariant.engine (rw (← c.self.view_is) at c.requires.room) c.args.task c.args.func h (rw (← c.self.view_is) at c.requires.accepted) in
+    let answered = answer-call g.M.Consistency.rules g.met.M.Consistency.lawful (record { number = i.events; from = i.from.0; target = i.target.0; patches = i.patches; table = i.tasks; blames = i.blames }) i.waiting c.self.invariant.engine (rw (← c.self.view_is) at c.requires.room) c.args.task c.args.func h (rw (← c.self.view_is) at c.requires.accepted) in
     rw (← c.self.view_is) (ap {A = ℕ} {B = Reply} (λ level. record { what = Ran (record { 0 = level }); completed = false }) c.level_of.ensures ∙ sym answered)

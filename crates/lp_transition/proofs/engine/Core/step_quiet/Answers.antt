@@ -6,17 +6,17 @@ pub invariant_of-self : goal.invariant_of-self
 invariant_of-self g c =
     let i = c.self.inside in
     let e : Engine = record { number = i.events; from = i.from.0; target = i.target.0; patches = i.patches; table = i.tasks; blames = i.blames } in
-    quiet_whole g.M.Consistency.rules g.met.M.Consistency.lawful e c.args.self.now i.waiting i.members.items i.unchanged c.args.kind c.self.view_is c.self.invariant c.requires.scan c.requires.room c.requires.quiet
+    quiet_whole g.M.Consistency.rules g.met.M.Consistency.lawful e c.args.self.now i.waiting i.unchanged c.args.kind c.self.view_is c.self.invariant c.requires.scan c.requires.room c.requires.quiet
 
 pub returns-clause-step : goal.returns-clause-step
 returns-clause-step g c =
     let i = c.self.inside in
     let e : Engine = record { number = i.events; from = i.from.0; target = i.target.0; patches = i.patches; table = i.tasks; blames = i.blames } in
-    let steps = quiet_steps g.M.Consistency.rules g.met.M.Consistency.lawful e c.args.self.now i.waiting i.members.items i.unchanged c.args.kind c.self.view_is c.self.invariant c.requires.scan c.requires.room c.requires.quiet in
+    let steps = quiet_steps g.M.Consistency.rules g.met.M.Consistency.lawful e c.args.self.now i.waiting i.unchanged c.args.kind c.self.view_is c.self.invariant c.requires.scan c.requires.room c.requires.quiet in
     rw c.done.ensures steps
 
 pub returns-clause-blames : goal.returns-clause-blames
 returns-clause-blames g c =
     let i = c.self.inside in
     let e : Engine = record { number = i.events; from = i.from.0; target = i.target.0; patches = i.patches; table = i.tasks; blames = i.blames } in
-    quiet_blames g.M.Consistency.rules g.met.M.Consistency.lawful e c.args.self.now i.waiting i.members.items i.unchanged c.args.kind c.self.view_is c.self.invariant c.requires.scan c.requires.room c.requires.quiet
+    quiet_blames g.M.Consistency.rules g.met.M.Consistency.lawful e c.args.self.now i.waiting i.unchanged c.args.kind c.self.view_is c.self.invariant c.requires.scan c.requires.room c.requires.quiet

@@ -1,43 +1,27 @@
-use Rattle.std.proofs.Common.{refl, ◌≡◌, ◌<◌, length, is_some, ap, ◌∙◌, arith}
+use Rattle.std.proofs.Common.{refl, ◌<◌, is_some, ap, arith}
 use Rattle.lp_transition.specs.declared.event.Event.TheVariants.{Die}
 use Rattle.lp_transition.proofs.Accept.{die-live}
-use Rattle.lp_transition.proofs.Births.{takes_death, counted-some, value_at}
+use Rattle.lp_transition.proofs.Births.{takes_death}
 use Rattle.lp_transition.specs.Table.{Engine}
 use Rattle.lp_transition.proofs.Unchanged.{core_rests, core_takes, dies_in}
 use Rattle.lp_transition.proofs.Blames.{leaves_apart, death_apart}
 use Rattle.lp_transition.proofs.engine.Core.take_die.Goals as goal
-
-pub overflow_sub-index_mut : goal.overflow_sub-index_mut
-overflow_sub-index_mut g c =
-    let i = c.self.inside in
-    let live = die-live g.M.Consistency.rules (record { number = i.events; from = i.from.0; target = i.target.0; patches = i.patches; table = i.tasks; blames = i.blames }) c.args.task (rw (← c.self.view_is) at c.requires.accepted) in
-    let h : c.args.task.0 < 65536 = omega arith in
-    let within : c.from-group.result < 65536 = omega arith in
-    let wide : c.from-group.result < length i.members.items = omega (arith, c.self.invariant.engine.groups) in
-    let here = value_at i.members.items c.from-group.result c.index_mut.result.now wide c.index_mut.ensures.value in
-    let same : c.from-group.result ≡ live.task.group = c.from-group.ensures ∙ c.group_of.ensures live.task live.there in
-    let some = counted-some (record { number = i.events; from = i.from.0; target = i.target.0; patches = i.patches; table = i.tasks; blames = i.blames }) i.waiting i.members.items c.args.task.0 c.from-group.result live.task c.self.invariant.engine h live.there same within in
-    omega (arith, some, here)
 
 pub invariant_of-self : goal.invariant_of-self
 invariant_of-self g c =
     let i = c.self.inside in
     let live = die-live g.M.Consistency.rules (record { number = i.events; from = i.from.0; target = i.target.0; patches = i.patches; table = i.tasks; blames = i.blames }) c.args.task (rw (← c.self.view_is) at c.requires.accepted) in
     let h : c.args.task.0 < 65536 = omega arith in
-    let within : c.from-group.result < 65536 = omega arith in
-    let wide : c.from-group.result < length i.members.items = omega (arith, c.self.invariant.engine.groups) in
-    let here = value_at i.members.items c.from-group.result c.index_mut.result.now wide c.index_mut.ensures.value in
-    let same : c.from-group.result ≡ live.task.group = c.from-group.ensures ∙ c.group_of.ensures live.task live.there in
     let e : Engine = record { number = i.events; from = i.from.0; target = i.target.0; patches = i.patches; table = i.tasks; blames = i.blames } in
     let accepted = rw (← c.self.view_is) at c.requires.accepted in
-    let taken = takes_death g.M.Consistency.rules g.met.M.Consistency.lawful (record { number = i.events; from = i.from.0; target = i.target.0; patches = i.patches; table = i.tasks; blames = i.blames }) c.args.self.now c.remove-2.new.self i.waiting c.remove.new.self i.members.items c.args.task live.task c.from-group.result c.index_mut.result.now c.self.view_is c.remove-2.ensures.removed here c.self.invariant.engine c.remove.ensures.numbers c.remove.ensures.after h c.requires.room c.requires.accepted live.there (c.remove-2.ensures.known (ap is_some live.there)) same within in
-    let left = leaves_apart g.M.Consistency.rules g.met.M.Consistency.lawful e c.args.self.now _ i.waiting c.remove.new.self i.members.items _ (Die c.args.task) c.self.view_is c.self.invariant.engine c.self.invariant.blamed taken c.requires.accepted refl refl (death_apart g.M.Consistency.rules e c.args.task accepted) in
+    let taken = takes_death g.M.Consistency.rules g.met.M.Consistency.lawful (record { number = i.events; from = i.from.0; target = i.target.0; patches = i.patches; table = i.tasks; blames = i.blames }) c.args.self.now c.remove-2.new.self i.waiting c.remove.new.self c.args.task c.self.view_is c.remove-2.ensures.removed c.self.invariant.engine c.remove.ensures.numbers c.remove.ensures.after h c.requires.room c.requires.accepted (c.remove-2.ensures.known (ap is_some live.there)) in
+    let left = leaves_apart g.M.Consistency.rules g.met.M.Consistency.lawful e c.args.self.now _ i.waiting c.remove.new.self (Die c.args.task) c.self.view_is c.self.invariant.engine c.self.invariant.blamed taken c.requires.accepted refl refl (death_apart g.M.Consistency.rules e c.args.task accepted) in
     record {
       core =
-          core_rests g.M.Consistency.rules _ c.remove.new.self _ c.touch.new.self c.reset_if_done.new.self
-          (core_takes g.M.Consistency.rules e c.args.self.now _ i.waiting c.remove.new.self i.members.items _ (Die c.args.task) i.unchanged c.touch.new.self c.self.view_is c.self.invariant.core
-          (takes_death g.M.Consistency.rules g.met.M.Consistency.lawful (record { number = i.events; from = i.from.0; target = i.target.0; patches = i.patches; table = i.tasks; blames = i.blames }) c.args.self.now c.remove-2.new.self i.waiting c.remove.new.self i.members.items c.args.task live.task c.from-group.result c.index_mut.result.now c.self.view_is c.remove-2.ensures.removed here c.self.invariant.engine c.remove.ensures.numbers c.remove.ensures.after h c.requires.room c.requires.accepted live.there (c.remove-2.ensures.known (ap is_some live.there)) same within)
-          c.requires.accepted refl c.touch.ensures.kind (dies_in g.M.Consistency.rules e c.args.task i.unchanged c.touch.new.self c.touch.ensures.changed))
+          core_rests g.M.Consistency.rules _ c.remove.new.self c.touch.new.self c.reset_if_done.new.self
+          (core_takes g.M.Consistency.rules e c.args.self.now _ i.waiting c.remove.new.self (Die c.args.task) i.unchanged c.touch.new.self c.self.view_is c.self.invariant.core
+          (takes_death g.M.Consistency.rules g.met.M.Consistency.lawful (record { number = i.events; from = i.from.0; target = i.target.0; patches = i.patches; table = i.tasks; blames = i.blames }) c.args.self.now c.remove-2.new.self i.waiting c.remove.new.self c.args.task c.self.view_is c.remove-2.ensures.removed c.self.invariant.engine c.remove.ensures.numbers c.remove.ensures.after h c.requires.room c.requires.accepted (c.remove-2.ensures.known (ap is_some live.there)))
+          c.requires.accepted refl c.touch.ensures.kind (dies_in g.M.Consistency.rules e c.args.task i.unchanged c.touch.new.self (c.touch.ensures.changed, c.touch.ensures.may_refuse)))
           c.reset_if_done.ensures;
       groups = c.self.invariant.groups;
       blamed = left.blamed;
@@ -48,11 +32,7 @@ returns-clause-state g c =
     let i = c.self.inside in
     let live = die-live g.M.Consistency.rules (record { number = i.events; from = i.from.0; target = i.target.0; patches = i.patches; table = i.tasks; blames = i.blames }) c.args.task (rw (← c.self.view_is) at c.requires.accepted) in
     let h : c.args.task.0 < 65536 = omega arith in
-    let within : c.from-group.result < 65536 = omega arith in
-    let wide : c.from-group.result < length i.members.items = omega (arith, c.self.invariant.engine.groups) in
-    let here = value_at i.members.items c.from-group.result c.index_mut.result.now wide c.index_mut.ensures.value in
-    let same : c.from-group.result ≡ live.task.group = c.from-group.ensures ∙ c.group_of.ensures live.task live.there in
-    (takes_death g.M.Consistency.rules g.met.M.Consistency.lawful (record { number = i.events; from = i.from.0; target = i.target.0; patches = i.patches; table = i.tasks; blames = i.blames }) c.args.self.now c.remove-2.new.self i.waiting c.remove.new.self i.members.items c.args.task live.task c.from-group.result c.index_mut.result.now c.self.view_is c.remove-2.ensures.removed here c.self.invariant.engine c.remove.ensures.numbers c.remove.ensures.after h c.requires.room c.requires.accepted live.there (c.remove-2.ensures.known (ap is_some live.there)) same within).state
+    (takes_death g.M.Consistency.rules g.met.M.Consistency.lawful (record { number = i.events; from = i.from.0; target = i.target.0; patches = i.patches; table = i.tasks; blames = i.blames }) c.args.self.now c.remove-2.new.self i.waiting c.remove.new.self c.args.task c.self.view_is c.remove-2.ensures.removed c.self.invariant.engine c.remove.ensures.numbers c.remove.ensures.after h c.requires.room c.requires.accepted (c.remove-2.ensures.known (ap is_some live.there))).state
 
 pub returns-clause-blames : goal.returns-clause-blames
 returns-clause-blames g c =
@@ -60,10 +40,6 @@ returns-clause-blames g c =
     let e : Engine = record { number = i.events; from = i.from.0; target = i.target.0; patches = i.patches; table = i.tasks; blames = i.blames } in
     let live = die-live g.M.Consistency.rules (record { number = i.events; from = i.from.0; target = i.target.0; patches = i.patches; table = i.tasks; blames = i.blames }) c.args.task (rw (← c.self.view_is) at c.requires.accepted) in
     let h : c.args.task.0 < 65536 = omega arith in
-    let within : c.from-group.result < 65536 = omega arith in
-    let wide : c.from-group.result < length i.members.items = omega (arith, c.self.invariant.engine.groups) in
-    let here = value_at i.members.items c.from-group.result c.index_mut.result.now wide c.index_mut.ensures.value in
-    let same : c.from-group.result ≡ live.task.group = c.from-group.ensures ∙ c.group_of.ensures live.task live.there in
     let accepted = rw (← c.self.view_is) at c.requires.accepted in
-    let taken = takes_death g.M.Consistency.rules g.met.M.Consistency.lawful (record { number = i.events; from = i.from.0; target = i.target.0; patches = i.patches; table = i.tasks; blames = i.blames }) c.args.self.now c.remove-2.new.self i.waiting c.remove.new.self i.members.items c.args.task live.task c.from-group.result c.index_mut.result.now c.self.view_is c.remove-2.ensures.removed here c.self.invariant.engine c.remove.ensures.numbers c.remove.ensures.after h c.requires.room c.requires.accepted live.there (c.remove-2.ensures.known (ap is_some live.there)) same within in
-    (leaves_apart g.M.Consistency.rules g.met.M.Consistency.lawful e c.args.self.now _ i.waiting c.remove.new.self i.members.items _ (Die c.args.task) c.self.view_is c.self.invariant.engine c.self.invariant.blamed taken c.requires.accepted refl refl (death_apart g.M.Consistency.rules e c.args.task accepted)).after
+    let taken = takes_death g.M.Consistency.rules g.met.M.Consistency.lawful (record { number = i.events; from = i.from.0; target = i.target.0; patches = i.patches; table = i.tasks; blames = i.blames }) c.args.self.now c.remove-2.new.self i.waiting c.remove.new.self c.args.task c.self.view_is c.remove-2.ensures.removed c.self.invariant.engine c.remove.ensures.numbers c.remove.ensures.after h c.requires.room c.requires.accepted (c.remove-2.ensures.known (ap is_some live.there)) in
+    (leaves_apart g.M.Consistency.rules g.met.M.Consistency.lawful e c.args.self.now _ i.waiting c.remove.new.self (Die c.args.task) c.self.view_is c.self.invariant.engine c.self.invariant.blamed taken c.requires.accepted refl refl (death_apart g.M.Consistency.rules e c.args.task accepted)).after

@@ -19,16 +19,16 @@ invariant_of-self g c =
     let switching = rw (← c.self.view_is) at c.requires.switching in
     let room = rw (← c.self.view_is) at c.requires.room in
     let live = point-live g.M.Consistency.rules (record { number = i.events; from = i.from.0; target = i.target.0; patches = i.patches; table = i.tasks; blames = i.blames }) c.args.kind c.args.task accepted in
-    let within = group-below (record { number = i.events; from = i.from.0; target = i.target.0; patches = i.patches; table = i.tasks; blames = i.blames }) i.waiting i.members.items c.args.task.0 live.task c.self.invariant.engine live.there in
-    let switches = ap (λ (o : Engine). switches_at g.M.Consistency.rules (affected g.M.Consistency.rules (state_in o) (point_event c.args.kind c.args.task)) (point_event c.args.kind c.args.task) live.task.group) (sym c.self.view_is) ∙ switches-reported g.M.Consistency.rules g.met.M.Consistency.lawful (record { number = i.events; from = i.from.0; target = i.target.0; patches = i.patches; table = i.tasks; blames = i.blames }) i.waiting i.members.items c.self.invariant.engine room (point_event c.args.kind c.args.task) c.args.kind c.args.task.0 h (at_point c.args.kind) (point-level c.args.kind) (point-group c.args.kind) live.task live.there (point-checks _ _ c.args.kind c.args.task c.requires.point) (point-plain c.args.kind c.args.task) accepted (point-own _ _ c.args.kind c.args.task _) (point-told g.M.Consistency.rules _ c.args.kind c.args.task) c.args.switching within switching ∙ c.if-not-switching.true in
+    let within = group-below (record { number = i.events; from = i.from.0; target = i.target.0; patches = i.patches; table = i.tasks; blames = i.blames }) i.waiting c.args.task.0 live.task c.self.invariant.engine live.there in
+    let switches = ap (λ (o : Engine). switches_at g.M.Consistency.rules (affected g.M.Consistency.rules (state_in o) (point_event c.args.kind c.args.task)) (point_event c.args.kind c.args.task) live.task.group) (sym c.self.view_is) ∙ switches-reported g.M.Consistency.rules g.met.M.Consistency.lawful (record { number = i.events; from = i.from.0; target = i.target.0; patches = i.patches; table = i.tasks; blames = i.blames }) i.waiting c.self.invariant.engine room (point_event c.args.kind c.args.task) c.args.kind c.args.task.0 h (at_point c.args.kind) (point-level c.args.kind) (point-group c.args.kind) live.task live.there (point-checks _ _ c.args.kind c.args.task c.requires.point) (point-plain c.args.kind c.args.task) accepted (point-own _ _ c.args.kind c.args.task _) (point-told g.M.Consistency.rules _ c.args.kind c.args.task) c.args.switching within switching ∙ c.if-not-switching.true in
     let e : Engine = record { number = i.events; from = i.from.0; target = i.target.0; patches = i.patches; table = i.tasks; blames = i.blames } in
-    let taken = takes_change_still g.M.Consistency.rules g.met.M.Consistency.lawful (record { number = i.events; from = i.from.0; target = i.target.0; patches = i.patches; table = i.tasks; blames = i.blames }) c.args.self.now c.reach_point.new.self i.waiting i.members.items (point_event c.args.kind c.args.task) c.args.task.0 (at_point c.args.kind) c.self.view_is c.reach_point.ensures c.self.invariant.engine h c.requires.room (point-plain c.args.kind c.args.task) (none-switches_now g.M.Consistency.rules g.met.M.Consistency.lawful (record { number = i.events; from = i.from.0; target = i.target.0; patches = i.patches; table = i.tasks; blames = i.blames }) i.waiting i.members.items c.self.invariant.engine (point_event c.args.kind c.args.task) c.args.kind c.args.task.0 h (at_point c.args.kind) (point-level c.args.kind) (point-group c.args.kind) live.task live.there (point-checks _ _ c.args.kind c.args.task c.requires.point) c.args.self.now c.self.view_is (point-own _ _ c.args.kind c.args.task _) switches) c.requires.accepted (point-own _ _ c.args.kind c.args.task _) (point-level c.args.kind) (point-group c.args.kind) in
-    let left = leaves_changed g.M.Consistency.rules g.met.M.Consistency.lawful e c.args.self.now _ i.waiting i.waiting i.members.items _ (point_event c.args.kind c.args.task) c.self.view_is c.self.invariant.engine c.self.invariant.blamed taken c.requires.accepted (point-plain c.args.kind c.args.task) refl c.args.task.0 (at_point c.args.kind) (point-own _ _ c.args.kind c.args.task _) (point-level c.args.kind) (point-group c.args.kind) (λ x frame there. there) in
+    let taken = takes_change_still g.M.Consistency.rules g.met.M.Consistency.lawful (record { number = i.events; from = i.from.0; target = i.target.0; patches = i.patches; table = i.tasks; blames = i.blames }) c.args.self.now c.reach_point.new.self i.waiting (point_event c.args.kind c.args.task) c.args.task.0 (at_point c.args.kind) c.self.view_is c.reach_point.ensures c.self.invariant.engine h c.requires.room (point-plain c.args.kind c.args.task) (none-switches_now g.M.Consistency.rules g.met.M.Consistency.lawful (record { number = i.events; from = i.from.0; target = i.target.0; patches = i.patches; table = i.tasks; blames = i.blames }) i.waiting c.self.invariant.engine (point_event c.args.kind c.args.task) c.args.kind c.args.task.0 h (at_point c.args.kind) (point-level c.args.kind) (point-group c.args.kind) live.task live.there (point-checks _ _ c.args.kind c.args.task c.requires.point) c.args.self.now c.self.view_is (point-own _ _ c.args.kind c.args.task _) switches) c.requires.accepted (point-own _ _ c.args.kind c.args.task _) (point-level c.args.kind) (point-group c.args.kind) in
+    let left = leaves_changed g.M.Consistency.rules g.met.M.Consistency.lawful e c.args.self.now _ i.waiting i.waiting (point_event c.args.kind c.args.task) c.self.view_is c.self.invariant.engine c.self.invariant.blamed taken c.requires.accepted (point-plain c.args.kind c.args.task) refl c.args.task.0 (at_point c.args.kind) (point-own _ _ c.args.kind c.args.task _) (point-level c.args.kind) (point-group c.args.kind) (λ x frame there. there) in
     record {
       core =
-          core_changes g.M.Consistency.rules e c.args.self.now _ i.waiting i.waiting i.members.items _ (point_event c.args.kind c.args.task) i.unchanged c.touch.new.self c.self.view_is c.self.invariant.core
-          (takes_change_still g.M.Consistency.rules g.met.M.Consistency.lawful (record { number = i.events; from = i.from.0; target = i.target.0; patches = i.patches; table = i.tasks; blames = i.blames }) c.args.self.now c.reach_point.new.self i.waiting i.members.items (point_event c.args.kind c.args.task) c.args.task.0 (at_point c.args.kind) c.self.view_is c.reach_point.ensures c.self.invariant.engine h c.requires.room (point-plain c.args.kind c.args.task) (none-switches_now g.M.Consistency.rules g.met.M.Consistency.lawful (record { number = i.events; from = i.from.0; target = i.target.0; patches = i.patches; table = i.tasks; blames = i.blames }) i.waiting i.members.items c.self.invariant.engine (point_event c.args.kind c.args.task) c.args.kind c.args.task.0 h (at_point c.args.kind) (point-level c.args.kind) (point-group c.args.kind) live.task live.there (point-checks _ _ c.args.kind c.args.task c.requires.point) c.args.self.now c.self.view_is (point-own _ _ c.args.kind c.args.task _) switches) c.requires.accepted (point-own _ _ c.args.kind c.args.task _) (point-level c.args.kind) (point-group c.args.kind))
-          c.requires.accepted c.touch.ensures.kind c.args.task.0 (at_point c.args.kind) (point-plain c.args.kind c.args.task) c.touch.ensures.changed (point_touches c.args.kind c.args.task) (point-own _ _ c.args.kind c.args.task _) (point-group c.args.kind);
+          core_changes g.M.Consistency.rules e c.args.self.now _ i.waiting i.waiting (point_event c.args.kind c.args.task) i.unchanged c.touch.new.self c.self.view_is c.self.invariant.core
+          (takes_change_still g.M.Consistency.rules g.met.M.Consistency.lawful (record { number = i.events; from = i.from.0; target = i.target.0; patches = i.patches; table = i.tasks; blames = i.blames }) c.args.self.now c.reach_point.new.self i.waiting (point_event c.args.kind c.args.task) c.args.task.0 (at_point c.args.kind) c.self.view_is c.reach_point.ensures c.self.invariant.engine h c.requires.room (point-plain c.args.kind c.args.task) (none-switches_now g.M.Consistency.rules g.met.M.Consistency.lawful (record { number = i.events; from = i.from.0; target = i.target.0; patches = i.patches; table = i.tasks; blames = i.blames }) i.waiting c.self.invariant.engine (point_event c.args.kind c.args.task) c.args.kind c.args.task.0 h (at_point c.args.kind) (point-level c.args.kind) (point-group c.args.kind) live.task live.there (point-checks _ _ c.args.kind c.args.task c.requires.point) c.args.self.now c.self.view_is (point-own _ _ c.args.kind c.args.task _) switches) c.requires.accepted (point-own _ _ c.args.kind c.args.task _) (point-level c.args.kind) (point-group c.args.kind))
+          c.requires.accepted c.touch.ensures.kind c.args.task.0 (at_point c.args.kind) (point-plain c.args.kind c.args.task) (c.touch.ensures.changed, c.touch.ensures.may_refuse) (point_touches c.args.kind c.args.task) (point-own _ _ c.args.kind c.args.task _) (point-group c.args.kind);
       groups = c.self.invariant.groups;
       blamed = left.blamed;
     }
@@ -41,9 +41,9 @@ returns-then-not-switching-clause-state g c =
     let switching = rw (← c.self.view_is) at c.requires.switching in
     let room = rw (← c.self.view_is) at c.requires.room in
     let live = point-live g.M.Consistency.rules (record { number = i.events; from = i.from.0; target = i.target.0; patches = i.patches; table = i.tasks; blames = i.blames }) c.args.kind c.args.task accepted in
-    let within = group-below (record { number = i.events; from = i.from.0; target = i.target.0; patches = i.patches; table = i.tasks; blames = i.blames }) i.waiting i.members.items c.args.task.0 live.task c.self.invariant.engine live.there in
-    let switches = ap (λ (o : Engine). switches_at g.M.Consistency.rules (affected g.M.Consistency.rules (state_in o) (point_event c.args.kind c.args.task)) (point_event c.args.kind c.args.task) live.task.group) (sym c.self.view_is) ∙ switches-reported g.M.Consistency.rules g.met.M.Consistency.lawful (record { number = i.events; from = i.from.0; target = i.target.0; patches = i.patches; table = i.tasks; blames = i.blames }) i.waiting i.members.items c.self.invariant.engine room (point_event c.args.kind c.args.task) c.args.kind c.args.task.0 h (at_point c.args.kind) (point-level c.args.kind) (point-group c.args.kind) live.task live.there (point-checks _ _ c.args.kind c.args.task c.requires.point) (point-plain c.args.kind c.args.task) accepted (point-own _ _ c.args.kind c.args.task _) (point-told g.M.Consistency.rules _ c.args.kind c.args.task) c.args.switching within switching ∙ c.if-not-switching.true in
-    (takes_change_still g.M.Consistency.rules g.met.M.Consistency.lawful (record { number = i.events; from = i.from.0; target = i.target.0; patches = i.patches; table = i.tasks; blames = i.blames }) c.args.self.now c.reach_point.new.self i.waiting i.members.items (point_event c.args.kind c.args.task) c.args.task.0 (at_point c.args.kind) c.self.view_is c.reach_point.ensures c.self.invariant.engine h c.requires.room (point-plain c.args.kind c.args.task) (none-switches_now g.M.Consistency.rules g.met.M.Consistency.lawful (record { number = i.events; from = i.from.0; target = i.target.0; patches = i.patches; table = i.tasks; blames = i.blames }) i.waiting i.members.items c.self.invariant.engine (point_event c.args.kind c.args.task) c.args.kind c.args.task.0 h (at_point c.args.kind) (point-level c.args.kind) (point-group c.args.kind) live.task live.there (point-checks _ _ c.args.kind c.args.task c.requires.point) c.args.self.now c.self.view_is (point-own _ _ c.args.kind c.args.task _) switches) c.requires.accepted (point-own _ _ c.args.kind c.args.task _) (point-level c.args.kind) (point-group c.args.kind)).state
+    let within = group-below (record { number = i.events; from = i.from.0; target = i.target.0; patches = i.patches; table = i.tasks; blames = i.blames }) i.waiting c.args.task.0 live.task c.self.invariant.engine live.there in
+    let switches = ap (λ (o : Engine). switches_at g.M.Consistency.rules (affected g.M.Consistency.rules (state_in o) (point_event c.args.kind c.args.task)) (point_event c.args.kind c.args.task) live.task.group) (sym c.self.view_is) ∙ switches-reported g.M.Consistency.rules g.met.M.Consistency.lawful (record { number = i.events; from = i.from.0; target = i.target.0; patches = i.patches; table = i.tasks; blames = i.blames }) i.waiting c.self.invariant.engine room (point_event c.args.kind c.args.task) c.args.kind c.args.task.0 h (at_point c.args.kind) (point-level c.args.kind) (point-group c.args.kind) live.task live.there (point-checks _ _ c.args.kind c.args.task c.requires.point) (point-plain c.args.kind c.args.task) accepted (point-own _ _ c.args.kind c.args.task _) (point-told g.M.Consistency.rules _ c.args.kind c.args.task) c.args.switching within switching ∙ c.if-not-switching.true in
+    (takes_change_still g.M.Consistency.rules g.met.M.Consistency.lawful (record { number = i.events; from = i.from.0; target = i.target.0; patches = i.patches; table = i.tasks; blames = i.blames }) c.args.self.now c.reach_point.new.self i.waiting (point_event c.args.kind c.args.task) c.args.task.0 (at_point c.args.kind) c.self.view_is c.reach_point.ensures c.self.invariant.engine h c.requires.room (point-plain c.args.kind c.args.task) (none-switches_now g.M.Consistency.rules g.met.M.Consistency.lawful (record { number = i.events; from = i.from.0; target = i.target.0; patches = i.patches; table = i.tasks; blames = i.blames }) i.waiting c.self.invariant.engine (point_event c.args.kind c.args.task) c.args.kind c.args.task.0 h (at_point c.args.kind) (point-level c.args.kind) (point-group c.args.kind) live.task live.there (point-checks _ _ c.args.kind c.args.task c.requires.point) c.args.self.now c.self.view_is (point-own _ _ c.args.kind c.args.task _) switches) c.requires.accepted (point-own _ _ c.args.kind c.args.task _) (point-level c.args.kind) (point-group c.args.kind)).state
 
 pub invariant_of-self-2 : goal.invariant_of-self-2
 invariant_of-self-2 g c =
@@ -53,17 +53,17 @@ invariant_of-self-2 g c =
     let switching = rw (← c.self.view_is) at c.requires.switching in
     let room = rw (← c.self.view_is) at c.requires.room in
     let live = point-live g.M.Consistency.rules (record { number = i.events; from = i.from.0; target = i.target.0; patches = i.patches; table = i.tasks; blames = i.blames }) c.args.kind c.args.task accepted in
-    let within = group-below (record { number = i.events; from = i.from.0; target = i.target.0; patches = i.patches; table = i.tasks; blames = i.blames }) i.waiting i.members.items c.args.task.0 live.task c.self.invariant.engine live.there in
-    let switches = ap (λ (o : Engine). switches_at g.M.Consistency.rules (affected g.M.Consistency.rules (state_in o) (point_event c.args.kind c.args.task)) (point_event c.args.kind c.args.task) live.task.group) (sym c.self.view_is) ∙ switches-reported g.M.Consistency.rules g.met.M.Consistency.lawful (record { number = i.events; from = i.from.0; target = i.target.0; patches = i.patches; table = i.tasks; blames = i.blames }) i.waiting i.members.items c.self.invariant.engine room (point_event c.args.kind c.args.task) c.args.kind c.args.task.0 h (at_point c.args.kind) (point-level c.args.kind) (point-group c.args.kind) live.task live.there (point-checks _ _ c.args.kind c.args.task c.requires.point) (point-plain c.args.kind c.args.task) accepted (point-own _ _ c.args.kind c.args.task _) (point-told g.M.Consistency.rules _ c.args.kind c.args.task) c.args.switching within switching ∙ c.if-not-switching.false in
+    let within = group-below (record { number = i.events; from = i.from.0; target = i.target.0; patches = i.patches; table = i.tasks; blames = i.blames }) i.waiting c.args.task.0 live.task c.self.invariant.engine live.there in
+    let switches = ap (λ (o : Engine). switches_at g.M.Consistency.rules (affected g.M.Consistency.rules (state_in o) (point_event c.args.kind c.args.task)) (point_event c.args.kind c.args.task) live.task.group) (sym c.self.view_is) ∙ switches-reported g.M.Consistency.rules g.met.M.Consistency.lawful (record { number = i.events; from = i.from.0; target = i.target.0; patches = i.patches; table = i.tasks; blames = i.blames }) i.waiting c.self.invariant.engine room (point_event c.args.kind c.args.task) c.args.kind c.args.task.0 h (at_point c.args.kind) (point-level c.args.kind) (point-group c.args.kind) live.task live.there (point-checks _ _ c.args.kind c.args.task c.requires.point) (point-plain c.args.kind c.args.task) accepted (point-own _ _ c.args.kind c.args.task _) (point-told g.M.Consistency.rules _ c.args.kind c.args.task) c.args.switching within switching ∙ c.if-not-switching.false in
     let e : Engine = record { number = i.events; from = i.from.0; target = i.target.0; patches = i.patches; table = i.tasks; blames = i.blames } in
-    let taken = takes_switch g.M.Consistency.rules g.met.M.Consistency.lawful (record { number = i.events; from = i.from.0; target = i.target.0; patches = i.patches; table = i.tasks; blames = i.blames }) i.waiting i.members.items c.self.invariant.engine (point_event c.args.kind c.args.task) c.args.kind c.args.task.0 h (at_point c.args.kind) (point-level c.args.kind) (point-group c.args.kind) live.task live.there (point-checks _ _ c.args.kind c.args.task c.requires.point) c.args.self.now c.set_level.new.self c.remove.new.self c.self.view_is (c.set_level.ensures ∙ ap (changed c.args.task.0 (put_on i.target.0)) c.reach_point.ensures) c.remove.ensures.after c.remove.ensures.numbers c.requires.room (point-plain c.args.kind c.args.task) c.requires.accepted (point-own _ _ c.args.kind c.args.task _) switches in
-    let left = leaves_changed g.M.Consistency.rules g.met.M.Consistency.lawful e c.args.self.now _ i.waiting c.remove.new.self i.members.items _ (point_event c.args.kind c.args.task) c.self.view_is c.self.invariant.engine c.self.invariant.blamed taken c.requires.accepted (point-plain c.args.kind c.args.task) refl c.args.task.0 (at_point c.args.kind) (point-own _ _ c.args.kind c.args.task _) (point-level c.args.kind) (point-group c.args.kind) (λ x frame there. there) in
+    let taken = takes_switch g.M.Consistency.rules g.met.M.Consistency.lawful (record { number = i.events; from = i.from.0; target = i.target.0; patches = i.patches; table = i.tasks; blames = i.blames }) i.waiting c.self.invariant.engine (point_event c.args.kind c.args.task) c.args.kind c.args.task.0 h (at_point c.args.kind) (point-level c.args.kind) (point-group c.args.kind) live.task live.there (point-checks _ _ c.args.kind c.args.task c.requires.point) c.args.self.now c.set_level.new.self c.remove.new.self c.self.view_is (c.set_level.ensures ∙ ap (changed c.args.task.0 (put_on i.target.0)) c.reach_point.ensures) c.remove.ensures.after c.remove.ensures.numbers c.requires.room (point-plain c.args.kind c.args.task) c.requires.accepted (point-own _ _ c.args.kind c.args.task _) switches in
+    let left = leaves_changed g.M.Consistency.rules g.met.M.Consistency.lawful e c.args.self.now _ i.waiting c.remove.new.self (point_event c.args.kind c.args.task) c.self.view_is c.self.invariant.engine c.self.invariant.blamed taken c.requires.accepted (point-plain c.args.kind c.args.task) refl c.args.task.0 (at_point c.args.kind) (point-own _ _ c.args.kind c.args.task _) (point-level c.args.kind) (point-group c.args.kind) (λ x frame there. there) in
     record {
       core =
-          core_rests g.M.Consistency.rules _ c.remove.new.self _ c.touch.new.self c.reset_if_done.new.self
-          (core_changes g.M.Consistency.rules e c.args.self.now _ i.waiting c.remove.new.self i.members.items _ (point_event c.args.kind c.args.task) i.unchanged c.touch.new.self c.self.view_is c.self.invariant.core
-          (takes_switch g.M.Consistency.rules g.met.M.Consistency.lawful (record { number = i.events; from = i.from.0; target = i.target.0; patches = i.patches; table = i.tasks; blames = i.blames }) i.waiting i.members.items c.self.invariant.engine (point_event c.args.kind c.args.task) c.args.kind c.args.task.0 h (at_point c.args.kind) (point-level c.args.kind) (point-group c.args.kind) live.task live.there (point-checks _ _ c.args.kind c.args.task c.requires.point) c.args.self.now c.set_level.new.self c.remove.new.self c.self.view_is (c.set_level.ensures ∙ ap (changed c.args.task.0 (put_on i.target.0)) c.reach_point.ensures) c.remove.ensures.after c.remove.ensures.numbers c.requires.room (point-plain c.args.kind c.args.task) c.requires.accepted (point-own _ _ c.args.kind c.args.task _) switches)
-          c.requires.accepted c.touch.ensures.kind c.args.task.0 (at_point c.args.kind) (point-plain c.args.kind c.args.task) c.touch.ensures.changed (point_touches c.args.kind c.args.task) (point-own _ _ c.args.kind c.args.task _) (point-group c.args.kind))
+          core_rests g.M.Consistency.rules _ c.remove.new.self c.touch.new.self c.reset_if_done.new.self
+          (core_changes g.M.Consistency.rules e c.args.self.now _ i.waiting c.remove.new.self (point_event c.args.kind c.args.task) i.unchanged c.touch.new.self c.self.view_is c.self.invariant.core
+          (takes_switch g.M.Consistency.rules g.met.M.Consistency.lawful (record { number = i.events; from = i.from.0; target = i.target.0; patches = i.patches; table = i.tasks; blames = i.blames }) i.waiting c.self.invariant.engine (point_event c.args.kind c.args.task) c.args.kind c.args.task.0 h (at_point c.args.kind) (point-level c.args.kind) (point-group c.args.kind) live.task live.there (point-checks _ _ c.args.kind c.args.task c.requires.point) c.args.self.now c.set_level.new.self c.remove.new.self c.self.view_is (c.set_level.ensures ∙ ap (changed c.args.task.0 (put_on i.target.0)) c.reach_point.ensures) c.remove.ensures.after c.remove.ensures.numbers c.requires.room (point-plain c.args.kind c.args.task) c.requires.accepted (point-own _ _ c.args.kind c.args.task _) switches)
+          c.requires.accepted c.touch.ensures.kind c.args.task.0 (at_point c.args.kind) (point-plain c.args.kind c.args.task) (c.touch.ensures.changed, c.touch.ensures.may_refuse) (point_touches c.args.kind c.args.task) (point-own _ _ c.args.kind c.args.task _) (point-group c.args.kind))
           c.reset_if_done.ensures;
       groups = c.self.invariant.groups;
       blamed = left.blamed;
@@ -77,9 +77,9 @@ returns-clause-state g c =
     let switching = rw (← c.self.view_is) at c.requires.switching in
     let room = rw (← c.self.view_is) at c.requires.room in
     let live = point-live g.M.Consistency.rules (record { number = i.events; from = i.from.0; target = i.target.0; patches = i.patches; table = i.tasks; blames = i.blames }) c.args.kind c.args.task accepted in
-    let within = group-below (record { number = i.events; from = i.from.0; target = i.target.0; patches = i.patches; table = i.tasks; blames = i.blames }) i.waiting i.members.items c.args.task.0 live.task c.self.invariant.engine live.there in
-    let switches = ap (λ (o : Engine). switches_at g.M.Consistency.rules (affected g.M.Consistency.rules (state_in o) (point_event c.args.kind c.args.task)) (point_event c.args.kind c.args.task) live.task.group) (sym c.self.view_is) ∙ switches-reported g.M.Consistency.rules g.met.M.Consistency.lawful (record { number = i.events; from = i.from.0; target = i.target.0; patches = i.patches; table = i.tasks; blames = i.blames }) i.waiting i.members.items c.self.invariant.engine room (point_event c.args.kind c.args.task) c.args.kind c.args.task.0 h (at_point c.args.kind) (point-level c.args.kind) (point-group c.args.kind) live.task live.there (point-checks _ _ c.args.kind c.args.task c.requires.point) (point-plain c.args.kind c.args.task) accepted (point-own _ _ c.args.kind c.args.task _) (point-told g.M.Consistency.rules _ c.args.kind c.args.task) c.args.switching within switching ∙ c.if-not-switching.false in
-    (takes_switch g.M.Consistency.rules g.met.M.Consistency.lawful (record { number = i.events; from = i.from.0; target = i.target.0; patches = i.patches; table = i.tasks; blames = i.blames }) i.waiting i.members.items c.self.invariant.engine (point_event c.args.kind c.args.task) c.args.kind c.args.task.0 h (at_point c.args.kind) (point-level c.args.kind) (point-group c.args.kind) live.task live.there (point-checks _ _ c.args.kind c.args.task c.requires.point) c.args.self.now c.set_level.new.self c.remove.new.self c.self.view_is (c.set_level.ensures ∙ ap (changed c.args.task.0 (put_on i.target.0)) c.reach_point.ensures) c.remove.ensures.after c.remove.ensures.numbers c.requires.room (point-plain c.args.kind c.args.task) c.requires.accepted (point-own _ _ c.args.kind c.args.task _) switches).state
+    let within = group-below (record { number = i.events; from = i.from.0; target = i.target.0; patches = i.patches; table = i.tasks; blames = i.blames }) i.waiting c.args.task.0 live.task c.self.invariant.engine live.there in
+    let switches = ap (λ (o : Engine). switches_at g.M.Consistency.rules (affected g.M.Consistency.rules (state_in o) (point_event c.args.kind c.args.task)) (point_event c.args.kind c.args.task) live.task.group) (sym c.self.view_is) ∙ switches-reported g.M.Consistency.rules g.met.M.Consistency.lawful (record { number = i.events; from = i.from.0; target = i.target.0; patches = i.patches; table = i.tasks; blames = i.blames }) i.waiting c.self.invariant.engine room (point_event c.args.kind c.args.task) c.args.kind c.args.task.0 h (at_point c.args.kind) (point-level c.args.kind) (point-group c.args.kind) live.task live.there (point-checks _ _ c.args.kind c.args.task c.requires.point) (point-plain c.args.kind c.args.task) accepted (point-own _ _ c.args.kind c.args.task _) (point-told g.M.Consistency.rules _ c.args.kind c.args.task) c.args.switching within switching ∙ c.if-not-switching.false in
+    (takes_switch g.M.Consistency.rules g.met.M.Consistency.lawful (record { number = i.events; from = i.from.0; target = i.target.0; patches = i.patches; table = i.tasks; blames = i.blames }) i.waiting c.self.invariant.engine (point_event c.args.kind c.args.task) c.args.kind c.args.task.0 h (at_point c.args.kind) (point-level c.args.kind) (point-group c.args.kind) live.task live.there (point-checks _ _ c.args.kind c.args.task c.requires.point) c.args.self.now c.set_level.new.self c.remove.new.self c.self.view_is (c.set_level.ensures ∙ ap (changed c.args.task.0 (put_on i.target.0)) c.reach_point.ensures) c.remove.ensures.after c.remove.ensures.numbers c.requires.room (point-plain c.args.kind c.args.task) c.requires.accepted (point-own _ _ c.args.kind c.args.task _) switches).state
 
 pub returns-then-not-switching-clause-blames : goal.returns-then-not-switching-clause-blames
 returns-then-not-switching-clause-blames g c =
@@ -90,10 +90,10 @@ returns-then-not-switching-clause-blames g c =
     let switching = rw (← c.self.view_is) at c.requires.switching in
     let room = rw (← c.self.view_is) at c.requires.room in
     let live = point-live g.M.Consistency.rules (record { number = i.events; from = i.from.0; target = i.target.0; patches = i.patches; table = i.tasks; blames = i.blames }) c.args.kind c.args.task accepted in
-    let within = group-below (record { number = i.events; from = i.from.0; target = i.target.0; patches = i.patches; table = i.tasks; blames = i.blames }) i.waiting i.members.items c.args.task.0 live.task c.self.invariant.engine live.there in
-    let switches = ap (λ (o : Engine). switches_at g.M.Consistency.rules (affected g.M.Consistency.rules (state_in o) (point_event c.args.kind c.args.task)) (point_event c.args.kind c.args.task) live.task.group) (sym c.self.view_is) ∙ switches-reported g.M.Consistency.rules g.met.M.Consistency.lawful (record { number = i.events; from = i.from.0; target = i.target.0; patches = i.patches; table = i.tasks; blames = i.blames }) i.waiting i.members.items c.self.invariant.engine room (point_event c.args.kind c.args.task) c.args.kind c.args.task.0 h (at_point c.args.kind) (point-level c.args.kind) (point-group c.args.kind) live.task live.there (point-checks _ _ c.args.kind c.args.task c.requires.point) (point-plain c.args.kind c.args.task) accepted (point-own _ _ c.args.kind c.args.task _) (point-told g.M.Consistency.rules _ c.args.kind c.args.task) c.args.switching within switching ∙ c.if-not-switching.true in
-    let taken = takes_change_still g.M.Consistency.rules g.met.M.Consistency.lawful (record { number = i.events; from = i.from.0; target = i.target.0; patches = i.patches; table = i.tasks; blames = i.blames }) c.args.self.now c.reach_point.new.self i.waiting i.members.items (point_event c.args.kind c.args.task) c.args.task.0 (at_point c.args.kind) c.self.view_is c.reach_point.ensures c.self.invariant.engine h c.requires.room (point-plain c.args.kind c.args.task) (none-switches_now g.M.Consistency.rules g.met.M.Consistency.lawful (record { number = i.events; from = i.from.0; target = i.target.0; patches = i.patches; table = i.tasks; blames = i.blames }) i.waiting i.members.items c.self.invariant.engine (point_event c.args.kind c.args.task) c.args.kind c.args.task.0 h (at_point c.args.kind) (point-level c.args.kind) (point-group c.args.kind) live.task live.there (point-checks _ _ c.args.kind c.args.task c.requires.point) c.args.self.now c.self.view_is (point-own _ _ c.args.kind c.args.task _) switches) c.requires.accepted (point-own _ _ c.args.kind c.args.task _) (point-level c.args.kind) (point-group c.args.kind) in
-    (leaves_changed g.M.Consistency.rules g.met.M.Consistency.lawful e c.args.self.now _ i.waiting i.waiting i.members.items _ (point_event c.args.kind c.args.task) c.self.view_is c.self.invariant.engine c.self.invariant.blamed taken c.requires.accepted (point-plain c.args.kind c.args.task) refl c.args.task.0 (at_point c.args.kind) (point-own _ _ c.args.kind c.args.task _) (point-level c.args.kind) (point-group c.args.kind) (λ x frame there. there)).after
+    let within = group-below (record { number = i.events; from = i.from.0; target = i.target.0; patches = i.patches; table = i.tasks; blames = i.blames }) i.waiting c.args.task.0 live.task c.self.invariant.engine live.there in
+    let switches = ap (λ (o : Engine). switches_at g.M.Consistency.rules (affected g.M.Consistency.rules (state_in o) (point_event c.args.kind c.args.task)) (point_event c.args.kind c.args.task) live.task.group) (sym c.self.view_is) ∙ switches-reported g.M.Consistency.rules g.met.M.Consistency.lawful (record { number = i.events; from = i.from.0; target = i.target.0; patches = i.patches; table = i.tasks; blames = i.blames }) i.waiting c.self.invariant.engine room (point_event c.args.kind c.args.task) c.args.kind c.args.task.0 h (at_point c.args.kind) (point-level c.args.kind) (point-group c.args.kind) live.task live.there (point-checks _ _ c.args.kind c.args.task c.requires.point) (point-plain c.args.kind c.args.task) accepted (point-own _ _ c.args.kind c.args.task _) (point-told g.M.Consistency.rules _ c.args.kind c.args.task) c.args.switching within switching ∙ c.if-not-switching.true in
+    let taken = takes_change_still g.M.Consistency.rules g.met.M.Consistency.lawful (record { number = i.events; from = i.from.0; target = i.target.0; patches = i.patches; table = i.tasks; blames = i.blames }) c.args.self.now c.reach_point.new.self i.waiting (point_event c.args.kind c.args.task) c.args.task.0 (at_point c.args.kind) c.self.view_is c.reach_point.ensures c.self.invariant.engine h c.requires.room (point-plain c.args.kind c.args.task) (none-switches_now g.M.Consistency.rules g.met.M.Consistency.lawful (record { number = i.events; from = i.from.0; target = i.target.0; patches = i.patches; table = i.tasks; blames = i.blames }) i.waiting c.self.invariant.engine (point_event c.args.kind c.args.task) c.args.kind c.args.task.0 h (at_point c.args.kind) (point-level c.args.kind) (point-group c.args.kind) live.task live.there (point-checks _ _ c.args.kind c.args.task c.requires.point) c.args.self.now c.self.view_is (point-own _ _ c.args.kind c.args.task _) switches) c.requires.accepted (point-own _ _ c.args.kind c.args.task _) (point-level c.args.kind) (point-group c.args.kind) in
+    (leaves_changed g.M.Consistency.rules g.met.M.Consistency.lawful e c.args.self.now _ i.waiting i.waiting (point_event c.args.kind c.args.task) c.self.view_is c.self.invariant.engine c.self.invariant.blamed taken c.requires.accepted (point-plain c.args.kind c.args.task) refl c.args.task.0 (at_point c.args.kind) (point-own _ _ c.args.kind c.args.task _) (point-level c.args.kind) (point-group c.args.kind) (λ x frame there. there)).after
 
 pub returns-clause-blames : goal.returns-clause-blames
 returns-clause-blames g c =
@@ -104,7 +104,7 @@ returns-clause-blames g c =
     let switching = rw (← c.self.view_is) at c.requires.switching in
     let room = rw (← c.self.view_is) at c.requires.room in
     let live = point-live g.M.Consistency.rules (record { number = i.events; from = i.from.0; target = i.target.0; patches = i.patches; table = i.tasks; blames = i.blames }) c.args.kind c.args.task accepted in
-    let within = group-below (record { number = i.events; from = i.from.0; target = i.target.0; patches = i.patches; table = i.tasks; blames = i.blames }) i.waiting i.members.items c.args.task.0 live.task c.self.invariant.engine live.there in
-    let switches = ap (λ (o : Engine). switches_at g.M.Consistency.rules (affected g.M.Consistency.rules (state_in o) (point_event c.args.kind c.args.task)) (point_event c.args.kind c.args.task) live.task.group) (sym c.self.view_is) ∙ switches-reported g.M.Consistency.rules g.met.M.Consistency.lawful (record { number = i.events; from = i.from.0; target = i.target.0; patches = i.patches; table = i.tasks; blames = i.blames }) i.waiting i.members.items c.self.invariant.engine room (point_event c.args.kind c.args.task) c.args.kind c.args.task.0 h (at_point c.args.kind) (point-level c.args.kind) (point-group c.args.kind) live.task live.there (point-checks _ _ c.args.kind c.args.task c.requires.point) (point-plain c.args.kind c.args.task) accepted (point-own _ _ c.args.kind c.args.task _) (point-told g.M.Consistency.rules _ c.args.kind c.args.task) c.args.switching within switching ∙ c.if-not-switching.false in
-    let taken = takes_switch g.M.Consistency.rules g.met.M.Consistency.lawful (record { number = i.events; from = i.from.0; target = i.target.0; patches = i.patches; table = i.tasks; blames = i.blames }) i.waiting i.members.items c.self.invariant.engine (point_event c.args.kind c.args.task) c.args.kind c.args.task.0 h (at_point c.args.kind) (point-level c.args.kind) (point-group c.args.kind) live.task live.there (point-checks _ _ c.args.kind c.args.task c.requires.point) c.args.self.now c.set_level.new.self c.remove.new.self c.self.view_is (c.set_level.ensures ∙ ap (changed c.args.task.0 (put_on i.target.0)) c.reach_point.ensures) c.remove.ensures.after c.remove.ensures.numbers c.requires.room (point-plain c.args.kind c.args.task) c.requires.accepted (point-own _ _ c.args.kind c.args.task _) switches in
-    (leaves_changed g.M.Consistency.rules g.met.M.Consistency.lawful e c.args.self.now _ i.waiting c.remove.new.self i.members.items _ (point_event c.args.kind c.args.task) c.self.view_is c.self.invariant.engine c.self.invariant.blamed taken c.requires.accepted (point-plain c.args.kind c.args.task) refl c.args.task.0 (at_point c.args.kind) (point-own _ _ c.args.kind c.args.task _) (point-level c.args.kind) (point-group c.args.kind) (λ x frame there. there)).after
+    let within = group-below (record { number = i.events; from = i.from.0; target = i.target.0; patches = i.patches; table = i.tasks; blames = i.blames }) i.waiting c.args.task.0 live.task c.self.invariant.engine live.there in
+    let switches = ap (λ (o : Engine). switches_at g.M.Consistency.rules (affected g.M.Consistency.rules (state_in o) (point_event c.args.kind c.args.task)) (point_event c.args.kind c.args.task) live.task.group) (sym c.self.view_is) ∙ switches-reported g.M.Consistency.rules g.met.M.Consistency.lawful (record { number = i.events; from = i.from.0; target = i.target.0; patches = i.patches; table = i.tasks; blames = i.blames }) i.waiting c.self.invariant.engine room (point_event c.args.kind c.args.task) c.args.kind c.args.task.0 h (at_point c.args.kind) (point-level c.args.kind) (point-group c.args.kind) live.task live.there (point-checks _ _ c.args.kind c.args.task c.requires.point) (point-plain c.args.kind c.args.task) accepted (point-own _ _ c.args.kind c.args.task _) (point-told g.M.Consistency.rules _ c.args.kind c.args.task) c.args.switching within switching ∙ c.if-not-switching.false in
+    let taken = takes_switch g.M.Consistency.rules g.met.M.Consistency.lawful (record { number = i.events; from = i.from.0; target = i.target.0; patches = i.patches; table = i.tasks; blames = i.blames }) i.waiting c.self.invariant.engine (point_event c.args.kind c.args.task) c.args.kind c.args.task.0 h (at_point c.args.kind) (point-level c.args.kind) (point-group c.args.kind) live.task live.there (point-checks _ _ c.args.kind c.args.task c.requires.point) c.args.self.now c.set_level.new.self c.remove.new.self c.self.view_is (c.set_level.ensures ∙ ap (changed c.args.task.0 (put_on i.target.0)) c.reach_point.ensures) c.remove.ensures.after c.remove.ensures.numbers c.requires.room (point-plain c.args.kind c.args.task) c.requires.accepted (point-own _ _ c.args.kind c.args.task _) switches in
+    (leaves_changed g.M.Consistency.rules g.met.M.Consistency.lawful e c.args.self.now _ i.waiting c.remove.new.self (point_event c.args.kind c.args.task) c.self.view_is c.self.invariant.engine c.self.invariant.blamed taken c.requires.accepted (point-plain c.args.kind c.args.task) refl c.args.task.0 (at_point c.args.kind) (point-own _ _ c.args.kind c.args.task _) (point-level c.args.kind) (point-group c.args.kind) (λ x frame there. there)).after

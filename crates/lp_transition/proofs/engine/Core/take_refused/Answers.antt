@@ -9,12 +9,12 @@ pub invariant_of-self : goal.invariant_of-self
 invariant_of-self g c =
     let i = c.self.inside in
     let e : Engine = record { number = i.events; from = i.from.0; target = i.target.0; patches = i.patches; table = i.tasks; blames = i.blames } in
-    let taken = takes_refused g.M.Consistency.rules g.met.M.Consistency.lawful (record { number = i.events; from = i.from.0; target = i.target.0; patches = i.patches; table = i.tasks; blames = i.blames }) c.args.self.now i.waiting i.members.items c.args.event c.args.why c.self.view_is c.self.invariant.engine c.requires.room c.requires.refused in
-    let left = leaves_refused g.M.Consistency.rules g.met.M.Consistency.lawful e c.args.self.now _ i.waiting i.waiting i.members.items i.members.items c.args.event c.self.view_is c.self.invariant.engine c.self.invariant.blamed taken c.args.why c.requires.refused refl in
+    let taken = takes_refused g.M.Consistency.rules g.met.M.Consistency.lawful (record { number = i.events; from = i.from.0; target = i.target.0; patches = i.patches; table = i.tasks; blames = i.blames }) c.args.self.now i.waiting c.args.event c.args.why c.self.view_is c.self.invariant.engine c.requires.room c.requires.refused in
+    let left = leaves_refused g.M.Consistency.rules g.met.M.Consistency.lawful e c.args.self.now _ i.waiting i.waiting c.args.event c.self.view_is c.self.invariant.engine c.self.invariant.blamed taken c.args.why c.requires.refused refl in
     record {
       core =
-          core_counts g.M.Consistency.rules e c.args.self.now _ i.waiting i.waiting i.members.items _ c.args.event i.unchanged i.unchanged c.self.view_is c.self.invariant.core
-          (takes_refused g.M.Consistency.rules g.met.M.Consistency.lawful e c.args.self.now i.waiting i.members.items c.args.event c.args.why c.self.view_is c.self.invariant.engine c.requires.room c.requires.refused)
+          core_counts g.M.Consistency.rules e c.args.self.now _ i.waiting i.waiting c.args.event i.unchanged i.unchanged c.self.view_is c.self.invariant.core
+          (takes_refused g.M.Consistency.rules g.met.M.Consistency.lawful e c.args.self.now i.waiting c.args.event c.args.why c.self.view_is c.self.invariant.engine c.requires.room c.requires.refused)
           c.args.why c.requires.refused refl;
       groups = c.self.invariant.groups;
       blamed = left.blamed;
@@ -23,11 +23,11 @@ invariant_of-self g c =
 pub returns-clause-state : goal.returns-clause-state
 returns-clause-state g c =
     let i = c.self.inside in
-    (takes_refused g.M.Consistency.rules g.met.M.Consistency.lawful (record { number = i.events; from = i.from.0; target = i.target.0; patches = i.patches; table = i.tasks; blames = i.blames }) c.args.self.now i.waiting i.members.items c.args.event c.args.why c.self.view_is c.self.invariant.engine c.requires.room c.requires.refused).state
+    (takes_refused g.M.Consistency.rules g.met.M.Consistency.lawful (record { number = i.events; from = i.from.0; target = i.target.0; patches = i.patches; table = i.tasks; blames = i.blames }) c.args.self.now i.waiting c.args.event c.args.why c.self.view_is c.self.invariant.engine c.requires.room c.requires.refused).state
 
 pub returns-clause-blames : goal.returns-clause-blames
 returns-clause-blames g c =
     let i = c.self.inside in
     let e : Engine = record { number = i.events; from = i.from.0; target = i.target.0; patches = i.patches; table = i.tasks; blames = i.blames } in
-    let taken = takes_refused g.M.Consistency.rules g.met.M.Consistency.lawful (record { number = i.events; from = i.from.0; target = i.target.0; patches = i.patches; table = i.tasks; blames = i.blames }) c.args.self.now i.waiting i.members.items c.args.event c.args.why c.self.view_is c.self.invariant.engine c.requires.room c.requires.refused in
-    (leaves_refused g.M.Consistency.rules g.met.M.Consistency.lawful e c.args.self.now _ i.waiting i.waiting i.members.items i.members.items c.args.event c.self.view_is c.self.invariant.engine c.self.invariant.blamed taken c.args.why c.requires.refused refl).after
+    let taken = takes_refused g.M.Consistency.rules g.met.M.Consistency.lawful (record { number = i.events; from = i.from.0; target = i.target.0; patches = i.patches; table = i.tasks; blames = i.blames }) c.args.self.now i.waiting c.args.event c.args.why c.self.view_is c.self.invariant.engine c.requires.room c.requires.refused in
+    (leaves_refused g.M.Consistency.rules g.met.M.Consistency.lawful e c.args.self.now _ i.waiting i.waiting c.args.event c.self.view_is c.self.invariant.engine c.self.invariant.blamed taken c.args.why c.requires.refused refl).after

@@ -12,13 +12,13 @@ invariant_of-self g c =
     let h : c.args.task.0 < 65536 = omega arith in
     let i = c.self.inside in
     let e : Engine = record { number = i.events; from = i.from.0; target = i.target.0; patches = i.patches; table = i.tasks; blames = i.blames } in
-    let taken = with_blames g.M.Consistency.rules c.args.self.now _ (Ret c.args.task) i.waiting i.members.items c.popped.new.self (takes_change g.M.Consistency.rules g.met.M.Consistency.lawful (record { number = i.events; from = i.from.0; target = i.target.0; patches = i.patches; table = i.tasks; blames = i.blames }) c.args.self.now c.ret.new.self i.waiting i.members.items (Ret c.args.task) c.args.task.0 returning c.self.view_is c.ret.ensures c.self.invariant.engine h c.requires.room refl c.requires.accepted refl (λ x. refl) (λ x. refl)) in
-    let left = leaves_returned g.M.Consistency.rules g.met.M.Consistency.lawful e c.args.self.now _ c.ret.new.self i.waiting i.waiting i.members.items i.members.items c.args.task c.self.view_is c.self.invariant.engine c.self.invariant.blamed taken c.requires.accepted h c.ret.ensures c.popped.ensures.blames in
+    let taken = with_blames g.M.Consistency.rules c.args.self.now _ (Ret c.args.task) i.waiting c.popped.new.self (takes_change g.M.Consistency.rules g.met.M.Consistency.lawful (record { number = i.events; from = i.from.0; target = i.target.0; patches = i.patches; table = i.tasks; blames = i.blames }) c.args.self.now c.ret.new.self i.waiting (Ret c.args.task) c.args.task.0 returning c.self.view_is c.ret.ensures c.self.invariant.engine h c.requires.room refl c.requires.accepted refl (λ x. refl) (λ x. refl)) in
+    let left = leaves_returned g.M.Consistency.rules g.met.M.Consistency.lawful e c.args.self.now _ c.ret.new.self i.waiting i.waiting c.args.task c.self.view_is c.self.invariant.engine c.self.invariant.blamed taken c.requires.accepted h c.ret.ensures c.popped.ensures.blames in
     record {
       core =
-          core_changes g.M.Consistency.rules e c.args.self.now _ i.waiting i.waiting i.members.items i.members.items (Ret c.args.task) i.unchanged c.touch.new.self c.self.view_is c.self.invariant.core
+          core_changes g.M.Consistency.rules e c.args.self.now _ i.waiting i.waiting (Ret c.args.task) i.unchanged c.touch.new.self c.self.view_is c.self.invariant.core
           taken
-          c.requires.accepted c.touch.ensures.kind c.args.task.0 returning refl c.touch.ensures.changed (λ t. refl) refl (λ x. refl);
+          c.requires.accepted c.touch.ensures.kind c.args.task.0 returning refl (c.touch.ensures.changed, c.touch.ensures.may_refuse) (λ t. refl) refl (λ x. refl);
       groups = c.popped.ensures.groups;
       blamed = left.blamed;
     }
@@ -27,12 +27,12 @@ pub returns-clause-state : goal.returns-clause-state
 returns-clause-state g c =
     let h : c.args.task.0 < 65536 = omega arith in
     let i = c.self.inside in
-    (takes_change g.M.Consistency.rules g.met.M.Consistency.lawful (record { number = i.events; from = i.from.0; target = i.target.0; patches = i.patches; table = i.tasks; blames = i.blames }) c.args.self.now c.ret.new.self i.waiting i.members.items (Ret c.args.task) c.args.task.0 returning c.self.view_is c.ret.ensures c.self.invariant.engine h c.requires.room refl c.requires.accepted refl (λ x. refl) (λ x. refl)).state
+    (takes_change g.M.Consistency.rules g.met.M.Consistency.lawful (record { number = i.events; from = i.from.0; target = i.target.0; patches = i.patches; table = i.tasks; blames = i.blames }) c.args.self.now c.ret.new.self i.waiting (Ret c.args.task) c.args.task.0 returning c.self.view_is c.ret.ensures c.self.invariant.engine h c.requires.room refl c.requires.accepted refl (λ x. refl) (λ x. refl)).state
 
 pub returns-clause-blames : goal.returns-clause-blames
 returns-clause-blames g c =
     let h : c.args.task.0 < 65536 = omega arith in
     let i = c.self.inside in
     let e : Engine = record { number = i.events; from = i.from.0; target = i.target.0; patches = i.patches; table = i.tasks; blames = i.blames } in
-    let taken = with_blames g.M.Consistency.rules c.args.self.now _ (Ret c.args.task) i.waiting i.members.items c.popped.new.self (takes_change g.M.Consistency.rules g.met.M.Consistency.lawful (record { number = i.events; from = i.from.0; target = i.target.0; patches = i.patches; table = i.tasks; blames = i.blames }) c.args.self.now c.ret.new.self i.waiting i.members.items (Ret c.args.task) c.args.task.0 returning c.self.view_is c.ret.ensures c.self.invariant.engine h c.requires.room refl c.requires.accepted refl (λ x. refl) (λ x. refl)) in
-    (leaves_returned g.M.Consistency.rules g.met.M.Consistency.lawful e c.args.self.now _ c.ret.new.self i.waiting i.waiting i.members.items i.members.items c.args.task c.self.view_is c.self.invariant.engine c.self.invariant.blamed taken c.requires.accepted h c.ret.ensures c.popped.ensures.blames).after
+    let taken = with_blames g.M.Consistency.rules c.args.self.now _ (Ret c.args.task) i.waiting c.popped.new.self (takes_change g.M.Consistency.rules g.met.M.Consistency.lawful (record { number = i.events; from = i.from.0; target = i.target.0; patches = i.patches; table = i.tasks; blames = i.blames }) c.args.self.now c.ret.new.self i.waiting (Ret c.args.task) c.args.task.0 returning c.self.view_is c.ret.ensures c.self.invariant.engine h c.requires.room refl c.requires.accepted refl (λ x. refl) (λ x. refl)) in
+    (leaves_returned g.M.Consistency.rules g.met.M.Consistency.lawful e c.args.self.now _ c.ret.new.self i.waiting i.waiting c.args.task c.self.view_is c.self.invariant.engine c.self.invariant.blamed taken c.requires.accepted h c.ret.ensures c.popped.ensures.blames).after

@@ -25,7 +25,7 @@ returns-in-Fork-clause-weighed g c =
     let e : Engine = record { number = i.events; from = i.from.0; target = i.target.0; patches = i.patches; table = i.tasks; blames = i.blames } in
     let room : e.number < 1000000 = omega (arith, c.if-self-ge-MOST_EVENTS.false) in
     let accepted = rw (← c.self.view_is) at (sym (c.in_default.ensures ∙ ap (refusal_of g.M.Consistency.rules (state_in c.args.self.now)) c.in-Fork.is)) in
-    let answered = c.done.ensures ∙ sym (answer-fork g.M.Consistency.rules g.met.M.Consistency.lawful e i.waiting i.members.items c.self.invariant.engine room c.in-Fork.parent c.in-Fork.child c.in-Fork.how accepted) in
+    let answered = c.done.ensures ∙ sym (answer-fork g.M.Consistency.rules g.met.M.Consistency.lawful e i.waiting c.self.invariant.engine room c.in-Fork.parent c.in-Fork.child c.in-Fork.how accepted) in
     let born = rw (← c.self.view_is) at (ap {A = Standing} {B = Option Standing} Some c.in_ok-born.ensures.ok ∙ c.child.ensures) in
     rw (← c.self.view_is)
     (weighed-as g.M.Consistency.rules e c.birth.result (Fork c.in-Fork.parent c.in-Fork.child c.in-Fork.how) c.done.result (Some c.in_ok-born.born.value) refl room c.birth.ensures answered born)

@@ -1,4 +1,4 @@
-use Rattle.std.proofs.Common.{◌≡◌, ℕ, ◌+◌, ◌<◌, Some, None, option_copied, sym, ap, ◌∙◌, arith}
+use Rattle.std.proofs.Common.{◌≡◌, ℕ, ◌+◌, ◌<◌, Some, None, sym, ap, ◌∙◌, arith}
 use Rattle.std.proofs.lemmas.List.{map-append, append-nil}
 use Rattle.std.specs.List.{filter_map}
 use Rattle.std.specs.Option.{option_map}
@@ -34,10 +34,10 @@ loop-next-preserved c =
     record {
       all = elim c.match-waiting_task.branch [
         | in-Some-waiting_task+in_ok-push w ↦
-            let x : f n ≡ Some (view_of n w.in-Some-waiting_task.live.now) = ap (option_map (view_of n)) (sym c.waiting_task.ensures ∙ ap option_copied w.in-Some-waiting_task.is) in
+            let x : f n ≡ Some (view_of n w.in-Some-waiting_task.live) = ap (option_map (view_of n)) (sym c.waiting_task.ensures ∙ w.in-Some-waiting_task.is) in
             rw (w.views-is, w.in_ok-push.ensures.items, map-append) (passing-given f 65536 (has c.args.set.now) _ _ c.loop-next.next n (seen w.view.result) c.member_from-next-in-Some.result c.in-Some.is h (c.loop-next.invariant.member n c.in-Some.is) (x ∙ ap Some (sym w.view.ensures)) after c.loop-next.invariant.all)
         | in_default-waiting_task w ↦
-            let none : f n ≡ None = ap (option_map (view_of n)) (sym c.waiting_task.ensures ∙ ap option_copied w.in_default-waiting_task.is) in
+            let none : f n ≡ None = ap (option_map (view_of n)) (sym c.waiting_task.ensures ∙ w.in_default-waiting_task.is) in
             rw w.views-is (passing-left_out f 65536 (has c.args.set.now) _ _ c.loop-next.next n c.member_from-next-in-Some.result c.in-Some.is h (c.loop-next.invariant.member n c.in-Some.is) none after c.loop-next.invariant.all)
       ];
       member = next_passes 65536 (has c.args.set.now) (n + 1) c.member_from-next-in-Some.result after;

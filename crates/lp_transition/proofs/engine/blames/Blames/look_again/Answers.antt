@@ -10,7 +10,7 @@ use Rattle.lp_transition.proofs.engine.blames.Blames.look_again.Goals as goal
 pub returns-then-has_serial-clause-blames : goal.returns-then-has_serial-clause-blames
 returns-then-has_serial-clause-blames c =
     let b = c.in-Some-of.blame in
-    let x = c.in-Some.live.now in
+    let x = c.in-Some.live in
     let same : c.view.result.frames.now ≡ x.frames = ap (λ (v : TaskView). v.frames) c.view.ensures in
     let there : list_any (λ (f : Frame). nat_eq f.serial b.serial) x.frames ≡ true = ap (list_any (λ (f : Frame). nat_eq f.serial b.serial)) (sym same) ∙ (sym c.has_serial.ensures ∙ c.if-has_serial.true) in
     looked-there c.args.tasks.now c.args.task.0 c.group-group.result.0 x b c.args.self.now (sym c.in-Some.ensures.value) c.group-group.ensures (sym c.of.ensures ∙ c.in-Some-of.is) there
@@ -18,7 +18,7 @@ returns-then-has_serial-clause-blames c =
 pub returns-clause-blames : goal.returns-clause-blames
 returns-clause-blames c =
     let b = c.in-Some-of.blame in
-    let x = c.in-Some.live.now in
+    let x = c.in-Some.live in
     let old = c.self.inside.of_group in
     let same : c.view.result.frames.now ≡ x.frames = ap (λ (v : TaskView). v.frames) c.view.ensures in
     let gone : list_any (λ (f : Frame). nat_eq f.serial b.serial) x.frames ≡ false = ap (list_any (λ (f : Frame). nat_eq f.serial b.serial)) (sym same) ∙ (sym c.has_serial.ensures ∙ c.if-has_serial.false) in

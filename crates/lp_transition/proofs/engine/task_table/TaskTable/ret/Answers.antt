@@ -1,24 +1,36 @@
-use Rattle.std.proofs.Common.{◌<◌, List, length, Option, refl, ap, arith}
+use Rattle.std.proofs.Common.{◌≡◌, ◌<◌, List, Option, Some, refl, sym, ap, ◌∙◌, arith}
+use Rattle.std.specs.Option.{option_map}
 use Rattle.lp_transition.specs.Machine.{returning}
 use Rattle.lp_transition.specs.Leg.{Standing}
-use Rattle.lp_transition.proofs.SlotLemmas.{boxes_wide, slots_of-change, IsTable-changed}
+use Rattle.lp_transition.specs.inside.Deep.{deep_at, with_deep}
+use Rattle.lp_transition.proofs.SlotLemmas.{boxed}
+use Rattle.lp_transition.proofs.KeptLemmas.{boxes-moved, kept-moved}
 use Rattle.lp_transition.proofs.engine.task_table.TaskTable.ret.Goals as goal
-use Rattle.lp_transition.proofs.engine.task_table.TaskTable.ret.Goals.{in-Some, in_default}
 
 pub invariant_of-self : goal.invariant_of-self
 invariant_of-self c =
-    let boxes = c.self.inside.slots.items in
-    let within : c.from.result < length boxes = omega (arith, boxes_wide boxes _ _ c.self.invariant) in
-    elim c.match-index_mut.branch [
-      | in-Some w ↦ rw w.self-inside-is (IsTable-changed boxes _ _ c.from.result c.index_mut.result.now _ returning within c.index_mut.ensures.value (rw w.in-Some.is (rw (w.ret.ensures, w.deref_mut.ensures.value) refl)) c.self.invariant)
-      | in_default w ↦ rw w.self-inside-is (IsTable-changed boxes _ _ c.from.result c.index_mut.result.now _ returning within c.index_mut.ensures.value (rw w.in_default.is refl) c.self.invariant)
-    ]
+    let i = c.self.inside in
+    let t = c.args.task.0 in
+    let within : c.args.task.0 < 65536 = omega arith in
+    let read = rw c.from.ensures at c.index_mut.ensures.value in
+    let was : boxed c.index_mut.result.now ≡ Some c.deref_mut.result.now = rw c.in-Some.is (rw c.deref_mut.ensures.value refl) in
+    let is = c.ret.ensures.returned ∙ ap (λ o. option_map (returning) (with_deep o (deep_at i.deep t))) (sym was) in
+    rw c.from.ensures (kept-moved i.slots.items (deep_at i.deep) i.live i.used i.members c.self.invariant t within c.index_mut.result.now read (deep_at c.ret.new.deep) c.ret.ensures.others _ (returning) is (λ x. refl) c.ret.ensures.recorded)
 
-pub returns : goal.returns
-returns c =
-    let boxes = c.self.inside.slots.items in
-    let within : c.from.result < length boxes = omega (arith, boxes_wide boxes _ _ c.self.invariant) in
-    elim c.match-index_mut.branch [
-      | in-Some w ↦ rw (w.self-inside-is, ← c.self.view_is, ← c.from.ensures) (ap (λ (slots : List (Option Standing)). record { slots = slots; used = c.self.inside.used }) (slots_of-change boxes c.from.result c.index_mut.result.now _ returning within c.index_mut.ensures.value (rw w.in-Some.is (rw (w.ret.ensures, w.deref_mut.ensures.value) refl))))
-      | in_default w ↦ rw (w.self-inside-is, ← c.self.view_is, ← c.from.ensures) (ap (λ (slots : List (Option Standing)). record { slots = slots; used = c.self.inside.used }) (slots_of-change boxes c.from.result c.index_mut.result.now _ returning within c.index_mut.ensures.value (rw w.in_default.is refl)))
-    ]
+pub returns-in-Some : goal.returns-in-Some
+returns-in-Some c =
+    let i = c.self.inside in
+    let t = c.args.task.0 in
+    let within : c.args.task.0 < 65536 = omega arith in
+    let read = rw c.from.ensures at c.index_mut.ensures.value in
+    let was : boxed c.index_mut.result.now ≡ Some c.deref_mut.result.now = rw c.in-Some.is (rw c.deref_mut.ensures.value refl) in
+    let is = c.ret.ensures.returned ∙ ap (λ o. option_map (returning) (with_deep o (deep_at i.deep t))) (sym was) in
+    rw (← c.self.view_is, c.from.ensures) (ap (λ (slots : List (Option Standing)). record { slots = slots; used = i.used }) (boxes-moved i.slots.items (deep_at i.deep) i.live i.used i.members c.self.invariant t within c.index_mut.result.now read (deep_at c.ret.new.deep) c.ret.ensures.others _ (returning) is))
+
+pub returns-in_default : goal.returns-in_default
+returns-in_default c =
+    let i = c.self.inside in
+    let t = c.args.task.0 in
+    let within : c.args.task.0 < 65536 = omega arith in
+    let read = rw c.from.ensures at c.index_mut.ensures.value in
+    rw (← c.self.view_is, c.from.ensures) (ap (λ (slots : List (Option Standing)). record { slots = slots; used = i.used }) (boxes-moved i.slots.items (deep_at i.deep) i.live i.used i.members c.self.invariant t within c.index_mut.result.now read (deep_at i.deep) (λ u ne. refl) c.index_mut.result.now (returning) (rw c.in_default.is refl)))

@@ -1,0 +1,240 @@
+//! Scans that ask of each group no more than it takes to know its first member that they refuse.
+ghost use Rattle.std.specs.Prelude.{◌≡◌, true, IfOk};
+ghost use Rattle.lp_transition.specs.Scan.{is_scan_kind};
+ghost use Rattle.lp_transition.specs.Weigh.{IsWeighed};
+
+use super::asked::waiting;
+use super::*;
+use lp_model::{Blame, CheckKind, ForkKind, Verdict};
+use lp_models::AllAtOnce;
+use lp_process::ProcessGroup;
+use lp_transition::{Halt, Step};
+
+/// Three members of a group that waits: they sleep, and the second is in a call.
+const HELD: [Event; 8] = [
+    Event::Enter(ONE),
+    Event::Fork(ONE, TWO, ForkKind::Share),
+    Event::Fork(ONE, THREE, ForkKind::Share),
+    Event::Call(TWO, A),
+    Event::Sleep(ONE),
+    Event::Sleep(TWO),
+    Event::Sleep(THREE),
+    Event::Enable,
+];
+
+/// Something happens to the first member.
+const TOUCHED: [Event; 2] = [Event::Wake(ONE), Event::Sleep(ONE)];
+
+/// The second member returns.
+const RETURNED: [Event; 3] = [Event::Wake(TWO), Event::Ret(TWO), Event::Sleep(TWO)];
+
+/// It returns, and then it dies.
+const DEAD: [Event; 3] = [Event::Wake(TWO), Event::Ret(TWO), Event::Die(TWO)];
+
+const ONE_ADMITTED: Verdict = Verdict {
+    task: ONE,
+    blame: None,
+};
+
+const TWO_ADMITTED: Verdict = Verdict {
+    task: TWO,
+    blame: None,
+};
+
+const THREE_ADMITTED: Verdict = Verdict {
+    task: THREE,
+    blame: None,
+};
+
+/// The second member is refused for its call, which was the fourth event.
+const REFUSED: Verdict = Verdict {
+    task: TWO,
+    blame: Some(Blame::Frame(4)),
+};
+
+/// Events, the verdicts of the scan after them, and whether the group switches at it.
+pub(super) type Row = (&'static [Event], &'static [Verdict], bool);
+
+/// Before the first scan nothing is known of who is admitted, so it looks at every member.
+const FIRST: Row = (&HELD, &[ONE_ADMITTED, REFUSED, THREE_ADMITTED], false);
+
+/// The first member is admitted again and the second refused, so the third isn't looked at.
+const SECOND: Row = (&TOUCHED, &[ONE_ADMITTED, REFUSED], false);
+
+/// Nobody is refused, and each member that switches is looked at.
+const ALL_ADMITTED: Row = (
+    &RETURNED,
+    &[ONE_ADMITTED, TWO_ADMITTED, THREE_ADMITTED],
+    true,
+);
+
+/// The same, where the only one who might have been refused is no longer a member.
+const OTHERS_ADMITTED: Row = (&DEAD, &[ONE_ADMITTED, THREE_ADMITTED], true);
+
+/// The second member returns, and the group switches.
+pub(super) const RETURNS: [Row; 3] = [FIRST, SECOND, ALL_ADMITTED];
+
+/// The second member dies, and the group switches.
+const DIES: [Row; 2] = [FIRST, OTHERS_ADMITTED];
+
+/// A scan of the groups that wait, weighed by first refusals.
+pub(super) fn weighed<M: Consistency>(
+    alloc: Global,
+    core: &Core<M>,
+    kind: CheckKind,
+) -> Result<Step, Halt>
+    requires { is_scan_kind kind ≡ true }
+    ensures { IfOk result (λ step. IsWeighed M.rules core.now step) }
+{
+    let asked = waiting(alloc, core)?;
+    core.weigh_first_refusals(alloc, kind, &asked)
+}
+
+/// Whether a scan has these verdicts, and says this, as one that looks at every member does.
+fn is_right<M: Consistency>(
+    alloc: Global,
+    core: &Core<M>,
+    scan: &Step,
+    found: &[Verdict],
+    said: Said,
+) -> Result<bool, Halt> {
+    let whole = core.weigh_any(alloc, scan.event())?;
+    Ok(
+        scan.verdicts() == found
+            && in_short(scan.reply()) == said
+            && in_short(whole.reply()) == said,
+    )
+}
+
+/// Whether such a scan, which is then taken, has these verdicts, and says this.
+fn scans<M: Consistency>(
+    alloc: Global,
+    core: &mut Core<M>,
+    kind: CheckKind,
+    found: &[Verdict],
+    said: Said,
+) -> Result<bool, Halt>
+    requires { is_scan_kind kind ≡ true }
+{
+    let scan = weighed(alloc, core, kind)?;
+    let right = is_right(alloc, core, &scan, found, said)?;
+    core.take(scan);
+    Ok(right)
+}
+
+/// What a scan says at which this group switches, or none.
+fn said_of(group: u16, switches: bool) -> Said {
+    if switches {
+        Said::OverLast(group)
+    } else {
+        Said::Done
+    }
+}
+
+/// The number of the first of these rows that turns out otherwise, for the group of task 1.
+fn other_row<M: Consistency>(
+    alloc: Global,
+    core: &mut Core<M>,
+    kind: CheckKind,
+    group: u16,
+    rows: &[Row],
+) -> Result<Option<usize>, Fail>
+    requires { is_scan_kind kind ≡ true }
+{
+    for (number, (events, found, switches)) in rows.iter().enumerate() {
+        give(alloc, core, events)?;
+        if !scans(alloc, core, kind, found, said_of(group, *switches))? {
+            return Ok(Some(number));
+        }
+    }
+    Ok(None)
+}
+
+/// The same, from the start of an engine with task 1.
+fn other_row_from_start<M: Consistency>(
+    alloc: Global,
+    model: M,
+    kind: CheckKind,
+    group: u16,
+    rows: &[Row],
+) -> Result<Option<usize>, Fail>
+    requires { is_scan_kind kind ≡ true }
+{
+    let mut core = boot_over_a(alloc, model, &[normal(1)])?;
+    other_row(alloc, &mut core, kind, group, rows)
+}
+
+#[test]
+fn a_process_is_asked_up_to_its_first_refusal(rt: HostRuntime) -> Result<(), Fail> {
+    for rows in [RETURNS.as_slice(), DIES.as_slice()] {
+        let other = other_row_from_start(rt.alloc(), ProcessGroup, CheckKind::Walk, 1, rows)?;
+        assert!(rt; other == None);
+    }
+    Ok(())
+}
+
+#[test]
+fn all_are_asked_up_to_the_first_refusal(rt: HostRuntime) -> Result<(), Fail> {
+    for rows in [RETURNS.as_slice(), DIES.as_slice()] {
+        let other = other_row_from_start(rt.alloc(), AllAtOnce, CheckKind::Stop, 0, rows)?;
+        assert!(rt; other == None);
+    }
+    Ok(())
+}
+
+/// Of tasks that wait, two sleep in the kernel, the second of them in a call.
+const CALLED: [Event; 6] = [
+    Event::Enter(ONE),
+    Event::Sleep(ONE),
+    Event::Enter(TWO),
+    Event::Call(TWO, A),
+    Event::Sleep(TWO),
+    Event::Enable,
+];
+
+/// Events, how many verdicts a stop of 70 tasks has after them, and what it says.
+const STOPS: [(&[Event], usize, Said); 3] = [
+    (&CALLED, 70, Said::Done),
+    (&TOUCHED, 2, Said::Done),
+    (&RETURNED, 70, Said::OverLast(0)),
+];
+
+/// How many verdicts a stop has that is weighed by first refusals and then taken, and what it says.
+fn stop(alloc: Global, core: &mut Core<AllAtOnce>) -> Result<(usize, Said), Halt> {
+    let scan = weighed(alloc, core, CheckKind::Stop)?;
+    let count = scan.verdicts().len();
+    Ok((count, in_short(&core.take(scan))))
+}
+
+/// The number of the first of these stops that turns out otherwise.
+fn other_stop(alloc: Global, core: &mut Core<AllAtOnce>) -> Result<Option<usize>, Fail> {
+    for (number, (events, count, said)) in STOPS.iter().enumerate() {
+        give(alloc, core, events)?;
+        if stop(alloc, core)? != (*count, *said) {
+            return Ok(Some(number));
+        }
+    }
+    Ok(None)
+}
+
+/// The tasks 1 to 70, more than a group has whose members are gone over one by one.
+fn seventy(alloc: Global) -> Result<Vec<(TaskId, Class)>, Fail> {
+    let mut tasks = Vec::new(alloc);
+    for number in 1..71 {
+        tasks.push(normal(number))?;
+    }
+    Ok(tasks)
+}
+
+/// An engine that starts with them.
+fn boot_seventy(alloc: Global) -> Result<Box<Core<AllAtOnce>>, Fail> {
+    let tasks = seventy(alloc)?;
+    boot_over_a(alloc, AllAtOnce, tasks.as_slice())
+}
+
+#[test]
+fn a_large_group_is_asked_up_to_its_first_refusal(rt: HostRuntime) -> Result<(), Fail> {
+    let mut core = boot_seventy(rt.alloc())?;
+    assert!(rt; other_stop(rt.alloc(), &mut core)? == None);
+    Ok(())
+}

@@ -1,0 +1,26 @@
+use Rattle.std.proofs.Common.{Result, Ok, Err, IfOk, ◌≡◌, List, Vec, ap, ap₂, sym, ◌∙◌, map}
+use Rattle.std.specs.Global.{Global}
+use Rattle.lp_stack.specs.TaskView.{seen}
+use Rattle.lp_numbers.specs.Numbers.{has}
+use Rattle.lp_model.specs.declared.verdict.Verdict.{Verdict}
+use Rattle.lp_transition.specs.Scan.{verdict_of, verdicts_at}
+use Rattle.lp_transition.specs.Table.{Engine, state_in}
+use Rattle.lp_transition.proofs.AskedScans.{among_views}
+use Rattle.lp_transition.proofs.ScanLemmas.{views-asked}
+use Rattle.lp_transition.proofs.engine.Core.verdicts_in.Goals as goal
+
+pub returns : goal.returns
+returns g c =
+    let i = c.self.inside in
+    let e : Engine = record { number = i.events; from = i.from.0; target = i.target.0; patches = i.patches; table = i.tasks; blames = i.blames } in
+    let model = g.M.Consistency.rules in
+    let looked = has c.args.tasks.now in
+    let aim = c.aim-aim.ensures ∙ ap (λ (o : Engine). (state_in o).aim) (sym c.self.view_is) in
+    let listed = c.in_ok-views.ensures ∙ views-asked e i.waiting c.self.invariant.engine looked in
+    let same = ap (map (verdict_of model c.args.kind (state_in e).aim)) listed ∙ sym (among_views model c.args.kind (state_in e) looked) in
+    let here = ap (λ (o : Engine). verdicts_at model c.args.kind (state_in o) looked) c.self.view_is in
+    ok_map c.verdicts.result c.verdicts.ensures (ap₂ (λ goal items. map (verdict_of model c.args.kind goal) (map seen items)) aim c.as_slice.ensures.value ∙ same ∙ here)
+  where
+    ok_map : {E : Type 0} {vs ws : List Verdict} (r : Result (Vec Verdict Global) E) → IfOk r (λ all. all.items ≡ vs) → vs ≡ ws → IfOk r (λ all. all.items ≡ ws)
+    ok_map (Ok all) told same = told ∙ same
+    ok_map (Err e) told same = tt
