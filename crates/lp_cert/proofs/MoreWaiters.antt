@@ -28,7 +28,7 @@ use Rattle.lp_model.specs.declared.check.Blame.{Blame}
 use Rattle.lp_model.specs.declared.check.Blame.TheVariants as blame
 use Rattle.lp_stack.specs.TaskView.{TaskView}
 use Rattle.lp_transition.specs.Leg.{State}
-use Rattle.lp_transition.specs.Scan.{AreEnough, is_asked, verdict_of, verdicts_of, views_of}
+use Rattle.lp_transition.specs.Scan.{AreEnough, verdict_of, verdicts_of, views_of}
 use Rattle.lp_model.specs.declared.verdict.Verdict.{Verdict}
 use Rattle.lp_cert.specs.inside.Heads.{IsUsed}
 use Rattle.lp_cert.specs.inside.Waiters.{IsUsedVerdict}
@@ -270,4 +270,4 @@ used_filtered p (v ∷ vs) used = by (used_filtered p vs used.1) (p v) refl
 
 pub used_enough : (model : Rules) → IsLawful model → (kind : CheckKind) (s : State) (vs : List Verdict) → AreEnough model kind s vs → IsTrue (model.uses kind) → AllByRecursion IsUsedVerdict vs
 used_enough model lawful kind s vs enough used =
-    subst (AllByRecursion IsUsedVerdict) (sym enough.found) (used_filtered (λ v. is_asked s enough.asked v.task.0) (verdicts_of model kind s) (used_verdicts model lawful kind s used))
+    subst (AllByRecursion IsUsedVerdict) (sym enough.found) (used_filtered (λ v. enough.looked v.task.0) (verdicts_of model kind s) (used_verdicts model lawful kind s used))

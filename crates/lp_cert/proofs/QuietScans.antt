@@ -13,6 +13,8 @@ use Rattle.lp_transition.specs.Steps.{StandsIn}
 use Rattle.lp_transition.specs.Table.{Engine, state_in}
 use Rattle.lp_transition.specs.Weigh.{IsWeighed}
 use Rattle.lp_transition.proofs.AskedScans.{asked_none}
+use Rattle.lp_transition.proofs.GroupsTold.{tell_among}
+use Rattle.lp_transition.specs.Blames.{TellOf}
 use Rattle.lp_transition.proofs.QuietScans.{quiet_step, quiet_weighed}
 use Rattle.lp_cert.specs.declared.open_leg.OpenLeg.{OpenLeg}
 use Rattle.lp_cert.specs.Certificates.{lines}
@@ -92,7 +94,11 @@ module _ (model : Rules) (lawful : IsLawful model) (run : Run) (e : Engine) (sta
     suffices : Suffices model (state_in e) (quiet_step on) made.last_scan
     suffices =
         subst (λ (o : Option CheckKind). AreThoseOf model (state_in e) o [] made.last_scan) (sym is_used)
-        (inr (told, asked_none model on (state_in e) ∙ ap (λ (asked : ℕ → Bool). verdicts_among model on (state_in e) asked) (sym none_changed)))
+        (inr (
+          told,
+          subst (λ (asked : ℕ → Bool). TellOf model on (state_in e) asked []) (sym none_changed)
+              (subst (TellOf model on (state_in e) (λ group. false)) (sym (asked_none model on (state_in e))) (tell_among model (state_in e) (engine_sound model lawful run e stands) on (λ group. false))),
+        ))
 
     unchanged_on : IsUnchangedOn model e (quiet_step on) leg later made.last_scan new.last_scan
     unchanged_on = record {

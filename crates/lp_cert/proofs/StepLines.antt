@@ -20,7 +20,7 @@ use Rattle.lp_transition.specs.Tasks.{Fate, Unused, Live, on_live, change}
 use Rattle.lp_transition.specs.Leg.{Standing, State, Leg, some_live}
 use Rattle.lp_transition.specs.Run.{and_then}
 use Rattle.lp_transition.specs.Sound.{IsSound}
-use Rattle.lp_transition.specs.Scan.{verdicts_among, verdicts_of}
+use Rattle.lp_transition.specs.Scan.{verdicts_of}
 use Rattle.lp_transition.specs.inside.ScanSteps.{switches_by, groups_of}
 use Rattle.lp_transition.specs.Machine.{waits_in, switches_at, affected, next, told, state_of, refusal_of, calling, returning, put_in}
 use Rattle.lp_transition.specs.Table.{Engine, slot, fate_at, state_in}
@@ -37,7 +37,7 @@ use Rattle.lp_cert.specs.Certificates.{lines, birth_line, after_refusal}
 use Rattle.lp_cert.specs.EventLines.{lines_after_fork}
 use Rattle.lp_cert.specs.inside.StepLines.{stepped_lines, noted_by, noted_lines}
 use Rattle.lp_cert.specs.LastScan.{LastScan, AreUnchangedBy, AreUnchangedSince, AreThoseOf, Suffices, used_kind, used_scan}
-use Rattle.lp_transition.specs.Blames.{has_frame_in, first_refused}
+use Rattle.lp_transition.specs.Blames.{TellOf, has_frame_in, first_refused}
 use Rattle.lp_cert.specs.Waiters.{WaitingGroups}
 use Rattle.lp_cert.specs.inside.Waiters.{AreStanding, own_lines, after_scan, after_scan_of, after_switch, after_verdict, after_fork, after_death, is_lone, lines_at, lines_in, scanned_lines}
 use Rattle.lp_cert.proofs.NextLines.{lines_at_fork}
@@ -213,9 +213,8 @@ module _ (model : Rules) (lawful : IsLawful model) (e : Engine) (sound : IsSound
     refused_case there behind same blamed first =
         ⊎_elim
         (λ (all : vs ≡ verdicts_of model on s). ap (λ o. after_verdict s (suc e.number) o waiters.reasons g) (ap (first_refused s g) all ∙ first))
-        (λ (some : (last_scan.kind ≡ Some on) × (vs ≡ verdicts_among model on s (has last_scan.changed_since))).
-        ap (λ ws. after_verdict s (suc e.number) (first_refused s g ws) waiters.reasons g) some.1
-        ∙ scan_told model s sound on (lines model leg n) (has last_scan.changed_since) (since (Some on) some.0) waiters stand (suc e.number) g there same behind blamed first)
+        (λ (some : (last_scan.kind ≡ Some on) × TellOf model on s (has last_scan.changed_since) vs).
+        scan_told model s sound on (lines model leg n) (has last_scan.changed_since) (since (Some on) some.0) waiters stand (suc e.number) g there same behind blamed first vs some.1)
         told
 
     scan_noted : scanned_lines s (suc e.number) vs waiters g ≡ after_scan (has_frame_in s) g (suc e.number) (first_refused s g (verdicts_of model on s)) (old g)

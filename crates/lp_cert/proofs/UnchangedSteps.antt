@@ -1,7 +1,7 @@
 -- Which groups are unchanged after an event that opens no leg.
 use Rattle.std.proofs.Common.{◌≡◌, ℕ, suc, ◌<◌, ◌⊎◌, Bool, true, false, not, ◌&&◌, ◌||◌, List, [], ◌∷◌, length, Option, Some, None, is_some, IsTrue, IsFalse, if◌then◌else◌, nat_eq, nat_lt, refl, sym, ap, ap₂, subst, ◌∙◌, ⊎_elim, inl, inr}
 use Rattle.std.specs.List.{filter, list_any}
-use Rattle.std.proofs.lemmas.Bool.{false≢true, cond-true, cond-false, eqb-true, eq-eqb, ltb-true}
+use Rattle.std.proofs.lemmas.Bool.{false≢true, cond-true, cond-false, and_parts, eqb-true, eq-eqb, ltb-true, or_cases}
 use Rattle.lp_numbers.specs.Numbers.{has}
 use Rattle.lp_model.specs.Rules.{Rules, IsLawful}
 use Rattle.lp_model.specs.declared.check.Blame.{Blame}
@@ -10,13 +10,14 @@ use Rattle.lp_model.specs.declared.check.CheckKind.TheVariants as kind
 use Rattle.lp_model.specs.declared.verdict.Verdict.{Verdict}
 use Rattle.lp_transition.specs.declared.event.Event.{Event}
 use Rattle.lp_transition.specs.declared.event.Event.TheVariants.{Walk, Stop}
-use Rattle.lp_transition.specs.Tasks.{Live, on_live}
+use Rattle.lp_transition.specs.Tasks.{Fate, Unused, Live, Dead, on_live}
 use Rattle.lp_transition.specs.Leg.{Standing, State, Leg}
 use Rattle.lp_transition.specs.Run.{and_then, opens}
 use Rattle.lp_transition.specs.Sound.{IsSound}
 use Rattle.lp_transition.specs.Machine.{view_of, waits_in, state_of}
 use Rattle.lp_transition.specs.Scan.{is_asked, is_scan_kind, scan_event, verdict_of, verdicts_among, verdicts_of}
-use Rattle.lp_transition.specs.Table.{Engine, state_in, bounds_of, standings}
+use mathlib.Core.Path.{fun_ext}
+use Rattle.lp_transition.specs.Table.{Engine, fate_at, slot, state_in}
 use Rattle.lp_transition.specs.inside.Table.{is_in}
 use Rattle.lp_transition.specs.Weigh.{Weighed}
 use Rattle.lp_transition.proofs.ScanLists.{verdict-is, verdict-from}
@@ -28,8 +29,8 @@ use Rattle.lp_cert.specs.inside.Heads.{is_busy}
 use Rattle.lp_cert.specs.Certificates.{lines, group_id}
 use Rattle.lp_cert.specs.Unchanged.{Continues, IsUnchanged, AreUnchanged, says_busy}
 use Rattle.lp_cert.specs.LastScan.{LastScan, AreUnchangedBy, AreUnchangedSince, AreThoseOf, Suffices, used_kind, used_scan}
-use Rattle.lp_cert.specs.inside.LastScan.{AreKeptApart, IsLastScanAfter, continues_by as reason_goes_by, is_of_group, says_busy_on, leaves_unchanged, refuses_as_before}
-use Rattle.lp_transition.specs.Blames.{has_frame_in}
+use Rattle.lp_cert.specs.inside.LastScan.{AreKeptApart, IsLastScanAfter, continues_by as reason_goes_by, is_of_group, is_refused_in, says_busy_on, leaves_unchanged, refuses_as_before}
+use Rattle.lp_transition.specs.Blames.{TellOf, has_frame_in, is_of}
 use Rattle.lp_cert.specs.Waiters.{LegReasons, WaitingGroups, head_of}
 use Rattle.lp_cert.specs.inside.Waiters.{AreStanding, lines_at}
 use Rattle.lp_cert.proofs.HeadLemmas.{busy_blame}
@@ -84,43 +85,104 @@ scan_is model _ on some = absurd (some_none on (sym some))
 
 -- ---- What a reason that continues shows
 
-both_true : (a b : Bool) → (a && b) ≡ true → (a ≡ true) × (b ≡ true)
-both_true true b h = (refl, h)
-both_true false b h = absurd (cc)
-
-ongoing_is : (has_frame : (task serial : ℕ) → Bool) (t : ℕ) (why : Blame) (ongoing : Ongoing) → reason_goes_by has_frame t why ongoing ≡ true → OngoingContinues has_frame t why ongoing
-ongoing_is has_frame t why Nothing h = absurd (cc)
-ongoing_is has_frame t why (Hold task serial from) h =
-    let parts = both_true (nat_eq task.0 t) (has_frame task.0 serial) h in
-    let same = eqb-true task.0 t parts.0 in
-    (same, ap (λ u. has_frame u serial) (sym same) ∙ parts.1)
-ongoing_is has_frame t why (Busy task first) h =
-    let parts = both_true (nat_eq task.0 t) (is_busy why) h in
-    (eqb-true task.0 t parts.0, busy_blame why parts.1)
-
--- a verdict of this member that leaves the group unchanged
-record Settles (e : Engine) (reasons : LegReasons) (g t : ℕ) (o : Option Blame) (x : Standing) : Type 0 where
-  grouped : x.group ≡ g
+-- a member of the group whose refusal lets the newest reason continue
+record Settles (model : Rules) (kind : CheckKind) (e : Engine) (reasons : LegReasons) (g : ℕ) : Type 0 where
+  member : ℕ
+  life : Standing
+  live : (state_in e).tasks member ≡ Live life
+  grouped : life.group ≡ g
   why : Blame
-  refused : o ≡ Some why
+  refused : model.blame kind (view_of member life) (state_in e).aim ≡ Some why
   few : g < 65536
-  continues : reason_goes_by (has_frame_in (state_in e)) t why (head_of reasons g).ongoing ≡ true
+  continues : OngoingContinues (has_frame_in (state_in e)) member why (head_of reasons g).ongoing
 
-leaves_unchanged_is : (e : Engine) (reasons : LegReasons) (g t : ℕ) (o : Option Blame) (x : Standing) → refuses_as_before e reasons g t o (Some x) ≡ true → Settles e reasons g t o x
-leaves_unchanged_is e reasons g t None x h = absurd (cc)
-leaves_unchanged_is e reasons g t (Some why) x h =
-    let by_reason : ℕ → Bool = λ k. reason_goes_by (has_frame_in (state_in e)) t why (head_of reasons k).ongoing in
-    let outer = both_true (nat_eq x.group g && nat_lt x.group 65536) (by_reason x.group) h in
-    let member = both_true (nat_eq x.group g) (nat_lt x.group 65536) outer.0 in
-    let mine : x.group ≡ g = eqb-true x.group g member.0 in
-    let below : x.group < 65536 = ltb-true x.group 65536 member.1 in
-    record {
-      grouped = mine;
-      why = why;
-      refused = refl;
-      few = subst (λ k. k < 65536) mine below;
-      continues = ap by_reason (sym mine) ∙ outer.1;
-    }
+-- a refused member
+record Refuses (model : Rules) (kind : CheckKind) (e : Engine) (g t : ℕ) : Type 0 where
+  life : Standing
+  live : (state_in e).tasks t ≡ Live life
+  grouped : life.group ≡ g
+  why : Blame
+  refused : model.blame kind (view_of t life) (state_in e).aim ≡ Some why
+
+refuses_in : (model : Rules) (kind : CheckKind) (e : Engine) (g t : ℕ) → is_refused_in model kind e g t ≡ true → Refuses model kind e g t
+refuses_in model kind e g t h = at ((state_in e).tasks t) refl
+  where
+    refused_by : (y : Standing) → (state_in e).tasks t ≡ Live y → y.group ≡ g → (o : Option Blame) → model.blame kind (view_of t y) (state_in e).aim ≡ o → is_some o ≡ true → Refuses model kind e g t
+    refused_by y live mine (Some b) is some = record { life = y; live = live; grouped = mine; why = b; refused = is }
+    refused_by y live mine None is some = absurd (false≢true some)
+
+    by : (y : Standing) → (state_in e).tasks t ≡ Live y → (b : Bool) → nat_eq y.group g ≡ b → is_some (if b then model.blame kind (view_of t y) (state_in e).aim else None) ≡ true → Refuses model kind e g t
+    by y live true mine some = refused_by y live (eqb-true y.group g mine) (model.blame kind (view_of t y) (state_in e).aim) refl some
+    by y live false mine some = absurd (false≢true some)
+
+    at : (fate : Fate Standing) → (state_in e).tasks t ≡ fate → Refuses model kind e g t
+    at Unused is = absurd (false≢true (sym (ap (λ f. is_some (on_live None (λ (y : Standing). if nat_eq y.group g then model.blame kind (view_of t y) (state_in e).aim else None) f)) is) ∙ h))
+    at Dead is = absurd (false≢true (sym (ap (λ f. is_some (on_live None (λ (y : Standing). if nat_eq y.group g then model.blame kind (view_of t y) (state_in e).aim else None) f)) is) ∙ h))
+    at (Live y) is = by y is (nat_eq y.group g) refl (sym (ap (λ f. is_some (on_live None (λ (z : Standing). if nat_eq z.group g then model.blame kind (view_of t z) (state_in e).aim else None) f)) is) ∙ h)
+
+module _ (model : Rules) (kind : CheckKind) (e : Engine) (reasons : LegReasons) (g t : ℕ) (x : Standing) (live : (state_in e).tasks t ≡ Live x) where
+  settles_by : x.group ≡ g → g < 65536 → (why : Blame) → model.blame kind (view_of t x) (state_in e).aim ≡ Some why → (ongoing : Ongoing) → (head_of reasons g).ongoing ≡ ongoing
+      → reason_goes_by (has_frame_in (state_in e)) (is_refused_in model kind e g) t why ongoing ≡ true → Settles model kind e reasons g
+  settles_by mine few why refused Nothing is h = absurd (false≢true h)
+  settles_by mine few why refused (Busy task first) is h =
+      let parts = and_parts (nat_eq task.0 t) (is_busy why) h in
+      record {
+        member = t;
+        life = x;
+        live = live;
+        grouped = mine;
+        why = why;
+        refused = refused;
+        few = few;
+        continues = subst (OngoingContinues (has_frame_in (state_in e)) t why) (sym is) (eqb-true task.0 t parts.0, busy_blame why parts.1);
+      }
+  settles_by mine few why refused (Hold task serial from) is h =
+      let parts = and_parts (has_frame_in (state_in e) task.0 serial) (nat_eq task.0 t || is_refused_in model kind e g task.0) h in
+      ⊎_elim
+      (λ (same : nat_eq task.0 t ≡ true).
+      let here = eqb-true task.0 t same in
+      let settled : Settles model kind e reasons g = record {
+        member = t;
+        life = x;
+        live = live;
+        grouped = mine;
+        why = why;
+        refused = refused;
+        few = few;
+        continues = subst (OngoingContinues (has_frame_in (state_in e)) t why) (sym is) (here, ap (λ u. has_frame_in (state_in e) u serial) (sym here) ∙ parts.0);
+      } in settled)
+      (λ (other : is_refused_in model kind e g task.0 ≡ true).
+      let r = refuses_in model kind e g task.0 other in
+      let settled : Settles model kind e reasons g = record {
+        member = task.0;
+        life = r.life;
+        live = r.live;
+        grouped = r.grouped;
+        why = r.why;
+        refused = r.refused;
+        few = few;
+        continues = subst (OngoingContinues (has_frame_in (state_in e)) task.0 r.why) (sym is) (refl, parts.0);
+      } in settled)
+      (or_cases (nat_eq task.0 t) (is_refused_in model kind e g task.0) parts.1)
+
+  leaves_unchanged_is : (o : Option Blame) → model.blame kind (view_of t x) (state_in e).aim ≡ o → refuses_as_before model kind e reasons g t o (Some x) ≡ true → Settles model kind e reasons g
+  leaves_unchanged_is None is h = absurd (false≢true h)
+  leaves_unchanged_is (Some why) is h =
+      let by_reason : ℕ → Bool = λ k. reason_goes_by (has_frame_in (state_in e)) (is_refused_in model kind e k) t why (head_of reasons k).ongoing in
+      let outer = and_parts (nat_eq x.group g && nat_lt x.group 65536) (by_reason x.group) h in
+      let member = and_parts (nat_eq x.group g) (nat_lt x.group 65536) outer.0 in
+      let mine : x.group ≡ g = eqb-true x.group g member.0 in
+      let below : x.group < 65536 = ltb-true x.group 65536 member.1 in
+      settles_by mine (subst (λ k. k < 65536) mine below) why is (head_of reasons g).ongoing refl (ap by_reason (sym mine) ∙ outer.1)
+
+-- a verdict is of a member of the group in the words of the machine and in those of the engine
+fate_is : (g : ℕ) (o : Option Standing) (used : Bool) → on_live false (λ y. nat_eq y.group g) (fate_at o used) ≡ is_in g o
+fate_is g None true = refl
+fate_is g None false = refl
+fate_is g (Some x) used = refl
+
+of_member : (e : Engine) (g : ℕ) (vs : List Verdict) → list_any (is_of (state_in e) g) vs ≡ list_any (is_of_group e g) vs
+of_member e g vs = ap (λ test. list_any test vs) (fun_ext (λ v. fate_is g (slot e.table v.task.0) (has e.table.used v.task.0)))
 
 any_filtered : (p q : Verdict → Bool) (vs : List Verdict) → list_any q (filter p vs) ≡ true → list_any q vs ≡ true
 any_filtered p q [] h = h
@@ -130,19 +192,6 @@ any_filtered p q (v ∷ vs) h = by (any_filtered p q vs) (p v) refl (q v) refl
     by rest b e true f = ap (λ a. a || list_any q vs) f
     by rest true e false f = ap (λ a. a || list_any q vs) f ∙ rest (sym (ap (λ a. a || list_any q (filter p vs)) f) ∙ (sym (ap (list_any q) (cond-true (p v) (v ∷ filter p vs) (filter p vs) e)) ∙ h))
     by rest false e false f = ap (λ a. a || list_any q vs) f ∙ rest (sym (ap (list_any q) (cond-false (p v) (v ∷ filter p vs) (filter p vs) e)) ∙ h)
-
--- what passes both tests is kept
-any_kept : (p q : Verdict → Bool) (vs : List Verdict) → list_any (λ v. p v && q v) vs ≡ true → list_any q (filter p vs) ≡ true
-any_kept p q [] h = h
-any_kept p q (v ∷ vs) h = by (any_kept p q vs) (p v) refl (q v) refl
-  where
-    by : (list_any (λ w. p w && q w) vs ≡ true → list_any q (filter p vs) ≡ true) → (b : Bool) → p v ≡ b → (c : Bool) → q v ≡ c → list_any q (filter p (v ∷ vs)) ≡ true
-    by rest true e true f = ap (list_any q) (cond-true (p v) (v ∷ filter p vs) (filter p vs) e) ∙ ap (λ a. a || list_any q (filter p vs)) f
-    by rest true e false f =
-        ap (list_any q) (cond-true (p v) (v ∷ filter p vs) (filter p vs) e)
-        ∙ (ap (λ a. a || list_any q (filter p vs)) f ∙ rest (sym (ap₂ (λ a c. (a && c) || list_any (λ w. p w && q w) vs) e f) ∙ h))
-    by rest false e c f =
-        ap (list_any q) (cond-false (p v) (v ∷ filter p vs) (filter p vs) e) ∙ rest (sym (ap (λ a. (a && q v) || list_any (λ w. p w && q w) vs) e) ∙ h)
 
 -- ---- An event that opens no leg
 
@@ -164,7 +213,7 @@ module _ (model : Rules) (lawful : IsLawful model) (e : Engine) (sound : IsSound
 
   -- ---- A scan that the model uses
 
-  module _ (on : CheckKind) (is_scan : IsUsedScan model step.event on) (told : AreThoseOf model s (Some on) step.verdicts old) (apart : AreKeptApart e later.reasons step.verdicts new.changed_since) where
+  module _ (on : CheckKind) (is_scan : IsUsedScan model step.event on) (told : AreThoseOf model s (Some on) step.verdicts old) (apart : AreKeptApart model on e later.reasons step.verdicts new.changed_since) where
     abbrev all : List Verdict
     all = verdicts_of model on s
 
@@ -181,42 +230,25 @@ module _ (model : Rules) (lawful : IsLawful model) (e : Engine) (sound : IsSound
         let some : list_any (is_of_group e x.group) all ≡ true =
         verdict-from model on s (is_of_group e x.group) (record { number = t; task = x; live = live; off = off; passed = of_group t x live }) bounds.0 bounds.1 in
         absurd (false≢true (sym none ∙ (ap (list_any (is_of_group e x.group)) whole ∙ some))))
-        (λ (part : (old.kind ≡ Some on) × (step.verdicts ≡ verdicts_among model on s (has old.changed_since))). was_since (Some on) part.0 t x live off (left part.1 (has old.changed_since x.group) refl))
+        (λ (part : (old.kind ≡ Some on) × TellOf model on s (has old.changed_since) step.verdicts). was_since (Some on) part.0 t x live off (left part.1 (has old.changed_since x.group) refl))
         told
       where
-        left : step.verdicts ≡ verdicts_among model on s (has old.changed_since) → (b : Bool) → has old.changed_since x.group ≡ b → has old.changed_since x.group ≡ false
-        left part false e2 = e2
-        left part true e2 =
-            let bounds = sound.numbered t x live in
-            let was_asked : is_asked s (has old.changed_since) t ≡ true = ap (on_live false (λ (y : Standing). has old.changed_since y.group)) live ∙ e2 in
-            let some : list_any (λ v. is_asked s (has old.changed_since) v.task.0 && is_of_group e x.group v) all ≡ true =
-            verdict-from model on s (λ v. is_asked s (has old.changed_since) v.task.0 && is_of_group e x.group v)
-            (record { number = t; task = x; live = live; off = off; passed = ap₂ (λ c d. c && d) was_asked (of_group t x live) }) bounds.0 bounds.1 in
-            absurd (false≢true (sym none ∙ (ap (list_any (is_of_group e x.group)) part ∙ any_kept (λ v. is_asked s (has old.changed_since) v.task.0) (is_of_group e x.group) all some)))
+        left : TellOf model on s (has old.changed_since) step.verdicts → (b : Bool) → has old.changed_since x.group ≡ b → has old.changed_since x.group ≡ false
+        left part false asked = asked
+        left part true asked = absurd (false≢true (sym none ∙ (sym (of_member e x.group step.verdicts) ∙ part.each t x live off asked)))
 
-    -- a member of the group whose verdict leaves it unchanged
-    record IsSettledBy (g : ℕ) : Type 0 where
-      member : ℕ
-      life : Standing
-      live : s.tasks member ≡ Live life
-      leaves_unchanged : Settles e later.reasons g member (model.blame on (view_of member life) s.aim) life
-
-    by_verdict : (g : ℕ) → list_any (leaves_unchanged e later.reasons g) step.verdicts ≡ true → IsSettledBy g
+    by_verdict : (g : ℕ) → list_any (leaves_unchanged model on e later.reasons g) step.verdicts ≡ true → Settles model on e later.reasons g
     by_verdict g some =
-        let found : list_any (leaves_unchanged e later.reasons g) all ≡ true =
+        let found : list_any (leaves_unchanged model on e later.reasons g) all ≡ true =
         ⊎_elim
-        (λ (whole : step.verdicts ≡ all). ap (list_any (leaves_unchanged e later.reasons g)) (sym whole) ∙ some)
-        (λ (part : (old.kind ≡ Some on) × (step.verdicts ≡ verdicts_among model on s (has old.changed_since))).
-        any_filtered (λ v. is_asked s (has old.changed_since) v.task.0) (leaves_unchanged e later.reasons g) all (ap (list_any (leaves_unchanged e later.reasons g)) (sym part.1) ∙ some))
+        (λ (whole : step.verdicts ≡ all). ap (list_any (leaves_unchanged model on e later.reasons g)) (sym whole) ∙ some)
+        (λ (part : (old.kind ≡ Some on) × TellOf model on s (has old.changed_since) step.verdicts).
+        any_filtered (λ v. part.1.looked v.task.0) (leaves_unchanged model on e later.reasons g) all (ap (list_any (leaves_unchanged model on e later.reasons g)) (sym part.1.found) ∙ some))
         told in
-        let j = verdict-is model on s (leaves_unchanged e later.reasons g) found in
+        let j = verdict-is model on s (leaves_unchanged model on e later.reasons g) found in
         let blame = model.blame on (view_of j.number j.task) s.aim in
-        record {
-          member = j.number;
-          life = j.task;
-          live = j.live;
-          leaves_unchanged = leaves_unchanged_is e later.reasons g j.number blame j.task (ap (refuses_as_before e later.reasons g j.number blame) (sym (slot_from_live e.table j.number j.task j.live)) ∙ j.passed);
-        }
+        leaves_unchanged_is model on e later.reasons g j.number j.task j.live blame refl
+        (ap (refuses_as_before model on e later.reasons g j.number blame) (sym (slot_from_live e.table j.number j.task j.live)) ∙ j.passed)
 
     -- of the waiting task's group: where its newest line after the scan says that this member is busy, which is refused, no member
     -- of a lesser number is
@@ -235,27 +267,26 @@ module _ (model : Rules) (lawful : IsLawful model) (e : Engine) (sound : IsSound
 
     -- a group that a verdict leaves unchanged
     is_unchanged : (t : ℕ) (x : Standing) → s.tasks t ≡ Live x → nat_eq x.level s.target ≡ false → (state_of model longer).tasks t ≡ Live x → nat_eq x.level (state_of model longer).target ≡ false
-        → list_any (leaves_unchanged e later.reasons x.group) step.verdicts ≡ true → IsUnchanged model on s (lines model longer (suc n) x.group) x.group
+        → list_any (leaves_unchanged model on e later.reasons x.group) step.verdicts ≡ true → IsUnchanged model on s (lines model longer (suc n) x.group) x.group
     is_unchanged t x live off live_after off_after some =
         let found = by_verdict x.group some in
-        let by = found.leaves_unchanged in
-        let kept = lines_held model lawful longer leg_sound later (suc n) after_lines t x live_after off_after by.few in
-        let continues = ongoing_is (has_frame_in s) found.member by.why (head_of later.reasons x.group).ongoing by.continues in
+        let kept = lines_held model lawful longer leg_sound later (suc n) after_lines t x live_after off_after found.few in
+        let continues = found.continues in
         record {
           member = found.member;
           life = found.life;
           live = found.live;
-          grouped = by.grouped;
-          why = by.why;
-          refused = by.refused;
+          grouped = found.grouped;
+          why = found.why;
+          refused = found.refused;
           continues =
-              subst (Continues (has_frame_in s) found.member by.why) (sym kept.1)
-              (head_continues (has_frame_in s) found.member by.why later.reasons.lists later.reasons.scans (group_id x.group) (head_of later.reasons x.group) (stand x.group kept.0) continues);
+              subst (Continues (has_frame_in s) found.member found.why) (sym kept.1)
+              (head_continues (has_frame_in s) found.member found.why later.reasons.lists later.reasons.scans (group_id x.group) (head_of later.reasons x.group) (stand x.group kept.0) continues);
           first = λ busy.
-              let newest = busy_first_on t x live off found.member by.why in
-              newest (subst (Continues (has_frame_in s) found.member by.why) (sym kept.1)
-              (head_continues (has_frame_in s) found.member by.why later.reasons.lists later.reasons.scans (group_id x.group) (head_of later.reasons x.group) (stand x.group kept.0) continues))
-              busy found.life found.live by.grouped (ap is_some by.refused);
+              let newest = busy_first_on t x live off found.member found.why in
+              newest (subst (Continues (has_frame_in s) found.member found.why) (sym kept.1)
+              (head_continues (has_frame_in s) found.member found.why later.reasons.lists later.reasons.scans (group_id x.group) (head_of later.reasons x.group) (stand x.group kept.0) continues))
+              busy found.life found.live found.grouped (ap is_some found.refused);
         }
 
     either : (t : ℕ) (x : Standing) → s.tasks t ≡ Live x → nat_eq x.level s.target ≡ false → (state_of model longer).tasks t ≡ Live x → has new.changed_since x.group ≡ false
@@ -263,7 +294,7 @@ module _ (model : Rules) (lawful : IsLawful model) (e : Engine) (sound : IsSound
     either t x live off live_after out =
         ⊎_elim
         (λ (none : list_any (is_of_group e x.group) step.verdicts ≡ false). inl (was_unchanged t x live off none))
-        (λ (some : list_any (leaves_unchanged e later.reasons x.group) step.verdicts ≡ true).
+        (λ (some : list_any (leaves_unchanged model on e later.reasons x.group) step.verdicts ≡ true).
         inr (is_unchanged t x live off live_after (subst (λ (st : State). nat_eq x.level st.target ≡ false) there off) some))
         (apart x.group out)
 

@@ -8,7 +8,8 @@ use Rattle.lp_model.specs.declared.verdict.Verdict.{Verdict}
 use Rattle.lp_transition.specs.declared.event.Event.{Event}
 use Rattle.lp_transition.specs.declared.event.Event.TheVariants.{Walk, Stop}
 use Rattle.lp_transition.specs.Leg.{State}
-use Rattle.lp_transition.specs.Scan.{verdicts_among, verdicts_of}
+use Rattle.lp_transition.specs.Blames.{TellOf}
+use Rattle.lp_transition.specs.Scan.{verdicts_of}
 use Rattle.lp_transition.specs.Weigh.{Weighed}
 use Rattle.lp_cert.specs.declared.line.Line.{Line}
 use Rattle.lp_cert.specs.Unchanged.{AreUnchanged}
@@ -26,13 +27,13 @@ AreUnchangedSince model s lines (Some kind) changed_since = AreUnchanged model s
 abbrev pub AreUnchangedBy : Rules → State → (lines : ℕ → List Line) → LastScan → Type 0
 AreUnchangedBy model s lines last_scan = AreUnchangedSince model s lines last_scan.kind (has last_scan.changed_since)
 
--- the verdicts of a scan of this kind, if it is one that the model uses, are those of all waiting tasks, or of those of the
--- groups that have changed
+-- the verdicts of a scan of this kind, if it is one that the model uses, are those of all waiting tasks, or tell of the groups that
+-- have changed
 abbrev pub AreThoseOf : Rules → State → Option CheckKind → List Verdict → LastScan → Type 0
 AreThoseOf model s None verdicts last_scan = Unit {0}
 AreThoseOf model s (Some kind) verdicts last_scan =
     (verdicts ≡ verdicts_of model kind s)
-    ⊎ ((last_scan.kind ≡ Some kind) × (verdicts ≡ verdicts_among model kind s (has last_scan.changed_since)))
+    ⊎ ((last_scan.kind ≡ Some kind) × TellOf model kind s (has last_scan.changed_since) verdicts)
 
 -- ---- By an event
 
@@ -46,7 +47,7 @@ used_scan model Walk = used_kind model check.Walk
 used_scan model Stop = used_kind model check.Stop
 used_scan model _ = None
 
--- the verdicts with which an event was weighed tell enough: of a scan that the model uses, those of all waiting tasks, or of
--- those of the groups that have changed
+-- the verdicts with which an event was weighed tell enough: of a scan that the model uses they are those of all waiting tasks, or
+-- tell of the groups that have changed
 abbrev pub Suffices : Rules → State → Weighed → LastScan → Type 0
 Suffices model s step last_scan = AreThoseOf model s (used_scan model step.event) step.verdicts last_scan

@@ -101,8 +101,8 @@ impl Maker {
     }
 
     /// An event, weighed on the engine of which all is noted here; a walk or a stop after a look at
-    /// the waiting tasks of those groups alone that a scan of its kind may judge otherwise than
-    /// before. NoMemory where an allocation failed, JournalFull where no event is left.
+    /// those groups alone that a scan of its kind may judge otherwise than before, and of each at as
+    /// many members as tell the first that is refused. NoMemory where an allocation failed, JournalFull where no event is left.
     pub fn weigh<M: Consistency>(
         &self,
         alloc: Global,
@@ -122,7 +122,7 @@ impl Maker {
             _ => return core.weigh_any(alloc, event),
         };
         match self.unchanged.asked(kind) {
-            Some(asked) => core.weigh_asked(alloc, kind, asked),
+            Some(asked) => core.weigh_first_refusals(alloc, kind, asked),
             None => core.weigh_any(alloc, event),
         }
     }

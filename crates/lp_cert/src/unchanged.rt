@@ -7,7 +7,7 @@ ghost use Rattle.lp_transition.specs.Table.{slot, state_in};
 ghost use Rattle.lp_transition.specs.Leg.{Standing};
 ghost use Rattle.lp_cert.specs.inside.Touched.{touched};
 ghost use Rattle.lp_cert.specs.LastScan.{used_scan};
-ghost use Rattle.lp_cert.specs.inside.LastScan.{AreKeptApart, IsLastScanAfter, IsTouched, continues_by, is_of_group, leaves_unchanged, rests_on, supports};
+ghost use Rattle.lp_cert.specs.inside.LastScan.{AreKeptApart, IsLastScanAfter, IsTouched, continues_by, is_of_group, is_refused_in, leaves_unchanged, rests_on, supports};
 ghost use Rattle.lp_transition.specs.Blames.{has_frame_in};
 
 use crate::ongoing::Ongoing;
@@ -109,7 +109,7 @@ impl Unchanged {
             return;
         };
         self.kind = Some(kind);
-        keep_apart(core, verdicts, reasons, &mut self.changed_since);
+        keep_apart(core, kind, verdicts, reasons, &mut self.changed_since);
     }
 }
 
@@ -118,18 +118,19 @@ impl Unchanged {
 #[inline(always)]
 fn keep_apart<M: Consistency>(
     core: &Core<M>,
+    kind: CheckKind,
     verdicts: &[Verdict],
     reasons: &Reasons,
     changed_since: &mut NumberSet,
 )
-    ensures { AreKeptApart core.now reasons.now verdicts.now changed_since.new }
+    ensures { AreKeptApart M.rules kind core.now reasons.now verdicts.now changed_since.new }
 {
     if verdicts.is_empty() && changed_since.is_empty() {
         return;
     }
     changed_since.clear();
     take_in_all(core, verdicts, changed_since);
-    keep_unchanged(core, verdicts, reasons, changed_since);
+    keep_unchanged(core, kind, verdicts, reasons, changed_since);
 }
 
 /// The task to which something happens at an event.
@@ -209,52 +210,80 @@ fn take_in_all<M: Consistency>(core: &Core<M>, verdicts: &[Verdict], set: &mut N
     }
 }
 
-/// Takes the groups out of a set that what a scan found leaves unchanged.
+/// Takes the groups out of a set that what a scan of this kind found leaves unchanged.
 fn keep_unchanged<M: Consistency>(
     core: &Core<M>,
+    kind: CheckKind,
     verdicts: &[Verdict],
     reasons: &Reasons,
     changed_since: &mut NumberSet,
 )
-    ensures { (group : ℕ) → has changed_since.new group ≡ false → (has changed_since.old group ≡ false) ⊎ (list_any (leaves_unchanged core.now reasons.now group) verdicts.now ≡ true) }
+    ensures { (group : ℕ) → has changed_since.new group ≡ false → (has changed_since.old group ≡ false) ⊎ (list_any (leaves_unchanged M.rules kind core.now reasons.now group) verdicts.now ≡ true) }
 {
     for verdict in verdicts {
-        if let Some(group) = unchanged_by(core, verdict, reasons) {
+        if let Some(group) = unchanged_by(core, kind, verdict, reasons) {
             changed_since.remove(group.0);
         }
     }
 }
 
-/// The group that a verdict leaves unchanged, if it does: its task is refused, and is the member
-/// that the group's newest reason names, which continues if it is refused so again.
+/// The group that a verdict of a scan of this kind leaves unchanged, if it does: its task is refused,
+/// and the group's newest reason continues.
 fn unchanged_by<M: Consistency>(
     core: &Core<M>,
+    kind: CheckKind,
     verdict: &Verdict,
     reasons: &Reasons,
 ) -> Option<GroupId>
-    ensures { IfSome result (λ group. leaves_unchanged core.now reasons.now group.0 verdict.now ≡ true) }
+    ensures { IfSome result (λ group. leaves_unchanged M.rules kind core.now reasons.now group.0 verdict.now ≡ true) }
 {
     let blame = verdict.blame?;
     let group = core.group_of(verdict.task)?;
     let ongoing = reasons.head(group).ongoing;
-    if !continues_by(core, ongoing, verdict.task, blame) {
+    if !continues_by(core, kind, group, ongoing, verdict.task, blame) {
         return None;
     }
     Some(group)
 }
 
-/// Whether a reason continues if this task is refused so.
+/// Whether the reason of a group continues where this task is refused so. A scan need not have looked
+/// at the task of a hold: another member's refusal is enough for it. So that task is asked here.
 fn continues_by<M: Consistency>(
     core: &Core<M>,
+    kind: CheckKind,
+    group: GroupId,
     ongoing: Ongoing,
     task: TaskId,
     blame: Blame,
 ) -> bool
-    ensures { result ≡ continues_by (has_frame_in (state_in core.now)) task.0 blame ongoing }
+    ensures { result ≡ continues_by (has_frame_in (state_in core.now)) (is_refused_in M.rules kind core.now group.0) task.0 blame ongoing }
 {
     match ongoing {
         Ongoing::Nothing => false,
-        Ongoing::Hold { task: member, .. } => member == task && has_standing_frame(core, ongoing),
+        Ongoing::Hold { task: member, .. } => {
+            has_standing_frame(core, ongoing)
+                && (member == task || is_refused_in(core, kind, group, member))
+        }
         Ongoing::Busy { task: member, .. } => member == task && blame == Blame::Busy,
+    }
+}
+
+/// Whether a check of this kind refuses a task, if it is a live member of a group.
+fn is_refused_in<M: Consistency>(
+    core: &Core<M>,
+    kind: CheckKind,
+    group: GroupId,
+    task: TaskId,
+) -> bool
+    ensures { result ≡ is_refused_in M.rules kind core.now group.0 task.0 }
+{
+    if core.group_of(task) != Some(group) {
+        return false;
+    }
+    match core.task(task) {
+        Some(view) => Verdict::of(&core.model(), kind, &view, &core.aim())
+            .blame
+            .is_some(),
+        None => false,
     }
 }

@@ -330,8 +330,9 @@ fn above_child(event: Event) -> usize
 fn listed(alloc: Global, groups: &GroupSet, reasons: &Reasons) -> Result<Vec<Waiter>, AllocError>
     ensures { IfOk result (λ list. list.items ≡ map (waiter_in reasons.now) (passing 0 65536 (has groups.now))) }
 {
-    let mut list = Vec::new(alloc);
     let mut next = member_from(groups, 0);
+    // A list that grows from nothing begins with room for four, which is most of what a short leg takes.
+    let mut list = Vec::with_capacity(alloc, usize::from(next.is_some()))?;
     while let Some(number) = next {
         let group = GroupId(number);
         list.push(Waiter {

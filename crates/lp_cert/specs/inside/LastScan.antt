@@ -14,39 +14,45 @@ use Rattle.lp_cert.specs.declared.ongoing.Ongoing.{Ongoing}
 use Rattle.lp_cert.specs.declared.ongoing.Ongoing.TheVariants.{Nothing, Hold, Busy}
 use Rattle.lp_cert.specs.inside.Heads.{is_busy}
 use Rattle.lp_cert.specs.inside.Touched.{touched, is_childs}
-use Rattle.lp_transition.specs.Blames.{has_frame_in}
+use Rattle.lp_transition.specs.Blames.{blame_in, has_frame_in}
 use Rattle.lp_cert.specs.Waiters.{LegReasons, head_of}
 use Rattle.lp_cert.specs.LastScan.{LastScan, used_scan}
 
--- the reason continues if this task is refused so
-abbrev pub continues_by : (has_frame : (task serial : ℕ) → Bool) → (task : ℕ) → Blame → Ongoing → Bool
-continues_by has_frame t why Nothing = false
-continues_by has_frame t why (Hold task serial from) = nat_eq task.0 t && has_frame task.0 serial
-continues_by has_frame t why (Busy task first) = nat_eq task.0 t && is_busy why
+-- the reason of a group continues where this task is refused so: a hold whose frame is still there, if its own task is refused too;
+-- that a member is busy, if it is this one
+abbrev pub continues_by : (has_frame : (task serial : ℕ) → Bool) → (refused : ℕ → Bool) → (task : ℕ) → Blame → Ongoing → Bool
+continues_by has_frame refused t why Nothing = false
+continues_by has_frame refused t why (Hold task serial from) = has_frame task.0 serial && (nat_eq task.0 t || refused task.0)
+continues_by has_frame refused t why (Busy task first) = nat_eq task.0 t && is_busy why
+
+-- a check of this kind refuses the task, a live member of the group
+abbrev pub is_refused_in : Rules → CheckKind → Engine → (group task : ℕ) → Bool
+is_refused_in model kind e group t = is_some (blame_in model (state_in e) kind group t)
 
 abbrev pub says_busy_on : Ongoing → Bool
 says_busy_on (Busy task first) = true
 says_busy_on _ = false
 
-abbrev pub refuses_as_before : Engine → LegReasons → (group : ℕ) → ℕ → Option Blame → Option Standing → Bool
-refuses_as_before e reasons group t (Some why) (Some x) =
-    (nat_eq x.group group && nat_lt x.group 65536) && continues_by (has_frame_in (state_in e)) t why (head_of reasons x.group).ongoing
-refuses_as_before e reasons group t _ _ = false
+abbrev pub refuses_as_before : Rules → CheckKind → Engine → LegReasons → (group : ℕ) → ℕ → Option Blame → Option Standing → Bool
+refuses_as_before model kind e reasons group t (Some why) (Some x) =
+    (nat_eq x.group group && nat_lt x.group 65536)
+    && continues_by (has_frame_in (state_in e)) (is_refused_in model kind e x.group) t why (head_of reasons x.group).ongoing
+refuses_as_before model kind e reasons group t _ _ = false
 
--- the verdict leaves the group unchanged: its task is refused, and is the member that the group's newest reason names, which
--- continues if it is refused so again
-abbrev pub leaves_unchanged : Engine → LegReasons → (group : ℕ) → Verdict → Bool
-leaves_unchanged e reasons group verdict = refuses_as_before e reasons group verdict.task.0 verdict.blame (slot e.table verdict.task.0)
+-- the verdict of a scan of this kind leaves the group unchanged: its task is refused, and the group's newest reason continues
+abbrev pub leaves_unchanged : Rules → CheckKind → Engine → LegReasons → (group : ℕ) → Verdict → Bool
+leaves_unchanged model kind e reasons group verdict =
+    refuses_as_before model kind e reasons group verdict.task.0 verdict.blame (slot e.table verdict.task.0)
 
 -- the verdict's task is a member of the group
 abbrev pub is_of_group : Engine → (group : ℕ) → Verdict → Bool
 is_of_group e group verdict = is_in group (slot e.table verdict.task.0)
 
 -- of a group outside the set no verdict is of a member, or a verdict leaves it unchanged
-abbrev pub AreKeptApart : Engine → LegReasons → List Verdict → Numbers → Type 0
-AreKeptApart e reasons verdicts changed_since =
+abbrev pub AreKeptApart : Rules → CheckKind → Engine → LegReasons → List Verdict → Numbers → Type 0
+AreKeptApart model kind e reasons verdicts changed_since =
     (group : ℕ) → has changed_since group ≡ false →
-    (list_any (is_of_group e group) verdicts ≡ false) ⊎ (list_any (leaves_unchanged e reasons group) verdicts ≡ true)
+    (list_any (is_of_group e group) verdicts ≡ false) ⊎ (list_any (leaves_unchanged model kind e reasons group) verdicts ≡ true)
 
 -- the reason of a group rests on its member: a hold on the one that it names; that a member is busy on each, as it was the first
 -- that was refused
@@ -83,4 +89,4 @@ pub record IsLastScanAfter (model : Rules) (e : Engine) (event : Event) (verdict
   pub others : used_scan model event ≡ None → IsTouched e reasons event old new
   pub scan :
       (kind : CheckKind) → used_scan model event ≡ Some kind →
-      (new.kind ≡ Some kind) × AreKeptApart e reasons verdicts new.changed_since
+      (new.kind ≡ Some kind) × AreKeptApart model kind e reasons verdicts new.changed_since

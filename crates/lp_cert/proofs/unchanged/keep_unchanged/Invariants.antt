@@ -7,4 +7,4 @@ use Rattle.lp_cert.proofs.unchanged.keep_unchanged.Given as goal
 -- a group that isn't in was not in, or one of the verdicts so far leaves it unchanged
 abbrev pub invariant-loop-verdict : goal.invariant-loop-verdict
 invariant-loop-verdict g l =
-    (group : ℕ) → has l.changed_since group ≡ false → (has l.fn.changed_since group ≡ false) ⊎ (list_any (leaves_unchanged l.core l.reasons group) (take l.verdict-index l.verdicts) ≡ true)
+    (group : ℕ) → has l.changed_since group ≡ false → (has l.fn.changed_since group ≡ false) ⊎ (list_any (leaves_unchanged g.M.Consistency.rules l.kind l.core l.reasons group) (take l.verdict-index l.verdicts) ≡ true)

@@ -7,7 +7,7 @@ use Rattle.lp_cert.proofs.waiters.listed.Goals as goal
 
 pub loop-next-init : goal.loop-next-init
 loop-next-init c = record {
-  all = rw c.new-list.ensures.items (ap (map (waiter_in c.args.reasons.now)) (sym (passing-next 65536 (has c.args.groups.now) 0 c.member_from-next.result c.member_from-next.ensures)));
+  all = rw c.in_ok-list.ensures.items (ap (map (waiter_in c.args.reasons.now)) (sym (passing-next 65536 (has c.args.groups.now) 0 c.member_from-next.result c.member_from-next.ensures)));
   member = next_passes 65536 (has c.args.groups.now) 0 c.member_from-next.result c.member_from-next.ensures;
 }
 
@@ -15,14 +15,14 @@ pub loop-next-smaller : goal.loop-next-smaller
 loop-next-smaller c =
     let n = c.in-Some.number in
     let h : n < 65536 = omega arith in
-    let after = rw c.from.ensures at c.member_from-next-in-Some.ensures in
+    let after = rw c.from-in-Some.ensures at c.member_from-next-in-Some.ensures in
     passing-less 65536 (has c.args.groups.now) c.loop-next.next n c.member_from-next-in-Some.result c.in-Some.is h (c.loop-next.invariant.member n c.in-Some.is) after
 
 pub loop-next-preserved : goal.loop-next-preserved
 loop-next-preserved c =
     let n = c.in-Some.number in
     let h : n < 65536 = omega arith in
-    let after = rw c.from.ensures at c.member_from-next-in-Some.ensures in
+    let after = rw c.from-in-Some.ensures at c.member_from-next-in-Some.ensures in
     record {
       all = rw (c.in_ok-push.ensures.items, c.head.ensures) (passing-more (waiter_in c.args.reasons.now) 65536 (has c.args.groups.now) _ _ c.loop-next.next n c.member_from-next-in-Some.result c.in-Some.is h (c.loop-next.invariant.member n c.in-Some.is) after c.loop-next.invariant.all);
       member = next_passes 65536 (has c.args.groups.now) (n + 1) c.member_from-next-in-Some.result after;

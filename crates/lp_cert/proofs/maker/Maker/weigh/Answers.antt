@@ -11,8 +11,8 @@ use Rattle.lp_cert.proofs.Noted.{engine_sound}
 use Rattle.lp_cert.proofs.UnchangedLines.{may_leave_out}
 use Rattle.lp_cert.proofs.maker.Maker.weigh.Goals as goal
 
-pub weigh_asked-requires-clause-others : goal.weigh_asked-requires-clause-others
-weigh_asked-requires-clause-others g c =
+pub weigh_first_refusals-requires-clause-others : goal.weigh_first_refusals-requires-clause-others
+weigh_first_refusals-requires-clause-others g c =
     let model = g.M.Consistency.rules in
     let run = c.requires.made.0 in
     let is = c.requires.made.2 in
