@@ -1,10 +1,10 @@
 //! Text that is gathered before it is written.
-ghost use Rattle.std.specs.Prelude.{◌≡◌, ◌≤◌, ◌+◌, ◌∷◌, ◌++◌, [], decimal, length, map, IsTrue, IsFalse, IfOk, OnOk};
+ghost use Rattle.std.specs.Prelude.{◌≡◌, ◌≤◌, ◌+◌, ◌∷◌, ◌++◌, [], decimal, length, map, take, IsTrue, IsFalse, IfOk, OnOk};
 ghost use Rattle.std.specs.List.{concat};
 ghost use Rattle.lp_text.specs.Words.{line_of};
 ghost use Rattle.lp_text.specs.inside.Writing.{Puts, line_rest, seen_of, Wrote};
 
-use crate::place::place_rest;
+use crate::place::{SHORT_END, place_end, place_number, place_rest};
 use lp_text::{Counted, WriteFault, put};
 use std::alloc::{AllocError, Global};
 use std::io::Write;
@@ -17,6 +17,9 @@ const ROOM: usize = 128;
 
 /// So much room.
 static BLANK: [u8; ROOM] = [b'\n'; ROOM];
+
+/// Room for a number and a short end of a line.
+static SHORT_BLANK: [u8; 20 + SHORT_END] = [b'\n'; 20 + SHORT_END];
 
 /// Text that waits to be written. No call but `new` allocates.
 #[derive(Drop)]
@@ -45,20 +48,23 @@ impl Page {
         self.held.extend_from_slice(bytes).is_ok()
     }
 
-    /// Takes both pieces if there is room for them, and says whether it did.
+    /// Takes a number and the first bytes of the end of a line behind it, if there is room for the
+    /// longest, and says whether it did. They are written where they stay, as in `hold_rest`.
     #[inline(always)]
-    pub(crate) fn hold_both(&mut self, first: &[u8], second: &[u8]) -> bool
-        ensures taken { IsTrue result → self.new.held.items ≡ self.old.held.items ++ (first.now ++ second.now) }
+    pub(crate) fn hold_short(&mut self, number: u64, end: &[u8; SHORT_END], len: usize) -> bool
+        requires { len ≤ 16 }
+        ensures taken { IsTrue result → self.new.held.items ≡ self.old.held.items ++ (decimal number ++ take len end.now) }
         ensures kept { IsFalse result → self.new.held.items ≡ self.old.held.items }
     {
-        let room = self.held.capacity() - self.held.len();
-        if first.len() > room || second.len() > room - first.len() {
+        let start = self.held.len();
+        if !self.hold(&SHORT_BLANK) {
             return false;
         }
-        if self.held.extend_from_slice(first).is_err() {
-            return false;
-        }
-        self.held.extend_from_slice(second).is_ok()
+        let text = self.held.as_mut_slice();
+        let at = place_number(text, start, number);
+        place_end(text, at, end);
+        self.held.truncate(at + len);
+        true
     }
 
     /// Writes what is held.

@@ -1,8 +1,11 @@
 //! Numbers that are put into a text in place.
-ghost use Rattle.std.specs.Prelude.{◌≡◌, ◌≤◌, ◌<◌, ◌+◌, ◌*◌, ◌++◌, decimal, length, map, take};
+ghost use Rattle.std.specs.Prelude.{◌≡◌, ℕ, ◌≤◌, ◌<◌, ◌+◌, ◌*◌, ◌++◌, decimal, length, map, take};
 ghost use Rattle.lp_text.specs.inside.Writing.{line_rest};
 
 use itoa::write_digits;
+
+/// The room of a short end of a line: two words of eight bytes, so that a copy is two stores.
+pub(crate) const SHORT_END: usize = 16;
 
 /// How many digits a number has.
 ///
@@ -71,4 +74,14 @@ pub(crate) fn place_rest(text: &mut [u8], at: usize, numbers: &[u64]) -> usize
     }
     text[end] = b'\n';
     end + 1
+}
+
+/// Puts a short end of a line behind the first `at` bytes, with what stands in its room behind it.
+#[inline(always)]
+pub(crate) fn place_end(text: &mut [u8], at: usize, end: &[u8; SHORT_END])
+    requires { at + 16 ≤ length text.old }
+    ensures placed { (n : ℕ) → n ≤ 16 → take (at + n) text.new ≡ take at text.old ++ take n end.now }
+    ensures size { length text.new ≡ length text.old }
+{
+    text[at..at + SHORT_END].copy_from_slice(end);
 }

@@ -1,5 +1,5 @@
 //! Writing the report of a run.
-ghost use Rattle.std.specs.Prelude.{◌≡◌, ℕ, ◌+◌, ◌<◌, ◌∷◌, ◌++◌, [], List, codes, decimal, map, IfSome, IsTrue, IsFalse, OnErr, OnOk};
+ghost use Rattle.std.specs.Prelude.{◌≡◌, ℕ, ◌+◌, ◌<◌, ◌≤◌, ◌∷◌, ◌++◌, [], List, codes, decimal, map, take, IfSome, IsTrue, IsFalse, OnErr, OnOk};
 ghost use Rattle.std.specs.List.{flat_map};
 ghost use Rattle.lp_transition.specs.Events.{group_numbers};
 ghost use Rattle.lp_text.specs.Words.{line_of};
@@ -12,6 +12,7 @@ ghost use Rattle.lp_text.specs.Counts.{next};
 mod legs;
 
 use crate::page::Page;
+use crate::place::SHORT_END;
 use itoa::Buffer;
 use legs::put_legs;
 use lp_replay::{Outcome, ReplyList, ShortReply, ShortWhat, groups_at};
@@ -113,19 +114,21 @@ fn line_end(completed: bool) -> &'static [u8]
     if completed { b" complete\n" } else { b"\n" }
 }
 
-/// What follows the event's number, where it is one of the few commonest ends of a line.
+/// What follows the event's number, where it is one of the few commonest ends of a line: so many of
+/// the bytes.
 #[inline(always)]
-fn short_rest(form: TraceForm, reply: &ShortReply) -> Option<&'static [u8]>
-    ensures { IfSome result (λ rest. (lists : List (List ℕ)) → rest.now ≡ line_rest (what_words form (what_of reply.now.what lists) ++ complete_words reply.now.completed)) }
+fn short_rest(form: TraceForm, reply: &ShortReply) -> Option<(&'static [u8; SHORT_END], usize)>
+    ensures size { IfSome result (λ rest. rest.1 ≤ 16) }
+    ensures words { IfSome result (λ rest. (lists : List (List ℕ)) → take rest.1 rest.0.now ≡ line_rest (what_words form (what_of reply.now.what lists) ++ complete_words reply.now.completed)) }
 {
     if reply.completed {
         return None;
     }
     match reply.what {
-        ShortWhat::Done => Some(b" done\n"),
+        ShortWhat::Done => Some((b" done\n..........", 6)),
         ShortWhat::Ran(level) => match form {
-            TraceForm::Single if level.0 == 0 => Some(b" ran old\n"),
-            TraceForm::Single => Some(b" ran new\n"),
+            TraceForm::Single if level.0 == 0 => Some((b" ran old\n.......", 9)),
+            TraceForm::Single => Some((b" ran new\n.......", 9)),
             TraceForm::Stacked => None,
         },
         _ => None,
@@ -139,11 +142,10 @@ fn hold_event(page: &mut Page, form: TraceForm, event: u64, reply: &ShortReply) 
     ensures taken { IsTrue result → (lists : List (List ℕ)) → page.new.held.items ≡ page.old.held.items ++ line_of (reply_line form event (reply_of reply.now lists)) }
     ensures kept { IsFalse result → page.new.held.items ≡ page.old.held.items }
 {
-    let Some(rest) = short_rest(form, reply) else {
+    let Some((rest, len)) = short_rest(form, reply) else {
         return false;
     };
-    let mut buffer = Buffer::new();
-    page.hold_both(number(&mut buffer, event), rest)
+    page.hold_short(event, rest, len)
 }
 
 /// Puts the lines of the replies, the first of which has the number 1.
