@@ -14,11 +14,8 @@ use crate::lines::line_fault;
 use crate::sections::sections;
 use lp_cert::{Cert, Claim, Line};
 use lp_model::Consistency;
-use lp_transition::{Event, Opening};
+use lp_transition::{Event, MOST_EVENTS, Opening};
 use std::alloc::{AllocError, Global};
-
-/// The number of events that a run can have.
-const MOST_EVENTS: u64 = 1_000_000;
 
 /// Checks a certificate which says that its group still waits after event `upto` of the run, in the
 /// leg with this opening and these events, control events among them taken as refused.
@@ -126,7 +123,7 @@ fn is_no_leg<M: Consistency>(_model: M, leg: &GivenLeg<'_>, claim: Claim, cert: 
     if cert.leg != number {
         return true;
     }
-    if cert.upto < number || cert.upto > MOST_EVENTS {
+    if cert.upto < number || cert.upto > u64::from(MOST_EVENTS) {
         return true;
     }
     cert.upto - number > leg.events.len() as u64

@@ -7,15 +7,13 @@ ghost use Rattle.lp_stays.specs.Counts.{IsFirst, CountsOne};
 
 use crate::holders::{all_holders, holders, next_holder};
 use crate::present::Present;
+use lp_numbers::NUMBERS;
 use lp_patch::PatchStack;
 use lp_stack::{Level, TaskId};
 use lp_symbols::SymId;
 use lp_transition::{Event, Reply, What};
 use std::alloc::{AllocError, Global};
 use std::marker::Model;
-
-/// How many task numbers there are.
-const TASKS: usize = 65_536;
 
 /// How many stays there were in a run so far, and how many of them ran both sides of a patch.
 ///
@@ -59,7 +57,7 @@ impl StayCount {
         ensures events { IfOk result (λ count. count.events ≡ 0) }
     {
         let patches = patches.copy(alloc)?;
-        let present = all_outside(alloc, usize::from(patches.patches().0) * TASKS)?;
+        let present = all_outside(alloc, usize::from(patches.patches().0) * NUMBERS)?;
         let holders = all_holders(alloc, &patches)?;
         Ok(StayCount {
             patches,
@@ -224,7 +222,7 @@ fn has_patch(level: Level, below: u8) -> bool
 fn place(below: u8, task: TaskId) -> usize
     ensures { result ≡ below * 65536 + task.0 }
 {
-    usize::from(below) * TASKS + usize::from(task.0)
+    usize::from(below) * NUMBERS + usize::from(task.0)
 }
 
 /// As many places as are asked for, each outside of stays.

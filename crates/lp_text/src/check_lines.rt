@@ -10,6 +10,7 @@ use crate::keyword::is;
 use crate::number::event_number_of;
 use crate::split::{last_word, next_number, next_word};
 use lp_cert::{Cert, Claim, Line, LineList};
+use lp_numbers::NUMBERS;
 use lp_stack::{GroupId, TaskId};
 use std::alloc::Global;
 
@@ -52,7 +53,7 @@ fn next_member(left: Option<&[u8]>) -> Result<(u16, Option<&[u8]>), Cause>
     ensures { GivesExactly (λ x. (x.0, words_left (option_copied x.1))) result (next_member (words_left (option_copied left.entry))) }
 {
     let (number, left) = next_number(left)?;
-    if number > 65535 {
+    if number >= NUMBERS as u32 {
         return Err(Cause::Cert);
     }
     Ok((number as u16, left))

@@ -10,6 +10,7 @@ use crate::form::TraceForm;
 use crate::keyword::{EventKeyword, class_of, fork_kind_of};
 use crate::split::{last_number, last_word, next_number};
 use crate::symbol_cache::SymbolCache;
+use lp_numbers::NUMBERS;
 use lp_stack::{Class, TaskId};
 use lp_symbols::{SymId, Symbols};
 use lp_transition::Event;
@@ -37,7 +38,7 @@ pub(crate) fn symbol_of(symbols: &Symbols, name: &[u8]) -> Result<SymId, Cause>
 pub(crate) fn task_of(number: u32) -> Result<TaskId, Cause>
     ensures { GivesExactly (λ task. task) result (task_of number) }
 {
-    if number == 0 || number > 65535 {
+    if number == 0 || number >= NUMBERS as u32 {
         return Err(Cause::Task);
     }
     Ok(TaskId(number as u16))

@@ -15,24 +15,14 @@ use crate::quick::quick_event;
 use crate::split::{cut_word, last_word};
 use crate::symbol_cache::SymbolCache;
 use crate::trace::Trace;
+use lp_numbers::NUMBERS;
+use lp_patch::{MOST_FUNCTIONS, MOST_PATCHES};
 use lp_stack::{Class, TaskId};
 use lp_symbols::{SymFault, SymId, Symbols};
-use lp_transition::Event;
+use lp_transition::{Event, MOST_EVENTS};
 use std::alloc::{AllocError, Global};
 use std::marker::Model;
 use std::str;
-
-/// The most functions of a patch.
-const MOST_FUNCTIONS: usize = 256;
-
-/// The most patches on one another.
-const MOST_PATCHES: u32 = 16;
-
-/// The most events of a trace.
-const MOST_EVENTS: usize = 1_000_000;
-
-/// One more than the greatest task number.
-const TASK_NUMBERS: usize = 65_536;
 
 /// What the lines so far have given. Contracts see it as a trace.
 #[derive(Drop)]
@@ -72,7 +62,7 @@ impl Parser {
             cache: SymbolCache::new(),
             patches: Vec::new(alloc),
             boots: Vec::new(alloc),
-            booted: all_false(alloc, TASK_NUMBERS)?,
+            booted: all_false(alloc, NUMBERS)?,
             events: Vec::new(alloc),
         })
     }
@@ -119,7 +109,10 @@ impl Parser {
         ensures none { IfNone result (self.new ≡ self.old) }
     {
         let count = self.events.len();
-        if self.patches.is_empty() || count >= MOST_EVENTS || count >= self.events.capacity() {
+        if self.patches.is_empty()
+            || count >= MOST_EVENTS as usize
+            || count >= self.events.capacity()
+        {
             return None;
         }
         // No name is there twice, as the length's contract says.
@@ -246,7 +239,7 @@ impl Parser {
     pub(crate) fn add_event(&mut self, event: Event) -> Result<(), LineFault>
         ensures { GivesLine (λ _. self.new) result (add_event self.old event) }
     {
-        if self.events.len() == MOST_EVENTS {
+        if self.events.len() == MOST_EVENTS as usize {
             return Err(LineFault::Cause(Cause::Many));
         }
         self.events.push(event)?;
@@ -286,7 +279,7 @@ fn begun(patches: &[Vec<SymId>], number: u32) -> Result<&[SymId], Cause>
     let at = number as usize - 1;
     match patches.get(at) {
         Some(patch) if at + 1 == patches.len() => Ok(patch.as_slice()),
-        None if at == patches.len() && number <= MOST_PATCHES => Ok(&[]),
+        None if at == patches.len() && number as usize <= MOST_PATCHES => Ok(&[]),
         _ => Err(Cause::Patch),
     }
 }

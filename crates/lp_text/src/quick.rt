@@ -7,6 +7,7 @@ ghost use Rattle.lp_text.specs.inside.QuickLines.{BeginsWith};
 
 use crate::split::cut;
 use crate::symbol_cache::SymbolCache;
+use lp_numbers::NUMBERS;
 use lp_stack::TaskId;
 use lp_symbols::Symbols;
 use lp_transition::Event;
@@ -102,7 +103,7 @@ fn task_number(text: &[u8]) -> Option<(TaskId, &[u8])>
     ensures whole { IfSome result (λ x. text.now ≡ decimal x.0.0 ++ x.1.now) }
 {
     let (number, rest) = number_before(text)?;
-    if number == 0 || number > 65535 {
+    if number == 0 || number >= NUMBERS as u32 {
         return None;
     }
     Some((TaskId(number as u16), rest))
