@@ -15,19 +15,16 @@ use Rattle.lp_board.specs.Names.{Name, run_of}
 use Rattle.lp_board.specs.History.{head_of}
 use Rattle.lp_board.specs.Pages.{IsPageOf, level_of}
 
--- how a desk starts, and where its events are kept
+-- how a desk starts, where its events are kept, and how many readers its board has
 pub record BlankStart : Type 0 where
   pub patches : Patches
   pub boots : List (TaskId × Class)
   pub book : Book
+  pub readers : ℕ
 
 -- the name that a desk of this model can have which begins so
 abbrev pub name_of : Rules → BlankStart → Name
 name_of model b = record { model = model; patches = b.patches; boots = b.boots; book = b.book }
-
--- the start with this engine, of these tasks
-abbrev pub blank_start : Engine → List (TaskId × Class) → Book → BlankStart
-blank_start core boots book = record { patches = core.patches; boots = boots; book = book }
 
 -- the level of each task number
 unfoldable pub levels_of : Engine → List (Option Level)

@@ -1,5 +1,5 @@
 //! An engine and a board that have no name yet.
-ghost use Rattle.std.specs.Prelude.{◌≡◌, ◌⊎◌, ◌↔◌, [], Err, None, All, IfOk, IfErr, IfSome, OnErr, drop};
+ghost use Rattle.std.specs.Prelude.{◌≡◌, ◌⊎◌, ◌↔◌, [], Err, None, All, IfOk, IfErr, IfSome, OnErr, OnOk, drop, length};
 ghost use Rattle.lp_transition.specs.Boot.{boot_refusal};
 ghost use Rattle.lp_transition.specs.Steps.{StandsIn};
 ghost use Rattle.lp_transition.specs.Table.{state_in};
@@ -28,7 +28,7 @@ use std::sync::Wait;
 
 /// An engine that has taken no event, with all that its board needs but a name.
 ///
-/// Contracts see how it starts, and where its events will be kept.
+/// Contracts see how it starts, where its events will be kept, and how many readers its board will have.
 #[derive(Drop)]
 pub struct Blank<M: Consistency> {
     core: Core<M>,
@@ -48,9 +48,9 @@ impl<M: Consistency> Model for Blank<M> {
 
     ghost Value = { BlankStart };
 
-    ghost view = { λ b. record { patches = b.patches; boots = b.boots.items; book = b.seen.book } };
+    ghost view = { λ b. record { patches = b.patches; boots = b.boots.items; book = b.seen.book; readers = b.readers } };
 
-    ghost invariant = { λ b. IsBlank (name_of M.rules (record { patches = b.patches; boots = b.boots.items; book = b.seen.book })) b.core b.patches (record { levels = b.first; heading = b.heading; events = [] }) (record { levels = b.second; heading = b.heading; events = [] }) b.seen.log b.head b.readers };
+    ghost invariant = { λ b. IsBlank (name_of M.rules (record { patches = b.patches; boots = b.boots.items; book = b.seen.book; readers = b.readers })) b.core b.patches (record { levels = b.first; heading = b.heading; events = [] }) (record { levels = b.second; heading = b.heading; events = [] }) b.seen.log b.head b.readers };
 }
 
 /// What a blank comes apart into, once it has a name. The publisher isn't `Drop`: end it by `Publisher::shut`.
@@ -83,6 +83,7 @@ impl<M: Consistency> Blank<M> {
         ensures refused { IsCrew readers → IfSome (boot_refusal boots.now) (λ fault. result ≡ Err (Boot fault)) }
         ensures memory { IsCrew readers → boot_refusal boots.now ≡ None → OnErr result (result ≡ Err (Boot boot_fault.NoMemory)) }
         ensures start { IfOk result (λ blank. (blank.patches ≡ patches) × (blank.boots ≡ boots.now)) }
+        ensures readers { IfOk result (λ blank. blank.readers ≡ readers) }
     {
         if readers == 0 || readers > MOST_CREW {
             return Err(LaunchFault::BadCrew);
@@ -120,6 +121,7 @@ impl<M: Consistency> Blank<M> {
         ensures start { IfOk result (λ parts. (parts.patches ≡ self.patches) × (parts.boots.items ≡ self.boots)) }
         ensures published { IfOk result (λ parts. parts.board ≡ []) }
         ensures readers { IfOk result (λ parts. All (λ b. b ≡ record { seen = []; known = [] }) parts.readers.items) }
+        ensures count { IfOk result (λ parts. length parts.readers.items ≡ self.readers) }
         ensures refused { IfErr result (λ fault. (fault ≡ Boot boot_fault.NoMemory) ⊎ (fault ≡ NoBoard)) }
     {
         let Self {
@@ -179,6 +181,7 @@ fn crewed<N: DeskName, R: Wait>(
     ensures page { page_of result.0.desk.shown.value ≡ page_of writer.desk.shown.value }
     ensures pending { drop result.0.behind result.0.log.items ≡ [] }
     ensures readers { All (λ b. b ≡ record { seen = []; known = [] }) all.new.items }
+    ensures count { OnOk result.1 (length all.new.items ≡ readers) }
     ensures refused { IfErr result.1 (λ fault. (fault ≡ Boot boot_fault.NoMemory) ⊎ (fault ≡ NoBoard)) }
 {
     let (writer, roomy) = with_room(rt, alloc, writer, prefix, heading);
@@ -231,6 +234,7 @@ fn seat_all<N: DeskName>(
 ) -> Result<(), LaunchFault>
     requires { (prefix.now ≡ []) × (all.old.items ≡ []) }
     ensures readers { All (λ b. b ≡ record { seen = []; known = [] }) all.new.items }
+    ensures count { OnOk result (length all.new.items ≡ readers) }
     ensures refused { IfErr result (λ fault. (fault ≡ Boot boot_fault.NoMemory) ⊎ (fault ≡ NoBoard)) }
 {
     for _made in 0..readers {

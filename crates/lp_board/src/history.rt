@@ -59,7 +59,7 @@ impl Plain<Event, Event, u64> for Add {
 /// The word of a history: its length.
 pub type Head = Word<Event, u64, Law>;
 
-/// A blank_start of the history that was seen. It has a number and no list.
+/// A prefix of the history that was seen. It has a number and no list.
 ///
 /// Contracts see its events.
 #[derive(Drop)]

@@ -1,5 +1,5 @@
 -- A book: a log with the board of its events.
-use Rattle.std.specs.Prelude.{◌≡◌, List, [], ◌∷◌, ◌++◌}
+use Rattle.std.specs.Prelude.{◌≡◌, ◌<◌, List, [], ◌∷◌, ◌++◌, length}
 use Rattle.lp_model.specs.Rules.{Rules}
 use Rattle.lp_transition.specs.declared.event.Event.{Event}
 use Rattle.lp_transition.specs.declared.reply.Reply.{Reply}
@@ -21,10 +21,11 @@ pub record IsShown (name : Name) (rules : Rules) (journal : Written) (published 
 abbrev pub first_journal : Name → Written
 first_journal name = record { patches = name.patches; boots = name.boots; entries = [] }
 
--- the event came behind this journal: its answer is the one that the definitions give there, and what was told of it are
+-- the event came behind this journal, which had room for it: its answer is the one that the definitions give there, and what was told of it are
 -- the events of the journal and itself
 pub record IsSent (name : Name) (rules : Rules) (before : Written) (event : Event) (given : Reply) (published : List Event) : Type 0 where
   pub named : IsOf name rules before
   pub replayed : IsReplayed rules before
+  pub left : length before.entries < 1000000
   pub reply : given ≡ reply_to rules before event
   pub told : published ≡ events_in before.entries ++ event ∷ []

@@ -74,6 +74,7 @@ impl<M: Consistency, N: DeskName> Book<M, N> {
         ensures seats { IfOk result (λ opened. opened.seats.items ≡ map (λ boot. new_seat boot.0.0) N.desk.boots) }
         ensures control { IfOk result (λ opened. opened.control ≡ []) }
         ensures readers { IfOk result (λ opened. All (λ b. b ≡ record { seen = []; known = [] }) opened.readers.items) }
+        ensures count { IfOk result (λ opened. length opened.readers.items ≡ blank.readers) }
         ensures refused { IfErr result (λ fault. (fault ≡ Boot boot_fault.NoMemory) ⊎ (fault ≡ NoBoard)) }
     {
         let parts = blank.open::<N, R>(rt, alloc)?;

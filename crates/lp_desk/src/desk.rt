@@ -4,7 +4,7 @@ ghost use Rattle.lp_transition.specs.declared.event.Event.TheVariants.{Walk};
 ghost use Rattle.lp_log.specs.declared.seat.Cause.TheVariants.{NotYours};
 ghost use Rattle.lp_log.specs.Journals.{Written, next_entry};
 ghost use Rattle.lp_log.specs.Seats.{and_sent, child_seat, owner};
-ghost use Rattle.lp_desk.specs.Books.{IsSent};
+ghost use Rattle.lp_desk.specs.Books.{IsSent, first_journal};
 
 use crate::held::Held;
 use crate::{Book, Commanded, Submitted};
@@ -29,8 +29,9 @@ pub struct Desk<M: Consistency, N: DeskName, G: ScanGate + Drop, R: Wait + Drop>
 }
 
 impl<M: Consistency, N: DeskName, G: ScanGate + Drop, R: Wait + Drop> Desk<M, N, G, R> {
-    /// A desk round a book, which is given up by this runtime.
+    /// A desk round a book that has taken no event, and is given up by this runtime.
     pub(crate) fn new(rt: R, book: Book<M, N>, workers: usize, gate: G) -> Desk<M, N, G, R>
+        requires fresh { book.journal ≡ first_journal N.desk }
         requires some { 0 < workers }
         requires few { workers ≤ 64 }
     {

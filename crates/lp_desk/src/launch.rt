@@ -1,5 +1,5 @@
 //! The start of a desk.
-ghost use Rattle.std.specs.Prelude.{◌≡◌, ◌⊎◌, ◌↔◌, [], All, Err, IfErr, IfOk, map};
+ghost use Rattle.std.specs.Prelude.{◌≡◌, ◌⊎◌, ◌↔◌, [], All, Err, IfErr, IfOk, length, map};
 ghost use Rattle.lp_transition.specs.declared.engine.boot.BootFault.TheVariants as boot_fault;
 ghost use Rattle.lp_board.specs.Blanks.{IsCrew, name_of};
 ghost use Rattle.lp_board.specs.declared.launch.LaunchFault.TheVariants.{BadCrew, Boot, NoBoard};
@@ -46,6 +46,7 @@ impl<M: Consistency, N: DeskName, G: ScanGate + Drop, R: Wait + Drop> Desk<M, N,
         ensures seats { IfOk result (λ launched. launched.seats.items ≡ map (λ boot. new_seat boot.0.0) N.desk.boots) }
         ensures control { IfOk result (λ launched. launched.control ≡ []) }
         ensures readers { IfOk result (λ launched. All (λ b. b ≡ record { seen = []; known = [] }) launched.readers.items) }
+        ensures count { IfOk result (λ launched. length launched.readers.items ≡ blank.readers) }
     {
         if workers == 0 || workers > MOST_CREW {
             return Err(LaunchFault::BadCrew);

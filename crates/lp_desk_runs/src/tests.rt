@@ -7,6 +7,7 @@ mod closes;
 mod limits;
 mod meets;
 mod memory;
+mod scans;
 mod threads;
 mod walks;
 

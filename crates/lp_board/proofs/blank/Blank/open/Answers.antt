@@ -14,7 +14,7 @@ pub new-requires-clause-rule : goal.new-requires-clause-rule
 new-requires-clause-rule g c =
     let name = g.N.DeskName.desk in
     let core = c.self.inside.core in
-    let was : Name = name_of g.M.Consistency.rules (record { patches = c.self.inside.patches; boots = c.self.inside.boots.items; book = c.self.inside.seen.book }) in
+    let was : Name = name_of g.M.Consistency.rules (record { patches = c.self.inside.patches; boots = c.self.inside.boots.items; book = c.self.inside.seen.book; readers = c.self.inside.readers }) in
     let named : was ≡ name = ap (name_of g.M.Consistency.rules) c.self.view_is ∙ c.requires in
     let here : state_in core ≡ state_after name [] = subst (λ n. state_in core ≡ state_after n []) named (stands-after was [] (state_in core) c.self.invariant.stands) in
     start-page name core (record { levels = c.self.inside.first; heading = c.self.inside.heading; events = [] }) c.again.result here c.self.invariant.first_is (c.again.ensures ∙ c.new-prefix.ensures)
@@ -23,7 +23,7 @@ pub crewed-writer-requires-clause-page : goal.crewed-writer-requires-clause-page
 crewed-writer-requires-clause-page g c =
     let name = g.N.DeskName.desk in
     let core = c.self.inside.core in
-    let was : Name = name_of g.M.Consistency.rules (record { patches = c.self.inside.patches; boots = c.self.inside.boots.items; book = c.self.inside.seen.book }) in
+    let was : Name = name_of g.M.Consistency.rules (record { patches = c.self.inside.patches; boots = c.self.inside.boots.items; book = c.self.inside.seen.book; readers = c.self.inside.readers }) in
     let named : was ≡ name = ap (name_of g.M.Consistency.rules) c.self.view_is ∙ c.requires in
     let here : state_in core ≡ state_after name [] = subst (λ n. state_in core ≡ state_after n []) named (stands-after was [] (state_in core) c.self.invariant.stands) in
     let page = start-page name core (record { levels = c.self.inside.first; heading = c.self.inside.heading; events = [] }) c.again.result here c.self.invariant.first_is (c.again.ensures ∙ c.new-prefix.ensures) in
@@ -33,7 +33,7 @@ pub new-requires-2 : goal.new-requires-2
 new-requires-2 g c =
     let name = g.N.DeskName.desk in
     let core = c.self.inside.core in
-    let was : Name = name_of g.M.Consistency.rules (record { patches = c.self.inside.patches; boots = c.self.inside.boots.items; book = c.self.inside.seen.book }) in
+    let was : Name = name_of g.M.Consistency.rules (record { patches = c.self.inside.patches; boots = c.self.inside.boots.items; book = c.self.inside.seen.book; readers = c.self.inside.readers }) in
     let named : was ≡ name = ap (name_of g.M.Consistency.rules) c.self.view_is ∙ c.requires in
     let here : state_in core ≡ state_after name [] = subst (λ n. state_in core ≡ state_after n []) named (stands-after was [] (state_in core) c.self.invariant.stands) in
     let page = start-page name core (record { levels = c.self.inside.first; heading = c.self.inside.heading; events = [] }) c.again.result here c.self.invariant.first_is (c.again.ensures ∙ c.new-prefix.ensures) in
@@ -49,6 +49,6 @@ pub returns-clause-stands : goal.returns-clause-stands
 returns-clause-stands g c =
     let name = g.N.DeskName.desk in
     let core = c.self.inside.core in
-    let was : Name = name_of g.M.Consistency.rules (record { patches = c.self.inside.patches; boots = c.self.inside.boots.items; book = c.self.inside.seen.book }) in
+    let was : Name = name_of g.M.Consistency.rules (record { patches = c.self.inside.patches; boots = c.self.inside.boots.items; book = c.self.inside.seen.book; readers = c.self.inside.readers }) in
     let named : was ≡ name = ap (name_of g.M.Consistency.rules) c.self.view_is ∙ c.requires in
     subst (λ (n : Name). StandsIn g.M.Consistency.rules (run_of n []) (state_in core)) named c.self.invariant.stands
