@@ -5,7 +5,7 @@ use Rattle.lp_text.specs.declared.write.WriteFault.{WriteFault}
 use Rattle.lp_trace.specs.Runs.{AtWrite}
 use Rattle.lp_trace.specs.declared.runs.RunFault.{RunFault}
 use Rattle.lp_trace.specs.declared.runs.RunFault.TheVariants.{NoMemory, Write}
-use Rattle.lp_threads.specs.Faults.{AtRun, AtRunElse, IsOfPlay}
+use Rattle.lp_threads.specs.Faults.{AtDesk, AtRun, AtRunElse, IsOfPlay}
 use Rattle.lp_threads.specs.declared.fault.ThreadsFault.{ThreadsFault}
 use Rattle.lp_threads.specs.declared.fault.ThreadsFault.TheVariants as threads
 
@@ -37,3 +37,16 @@ at_any threads.NoThread P Q f h = h
 pub at_write : {X : Type 0} (P : Type 0) (why : WriteFault) (r : Result X ThreadsFault) → IsErrAnd r (λ e. e ≡ threads.Run (Write why)) → P → IfErr r (λ e. AtRun e (λ fault. AtWrite fault P))
 at_write P why (Ok x) is h = tt
 at_write P why (Err e) is h = subst (λ fault. AtRun fault (λ why. AtWrite why P)) (sym is) h
+
+-- a fault of a play, as it is returned
+pub of_play : {X : Type 0} (fault : ThreadsFault) (r : Result X ThreadsFault) → IsErrAnd r (λ e. e ≡ fault) → IsOfPlay fault → IfErr r (λ e. IsOfPlay e)
+of_play fault (Ok x) is h = tt
+of_play fault (Err e) is h = subst IsOfPlay (sym is) h
+
+-- what is so at the desk's own faults
+pub at_desk : (fault : ThreadsFault) (P Q : Type 0) → (P → Q) → AtDesk fault P → AtDesk fault Q
+at_desk (threads.Run why) P Q f h = tt
+at_desk (threads.Launch why) P Q f h = f h
+at_desk (threads.Turned cause) P Q f h = f h
+at_desk (threads.Close cause) P Q f h = f h
+at_desk threads.NoThread P Q f h = f h

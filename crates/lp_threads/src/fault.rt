@@ -1,9 +1,9 @@
 //! Why threads didn't play a trace to its end.
 ghost use Rattle.std.specs.Prelude.{◌≡◌, Err, IfErr, IfOk, Ok};
 ghost use Rattle.lp_threads.specs.Codes.{code_of, of_cause, of_close, of_launch};
-ghost use Rattle.lp_threads.specs.Faults.{IsOfPlay};
+ghost use Rattle.lp_threads.specs.Faults.{of_launched, of_turned, of_unclosed};
 ghost use Rattle.lp_threads.specs.declared.fault.ThreadsFault.TheVariants.{Run};
-ghost use Rattle.lp_trace.specs.declared.runs.RunFault.TheVariants.{Write};
+ghost use Rattle.lp_trace.specs.declared.runs.RunFault.TheVariants.{NoMemory, Write};
 
 use lp_board::LaunchFault;
 use lp_desk::Unclosed;
@@ -91,7 +91,7 @@ impl From<RunFault> for ThreadsFault {
 }
 
 impl From<ReplayFault> for ThreadsFault {
-    ghost from_gives = { λ _ e. IsOfPlay e };
+    ghost from_gives = { λ _ e. e ≡ Run NoMemory };
 
     fn from(fault: ReplayFault) -> ThreadsFault {
         ThreadsFault::Run(RunFault::from(fault))
@@ -107,7 +107,7 @@ impl From<WriteFault> for ThreadsFault {
 }
 
 impl From<AllocError> for ThreadsFault {
-    ghost from_gives = { λ _ e. IsOfPlay e };
+    ghost from_gives = { λ _ e. e ≡ Run NoMemory };
 
     fn from(_e: AllocError) -> ThreadsFault {
         ThreadsFault::Run(RunFault::NoMemory)
@@ -116,7 +116,7 @@ impl From<AllocError> for ThreadsFault {
 
 /// Want of memory is a run's fault, whichever call of the desk meets it.
 impl From<LaunchFault> for ThreadsFault {
-    ghost from_gives = { λ _ e. IsOfPlay e };
+    ghost from_gives = { λ fault e. e ≡ of_launched fault };
 
     fn from(fault: LaunchFault) -> ThreadsFault {
         match fault {
@@ -127,7 +127,7 @@ impl From<LaunchFault> for ThreadsFault {
 }
 
 impl From<Cause> for ThreadsFault {
-    ghost from_gives = { λ _ e. IsOfPlay e };
+    ghost from_gives = { λ cause e. e ≡ of_turned cause };
 
     fn from(cause: Cause) -> ThreadsFault {
         match cause {
@@ -138,7 +138,7 @@ impl From<Cause> for ThreadsFault {
 }
 
 impl From<Unclosed> for ThreadsFault {
-    ghost from_gives = { λ _ e. IsOfPlay e };
+    ghost from_gives = { λ unclosed e. e ≡ of_unclosed unclosed.cause };
 
     fn from(unclosed: Unclosed) -> ThreadsFault {
         match unclosed.cause {

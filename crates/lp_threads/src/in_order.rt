@@ -2,6 +2,7 @@
 ghost use Rattle.std.specs.Prelude.{◌≡◌, IfOk, IfSome, length};
 ghost use Rattle.lp_board.specs.Blanks.{name_of};
 ghost use Rattle.lp_log.specs.Journals.{IsReplayed};
+ghost use Rattle.lp_replay.specs.Outcome.{run_of};
 
 use crate::ThreadsFault;
 use crate::playing::{Open, READERS, SCAN_WORKERS};
@@ -26,7 +27,8 @@ pub fn play_in_order<T: Threads + Wait + Sync, M: Consistency + Sync>(
     model: M,
     trace: &Trace,
 ) -> Result<Option<Journal>, ThreadsFault>
-    ensures { IfOk result (λ journal. IfSome journal (λ journal. IsReplayed M.rules journal)) }
+    ensures start { IfOk result (λ journal. IfSome journal (λ journal. (journal.patches ≡ (run_of trace.now).patches) × (journal.boots ≡ trace.now.boots))) }
+    ensures replayed { IfOk result (λ journal. IfSome journal (λ journal. IsReplayed M.rules journal)) }
 {
     let patches = stack(alloc, trace)?;
     let blank = Blank::new(alloc, model, patches, trace.boots(), READERS)?;
@@ -41,7 +43,8 @@ fn play_blank_in_order<T: Threads + Wait + Sync, M: Consistency + Sync, N: DeskN
     blank: Blank<M>,
 ) -> Result<Option<Journal>, ThreadsFault>
     requires { name_of M.rules blank ≡ N.desk }
-    ensures { IfOk result (λ journal. IfSome journal (λ journal. IsReplayed M.rules journal)) }
+    ensures start { IfOk result (λ journal. IfSome journal (λ journal. (journal.patches ≡ blank.patches) × (journal.boots ≡ blank.boots))) }
+    ensures replayed { IfOk result (λ journal. IfSome journal (λ journal. IsReplayed M.rules journal)) }
 {
     let launched = Desk::<M, N, Open, &T>::launch(rt, alloc, blank, SCAN_WORKERS, Open)?;
     let Launched {

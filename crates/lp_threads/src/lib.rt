@@ -3,11 +3,13 @@
 
 mod fault;
 mod in_order;
+mod parts;
 mod play;
 mod playing;
 mod report;
 mod returns;
 mod scripts;
+mod trace_name;
 
 pub use fault::ThreadsFault;
 pub use in_order::play_in_order;

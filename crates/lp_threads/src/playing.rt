@@ -1,21 +1,24 @@
 //! A trace, played by threads.
-ghost use Rattle.std.specs.Prelude.{◌≡◌, Err, IfErr, IfOk, IfSome, MatchResult, OnOk};
+ghost use Rattle.std.specs.Prelude.{◌≡◌, [], All, Err, IfErr, IfOk, IfSome, MatchResult, OnOk};
 ghost use Rattle.std.specs.Io.KnownBytes.{Appends};
 ghost use Rattle.lp_board.specs.Blanks.{name_of};
+ghost use Rattle.lp_replay.specs.Outcome.{run_of};
 ghost use Rattle.lp_text.specs.Counts.{AtMost, next};
 ghost use Rattle.lp_text.specs.Input.{FailsOnce};
 ghost use Rattle.lp_text.specs.Reading.{reading};
 ghost use Rattle.lp_text.specs.Writing.{AppendsPrefix};
 ghost use Rattle.lp_trace.specs.Runs.{AtReading, AtTrace, AtWrite, ReadsTrace};
-ghost use Rattle.lp_threads.specs.Faults.{AtRun, ButForReader, ButForWriter, IsOfPlay};
-ghost use Rattle.lp_threads.specs.Plays.{IsPlay, play_text};
+ghost use Rattle.lp_threads.specs.Faults.{AtDesk, AtRun, ButForReader, ButForWriter, IsOfPlay};
+ghost use Rattle.lp_threads.specs.Plays.{AreSent, IsPlay, play_text};
 ghost use Rattle.lp_threads.specs.declared.report.Play.{Play};
 
 use crate::ThreadsFault;
+use crate::parts::{NewControl, NewSeat};
 use crate::play::{play_control, play_seats};
 use crate::report::{Play, write_play};
 use crate::returns::Returns;
 use crate::scripts::Scripts;
+use crate::trace_name::TraceName;
 use lp_board::{Blank, DeskName};
 use lp_desk::{Desk, Launched};
 use lp_log::{Control, Seat};
@@ -23,6 +26,7 @@ use lp_model::Consistency;
 use lp_scan::ScanGate;
 use lp_trace::{Counted, Trace, read_trace, stack};
 use std::alloc::{AllocError, Global};
+use std::collections::VecDeque;
 use std::io::{Read, Write};
 use std::marker::Brand;
 use std::sync::{Mutex, Wait};
@@ -69,7 +73,9 @@ pub fn threads<T: Threads + Wait + Sync, M: Consistency + Send + Sync, R: Read, 
     ensures untouched { IfErr result (λ fault. ButForWriter fault (writer.new ≡ writer.old)) }
     // The fault of a text is the one that the definitions give.
     ensures trace { IfErr result (λ fault. AtRun fault (λ why. AtTrace why (λ why. IfSome (R.remaining reader.old.stream) (λ text. reading text ≡ Err why)))) }
-    // A fault of reading comes of a read that failed, which no other read follows.
+    // A fault of the desk is one that can come while a text that spells a trace is played.
+    ensures desk { IfErr result (λ fault. AtDesk fault (IsOfPlay fault × ReadsTrace (R.remaining reader.old.stream) (R.remaining reader.new.stream) (λ trace. Unit {0}))) }
+    // A fault of reading comes of one read that failed, before the end was found.
     ensures read_failed { IfErr result (λ fault. AtRun fault (λ why. AtReading why (FailsOnce reader.old reader.new))) }
     // Else no read failed: one that failed is told before a fault of the text.
     ensures unfailed { MatchResult result (λ _. reader.new.failures ≡ reader.old.failures) (λ fault. ButForReader fault (reader.new.failures ≡ reader.old.failures)) }
@@ -77,7 +83,7 @@ pub fn threads<T: Threads + Wait + Sync, M: Consistency + Send + Sync, R: Read, 
     ensures once { OnOk result (reader.new.ends ≡ next reader.old.ends) }
     // Each read but the last gives a byte at least.
     ensures few { AtMost 134217729 reader.old.calls reader.new.calls }
-    // A fault of writing comes of a write that failed or took no byte, which no other write follows.
+    // A fault of writing comes of one write that failed or took no byte.
     ensures write_failed { IfErr result (λ fault. AtRun fault (λ why. AtWrite why (writer.new.failures ≡ next writer.old.failures))) }
     // Without a fault no write failed.
     ensures written { OnOk result (writer.new.failures ≡ writer.old.failures) }
@@ -99,21 +105,24 @@ fn play<T: Threads + Wait + Sync, M: Consistency + Send + Sync>(
 {
     let patches = stack(alloc, trace)?;
     let blank = Blank::new(alloc, model, patches, trace.boots(), READERS)?;
-    play_blank::<T, M, Brand>(rt, alloc, trace, blank)
+    play_blank::<T, M, Brand, Brand>(rt, alloc, trace, blank)
 }
 
 /// The same, through the desk that starts as a blank.
-fn play_blank<T: Threads + Wait + Sync, M: Consistency + Send + Sync, N: DeskName + Send + Sync>(
-    rt: &T,
-    alloc: Global,
-    trace: &Trace,
-    blank: Blank<M>,
-) -> Result<Play, ThreadsFault>
-    requires { name_of M.rules blank ≡ N.desk }
+fn play_blank<
+    T: Threads + Wait + Sync,
+    M: Consistency + Send + Sync,
+    N: DeskName + Send + Sync,
+    S: TraceName + Send + Sync,
+>(rt: &T, alloc: Global, trace: &Trace, blank: Blank<M>) -> Result<Play, ThreadsFault>
+    requires desk { name_of M.rules blank ≡ N.desk }
+    requires events { trace.now.events ≡ S.events }
+    requires patches { blank.patches ≡ (run_of trace.now).patches }
+    requires boots { blank.boots ≡ trace.now.boots }
     ensures play { IfOk result (λ play. IsPlay M.rules trace.now play) }
     ensures fault { IfErr result (λ fault. IsOfPlay fault) }
 {
-    let scripts = Scripts::deal(alloc, trace.events())?;
+    let scripts = Scripts::<S>::deal(alloc, trace.events())?;
     let launched = Desk::<M, N, Open, &T>::launch(rt, alloc, blank, SCAN_WORKERS, Open)?;
     let Launched {
         desk,
@@ -122,6 +131,7 @@ fn play_blank<T: Threads + Wait + Sync, M: Consistency + Send + Sync, N: DeskNam
         readers: _,
     } = launched;
     let hands = dealt(alloc, seats)?;
+    let control = NewControl::new(control);
     let (seats, control) = played(rt, alloc, &desk, &scripts, hands, control)?;
     let given = seats.len();
     let journal = desk.close(rt, alloc, seats, control)?;
@@ -135,15 +145,22 @@ fn play_blank<T: Threads + Wait + Sync, M: Consistency + Send + Sync, N: DeskNam
 }
 
 /// The seats, dealt out to the players in turn.
-fn dealt(alloc: Global, seats: Vec<Seat>) -> Result<Vec<Vec<Seat>>, AllocError> {
-    let players = seats.len().min(MOST_PLAYERS);
+fn dealt(alloc: Global, seats: Vec<Seat>) -> Result<Vec<Vec<NewSeat>>, AllocError>
+    requires { All (λ seat. seat.entries ≡ []) seats.items }
+{
+    let count = seats.len();
+    let players = count.min(MOST_PLAYERS);
     let mut hands = Vec::with_capacity(alloc, players)?;
     for _player in 0..players {
         hands.push(Vec::new(alloc))?;
     }
-    for (place, seat) in seats.into_iter().enumerate() {
+    let mut left = VecDeque::from(seats);
+    for place in 0..count {
+        let Some(seat) = left.pop_front() else {
+            break;
+        };
         if let Some(hand) = hands.get_mut(place % MOST_PLAYERS) {
-            hand.push(seat)?;
+            hand.push(NewSeat::new(seat))?;
         }
     }
     Ok(hands)
@@ -154,23 +171,24 @@ fn played<
     T: Threads + Wait + Sync,
     M: Consistency + Send + Sync,
     N: DeskName + Send + Sync,
+    S: TraceName + Send + Sync,
     G: ScanGate + Sync + Drop,
 >(
     rt: &T,
     alloc: Global,
     desk: &Desk<M, N, G, &T>,
-    scripts: &Scripts,
-    hands: Vec<Vec<Seat>>,
-    control: Control,
+    scripts: &Scripts<S>,
+    hands: Vec<Vec<NewSeat>>,
+    control: NewControl,
 ) -> Result<(Vec<Seat>, Control), ThreadsFault>
-    ensures { IfErr result (λ fault. IsOfPlay fault) }
+    ensures sent { IfOk result (λ parts. AreSent S.events parts.0.items parts.1) }
+    ensures fault { IfErr result (λ fault. IsOfPlay fault) }
 {
-    let returns = Mutex::new(Returns::new(alloc));
+    let returns = Mutex::new(Returns::<S>::new(alloc));
     let shared = &returns;
     let started = thread::scope(thread::scope_env(), rt, |scope| {
-        let script = scripts.control();
         let commanding = move || {
-            let played = play_control(rt, alloc, desk, script, control);
+            let played = play_control(rt, alloc, desk, scripts, control);
             shared.lock(rt).set_control(played);
         };
         if scope.spawn(commanding).is_err() {
@@ -190,5 +208,5 @@ fn played<
     if !started {
         return Err(ThreadsFault::NoThread);
     }
-    returns.into_inner().into_parts()
+    returns.into_inner().into_parts(alloc)
 }

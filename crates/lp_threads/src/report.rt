@@ -4,7 +4,7 @@ ghost use Rattle.std.specs.Io.KnownBytes.{Appends};
 ghost use Rattle.lp_text.specs.Counts.{next};
 ghost use Rattle.lp_trace.specs.Runs.{AtReading, AtTrace, AtWrite};
 ghost use Rattle.lp_text.specs.Writing.{AppendsPrefix};
-ghost use Rattle.lp_threads.specs.Faults.{AtRun, ButForWriter};
+ghost use Rattle.lp_threads.specs.Faults.{AtDesk, AtRun, ButForWriter};
 ghost use Rattle.lp_threads.specs.Plays.{play_text};
 
 use crate::ThreadsFault;
@@ -37,6 +37,7 @@ pub(crate) fn write_play<W: Write>(
     ensures written { OnOk result (writer.new.failures ≡ writer.old.failures) }
     ensures behind { IfErr result (λ fault. AtRun fault (λ why. AtReading why ⊥)) }
     ensures late { IfErr result (λ fault. AtRun fault (λ why. AtTrace why (λ _. ⊥))) }
+    ensures desk { IfErr result (λ fault. AtDesk fault ⊥) }
 {
     let text = text_of(alloc, name, play)?;
     put(writer, text.as_bytes())?;

@@ -2,5 +2,9 @@ use Rattle.lp_board.specs.Blanks.{name_of}
 use Rattle.lp_threads.proofs.playing.play.Given as goal
 
 -- the desk that starts as the blank which was just made
-abbrev pub ghosts-play_blank : goal.ghosts-play_blank
-ghosts-play_blank g a = record { desk = name_of g.M.Consistency.rules a.blank }
+abbrev pub ghosts-play_blank-N-DeskName : goal.ghosts-play_blank-N-DeskName
+ghosts-play_blank-N-DeskName g a = record { desk = name_of g.M.Consistency.rules a.blank }
+
+-- and the trace that is played
+abbrev pub ghosts-play_blank-S-TraceName : goal.ghosts-play_blank-S-TraceName
+ghosts-play_blank-S-TraceName g a = record { events = a.trace.now.events }
