@@ -1,5 +1,5 @@
 -- What a matched subcommand says of the words, and what becomes of words that clap refuses.
-use Rattle.std.proofs.Common.{◌≡◌, ◌≢◌, ◌⊎◌, ◌∙◌, ap, sym, subst, arith, Bool, true, refl, Option, Some, None, List, [], codes, inl, inr}
+use Rattle.std.proofs.Common.{◌≡◌, ◌≢◌, ◌⊎◌, ◌∙◌, ap, sym, subst, arith, true, refl, Option, Some, None, List, [], codes, inl, inr}
 use Rattle.std.proofs.lemmas.Option.{none-some}
 use Rattle.std.specs.Prelude.{option_and_then, option_map, slice_index}
 use Rattle.std.specs.Option.{option_map_or}
@@ -13,7 +13,7 @@ use Rattle.lp_program.specs.declared.words.Task.{Task}
 use Rattle.lp_program.specs.declared.words.Task.TheVariants.{Run, Check, Compare, Threads}
 use Rattle.lp_program.specs.declared.words.WordsFault.{WordsFault}
 use Rattle.lp_program.specs.declared.words.WordsFault.TheVariants.{Usage, UnknownModel, NoMemory}
-use Rattle.lp_program.specs.Asked.{Asked, AsksNothing, IsNoFlag, IsRefusal, NamesNoModel, NamesNoTask, argument_of, asked, asked_in, flag_word, lpt, words_of}
+use Rattle.lp_program.specs.Asked.{Asked, AsksNothing, IsNoFlag, IsRefusal, IsUnknown, NamesNoModel, NamesNoTask, TakesModel, argument_of, asked, asked_in, flag_word, lpt, words_of}
 
 named : {X : Type 0} (o : Option X) (f : X → Text) (g : X → List Row) (name : Text) (rows : List Row)
     → option_map f o ≡ Some name → option_map (λ (p : Text × List Row). p.1) (option_map (λ x. (f x, g x)) o) ≡ Some rows
@@ -37,9 +37,12 @@ given_model words = option_and_then (λ (p : Text × Option Text). p.1) words
 
 -- where the model has a fault, there is no task
 pub no_task_of : (found : Option Text) (words : Asked) (name : Text) (fault : WordsFault)
-    → argument_of name ≡ codes "MODEL" → words ≡ Some (name, found) → NamesNoModel found fault → NamesNoTask words fault
-no_task_of found words name Usage takes e h = go
+    → TakesModel name → words ≡ Some (name, found) → NamesNoModel found fault → NamesNoTask words fault
+no_task_of found words name Usage takes e h = (go, known)
   where
+    known : IsUnknown words → ⊥
+    known (other, text, is, also, none) = none-some text (sym h ∙ ap given_model (sym e ∙ is))
+
     go : (task : Task) → words ≢ Some (words_of task)
     go (Run model) is = none-some (name_of model) (sym h ∙ ap given_model (sym e ∙ is))
     go (Check model) is = none-some (name_of model) (sym h ∙ ap given_model (sym e ∙ is))
@@ -54,8 +57,19 @@ given_name words = option_map_or (λ (p : Text × Option Text). p.0) words []
 -- the same where a flag has one
 pub no_flag_of : (found : Option Text) (words : Asked) (name : Text) (fault : WordsFault)
     → name ≡ codes "compare" → words ≡ Some (name, found) → IsNoFlag found fault → NamesNoTask words fault
-no_flag_of found words name Usage compares e h = go
+no_flag_of found words name Usage compares e h = (go, known)
   where
+    taken_name : (other : Text) (text : Text) → words ≡ Some (other, Some text) → other ≡ codes "compare"
+    taken_name other text is = sym (ap given_name (sym e ∙ is)) ∙ compares
+
+    no_model : (other : Text) → other ≡ codes "compare" → TakesModel other → ⊥
+    no_model other is (inl run) = let letter : 117 ≡ 111 = ap (λ n. slice_index n 1) (sym run ∙ is) in absurd (omega (arith, letter))
+    no_model other is (inr (inl check)) = let letter : 104 ≡ 111 = ap (λ n. slice_index n 1) (sym check ∙ is) in absurd (omega (arith, letter))
+    no_model other is (inr (inr threads)) = let letter : 104 ≡ 111 = ap (λ n. slice_index n 1) (sym threads ∙ is) in absurd (omega (arith, letter))
+
+    known : IsUnknown words → ⊥
+    known (other, text, is, takes, rest) = no_model other (taken_name other text is) takes
+
     same_name : (task : Task) → words ≡ Some (words_of task) → (words_of task).0 ≡ codes "compare"
     same_name task is = sym (ap given_name (sym e ∙ is)) ∙ compares
 
@@ -70,7 +84,7 @@ no_flag_of found words name NoMemory compares e h = absurd h
 -- words that clap takes, and that name no task
 pub asks_nothing : (given : List Text) (fault : WordsFault) → fault_of lpt given ≡ [] → NamesNoTask (asked given) fault
     → AsksNothing given fault
-asks_nothing given Usage none h = λ task asks. h task asks.1
+asks_nothing given Usage none h = (λ task asks. h.0 task asks.1, λ unknown. h.1 unknown.1)
 asks_nothing given UnknownModel none h = (none, h)
 asks_nothing given NoMemory none h = absurd h
 
@@ -78,8 +92,10 @@ asks_nothing given NoMemory none h = absurd h
 pub refused_asks_nothing : (given : List Text) (cause : ErrorKind) (fault : WordsFault)
     → (cause ≡ OutOfMemory) ⊎ IsAmong cause (fault_of lpt given) → IsRefusal cause fault → AsksNothing given fault
 refused_asks_nothing given cause Usage (inl e) h = absurd (h e)
-refused_asks_nothing given cause Usage (inr e) h = λ task asks.
-    subst (λ kinds. IsAmong cause kinds) asks.0 e
+refused_asks_nothing given cause Usage (inr e) h = (
+  λ task asks. subst (λ kinds. IsAmong cause kinds) asks.0 e,
+  λ unknown. subst (λ kinds. IsAmong cause kinds) unknown.0 e,
+)
 refused_asks_nothing given cause UnknownModel e h = absurd h
 refused_asks_nothing given cause NoMemory e h = tt
 

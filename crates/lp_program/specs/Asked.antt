@@ -1,5 +1,5 @@
 -- What words ask the program for, as clap reads them.
-use Rattle.std.specs.Prelude.{◌≡◌, ◌≢◌, Bool, List, [], Option, Some, None, option_map, codes, false, true, if◌then◌else◌}
+use Rattle.std.specs.Prelude.{◌≡◌, ◌≢◌, ◌⊎◌, Bool, List, [], Option, Some, None, option_map, codes, false, true, if◌then◌else◌}
 use Rattle.std.specs.Str.{bytes_eq}
 use Rattle.clap.specs.Words.{App, Row, Rule, Text, fault_of, new_app, new_rule, subcommand_of, with_rule, with_subcommand, first_of}
 use Rattle.clap.specs.declared.builder.ArgAction.TheVariants.{Set, SetTrue}
@@ -70,10 +70,14 @@ Asks words task = (fault_of lpt words ≡ []) × (asked words ≡ Some (words_of
 
 -- ---- Faults
 
+-- the subcommand has a model
+abbrev pub TakesModel : Text → Type 0
+TakesModel name = (name ≡ codes "run") ⊎ ((name ≡ codes "check") ⊎ (name ≡ codes "threads"))
+
 -- a subcommand with a model is there, and what stands for it is no model's name
 abbrev pub IsUnknown : Asked → Type 0
 IsUnknown asked =
-    (name : Text) × (text : Text) × (asked ≡ Some (name, Some text)) × (argument_of name ≡ codes "MODEL") × ((model : ModelName) → text ≢ name_of model)
+    (name : Text) × (text : Text) × (asked ≡ Some (name, Some text)) × TakesModel name × ((model : ModelName) → text ≢ name_of model)
 
 -- a fault of words that clap takes
 abbrev pub NamesNoModel : Option Text → WordsFault → Type 0
@@ -88,7 +92,7 @@ IsNoFlag found words.UnknownModel = ⊥
 IsNoFlag found words.NoMemory = ⊥
 
 abbrev pub NamesNoTask : Asked → WordsFault → Type 0
-NamesNoTask asked words.Usage = (task : Task) → asked ≢ Some (words_of task)
+NamesNoTask asked words.Usage = ((task : Task) → asked ≢ Some (words_of task)) × (IsUnknown asked → ⊥)
 NamesNoTask asked words.UnknownModel = IsUnknown asked
 NamesNoTask asked words.NoMemory = ⊥
 
@@ -98,8 +102,12 @@ IsRefusal cause words.Usage = cause ≢ kind.OutOfMemory
 IsRefusal cause words.NoMemory = cause ≡ kind.OutOfMemory
 IsRefusal cause words.UnknownModel = ⊥
 
--- why words ask for no task: usage before the model's name
+-- clap takes the words, and all is right but the model's name
+abbrev pub AsksUnknown : List Text → Type 0
+AsksUnknown given = (fault_of lpt given ≡ []) × IsUnknown (asked given)
+
+-- why words ask for no task: usage where that isn't so
 abbrev pub AsksNothing : List Text → WordsFault → Type 0
-AsksNothing given words.Usage = (task : Task) → Asks given task → ⊥
-AsksNothing given words.UnknownModel = (fault_of lpt given ≡ []) × IsUnknown (asked given)
+AsksNothing given words.Usage = ((task : Task) → Asks given task → ⊥) × (AsksUnknown given → ⊥)
+AsksNothing given words.UnknownModel = AsksUnknown given
 AsksNothing given words.NoMemory = Unit {0}

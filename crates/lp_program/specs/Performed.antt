@@ -1,5 +1,5 @@
 -- What the program reads and writes.
-use Rattle.std.specs.Prelude.{◌≡◌, ◌⊎◌, ℕ, Bool, List, Option, None, IsSome, IfSome, Err}
+use Rattle.std.specs.Prelude.{◌≡◌, ◌⊎◌, ℕ, Bool, List, Option, None, IsSome, IfSome, Ok, Err}
 use Rattle.std.specs.Io.KnownBytes.{Appends}
 use Rattle.lp_models.specs.declared.name.ModelName.{ModelName}
 use Rattle.lp_models.specs.Names.{name_of}
@@ -15,7 +15,10 @@ use Rattle.lp_trace.specs.Runs.{ReadsTrace}
 use Rattle.lp_text.specs.Traces.{TraceValue}
 use Rattle.lp_text.specs.Words.{line_of}
 use Rattle.lp_text.specs.Writing.{AppendsPrefix}
+use Rattle.lp_threads.specs.Codes.{code_of}
+use Rattle.lp_threads.specs.Faults.{IsOfPlay}
 use Rattle.lp_threads.specs.Plays.{IsPlay, play_text}
+use Rattle.lp_threads.specs.declared.fault.ThreadsFault.{ThreadsFault}
 use Rattle.lp_threads.specs.declared.report.Play.{Play}
 use Rattle.lp_compare.specs.Comparison.{comparison}
 use Rattle.lp_compare.specs.Text.{written}
@@ -86,6 +89,10 @@ IsOfDesk (Check model) = ⊥
 IsOfDesk (Compare json) = ⊥
 IsOfDesk (Threads model) = Unit {0}
 
+-- this is the letter and number of a fault that can come while a trace is played
+abbrev pub IsCodeOfPlay : List ℕ → Type 0
+IsCodeOfPlay code = (why : ThreadsFault) × IsOfPlay why × (code_of why ≡ Ok code)
+
 module _ (before after old new : Option (List ℕ)) where
   -- how a task ends by a fault; `same` says that the writer is as it was
   abbrev pub EndsBy : Type 0 → Task → Fault → Type 0
@@ -96,7 +103,7 @@ module _ (before after old new : Option (List ℕ)) where
   EndsBy same task (fault.Trace why) = IfSome before (IsTextFault task why) × same
   EndsBy same task fault.Refused = IsRefused before after old new task
   EndsBy same task fault.NoMemory = same
-  EndsBy same task (fault.Desk code) = IsOfDesk task × same
+  EndsBy same task (fault.Desk code) = IsOfDesk task × IsCodeOfPlay code.now × ReadsTrace before after (λ trace. Unit {0}) × same
 
   -- the words ask for a task, and it is done
   abbrev pub Performs : List (List ℕ) → Type 0

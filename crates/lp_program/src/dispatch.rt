@@ -13,7 +13,7 @@ ghost use Rattle.lp_trace.specs.Report.{report};
 ghost use Rattle.lp_trace.specs.Runs.{AtReading, AtTrace, AtWrite, BeforeWriting, ButForReading, ReadsTrace};
 ghost use Rattle.lp_text.specs.Words.{line_of};
 ghost use Rattle.lp_text.specs.Writing.{AppendsPrefix};
-ghost use Rattle.lp_threads.specs.Faults.{AtRun, ButForReader, ButForWriter};
+ghost use Rattle.lp_threads.specs.Faults.{AtDesk, AtRun, ButForReader, ButForWriter, IsOfPlay};
 ghost use Rattle.lp_program.specs.Named.{rules_named};
 ghost use Rattle.lp_program.specs.Performed.{IsPlayed};
 
@@ -108,6 +108,7 @@ pub fn threads<T: Threads + Wait + Sync, R: Read, W: Write>(
         (λ trace. IsPlayed model trace (AppendsPrefix (W.contents writer.old.stream) (W.contents writer.new.stream)))))) }
     ensures untouched { IfErr result (λ fault. ButForWriter fault (writer.new ≡ writer.old)) }
     ensures trace { IfErr result (λ fault. AtRun fault (λ why. AtTrace why (λ why. IfSome (R.remaining reader.old.stream) (λ text. reading text ≡ Err why)))) }
+    ensures desk { IfErr result (λ fault. AtDesk fault (IsOfPlay fault × ReadsTrace (R.remaining reader.old.stream) (R.remaining reader.new.stream) (λ trace. Unit {0}))) }
     ensures read_failed { IfErr result (λ fault. AtRun fault (λ why. AtReading why (FailsOnce reader.old reader.new))) }
     ensures unfailed { MatchResult result (λ _. reader.new.failures ≡ reader.old.failures) (λ fault. ButForReader fault (reader.new.failures ≡ reader.old.failures)) }
     ensures once { OnOk result (reader.new.ends ≡ next reader.old.ends) }

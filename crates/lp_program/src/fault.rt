@@ -78,6 +78,10 @@ impl From<ThreadsFault> for Fault {
 }
 
 impl From<AllocError> for Fault {
+    ghost use Rattle.lp_program.specs.declared.fault.Fault.TheVariants.{NoMemory};
+
+    ghost from_gives = { λ _ e. e ≡ NoMemory };
+
     fn from(_e: AllocError) -> Fault {
         Fault::NoMemory
     }

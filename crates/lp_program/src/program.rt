@@ -28,7 +28,7 @@ pub fn perform<T: Threads + Wait + Sync, S: AsStr, R: Read, W: Write>(
     ensures done { OnOk result (Performs (R.remaining reader.old.stream) (R.remaining reader.new.stream) (W.contents writer.old.stream) (W.contents writer.new.stream) (map S.text words.now)) }
     ensures fails { IfErr result (Fails (R.remaining reader.old.stream) (R.remaining reader.new.stream) (W.contents writer.old.stream) (W.contents writer.new.stream)
         (reader.new ≡ reader.old) (writer.new ≡ writer.old) (map S.text words.now)) }
-    // A fault of reading comes of a read that failed, which no other read follows.
+    // A fault of reading comes of one read that failed, before the end was found.
     ensures read_failed { result ≡ Err Fault.Read → FailsOnce reader.old reader.new }
     // Else no read failed: one that failed is told before a fault of the text.
     ensures unfailed { result ≢ Err Fault.Read → reader.new.failures ≡ reader.old.failures }
@@ -37,7 +37,7 @@ pub fn perform<T: Threads + Wait + Sync, S: AsStr, R: Read, W: Write>(
     ensures refused_once { result ≡ Err Fault.Refused → reader.new.ends ≡ next reader.old.ends }
     // Each read but the last gives a byte at least.
     ensures few { AtMost 134217729 reader.old.calls reader.new.calls }
-    // A fault of writing comes of a write that failed or took no byte, which no other write follows.
+    // A fault of writing comes of one write that failed or took no byte.
     ensures write_failed { result ≡ Err Fault.Write → writer.new.failures ≡ next writer.old.failures }
     // Else no write failed.
     ensures written { result ≢ Err Fault.Write → writer.new.failures ≡ writer.old.failures }

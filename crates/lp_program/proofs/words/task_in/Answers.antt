@@ -1,4 +1,4 @@
-use Rattle.std.proofs.Common.{◌∙◌, ap, ap₂, codes, sym, Some}
+use Rattle.std.proofs.Common.{◌∙◌, ap, ap₂, codes, inl, inr, sym, Some}
 use Rattle.clap.proofs.TakesLemmas.{passed_up}
 use Rattle.lp_program.specs.Asked.{argument_of}
 use Rattle.lp_program.proofs.Matched.{asked_of, no_flag_of, no_task_of}
@@ -24,7 +24,7 @@ returns-in_err-model_of-in-Some-run-default-clause-fault c =
     let found = c.in-Some-run-default in
     let fault = c.in_err-model_of-in-Some-run-default in
     passed_up c.from_residual.result fault.field-0.0 _ c.from_residual.ensures.1
-    (no_task_of _ _ _ _ (ap argument_of found.is-run) (asked_of c.args.matches.now found.run'.now _ (codes "MODEL") (ap argument_of found.is-run) (sym found.ensures.name) (sym found.ensures.rows)) fault.ensures.fault)
+    (no_task_of _ _ _ _ (inl found.is-run) (asked_of c.args.matches.now found.run'.now _ (codes "MODEL") (ap argument_of found.is-run) (sym found.ensures.name) (sym found.ensures.rows)) fault.ensures.fault)
 
 pub returns-in_err-model_of-in-Some-check-default-clause-fault :
     goal.returns-in_err-model_of-in-Some-check-default-clause-fault
@@ -33,7 +33,7 @@ returns-in_err-model_of-in-Some-check-default-clause-fault c =
     let fault = c.in_err-model_of-in-Some-check-default in
     let returned = c.from_residual-in_err-model_of-in-Some-check-default in
     passed_up returned.result fault.field-0.0 _ returned.ensures.1
-    (no_task_of _ _ _ _ (ap argument_of found.is-check) (asked_of c.args.matches.now found.check.now _ (codes "MODEL") (ap argument_of found.is-check) (sym found.ensures.name) (sym found.ensures.rows)) fault.ensures.fault)
+    (no_task_of _ _ _ _ (inr (inl found.is-check)) (asked_of c.args.matches.now found.check.now _ (codes "MODEL") (ap argument_of found.is-check) (sym found.ensures.name) (sym found.ensures.rows)) fault.ensures.fault)
 
 pub returns-in_ok-model_of-in-Some-threads-default-clause-task :
     goal.returns-in_ok-model_of-in-Some-threads-default-clause-task
@@ -49,7 +49,7 @@ returns-in_err-model_of-in-Some-threads-default-clause-fault c =
     let fault = c.in_err-model_of-in-Some-threads-default in
     let returned = c.from_residual-in_err-model_of-in-Some-threads-default in
     passed_up returned.result fault.field-0.0 _ returned.ensures.1
-    (no_task_of _ _ _ _ (ap argument_of found.is-threads) (asked_of c.args.matches.now found.threads.now _ (codes "MODEL") (ap argument_of found.is-threads) (sym found.ensures.name) (sym found.ensures.rows)) fault.ensures.fault)
+    (no_task_of _ _ _ _ (inr (inr found.is-threads)) (asked_of c.args.matches.now found.threads.now _ (codes "MODEL") (ap argument_of found.is-threads) (sym found.ensures.name) (sym found.ensures.rows)) fault.ensures.fault)
 
 pub returns-in_ok-flag_of-in-Some-compare-default-clause-task :
     goal.returns-in_ok-flag_of-in-Some-compare-default-clause-task
