@@ -1,6 +1,7 @@
 pub mod Quantifiers
 pub mod Plain
 pub mod Points
+pub mod Moves
 pub mod Waiting
 pub mod Checks
 pub mod NoEarlier

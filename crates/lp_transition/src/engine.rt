@@ -20,6 +20,7 @@ mod dispatch;
 mod first_refusals;
 mod live_task;
 mod live_view;
+mod moves;
 mod open_scan;
 mod opening;
 mod plain_events;

@@ -38,11 +38,13 @@ impl<M: Consistency> Core<M> {
         ensures unchanged { OnErr result (self.new ≡ self.old) }
     {
         match event {
-            Event::Call(task, func) if self.has_room() => Ok(self.step_call(task, func)),
-            Event::Ret(task) if self.has_room() => Ok(self.step_ret(task)),
-            Event::Sleep(task) if self.has_room() => Ok(self.step_sleep(task)),
-            Event::Wake(task) if self.has_room() => Ok(self.step_wake(task)),
-            Event::Enter(task) if self.has_room() => Ok(self.step_enter(task)),
+            Event::Call(task, func) if self.has_room() => {
+                Ok(self.step_plain(Event::Call(task, func)))
+            }
+            Event::Ret(task) if self.has_room() => Ok(self.step_plain(Event::Ret(task))),
+            Event::Sleep(task) if self.has_room() => Ok(self.step_plain(Event::Sleep(task))),
+            Event::Wake(task) if self.has_room() => Ok(self.step_plain(Event::Wake(task))),
+            Event::Enter(task) if self.has_room() => Ok(self.step_plain(Event::Enter(task))),
             _ => self.step_weighed(alloc, event),
         }
     }
@@ -170,11 +172,8 @@ impl<M: Consistency> Core<M> {
     {
         let _ = &self.tasks;
         match event {
-            Event::Call(task, func) => self.take_call(task, func),
-            Event::Ret(task) => self.take_ret(task),
-            Event::Sleep(task) => self.take_sleep(task),
-            Event::Wake(task) => self.take_wake(task),
-            Event::Enter(task) => self.take_enter(task),
+            Event::Call(..) | Event::Ret(_) | Event::Sleep(_) | Event::Wake(_) | Event::Enter(_) =>
+                self.take_plain(event),
             Event::Exit(task) => self.take_point(CheckKind::KernelExit, task, switching),
             Event::Idle(task) => self.take_point(CheckKind::IdlePoint, task, switching),
             Event::Fork(parent, child, how) => {

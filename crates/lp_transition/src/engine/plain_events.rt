@@ -1,100 +1,72 @@
 //! Plain events of one task, which never allocate: each is weighed and taken in one, as no step has
 //! to stand between. They are nearly all events of a recording.
-ghost use Rattle.std.specs.Prelude.{◌≡◌, [], ◌<◌};
+ghost use Rattle.std.specs.Prelude.{◌≡◌, [], ◌<◌, true, None};
 ghost use Rattle.lp_transition.specs.Steps.{IsStep};
 ghost use Rattle.lp_transition.specs.Blames.{AreBlamesAfter};
 ghost use Rattle.lp_transition.specs.Table.{state_in};
+ghost use Rattle.lp_transition.specs.Machine.{refusal_of, answer, next};
+ghost use Rattle.lp_transition.specs.inside.Moves.{is_plain};
 
 use super::Core;
+use super::moves::Move;
 use super::weigh::refused;
 use crate::{Event, Reply};
 use lp_model::Consistency;
-use lp_stack::TaskId;
-use lp_symbols::SymId;
 
 impl<M: Consistency> Core<M> {
-    /// The reply names the level before the call is taken: a call never switches its task.
+    /// A call, a return, a sleep, a wake-up or an entry into the kernel. It is compiled once for each
+    /// of them, so that none pays for telling them apart again.
     #[inline(always)]
-    pub(super) fn step_call(&mut self, task: TaskId, func: SymId) -> Reply
-        requires { self.old.number < 1000000 }
-        ensures step { IsStep M.rules (state_in self.old) (Event.Call task func) result (state_in self.new) }
-        ensures blames { AreBlamesAfter M.rules self.old (Event.Call task func) [] self.new }
+    pub(super) fn step_plain(&mut self, event: Event) -> Reply
+        requires room { self.old.number < 1000000 }
+        requires plain { is_plain event ≡ true }
+        ensures step { IsStep M.rules (state_in self.old) event result (state_in self.new) }
+        ensures blames { AreBlamesAfter M.rules self.old event [] self.new }
     {
-        let event = Event::Call(task, func);
         if let Some(why) = self.refusal(event) {
             self.take_refused(event, why);
             return refused(why);
         }
-        let reply = self.answer_call(task, func);
-        self.take_call(task, func);
+        let reply = self.answer_plain(event);
+        self.take_plain(event);
         reply
     }
 
-    /// A return.
+    /// The reply to a call names the level before it is taken: a call never switches its task.
     #[inline(always)]
-    pub(super) fn step_ret(&mut self, task: TaskId) -> Reply
-        requires { self.old.number < 1000000 }
-        ensures step { IsStep M.rules (state_in self.old) (Event.Ret task) result (state_in self.new) }
-        ensures blames { AreBlamesAfter M.rules self.old (Event.Ret task) [] self.new }
+    pub(super) fn answer_plain(&self, event: Event) -> Reply
+        requires room { self.now.number < 1000000 }
+        requires plain { is_plain event ≡ true }
+        requires accepted { refusal_of M.rules (state_in self.now) event ≡ None }
+        ensures { result ≡ answer M.rules (state_in self.now) event }
     {
-        let event = Event::Ret(task);
-        if let Some(why) = self.refusal(event) {
-            self.take_refused(event, why);
-            return refused(why);
+        match event {
+            Event::Call(task, func) => self.answer_call(task, func),
+            Event::Ret(task) => self.answer_silent(event, task),
+            Event::Sleep(task) => self.answer_silent(event, task),
+            Event::Wake(task) => self.answer_silent(event, task),
+            Event::Enter(task) => self.answer_silent(event, task),
+            _ => unreachable!(),
         }
-        let reply = self.answer_silent(event, task);
-        self.take_ret(task);
-        reply
     }
 
-    /// A sleep.
+    /// What an accepted plain event does. Never allocates.
     #[inline(always)]
-    pub(super) fn step_sleep(&mut self, task: TaskId) -> Reply
-        requires { self.old.number < 1000000 }
-        ensures step { IsStep M.rules (state_in self.old) (Event.Sleep task) result (state_in self.new) }
-        ensures blames { AreBlamesAfter M.rules self.old (Event.Sleep task) [] self.new }
+    pub(super) fn take_plain(&mut self, event: Event)
+        requires room { self.old.number < 1000000 }
+        requires plain { is_plain event ≡ true }
+        requires accepted { refusal_of M.rules (state_in self.old) event ≡ None }
+        ensures state { state_in self.new ≡ next M.rules (state_in self.old) event }
+        ensures blames { AreBlamesAfter M.rules self.old event [] self.new }
     {
-        let event = Event::Sleep(task);
-        if let Some(why) = self.refusal(event) {
-            self.take_refused(event, why);
-            return refused(why);
+        let _ = &self.tasks;
+        match event {
+            Event::Call(task, func) => self.take_call(task, func),
+            Event::Ret(task) => self.take_ret(task),
+            Event::Sleep(task) => self.take_move(Move::Sleep, task),
+            Event::Wake(task) => self.take_move(Move::Wake, task),
+            Event::Enter(task) => self.take_move(Move::Enter, task),
+            _ => unreachable!(),
         }
-        let reply = self.answer_silent(event, task);
-        self.take_sleep(task);
-        reply
-    }
-
-    /// A wake-up.
-    #[inline(always)]
-    pub(super) fn step_wake(&mut self, task: TaskId) -> Reply
-        requires { self.old.number < 1000000 }
-        ensures step { IsStep M.rules (state_in self.old) (Event.Wake task) result (state_in self.new) }
-        ensures blames { AreBlamesAfter M.rules self.old (Event.Wake task) [] self.new }
-    {
-        let event = Event::Wake(task);
-        if let Some(why) = self.refusal(event) {
-            self.take_refused(event, why);
-            return refused(why);
-        }
-        let reply = self.answer_silent(event, task);
-        self.take_wake(task);
-        reply
-    }
-
-    /// An entry into the kernel.
-    #[inline(always)]
-    pub(super) fn step_enter(&mut self, task: TaskId) -> Reply
-        requires { self.old.number < 1000000 }
-        ensures step { IsStep M.rules (state_in self.old) (Event.Enter task) result (state_in self.new) }
-        ensures blames { AreBlamesAfter M.rules self.old (Event.Enter task) [] self.new }
-    {
-        let event = Event::Enter(task);
-        if let Some(why) = self.refusal(event) {
-            self.take_refused(event, why);
-            return refused(why);
-        }
-        let reply = self.answer_silent(event, task);
-        self.take_enter(task);
-        reply
     }
 }

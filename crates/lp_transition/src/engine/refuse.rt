@@ -1,7 +1,7 @@
 //! Which events are refused.
 ghost use Rattle.std.specs.Prelude.{◌≡◌, [], ◌∷◌, None, not};
 ghost use Rattle.lp_transition.specs.Table.{state_in, task_numbers, standings};
-ghost use Rattle.lp_transition.specs.Tasks.{first_of, tests, same_mode, same_class, unknown_task, not_of, not_in, stack_not_empty};
+ghost use Rattle.lp_transition.specs.Tasks.{first_of, tests, unknown_task, not_of, not_in, stack_not_empty};
 ghost use Rattle.lp_transition.specs.Machine.{refusal_of, outlines_of};
 
 use super::Core;
@@ -50,7 +50,7 @@ fn call_refusal(tasks: &TaskTable, symbols: usize, task: TaskId, func: SymId) ->
     if func.index() >= symbols {
         return Some(Refusal::UnknownSymbol);
     }
-    if !same_mode(live.mode(), Mode::Kernel) {
+    if live.mode() != Mode::Kernel {
         return Some(Refusal::WrongMode);
     }
     if live.depth() >= MOST_FRAMES {
@@ -67,7 +67,7 @@ fn ret_refusal(tasks: &TaskTable, symbols: usize, task: TaskId) -> Option<Refusa
     let Some(live) = tasks.get(task) else {
         return Some(Refusal::UnknownTask);
     };
-    if !same_mode(live.mode(), Mode::Kernel) {
+    if live.mode() != Mode::Kernel {
         return Some(Refusal::WrongMode);
     }
     if live.depth() == 0 {
@@ -84,7 +84,7 @@ fn mode_refusal(tasks: &TaskTable, task: TaskId, mode: Mode) -> Option<Refusal>
     let Some(live) = tasks.get(task) else {
         return Some(Refusal::UnknownTask);
     };
-    if !same_mode(live.mode(), mode) {
+    if live.mode() != mode {
         return Some(Refusal::WrongMode);
     }
     None
@@ -98,10 +98,10 @@ fn enter_refusal(tasks: &TaskTable, symbols: usize, task: TaskId) -> Option<Refu
     let Some(live) = tasks.get(task) else {
         return Some(Refusal::UnknownTask);
     };
-    if !same_class(live.class(), Class::Normal) {
+    if live.class() != Class::Normal {
         return Some(Refusal::WrongClass);
     }
-    if !same_mode(live.mode(), Mode::User) {
+    if live.mode() != Mode::User {
         return Some(Refusal::WrongMode);
     }
     None
@@ -115,10 +115,10 @@ fn empty_refusal(tasks: &TaskTable, task: TaskId, class: Class) -> Option<Refusa
     let Some(live) = tasks.get(task) else {
         return Some(Refusal::UnknownTask);
     };
-    if !same_class(live.class(), class) {
+    if live.class() != class {
         return Some(Refusal::WrongClass);
     }
-    if !same_mode(live.mode(), Mode::Kernel) {
+    if live.mode() != Mode::Kernel {
         return Some(Refusal::WrongMode);
     }
     if live.depth() != 0 {
@@ -146,36 +146,11 @@ fn fork_refusal(
     if tasks.is_used(child) {
         return Some(Refusal::TaskUsed);
     }
-    if !same_class(live.class(), Class::Normal) {
+    if live.class() != Class::Normal {
         return Some(Refusal::WrongClass);
     }
-    if !same_mode(live.mode(), Mode::Kernel) {
+    if live.mode() != Mode::Kernel {
         return Some(Refusal::WrongMode);
     }
     None
-}
-
-/// Whether two modes are the same.
-#[inline(always)]
-fn same_mode(mode: Mode, other: Mode) -> bool
-    ensures { result ≡ same_mode mode other }
-{
-    match (mode, other) {
-        (Mode::User, Mode::User) => true,
-        (Mode::Kernel, Mode::Kernel) => true,
-        (Mode::Asleep, Mode::Asleep) => true,
-        _ => false,
-    }
-}
-
-/// Whether two classes are the same.
-#[inline(always)]
-fn same_class(class: Class, other: Class) -> bool
-    ensures { result ≡ same_class class other }
-{
-    match (class, other) {
-        (Class::Normal, Class::Normal) => true,
-        (Class::Idle, Class::Idle) => true,
-        _ => false,
-    }
 }

@@ -4,13 +4,15 @@ ghost use Rattle.lp_transition.specs.Weigh.{born_of};
 ghost use Rattle.lp_transition.specs.Blames.{AreBlamesAfter};
 ghost use Rattle.lp_transition.specs.Table.{state_in};
 ghost use Rattle.lp_transition.specs.Machine.{refusal_of, next};
+ghost use Rattle.lp_transition.specs.inside.Moves.{move_event};
 
 use super::Core;
 use super::control::put_number;
 use super::live_task::LiveTask;
+use super::moves::Move;
 use crate::Event;
 use lp_model::{Consistency, ForkKind};
-use lp_stack::{Mode, TaskId};
+use lp_stack::TaskId;
 use lp_symbols::SymId;
 
 impl<M: Consistency> Core<M> {
@@ -41,43 +43,17 @@ impl<M: Consistency> Core<M> {
         self.blames.popped(&self.waiting, &self.tasks, task);
     }
 
-    /// An accepted sleep.
+    /// An accepted move of a task.
     #[inline(always)]
-    pub(super) fn take_sleep(&mut self, task: TaskId)
+    pub(super) fn take_move(&mut self, kind: Move, task: TaskId)
         requires room { self.old.number < 1000000 }
-        requires accepted { refusal_of M.rules (state_in self.old) (Event.Sleep task) ≡ None }
-        ensures state { state_in self.new ≡ next M.rules (state_in self.old) (Event.Sleep task) }
-        ensures blames { AreBlamesAfter M.rules self.old (Event.Sleep task) [] self.new }
+        requires accepted { refusal_of M.rules (state_in self.old) (move_event kind task) ≡ None }
+        ensures state { state_in self.new ≡ next M.rules (state_in self.old) (move_event kind task) }
+        ensures blames { AreBlamesAfter M.rules self.old (move_event kind task) [] self.new }
     {
         self.events += 1;
         self.unchanged.touch(&self.tasks, task);
-        self.tasks.set_mode(task, Mode::Asleep);
-    }
-
-    /// An accepted wake-up.
-    #[inline(always)]
-    pub(super) fn take_wake(&mut self, task: TaskId)
-        requires room { self.old.number < 1000000 }
-        requires accepted { refusal_of M.rules (state_in self.old) (Event.Wake task) ≡ None }
-        ensures state { state_in self.new ≡ next M.rules (state_in self.old) (Event.Wake task) }
-        ensures blames { AreBlamesAfter M.rules self.old (Event.Wake task) [] self.new }
-    {
-        self.events += 1;
-        self.unchanged.touch(&self.tasks, task);
-        self.tasks.set_mode(task, Mode::Kernel);
-    }
-
-    /// An accepted entry into the kernel.
-    #[inline(always)]
-    pub(super) fn take_enter(&mut self, task: TaskId)
-        requires room { self.old.number < 1000000 }
-        requires accepted { refusal_of M.rules (state_in self.old) (Event.Enter task) ≡ None }
-        ensures state { state_in self.new ≡ next M.rules (state_in self.old) (Event.Enter task) }
-        ensures blames { AreBlamesAfter M.rules self.old (Event.Enter task) [] self.new }
-    {
-        self.events += 1;
-        self.unchanged.touch(&self.tasks, task);
-        self.tasks.set_mode(task, Mode::Kernel);
+        self.tasks.set_mode(task, kind.mode());
     }
 
     /// A child of a parent that switched is on the target already, and waits for nothing.

@@ -58,11 +58,8 @@ impl<M: Consistency> Core<M> {
         ensures answer { IfOk result (λ reply. reply ≡ answer M.rules (state_in self.now) event) }
     {
         match event {
-            Event::Call(task, func) => Ok(self.answer_call(task, func)),
-            Event::Ret(task) => Ok(self.answer_silent(event, task)),
-            Event::Sleep(task) => Ok(self.answer_silent(event, task)),
-            Event::Wake(task) => Ok(self.answer_silent(event, task)),
-            Event::Enter(task) => Ok(self.answer_silent(event, task)),
+            Event::Call(..) | Event::Ret(_) | Event::Sleep(_) | Event::Wake(_) | Event::Enter(_) =>
+                Ok(self.answer_plain(event)),
             Event::Exit(task) => self.answer_point(alloc, CheckKind::KernelExit, task),
             Event::Idle(task) => self.answer_point(alloc, CheckKind::IdlePoint, task),
             Event::Die(task) => Ok(self.answer_die(task)),

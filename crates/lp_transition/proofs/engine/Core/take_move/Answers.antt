@@ -1,0 +1,63 @@
+use Rattle.std.proofs.Common.{◌≡◌, refl, ◌<◌, suc, arith}
+use Rattle.lp_transition.specs.Machine.{own_effect, put_in}
+use Rattle.lp_transition.specs.Table.{Engine, standings}
+use Rattle.lp_transition.specs.Tasks.{change}
+use Rattle.lp_transition.specs.inside.Moves.{move_event}
+use Rattle.lp_transition.proofs.EngineLemmas.{quiet-control}
+use Rattle.lp_transition.proofs.Effects.{takes_change}
+use Rattle.lp_transition.proofs.Moves.{move_effect, move_quiet, move_touches}
+use Rattle.lp_transition.proofs.Unchanged.{core_changes}
+use Rattle.lp_transition.proofs.Blames.{leaves_changed}
+use Rattle.lp_transition.proofs.engine.Core.take_move.Goals as goal
+
+pub invariant_of-self : goal.invariant_of-self
+invariant_of-self g c =
+    let h : c.args.task.0 < 65536 = omega arith in
+    let i = c.self.inside in
+    let rules = g.M.Consistency.rules in
+    let lawful = g.met.M.Consistency.lawful in
+    let e : Engine = record { number = i.events; from = i.from.0; target = i.target.0; patches = i.patches; table = i.tasks; blames = i.blames } in
+    let event = move_event c.args.kind c.args.task in
+    let moved = put_in c.mode.result in
+    let own : own_effect rules.child_group (suc e.number) event (standings e.table) ≡ change c.args.task.0 moved (standings e.table) = rw c.mode.ensures (move_effect rules.child_group (suc e.number) c.args.kind c.args.task (standings e.table)) in
+    let quiet = move_quiet c.args.kind c.args.task in
+    let taken = takes_change rules lawful e c.args.self.now c.set_mode.new.self i.waiting event c.args.task.0 moved c.self.view_is c.set_mode.ensures c.self.invariant.engine h c.requires.room quiet c.requires.accepted own (λ x. refl) (λ x. refl) in
+    let plain = quiet-control rules event quiet in
+    let left = leaves_changed rules lawful e c.args.self.now _ i.waiting i.waiting event c.self.view_is c.self.invariant.engine c.self.invariant.blamed taken c.requires.accepted plain refl c.args.task.0 moved own (λ x. refl) (λ x. refl) (λ x frame there. there) in
+    record {
+      core =
+          core_changes rules e c.args.self.now _ i.waiting i.waiting event i.unchanged c.touch.new.self c.self.view_is c.self.invariant.core taken c.requires.accepted
+          c.touch.ensures.kind c.args.task.0 moved plain (c.touch.ensures.changed, c.touch.ensures.may_refuse) (move_touches c.args.kind c.args.task) own (λ x. refl);
+      groups = c.self.invariant.groups;
+      blamed = left.blamed;
+    }
+
+pub returns-clause-state : goal.returns-clause-state
+returns-clause-state g c =
+    let h : c.args.task.0 < 65536 = omega arith in
+    let i = c.self.inside in
+    let rules = g.M.Consistency.rules in
+    let lawful = g.met.M.Consistency.lawful in
+    let e : Engine = record { number = i.events; from = i.from.0; target = i.target.0; patches = i.patches; table = i.tasks; blames = i.blames } in
+    let event = move_event c.args.kind c.args.task in
+    let moved = put_in c.mode.result in
+    let own : own_effect rules.child_group (suc e.number) event (standings e.table) ≡ change c.args.task.0 moved (standings e.table) = rw c.mode.ensures (move_effect rules.child_group (suc e.number) c.args.kind c.args.task (standings e.table)) in
+    let quiet = move_quiet c.args.kind c.args.task in
+    let taken = takes_change rules lawful e c.args.self.now c.set_mode.new.self i.waiting event c.args.task.0 moved c.self.view_is c.set_mode.ensures c.self.invariant.engine h c.requires.room quiet c.requires.accepted own (λ x. refl) (λ x. refl) in
+    taken.state
+
+pub returns-clause-blames : goal.returns-clause-blames
+returns-clause-blames g c =
+    let h : c.args.task.0 < 65536 = omega arith in
+    let i = c.self.inside in
+    let rules = g.M.Consistency.rules in
+    let lawful = g.met.M.Consistency.lawful in
+    let e : Engine = record { number = i.events; from = i.from.0; target = i.target.0; patches = i.patches; table = i.tasks; blames = i.blames } in
+    let event = move_event c.args.kind c.args.task in
+    let moved = put_in c.mode.result in
+    let own : own_effect rules.child_group (suc e.number) event (standings e.table) ≡ change c.args.task.0 moved (standings e.table) = rw c.mode.ensures (move_effect rules.child_group (suc e.number) c.args.kind c.args.task (standings e.table)) in
+    let quiet = move_quiet c.args.kind c.args.task in
+    let taken = takes_change rules lawful e c.args.self.now c.set_mode.new.self i.waiting event c.args.task.0 moved c.self.view_is c.set_mode.ensures c.self.invariant.engine h c.requires.room quiet c.requires.accepted own (λ x. refl) (λ x. refl) in
+    let plain = quiet-control rules event quiet in
+    let left = leaves_changed rules lawful e c.args.self.now _ i.waiting i.waiting event c.self.view_is c.self.invariant.engine c.self.invariant.blamed taken c.requires.accepted plain refl c.args.task.0 moved own (λ x. refl) (λ x. refl) (λ x frame there. there) in
+    left.after
