@@ -11,6 +11,7 @@ use Rattle.lp_transition.specs.declared.event.Event.TheVariants.{Call, Ret, Slee
 use Rattle.lp_transition.specs.declared.refusal.Refusal.{Refusal}
 use Rattle.lp_transition.specs.declared.reply.Reply.{Reply}
 use Rattle.lp_transition.specs.Events.{is_control}
+use Rattle.lp_transition.specs.Plain.{is_plain}
 use Rattle.lp_transition.specs.Tasks.{change}
 use Rattle.lp_transition.specs.Leg.{Standing, State, each_live, each_task}
 use Rattle.lp_transition.specs.Run.{Run, and_then, leg_of, opens, switched, plus}
@@ -26,7 +27,7 @@ use Rattle.lp_model.specs.declared.check.CheckKind.{CheckKind}
 use Rattle.lp_cert.specs.declared.line.Line.{Line}
 use Rattle.lp_cert.specs.Certificates.{lines}
 use Rattle.lp_cert.specs.declared.open_leg.OpenLeg.{OpenLeg}
-use Rattle.lp_cert.specs.Ends.{Made, IsMadeOf, is_opening, is_plain}
+use Rattle.lp_cert.specs.Ends.{Made, IsMadeOf, is_opening}
 use Rattle.lp_cert.specs.Invariant.{open_end}
 use Rattle.lp_cert.specs.inside.Invariant.{IsStepped}
 use Rattle.lp_cert.specs.Waiters.{WaitingGroups}

@@ -4,9 +4,8 @@ use Rattle.std.specs.List.{find}
 use Rattle.std.specs.Option.{option_map}
 use Rattle.lp_model.specs.Rules.{Rules}
 use Rattle.lp_transition.specs.declared.event.Event.{Event}
-use Rattle.lp_transition.specs.declared.event.Event.TheVariants.{Call}
 use Rattle.lp_transition.specs.Events.{is_control}
-use Rattle.lp_transition.specs.Weigh.{Weighed, is_silent, refusal_in}
+use Rattle.lp_transition.specs.Weigh.{Weighed, refusal_in}
 use Rattle.lp_transition.specs.Leg.{Leg}
 use Rattle.lp_transition.specs.Run.{Run, first_leg, leg_of, opens, next_leg}
 use Rattle.lp_transition.specs.Schedule.{waits, first_check}
@@ -69,11 +68,6 @@ is_complete_in None = false
 is_complete_in (Some leg) = is_some leg.completed
 
 -- ---- The legs of a run
-
--- an event that changes no certificate but how far it goes: a call, a return, a sleep, a wake-up or an entry into the kernel
-abbrev pub is_plain : Event → Bool
-is_plain (Call t f) = true
-is_plain event = is_silent event
 
 module _ (model : Rules) where
   -- how a leg ended

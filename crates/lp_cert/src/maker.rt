@@ -1,13 +1,14 @@
 //! The maker of certificates.
 ghost use Rattle.std.specs.Prelude.{◌≡◌, ◌+◌, ◌-◌, ◌<◌, [], ◌∷◌, ◌++◌, true, Some, None, Err, IsTrue, ◌↔◌, ◌≤◌, length, vec_len, vec_capacity, option_to_list, is_some, IfOk, IfSome, OnOk};
 ghost use Rattle.lp_transition.specs.Events.{is_control};
+ghost use Rattle.lp_transition.specs.Plain.{is_plain};
 ghost use Rattle.lp_transition.specs.Run.{Run, new_target, plus};
 ghost use Rattle.lp_transition.specs.Steps.{StandsIn};
 ghost use Rattle.lp_transition.specs.Table.{state_in};
 ghost use Rattle.lp_transition.specs.Weigh.{IsWeighed, may_allocate};
 ghost use Rattle.lp_transition.specs.Machine.{answer};
 ghost use Rattle.lp_transition.specs.declared.engine.step.Halt.TheVariants.{NoMemory, JournalFull};
-ghost use Rattle.lp_cert.specs.Ends.{IsFresh, IsMadeOf, floor_in, is_complete_in, is_opening, is_plain, room_for, waiting_in};
+ghost use Rattle.lp_cert.specs.Ends.{IsFresh, IsMadeOf, floor_in, is_complete_in, is_opening, room_for, waiting_in};
 ghost use Rattle.lp_cert.specs.LastScan.{Suffices};
 ghost use Rattle.lp_cert.specs.Invariant.{end_waiters};
 ghost use Rattle.lp_cert.specs.inside.Invariant.{HasClosing, HasFloor, HasFloors, IsClosing, IsStepped, IsUnchangedOn, ends_with, leg_at, waiting_cert};

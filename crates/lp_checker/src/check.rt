@@ -2,7 +2,7 @@
 ghost use Rattle.std.specs.Prelude.{◌≡◌, ◌⊎◌, true, None, Some, Ok, Err, IfOk, MatchResult};
 ghost use Rattle.lp_checker.specs.Folds.{leg_with};
 ghost use Rattle.lp_checker.specs.Laws.{Holds};
-ghost use Rattle.lp_checker.specs.Verdict.{no_leg, same_claim, verdict_on};
+ghost use Rattle.lp_checker.specs.Verdict.{no_leg, verdict_on};
 ghost use Rattle.lp_checker.specs.declared.fault.CertFault.TheVariants.{NoLeg};
 
 use crate::CertFault;
@@ -116,7 +116,7 @@ fn fault_of<M: Consistency>(
 fn is_no_leg<M: Consistency>(_model: M, leg: &GivenLeg<'_>, claim: Claim, cert: &Cert) -> bool
     ensures { result ≡ no_leg M.rules (leg_with leg.now.opening.now leg.now.events.now) claim cert.now }
 {
-    if !is_same_claim(cert.claim, claim) {
+    if cert.claim != claim {
         return true;
     }
     let number = leg.opening.number();
@@ -127,14 +127,4 @@ fn is_no_leg<M: Consistency>(_model: M, leg: &GivenLeg<'_>, claim: Claim, cert: 
         return true;
     }
     cert.upto - number > leg.events.len() as u64
-}
-
-/// Whether two claims are one.
-fn is_same_claim(one: Claim, other: Claim) -> bool
-    ensures { result ≡ same_claim one other }
-{
-    matches!(
-        (one, other),
-        (Claim::Waiting, Claim::Waiting) | (Claim::Floor, Claim::Floor)
-    )
 }

@@ -1,4 +1,5 @@
 pub mod Events
+pub mod Plain
 pub mod Tasks
 pub mod Leg
 pub mod Schedule

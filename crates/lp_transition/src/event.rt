@@ -1,6 +1,7 @@
 //! What happens to tasks and transitions.
 ghost use Rattle.std.specs.Prelude.{◌≡◌};
 ghost use Rattle.lp_transition.specs.Events.{is_control, is_scan};
+ghost use Rattle.lp_transition.specs.Plain.{is_plain};
 
 use lp_model::ForkKind;
 use lp_stack::TaskId;
@@ -56,6 +57,18 @@ impl Event {
         ensures { result ≡ is_control self.now }
     {
         matches!(self, Event::Enable | Event::Disable | Event::Reverse)
+    }
+
+    /// Whether the event is one of a single task at which no model checks it: Call, Ret, Sleep, Wake
+    /// or Enter.
+    #[inline(always)]
+    pub fn is_plain(&self) -> bool
+        ensures { result ≡ is_plain self.now }
+    {
+        matches!(
+            self,
+            Event::Call(..) | Event::Ret(_) | Event::Sleep(_) | Event::Wake(_) | Event::Enter(_)
+        )
     }
 }
 

@@ -1,7 +1,7 @@
 //! Which events are accepted. Control events are: in a leg they change nothing.
 ghost use Rattle.std.specs.Prelude.{◌≡◌, [], ◌∷◌, is_none};
 ghost use Rattle.lp_transition.specs.Table.{task_numbers, standings};
-ghost use Rattle.lp_transition.specs.Tasks.{first_of, tests, same_mode, same_class, unknown_task, not_of, not_in, stack_not_empty};
+ghost use Rattle.lp_transition.specs.Tasks.{first_of, tests, unknown_task, not_of, not_in, stack_not_empty};
 ghost use Rattle.lp_transition.specs.Machine.{outlines_of};
 
 use super::table::FoldedTable;
@@ -38,7 +38,7 @@ fn accepts_call(tasks: &FoldedTable, symbols: usize, task: TaskId, func: SymId) 
     if func.index() >= symbols {
         return false;
     }
-    if !same_mode(live.mode(), Mode::Kernel) {
+    if live.mode() != Mode::Kernel {
         return false;
     }
     if live.depth() >= MOST_FRAMES {
@@ -54,7 +54,7 @@ fn accepts_ret(tasks: &FoldedTable, symbols: usize, task: TaskId) -> bool
     let Some(live) = tasks.get(task) else {
         return false;
     };
-    if !same_mode(live.mode(), Mode::Kernel) {
+    if live.mode() != Mode::Kernel {
         return false;
     }
     if live.depth() == 0 {
@@ -70,7 +70,7 @@ fn accepts_mode(tasks: &FoldedTable, task: TaskId, mode: Mode) -> bool
     let Some(live) = tasks.get(task) else {
         return false;
     };
-    same_mode(live.mode(), mode)
+    live.mode() == mode
 }
 
 /// Whether entering the kernel is accepted.
@@ -80,10 +80,10 @@ fn accepts_enter(tasks: &FoldedTable, symbols: usize, task: TaskId) -> bool
     let Some(live) = tasks.get(task) else {
         return false;
     };
-    if !same_class(live.class(), Class::Normal) {
+    if live.class() != Class::Normal {
         return false;
     }
-    if !same_mode(live.mode(), Mode::User) {
+    if live.mode() != Mode::User {
         return false;
     }
     true
@@ -97,10 +97,10 @@ fn accepts_empty(tasks: &FoldedTable, task: TaskId, class: Class) -> bool
     let Some(live) = tasks.get(task) else {
         return false;
     };
-    if !same_class(live.class(), class) {
+    if live.class() != class {
         return false;
     }
-    if !same_mode(live.mode(), Mode::Kernel) {
+    if live.mode() != Mode::Kernel {
         return false;
     }
     live.depth() == 0
@@ -125,34 +125,11 @@ fn accepts_fork(
     if tasks.is_used(child) {
         return false;
     }
-    if !same_class(live.class(), Class::Normal) {
+    if live.class() != Class::Normal {
         return false;
     }
-    if !same_mode(live.mode(), Mode::Kernel) {
+    if live.mode() != Mode::Kernel {
         return false;
     }
     true
-}
-
-/// Whether two modes are the same.
-fn same_mode(mode: Mode, other: Mode) -> bool
-    ensures { result ≡ same_mode mode other }
-{
-    match (mode, other) {
-        (Mode::User, Mode::User) => true,
-        (Mode::Kernel, Mode::Kernel) => true,
-        (Mode::Asleep, Mode::Asleep) => true,
-        _ => false,
-    }
-}
-
-/// Whether two classes are the same.
-fn same_class(class: Class, other: Class) -> bool
-    ensures { result ≡ same_class class other }
-{
-    match (class, other) {
-        (Class::Normal, Class::Normal) => true,
-        (Class::Idle, Class::Idle) => true,
-        _ => false,
-    }
 }

@@ -1,18 +1,10 @@
 -- Events that switch nobody, whoever they are of. Only private clauses cite this file.
 use Rattle.std.specs.Prelude.{Bool, true, false, ◌&&◌, ◌||◌}
 use Rattle.lp_transition.specs.declared.event.Event.{Event}
-use Rattle.lp_transition.specs.declared.event.Event.TheVariants.{Call, Ret, Sleep, Wake, Enter, Exit, Idle}
+use Rattle.lp_transition.specs.declared.event.Event.TheVariants.{Exit, Idle}
+use Rattle.lp_transition.specs.Plain.{is_plain}
 use Rattle.lp_transition.specs.Leg.{State}
 use Rattle.lp_transition.specs.Machine.{complete_in}
-
--- the event moves one task and is no check
-abbrev pub is_plain : Event → Bool
-is_plain (Call t f) = true
-is_plain (Ret t) = true
-is_plain (Sleep t) = true
-is_plain (Wake t) = true
-is_plain (Enter t) = true
-is_plain _ = false
 
 -- the event is a check that a task makes alone
 abbrev pub is_point : Event → Bool

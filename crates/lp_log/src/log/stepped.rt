@@ -6,7 +6,7 @@ ghost use Rattle.lp_log.specs.declared.seat.Cause.TheVariants.{NotYours, Journal
 ghost use Rattle.lp_log.specs.Journals.{next_entry, reply_to, and_entry};
 ghost use Rattle.lp_log.specs.Logs.{AreSame};
 ghost use Rattle.lp_transition.specs.Table.{state_in};
-ghost use Rattle.lp_log.specs.inside.Plain.{is_calm, is_plain, is_point};
+ghost use Rattle.lp_log.specs.inside.Plain.{is_calm, is_point};
 
 use super::Log;
 use crate::Entry;
@@ -22,7 +22,7 @@ impl<M: Consistency> Log<M> {
     pub(super) fn is_calm(&self, event: Event) -> bool
         ensures { result ≡ is_calm (state_in self.now.core) event }
     {
-        is_plain(event) || (is_point(event) && !self.core.in_transition())
+        event.is_plain() || (is_point(event) && !self.core.in_transition())
     }
 
     /// Takes an event that switches nobody, and adds its entry to a list of the sender's too.
@@ -70,17 +70,6 @@ impl<M: Consistency> Log<M> {
             .push_reserved(Entry::new(number, event, copy_of(&reply)));
         reply
     }
-}
-
-/// Whether an event is no check, no fork, no death and no control event.
-#[inline(always)]
-fn is_plain(event: Event) -> bool
-    ensures { result ≡ is_plain event }
-{
-    matches!(
-        event,
-        Event::Call(..) | Event::Ret(_) | Event::Sleep(_) | Event::Wake(_) | Event::Enter(_)
-    )
 }
 
 /// Whether an event is a check that a task makes alone.

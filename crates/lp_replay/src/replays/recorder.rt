@@ -7,7 +7,7 @@ ghost use Rattle.lp_transition.specs.Scan.{is_scan_kind, scan_event};
 ghost use Rattle.lp_transition.specs.Stays.{stack};
 ghost use Rattle.lp_transition.specs.Steps.{IsStep, StandsIn};
 ghost use Rattle.lp_transition.specs.Table.{state_in};
-ghost use Rattle.lp_cert.specs.Ends.{IsMadeOf, is_plain};
+ghost use Rattle.lp_cert.specs.Ends.{IsMadeOf};
 ghost use Rattle.lp_replay.specs.Outcome.{run_of, IsOutcome};
 ghost use Rattle.lp_replay.specs.inside.Recording.{IsRecorded};
 
@@ -119,7 +119,7 @@ pub(super) fn take<M: Consistency>(
     ensures step { IfOk result (λ reply. IsStep M.rules (state_in core.old) event reply (state_in core.new)) }
     ensures made { OnOk result ((run : Run) → StandsIn M.rules run (state_in core.old) → IsMadeOf M.rules run maker.old → IsMadeOf M.rules (plus run event) maker.new) }
 {
-    if !is_plain(event) {
+    if !event.is_plain() {
         return take_other(alloc, core, maker, event);
     }
     maker.note_plain(core, event);
@@ -195,17 +195,6 @@ fn take_weighed<M: Consistency>(
     maker.ready(alloc, core, &step)?;
     maker.note(core, &step);
     Ok(core.take(step))
-}
-
-/// Whether an event is a call, a return, a sleep, a wake-up or an entry into the kernel.
-#[inline(always)]
-fn is_plain(event: Event) -> bool
-    ensures { result ≡ is_plain event }
-{
-    matches!(
-        event,
-        Event::Call(..) | Event::Ret(_) | Event::Sleep(_) | Event::Wake(_) | Event::Enter(_)
-    )
 }
 
 /// The function of the last frame of the task that returns at an event; None at any other event.

@@ -1,11 +1,11 @@
 //! Plain events of one task, which never allocate: each is weighed and taken in one, as no step has
 //! to stand between. They are nearly all events of a recording.
 ghost use Rattle.std.specs.Prelude.{◌≡◌, [], ◌<◌, true, None};
+ghost use Rattle.lp_transition.specs.Plain.{is_plain};
 ghost use Rattle.lp_transition.specs.Steps.{IsStep};
 ghost use Rattle.lp_transition.specs.Blames.{AreBlamesAfter};
 ghost use Rattle.lp_transition.specs.Table.{state_in};
 ghost use Rattle.lp_transition.specs.Machine.{refusal_of, answer, next};
-ghost use Rattle.lp_transition.specs.inside.Moves.{is_plain};
 
 use super::Core;
 use super::moves::Move;
