@@ -3,7 +3,7 @@ use Rattle.std.proofs.Common.{◌≡◌, ◌≢◌, ℕ, zero, suc, ◌+◌, ◌
 use Rattle.std.specs.Int.{bit_at, trailing_zeros}
 use Rattle.std.proofs.lemmas.Bool.{eqb-true, eqb-false, ne_eqb, cases_lt, false≢true}
 use Rattle.std.proofs.lemmas.Nat.{shr-shr, shr_below, and_le_l}
-use Rattle.std.proofs.lemmas.Nat.Bits.{bit_at-zero, bit_at-lt, bit_at_lowest, bit_at_above, bit_at_set_same, bit_at_set_other, bit_at_clear_same, bit_at_clear_other, bit_at-trailing_zeros, shr_and_one}
+use Rattle.std.proofs.lemmas.Nat.Bits.{bit_at-zero, bit_at-lt, bit_at_lowest, bit_at_above, bit_at_set_same, bit_at_set_other, bit_at_or, bit_at_clear_same, bit_at_clear_other, bit_at-trailing_zeros, shr_and_one}
 use Rattle.lp_numbers.specs.Numbers.{IsLeastFrom}
 use Rattle.lp_numbers.specs.Words.{word_has}
 
@@ -31,6 +31,27 @@ word_has-set word bit k h = by (k == bit) refl
     by : (b : Bool) → (k == bit) ≡ b → word_has (bit_or word (1 * 2 ^ bit % 2 ^ 64)) k ≡ (if b then true else word_has word k)
     by true e = rw (eqb-true k bit e) (has-one (bit_or word (1 * 2 ^ bit % 2 ^ 64)) bit (bit_at_set_same w64 word bit h))
     by false e = has-same (bit_or word (1 * 2 ^ bit % 2 ^ 64)) word k (bit_at_set_other w64 word bit h k (eqb-false k bit e))
+
+-- a bit of `word | other` that is none is a bit of neither
+pub word_has-neither : (word other k : ℕ) → word_has (bit_or word other) k ≡ false → (word_has word k ≡ false) × (word_has other k ≡ false)
+unfolding word_has
+word_has-neither word other k none =
+    let both = bit_at_or word other k in
+    let few = bit_at-lt word k in
+    let few_others = bit_at-lt other k in
+    let not_one = eqb-false (bit_at (bit_or word other) k) 1 none in
+    (has-none word k (omega arith), has-none other k (omega arith))
+
+-- `word | other` has no bit that neither has
+pub word_has-either_none : (word other k : ℕ) → word_has word k ≡ false → word_has other k ≡ false → word_has (bit_or word other) k ≡ false
+unfolding word_has
+word_has-either_none word other k none none_other =
+    let both = bit_at_or word other k in
+    let few = bit_at-lt word k in
+    let few_others = bit_at-lt other k in
+    let not_one = eqb-false (bit_at word k) 1 none in
+    let not_one_other = eqb-false (bit_at other k) 1 none_other in
+    has-none (bit_or word other) k (omega arith)
 
 -- `word & !(1 << bit)`, at the bits of a word
 word_has-clear : (word bit k : ℕ) → bit < 64 → k < 64 → word_has (bit_and word (2 ^ 64 - 1 - 1 * 2 ^ bit % 2 ^ 64)) k ≡ (if k == bit then false else word_has word k)

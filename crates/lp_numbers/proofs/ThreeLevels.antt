@@ -1,11 +1,11 @@
 -- Words, their summary and the word over it. A test names the words of a row that aren't 0: the bits of the
 -- summary name those of the words, and the bits of the word over it those of the summary.
-use Rattle.std.proofs.Common.{◌≡◌, ◌≢◌, ℕ, ◌+◌, ◌*◌, ◌/◌, ◌%◌, ◌^◌, ◌≤◌, ◌<◌, Bool, true, false, not, ◌==◌, if◌then◌else◌, ◌⊎◌, inl, inr, List, length, get_or, set, refl, sym, ◌∙◌, arith, get_or-set_same, get_or-set_other}
+use Rattle.std.proofs.Common.{◌≡◌, ◌≢◌, ℕ, ◌+◌, ◌*◌, ◌/◌, ◌%◌, ◌^◌, ◌≤◌, ◌<◌, Bool, true, false, not, ◌==◌, if◌then◌else◌, ◌⊎◌, inl, inr, List, bit_or, length, get_or, set, refl, sym, ◌∙◌, arith, get_or-set_same, get_or-set_other}
 use Rattle.std.proofs.lemmas.Bool.{cases_lt, cases_eq, ne_eqb, eq-eqb, eqb-true, not-false, not-true, false≢true}
 use Rattle.std.proofs.lemmas.List.{get_or_past, length-set}
 use Rattle.lp_numbers.specs.Numbers.{IsLeastFrom}
 use Rattle.lp_numbers.specs.Words.{word_has, row_has, IsThreeLevel}
-use Rattle.lp_numbers.proofs.Bits.{word_has-zero, word-zero}
+use Rattle.lp_numbers.proofs.Bits.{word_has-zero, word_has-neither, word_has-either_none, word-zero}
 use Rattle.lp_numbers.proofs.Rows.{row_has-at, row_has-zero}
 
 -- a word that isn't named is 0
@@ -152,3 +152,22 @@ three_level-none words summary top levels words_fit summary_fits top_fits none =
     let blank = blank-none words words_fit none in
     let blank_summary = blank-none summary summary_fits (λ i. levels.right i ∙ rw (blank i) refl) in
     word-zero top top_fits (λ i _. levels.high i ∙ rw (blank_summary i) refl)
+
+-- ---- Two sets
+
+-- there are 16 words in the summary
+top-few : (words summary : List ℕ) (top place : ℕ) → IsThreeLevel words summary top → 16 ≤ place → word_has top place ≡ false
+top-few words summary top place levels h = levels.high place ∙ rw (get_or_past summary place 0 (omega (arith, levels.summaries))) refl
+
+pub tops-few : (words summary : List ℕ) (top : ℕ) (others summary_others : List ℕ) (top_others place : ℕ) → IsThreeLevel words summary top → IsThreeLevel others summary_others top_others → 16 ≤ place → word_has (bit_or top top_others) place ≡ false
+tops-few words summary top others summary_others top_others place levels levels_others h = word_has-either_none top top_others place (top-few words summary top place levels h) (top-few others summary_others top_others place levels_others h)
+
+-- a word that the word over the summary doesn't name is 0
+zero-unnamed_above : (words summary : List ℕ) (top i : ℕ) → IsThreeLevel words summary top → word_has top (i / 64) ≡ false → get_or words i 0 ≡ 0
+zero-unnamed_above words summary top i levels none = zero-unnamed (row_has summary) words levels.right i (none-unnamed (word_has top) summary levels.high i none)
+
+-- words that neither of them names are equal
+pub same-unnamed : (words summary : List ℕ) (top : ℕ) (others summary_others : List ℕ) (top_others i : ℕ) → IsThreeLevel words summary top → IsThreeLevel others summary_others top_others → word_has (bit_or top top_others) (i / 64) ≡ false → get_or words i 0 ≡ get_or others i 0
+same-unnamed words summary top others summary_others top_others i levels levels_others none =
+    let neither = word_has-neither top top_others (i / 64) none in
+    zero-unnamed_above words summary top i levels neither.0 ∙ sym (zero-unnamed_above others summary_others top_others i levels_others neither.1)

@@ -54,6 +54,35 @@ fn clear_named(words: &mut [u64], place: usize, named: u64)
     }
 }
 
+/// Makes the words equal to others, which they are already where a word over the summary doesn't name
+/// them.
+pub(crate) fn copy_blocks(words: &mut [u64], others: &[u64], named: u64)
+    requires count { length words.old ≡ 1024 }
+    requires others { length others.now ≡ 1024 }
+    requires few { (place : ℕ) → 16 ≤ place → word_has named place ≡ false }
+    requires rest { (i : ℕ) → word_has named (i / 64) ≡ false → slice_index words.old i ≡ slice_index others.now i }
+    ensures { words.new ≡ others.now }
+{
+    let mut rest = named;
+    while rest != 0 {
+        let place = lowest_bit(rest);
+        copy_block(words, others, place);
+        rest = without_bit(rest, place);
+    }
+}
+
+/// Makes the words equal to others that one word of the summary is over.
+fn copy_block(words: &mut [u64], others: &[u64], place: usize)
+    requires count { length words.old ≡ 1024 }
+    requires others { length others.now ≡ 1024 }
+    requires within { place < 16 }
+    ensures here { (i : ℕ) → i / 64 ≡ place → slice_index words.new i ≡ slice_index others.now i }
+    ensures rest { (i : ℕ) → i / 64 ≢ place → slice_index words.new i ≡ slice_index words.old i }
+{
+    let first = place * 64;
+    words[first..first + 64].copy_from_slice(&others[first..first + 64]);
+}
+
 /// Whether each word is 0.
 pub(crate) fn is_blank(words: &[u64], summary: &[u64], top: u64) -> bool
     requires { IsThreeLevel words.now summary.now top }

@@ -119,12 +119,16 @@ impl NumberSet {
         self.top = 0;
     }
 
-    /// Makes the set equal to another, at the cost of the whole set.
+    /// Makes the set equal to another, at the cost of the parts in which either has a member.
     pub fn copy_from(&mut self, other: &NumberSet)
         ensures same { self.new ≡ other.now }
         ensures numbers { length self.new ≡ 65536 }
     {
-        self.words.copy_from_slice(other.words.as_slice());
+        levels::copy_blocks(
+            self.words.as_mut_slice(),
+            other.words.as_slice(),
+            self.top | other.top,
+        );
         self.summary.copy_from_slice(other.summary.as_slice());
         self.top = other.top;
     }
