@@ -1,16 +1,16 @@
 -- The table by its records and the deep stacks.
-use Rattle.std.proofs.Common.{◌≡◌, ◌≢◌, ℕ, zero, suc, ◌<◌, true, false, not, ◌&&◌, ◌||◌, List, [], ◌∷◌, ◌++◌, length, get_or, set, Option, None, Some, if◌then◌else◌, nat_eq, refl, sym, ap, ap₂, subst, ◌∙◌, ⊎_elim, arith}
+use Rattle.std.proofs.Common.{◌≡◌, ◌≢◌, ℕ, zero, suc, ◌<◌, ◌≤◌, true, false, not, ◌&&◌, ◌||◌, List, [], ◌∷◌, ◌++◌, length, get_or, set, Option, None, Some, if◌then◌else◌, nat_eq, refl, sym, ap, ap₂, subst, ◌∙◌, ⊎_elim, arith}
 use Rattle.std.proofs.lemmas.Bool.{cases_eq, eq-eqb, ne_eqb, cond-true, cond-false}
-use Rattle.std.proofs.lemmas.List.{length-map, length-set, get_or-set_same, get_or-set_other, ext_get_or, take_at, take-append-le, length-append}
+use Rattle.std.proofs.lemmas.List.{length-map, length-set, get_or-set_same, get_or-set_other, set-get_or, ext_get_or, take_at, take-append-le, length-append}
 use Rattle.std.specs.Global.{Box}
 use Rattle.std.specs.Option.{ForSome, option_map}
 use Rattle.lp_stack.specs.declared.frame.Frame.{Frame}
 use Rattle.lp_numbers.specs.Numbers.{Numbers, has}
 use Rattle.lp_numbers.specs.Groups.{Groups, is_member}
 use Rattle.lp_transition.specs.Leg.{Standing}
-use Rattle.lp_transition.specs.inside.Slots.{slots_of, IsTable}
-use Rattle.lp_transition.specs.inside.Deep.{deep_or, with_deep, with_stacks, own_frames, IsRecorded, IsLowest, IsKept}
-use Rattle.lp_transition.proofs.SlotLemmas.{boxed, slot-boxed, slots_of-set, IsTable-empty, IsTable-change, IsTable-put, IsTable-remove}
+use Rattle.lp_transition.specs.inside.Slots.{slots_of, padded, IsTable}
+use Rattle.lp_transition.specs.inside.Deep.{deep_or, with_deep, with_stacks, own_frames, IsRecorded, IsLowest, IsKept, IsStored}
+use Rattle.lp_transition.proofs.SlotLemmas.{boxed, slot-boxed, slots_of-set, padded-made, padded-set, padded-past, IsTable-empty, IsTable-change, IsTable-put, IsTable-remove}
 
 -- ---- A frame more on a deep stack
 
@@ -138,28 +138,38 @@ module _ (records : List (Option Standing)) (deep : ℕ → Option (List Frame))
 
 -- ---- The same where the records stand in boxes
 
-module _ (boxes : List (Option (Box Standing))) (deep : ℕ → Option (List Frame)) (live used : Numbers) (members : Groups) (kept : IsKept (slots_of boxes) deep live used members) (t : ℕ) (small : t < 65536) (old : Option (Box Standing)) (is_old : old ≡ get_or boxes t old) where
-  there : get_or (slots_of boxes) t None ≡ boxed old
-  there = slot-boxed boxes t old (omega (arith, small, kept.records_wide, length-map boxes boxed)) is_old
+module _ (boxes : List (Option (Box Standing))) (capacity : ℕ) (deep : ℕ → Option (List Frame)) (live used : Numbers) (members : Groups) (stored : IsStored boxes capacity deep live used members) (t : ℕ) (made : t < length boxes) (old : Option (Box Standing)) (is_old : old ≡ get_or boxes t old) where
+  small : t < 65536
+  small = omega (arith, made, stored.few)
+
+  there : get_or (slots_of (padded boxes)) t None ≡ boxed old
+  there = slot-boxed (padded boxes) t old (omega (arith, small, stored.kept.records_wide, length-map (padded boxes) boxed)) (padded-made boxes t old made is_old)
 
   -- what the record in the box keeps
   pub box-recorded : IsRecorded (boxed old) (deep t)
-  box-recorded = subst (λ o. IsRecorded o (deep t)) there (kept.recorded t)
+  box-recorded = subst (λ o. IsRecorded o (deep t)) there (stored.kept.recorded t)
 
   -- the task by the record in the box
-  pub box-task : get_or (with_stacks (slots_of boxes) deep) t None ≡ with_deep (boxed old) (deep t)
-  box-task = task-with_stacks (slots_of boxes) deep t ∙ ap (λ o. with_deep o (deep t)) there
+  pub box-task : get_or (with_stacks (slots_of (padded boxes)) deep) t None ≡ with_deep (boxed old) (deep t)
+  box-task = task-with_stacks (slots_of (padded boxes)) deep t ∙ ap (λ o. with_deep o (deep t)) there
 
   -- a live task is changed, and its deep stack
   module _ (new_deep : ℕ → Option (List Frame)) (others : (u : ℕ) → u ≢ t → new_deep u ≡ deep u) (new : Option (Box Standing)) (f : Standing → Standing) (is : with_deep (boxed new) (new_deep t) ≡ option_map f (with_deep (boxed old) (deep t))) where
-    as_recorded : with_deep (boxed new) (new_deep t) ≡ option_map f (with_deep (get_or (slots_of boxes) t None) (deep t))
+    as_recorded : with_deep (boxed new) (new_deep t) ≡ option_map f (with_deep (get_or (slots_of (padded boxes)) t None) (deep t))
     as_recorded = is ∙ ap (λ o. option_map f (with_deep o (deep t))) (sym there)
 
-    pub boxes-moved : with_stacks (slots_of (set boxes t new)) new_deep ≡ set (with_stacks (slots_of boxes) deep) t (option_map f (get_or (with_stacks (slots_of boxes) deep) t None))
-    boxes-moved = ap (λ records. with_stacks records new_deep) (slots_of-set boxes t new) ∙ tasks-changed (slots_of boxes) deep live used members kept t small new_deep others (boxed new) f as_recorded
+    moved : slots_of (padded (set boxes t new)) ≡ set (slots_of (padded boxes)) t (boxed new)
+    moved = ap slots_of (padded-set boxes t new made) ∙ slots_of-set (padded boxes) t new
 
-    pub kept-moved : ((x : Standing) → (f x).group ≡ x.group) → IsRecorded (boxed new) (new_deep t) → IsKept (slots_of (set boxes t new)) new_deep live used members
-    kept-moved stays mine = subst (λ records. IsKept records new_deep live used members) (sym (slots_of-set boxes t new)) (kept-changed (slots_of boxes) deep live used members kept t small new_deep others (boxed new) f as_recorded stays mine)
+    pub boxes-moved : with_stacks (slots_of (padded (set boxes t new))) new_deep ≡ set (with_stacks (slots_of (padded boxes)) deep) t (option_map f (get_or (with_stacks (slots_of (padded boxes)) deep) t None))
+    boxes-moved = ap (λ records. with_stacks records new_deep) moved ∙ tasks-changed (slots_of (padded boxes)) deep live used members stored.kept t small new_deep others (boxed new) f as_recorded
+
+    pub kept-moved : ((x : Standing) → (f x).group ≡ x.group) → IsRecorded (boxed new) (new_deep t) → IsStored (set boxes t new) capacity new_deep live used members
+    kept-moved stays mine = record {
+      few = omega (arith, length-set boxes t new, stored.few);
+      room = stored.room;
+      kept = subst (λ records. IsKept records new_deep live used members) (sym moved) (kept-changed (slots_of (padded boxes)) deep live used members stored.kept t small new_deep others (boxed new) f as_recorded stays mine);
+    }
 
   -- a live task is changed, but for its frames
   module _ (new : Option (Box Standing)) (f : Standing → Standing) (frames_stay : (x : Standing) → (f x).frames ≡ x.frames) (commutes : (x : Standing) (frames : List Frame) → record (f x) { frames = frames } ≡ f (record x { frames = frames })) (is : boxed new ≡ option_map f (boxed old)) where
@@ -179,8 +189,18 @@ module _ (boxes : List (Option (Box Standing))) (deep : ℕ → Option (List Fra
         at None (Some frames) r = r
         at (Some x) (Some frames) r = subst (λ own. IsLowest own frames) (sym (frames_stay x)) r
 
-    pub boxes-plain : with_stacks (slots_of (set boxes t new)) deep ≡ set (with_stacks (slots_of boxes) deep) t (option_map f (get_or (with_stacks (slots_of boxes) deep) t None))
+    pub boxes-plain : with_stacks (slots_of (padded (set boxes t new))) deep ≡ set (with_stacks (slots_of (padded boxes)) deep) t (option_map f (get_or (with_stacks (slots_of (padded boxes)) deep) t None))
     boxes-plain = boxes-moved deep (λ u ne. refl) new f as_moved
 
-    pub kept-plain : ((x : Standing) → (f x).group ≡ x.group) → IsKept (slots_of (set boxes t new)) deep live used members
+    pub kept-plain : ((x : Standing) → (f x).group ≡ x.group) → IsStored (set boxes t new) capacity deep live used members
     kept-plain stays = kept-moved deep (λ u ne. refl) new f as_moved stays still_recorded
+
+-- a number whose slot isn't made has no task, so a change of its task changes nothing
+module _ (boxes : List (Option (Box Standing))) (deep : ℕ → Option (List Frame)) (t : ℕ) (past : length boxes ≤ t) where
+  pub no_task-past : get_or (with_stacks (slots_of (padded boxes)) deep) t None ≡ None
+  no_task-past = task-with_stacks (slots_of (padded boxes)) deep t ∙ ap (λ o. with_deep o (deep t)) (padded-past boxes t past)
+
+  pub unchanged-past : (f : Standing → Standing) → with_stacks (slots_of (padded boxes)) deep ≡ set (with_stacks (slots_of (padded boxes)) deep) t (option_map f (get_or (with_stacks (slots_of (padded boxes)) deep) t None))
+  unchanged-past f =
+      let tasks = with_stacks (slots_of (padded boxes)) deep in
+      sym (ap (set tasks t) (ap (option_map f) no_task-past ∙ sym no_task-past) ∙ set-get_or tasks t None)

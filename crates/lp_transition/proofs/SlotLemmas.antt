@@ -1,14 +1,14 @@
 -- A table of boxes, and the live tasks that the boxes hold.
-use Rattle.std.proofs.Common.{◌≡◌, ℕ, zero, suc, [], ◌∷◌, ◌++◌, ◌<◌, Bool, true, false, not, ◌&&◌, ◌||◌, nat_eq, List, length, get_or, set, Option, Some, None, is_some, IfSome, IfNone, refl, sym, ap, ap₂, subst, ◌∙◌, ⊎_elim, arith}
+use Rattle.std.proofs.Common.{◌≡◌, ℕ, zero, suc, [], ◌∷◌, ◌++◌, ◌+◌, ◌-◌, ◌<◌, ◌≤◌, replicate, append_assoc, Bool, true, false, not, ◌&&◌, ◌||◌, nat_eq, List, length, get_or, set, Option, Some, None, is_some, IfSome, IfNone, refl, sym, ap, ap₂, subst, ◌∙◌, ⊎_elim, arith}
 use Rattle.std.proofs.lemmas.Bool.{cases_eq, eq-eqb, ne_eqb, and_right}
-use Rattle.std.proofs.lemmas.List.{map-set, get_or-map, length-set, get_or-set_same, get_or-set_other}
+use Rattle.std.proofs.lemmas.List.{map-set, map-append, get_or-map, get_or_append_left, get_or-append_right, set-append_left, length-map, length-append, length-replicate, length-set, get_or-set_same, get_or-set_other}
 use Rattle.std.specs.Global.{Box}
 use Rattle.std.specs.Option.{option_map}
 use Rattle.lp_stack.specs.declared.number.GroupId.{GroupId}
 use Rattle.lp_numbers.specs.Numbers.{Numbers, has}
 use Rattle.lp_numbers.specs.Groups.{Groups, is_member}
 use Rattle.lp_transition.specs.Leg.{Standing}
-use Rattle.lp_transition.specs.inside.Slots.{slots_of, IsTable}
+use Rattle.lp_transition.specs.inside.Slots.{slots_of, padded, IsTable}
 use Rattle.lp_transition.specs.inside.Table.{is_in}
 
 -- the live task in a box
@@ -22,6 +22,51 @@ slot-boxed boxes i box h e = get_or-map boxed boxes i box None h ∙ ap boxed (s
 -- another box stands in a slot
 pub slots_of-set : (boxes : List (Option (Box Standing))) (i : ℕ) (box : Option (Box Standing)) → slots_of (set boxes i box) ≡ set (slots_of boxes) i (boxed box)
 slots_of-set boxes i box = map-set boxed boxes i box
+
+-- ---- Slots that aren't made yet
+
+pub length-padded : (boxes : List (Option (Box Standing))) → length boxes ≤ 65536 → length (slots_of (padded boxes)) ≡ 65536
+unfolding padded
+length-padded boxes few = length-map (boxes ++ replicate (65536 - length boxes) None) boxed ∙ length-append boxes (replicate (65536 - length boxes) None) ∙ ap (λ n. length boxes + n) (length-replicate (65536 - length boxes) None) ∙ omega arith
+
+-- what a made slot holds
+pub padded-made : (boxes : List (Option (Box Standing))) (i : ℕ) (box : Option (Box Standing)) → i < length boxes → box ≡ get_or boxes i box → box ≡ get_or (padded boxes) i box
+unfolding padded
+padded-made boxes i box h e = e ∙ sym (get_or_append_left boxes (replicate (65536 - length boxes) None) box i h)
+
+-- another box stands in a made slot
+pub padded-set : (boxes : List (Option (Box Standing))) (i : ℕ) (box : Option (Box Standing)) → i < length boxes → padded (set boxes i box) ≡ set (padded boxes) i box
+unfolding padded
+padded-set boxes i box h = rw length-set (sym (set-append_left boxes (replicate (65536 - length boxes) None) i box h))
+
+-- one more slot is made
+pub padded-more : (boxes : List (Option (Box Standing))) → length boxes < 65536 → padded (boxes ++ None ∷ []) ≡ padded boxes
+unfolding padded
+padded-more boxes h =
+    let one : 65536 - length boxes ≡ suc (65536 - length (boxes ++ None ∷ [])) = omega (arith, length-append boxes (None ∷ [])) in
+    append_assoc boxes (None ∷ []) (replicate (65536 - length (boxes ++ None ∷ [])) None) ∙ ap (λ n. boxes ++ replicate n None) (sym one)
+
+-- no task is past the made slots
+none-replicate : (n i : ℕ) → get_or (slots_of (replicate n None)) i None ≡ None
+none-replicate zero i = refl
+none-replicate (suc n) zero = refl
+none-replicate (suc n) (suc i) = none-replicate n i
+
+pub padded-past : (boxes : List (Option (Box Standing))) (i : ℕ) → length boxes ≤ i → get_or (slots_of (padded boxes)) i None ≡ None
+unfolding padded
+padded-past boxes i h =
+    ap (λ (slots : List (Option Standing)). get_or slots i None) (map-append boxed boxes (replicate (65536 - length boxes) None))
+    ∙ get_or-append_right (slots_of boxes) (slots_of (replicate (65536 - length boxes) None)) (length boxes) i None (length-map boxes boxed) h
+    ∙ none-replicate (65536 - length boxes) (i - length boxes)
+
+-- what stands for the boxes stands for the slots
+pub padded-same : (boxes others : List (Option (Box Standing))) → slots_of boxes ≡ slots_of others → slots_of (padded boxes) ≡ slots_of (padded others)
+unfolding padded
+padded-same boxes others same =
+    let long : length boxes ≡ length others = sym (length-map boxes boxed) ∙ ap length same ∙ length-map others boxed in
+    map-append boxed boxes (replicate (65536 - length boxes) None)
+    ∙ ap₂ (λ (slots : List (Option Standing)) n. slots ++ slots_of (replicate (65536 - n) None)) same long
+    ∙ sym (map-append boxed others (replicate (65536 - length others) None))
 
 -- ---- What holds of a table still holds after a change
 
@@ -157,13 +202,6 @@ IsTable-remove slots live used members members_new i h wide removed table = reco
     empty = get_or-set_same slots i None None (omega (arith, table.slots_wide))
 
 -- ---- No task is there yet
-
--- one more empty box
-pub empty-more : (boxes : List (Option (Box Standing))) → ((t : ℕ) → get_or (slots_of boxes) t None ≡ None) → (t : ℕ) → get_or (slots_of (boxes ++ None ∷ [])) t None ≡ None
-empty-more [] h zero = refl
-empty-more [] h (suc t) = refl
-empty-more (box ∷ boxes) h zero = h zero
-empty-more (box ∷ boxes) h (suc t) = empty-more boxes (λ u. h (suc u)) t
 
 -- a table without tasks
 pub IsTable-empty : (slots : List (Option Standing)) (live used : Numbers) (members : Groups) → length slots ≡ 65536 → length used ≡ 65536 → ((t : ℕ) → get_or slots t None ≡ None) → ((t : ℕ) → has live t ≡ false) → ((group t : ℕ) → is_member members group t ≡ false) → IsTable slots live used members

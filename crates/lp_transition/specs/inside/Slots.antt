@@ -1,11 +1,15 @@
 -- How the table of tasks is kept.
-use Rattle.std.specs.Prelude.{◌≡◌, ℕ, true, List, Option, None, map, length, is_some, slice_index_or}
+use Rattle.std.specs.Prelude.{◌≡◌, ℕ, ◌-◌, ◌++◌, true, List, Option, None, map, length, replicate, is_some, slice_index_or}
 use Rattle.std.specs.Global.{Box}
 use Rattle.std.specs.Option.{option_map}
 use Rattle.lp_numbers.specs.Numbers.{Numbers, has}
 use Rattle.lp_numbers.specs.Groups.{Groups, is_member}
 use Rattle.lp_transition.specs.Leg.{Standing}
 use Rattle.lp_transition.specs.inside.Table.{is_in}
+
+-- a slot of each number, empty where none is made yet
+unfoldable pub padded : List (Option (Box Standing)) → List (Option (Box Standing))
+padded boxes = boxes ++ replicate (65536 - length boxes) None
 
 -- the live tasks that the boxes hold
 abbrev pub slots_of : List (Option (Box Standing)) → List (Option Standing)

@@ -1,9 +1,9 @@
 //! The live tasks by their numbers.
-ghost use Rattle.std.specs.Prelude.{◌≡◌, ℕ, ◌<◌, ◌≤◌, ◌&&◌, ◌||◌, false, not, length, nat_eq, true, None, IfSome, IfNone, IsTrue, ◌↔◌, is_some, IfOk};
+ghost use Rattle.std.specs.Prelude.{◌≡◌, ℕ, ◌<◌, ◌≤◌, ◌&&◌, ◌||◌, false, not, length, nat_eq, true, None, IfSome, IfNone, IsTrue, ◌↔◌, is_some, slice_set, vec_capacity, IfOk};
 ghost use Rattle.std.specs.Option.{ForSome, option_map};
 ghost use Rattle.lp_numbers.specs.Numbers.{has, IsNextFrom};
 ghost use Rattle.lp_numbers.specs.Groups.{is_member};
-ghost use Rattle.lp_transition.specs.inside.Slots.{slots_of};
+ghost use Rattle.lp_transition.specs.inside.Slots.{slots_of, padded};
 ghost use Rattle.lp_transition.specs.Tasks.{is_unused};
 ghost use Rattle.lp_transition.specs.Machine.{put_in, calling, returning};
 ghost use Rattle.lp_transition.specs.inside.Points.{at_point};
@@ -19,6 +19,9 @@ use std::alloc::{AllocError, Global};
 use std::marker::Model;
 
 /// The live tasks, and the numbers that were ever used. Only `new` and `copy` allocate.
+///
+/// There is room for a slot of each number, but slots are made only as far as the greatest number that
+/// was used: memory that nothing was written to costs nothing.
 #[derive(Drop)]
 pub(crate) struct TaskTable {
     slots: Vec<Option<Box<LiveTask>>>,
@@ -31,19 +34,19 @@ pub(crate) struct TaskTable {
 }
 
 impl Model for TaskTable {
-    ghost use Rattle.std.specs.Prelude.{◌≡◌, ℕ, List, Option, is_some, length, map};
+    ghost use Rattle.std.specs.Prelude.{◌≡◌, ℕ, List, Option, is_some, length, map, vec_capacity};
     ghost use Rattle.std.specs.Option.{option_map};
     ghost use Rattle.lp_numbers.specs.Numbers.{has};
     ghost use Rattle.lp_transition.specs.Leg.{Standing};
     ghost use Rattle.lp_transition.specs.Table.{Table, slot, IsWide};
-    ghost use Rattle.lp_transition.specs.inside.Slots.{slots_of, IsTable};
-    ghost use Rattle.lp_transition.specs.inside.Deep.{deep_at, with_stacks, IsKept};
+    ghost use Rattle.lp_transition.specs.inside.Slots.{slots_of, padded, IsTable};
+    ghost use Rattle.lp_transition.specs.inside.Deep.{deep_at, with_stacks, IsStored};
 
     ghost Value = { Table };
 
-    ghost view = { λ t. record { slots = with_stacks (slots_of t.slots.items) (deep_at t.deep); used = t.used } };
+    ghost view = { λ t. record { slots = with_stacks (slots_of (padded t.slots.items)) (deep_at t.deep); used = t.used } };
 
-    ghost invariant = { λ t. IsKept (slots_of t.slots.items) (deep_at t.deep) t.live t.used t.members };
+    ghost invariant = { λ t. IsStored t.slots.items (vec_capacity t.slots) (deep_at t.deep) t.live t.used t.members };
 }
 
 impl TaskTable {
@@ -55,12 +58,8 @@ impl TaskTable {
     pub(crate) fn new(alloc: Global) -> Result<Self, AllocError>
         ensures { IfOk result (λ table. IsBlank table) }
     {
-        let mut slots = Vec::with_capacity(alloc, NUMBERS)?;
-        while slots.len() < NUMBERS {
-            slots.push(None)?;
-        }
         Ok(TaskTable {
-            slots,
+            slots: Vec::with_capacity(alloc, NUMBERS)?,
             deep: DeepStacks::new(alloc)?,
             live: NumberSet::new(alloc)?,
             used: NumberSet::new(alloc)?,
@@ -75,7 +74,11 @@ impl TaskTable {
         ensures wide { IsWide self.now }
         ensures known { IsKnown self.now task.0 }
     {
-        match &self.slots[usize::from(task.0)] {
+        let at = usize::from(task.0);
+        if at >= self.slots.len() {
+            return None;
+        }
+        match &self.slots[at] {
             Some(live) => Some(live.view(&self.deep, task)),
             None => None,
         }
@@ -163,7 +166,9 @@ impl TaskTable {
         ensures { self.new ≡ with_task task.0 live.value self.old }
     {
         self.members.insert(live.group().0, task.0);
-        self.slots[usize::from(task.0)] = Some(live);
+        let at = usize::from(task.0);
+        reach(&mut self.slots, at);
+        self.slots[at] = Some(live);
         self.live.insert(task.0);
         self.used.insert(task.0);
     }
@@ -176,7 +181,7 @@ impl TaskTable {
         let group = self.group_of(task);
         leave(&mut self.members, group, task);
         self.deep.remove(task);
-        self.slots[usize::from(task.0)] = None;
+        empty(&mut self.slots, task);
         self.live.remove(task.0);
     }
 
@@ -186,7 +191,11 @@ impl TaskTable {
         requires { ForSome (slot self.old task.0) (λ x. length x.frames < 100) }
         ensures { self.new ≡ changed task.0 (calling serial func) self.old }
     {
-        if let Some(live) = &mut self.slots[usize::from(task.0)] {
+        let at = usize::from(task.0);
+        if at >= self.slots.len() {
+            return;
+        }
+        if let Some(live) = &mut self.slots[at] {
             live.call(&mut self.deep, task, func, serial);
         }
     }
@@ -196,7 +205,11 @@ impl TaskTable {
     pub(crate) fn ret(&mut self, task: TaskId)
         ensures { self.new ≡ changed task.0 returning self.old }
     {
-        if let Some(live) = &mut self.slots[usize::from(task.0)] {
+        let at = usize::from(task.0);
+        if at >= self.slots.len() {
+            return;
+        }
+        if let Some(live) = &mut self.slots[at] {
             live.ret(&mut self.deep, task);
         }
     }
@@ -206,7 +219,11 @@ impl TaskTable {
     pub(crate) fn set_mode(&mut self, task: TaskId, mode: Mode)
         ensures { self.new ≡ changed task.0 (put_in mode) self.old }
     {
-        if let Some(live) = &mut self.slots[usize::from(task.0)] {
+        let at = usize::from(task.0);
+        if at >= self.slots.len() {
+            return;
+        }
+        if let Some(live) = &mut self.slots[at] {
             live.set_mode(mode);
         }
     }
@@ -215,7 +232,11 @@ impl TaskTable {
     pub(crate) fn reach_point(&mut self, kind: CheckKind, task: TaskId)
         ensures { self.new ≡ changed task.0 (at_point kind) self.old }
     {
-        if let Some(live) = &mut self.slots[usize::from(task.0)] {
+        let at = usize::from(task.0);
+        if at >= self.slots.len() {
+            return;
+        }
+        if let Some(live) = &mut self.slots[at] {
             live.reach_point(kind);
         }
     }
@@ -224,7 +245,11 @@ impl TaskTable {
     pub(crate) fn set_level(&mut self, task: TaskId, level: Level)
         ensures { self.new ≡ changed task.0 (λ x. record x { level = level.0 }) self.old }
     {
-        if let Some(live) = &mut self.slots[usize::from(task.0)] {
+        let at = usize::from(task.0);
+        if at >= self.slots.len() {
+            return;
+        }
+        if let Some(live) = &mut self.slots[at] {
             live.set_level(level);
         }
     }
@@ -254,19 +279,48 @@ fn leave(members: &mut Members, group: Option<GroupId>, task: TaskId)
     }
 }
 
-/// A copy of each slot.
+/// Makes the slots up to this one, without a task where they are new.
+fn reach(slots: &mut Vec<Option<Box<LiveTask>>>, at: usize)
+    requires within { at < 65536 }
+    requires room { 65536 ≤ vec_capacity slots.old }
+    requires few { length slots.old.items ≤ 65536 }
+    ensures same { padded slots.new.items ≡ padded slots.old.items }
+    ensures room { vec_capacity slots.new ≡ vec_capacity slots.old }
+    ensures few { length slots.new.items ≤ 65536 }
+    ensures reached { at < length slots.new.items }
+{
+    while slots.len() <= at {
+        slots.push_reserved(None);
+    }
+}
+
+/// Takes the record out of a task's slot, if the slot is made.
+fn empty(slots: &mut Vec<Option<Box<LiveTask>>>, task: TaskId)
+    requires { length slots.old.items ≤ 65536 }
+    ensures emptied { slots_of (padded slots.new.items) ≡ slice_set (slots_of (padded slots.old.items)) task.0 None }
+    ensures room { vec_capacity slots.new ≡ vec_capacity slots.old }
+    ensures few { length slots.new.items ≤ 65536 }
+{
+    if let Some(slot) = slots.get_mut(usize::from(task.0)) {
+        *slot = None;
+    }
+}
+
+/// A copy of each slot, with room for one of each number.
 fn copied_slots(
     alloc: Global,
     slots: &[Option<Box<LiveTask>>],
 ) -> Result<Vec<Option<Box<LiveTask>>>, AllocError>
-    ensures { IfOk result (λ copied. slots_of copied.items ≡ slots_of slots.now) }
+    requires { length slots.now ≤ 65536 }
+    ensures same { IfOk result (λ copied. slots_of copied.items ≡ slots_of slots.now) }
+    ensures room { IfOk result (λ copied. 65536 ≤ vec_capacity copied) }
 {
-    let mut copied = Vec::with_capacity(alloc, slots.len())?;
+    let mut copied = Vec::with_capacity(alloc, NUMBERS)?;
     for slot in slots {
-        copied.push(match slot {
+        copied.push_reserved(match slot {
             Some(live) => Some(Box::new(alloc, live.copy())?),
             None => None,
-        })?;
+        });
     }
     Ok(copied)
 }
