@@ -1,8 +1,17 @@
 -- How the members of groups are kept: the first member of each group, and the next one and the one before it of each member.
 -- Only private clauses cite this file.
-use Rattle.std.specs.Prelude.{◌≡◌, ℕ, zero, suc, ◌<◌, Bool, true, false, List, [], ◌∷◌, length, map, if◌then◌else◌, nat_eq, slice_index}
+use Rattle.std.specs.Prelude.{◌≡◌, ℕ, zero, suc, ◌-◌, ◌<◌, ◌≤◌, Bool, true, false, List, [], ◌∷◌, ◌++◌, length, map, replicate, if◌then◌else◌, nat_eq, slice_index}
 use Rattle.std.specs.List.{list_any}
 use Rattle.lp_numbers.specs.Groups.{Groups}
+
+-- the links of all numbers, 0 where none is written yet
+unfoldable pub all_links : List ℕ → List ℕ
+all_links links = links ++ replicate (65536 - length links) 0
+
+-- no more links than numbers, and room for one of each
+pub record HasLinks (links : List ℕ) (capacity : ℕ) : Type 0 where
+  pub few : length links ≤ 65536
+  pub room : 65536 ≤ capacity
 
 -- whether a number is in a list
 abbrev pub among : ℕ → List ℕ → Bool

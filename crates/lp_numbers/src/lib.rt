@@ -2,6 +2,7 @@
 #![tactic(auto)]
 
 mod levels;
+mod link_table;
 mod members;
 mod row;
 mod set;

@@ -6,7 +6,8 @@ ghost use Rattle.lp_numbers.specs.Groups.{is_member};
 ghost use Rattle.lp_numbers.specs.Numbers.{has};
 ghost use Rattle.lp_numbers.specs.Links.{among, list_from, IsLinked};
 
-use crate::set::{NUMBERS, NumberSet};
+use crate::link_table::LinkTable;
+use crate::set::NumberSet;
 use std::alloc::{AllocError, Global};
 use std::marker::Model;
 
@@ -20,11 +21,11 @@ use std::marker::Model;
 #[derive(Drop)]
 pub struct Members {
     /// The first member of each group; 0 where it has none.
-    first: Vec<u16>,
+    first: LinkTable,
     /// The member after each member; 0 after the last. What stands at other numbers means nothing.
-    next: Vec<u16>,
+    next: LinkTable,
     /// The member before each member; 0 before the first. What stands at other numbers means nothing.
-    before: Vec<u16>,
+    before: LinkTable,
 }
 
 impl Model for Members {
@@ -33,9 +34,9 @@ impl Model for Members {
 
     ghost Value = { Groups };
 
-    ghost view = { λ m. groups_of m.first.items m.next.items };
+    ghost view = { λ m. groups_of m.first m.next };
 
-    ghost invariant = { λ m. IsLinked m.first.items m.next.items m.before.items };
+    ghost invariant = { λ m. IsLinked m.first m.next m.before };
 }
 
 impl Members {
@@ -44,9 +45,9 @@ impl Members {
         ensures { IfOk result (λ members. (group n : ℕ) → is_member members group n ≡ false) }
     {
         Ok(Members {
-            first: zeros(alloc, NUMBERS)?,
-            next: zeros(alloc, NUMBERS)?,
-            before: zeros(alloc, NUMBERS)?,
+            first: LinkTable::new(alloc)?,
+            next: LinkTable::new(alloc)?,
+            before: LinkTable::new(alloc)?,
         })
     }
 
@@ -55,9 +56,9 @@ impl Members {
         ensures { IfOk result (λ copied. copied ≡ self.now) }
     {
         Ok(Members {
-            first: Vec::from_slice(alloc, self.first.as_slice())?,
-            next: Vec::from_slice(alloc, self.next.as_slice())?,
-            before: Vec::from_slice(alloc, self.before.as_slice())?,
+            first: self.first.copy(alloc)?,
+            next: self.next.copy(alloc)?,
+            before: self.before.copy(alloc)?,
         })
     }
 
@@ -65,49 +66,41 @@ impl Members {
     pub fn is_empty_group(&self, group: u16) -> bool
         ensures { IsTrue result ↔ ((n : ℕ) → is_member self.now group n ≡ false) }
     {
-        self.first[usize::from(group)] == 0
+        self.first.get(group) == 0
     }
 
     /// Whether a number is in a group and no other number is, in constant time.
     pub fn is_only(&self, group: u16, number: u16) -> bool
         ensures { IsTrue result ↔ ((n : ℕ) → is_member self.now group n ≡ nat_eq n number) }
     {
-        if self.first[usize::from(group)] != number {
+        if self.first.get(group) != number {
             return false;
         }
         if number == 0 {
             return false;
         }
-        self.next[usize::from(number)] == 0
+        self.next.get(number) == 0
     }
 
     /// Whether a group has more members than a number says, at the cost of at most so many of them.
     pub fn has_more_than(&self, group: u16, most: usize) -> bool
         ensures { IsTrue result ↔ (most < length (slice_index_or self.now group [])) }
     {
-        is_longer(
-            self.first.as_slice(),
-            self.next.as_slice(),
-            self.before.as_slice(),
-            group,
-            most,
-        )
+        is_longer(&self.first, &self.next, &self.before, group, most)
     }
 
-    /// Puts a number into a group, in constant time.
+    /// Puts a number into a group, in constant time but for links that are written for the first time.
     pub fn insert(&mut self, group: u16, number: u16)
         requires positive { 0 < number }
         requires free { (other : ℕ) → is_member self.old other number ≡ false }
         ensures { (other n : ℕ) → is_member self.new other n ≡ (is_member self.old other n || (nat_eq other group && nat_eq n number)) }
     {
-        let place = usize::from(group);
-        let at = usize::from(number);
-        let head = self.first[place];
-        self.first[place] = number;
-        self.next[at] = head;
-        self.before[at] = 0;
+        let head = self.first.get(group);
+        self.first.put(group, number);
+        self.next.put(number, head);
+        self.before.put(number, 0);
         // Where there was no member, this is the place of no number.
-        self.before[usize::from(head)] = number;
+        self.before.put(head, number);
     }
 
     /// Takes a number out of its group, in constant time.
@@ -115,66 +108,63 @@ impl Members {
         requires { is_member self.old group number ≡ true }
         ensures { (other n : ℕ) → is_member self.new other n ≡ (is_member self.old other n && not (nat_eq n number)) }
     {
-        let at = usize::from(number);
-        let before = self.before[at];
-        let next = self.next[at];
+        let before = self.before.get(number);
+        let next = self.next.get(number);
         if before == 0 {
-            self.first[usize::from(group)] = next;
+            self.first.put(group, next);
         }
         // Where none is before or after it, these are the places of no number.
-        self.next[usize::from(before)] = next;
-        self.before[usize::from(next)] = before;
+        self.next.put(before, next);
+        self.before.put(next, before);
     }
 
     /// Adds the members of a group to a set, at the cost of these members.
     pub fn add_to(&self, group: u16, set: &mut NumberSet)
         ensures { (n : ℕ) → has set.new n ≡ (has set.old n || is_member self.now group n) }
     {
-        add_list(
-            self.first.as_slice(),
-            self.next.as_slice(),
-            self.before.as_slice(),
-            group,
-            set,
-        );
+        add_list(&self.first, &self.next, &self.before, group, set);
     }
 }
 
-/// A table of as many zeros as are asked for.
-fn zeros(alloc: Global, count: usize) -> Result<Vec<u16>, AllocError>
-    ensures zero { IfOk result (λ table. (n : ℕ) → slice_index table.items n ≡ 0) }
-    ensures count { IfOk result (λ table. length table.items ≡ count) }
-{
-    vec![in alloc; 0; count]
-}
-
 /// Adds the members of a group to a set.
-fn add_list(first: &[u16], next: &[u16], before: &[u16], group: u16, set: &mut NumberSet)
+fn add_list(
+    first: &LinkTable,
+    next: &LinkTable,
+    before: &LinkTable,
+    group: u16,
+    set: &mut NumberSet,
+)
     requires { IsLinked first.now next.now before.now }
     ensures { (n : ℕ) → has set.new n ≡ (has set.old n || among n (list_from next.now (slice_index first.now group))) }
 {
     let _ = before;
-    let mut at = first[usize::from(group)];
+    let mut at = first.get(group);
     while at != 0 {
         set.insert(at);
-        at = next[usize::from(at)];
+        at = next.get(at);
     }
 }
 
 /// Whether a group has more members than a number says.
-fn is_longer(first: &[u16], next: &[u16], before: &[u16], group: u16, most: usize) -> bool
+fn is_longer(
+    first: &LinkTable,
+    next: &LinkTable,
+    before: &LinkTable,
+    group: u16,
+    most: usize,
+) -> bool
     requires { IsLinked first.now next.now before.now }
     ensures { IsTrue result ↔ (most < length (list_from next.now (slice_index first.now group))) }
 {
     let _ = before;
-    let mut at = first[usize::from(group)];
+    let mut at = first.get(group);
     let mut left = most;
     while at != 0 {
         if left == 0 {
             return true;
         }
         left -= 1;
-        at = next[usize::from(at)];
+        at = next.get(at);
     }
     false
 }
