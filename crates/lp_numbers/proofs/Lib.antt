@@ -5,3 +5,4 @@ pub mod Sets
 pub mod LinkTables
 pub mod Chains
 pub mod Links
+pub mod Ascents

@@ -14,8 +14,8 @@ pub const NUMBERS: usize = 65_536;
 
 /// A set of 16-bit numbers, such as task numbers. Only `new` and `copy` allocate.
 ///
-/// A loop over the members, in increasing order, asks for the `next` from 0, and then from one
-/// above each member that it was given. So it costs what the members cost.
+/// A loop over the members, `for number in &set`, takes them in increasing order and costs what the
+/// members cost.
 ///
 /// Contracts see a list that says of each number whether it is a member.
 #[derive(Drop)]
