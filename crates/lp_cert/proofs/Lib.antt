@@ -22,6 +22,7 @@ pub mod UnchangedScans
 pub mod Completions
 pub mod Keeping
 pub mod Making
+pub mod Ending
 pub mod Noted
 pub mod Passed
 pub mod QuietScans

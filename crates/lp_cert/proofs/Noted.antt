@@ -31,12 +31,11 @@ use Rattle.lp_cert.specs.declared.line.Line.{Line}
 use Rattle.lp_cert.specs.declared.leg_end.LegEnd.{LegEnd}
 use Rattle.lp_cert.specs.declared.open_leg.Completion.{Completion}
 use Rattle.lp_cert.specs.declared.open_leg.OpenLeg.{OpenLeg}
-use Rattle.lp_cert.specs.declared.maker.Closing.{Closing}
 use Rattle.lp_cert.specs.declared.maker.Ready.{Ready}
 use Rattle.lp_cert.specs.Certificates.{lines, waiting_groups, waiting_certs, floor_certs, completion, certs_by}
 use Rattle.lp_cert.specs.Ends.{Made, IsMadeOf, Room, end_of, ended_legs, is_opening, under_way}
 use Rattle.lp_cert.specs.Invariant.{open_end, floor_waiters, room_of}
-use Rattle.lp_cert.specs.inside.Invariant.{ends_with, current_waiters, IfReady, IsReady, leg_at, IsStepped, IsUnchangedOn}
+use Rattle.lp_cert.specs.inside.Invariant.{IfReady, IsReady, leg_at, IsStepped, IsUnchangedOn}
 use Rattle.lp_cert.specs.Waiters.{WaitingGroups, kept_cert, waiters_of}
 use Rattle.lp_cert.specs.inside.Waiters.{HasFewGroups, has_off, lines_at}
 use Rattle.lp_cert.proofs.Completions.{past_floor, completion_opened, completion_below, certs_kept, completion_stays, completion_now, incomplete_if}
@@ -472,12 +471,8 @@ module _ (model : Rules) (lawful : IsLawful model) (run : Run) (e : Engine) (sta
 
 -- ---- What the maker needs of what it keeps
 
-pub ends_are : (noted : ℕ) (w : WaitingGroups) (current : Option OpenLeg) → ends_with noted current w.reasons.lists w.reasons.scans (current_waiters current w) ≡ option_to_list (option_map (open_end noted w) current)
-ends_are noted w None = refl
-ends_are noted w (Some leg) = refl
-
 -- there is room for the event
-pub ready_for : (current : Option OpenLeg) (w : WaitingGroups) (room : ℕ) (closing : Option Closing) (o : Option Ready) (ready : Ready) → IfReady current w room closing o → o ≡ Some ready → IsReady current w room closing ready
+pub ready_for : (current : Option OpenLeg) (w : WaitingGroups) (room : ℕ) (closing : Option (List Cert)) (o : Option Ready) (ready : Ready) → IfReady current w room closing o → o ≡ Some ready → IsReady current w room closing ready
 ready_for current w room closing o ready h is = subst (IfReady current w room closing) is h
 
 -- it is what was asked for, and opens a leg or doesn't

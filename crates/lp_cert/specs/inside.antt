@@ -4,6 +4,7 @@ pub mod GroupSet
 pub mod StepLines
 pub mod Heads
 pub mod Invariant
+pub mod Kept
 pub mod Parts
 pub mod LastScan
 pub mod Touched

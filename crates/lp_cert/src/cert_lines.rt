@@ -3,6 +3,7 @@ ghost use Rattle.std.specs.Prelude.{◌≡◌, ◌<◌, ◌≤◌, ◌++◌, [],
 ghost use Rattle.std.specs.List.{AllByRecursion};
 ghost use Rattle.lp_cert.specs.Heads.{lines_of};
 ghost use Rattle.lp_cert.specs.inside.Heads.{FitsIn};
+ghost use Rattle.lp_cert.specs.inside.Parts.{reasons_left};
 ghost use Rattle.lp_cert.specs.Parts.{busy_scan_lines};
 
 use crate::line::{Line, LineList};
@@ -43,7 +44,8 @@ impl BusyScans<'_> {
 pub struct CertLines<'a> {
     scans: &'a [u64],
     run: BusyScans<'a>,
-    reasons: OldestFirst<'a>,
+    /// None where there is none: a search needs much more room than this.
+    reasons: Option<OldestFirst<'a>>,
 }
 
 impl<'a> Model for CertLines<'a> {
@@ -52,13 +54,14 @@ impl<'a> Model for CertLines<'a> {
     ghost use Rattle.lp_cert.specs.declared.line.Line.{Line};
     ghost use Rattle.lp_cert.specs.Heads.{lines_of};
     ghost use Rattle.lp_cert.specs.inside.Heads.{FitsIn};
+    ghost use Rattle.lp_cert.specs.inside.Parts.{reasons_left};
     ghost use Rattle.lp_cert.specs.Parts.{busy_scan_lines};
 
     ghost Value = { List Line };
 
-    ghost view = { λ c. busy_scan_lines c.run ++ reverse (lines_of c.scans.now c.reasons) };
+    ghost view = { λ c. busy_scan_lines c.run ++ reverse (lines_of c.scans.now (reasons_left c.reasons)) };
 
-    ghost invariant = { λ c. AllByRecursion (FitsIn (length c.scans.now)) c.reasons };
+    ghost invariant = { λ c. AllByRecursion (FitsIn (length c.scans.now)) (reasons_left c.reasons) };
 }
 
 impl<'a> CertLines<'a> {
@@ -75,7 +78,22 @@ impl<'a> CertLines<'a> {
                 task: TaskId(0),
                 scans: none,
             },
-            reasons,
+            reasons: Some(reasons),
+        }
+    }
+
+    /// No line.
+    pub(crate) fn none() -> CertLines<'a>
+        ensures { result ≡ [] }
+    {
+        CertLines {
+            scans: &[],
+            run: BusyScans {
+                group: GroupId(0),
+                task: TaskId(0),
+                scans: &[],
+            },
+            reasons: None,
         }
     }
 
@@ -87,7 +105,7 @@ impl<'a> CertLines<'a> {
         if let Some(line) = self.run.next() {
             return Some(line);
         }
-        match self.reasons.next()? {
+        match next_reason(&mut self.reasons)? {
             Reason::One(line) => Some(line),
             Reason::Busy {
                 group,
@@ -111,6 +129,18 @@ impl<'a> CertLines<'a> {
             lines.push(line)?;
         }
         Ok(LineList::from_vec(lines))
+    }
+}
+
+/// The oldest reason that is left, which is no longer left then.
+#[inline(always)]
+fn next_reason(reasons: &mut Option<OldestFirst<'_>>) -> Option<Reason>
+    ensures reasons { reasons_left reasons.old ≡ reasons_left reasons.new ++ option_to_list result }
+    ensures none { IfNone result (reasons_left reasons.old ≡ []) }
+{
+    match reasons {
+        Some(left) => left.next(),
+        None => None,
     }
 }
 

@@ -1,5 +1,5 @@
 //! The reasons of a group as it waits.
-ghost use Rattle.std.specs.Prelude.{◌≡◌, ◌+◌, ◌<◌, ◌≤◌, [], ◌++◌, length, reverse, slice_index_or, option_to_list};
+ghost use Rattle.std.specs.Prelude.{◌≡◌, ◌+◌, ◌<◌, ◌≤◌, ℕ, List, [], ◌++◌, length, reverse, slice_index_or, option_to_list, IsTrue};
 ghost use Rattle.lp_cert.specs.Heads.{ongoing_reasons, head_lines};
 ghost use Rattle.lp_cert.specs.inside.Heads.{continues_after, reason_begun_by, IsHead, IsUsed, IsRefusedBy, IsBornBy, Keeps};
 
@@ -64,9 +64,23 @@ impl Head {
         requires { IsHead chains.now.lists (length scans.now) self }
         ensures { result ≡ reverse (head_lines chains.now.lists scans.now group self) }
     {
+        if self.is_bare(chains) {
+            return CertLines::none();
+        }
         let ongoing = ongoing_reason(scans, group, self.ongoing);
         let reasons = OldestFirst::new(chains, self.older, ongoing);
         CertLines::new(group, scans, reasons)
+    }
+
+    /// Whether there is no reason.
+    pub(crate) fn is_bare(self, chains: &Chains) -> bool
+        requires { self.older.0 < length chains.now.lists }
+        ensures { IsTrue result → (scans : List ℕ) (group : GroupId) → head_lines chains.now.lists scans group self ≡ [] }
+    {
+        match self.ongoing {
+            Ongoing::Nothing => chains.count(self.older) == 0,
+            _ => false,
+        }
     }
 
     /// The reasons as they stand, as a list. Never allocates.

@@ -1,15 +1,17 @@
 //! How a leg ended, with its certificates.
-ghost use Rattle.std.specs.Prelude.{◌≡◌, ◌<◌, ◌↔◌, [], Some, length, map, slice_get, IfOk, IsTrue};
+ghost use Rattle.std.specs.Prelude.{◌≡◌, ◌<◌, ◌↔◌, [], ◌∷◌, Some, length, map, slice_get, IfOk, IsTrue};
 ghost use Rattle.std.specs.Option.{option_map};
 ghost use Rattle.lp_cert.specs.Ends.{cert_head};
 ghost use Rattle.lp_cert.specs.Waiters.{kept_cert};
+ghost use Rattle.lp_cert.specs.inside.Kept.{up_to};
 ghost use Rattle.lp_cert.specs.inside.Waiters.{AreHeads};
 
 use crate::cert::{Cert, CertHead, Claim};
 use crate::cert_lines::CertLines;
 use crate::chains::Chains;
 use crate::head::Waiter;
-use lp_stack::Level;
+use crate::many_certs::ManyCerts;
+use lp_stack::{GroupId, Level};
 use std::alloc::{AllocError, Global};
 use std::marker::Model;
 
@@ -35,48 +37,89 @@ pub struct LegEnd {
 /// Contracts see the list.
 #[derive(Drop)]
 pub struct CertList {
+    kept: Kept,
+}
+
+/// The certificate of a group of which the leg has no reason.
+#[derive(Clone, Copy)]
+pub(crate) struct BareCert {
     claim: Claim,
-    leg: u64,
-    upto: u64,
-    waiters: Vec<Waiter>,
-    chains: Chains,
-    scans: Vec<u64>,
+    group: GroupId,
+    leg: u32,
+    upto: u32,
+}
+
+/// What is kept of the certificates of a leg. A run may have as many legs as events, and most short
+/// ones have no certificate or one without a line: these take no memory beside the leg's.
+#[derive(Drop)]
+pub(crate) enum Kept {
+    Nothing,
+    Bare(BareCert),
+    Many(Box<ManyCerts>),
 }
 
 impl Model for CertList {
-    ghost use Rattle.std.specs.Prelude.{List, length, map};
+    ghost use Rattle.std.specs.Prelude.{List};
     ghost use Rattle.lp_cert.specs.declared.cert.Cert.{Cert};
-    ghost use Rattle.lp_cert.specs.Waiters.{kept_cert};
-    ghost use Rattle.lp_cert.specs.inside.Waiters.{AreHeads};
+    ghost use Rattle.lp_cert.specs.inside.Kept.{certs_in};
 
     ghost Value = { List Cert };
 
-    ghost view = { λ c. map (kept_cert c.claim c.leg c.upto c.chains.lists c.scans.items) c.waiters.items };
-
-    ghost invariant = { λ c. AreHeads c.chains.lists (length c.scans.items) c.waiters.items };
+    ghost view = { λ c. certs_in c.kept };
 }
 
 impl CertList {
-    /// The certificates of these groups, over their older reasons and the scans of the leg. Never
-    /// allocates.
-    pub(crate) fn new(
+    /// No certificate. Never allocates.
+    pub(crate) fn none() -> CertList
+        ensures { result ≡ [] }
+    {
+        CertList {
+            kept: Kept::Nothing,
+        }
+    }
+
+    /// The certificate of a group without any reason. Never allocates.
+    pub(crate) fn bare(claim: Claim, leg: u32, upto: u32, group: GroupId) -> CertList
+        ensures { result ≡ record { claim = claim; leg = leg; group = group; upto = upto; lines = [] } ∷ [] }
+    {
+        CertList {
+            kept: Kept::Bare(BareCert {
+                claim,
+                group,
+                leg,
+                upto,
+            }),
+        }
+    }
+
+    /// The certificates of these groups, over their older reasons and the scans of the leg;
+    /// AllocError where an allocation failed.
+    pub(crate) fn many(
+        alloc: Global,
         claim: Claim,
-        leg: u64,
-        upto: u64,
+        leg: u32,
+        upto: u32,
         waiters: Vec<Waiter>,
         chains: Chains,
         scans: Vec<u64>,
-    ) -> CertList
+    ) -> Result<CertList, AllocError>
         requires { AreHeads chains.lists (length scans.items) waiters.items }
-        ensures { result ≡ map (kept_cert claim leg upto chains.lists scans.items) waiters.items }
+        ensures { IfOk result (λ certs. certs ≡ map (kept_cert claim leg upto chains.lists scans.items) waiters.items) }
     {
-        CertList {
-            claim,
-            leg,
-            upto,
-            waiters,
-            chains,
-            scans,
+        let many = ManyCerts::new(claim, leg, upto, waiters, chains, scans);
+        Ok(CertList {
+            kept: Kept::Many(Box::new(alloc, many)?),
+        })
+    }
+
+    /// Lets the certificates go up to another event. Never allocates.
+    pub(crate) fn go_up_to(&mut self, upto: u32)
+        ensures { self.new ≡ up_to upto self.old }
+    {
+        match &mut self.kept {
+            Kept::Nothing => {}
+            Kept::Bare(bare) => bare.upto = upto,
+            Kept::Many(many) => many.go_up_to(upto),
         }
     }
 
@@ -84,14 +127,18 @@ impl CertList {
     pub fn len(&self) -> usize
         ensures { result ≡ length self.now }
     {
-        self.waiters.len()
+        match &self.kept {
+            Kept::Nothing => 0,
+            Kept::Bare(_) => 1,
+            Kept::Many(many) => many.len(),
+        }
     }
 
     /// Whether there is no certificate.
     pub fn is_empty(&self) -> bool
         ensures { IsTrue result ↔ (self.now ≡ []) }
     {
-        self.waiters.is_empty()
+        self.len() == 0
     }
 
     /// The certificate at a place, from 0, if there are so many; AllocError where an allocation
@@ -99,7 +146,7 @@ impl CertList {
     pub fn cert(&self, alloc: Global, place: usize) -> Result<Option<Cert>, AllocError>
         ensures { IfOk result (λ found. found ≡ slice_get self.now place) }
     {
-        if place >= self.waiters.len() {
+        if place >= self.len() {
             return Ok(None);
         }
         let CertHead {
@@ -122,11 +169,15 @@ impl CertList {
         requires { place < length self.now }
         ensures { option_map cert_head (slice_get self.now place) ≡ Some result }
     {
-        CertHead {
-            claim: self.claim,
-            leg: self.leg,
-            group: self.waiters[place].group,
-            upto: self.upto,
+        match &self.kept {
+            Kept::Nothing => unreachable!(),
+            Kept::Bare(bare) => CertHead {
+                claim: bare.claim,
+                leg: u64::from(bare.leg),
+                group: bare.group,
+                upto: u64::from(bare.upto),
+            },
+            Kept::Many(many) => many.head(place),
         }
     }
 
@@ -135,7 +186,9 @@ impl CertList {
         requires { place < length self.now }
         ensures { option_map (λ cert. cert.lines) (slice_get self.now place) ≡ Some result }
     {
-        let Waiter { group, head } = self.waiters[place];
-        head.lines(&self.chains, self.scans.as_slice(), group)
+        match &self.kept {
+            Kept::Many(many) => many.lines(place),
+            _ => CertLines::none(),
+        }
     }
 }

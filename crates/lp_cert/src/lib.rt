@@ -10,6 +10,7 @@ pub mod laws;
 mod leg_end;
 mod line;
 mod maker;
+mod many_certs;
 mod oldest_first;
 mod ongoing;
 mod open_leg;

@@ -10,17 +10,16 @@ ghost use Rattle.lp_transition.specs.Machine.{answer};
 ghost use Rattle.lp_transition.specs.declared.engine.step.Halt.TheVariants.{NoMemory, JournalFull};
 ghost use Rattle.lp_cert.specs.Ends.{IsFresh, IsMadeOf, floor_in, is_complete_in, is_opening, room_for, waiting_in};
 ghost use Rattle.lp_cert.specs.LastScan.{Suffices};
-ghost use Rattle.lp_cert.specs.Invariant.{end_waiters};
-ghost use Rattle.lp_cert.specs.inside.Invariant.{HasClosing, HasFloor, HasFloors, IsClosing, IsStepped, IsUnchangedOn, ends_with, leg_at, waiting_cert};
-ghost use Rattle.lp_cert.specs.inside.Waiters.{AreHeads, HasHeadFor, HasHeads, lines_at};
+ghost use Rattle.lp_cert.specs.Invariant.{open_end};
+ghost use Rattle.lp_cert.specs.inside.Invariant.{HasClosing, HasFloor, HasFloors, IsClosing, IsStepped, IsUnchangedOn, leg_at, waiting_cert};
+ghost use Rattle.lp_cert.specs.Waiters.{WaitingGroups};
+ghost use Rattle.lp_cert.specs.inside.Waiters.{HasHeadFor, HasHeads, lines_at};
 ghost use Rattle.std.specs.Option.{option_map};
 
 mod quiet;
 
 use crate::cert::{Cert, Claim};
-use crate::chains::Chains;
-use crate::head::Waiter;
-use crate::leg_end::LegEnd;
+use crate::leg_end::{CertList, LegEnd};
 use crate::open_leg::{Completion, OpenLeg};
 use crate::unchanged::Unchanged;
 use crate::waiters::Waiters;
@@ -29,17 +28,6 @@ use lp_stack::GroupId;
 use lp_transition::{Core, Event, Halt, Step, What};
 use std::alloc::{AllocError, Global};
 use std::marker::Model;
-
-/// What a leg leaves where it ends: copies, as the maker's own room is for the greatest scan.
-#[derive(Drop)]
-pub(crate) struct Closing {
-    /// The groups that have a certificate.
-    pub(crate) waiters: Vec<Waiter>,
-    /// Their older reasons.
-    pub(crate) chains: Chains,
-    /// The scans of the leg.
-    pub(crate) scans: Vec<u64>,
-}
 
 /// An event for which there is room: `note` may not fail once the engine is to take it.
 #[derive(Clone, Copy)]
@@ -64,11 +52,11 @@ pub struct Maker {
     waiters: Waiters,
     unchanged: Unchanged,
     /// The number of the last event noted.
-    noted: u64,
+    noted: u32,
     ready: Option<Ready>,
-    /// What the leg under way leaves, where `ready` opens another. It stands beside `ready`, since it
-    /// is large and few events need it.
-    closing: Option<Closing>,
+    /// The certificates of the leg under way, where `ready` opens another: copies, as the maker's own
+    /// room is for the greatest scan. They stand beside `ready`, since few events need them.
+    closing: Option<CertList>,
 }
 
 impl Model for Maker {
@@ -148,6 +136,7 @@ impl Maker {
             alloc,
             step,
             self.current,
+            self.noted,
             &self.waiters,
             &mut self.ended,
             &mut self.closing,
@@ -166,7 +155,7 @@ impl Maker {
         requires ready { self.old.ready ≡ Some (room_for step.now) }
         ensures made { (run : Run) → StandsIn M.rules run (state_in core.now) → IsMadeOf M.rules run self.old → Suffices M.rules (state_in core.now) step.now self.old.last_scan → IsMadeOf M.rules (plus run step.now.event) self.new }
     {
-        let number = core.events() + 1;
+        let number = core.events() as u32 + 1;
         let Some(ready) = self.ready.take() else {
             unreachable!()
         };
@@ -237,7 +226,7 @@ impl Maker {
         ensures made { (run : Run) → StandsIn M.rules run (state_in core.now) → IsMadeOf M.rules run self.old → IsMadeOf M.rules (plus run event) self.new }
         ensures ready { self.new.ready ≡ self.old.ready }
     {
-        self.noted = core.events() + 1;
+        self.noted = core.events() as u32 + 1;
         let Some(leg) = self.current else {
             self.unchanged.reset();
             return;
@@ -257,9 +246,8 @@ impl Maker {
         let Some(leg) = self.current else {
             return Ok(None);
         };
-        let waiters = end_waiters(alloc, leg.completed, &self.waiters)?;
-        let (chains, scans) = self.waiters.copy_past(alloc)?;
-        Ok(Some(leg.end(self.noted, waiters, chains, scans)))
+        let certs = leg.certs(alloc, self.noted, &self.waiters)?;
+        Ok(Some(leg.end(certs)))
     }
 
     /// The ends of all legs, given up, the last one as it stands; AllocError where an allocation
@@ -275,9 +263,8 @@ impl Maker {
             ..
         } = self;
         if let Some(leg) = current {
-            let list = end_waiters(alloc, leg.completed, &waiters)?;
-            let (chains, scans) = waiters.into_past();
-            ended.push(leg.end(noted, list, chains, scans))?;
+            let certs = leg.into_certs(alloc, noted, waiters)?;
+            ended.push(leg.end(certs))?;
         }
         Ok(ended)
     }
@@ -305,7 +292,7 @@ impl Maker {
 fn step_leg<M: Consistency>(
     core: &Core<M>,
     step: &Step,
-    number: u64,
+    number: u32,
     leg: &mut OpenLeg,
     waiters: &mut Waiters,
     unchanged: &mut Unchanged,
@@ -336,19 +323,18 @@ fn step_leg<M: Consistency>(
 }
 
 /// Ends the leg under way after so many events, if there is one. Never allocates.
-fn end_leg(ended: &mut Vec<LegEnd>, noted: u64, current: Option<OpenLeg>, closing: Closing)
+fn end_leg(ended: &mut Vec<LegEnd>, noted: u32, current: Option<OpenLeg>, closing: CertList)
     requires room { 0 < vec_capacity ended.old - vec_len ended.old }
-    requires heads { AreHeads closing.chains.lists (length closing.scans.items) closing.waiters.items }
-    ensures { ended.new.items ≡ ended.old.items ++ ends_with noted current closing.chains.lists closing.scans.items closing.waiters.items }
+    ensures { (waiters : WaitingGroups) → IsClosing current waiters closing → ended.new.items ≡ ended.old.items ++ option_to_list (option_map (open_end noted waiters) current) }
 {
-    let Closing {
-        waiters,
-        chains,
-        scans,
-    } = closing;
-    if let Some(leg) = current {
-        ended.push_reserved(leg.end(noted, waiters, chains, scans));
+    let Some(leg) = current else {
+        return;
+    };
+    let mut certs = closing;
+    if leg.completed.is_none() {
+        certs.go_up_to(noted);
     }
+    ended.push_reserved(leg.end(certs));
 }
 
 /// A refused control event ends no leg: its tasks wait on as before.
@@ -359,7 +345,7 @@ fn opens(step: &Step) -> bool
 }
 
 /// The leg that an event opens.
-fn opened<M: Consistency>(core: &Core<M>, step: &Step, number: u64) -> OpenLeg
+fn opened<M: Consistency>(core: &Core<M>, step: &Step, number: u32) -> OpenLeg
     requires weighed { IsWeighed M.rules core.now step.now }
     requires opens { is_opening step.now ≡ true }
     ensures { result ≡ leg_at number (new_target (state_in core.now) step.now.event) step.now.reply.completed }
@@ -379,15 +365,16 @@ fn opened<M: Consistency>(core: &Core<M>, step: &Step, number: u64) -> OpenLeg
     }
 }
 
-/// Where an event opens a leg, makes room for the end of the one under way and what it leaves; says
-/// whether the event does. AllocError where an allocation failed.
+/// Where an event opens a leg, makes room for the end of the one under way, and makes its
+/// certificates; says whether the event does. AllocError where an allocation failed.
 fn close(
     alloc: Global,
     step: &Step,
     current: Option<OpenLeg>,
+    noted: u32,
     waiters: &Waiters,
     ended: &mut Vec<LegEnd>,
-    closing: &mut Option<Closing>,
+    closing: &mut Option<CertList>,
 ) -> Result<bool, AllocError>
     requires { HasFloors waiters.now current }
     ensures opens { IfOk result (λ opens. opens ≡ is_opening step.now) }
@@ -399,47 +386,24 @@ fn close(
         return Ok(false);
     }
     ended.reserve(1)?;
-    *closing = Some(closing_of(alloc, current, waiters)?);
+    *closing = Some(closing_of(alloc, current, noted, waiters)?);
     Ok(true)
 }
 
-/// What the leg under way leaves; AllocError where an allocation failed.
+/// The certificates of the leg under way as they stand after so many events, if there is one;
+/// AllocError where an allocation failed.
 fn closing_of(
     alloc: Global,
     current: Option<OpenLeg>,
+    noted: u32,
     waiters: &Waiters,
-) -> Result<Closing, AllocError>
+) -> Result<CertList, AllocError>
     requires { HasFloors waiters.now current }
     ensures { IfOk result (IsClosing current waiters.now) }
 {
-    let list = match current {
-        Some(leg) => end_waiters(alloc, leg.completed, waiters)?,
-        None => Vec::new(alloc),
-    };
-    let (chains, scans) = waiters.copy_past(alloc)?;
-    Ok(Closing {
-        waiters: list,
-        chains,
-        scans,
-    })
-}
-
-/// The groups that have a certificate, in increasing order; AllocError where an allocation failed.
-fn end_waiters(
-    alloc: Global,
-    completed: Option<Completion>,
-    waiters: &Waiters,
-) -> Result<Vec<Waiter>, AllocError>
-    requires { HasFloor waiters.now completed }
-    ensures list { IfOk result (λ list. list.items ≡ end_waiters completed waiters.now) }
-    ensures heads { IfOk result (λ list. AreHeads waiters.now.reasons.lists (length waiters.now.reasons.scans) list.items) }
-{
-    let Some(done) = completed else {
-        return waiters.list(alloc);
-    };
-    match done.floor {
-        None => Ok(Vec::new(alloc)),
-        Some(group) => Ok(vec![in alloc; waiters.waiter(group)]?),
+    match current {
+        Some(leg) => leg.certs(alloc, noted, waiters),
+        None => Ok(CertList::none()),
     }
 }
 
@@ -449,7 +413,7 @@ fn cert_of(
     alloc: Global,
     claim: Claim,
     leg: OpenLeg,
-    noted: u64,
+    noted: u32,
     waiters: &Waiters,
     group: GroupId,
 ) -> Result<Option<Cert>, AllocError>
@@ -460,9 +424,9 @@ fn cert_of(
     };
     Ok(Some(Cert {
         claim,
-        leg: leg.opened,
+        leg: u64::from(leg.opened),
         group,
-        upto: noted,
+        upto: u64::from(noted),
         lines: lines.collect(alloc)?,
     }))
 }

@@ -1,21 +1,23 @@
 //! The leg under way.
-ghost use Rattle.std.specs.Prelude.{◌≡◌, length, map};
+ghost use Rattle.std.specs.Prelude.{◌≡◌, [], ◌∷◌, length, IfOk, IfSome};
 ghost use Rattle.std.specs.Option.{option_map};
-ghost use Rattle.lp_cert.specs.Invariant.{claim_of, upto_of};
-ghost use Rattle.lp_cert.specs.Waiters.{kept_cert};
+ghost use Rattle.lp_cert.specs.Invariant.{claim_of, end_waiters, floor_waiters, upto_of};
+ghost use Rattle.lp_cert.specs.Waiters.{waiter_in};
+ghost use Rattle.lp_cert.specs.inside.Invariant.{HasFloor, certs_at};
 ghost use Rattle.lp_cert.specs.inside.Waiters.{AreHeads};
 
 use crate::cert::Claim;
-use crate::chains::Chains;
 use crate::head::Waiter;
 use crate::leg_end::{CertList, LegEnd};
+use crate::waiters::Waiters;
 use lp_stack::{GroupId, Level};
+use std::alloc::{AllocError, Global};
 
 /// When a leg was complete.
 #[derive(Clone, Copy)]
 pub(crate) struct Completion {
     /// The event from which on no task was off the target.
-    pub(crate) at: u64,
+    pub(crate) at: u32,
     /// The least group that waited just before; None where the leg was complete at once.
     pub(crate) floor: Option<GroupId>,
 }
@@ -24,7 +26,7 @@ pub(crate) struct Completion {
 #[derive(Clone, Copy)]
 pub(crate) struct OpenLeg {
     /// The event that opened it.
-    pub(crate) opened: u64,
+    pub(crate) opened: u32,
     /// The level to which it takes the tasks.
     pub(crate) target: Level,
     /// When it was complete, if it is.
@@ -32,31 +34,103 @@ pub(crate) struct OpenLeg {
 }
 
 impl OpenLeg {
-    /// The end of the leg after so many events, with the groups that have a certificate. Never
-    /// allocates.
-    pub(crate) fn end(
-        self,
-        noted: u64,
-        waiters: Vec<Waiter>,
-        chains: Chains,
-        scans: Vec<u64>,
-    ) -> LegEnd
-        requires { AreHeads chains.lists (length scans.items) waiters.items }
-        ensures { result ≡ record { opened = self.opened; target = self.target; completed = option_map (λ done. done.at) self.completed; certs = map (kept_cert (claim_of self.completed) self.opened (upto_of noted self.completed) chains.lists scans.items) waiters.items } }
+    /// The end of the leg, with these certificates. Never allocates.
+    pub(crate) fn end(self, certs: CertList) -> LegEnd
+        ensures { result ≡ record { opened = self.opened; target = self.target; completed = option_map (λ done. done.at) self.completed; certs = certs } }
     {
-        let claim = match self.completed {
+        LegEnd {
+            opened: u64::from(self.opened),
+            target: self.target,
+            completed: self.completed.map(|done| u64::from(done.at)),
+            certs,
+        }
+    }
+
+    /// The certificates as they stand after so many events; AllocError where an allocation failed.
+    pub(crate) fn certs(
+        self,
+        alloc: Global,
+        noted: u32,
+        waiters: &Waiters,
+    ) -> Result<CertList, AllocError>
+        requires { HasFloor waiters.now self.completed }
+        ensures { IfOk result (λ certs. certs ≡ certs_at noted waiters.now self) }
+    {
+        let (claim, upto) = (self.claim(), self.upto(noted));
+        if let Some(group) = self.lone(waiters) {
+            if waiters.is_bare(group) {
+                return Ok(CertList::bare(claim, self.opened, upto, group));
+            }
+        }
+        let list = self.waiters(alloc, waiters)?;
+        if list.is_empty() {
+            return Ok(CertList::none());
+        }
+        let (chains, scans) = waiters.copy_past(alloc)?;
+        CertList::many(alloc, claim, self.opened, upto, list, chains, scans)
+    }
+
+    /// The same, with the older reasons and the scans moved. They may be as many as the events.
+    pub(crate) fn into_certs(
+        self,
+        alloc: Global,
+        noted: u32,
+        waiters: Waiters,
+    ) -> Result<CertList, AllocError>
+        requires { HasFloor waiters self.completed }
+        ensures { IfOk result (λ certs. certs ≡ certs_at noted waiters self) }
+    {
+        let (claim, upto) = (self.claim(), self.upto(noted));
+        let list = self.waiters(alloc, &waiters)?;
+        let (chains, scans) = waiters.into_past();
+        CertList::many(alloc, claim, self.opened, upto, list, chains, scans)
+    }
+
+    /// What the certificates claim.
+    fn claim(self) -> Claim
+        ensures { result ≡ claim_of self.completed }
+    {
+        match self.completed {
             None => Claim::Waiting,
             Some(_) => Claim::Floor,
-        };
-        let upto = match self.completed {
+        }
+    }
+
+    /// The event up to which the certificates go, after so many events.
+    fn upto(self, noted: u32) -> u32
+        ensures { result ≡ upto_of noted self.completed }
+    {
+        match self.completed {
             None => noted,
             Some(done) => done.at.saturating_sub(1),
+        }
+    }
+
+    /// The only group that has a certificate, if there is just one.
+    fn lone(self, waiters: &Waiters) -> Option<GroupId>
+        requires { HasFloor waiters.now self.completed }
+        ensures lone { IfSome result (λ group. end_waiters self.completed waiters.now ≡ waiter_in waiters.now.reasons group.0 ∷ []) }
+        ensures stands { AreHeads waiters.now.reasons.lists (length waiters.now.reasons.scans) (floor_waiters waiters.now.reasons result) }
+    {
+        match self.completed {
+            None => waiters.lone(),
+            Some(done) => done.floor,
+        }
+    }
+
+    /// The groups that have a certificate, in increasing order; AllocError where an allocation
+    /// failed.
+    fn waiters(self, alloc: Global, waiters: &Waiters) -> Result<Vec<Waiter>, AllocError>
+        requires { HasFloor waiters.now self.completed }
+        ensures list { IfOk result (λ list. list.items ≡ end_waiters self.completed waiters.now) }
+        ensures heads { IfOk result (λ list. AreHeads waiters.now.reasons.lists (length waiters.now.reasons.scans) list.items) }
+    {
+        let Some(done) = self.completed else {
+            return waiters.list(alloc);
         };
-        LegEnd {
-            opened: self.opened,
-            target: self.target,
-            completed: self.completed.map(|done| done.at),
-            certs: CertList::new(claim, self.opened, upto, waiters, chains, scans),
+        match done.floor {
+            None => Ok(Vec::new(alloc)),
+            Some(group) => Ok(vec![in alloc; waiters.waiter(group)]?),
         }
     }
 }

@@ -1,7 +1,8 @@
 //! The reasons of each group in a leg.
-ghost use Rattle.std.specs.Prelude.{◌≡◌, ◌≢◌, ◌+◌, ◌<◌, ◌≤◌, ◌↔◌, ℕ, [], ◌∷◌, ◌++◌, length, reverse, slice_index_or, IfOk, IsTrue, OnOk};
+ghost use Rattle.std.specs.Prelude.{◌≡◌, ◌≢◌, ◌+◌, ◌<◌, ◌≤◌, ◌↔◌, ℕ, List, [], ◌∷◌, ◌++◌, length, reverse, slice_index_or, IfOk, IsTrue, OnOk};
 ghost use Rattle.lp_cert.specs.inside.Heads.{IsUsed, IsRefusedBy, IsBornBy};
 ghost use Rattle.lp_cert.specs.Certificates.{group_id};
+ghost use Rattle.lp_cert.specs.Heads.{head_lines};
 ghost use Rattle.lp_cert.specs.Waiters.{no_head, head_of};
 ghost use Rattle.lp_cert.specs.inside.Waiters.{lines_in, StandsAt};
 
@@ -79,6 +80,14 @@ impl Reasons {
         } else {
             NO_REASON
         }
+    }
+
+    /// Whether nothing is known of a group yet.
+    pub(crate) fn is_bare(&self, group: GroupId) -> bool
+        requires { (head_of self.now group.0).older.0 < length self.now.lists }
+        ensures { IsTrue result → (scans : List ℕ) → head_lines self.now.lists scans group (head_of self.now group.0) ≡ [] }
+    {
+        self.head(group).is_bare(&self.chains)
     }
 
     /// The lines of a group, the oldest first. Never allocates.

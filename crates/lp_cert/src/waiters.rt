@@ -1,5 +1,5 @@
 //! The groups that wait in a leg, each with its reasons.
-ghost use Rattle.std.specs.Prelude.{◌≡◌, ◌≢◌, Bool, ◌+◌, ◌<◌, ◌≤◌, ◌↔◌, ℕ, [], ◌∷◌, ◌++◌, true, false, Some, None, length, map, reverse, slice_set, IfOk, IfSome, IsTrue, OnOk, if◌then◌else◌, nat_eq};
+ghost use Rattle.std.specs.Prelude.{◌≡◌, ◌≢◌, Bool, ◌+◌, ◌<◌, ◌≤◌, ◌↔◌, ℕ, List, [], ◌∷◌, ◌++◌, true, false, Some, None, length, map, reverse, slice_set, IfOk, IfSome, IsTrue, OnOk, if◌then◌else◌, nat_eq};
 ghost use Rattle.std.specs.List.{AllByRecursion, list_any};
 ghost use Rattle.std.specs.Option.{option_map};
 ghost use Rattle.lp_numbers.specs.Numbers.{has, IsEmpty, IsNextFrom};
@@ -10,6 +10,7 @@ ghost use Rattle.lp_transition.specs.inside.ScanSteps.{IsNextBelow};
 ghost use Rattle.lp_transition.specs.Table.{state_in};
 ghost use Rattle.lp_cert.specs.inside.Heads.{HasFrameAs};
 ghost use Rattle.lp_transition.specs.Blames.{has_frame_in, first_refused};
+ghost use Rattle.lp_cert.specs.Heads.{head_lines};
 ghost use Rattle.lp_cert.specs.Invariant.{floor_waiters};
 ghost use Rattle.lp_cert.specs.Waiters.{head_of, waiter_in, waiters_of};
 ghost use Rattle.lp_cert.specs.inside.Waiters.{HasHeadFor, HasHeads, IsAboveChild, AreHeads, AreStanding, StandsAt, IsJudged, AreJudged, IsUsedVerdict, is_left, after_birth, has_off, lines_at, scanned_lines, AreTakenIn, IsTakenIn};
@@ -111,6 +112,26 @@ impl Waiters {
         ensures stands { IfOk result (λ list. AreHeads self.now.reasons.lists (length self.now.reasons.scans) list.items) }
     {
         listed(alloc, &self.groups, &self.reasons)
+    }
+
+    /// The only group that waits, if there is just one.
+    pub(crate) fn lone(&self) -> Option<GroupId>
+        ensures lone { IfSome result (λ group. waiters_of self.now ≡ waiter_in self.now.reasons group.0 ∷ []) }
+        ensures stands { AreHeads self.now.reasons.lists (length self.now.reasons.scans) (floor_waiters self.now.reasons result) }
+    {
+        let number = member_from(&self.groups, 0)?;
+        match member_from(&self.groups, usize::from(number) + 1) {
+            Some(_) => None,
+            None => Some(GroupId(number)),
+        }
+    }
+
+    /// Whether nothing is known of a group yet.
+    pub(crate) fn is_bare(&self, group: GroupId) -> bool
+        requires { StandsAt (length self.now.reasons.scans) self.now.reasons group.0 }
+        ensures { IsTrue result → (scans : List ℕ) → head_lines self.now.reasons.lists scans group (head_of self.now.reasons group.0) ≡ [] }
+    {
+        self.reasons.is_bare(group)
     }
 
     /// A copy of the older reasons, and of the scans; AllocError where an allocation failed.

@@ -1,5 +1,5 @@
 -- What holds of a maker between events, and what an event makes of the leg under way.
-use Rattle.std.specs.Prelude.{◌≡◌, ℕ, ◌+◌, ◌<◌, Bool, true, false, List, [], ◌∷◌, length, map, reverse, Option, Some, None, IfSome, IsSome, if◌then◌else◌}
+use Rattle.std.specs.Prelude.{◌≡◌, ℕ, ◌+◌, ◌<◌, Bool, true, false, List, length, map, reverse, Option, Some, None, IfSome, IsSome, if◌then◌else◌}
 use Rattle.std.specs.Option.{option_map}
 use Rattle.lp_stack.specs.declared.number.GroupId.{GroupId}
 use Rattle.lp_numbers.specs.Numbers.{has, IsNextFrom}
@@ -9,12 +9,8 @@ use Rattle.lp_transition.specs.Weigh.{Weighed, refusal_in}
 use Rattle.lp_cert.specs.declared.cert.Claim.{Claim}
 use Rattle.lp_cert.specs.declared.cert.Cert.{Cert}
 use Rattle.lp_cert.specs.declared.line.Line.{Line}
-use Rattle.lp_cert.specs.declared.reason.Reason.{Reason}
-use Rattle.lp_cert.specs.declared.head.Waiter.{Waiter}
-use Rattle.lp_cert.specs.declared.leg_end.LegEnd.{LegEnd}
 use Rattle.lp_cert.specs.declared.open_leg.Completion.{Completion}
 use Rattle.lp_cert.specs.declared.open_leg.OpenLeg.{OpenLeg}
-use Rattle.lp_cert.specs.declared.maker.Closing.{Closing}
 use Rattle.lp_cert.specs.declared.maker.Ready.{Ready}
 use Rattle.lp_cert.specs.inside.StepLines.{stepped_lines}
 use Rattle.lp_cert.specs.LastScan.{LastScan, used_scan}
@@ -27,20 +23,11 @@ use Rattle.lp_cert.specs.Invariant.{claim_of, upto_of, floor_waiters, end_waiter
 abbrev pub waiting_cert : Claim → (leg upto : ℕ) → GroupId → List Line → Cert
 waiting_cert claim leg upto group lines = record { claim = claim; leg = leg; group = group; upto = upto; lines = reverse lines }
 
-abbrev pub current_waiters : Option OpenLeg → WaitingGroups → List Waiter
-current_waiters None waiters = []
-current_waiters (Some leg) waiters = end_waiters leg.completed waiters
-
--- the end of the leg under way after so many events, if there is one, with these groups' certificates
-abbrev pub ends_with : ℕ → Option OpenLeg → List (List Reason) → List ℕ → List Waiter → List LegEnd
-ends_with noted None lists scans waiters = []
-ends_with noted (Some leg) lists scans waiters =
-    record {
-      opened = leg.opened;
-      target = leg.target;
-      completed = option_map (λ done. done.at) leg.completed;
-      certs = map (kept_cert (claim_of leg.completed) leg.opened (upto_of noted leg.completed) lists scans) waiters;
-    } ∷ []
+-- the certificates of the leg as they stand after so many events
+abbrev pub certs_at : ℕ → WaitingGroups → OpenLeg → List Cert
+certs_at noted waiters leg =
+    map (kept_cert (claim_of leg.completed) leg.opened (upto_of noted leg.completed) waiters.reasons.lists waiters.reasons.scans)
+    (end_waiters leg.completed waiters)
 
 -- the group of the floor has reasons
 abbrev pub HasFloor : WaitingGroups → Option Completion → Type 0
@@ -51,21 +38,19 @@ abbrev pub HasFloors : WaitingGroups → Option OpenLeg → Type 0
 HasFloors waiters None = Unit {0}
 HasFloors waiters (Some leg) = HasFloor waiters leg.completed
 
--- what the leg under way leaves where it ends now
-pub record IsClosing (current : Option OpenLeg) (waiters : WaitingGroups) (closing : Closing) : Type 0 where
-  pub lists : closing.chains.lists ≡ waiters.reasons.lists
-  pub scans : closing.scans.items ≡ waiters.reasons.scans
-  pub all : closing.waiters.items ≡ current_waiters current waiters
-  pub heads : AreHeads closing.chains.lists (length closing.scans.items) closing.waiters.items
+-- these are the certificates of the leg under way, as they stood after some event
+abbrev pub IsClosing : Option OpenLeg → WaitingGroups → List Cert → Type 0
+IsClosing None waiters certs = Unit {0}
+IsClosing (Some leg) waiters certs = (noted : ℕ) × (certs ≡ certs_at noted waiters leg)
 
--- where an event opens a leg, what the one under way leaves is there
-abbrev pub HasClosing : Option OpenLeg → WaitingGroups → Bool → Option Closing → Type 0
+-- where an event opens a leg, the certificates of the one under way are there
+abbrev pub HasClosing : Option OpenLeg → WaitingGroups → Bool → Option (List Cert) → Type 0
 HasClosing current waiters false closing = Unit {0}
 HasClosing current waiters true None = ⊥
-HasClosing current waiters true (Some closing) = IsClosing current waiters closing
+HasClosing current waiters true (Some certs) = IsClosing current waiters certs
 
 -- there is room for the event: for its reasons and its scan and, if it opens a leg, for the end of the one under way
-pub record IsReady (current : Option OpenLeg) (waiters : WaitingGroups) (ended_room : ℕ) (closing : Option Closing) (ready : Ready) : Type 0 where
+pub record IsReady (current : Option OpenLeg) (waiters : WaitingGroups) (ended_room : ℕ) (closing : Option (List Cert)) (ready : Ready) : Type 0 where
   pub room : ready.verdicts + 1 < waiters.reasons.room
   pub scan_room : 0 < waiters.reasons.scan_room
   pub heads : HasHeads waiters
@@ -73,11 +58,11 @@ pub record IsReady (current : Option OpenLeg) (waiters : WaitingGroups) (ended_r
   pub end_room : ready.opens ≡ true → 0 < ended_room
   pub left : HasClosing current waiters ready.opens closing
 
-abbrev pub IfReady : Option OpenLeg → WaitingGroups → ℕ → Option Closing → Option Ready → Type 0
+abbrev pub IfReady : Option OpenLeg → WaitingGroups → ℕ → Option (List Cert) → Option Ready → Type 0
 IfReady current waiters ended_room closing None = Unit {0}
 IfReady current waiters ended_room closing (Some ready) = IsReady current waiters ended_room closing ready
 
-pub record IsMaker (current : Option OpenLeg) (waiters : WaitingGroups) (ended_room : ℕ) (closing : Option Closing) (ready : Option Ready) : Type 0 where
+pub record IsMaker (current : Option OpenLeg) (waiters : WaitingGroups) (ended_room : ℕ) (closing : Option (List Cert)) (ready : Option Ready) : Type 0 where
   pub floors : HasFloors waiters current
   pub for_event : IfReady current waiters ended_room closing ready
 

@@ -1,6 +1,11 @@
 -- Parts of lists of reasons.
-use Rattle.std.specs.Prelude.{◌≡◌, ℕ, ◌+◌, ◌<◌, ◌≤◌, List, [], drop, length, slice_index_or}
+use Rattle.std.specs.Prelude.{◌≡◌, ℕ, ◌+◌, ◌<◌, ◌≤◌, List, [], drop, length, slice_index_or, Option, Some, None}
 use Rattle.lp_cert.specs.declared.reason.Reason.{Reason}
+
+-- the reasons that are left, if there was one
+abbrev pub reasons_left : Option (List Reason) → List Reason
+reasons_left None = []
+reasons_left (Some reasons) = reasons
 
 -- the list is there, and has so many reasons
 pub record IsPart (lists : List (List Reason)) (list count : ℕ) : Type 0 where

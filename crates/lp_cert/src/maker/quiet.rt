@@ -36,8 +36,8 @@ impl Maker {
         if !self.waiters.has_scan_room() {
             return false;
         }
-        self.noted = core.events() + 1;
-        self.waiters.scan_nobody(self.noted);
+        self.noted = core.events() as u32 + 1;
+        self.waiters.scan_nobody(u64::from(self.noted));
         true
     }
 }

@@ -1,13 +1,13 @@
-use Rattle.std.proofs.Common.{Bool, inr, ◌≡◌, ◌+◌, ◌++◌, [], Some, None, true, false, if◌then◌else◌, refl, sym, ap, ap₂, subst, ◌∙◌}
+use Rattle.std.proofs.Common.{Bool, inr, ◌≡◌, ◌+◌, [], Some, None, true, false, if◌then◌else◌, refl, sym, ap, subst, ◌∙◌}
 use Rattle.std.specs.Option.{option_map}
 use Rattle.lp_transition.specs.declared.event.Event.{Event}
 use Rattle.lp_transition.specs.Table.{state_in}
 use Rattle.lp_cert.specs.declared.open_leg.OpenLeg.{OpenLeg}
 use Rattle.lp_cert.specs.Ends.{Made, Room, IsMadeOf, is_opening, room_for}
 use Rattle.lp_cert.specs.Invariant.{open_end, room_of}
-use Rattle.lp_cert.specs.inside.Invariant.{ends_with, HasClosing, IsClosing}
+use Rattle.lp_cert.specs.inside.Invariant.{HasClosing, IsClosing}
 use Rattle.lp_cert.specs.inside.Waiters.{HasHeadFor, has_off}
-use Rattle.lp_cert.proofs.Noted.{none_made, still_made, turned_made, ends_are, ready_for, room_is, opens_is}
+use Rattle.lp_cert.proofs.Noted.{none_made, still_made, turned_made, ready_for, room_is, opens_is}
 use Rattle.lp_cert.proofs.Asked.{not_so, not_other}
 use Rattle.lp_cert.proofs.UnchangedSteps.{none_unchanged}
 use Rattle.lp_cert.proofs.maker.Maker.note.Goals as goal
@@ -29,7 +29,7 @@ pub returns-in_default-current : goal.returns-in_default-current
 returns-in_default-current g c = record {
   made = λ run stands is suffices.
       let i = c.self.inside in
-      let number = c.events-number.result + 1 in
+      let number = c.events.result + 1 in
       let old : Made = record { ended = i.ended.items; current = option_map (open_end i.noted i.waiters) i.current; ready = option_map room_of i.ready; last_scan = i.unchanged } in
       let new : Made = record { ended = i.ended.items; current = option_map (open_end number i.waiters) i.current; ready = option_map room_of c.take.new.self; last_scan = c.reset.new.self } in
       let was : IsMadeOf g.M.Consistency.rules run old = rw (← c.self.view_is) at is in
@@ -44,14 +44,14 @@ pub returns-then-not-ready : goal.returns-then-not-ready
 returns-then-not-ready g c = record {
   made = λ run stands is suffices.
       let i = c.self.inside in
-      let number = c.events-number.result + 1 in
+      let number = c.events.result + 1 in
       let old : Made = record { ended = i.ended.items; current = option_map (open_end i.noted i.waiters) i.current; ready = option_map room_of i.ready; last_scan = i.unchanged } in
       let new : Made = record { ended = i.ended.items; current = Some (open_end number c.step_leg.new.waiters c.step_leg.new.leg); ready = option_map room_of c.take.new.self; last_scan = c.step_leg.new.unchanged } in
       let was : IsMadeOf g.M.Consistency.rules run old = rw (← c.self.view_is) at is in
       let asked = rw (← c.self.view_is) at c.requires.ready in
       let stays : is_opening c.args.step.now ≡ false = sym (opens_is i.ready c.in-Some.ready (room_for c.args.step.now) (sym c.take.ensures.value ∙ c.in-Some.is) asked) ∙ not_so c.in-Some.ready.opens c.if-not-ready.true in
       still_made g.M.Consistency.rules g.met.M.Consistency.lawful run c.args.core.now stands c.args.step.now c.requires.weighed old new was stays refl
-      i.noted number c.in-Some-current.leg c.step_leg.new.leg i.waiters c.step_leg.new.waiters (ap (λ m. m + 1) c.events-number.ensures.value) c.step_leg.ensures.gone_on (rw (← c.self.view_is) at suffices) (inr c.step_leg.ensures.unchanged)
+      i.noted number c.in-Some-current.leg c.step_leg.new.leg i.waiters c.step_leg.new.waiters (ap (λ m. m + 1) c.events.ensures.value) c.step_leg.ensures.gone_on (rw (← c.self.view_is) at suffices) (inr c.step_leg.ensures.unchanged)
       (ap (option_map (open_end i.noted i.waiters)) c.in-Some-current.is) refl;
 }
 
@@ -62,7 +62,7 @@ returns g c = record {
       let model = g.M.Consistency.rules in
       let s = state_in c.args.core.now in
       let step = c.args.step.now in
-      let number = c.events-number.result + 1 in
+      let number = c.events.result + 1 in
       let later = c.open.new.self in
       let left = c.in-Some-take.closing in
       let old : Made = record { ended = i.ended.items; current = option_map (open_end i.noted i.waiters) i.current; ready = option_map room_of i.ready; last_scan = i.unchanged } in
@@ -77,11 +77,8 @@ returns g c = record {
       subst (HasClosing i.current i.waiters true) there (subst (λ (opens : Bool). HasClosing i.current i.waiters opens i.closing) (not_other c.in-Some.ready.opens c.if-not-ready.false) ready.left) in
       let target = ap (λ (l : OpenLeg). l.target.0) c.opened-next.ensures in
       turned_made model g.met.M.Consistency.lawful run c.args.core.now stands step c.requires.weighed old new was turns
-      number later (ap (λ m. m + 1) c.events-number.ensures.value)
+      number later (ap (λ m. m + 1) c.events.ensures.value)
       (λ sound group. c.open.ensures sound group ∙ ap (λ level. if has_off s level group then Some [] else None) target)
-      (c.end_leg.ensures
-      ∙ ap (λ es. i.ended.items ++ es)
-      (ap₂ (λ ls xs. ends_with i.noted i.current ls xs left.waiters.items) closing.lists closing.scans
-      ∙ (ap (ends_with i.noted i.current i.waiters.reasons.lists i.waiters.reasons.scans) closing.all ∙ ends_are i.noted i.waiters i.current)))
+      (c.end_leg.ensures i.waiters closing)
       (ap (λ (l : OpenLeg). Some (open_end number later l)) c.opened-next.ensures) c.reset-2.ensures;
 }

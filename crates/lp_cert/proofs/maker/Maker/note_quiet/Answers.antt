@@ -28,5 +28,5 @@ returns-clause-made g c = λ yes run stands is.
     let used : model.uses c.args.kind ≡ true = sym c.uses.ensures ∙ c.if-not-uses.false in
     quiet_made model g.met.M.Consistency.lawful run c.args.core.now stands c.args.kind old was quiet.0 quiet.1
     c.requires.scan c.requires.room used new refl refl i.noted number c.in-Some.leg i.waiters c.scan_nobody.new.self (ap (λ m. m + 1) c.events.ensures.value) unended
-    c.scan_nobody.ensures.stood c.scan_nobody.ensures.stands c.scan_nobody.ensures.lines
+    c.scan_nobody.ensures.stood c.scan_nobody.ensures.stands (rw c.from.ensures at c.scan_nobody.ensures.lines)
     (ap (option_map (open_end i.noted i.waiters)) c.in-Some.is) (ap (option_map (open_end number c.scan_nobody.new.self)) c.in-Some.is)

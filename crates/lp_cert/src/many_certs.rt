@@ -1,0 +1,100 @@
+//! Certificates of one leg that share what they have in common.
+ghost use Rattle.std.specs.Prelude.{◌≡◌, ◌<◌, Some, length, map, slice_get};
+ghost use Rattle.std.specs.Option.{option_map};
+ghost use Rattle.lp_cert.specs.Ends.{cert_head};
+ghost use Rattle.lp_cert.specs.Waiters.{kept_cert};
+ghost use Rattle.lp_cert.specs.inside.Kept.{up_to};
+ghost use Rattle.lp_cert.specs.inside.Waiters.{AreHeads};
+
+use crate::cert::{CertHead, Claim};
+use crate::cert_lines::CertLines;
+use crate::chains::Chains;
+use crate::head::Waiter;
+use std::marker::Model;
+
+/// Certificates of one leg, over the older reasons and the scans that they share.
+///
+/// Contracts see the list of these certificates.
+#[derive(Drop)]
+pub(crate) struct ManyCerts {
+    claim: Claim,
+    leg: u32,
+    upto: u32,
+    waiters: Vec<Waiter>,
+    chains: Chains,
+    scans: Vec<u64>,
+}
+
+impl Model for ManyCerts {
+    ghost use Rattle.std.specs.Prelude.{List, length, map};
+    ghost use Rattle.lp_cert.specs.declared.cert.Cert.{Cert};
+    ghost use Rattle.lp_cert.specs.Waiters.{kept_cert};
+    ghost use Rattle.lp_cert.specs.inside.Waiters.{AreHeads};
+
+    ghost Value = { List Cert };
+
+    ghost view = { λ c. map (kept_cert c.claim c.leg c.upto c.chains.lists c.scans.items) c.waiters.items };
+
+    ghost invariant = { λ c. AreHeads c.chains.lists (length c.scans.items) c.waiters.items };
+}
+
+impl ManyCerts {
+    /// The certificates of these groups, over their older reasons and the scans of the leg. Never
+    /// allocates.
+    pub(crate) fn new(
+        claim: Claim,
+        leg: u32,
+        upto: u32,
+        waiters: Vec<Waiter>,
+        chains: Chains,
+        scans: Vec<u64>,
+    ) -> ManyCerts
+        requires { AreHeads chains.lists (length scans.items) waiters.items }
+        ensures { result ≡ map (kept_cert claim leg upto chains.lists scans.items) waiters.items }
+    {
+        ManyCerts {
+            claim,
+            leg,
+            upto,
+            waiters,
+            chains,
+            scans,
+        }
+    }
+
+    /// How many certificates there are.
+    pub(crate) fn len(&self) -> usize
+        ensures { result ≡ length self.now }
+    {
+        self.waiters.len()
+    }
+
+    /// Lets the certificates go up to another event.
+    pub(crate) fn go_up_to(&mut self, upto: u32)
+        ensures { self.new ≡ up_to upto self.old }
+    {
+        self.upto = upto;
+    }
+
+    /// The certificate at a place, from 0, without its lines.
+    pub(crate) fn head(&self, place: usize) -> CertHead
+        requires { place < length self.now }
+        ensures { option_map cert_head (slice_get self.now place) ≡ Some result }
+    {
+        CertHead {
+            claim: self.claim,
+            leg: u64::from(self.leg),
+            group: self.waiters[place].group,
+            upto: u64::from(self.upto),
+        }
+    }
+
+    /// The lines of the certificate at a place, from 0, one at a time. Never allocates.
+    pub(crate) fn lines(&self, place: usize) -> CertLines<'_>
+        requires { place < length self.now }
+        ensures { option_map (λ cert. cert.lines) (slice_get self.now place) ≡ Some result }
+    {
+        let Waiter { group, head } = self.waiters[place];
+        head.lines(&self.chains, self.scans.as_slice(), group)
+    }
+}
