@@ -13,7 +13,8 @@ use Rattle.lp_program.specs.declared.words.Task.{Task}
 use Rattle.lp_program.specs.declared.words.Task.TheVariants.{Run, Check, Compare, Threads}
 use Rattle.lp_program.specs.declared.words.WordsFault.{WordsFault}
 use Rattle.lp_program.specs.declared.words.WordsFault.TheVariants.{Usage, UnknownModel, NoMemory}
-use Rattle.lp_program.specs.Asked.{Asked, AsksNothing, IsNoFlag, IsRefusal, IsUnknown, NamesNoModel, NamesNoTask, TakesModel, argument_of, asked, asked_in, flag_word, lpt, words_of}
+use Rattle.lp_program.specs.Asked.{Asked, AsksNothing, IsUnknown, TakesModel, argument_of, asked, asked_in, flag_word, lpt, words_of}
+use Rattle.lp_program.specs.inside.WordsFaults.{IsNoFlag, IsRefusal, NamesNoModel, NamesNoTask}
 
 named : {X : Type 0} (o : Option X) (f : X → Text) (g : X → List Row) (name : Text) (rows : List Row)
     → option_map f o ≡ Some name → option_map (λ (p : Text × List Row). p.1) (option_map (λ x. (f x, g x)) o) ≡ Some rows

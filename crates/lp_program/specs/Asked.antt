@@ -79,29 +79,6 @@ abbrev pub IsUnknown : Asked → Type 0
 IsUnknown asked =
     (name : Text) × (text : Text) × (asked ≡ Some (name, Some text)) × TakesModel name × ((model : ModelName) → text ≢ name_of model)
 
--- a fault of words that clap takes
-abbrev pub NamesNoModel : Option Text → WordsFault → Type 0
-NamesNoModel found words.Usage = found ≡ None
-NamesNoModel found words.UnknownModel = (text : Text) × (found ≡ Some text) × ((model : ModelName) → text ≢ name_of model)
-NamesNoModel found words.NoMemory = ⊥
-
--- the same of a flag
-abbrev pub IsNoFlag : Option Text → WordsFault → Type 0
-IsNoFlag found words.Usage = (json : Bool) → found ≢ Some (flag_word json)
-IsNoFlag found words.UnknownModel = ⊥
-IsNoFlag found words.NoMemory = ⊥
-
-abbrev pub NamesNoTask : Asked → WordsFault → Type 0
-NamesNoTask asked words.Usage = ((task : Task) → asked ≢ Some (words_of task)) × (IsUnknown asked → ⊥)
-NamesNoTask asked words.UnknownModel = IsUnknown asked
-NamesNoTask asked words.NoMemory = ⊥
-
--- the fault of words that clap refuses for such a cause
-abbrev pub IsRefusal : ErrorKind → WordsFault → Type 0
-IsRefusal cause words.Usage = cause ≢ kind.OutOfMemory
-IsRefusal cause words.NoMemory = cause ≡ kind.OutOfMemory
-IsRefusal cause words.UnknownModel = ⊥
-
 -- clap takes the words, and all is right but the model's name
 abbrev pub AsksUnknown : List Text → Type 0
 AsksUnknown given = (fault_of lpt given ≡ []) × IsUnknown (asked given)

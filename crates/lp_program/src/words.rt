@@ -2,7 +2,8 @@
 ghost use Rattle.std.specs.Prelude.{◌≡◌, IfOk, IfErr, Some, None, codes, map};
 ghost use Rattle.clap.specs.Words.{app_of, first_value, found_of, kind_of, subcommand_rows_of};
 ghost use Rattle.lp_models.specs.Names.{name_of};
-ghost use Rattle.lp_program.specs.Asked.{Asks, AsksNothing, IsNoFlag, IsRefusal, NamesNoModel, NamesNoTask, asked_in, flag_word, lpt, words_of};
+ghost use Rattle.lp_program.specs.Asked.{Asks, AsksNothing, asked_in, flag_word, lpt, words_of};
+ghost use Rattle.lp_program.specs.inside.WordsFaults.{IsNoFlag, IsRefusal, NamesNoModel, NamesNoTask};
 
 use clap::error::ErrorKind;
 use clap::{Arg, ArgAction, ArgMatches, Command, Error};

@@ -1,6 +1,6 @@
 //! The pieces into which the tasks of a scan are cut.
 ghost use Rattle.std.specs.Prelude.{◌≡◌, ◌<◌, ◌≤◌, length};
-ghost use Rattle.lp_scan.specs.Pieces.{piece_start, piece_of};
+ghost use Rattle.lp_scan.specs.inside.Pieces.{piece_start, piece_of};
 
 use lp_stack::View;
 

@@ -3,7 +3,7 @@ ghost use Rattle.std.specs.Prelude.{◌≡◌, ◌<◌, ◌≤◌, map, length, 
 ghost use Rattle.lp_stack.specs.TaskView.{seen};
 ghost use Rattle.lp_patch.specs.Aimed.{aimed};
 ghost use Rattle.lp_scan.specs.Found.{found_of};
-ghost use Rattle.lp_scan.specs.Pieces.{piece_of, GivesPieces};
+ghost use Rattle.lp_scan.specs.inside.Pieces.{piece_of, GivesPieces};
 
 use crate::pieces::piece;
 use crate::scan_plain;

@@ -3,7 +3,8 @@ use Rattle.std.proofs.lemmas.Result.{IfErr-weaker, IfOk-weaker}
 use Rattle.clap.specs.Words.{app_of, kind_of}
 use Rattle.clap.proofs.TakesLemmas.{passed_up}
 use Rattle.lp_program.specs.declared.words.WordsFault.TheVariants.{NoMemory}
-use Rattle.lp_program.specs.Asked.{NamesNoTask, asked_in}
+use Rattle.lp_program.specs.Asked.{asked_in}
+use Rattle.lp_program.specs.inside.WordsFaults.{NamesNoTask}
 use Rattle.lp_program.proofs.Matched.{asks_nothing, refused, refused_asks_nothing, taken}
 use Rattle.lp_program.proofs.words.task_of.Goals as goal
 
