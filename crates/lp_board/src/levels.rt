@@ -2,7 +2,6 @@
 ghost use Rattle.std.specs.Prelude.{◌≡◌, ◌≤◌, ◌&&◌, ◌||◌, ℕ, None, IfOk, length, nat_eq, slice_index_or, slice_set};
 ghost use Rattle.lp_numbers.specs.Numbers.{has};
 ghost use Rattle.lp_transition.specs.Table.{standings};
-ghost use Rattle.lp_transition.specs.inside.ScanSteps.{IsNextBelow};
 ghost use Rattle.lp_board.specs.Blanks.{levels_of};
 ghost use Rattle.lp_board.specs.Levels.{AreLive};
 ghost use Rattle.lp_board.specs.Pages.{level_of, shown_by, written};
@@ -94,6 +93,7 @@ impl Levels {
 }
 
 /// What is shown under a heading of the tasks that live, by increasing number.
+#[tactic(auto, using(lp_transition::proofs::Ascending::in_order))]
 fn shown_of(
     alloc: Global,
     levels: &[Option<Level>],
@@ -104,11 +104,9 @@ fn shown_of(
     ensures { IfOk result (λ tasks. tasks.items ≡ all_shown (λ t. shown_by heading (slice_index_or levels.now t None))) }
 {
     let mut tasks = Vec::new(alloc);
-    let mut next = member_from(live, 0);
-    while let Some(number) = next {
+    for number in live {
         let task = TaskId(number);
         tasks.push((task, shown_by(heading, level_at(levels, task))))?;
-        next = member_from(live, usize::from(number) + 1);
     }
     Ok(tasks)
 }
@@ -160,14 +158,4 @@ fn add_if(set: &mut NumberSet, number: u16, is_asked: bool)
     if is_asked {
         set.insert(number);
     }
-}
-
-/// The least member of a set that is at or above a number, which may be past all members.
-fn member_from(set: &NumberSet, first: usize) -> Option<u16>
-    ensures { IsNextBelow 65536 (has set.now) first result }
-{
-    if first >= NUMBERS {
-        return None;
-    }
-    set.next(first as u16)
 }

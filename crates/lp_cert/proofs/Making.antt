@@ -7,7 +7,7 @@ use Rattle.std.proofs.lemmas.List.{reverse-reverse}
 use Rattle.lp_stack.specs.declared.number.GroupId.{GroupId}
 use Rattle.lp_numbers.specs.Numbers.{Numbers, has, IsNextFrom}
 use Rattle.lp_transition.specs.Scan.{passing}
-use Rattle.lp_transition.proofs.Passing.{passing-next}
+use Rattle.lp_transition.proofs.Passing.{passing-none, passing-skip}
 use Rattle.lp_cert.specs.declared.cert.Claim.{Claim}
 use Rattle.lp_cert.specs.declared.cert.Claim.TheVariants.{Floor}
 use Rattle.lp_cert.specs.declared.cert.Cert.{Cert}
@@ -204,9 +204,9 @@ passing_first n limit test below holds =
 
 pub least_waiter : (w : WaitingGroups) (o : Option GroupId) → IsNextFrom (has w.groups) 0 (option_map (λ (g : GroupId). g.0) o) → IfSome o (λ g. g.0 < 65536) → floor_waiters w.reasons o ≡ take 1 (waiters_of w)
 least_waiter w None next few =
-    sym (ap (λ ns. take 1 (map (waiter_in w.reasons) ns)) (passing-next 65536 (has w.groups) 0 None (λ n low high. next n low)))
+    sym (ap (λ ns. take 1 (map (waiter_in w.reasons) ns)) (passing-none 0 65536 (has w.groups) (λ n low high. next n low)))
 least_waiter w (Some g) next few =
-    sym (ap (λ ns. take 1 (map (waiter_in w.reasons) ns)) (passing-next 65536 (has w.groups) 0 (Some g.0) (few, next))
+    sym (ap (λ ns. take 1 (map (waiter_in w.reasons) ns)) (passing-skip 0 g.0 65536 (has w.groups) (omega arith) (omega (arith, few)) next.least)
     ∙ (take_one (waiter_in w.reasons) (passing g.0 65536 (has w.groups))
     ∙ ap (map (waiter_in w.reasons)) (passing_first g.0 65536 (has w.groups) few next.passes)))
 

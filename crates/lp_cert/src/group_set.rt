@@ -1,8 +1,9 @@
 //! Sets of groups.
-ghost use Rattle.std.specs.Prelude.{◌≡◌, ◌<◌, ◌≤◌, ℕ, true, false, length, slice_set, IfOk};
+ghost use Rattle.std.specs.Prelude.{◌≡◌, ◌<◌, ◌≤◌, ◌↔◌, ℕ, true, false, length, slice_set, IfOk, IsTrue};
 ghost use Rattle.lp_numbers.specs.Numbers.{has, IsEmpty, IsNextFrom};
+ghost use Rattle.lp_numbers.specs.Ascending.{members_from};
 
-use lp_numbers::NumberSet;
+use lp_numbers::{Ascending, NumberSet};
 use std::alloc::{AllocError, Global};
 use std::marker::Model;
 
@@ -52,6 +53,13 @@ impl GroupSet {
         self.groups.contains(group)
     }
 
+    /// Whether there is no member.
+    pub(crate) fn is_empty(&self) -> bool
+        ensures { IsTrue result ↔ IsEmpty self.now }
+    {
+        self.groups.is_empty()
+    }
+
     /// The least member that is at or above a number, if there is one.
     pub(crate) fn next(&self, from: u16) -> Option<u16>
         ensures { IsNextFrom (has self.now) from result }
@@ -84,6 +92,18 @@ impl GroupSet {
     {
         self.groups.clear();
         self.bound = 0;
+    }
+}
+
+impl<'a> IntoIterator for &'a GroupSet {
+    type Item = u16;
+
+    type IntoIter = Ascending<'a>;
+
+    ghost into_iter_gives = { λ set left. left ≡ members_from 0 set.now };
+
+    fn into_iter(self) -> Ascending<'a> {
+        self.groups.iter()
     }
 }
 

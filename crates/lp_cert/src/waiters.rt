@@ -6,7 +6,6 @@ ghost use Rattle.lp_numbers.specs.Numbers.{has, IsEmpty, IsNextFrom};
 ghost use Rattle.lp_transition.specs.Leg.{State};
 ghost use Rattle.lp_transition.specs.Sound.{IsSound};
 ghost use Rattle.lp_transition.specs.Scan.{passing};
-ghost use Rattle.lp_transition.specs.inside.ScanSteps.{IsNextBelow};
 ghost use Rattle.lp_transition.specs.Table.{state_in};
 ghost use Rattle.lp_cert.specs.inside.Heads.{HasFrameAs};
 ghost use Rattle.lp_transition.specs.Blames.{has_frame_in, first_refused};
@@ -22,7 +21,7 @@ use crate::head::{OwnFork, Refused, Waiter};
 use crate::ongoing::Ongoing;
 use crate::reasons::Reasons;
 use lp_model::{Consistency, Verdict};
-use lp_numbers::{NUMBERS, NumberSet};
+use lp_numbers::NumberSet;
 use lp_stack::{Frame, GroupId, Level, TaskId};
 use lp_transition::{Core, Event};
 use std::alloc::{AllocError, Global};
@@ -348,31 +347,20 @@ fn above_child(event: Event) -> usize
 }
 
 /// The groups of a set as they stand, in increasing order.
+#[tactic(auto, using(lp_transition::proofs::Ascending::in_order))]
 fn listed(alloc: Global, groups: &GroupSet, reasons: &Reasons) -> Result<Vec<Waiter>, AllocError>
     ensures { IfOk result (λ list. list.items ≡ map (waiter_in reasons.now) (passing 0 65536 (has groups.now))) }
 {
-    let mut next = member_from(groups, 0);
     // A list that grows from nothing begins with room for four, which is most of what a short leg takes.
-    let mut list = Vec::with_capacity(alloc, usize::from(next.is_some()))?;
-    while let Some(number) = next {
+    let mut list = Vec::with_capacity(alloc, usize::from(!groups.is_empty()))?;
+    for number in groups {
         let group = GroupId(number);
         list.push(Waiter {
             group,
             head: reasons.head(group),
         })?;
-        next = member_from(groups, usize::from(number) + 1);
     }
     Ok(list)
-}
-
-/// The least member of a set that is at or above a number, which may be past all members.
-fn member_from(set: &GroupSet, first: usize) -> Option<u16>
-    ensures { IsNextBelow 65536 (has set.now) first result }
-{
-    if first >= NUMBERS {
-        return None;
-    }
-    set.next(first as u16)
 }
 
 /// The groups of the live tasks off a level begin to wait, without any reason.

@@ -2,9 +2,10 @@
 use Rattle.std.proofs.Common.{◌≡◌, ℕ, zero, suc, ◌+◌, ◌-◌, ◌<◌, ◌≤◌, Bool, true, false, ◌||◌, List, [], ◌∷◌, ◌++◌, map, Option, Some, None, is_some, nat_eq, refl, sym, ap, ap₂, ◌∙◌, ⊎_elim, arith}
 use Rattle.std.proofs.lemmas.Bool.{false≢true, cases_Bool, cases_eq, or_right, eq-eqb, ne_eqb}
 use Rattle.std.specs.List.{filter_map, cons_option}
+use Rattle.lp_numbers.proofs.Ascents.{none_in}
 use Rattle.lp_transition.specs.Tasks.{first_of}
 use Rattle.lp_transition.specs.Scan.{passing}
-use Rattle.lp_transition.proofs.Passing.{passes, skip_one, keep_one, none_in}
+use Rattle.lp_transition.proofs.Passing.{passes, skip_one, keep_one}
 
 -- ---- One number more
 

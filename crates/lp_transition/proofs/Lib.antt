@@ -62,3 +62,4 @@ pub mod QuietScans
 pub mod BootLemmas
 pub mod OpeningLemmas
 pub mod Readers
+pub mod Ascending

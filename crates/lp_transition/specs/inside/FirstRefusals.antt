@@ -1,5 +1,5 @@
 -- Whom a scan asks that wants to know of each group the first member that it refuses, and what its verdicts then tell.
-use Rattle.std.specs.Prelude.{◌≡◌, ℕ, ◌<◌, Bool, true, false, not, ◌&&◌, List, Option, Some, None, is_some, if◌then◌else◌, nat_eq}
+use Rattle.std.specs.Prelude.{◌≡◌, ℕ, ◌<◌, Bool, true, false, not, ◌&&◌, List, [], ◌∷◌, Option, None, is_some, if◌then◌else◌, nat_eq}
 use Rattle.std.specs.List.{list_any}
 use Rattle.lp_numbers.specs.Numbers.{Numbers, has}
 use Rattle.lp_model.specs.declared.check.CheckKind.{CheckKind}
@@ -17,10 +17,10 @@ abbrev pub asked_slot : Table → (waiting may_refuse unrefused : Numbers) → �
 asked_slot table waiting may_refuse unrefused t =
     if has may_refuse t && task_switches (has unrefused) (waiting_slot table waiting t) then waiting_slot table waiting t else None
 
--- the place to which a loop has come whose next number is this
-abbrev pub place_of : Option ℕ → ℕ
-place_of None = 65536
-place_of (Some n) = n
+-- the place to which a loop has come that has these numbers left
+abbrev pub place_of : List ℕ → ℕ
+place_of [] = 65536
+place_of (n ∷ ns) = n
 
 -- a scan of this kind would admit each waiting task that fails a test
 abbrev pub AdmitsOthers : Rules → CheckKind → State → (may_refuse : ℕ → Bool) → Type 0

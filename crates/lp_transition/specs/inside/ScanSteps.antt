@@ -1,9 +1,9 @@
 -- How the engine goes from the verdicts of a scan to who switches, and what it leaves.
-use Rattle.std.specs.Prelude.{◌≡◌, ◌≢◌, ◌↔◌, ℕ, ◌<◌, ◌≤◌, Bool, true, false, not, ◌&&◌, List, [], length, map, Option, Some, None, is_some, is_none, if◌then◌else◌, nat_eq}
+use Rattle.std.specs.Prelude.{◌≡◌, ◌≢◌, ◌↔◌, ℕ, ◌<◌, Bool, true, false, not, ◌&&◌, List, [], length, map, Option, Some, None, is_some, is_none, if◌then◌else◌, nat_eq}
 use Rattle.std.specs.List.{list_any}
 use Rattle.std.specs.Option.{option_map}
 use Rattle.lp_model.specs.declared.verdict.Verdict.{Verdict}
-use Rattle.lp_numbers.specs.Numbers.{Numbers, has, IsLeastFrom}
+use Rattle.lp_numbers.specs.Numbers.{Numbers, has}
 use Rattle.lp_transition.specs.declared.event.Event.{Event}
 use Rattle.lp_transition.specs.declared.reply.What.{What}
 use Rattle.lp_transition.specs.declared.reply.What.TheVariants.{Switched}
@@ -11,7 +11,6 @@ use Rattle.lp_transition.specs.Events.{is_scan}
 use Rattle.lp_transition.specs.Leg.{Standing}
 use Rattle.lp_transition.specs.Table.{Table, slot, IsWide}
 use Rattle.lp_transition.specs.inside.Table.{is_in}
-use Rattle.lp_transition.specs.Scan.{passing}
 
 -- ---- Who is looked at
 
@@ -96,15 +95,3 @@ pub record AreSwitched (taken switches : ℕ → Bool) (target : ℕ) (old new :
   pub numbers : length left ≡ length waiting
   pub used : new.used ≡ old.used
   pub wide : IsWide old → IsWide new
-
--- ---- Going through a set of numbers
-
--- those from a number on, where there is one
-abbrev pub passing_at : Option ℕ → ℕ → (ℕ → Bool) → List ℕ
-passing_at None limit test = []
-passing_at (Some n) limit test = passing n limit test
-
--- the least number from a first one to below a limit that passes a test; None where none does
-abbrev pub IsNextBelow : ℕ → (ℕ → Bool) → ℕ → Option ℕ → Type 0
-IsNextBelow limit test first None = (n : ℕ) → first ≤ n → n < limit → test n ≡ false
-IsNextBelow limit test first (Some n) = (n < limit) × IsLeastFrom test first n

@@ -7,7 +7,6 @@ ghost use Rattle.lp_transition.specs.Blames.{or_blame};
 ghost use Rattle.lp_transition.specs.inside.Blames.{blame_at, looked_at, found_by, told_of, IsDecided};
 
 use super::blame_table::BlameTable;
-use super::scan::member_from;
 use super::task_table::TaskTable;
 use lp_model::{Blame, Verdict};
 use lp_numbers::NumberSet;
@@ -135,10 +134,8 @@ fn clear_members(of_group: &mut BlameTable, groups: &NumberSet)
     ensures none { (group : ℕ) → blame_at of_group.new group ≡ None }
     ensures count { length of_group.new ≤ 65536 }
 {
-    let mut from = 0usize;
-    while let Some(number) = member_from(groups, from) {
+    for number in groups {
         of_group.put(number, None);
-        from = usize::from(number) + 1;
     }
 }
 

@@ -13,7 +13,7 @@ ghost use Rattle.lp_transition.specs.inside.ScanSteps.{is_found, is_judged};
 use super::dispatch::verdicts;
 use super::live_view::LiveView;
 use super::open_scan::members_of;
-use super::scan::{member_from, remove_group, views_in, waiting_task};
+use super::scan::{remove_group, views_in, waiting_task};
 use super::step::{Halt, Step};
 use super::task_table::TaskTable;
 use super::{Core, MOST_EVENTS};
@@ -116,12 +116,10 @@ impl<M: Consistency> Core<M> {
 
     /// Whether no group of a set has more than some tens of members. Only the cost depends on it.
     fn are_small(&self, groups: &NumberSet) -> bool {
-        let mut next = member_from(groups, 0);
-        while let Some(number) = next {
+        for number in groups {
             if self.tasks.has_more_than(GroupId(number), SMALL_GROUP) {
                 return false;
             }
-            next = member_from(groups, usize::from(number) + 1);
         }
         true
     }
@@ -140,8 +138,7 @@ impl<M: Consistency> Core<M> {
     {
         let aim = self.aim();
         let mut found = Vec::new(alloc);
-        let mut next = member_from(candidates, 0);
-        while let Some(number) = next {
+        for number in candidates {
             if unrefused.is_empty() {
                 return Ok(found);
             }
@@ -157,7 +154,6 @@ impl<M: Consistency> Core<M> {
                 remove_refused(unrefused, &self.tasks, &verdict);
                 found.push(verdict)?;
             }
-            next = member_from(candidates, usize::from(number) + 1);
         }
         Ok(found)
     }

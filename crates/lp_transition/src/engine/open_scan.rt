@@ -15,7 +15,7 @@ ghost use Rattle.lp_transition.specs.declared.engine.step.Halt.TheVariants.{NoMe
 ghost use Rattle.lp_transition.specs.Machine.{answer};
 
 use super::dispatch::verdicts;
-use super::scan::{member_from, views_in};
+use super::scan::views_in;
 use super::step::{Halt, Step};
 use super::task_table::TaskTable;
 use super::{Core, MOST_EVENTS};
@@ -160,12 +160,10 @@ impl<M: Consistency> Core<M> {
     pub(super) fn are_own(&self, groups: &NumberSet) -> bool
         ensures { IsTrue result → (group : ℕ) → group < 65536 → has groups.now group ≡ true → IsOwnGroup self.now.table group }
     {
-        let mut next = member_from(groups, 0);
-        while let Some(number) = next {
+        for number in groups {
             if !self.is_own(number) {
                 return false;
             }
-            next = member_from(groups, usize::from(number) + 1);
         }
         true
     }
@@ -184,6 +182,7 @@ impl<M: Consistency> Core<M> {
 }
 
 /// The live tasks of some groups, at the cost of the groups and of these tasks.
+#[tactic(auto, using(crate::proofs::Ascending::in_order))]
 pub(super) fn members_of(
     alloc: Global,
     tasks: &TaskTable,
@@ -192,10 +191,8 @@ pub(super) fn members_of(
     ensures { IfOk result (λ set. (task : ℕ) → has set task ≡ list_any (λ group. is_in group (slot tasks.now task)) (passing 0 65536 (has groups.now))) }
 {
     let mut members = NumberSet::new(alloc)?;
-    let mut next = member_from(groups, 0);
-    while let Some(group) = next {
+    for group in groups {
         tasks.add_members(GroupId(group), &mut members);
-        next = member_from(groups, usize::from(group) + 1);
     }
     Ok(members)
 }
@@ -205,12 +202,11 @@ pub(super) fn members_of(
 pub(super) fn looks_at_all(waiting: &NumberSet, verdicts: &[Verdict]) -> bool
     ensures { IsTrue result ↔ (tasks_of verdicts.now ≡ passing 0 65536 (has waiting.now)) }
 {
-    let mut next = member_from(waiting, 0);
+    let mut tasks = waiting.iter();
     for verdict in verdicts {
-        if next != Some(verdict.task.0) {
+        if tasks.next() != Some(verdict.task.0) {
             return false;
         }
-        next = member_from(waiting, usize::from(verdict.task.0) + 1);
     }
-    next.is_none()
+    tasks.next().is_none()
 }

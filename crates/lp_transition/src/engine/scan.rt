@@ -13,7 +13,7 @@ ghost use Rattle.lp_transition.specs.Run.{switched};
 ghost use Rattle.lp_transition.specs.Weigh.{IsWeighed};
 ghost use Rattle.lp_transition.specs.Steps.{IsReply};
 ghost use Rattle.lp_transition.specs.Scan.{is_scan_kind, scan_event, views_of, verdicts_of, AreEnough, passing};
-ghost use Rattle.lp_transition.specs.inside.ScanSteps.{IsNextBelow, waiting_slot, tasks_of, is_judged, is_found, switches_by, all_admit, groups_of, is_switching, IsTaskSwitched, AreSwitched};
+ghost use Rattle.lp_transition.specs.inside.ScanSteps.{waiting_slot, tasks_of, is_judged, is_found, switches_by, all_admit, groups_of, is_switching, IsTaskSwitched, AreSwitched};
 ghost use Rattle.lp_transition.specs.declared.engine.step.Halt.TheVariants.{JournalFull};
 
 use super::live_view::LiveView;
@@ -23,7 +23,7 @@ use super::task_table::TaskTable;
 use super::{Core, MOST_EVENTS};
 use crate::{Event, GroupList, Reply, What};
 use lp_model::{CheckKind, Consistency, Verdict};
-use lp_numbers::{NUMBERS, NumberSet};
+use lp_numbers::NumberSet;
 use lp_stack::{GroupId, Level, TaskId, View};
 use std::alloc::{AllocError, Global};
 
@@ -121,6 +121,7 @@ impl<M: Consistency> Core<M> {
 }
 
 /// The waiting tasks of a set as checks see them, by increasing number.
+#[tactic(auto, using(crate::proofs::Ascending::in_order))]
 pub(super) fn views_in<'a>(
     alloc: Global,
     tasks: &'a TaskTable,
@@ -130,13 +131,11 @@ pub(super) fn views_in<'a>(
     ensures { IfOk result (λ views. map seen views.items ≡ filter_map (λ t. option_map (view_of t) (waiting_slot tasks.now waiting.now t)) (passing 0 65536 (has set.now))) }
 {
     let mut views = Vec::new(alloc);
-    let mut next = member_from(set, 0);
-    while let Some(number) = next {
+    for number in set {
         let task = TaskId(number);
         if let Some(live) = waiting_task(tasks, waiting, task) {
             views.push(live.view(task))?;
         }
-        next = member_from(set, usize::from(number) + 1);
     }
     Ok(views)
 }
@@ -156,26 +155,15 @@ pub(super) fn waiting_task<'a>(
 }
 
 /// The members of a set as groups, in increasing order.
+#[tactic(auto, using(crate::proofs::Ascending::in_order))]
 fn group_list(alloc: Global, set: &NumberSet) -> Result<GroupList, AllocError>
     ensures { IfOk result (λ list. list ≡ passing 0 65536 (has set.now)) }
 {
     let mut groups = Vec::new(alloc);
-    let mut next = member_from(set, 0);
-    while let Some(number) = next {
+    for number in set {
         groups.push(GroupId(number))?;
-        next = member_from(set, usize::from(number) + 1);
     }
     GroupList::from_vec(alloc, groups)
-}
-
-/// The least member of a set that is at or above a number, which may be past all members.
-pub(super) fn member_from(set: &NumberSet, first: usize) -> Option<u16>
-    ensures { IsNextBelow 65536 (has set.now) first result }
-{
-    if first >= NUMBERS {
-        return None;
-    }
-    set.next(first as u16)
 }
 
 /// The event that is a check of this kind.
@@ -265,6 +253,7 @@ fn remove_refused(groups: &mut NumberSet, tasks: &TaskTable, verdicts: &[Verdict
 }
 
 /// The groups of the live tasks of a set.
+#[tactic(auto, using(crate::proofs::Ascending::in_order))]
 pub(super) fn groups_in(
     alloc: Global,
     tasks: &TaskTable,
@@ -273,10 +262,8 @@ pub(super) fn groups_in(
     ensures { IfOk result (λ groups. (group : ℕ) → has groups group ≡ list_any (λ t. is_in group (slot tasks.now t)) (passing 0 65536 (has set.now))) }
 {
     let mut groups = NumberSet::new(alloc)?;
-    let mut next = member_from(set, 0);
-    while let Some(number) = next {
+    for number in set {
         add_group(&mut groups, tasks, TaskId(number));
-        next = member_from(set, usize::from(number) + 1);
     }
     Ok(groups)
 }

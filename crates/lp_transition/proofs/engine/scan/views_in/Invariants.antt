@@ -1,19 +1,15 @@
-use Rattle.std.proofs.Common.{◌≡◌, ℕ, true, length, map, ◌++◌, Some}
+use Rattle.std.proofs.Common.{◌≡◌, map, ◌++◌}
 use Rattle.std.specs.List.{filter_map}
 use Rattle.std.specs.Option.{option_map}
 use Rattle.lp_stack.specs.TaskView.{seen}
 use Rattle.lp_numbers.specs.Numbers.{has}
 use Rattle.lp_transition.specs.Machine.{view_of}
 use Rattle.lp_transition.specs.Scan.{passing}
-use Rattle.lp_transition.specs.inside.ScanSteps.{waiting_slot, passing_at}
+use Rattle.lp_transition.specs.inside.ScanSteps.{waiting_slot}
 use Rattle.lp_transition.proofs.engine.scan.views_in.Given as goal
 
 -- the views so far, and those still to come
-abbrev pub invariant-loop-next : goal.invariant-loop-next
-invariant-loop-next l = record {
-  all : map seen l.views.items ++ filter_map (λ t. option_map (view_of t) (waiting_slot l.tasks l.waiting t)) (passing_at l.next 65536 (has l.set)) ≡ filter_map (λ t. option_map (view_of t) (waiting_slot l.tasks l.waiting t)) (passing 0 65536 (has l.set));
-  member : (n : ℕ) → l.next ≡ Some n → has l.set n ≡ true;
-}
-
-abbrev pub decreases-loop-next : goal.decreases-loop-next
-decreases-loop-next l = length (passing_at l.next 65536 (has l.set))
+abbrev pub invariant-loop-number : goal.invariant-loop-number
+invariant-loop-number l =
+    map seen l.views.items ++ filter_map (λ t. option_map (view_of t) (waiting_slot l.tasks l.waiting t)) l.number-iterator
+    ≡ filter_map (λ t. option_map (view_of t) (waiting_slot l.tasks l.waiting t)) (passing 0 65536 (has l.set))
