@@ -1,18 +1,15 @@
 -- The groups that wait, as the verdicts of a scan are noted one by one.
 use Rattle.std.proofs.Common.{◌≡◌, ◌≢◌, ℕ, ◌+◌, ◌<◌, ◌≤◌, Bool, true, false, List, [], ◌∷◌, ◌++◌, length, map, set, get_or, not, ◌&&◌, Option, Some, None, if◌then◌else◌, nat_eq, refl, sym, ap, ap₂, subst, ◌∙◌, arith}
-use Rattle.std.specs.List.{AllByRecursion, list_any}
+use Rattle.std.specs.List.{AllByRecursion}
 use Rattle.std.specs.Option.{option_map}
 use Rattle.std.proofs.lemmas.Bool.{false≢true, cond-true, cond-false, eqb-true, eqb-false}
 use Rattle.std.proofs.lemmas.List.{get_or-set_same, get_or-set_other, length-append, length-set, map-append}
 use Rattle.lp_stack.specs.declared.number.GroupId.{GroupId}
-use Rattle.lp_stack.specs.declared.number.TaskId.{TaskId}
-use Rattle.lp_stack.specs.TaskView.{TaskView}
 use Rattle.lp_numbers.specs.Numbers.{Numbers, has, IsEmpty}
 use Rattle.lp_model.specs.declared.check.Blame.{Blame}
 use Rattle.lp_model.specs.declared.verdict.Verdict.{Verdict}
 use Rattle.lp_transition.specs.Tasks.{on_live, first_of}
 use Rattle.lp_transition.specs.Leg.{Standing, State}
-use Rattle.lp_transition.specs.Machine.{view_of}
 use Rattle.lp_transition.specs.Table.{Table, slot, fate_at, standings}
 use Rattle.lp_cert.specs.declared.line.Line.{Line}
 use Rattle.lp_cert.specs.declared.reason.Reason.{Reason}
@@ -49,18 +46,6 @@ lines_kept old new scans g h kept known = ap (λ rs. lines_of scans (ongoing_rea
 
 some_none : {A : Type 0} (a : A) → Some a ≡ None → ⊥
 some_none a e = absurd (cc)
-
--- ---- Whether a frame is still there
-
-pub held_in : (table : Table) (task : TaskId) (serial : ℕ) (v : TaskView) → Some v ≡ option_map (view_of task.0) (slot table task.0)
-    → on_live false (λ x. list_any (λ frame. nat_eq frame.serial serial) x.frames) (standings table task.0) ≡ list_any (λ frame. nat_eq frame.serial serial) v.frames
-held_in table task serial v e = by (slot table task.0) (get_or table.used task.0 false) e
-  where
-    by : (s : Option Standing) (used : Bool) → Some v ≡ option_map (view_of task.0) s → on_live false (λ (x : Standing). list_any (λ frame. nat_eq frame.serial serial) x.frames) (fate_at s used) ≡ list_any (λ frame. nat_eq frame.serial serial) v.frames
-    by None used e = absurd (some_none v e)
-    by (Some x) used e =
-        let same : v ≡ view_of task.0 x = cc in
-        ap (λ (w : TaskView). list_any (λ frame. nat_eq frame.serial serial) w.frames) (sym same)
 
 -- ---- Whose verdict it is
 

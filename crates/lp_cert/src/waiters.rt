@@ -22,7 +22,7 @@ use crate::ongoing::Ongoing;
 use crate::reasons::Reasons;
 use lp_model::{Consistency, Verdict};
 use lp_numbers::NumberSet;
-use lp_stack::{Frame, GroupId, Level, TaskId};
+use lp_stack::{GroupId, Level, TaskId};
 use lp_transition::{Core, Event};
 use std::alloc::{AllocError, Global};
 use std::marker::Model;
@@ -323,17 +323,7 @@ pub(crate) fn has_standing_frame<M: Consistency>(core: &Core<M>, ongoing: Ongoin
     let Ongoing::Hold { task, serial, .. } = ongoing else {
         return false;
     };
-    match core.task(task) {
-        Some(view) => has_serial(view.frames, serial),
-        None => false,
-    }
-}
-
-/// Whether a frame has this serial.
-fn has_serial(frames: &[Frame], serial: u64) -> bool
-    ensures { result ≡ list_any (λ frame. nat_eq frame.serial serial) frames.now }
-{
-    frames.iter().any(|frame| u64::from(frame.serial) == serial)
+    core.has_frame(task, serial)
 }
 
 /// A number above the group of a child's own that an event may bring.

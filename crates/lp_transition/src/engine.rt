@@ -5,7 +5,7 @@ ghost use Rattle.lp_patch.specs.Aimed.{aimed};
 ghost use Rattle.lp_numbers.specs.Numbers.{IsNextFrom};
 ghost use Rattle.lp_transition.specs.Sound.{IsSound};
 ghost use Rattle.lp_transition.specs.Table.{IsWide, slot, standings, bounds_of, state_in};
-ghost use Rattle.lp_transition.specs.Blames.{blame_of};
+ghost use Rattle.lp_transition.specs.Blames.{blame_of, has_frame_in};
 ghost use Rattle.lp_transition.specs.Leg.{is_alone};
 ghost use Rattle.lp_stack.specs.TaskView.{seen};
 ghost use Rattle.lp_transition.specs.Machine.{complete_in, outlines_of, view_of};
@@ -142,6 +142,16 @@ impl<M: Consistency> Core<M> {
         ensures { option_map (λ group. group.0) result ≡ option_map (λ x. x.group) (slot self.now.table task.0) }
     {
         self.tasks.group_of(task)
+    }
+
+    /// Whether a frame with this serial is on the stack of a live task.
+    pub fn has_frame(&self, task: TaskId, serial: u64) -> bool
+        ensures { result ≡ has_frame_in (state_in self.now) task.0 serial }
+    {
+        match self.tasks.get(task) {
+            Some(live) => live.has_frame(serial),
+            None => false,
+        }
     }
 
     /// The standing blame of a group: a frame by which every check of it is refused until the frame is

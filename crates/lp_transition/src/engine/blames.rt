@@ -10,7 +10,7 @@ use super::blame_table::BlameTable;
 use super::task_table::TaskTable;
 use lp_model::{Blame, Verdict};
 use lp_numbers::NumberSet;
-use lp_stack::{Frame, GroupId, TaskId};
+use lp_stack::{GroupId, TaskId};
 use std::alloc::{AllocError, Global};
 use std::marker::Model;
 
@@ -104,7 +104,7 @@ impl Blames {
         if blame.task.0 != task.0 {
             return;
         }
-        if has_serial(live.view(task).frames, blame.serial) {
+        if live.has_frame(blame.serial) {
             return;
         }
         self.of_group.put(group.0, None);
@@ -137,13 +137,6 @@ fn clear_members(of_group: &mut BlameTable, groups: &NumberSet)
     for number in groups {
         of_group.put(number, None);
     }
-}
-
-/// Whether a frame has a serial.
-fn has_serial(frames: &[Frame], serial: u64) -> bool
-    ensures { result ≡ list_any (λ frame. nat_eq frame.serial serial) frames.now }
-{
-    frames.iter().any(|frame| u64::from(frame.serial) == serial)
 }
 
 /// The verdicts are by increasing task number: the first that refuses a member of a group decides.

@@ -1,5 +1,6 @@
 //! A live task as it stands.
-ghost use Rattle.std.specs.Prelude.{◌≡◌, ◌≤◌, length};
+ghost use Rattle.std.specs.Prelude.{◌≡◌, ◌≤◌, length, nat_eq};
+ghost use Rattle.std.specs.List.{list_any};
 ghost use Rattle.lp_stack.specs.TaskView.{seen};
 ghost use Rattle.lp_transition.specs.Machine.{view_of};
 
@@ -81,5 +82,15 @@ impl<'a> LiveView<'a> {
         ensures few { result ≤ 100 }
     {
         self.frames.len()
+    }
+
+    /// Whether a frame with this serial is on the stack.
+    #[inline(always)]
+    pub(crate) fn has_frame(&self, serial: u64) -> bool
+        ensures { result ≡ list_any (λ frame. nat_eq frame.serial serial) self.now.frames }
+    {
+        self.frames
+            .iter()
+            .any(|frame| u64::from(frame.serial) == serial)
     }
 }
