@@ -1,10 +1,11 @@
 //! An engine and a board that have no name yet.
-ghost use Rattle.std.specs.Prelude.{◌≡◌, ◌⊎◌, ◌↔◌, [], Err, None, All, IfOk, IfErr, IfSome, OnErr, OnOk, drop, length};
+ghost use Rattle.std.specs.Prelude.{◌≡◌, ◌⊎◌, ◌↔◌, [], Err, None, Ok, All, IfOk, IfErr, IfSome, OnErr, OnOk, drop, length};
 ghost use Rattle.lp_transition.specs.Boot.{boot_refusal};
 ghost use Rattle.lp_transition.specs.Steps.{StandsIn};
-ghost use Rattle.lp_transition.specs.Table.{state_in};
+ghost use Rattle.lp_transition.specs.Table.{bounds_of, state_in};
 ghost use Rattle.lp_transition.specs.declared.engine.boot.BootFault.TheVariants as boot_fault;
-ghost use Rattle.lp_board.specs.Blanks.{IsCrew, name_of};
+ghost use Rattle.lp_board.specs.Blanks.{IsCrew, levels_of, name_of};
+ghost use Rattle.lp_board.specs.History.{head_of};
 ghost use Rattle.lp_board.specs.Names.{run_of};
 ghost use Rattle.lp_board.specs.Pages.{IsPage};
 ghost use Rattle.lp_board.specs.Publishers.{page_of};
@@ -53,6 +54,15 @@ impl<M: Consistency> Model for Blank<M> {
     ghost invariant = { λ b. IsBlank (name_of M.rules (record { patches = b.patches; boots = b.boots.items; book = b.seen.book; readers = b.readers })) b.core b.patches (record { levels = b.first; heading = b.heading; events = [] }) (record { levels = b.second; heading = b.heading; events = [] }) b.seen.log b.head b.readers };
 }
 
+/// What a blank keeps beside its engine.
+#[derive(Drop)]
+struct Kept {
+    patches: PatchStack,
+    boots: Vec<(TaskId, Class)>,
+    first: Levels,
+    second: Levels,
+}
+
 /// What a blank comes apart into, once it has a name. The publisher isn't `Drop`: end it by `Publisher::shut`.
 pub struct Parts<M: Consistency, N: DeskName> {
     /// The engine.
@@ -88,24 +98,67 @@ impl<M: Consistency> Blank<M> {
         if readers == 0 || readers > MOST_CREW {
             return Err(LaunchFault::BadCrew);
         }
-        let kept = patches.copy(alloc);
-        let list = Vec::from_slice(alloc, boots);
+        let patched = patches.copy(alloc);
         let core = Core::boot(alloc, model, patches, boots)?;
-        let (seen, mut first, _second) = Seen::open(Start::alone(), 0, 0);
-        Ok(Blank {
-            patches: kept?,
-            boots: list?,
+        Ok(Blank::after(alloc, core, patched, boots, readers)?)
+    }
+
+    /// A blank of an engine at its start, with a copy of the patches, if one could be made.
+    ///
+    /// Apart from `new`, and with a `drop` of its own: the proof goes over each part of an engine at each early return that
+    /// gives one up, and took ten minutes.
+    fn after(
+        alloc: Global,
+        core: Core<M>,
+        patched: Result<PatchStack, AllocError>,
+        boots: &[(TaskId, Class)],
+        readers: usize,
+    ) -> Result<Blank<M>, AllocError>
+        requires stands { StandsIn M.rules (record { bounds = bounds_of core.patches; patches = core.patches; boots = boots.now; events = [] }) (state_in core) }
+        requires opening { (core.from ≡ 0) × (core.target ≡ 0) }
+        requires patches { IfOk patched (λ patches. patches ≡ core.patches) }
+        requires crew { IsCrew readers }
+        ensures { IfOk result (λ blank. (blank.patches ≡ core.patches) × (blank.boots ≡ boots.now) × (blank.readers ≡ readers)) }
+    {
+        match keep(alloc, &core, patched, boots) {
+            Ok(kept) => Ok(Blank::of(core, kept, readers)),
+            Err(error) => {
+                drop(core);
+                Err(error)
+            }
+        }
+    }
+
+    /// A blank of an engine at its start.
+    fn of(core: Core<M>, kept: Kept, readers: usize) -> Blank<M>
+        requires stands { StandsIn M.rules (record { bounds = bounds_of core.patches; patches = core.patches; boots = kept.boots.items; events = [] }) (state_in core) }
+        requires opening { (core.from ≡ 0) × (core.target ≡ 0) }
+        requires patches { kept.patches ≡ core.patches }
+        requires levels { (kept.first ≡ levels_of core) × (kept.second ≡ levels_of core) }
+        requires crew { IsCrew readers }
+        ensures { (result.patches ≡ kept.patches) × (result.boots ≡ kept.boots.items) × (result.readers ≡ readers) }
+    {
+        let Kept {
+            patches,
+            boots,
+            first,
+            second,
+        } = kept;
+        let (seen, mut pen, _unused) = Seen::open(Start::alone(), 0, 0);
+        Blank {
+            patches,
+            boots,
             heading: Heading {
                 in_transition: core.in_transition(),
                 lower: Level(0),
             },
-            first: Levels::of(alloc, &core)?,
-            second: Levels::of(alloc, &core)?,
-            head: Word::tracked(0, &mut first),
+            first,
+            second,
+            head: Word::tracked(0, &mut pen),
             seen,
             readers,
             core,
-        })
+        }
     }
 
     /// The engine, its start, what publishes on its board, and the board's readers, under the desk's name.
@@ -146,20 +199,72 @@ impl<M: Consistency> Blank<M> {
             heading,
             prefix: prefix.again(),
         };
-        let mut readers = Vec::with_capacity(alloc, count)?;
-        let writer = RawWriter::<N>::new(alloc, first, second, count)?;
-        let (writer, made) = crewed(rt, alloc, writer, &prefix, heading, &mut readers, count);
-        if let Err(fault) = made {
-            drop(writer.take(rt));
-            return Err(fault);
+        match opened(rt, alloc, head, prefix, first, second, count) {
+            Ok((board, readers)) => Ok(Parts {
+                core,
+                patches,
+                boots,
+                board,
+                readers,
+            }),
+            Err(fault) => {
+                drop(core);
+                drop(patches);
+                drop(boots);
+                Err(fault)
+            }
         }
-        Ok(Parts {
-            core,
-            patches,
-            boots,
-            board: Publisher::new(head, prefix, writer),
-            readers,
-        })
+    }
+}
+
+/// What a blank keeps beside an engine; AllocError where an allocation failed.
+fn keep<M: Consistency>(
+    alloc: Global,
+    core: &Core<M>,
+    patched: Result<PatchStack, AllocError>,
+    boots: &[(TaskId, Class)],
+) -> Result<Kept, AllocError>
+    ensures start { IfOk result (λ kept. (patched ≡ Ok kept.patches) × (kept.boots.items ≡ boots.now)) }
+    ensures levels { IfOk result (λ kept. (kept.first ≡ levels_of core.now) × (kept.second ≡ levels_of core.now)) }
+{
+    Ok(Kept {
+        patches: patched?,
+        boots: Vec::from_slice(alloc, boots)?,
+        first: Levels::of(alloc, core)?,
+        second: Levels::of(alloc, core)?,
+    })
+}
+
+/// What publishes on a board whose two sheets show the start, and the board's readers.
+fn opened<N: DeskName, R: Wait>(
+    rt: &R,
+    alloc: Global,
+    head: Head,
+    prefix: Prefix<N>,
+    first: Sheet<N>,
+    second: Sheet<N>,
+    count: usize,
+) -> Result<(Publisher<N>, Vec<BoardReader<N>>), LaunchFault>
+    requires head { head ≡ head_of N.desk.book }
+    requires empty { (prefix ≡ []) × (first.prefix ≡ []) }
+    requires page { IsPage N.desk (page_of first) }
+    requires alike { page_of first ≡ page_of second }
+    requires crew { IsCrew count }
+    ensures published { IfOk result (λ board. board.0 ≡ []) }
+    ensures readers { IfOk result (λ board. All (λ b. b ≡ record { seen = []; known = [] }) board.1.items) }
+    ensures count { IfOk result (λ board. length board.1.items ≡ count) }
+    ensures refused { IfErr result (λ fault. (fault ≡ Boot boot_fault.NoMemory) ⊎ (fault ≡ NoBoard)) }
+{
+    let heading = first.heading;
+    let mut readers = Vec::with_capacity(alloc, count)?;
+    let writer = RawWriter::<N>::new(alloc, first, second, count)?;
+    let (writer, made) = crewed(rt, alloc, writer, &prefix, heading, &mut readers, count);
+    match made {
+        Ok(()) => Ok((Publisher::new(head, prefix, writer), readers)),
+        Err(fault) => {
+            drop(writer.take(rt));
+            Err(fault)
+        }
     }
 }
 
