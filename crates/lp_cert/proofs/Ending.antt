@@ -1,9 +1,12 @@
 -- The certificates of the leg under way as it ends.
-use Rattle.std.proofs.Common.{◌≡◌, ℕ, ◌+◌, Bool, true, List, [], ◌∷◌, ◌++◌, length, map, get_or, Option, Some, None, is_some, refl, sym, ap, ap₂, ◌∙◌, arith}
+use Rattle.std.proofs.Common.{◌≡◌, ℕ, ◌+◌, ◌<◌, ◌||◌, Bool, true, List, [], ◌∷◌, ◌++◌, length, map, nat_eq, get_or, Option, Some, None, is_some, refl, sym, ap, ap₂, ◌∙◌, arith}
 use Rattle.std.specs.Option.{option_map}
 use Rattle.lp_transition.specs.Scan.{passing}
-use Rattle.lp_transition.specs.inside.ScanSteps.{IsNextBelow}
-use Rattle.lp_transition.proofs.Passing.{passing-next, passing-step}
+use Rattle.lp_numbers.specs.Numbers.{Numbers, has}
+use Rattle.lp_numbers.specs.Ascending.{members_from}
+use Rattle.lp_transition.proofs.Ascending.{members-any, members-passing}
+use Rattle.std.proofs.lemmas.Bool.{eq-eqb}
+use Rattle.std.specs.List.{list_any}
 use Rattle.lp_cert.specs.declared.cert.Claim.{Claim}
 use Rattle.lp_cert.specs.declared.cert.Cert.{Cert}
 use Rattle.lp_cert.specs.declared.head.Head.{Head}
@@ -51,8 +54,12 @@ ended_so leg w noted certs end is same =
     is ∙ ap (λ (cs : List Cert). record { opened = leg.opened; target = leg.target; completed = option_map (λ done. done.at) leg.completed; certs = cs }) same
 
 -- a group behind which none waits
-pub one_passes : (test : ℕ → Bool) (n : ℕ) → IsNextBelow 65536 test 0 (Some n) → IsNextBelow 65536 test (n + 1) None → passing 0 65536 test ≡ n ∷ []
-one_passes test n at after = passing-next 65536 test 0 (Some n) at ∙ passing-step 65536 test n None at.0 at.1.passes after
+pub one_passes : (set : Numbers) (n : ℕ) (left : List ℕ) → members_from 0 set ≡ n ∷ left → left ≡ [] → passing 0 65536 (has set) ≡ n ∷ []
+one_passes set n left first none = sym (members-passing set) ∙ (first ∙ ap (λ (l : List ℕ). n ∷ l) none)
+
+-- the least group that waits does wait
+pub first_waits : (set : Numbers) (n : ℕ) (left : List ℕ) → members_from 0 set ≡ n ∷ left → n < 65536 → has set n ≡ true
+first_waits set n left first few = sym (members-any set (n ∷ left) (sym first) n few) ∙ ap (λ (b : Bool). b || list_any (nat_eq n) left) (eq-eqb n n refl)
 
 -- a group of which nothing continues and nothing is older
 pub bare_lines : (lists : List (List Reason)) (head : Head) → head.ongoing ≡ Nothing → length (get_or lists head.older.0 []) ≡ 0 → (scans : List ℕ) (group : GroupId) → head_lines lists scans group head ≡ []

@@ -67,6 +67,13 @@ impl GroupSet {
         self.groups.next(from)
     }
 
+    /// The members in increasing order.
+    pub(crate) fn iter(&self) -> Ascending<'_>
+        ensures { result ≡ members_from 0 self.now }
+    {
+        self.groups.iter()
+    }
+
     /// Makes a group a member.
     pub(crate) fn insert(&mut self, group: u16)
         ensures after { self.new ≡ slice_set self.old group true }
@@ -103,7 +110,7 @@ impl<'a> IntoIterator for &'a GroupSet {
     ghost into_iter_gives = { λ set left. left ≡ members_from 0 set.now };
 
     fn into_iter(self) -> Ascending<'a> {
-        self.groups.iter()
+        self.iter()
     }
 }
 

@@ -114,12 +114,14 @@ impl Waiters {
     }
 
     /// The only group that waits, if there is just one.
+    #[tactic(auto, using(lp_transition::proofs::Ascending::in_order))]
     pub(crate) fn lone(&self) -> Option<GroupId>
         ensures lone { IfSome result (λ group. waiters_of self.now ≡ waiter_in self.now.reasons group.0 ∷ []) }
         ensures stands { AreHeads self.now.reasons.lists (length self.now.reasons.scans) (floor_waiters self.now.reasons result) }
     {
-        let number = member_from(&self.groups, 0)?;
-        match member_from(&self.groups, usize::from(number) + 1) {
+        let mut groups = self.groups.iter();
+        let number = groups.next()?;
+        match groups.next() {
             Some(_) => None,
             None => Some(GroupId(number)),
         }
