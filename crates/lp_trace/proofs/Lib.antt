@@ -1,3 +1,4 @@
+pub mod Counting
 pub mod Digits
 pub mod Pages
 pub mod RunFaults

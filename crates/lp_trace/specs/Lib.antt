@@ -2,6 +2,7 @@ pub mod Report
 pub mod Runs
 pub mod Answer
 pub mod Laws
+pub mod inside
 pub use Rattle.lp_text.specs.CheckReading
 pub use Rattle.lp_text.specs.CheckTexts
 pub use Rattle.lp_text.specs.Counts

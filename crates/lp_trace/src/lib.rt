@@ -2,6 +2,7 @@
 #![tactic(auto)]
 
 mod checks;
+mod counter;
 pub mod laws;
 mod page;
 mod place;

@@ -4,7 +4,8 @@ ghost use Rattle.std.specs.List.{concat};
 ghost use Rattle.lp_text.specs.Words.{line_of};
 ghost use Rattle.lp_text.specs.inside.Writing.{Puts, line_rest, seen_of, Wrote};
 
-use crate::place::{SHORT_END, place_end, place_number, place_rest};
+use crate::counter::Counter;
+use crate::place::{SHORT_END, place_end, place_rest};
 use lp_text::{Counted, WriteFault, put};
 use std::alloc::{AllocError, Global};
 use std::io::Write;
@@ -17,9 +18,6 @@ const ROOM: usize = 128;
 
 /// So much room.
 static BLANK: [u8; ROOM] = [b'\n'; ROOM];
-
-/// Room for a number and a short end of a line.
-static SHORT_BLANK: [u8; 20 + SHORT_END] = [b'\n'; 20 + SHORT_END];
 
 /// Text that waits to be written. No call but `new` allocates.
 #[derive(Drop)]
@@ -49,21 +47,24 @@ impl Page {
     }
 
     /// Takes a number and the first bytes of the end of a line behind it, if there is room for the
-    /// longest, and says whether it did. They are written where they stay, as in `hold_rest`.
+    /// longest, and says whether it did. The last digit and the end are written where they stay, as
+    /// in `hold_rest`.
     #[inline(always)]
-    pub(crate) fn hold_short(&mut self, number: u64, end: &[u8; SHORT_END], len: usize) -> bool
+    pub(crate) fn hold_short(&mut self, number: &Counter, end: &[u8; SHORT_END], len: usize) -> bool
         requires { len ≤ 16 }
-        ensures taken { IsTrue result → self.new.held.items ≡ self.old.held.items ++ (decimal number ++ take len end.now) }
+        ensures taken { IsTrue result → self.new.held.items ≡ self.old.held.items ++ (decimal number.now ++ take len end.now) }
         ensures kept { IsFalse result → self.new.held.items ≡ self.old.held.items }
     {
         let start = self.held.len();
-        if !self.hold(&SHORT_BLANK) {
+        let (digits, count, last) = number.digits();
+        if !self.hold(digits) {
             return false;
         }
         let text = self.held.as_mut_slice();
-        let at = place_number(text, start, number);
-        place_end(text, at, end);
-        self.held.truncate(at + len);
+        let at = start + count;
+        text[at] = last;
+        place_end(text, at + 1, end);
+        self.held.truncate(at + 1 + len);
         true
     }
 

@@ -11,6 +11,7 @@ ghost use Rattle.lp_text.specs.Counts.{next};
 
 mod legs;
 
+use crate::counter::Counter;
 use crate::page::Page;
 use crate::place::SHORT_END;
 use itoa::Buffer;
@@ -138,8 +139,8 @@ fn short_rest(form: TraceForm, reply: &ShortReply) -> Option<(&'static [u8; SHOR
 /// Holds the line of the reply to the event of a number, where it is short and there is room, and
 /// says whether it did.
 #[inline(always)]
-fn hold_event(page: &mut Page, form: TraceForm, event: u64, reply: &ShortReply) -> bool
-    ensures taken { IsTrue result → (lists : List (List ℕ)) → page.new.held.items ≡ page.old.held.items ++ line_of (reply_line form event (reply_of reply.now lists)) }
+fn hold_event(page: &mut Page, form: TraceForm, event: &Counter, reply: &ShortReply) -> bool
+    ensures taken { IsTrue result → (number : ℕ) → event.now ≡ number → (lists : List (List ℕ)) → page.new.held.items ≡ page.old.held.items ++ line_of (reply_line form number (reply_of reply.now lists)) }
     ensures kept { IsFalse result → page.new.held.items ≡ page.old.held.items }
 {
     let Some((rest, len)) = short_rest(form, reply) else {
@@ -172,10 +173,12 @@ fn put_replies<W: Write>(
     ensures { Puts (seen_of W.contents writer.old) (seen_of W.contents writer.new) page.old.held.items page.new.held.items result (flat_map line_of (reply_lines form 1 (replies_of replies.now lists.now))) }
 {
     let mut next = 0;
+    let mut event = Counter::new();
     for (i, reply) in replies.iter().enumerate() {
-        let event = i as u64 + 1;
-        if !hold_event(page, form, event, reply) {
-            put_event(page, writer, form, event, reply, groups_at(lists, next))?;
+        event.increment();
+        if !hold_event(page, form, &event, reply) {
+            let groups = groups_at(lists, next);
+            put_event(page, writer, form, i as u64 + 1, reply, groups)?;
         }
         next += reply.lists();
     }
