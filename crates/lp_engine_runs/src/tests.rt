@@ -18,10 +18,10 @@ mod refusals;
 
 use lp_model::Consistency;
 use lp_models::Hybrid;
-use lp_patch::{PatchSet, PatchStack};
+use lp_patch::{PatchFault, PatchSet, PatchStack};
 use lp_stack::{Class, GroupId, Level, TaskId};
-use lp_symbols::{SymId, Symbols};
-use lp_transition::{Core, Event, Reply, What};
+use lp_symbols::{SymFault, SymId, Symbols};
+use lp_transition::{BootFault, Core, Event, Reply, What};
 use std::alloc::Global;
 use std::test::Fail;
 
@@ -74,8 +74,19 @@ fn said_switched(groups: &[GroupId], completed: bool) -> Said {
     }
 }
 
+const NAMES: [&str; 3] = ["a", "b", "c"];
+
+/// The names `a`, `b` and `c`, in a box: docs/GATE.md says why.
+fn names(alloc: Global) -> Result<Box<Symbols>, SymFault> {
+    let mut symbols = Box::new(alloc, Symbols::new(alloc)?)?;
+    for name in &NAMES {
+        symbols.add(*name)?;
+    }
+    Ok(symbols)
+}
+
 /// A patch of each of these lists of symbols.
-fn sets(alloc: Global, symbols: &Symbols, lists: &[&[SymId]]) -> Result<Vec<PatchSet>, Fail>
+fn sets(alloc: Global, symbols: &Symbols, lists: &[&[SymId]]) -> Result<Vec<PatchSet>, PatchFault>
     ensures { IfOk result (λ sets. ShareSymbols sets.items) }
 {
     let mut sets = Vec::new(alloc);
@@ -85,14 +96,14 @@ fn sets(alloc: Global, symbols: &Symbols, lists: &[&[SymId]]) -> Result<Vec<Patc
     Ok(sets)
 }
 
-/// A stack of patches over `a`, `b` and `c`, one of each of these lists.
-fn patches(alloc: Global, lists: &[&[SymId]]) -> Result<PatchStack, Fail> {
-    let mut symbols = Symbols::new(alloc)?;
-    for name in ["a", "b", "c"] {
-        symbols.add(name)?;
-    }
+/// A stack of patches over `a`, `b` and `c`, one of each of these lists. The fault is NoMemory also where
+/// the names get no memory.
+fn patches(alloc: Global, lists: &[&[SymId]]) -> Result<PatchStack, PatchFault> {
+    let Ok(symbols) = names(alloc) else {
+        return Err(PatchFault::NoMemory);
+    };
     let sets = sets(alloc, &symbols, lists)?;
-    Ok(PatchStack::new(alloc, sets)?)
+    PatchStack::new(alloc, sets)
 }
 
 /// What an engine says to an event.
@@ -109,27 +120,17 @@ fn give<M: Consistency>(alloc: Global, core: &mut Core<M>, events: &[Event]) -> 
     Ok(())
 }
 
-/// What an engine says to these events.
-fn replies_to<M: Consistency>(
-    alloc: Global,
-    core: &mut Core<M>,
-    events: &[Event],
-) -> Result<Vec<Said>, Fail> {
-    let mut replies = Vec::new(alloc);
-    for event in events {
-        replies.push(reply_to(alloc, core, *event)?)?;
-    }
-    Ok(replies)
-}
-
-/// An engine that starts with these tasks, over one patch of function `a`, in a box: docs/GATE.md says
-/// why.
+/// An engine that starts with these tasks, over one patch of function `a`, in a box. The fault is NoMemory
+/// also where the patch gets no memory.
 fn boot_over_a<M: Consistency>(
     alloc: Global,
     model: M,
     boots: &[(TaskId, Class)],
-) -> Result<Box<Core<M>>, Fail> {
-    let core = Core::boot(alloc, model, patches(alloc, &[&[A]])?, boots)?;
+) -> Result<Box<Core<M>>, BootFault> {
+    let Ok(patches) = patches(alloc, &[&[A]]) else {
+        return Err(BootFault::NoMemory);
+    };
+    let core = Core::boot(alloc, model, patches, boots)?;
     Ok(Box::new(alloc, core)?)
 }
 
@@ -143,12 +144,6 @@ fn engine_after(
     let mut core = boot_over_a(alloc, Hybrid, boots)?;
     give(alloc, &mut core, events)?;
     Ok(core)
-}
-
-/// What such an engine says to these events.
-fn run(alloc: Global, boots: &[(TaskId, Class)], events: &[Event]) -> Result<Vec<Said>, Fail> {
-    let mut core = boot_over_a(alloc, Hybrid, boots)?;
-    replies_to(alloc, &mut core, events)
 }
 
 fn normal(number: u16) -> (TaskId, Class) {

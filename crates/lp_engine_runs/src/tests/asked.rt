@@ -9,7 +9,7 @@ ghost use Rattle.lp_transition.specs.Table.{slot, state_in};
 use super::*;
 use lp_model::{CheckKind, Verdict};
 use lp_numbers::NumberSet;
-use lp_transition::Step;
+use lp_transition::{Halt, Step};
 use std::alloc::AllocError;
 
 const BOTH: [(TaskId, Class); 2] = [(ONE, Class::Normal), (TWO, Class::Normal)];
@@ -112,7 +112,7 @@ fn one_switched(what: &What) -> Option<GroupId> {
 }
 
 /// A walk after a look at every task.
-fn whole_walk(alloc: Global, core: &Core<Hybrid>) -> Result<Shown, Fail> {
+fn whole_walk(alloc: Global, core: &Core<Hybrid>) -> Result<Shown, Halt> {
     let whole = core.weigh_any(alloc, Event::Walk)?;
     Ok(shown_by(&whole))
 }
@@ -129,17 +129,8 @@ fn part_walk(alloc: Global, core: &mut Core<Hybrid>) -> Result<Shown, Fail> {
 /// Task 2 returns and sleeps.
 const RETURNS: [Event; 3] = [Event::Wake(TWO), Event::Ret(TWO), Event::Sleep(TWO)];
 
-/// Both of these walks, after which task 2 returns and sleeps.
-fn both_walks(alloc: Global, core: &mut Core<Hybrid>) -> Result<(Shown, Shown), Fail> {
-    let whole = whole_walk(alloc, core)?;
-    let part = part_walk(alloc, core)?;
-    give(alloc, core, &RETURNS)?;
-    Ok((part, whole))
-}
-
 /// Whether the part of a walk looks at one task alone, and both walks come to the same.
-fn are_alike(walks: (Shown, Shown), waiting: usize, completes: bool) -> bool {
-    let (part, whole) = walks;
+fn are_alike(part: Shown, whole: Shown, waiting: usize, completes: bool) -> bool {
     part.verdicts == 1
         && whole.verdicts == waiting
         && part.completed == completes
@@ -148,27 +139,44 @@ fn are_alike(walks: (Shown, Shown), waiting: usize, completes: bool) -> bool {
         && part.over == whole.over
 }
 
+/// Whether both walks are alike where so many wait. Task 2 returns and sleeps after them.
+fn walk_alike(
+    alloc: Global,
+    core: &mut Core<Hybrid>,
+    waiting: usize,
+    completes: bool,
+) -> Result<bool, Fail> {
+    let whole = whole_walk(alloc, core)?;
+    let part = part_walk(alloc, core)?;
+    give(alloc, core, &RETURNS)?;
+    Ok(are_alike(part, whole, waiting, completes))
+}
+
+/// Whether they are as both tasks wait, and again as one does, and nothing is left to do then.
+fn walk_alike_twice(alloc: Global, core: &mut Core<Hybrid>) -> Result<bool, Fail> {
+    Ok(
+        walk_alike(alloc, core, 2, false)?
+            && walk_alike(alloc, core, 1, true)?
+            && !core.in_transition(),
+    )
+}
+
 #[test]
 fn who_is_refused_may_be_left_out(rt: HostRuntime) -> Result<(), Fail> {
     let mut core = in_a_call(rt.alloc())?;
-    for (waiting, completes) in [(2, false), (1, true)] {
-        let walks = both_walks(rt.alloc(), &mut core)?;
-        assert!(rt; are_alike(walks, waiting, completes));
-    }
-    assert!(rt; !core.in_transition());
+    assert!(rt; walk_alike_twice(rt.alloc(), &mut core)?);
     Ok(())
 }
 
-/// How many verdicts a stop has, and whether nothing comes of it.
-fn stop(alloc: Global) -> Result<(usize, bool), Fail> {
-    let core = in_a_call(alloc)?;
+/// Whether a stop has no verdicts, and nothing comes of it.
+fn stops_in_vain(alloc: Global, core: &Core<Hybrid>) -> Result<bool, Halt> {
     let stop = core.weigh_any(alloc, Event::Stop)?;
-    let done = matches!(&stop.reply().what, What::Done);
-    Ok((stop.verdicts().len(), done))
+    Ok(stop.verdicts().is_empty() && matches!(&stop.reply().what, What::Done))
 }
 
 #[test]
 fn a_scan_that_is_not_used_looks_at_nobody(rt: HostRuntime) -> Result<(), Fail> {
-    assert!(rt; stop(rt.alloc())? == (0, true));
+    let core = in_a_call(rt.alloc())?;
+    assert!(rt; stops_in_vain(rt.alloc(), &core)?);
     Ok(())
 }

@@ -15,25 +15,18 @@ const FAULTS: [(&[(TaskId, Class)], BootFault); 3] = [
     (&[ZERO], BootFault::TaskRange),
 ];
 
-/// The fault of these tasks.
-fn fault_of(alloc: Global, tasks: &[(TaskId, Class)]) -> Result<Option<BootFault>, Fail> {
-    let patches = patches(alloc, &[&[A]])?;
-    Ok(Core::boot(alloc, Immediate, patches, tasks).err())
-}
-
 #[test]
-fn the_first_task_at_fault_is_named(rt: HostRuntime) -> Result<(), Fail> {
-    for (tasks, fault) in FAULTS {
-        assert!(rt; fault_of(rt.alloc(), tasks)? == Some(fault));
+fn the_first_task_at_fault_is_named(rt: HostRuntime) {
+    for (tasks, fault) in &FAULTS {
+        assert!(rt; boot_over_a(rt.alloc(), Immediate, tasks).err() == Some(*fault));
     }
-    Ok(())
 }
 
 /// An idle task, and another.
 const TASKS: [(TaskId, Class); 2] = [(TaskId(65_535), Class::Idle), (TaskId(3), Class::Normal)];
 
 /// The engine of task 3 and an idle task 65,535.
-fn booted(alloc: Global) -> Result<Box<Core<Immediate>>, Fail> {
+fn booted(alloc: Global) -> Result<Box<Core<Immediate>>, BootFault> {
     boot_over_a(alloc, Immediate, &TASKS)
 }
 
@@ -86,13 +79,18 @@ fn stands(opening: &Opening, task: TaskId, mode: Option<Mode>) -> bool {
     }
 }
 
+/// Whether its two tasks stand as they start, and no other does.
+fn has_its_tasks(opening: &Opening) -> bool {
+    stands(opening, TaskId(65_535), Some(Mode::Kernel))
+        && stands(opening, TaskId(3), Some(Mode::User))
+        && stands(opening, TaskId(4), None)
+}
+
 #[test]
 fn an_opening_has_no_events_and_its_tasks_as_they_start(rt: HostRuntime) -> Result<(), Fail> {
     let opening = opening(rt.alloc())?;
     assert!(rt; is_at_the_first_level(&opening));
     assert!(rt; has_its_numbers(&opening));
-    assert!(rt; stands(&opening, TaskId(65_535), Some(Mode::Kernel)));
-    assert!(rt; stands(&opening, TaskId(3), Some(Mode::User)));
-    assert!(rt; stands(&opening, TaskId(4), None));
+    assert!(rt; has_its_tasks(&opening));
     Ok(())
 }

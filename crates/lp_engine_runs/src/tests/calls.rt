@@ -1,7 +1,8 @@
 //! An event that is weighed, and then taken; and what can be asked of an engine.
 use super::*;
 use lp_model::CheckKind;
-use lp_transition::{Step, verdicts};
+use lp_transition::{Halt, Step, verdicts};
+use std::alloc::AllocError;
 
 /// The engine of tasks 1 and 2 after these events.
 fn two_tasks_after(alloc: Global, events: &[Event]) -> Result<Box<Core<Hybrid>>, Fail> {
@@ -18,31 +19,18 @@ fn shown_by(step: &Step) -> (Event, usize, Said) {
     (step.event(), step.verdicts().len(), in_short(step.reply()))
 }
 
-/// What an enabling shows when it is weighed, and where the engine stands then; the answer when it is taken, and where the
-/// engine stands after it.
-type Course = ((Event, usize, Said), (u64, bool), Said, (u64, bool));
-
-/// An enabling is weighed, and then taken.
-fn enable(alloc: Global, core: &mut Core<Hybrid>) -> Result<Course, Fail> {
+/// Whether an enabling is weighed as the first event, and is numbered only when it is taken.
+fn enables(alloc: Global, core: &mut Core<Hybrid>) -> Result<bool, Halt> {
     let step = core.weigh(alloc, Event::Enable)?;
-    let weighed = shown_by(&step);
-    let before = place(core);
+    let weighed = shown_by(&step) == (Event::Enable, 0, Said::Done) && place(core) == (0, false);
     let taken = in_short(&core.take(step));
-    Ok((weighed, before, taken, place(core)))
+    Ok(weighed && taken == Said::Done && place(core) == (1, true))
 }
-
-/// The course of the first event.
-const ENABLED: Course = (
-    (Event::Enable, 0, Said::Done),
-    (0, false),
-    Said::Done,
-    (1, true),
-);
 
 #[test]
 fn an_event_is_weighed_and_then_taken(rt: HostRuntime) -> Result<(), Fail> {
     let mut core = two_tasks_after(rt.alloc(), &[])?;
-    assert!(rt; enable(rt.alloc(), &mut core)? == ENABLED);
+    assert!(rt; enables(rt.alloc(), &mut core)?);
     Ok(())
 }
 
@@ -64,11 +52,16 @@ fn walk(alloc: Global, core: &mut Core<Hybrid>) -> Result<(usize, Said), Fail> {
 /// Task 1 sleeps in the kernel as it waits.
 const ASLEEP: [Event; 3] = [Event::Enable, Event::Enter(ONE), Event::Sleep(ONE)];
 
+/// Whether such a walk has two verdicts and lets task 1 switch.
+fn walks(alloc: Global, core: &mut Core<Hybrid>) -> Result<bool, Fail> {
+    let walked = walk(alloc, core)?;
+    Ok(walked == (2, Said::Over(1)) && place(core) == (4, true))
+}
+
 #[test]
 fn a_walk_is_taken_by_its_verdicts(rt: HostRuntime) -> Result<(), Fail> {
     let mut core = two_tasks_after(rt.alloc(), &ASLEEP)?;
-    let walked = walk(rt.alloc(), &mut core)?;
-    assert!(rt; walked == (2, Said::Over(1)) && place(&core) == (4, true));
+    assert!(rt; walks(rt.alloc(), &mut core)?);
     Ok(())
 }
 
@@ -89,13 +82,13 @@ fn has_sides_and_groups(core: &Core<Hybrid>) -> bool {
 }
 
 /// Whether it says which group waits.
-fn says_who_waits(alloc: Global, core: &Core<Hybrid>) -> Result<bool, Fail> {
+fn says_who_waits(alloc: Global, core: &Core<Hybrid>) -> Result<bool, AllocError> {
     let waiting = core.waiting(alloc)?;
     Ok(waiting.as_slice() == [GroupId(2)].as_slice())
 }
 
 /// Whether it shows the one task that waits.
-fn shows_who_waits(alloc: Global, core: &Core<Hybrid>) -> Result<bool, Fail> {
+fn shows_who_waits(alloc: Global, core: &Core<Hybrid>) -> Result<bool, AllocError> {
     let views = core.views(alloc)?;
     Ok(match views.as_slice() {
         [view] => view.task == TWO,
@@ -103,12 +96,19 @@ fn shows_who_waits(alloc: Global, core: &Core<Hybrid>) -> Result<bool, Fail> {
     })
 }
 
+/// Whether it says all of this.
+fn says_how_it_stands(alloc: Global, core: &Core<Hybrid>) -> Result<bool, AllocError> {
+    Ok(
+        has_a_model_and_a_target(core)
+            && has_sides_and_groups(core)
+            && says_who_waits(alloc, core)?
+            && shows_who_waits(alloc, core)?,
+    )
+}
+
 #[test]
 fn an_engine_is_asked_how_it_stands(rt: HostRuntime) -> Result<(), Fail> {
     let core = two_tasks_after(rt.alloc(), &ONE_OVER)?;
-    assert!(rt; has_a_model_and_a_target(&core));
-    assert!(rt; has_sides_and_groups(&core));
-    assert!(rt; says_who_waits(rt.alloc(), &core)?);
-    assert!(rt; shows_who_waits(rt.alloc(), &core)?);
+    assert!(rt; says_how_it_stands(rt.alloc(), &core)?);
     Ok(())
 }

@@ -1,15 +1,14 @@
 //! Stays by themselves: small runs, each event with the reply that the definitions give it.
-ghost use Rattle.std.specs.Prelude.{◌<◌};
-
 use super::*;
 use lp_stays::StayCount;
 use lp_transition::Refusal;
 
 const LAST: TaskId = TaskId(65_535);
 
-/// A count for patches over `a`, `b` and `c`.
-fn count(alloc: Global, lists: &[&[SymId]]) -> Result<StayCount, Fail> {
-    Ok(StayCount::new(alloc, &patches(alloc, lists)?)?)
+/// A count for patches over `a`, `b` and `c`, in a box.
+fn count(alloc: Global, lists: &[&[SymId]]) -> Result<Box<StayCount>, Fail> {
+    let count = StayCount::new(alloc, &patches(alloc, lists)?)?;
+    Ok(Box::new(alloc, count)?)
 }
 
 #[derive(Clone, Copy)]
@@ -26,44 +25,48 @@ enum Step {
     Other(Event),
 }
 
-fn reply(what: What) -> Reply {
-    Reply {
-        what,
-        completed: false,
+impl Step {
+    /// Its event, what is said to it, and the function that a return is from.
+    fn parts(self) -> (Event, What, Option<SymId>) {
+        match self {
+            Step::Call(task, func, level) => (
+                Event::Call(task, func),
+                What::Ran(Level(level)),
+                None,
+            ),
+            Step::Ret(task, func) => (Event::Ret(task), What::Done, Some(func)),
+            Step::Refused(task, func) => (
+                Event::Call(task, func),
+                What::Refused(Refusal::WrongMode),
+                None,
+            ),
+            Step::Held(task, func) => (
+                Event::Ret(task),
+                What::Refused(Refusal::WrongMode),
+                Some(func),
+            ),
+            Step::Other(event) => (event, What::Done, None),
+        }
     }
 }
 
-fn take(count: &mut StayCount, step: Step)
-    requires { count.old.events < 1000000 }
-{
-    match step {
-        Step::Call(task, func, level) => {
-            count.step(
-                Event::Call(task, func),
-                &reply(What::Ran(Level(level))),
-                None,
-            );
-        }
-        Step::Ret(task, func) => count.step(Event::Ret(task), &reply(What::Done), Some(func)),
-        Step::Refused(task, func) => {
-            let what = What::Refused(Refusal::WrongMode);
-            count.step(Event::Call(task, func), &reply(what), None);
-        }
-        Step::Held(task, func) => {
-            let what = What::Refused(Refusal::WrongMode);
-            count.step(Event::Ret(task), &reply(what), Some(func));
-        }
-        Step::Other(event) => count.step(event, &reply(What::Done), None),
+/// Counts a step; a count that is full stays as it is.
+fn take(count: &mut StayCount, step: Step) {
+    let (event, what, top) = step.parts();
+    let reply = Reply {
+        what,
+        completed: false,
+    };
+    if count.events() < 1_000_000 {
+        count.step(event, &reply, top);
     }
 }
 
 /// How many stays and how many mixed stays there are after these steps.
 fn after(alloc: Global, lists: &[&[SymId]], steps: &[Step]) -> Result<(u64, u64), Fail> {
-    let mut counted = Box::new(alloc, count(alloc, lists)?)?;
+    let mut counted = count(alloc, lists)?;
     for step in steps {
-        if counted.events() < 1_000_000 {
-            take(&mut counted, *step);
-        }
+        take(&mut counted, *step);
     }
     Ok((counted.stays(), counted.mixed()))
 }
@@ -162,10 +165,16 @@ const ROWS: [Row; 10] = [
     ("refused events change no stay", &[&[A]], &REFUSED, (1, 0)),
 ];
 
+/// Whether a row has its counts.
+fn is_counted(alloc: Global, row: &Row) -> Result<bool, Fail> {
+    let (_, lists, steps, counted) = *row;
+    Ok(after(alloc, lists, steps)? == counted)
+}
+
 #[test]
 fn stays_are_counted_by_patch_and_task(rt: HostRuntime) -> Result<(), Fail> {
-    for (name, lists, steps, counted) in ROWS {
-        assert!(rt; after(rt.alloc(), lists, steps)? == counted, "{name}");
+    for row in &ROWS {
+        assert!(rt; is_counted(rt.alloc(), row)?, "{}", row.0);
     }
     Ok(())
 }
@@ -175,13 +184,16 @@ fn counts(count: &StayCount) -> (u64, u64, u64) {
     (count.events(), count.stays(), count.mixed())
 }
 
+/// Whether a count begins at nothing, and a refused event is counted as one, but as no stay.
+fn counts_a_refusal(count: &mut StayCount) -> bool {
+    let before = counts(count);
+    take(count, Step::Refused(ONE, A));
+    before == (0, 0, 0) && counts(count) == (1, 0, 0)
+}
+
 #[test]
 fn each_event_counts(rt: HostRuntime) -> Result<(), Fail> {
-    let mut counted = Box::new(rt.alloc(), count(rt.alloc(), &[&[A]])?)?;
-    let before = counts(&counted);
-    if counted.events() < 1_000_000 {
-        take(&mut counted, Step::Refused(ONE, A));
-    }
-    assert!(rt; before == (0, 0, 0) && (counted.events(), counted.stays()) == (1, 0));
+    let mut counted = count(rt.alloc(), &[&[A]])?;
+    assert!(rt; counts_a_refusal(&mut counted));
     Ok(())
 }

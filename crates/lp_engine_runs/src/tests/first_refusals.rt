@@ -90,23 +90,14 @@ pub(super) fn weighed<M: Consistency>(
     core.weigh_first_refusals(alloc, kind, &asked)
 }
 
-/// Whether a scan has these verdicts, and says this, as one that looks at every member does.
-fn is_right<M: Consistency>(
-    alloc: Global,
-    core: &Core<M>,
-    scan: &Step,
-    found: &[Verdict],
-    said: Said,
-) -> Result<bool, Halt> {
-    let whole = core.weigh_any(alloc, scan.event())?;
-    Ok(
-        scan.verdicts() == found
-            && in_short(scan.reply()) == said
-            && in_short(whole.reply()) == said,
-    )
+/// What a scan says that looks at every member.
+fn whole<M: Consistency>(alloc: Global, core: &Core<M>, scan: Event) -> Result<Said, Halt> {
+    let step = core.weigh_any(alloc, scan)?;
+    Ok(in_short(step.reply()))
 }
 
-/// Whether such a scan, which is then taken, has these verdicts, and says this.
+/// Whether such a scan, which is then taken, has these verdicts, and says this, as one does that looks
+/// at every member.
 fn scans<M: Consistency>(
     alloc: Global,
     core: &mut Core<M>,
@@ -116,10 +107,15 @@ fn scans<M: Consistency>(
 ) -> Result<bool, Halt>
     requires { is_scan_kind kind ≡ true }
 {
+    let event = match kind {
+        CheckKind::Stop => Event::Stop,
+        _ => Event::Walk,
+    };
+    let whole = whole(alloc, core, event)?;
     let scan = weighed(alloc, core, kind)?;
-    let right = is_right(alloc, core, &scan, found, said)?;
-    core.take(scan);
-    Ok(right)
+    let right = scan.event() == event && scan.verdicts() == found;
+    let told = in_short(&core.take(scan));
+    Ok(right && told == said && whole == said)
 }
 
 /// What a scan says at which this group switches, or none.
@@ -131,54 +127,52 @@ fn said_of(group: u16, switches: bool) -> Said {
     }
 }
 
-/// The number of the first of these rows that turns out otherwise, for the group of task 1.
-fn other_row<M: Consistency>(
+/// Whether each of these rows turns out so, for the group of task 1.
+fn turn_out<M: Consistency>(
     alloc: Global,
     core: &mut Core<M>,
     kind: CheckKind,
     group: u16,
     rows: &[Row],
-) -> Result<Option<usize>, Fail>
+) -> Result<bool, Fail>
     requires { is_scan_kind kind ≡ true }
 {
-    for (number, (events, found, switches)) in rows.iter().enumerate() {
+    for (events, found, switches) in rows {
         give(alloc, core, events)?;
         if !scans(alloc, core, kind, found, said_of(group, *switches))? {
-            return Ok(Some(number));
+            return Ok(false);
         }
     }
-    Ok(None)
+    Ok(true)
 }
 
 /// The same, from the start of an engine with task 1.
-fn other_row_from_start<M: Consistency>(
+fn turn_out_from_start<M: Consistency>(
     alloc: Global,
     model: M,
     kind: CheckKind,
     group: u16,
     rows: &[Row],
-) -> Result<Option<usize>, Fail>
+) -> Result<bool, Fail>
     requires { is_scan_kind kind ≡ true }
 {
     let mut core = boot_over_a(alloc, model, &[normal(1)])?;
-    other_row(alloc, &mut core, kind, group, rows)
+    turn_out(alloc, &mut core, kind, group, rows)
 }
 
 #[test]
 fn a_process_is_asked_up_to_its_first_refusal(rt: HostRuntime) -> Result<(), Fail> {
-    for rows in [RETURNS.as_slice(), DIES.as_slice()] {
-        let other = other_row_from_start(rt.alloc(), ProcessGroup, CheckKind::Walk, 1, rows)?;
-        assert!(rt; other == None);
-    }
+    let alloc = rt.alloc();
+    assert!(rt; turn_out_from_start(alloc, ProcessGroup, CheckKind::Walk, 1, &RETURNS)?);
+    assert!(rt; turn_out_from_start(alloc, ProcessGroup, CheckKind::Walk, 1, &DIES)?);
     Ok(())
 }
 
 #[test]
 fn all_are_asked_up_to_the_first_refusal(rt: HostRuntime) -> Result<(), Fail> {
-    for rows in [RETURNS.as_slice(), DIES.as_slice()] {
-        let other = other_row_from_start(rt.alloc(), AllAtOnce, CheckKind::Stop, 0, rows)?;
-        assert!(rt; other == None);
-    }
+    let alloc = rt.alloc();
+    assert!(rt; turn_out_from_start(alloc, AllAtOnce, CheckKind::Stop, 0, &RETURNS)?);
+    assert!(rt; turn_out_from_start(alloc, AllAtOnce, CheckKind::Stop, 0, &DIES)?);
     Ok(())
 }
 
@@ -199,22 +193,27 @@ const STOPS: [(&[Event], usize, Said); 3] = [
     (&RETURNED, 70, Said::OverLast(0)),
 ];
 
-/// How many verdicts a stop has that is weighed by first refusals and then taken, and what it says.
-fn stop(alloc: Global, core: &mut Core<AllAtOnce>) -> Result<(usize, Said), Halt> {
+/// Whether a stop that is weighed by first refusals and then taken has so many verdicts, and says this.
+fn stops(
+    alloc: Global,
+    core: &mut Core<AllAtOnce>,
+    count: usize,
+    said: Said,
+) -> Result<bool, Halt> {
     let scan = weighed(alloc, core, CheckKind::Stop)?;
-    let count = scan.verdicts().len();
-    Ok((count, in_short(&core.take(scan))))
+    let right = scan.verdicts().len() == count;
+    Ok(in_short(&core.take(scan)) == said && right)
 }
 
-/// The number of the first of these stops that turns out otherwise.
-fn other_stop(alloc: Global, core: &mut Core<AllAtOnce>) -> Result<Option<usize>, Fail> {
-    for (number, (events, count, said)) in STOPS.iter().enumerate() {
+/// Whether each of these stops turns out so.
+fn stops_turn_out(alloc: Global, core: &mut Core<AllAtOnce>) -> Result<bool, Fail> {
+    for (events, count, said) in &STOPS {
         give(alloc, core, events)?;
-        if stop(alloc, core)? != (*count, *said) {
-            return Ok(Some(number));
+        if !stops(alloc, core, *count, *said)? {
+            return Ok(false);
         }
     }
-    Ok(None)
+    Ok(true)
 }
 
 /// The tasks 1 to 70, more than a group has whose members are gone over one by one.
@@ -229,12 +228,12 @@ fn seventy(alloc: Global) -> Result<Vec<(TaskId, Class)>, Fail> {
 /// An engine that starts with them.
 fn boot_seventy(alloc: Global) -> Result<Box<Core<AllAtOnce>>, Fail> {
     let tasks = seventy(alloc)?;
-    boot_over_a(alloc, AllAtOnce, tasks.as_slice())
+    Ok(boot_over_a(alloc, AllAtOnce, tasks.as_slice())?)
 }
 
 #[test]
 fn a_large_group_is_asked_up_to_its_first_refusal(rt: HostRuntime) -> Result<(), Fail> {
     let mut core = boot_seventy(rt.alloc())?;
-    assert!(rt; other_stop(rt.alloc(), &mut core)? == None);
+    assert!(rt; stops_turn_out(rt.alloc(), &mut core)?);
     Ok(())
 }

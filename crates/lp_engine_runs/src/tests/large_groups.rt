@@ -11,17 +11,18 @@ fn normal_tasks(alloc: Global, count: u16) -> Result<Vec<(TaskId, Class)>, Fail>
     Ok(boots)
 }
 
+const HELD: [Event; 4] = [
+    Event::Enter(ONE),
+    Event::Enter(TWO),
+    Event::Call(TWO, A),
+    Event::Enable,
+];
+
 /// Tasks of one group, of which the second is in a call of a function that changes.
 fn held_group(alloc: Global, count: u16) -> Result<Box<Core<AllAtOnce>>, Fail> {
     let boots = normal_tasks(alloc, count)?;
     let mut core = boot_over_a(alloc, AllAtOnce, boots.as_slice())?;
-    let events = [
-        Event::Enter(ONE),
-        Event::Enter(TWO),
-        Event::Call(TWO, A),
-        Event::Enable,
-    ];
-    give(alloc, &mut core, &events)?;
+    give(alloc, &mut core, &HELD)?;
     Ok(core)
 }
 
@@ -34,23 +35,26 @@ fn looks_after(alloc: Global, core: &mut Core<AllAtOnce>, event: Event) -> Resul
     Ok(looked_at)
 }
 
-/// How many tasks each of these stops looks at, each after one event.
-fn looks(alloc: Global, count: u16) -> Result<[usize; 4], Fail> {
-    let mut core = held_group(alloc, count)?;
-    let first = looks_after(alloc, &mut core, Event::Wake(ONE))?;
-    let behind = looks_after(alloc, &mut core, Event::Enter(THREE))?;
-    let before = looks_after(alloc, &mut core, Event::Sleep(ONE))?;
-    let free = looks_after(alloc, &mut core, Event::Ret(TWO))?;
-    Ok([first, behind, before, free])
+/// Whether stops look at so many tasks, each after one event. The first knows nothing, and at the last one
+/// all switch.
+fn look(alloc: Global, core: &mut Core<AllAtOnce>, all: usize) -> Result<bool, Fail> {
+    Ok(
+        looks_after(alloc, core, Event::Wake(ONE))? == all
+            && looks_after(alloc, core, Event::Enter(THREE))? == 1
+            && looks_after(alloc, core, Event::Sleep(ONE))? == 2
+            && looks_after(alloc, core, Event::Ret(TWO))? == all,
+    )
 }
 
-/// The first stop knows nothing, and at the last one all switch.
+/// The same of a group of so many.
+fn look_in_a_group(alloc: Global, count: u16) -> Result<bool, Fail> {
+    let mut core = held_group(alloc, count)?;
+    look(alloc, &mut core, usize::from(count))
+}
+
 #[test]
 fn a_group_is_asked_up_to_its_first_refusal(rt: HostRuntime) -> Result<(), Fail> {
-    for count in [3, 100] {
-        let all = usize::from(count);
-        let found = looks(rt.alloc(), count)?;
-        assert!(rt; found == [all, 1, 2, all]);
-    }
+    assert!(rt; look_in_a_group(rt.alloc(), 3)?);
+    assert!(rt; look_in_a_group(rt.alloc(), 100)?);
     Ok(())
 }

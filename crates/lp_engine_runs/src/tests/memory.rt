@@ -5,10 +5,8 @@ use super::first_refusals::{RETURNS, Row, weighed};
 use super::*;
 use lp_model::{CheckKind, ForkKind, Verdict};
 use lp_models::AllAtOnce;
-use lp_patch::PatchFault;
 use lp_process::ProcessGroup;
-use lp_symbols::SymFault;
-use lp_transition::{BootFault, GroupList, Halt};
+use lp_transition::{GroupList, Halt, Opening};
 use std::alloc::AllocError;
 use std::process::Abort;
 
@@ -24,40 +22,14 @@ const THREE_TASKS: [(TaskId, Class); 3] = [
     (THREE, Class::Normal),
 ];
 
-/// The name `a`.
-fn name_a(alloc: Global) -> Result<Symbols, SymFault> {
-    let mut symbols = Symbols::new(alloc)?;
-    symbols.add("a")?;
-    Ok(symbols)
-}
-
-/// A patch of function `a`. The fault is NoMemory also where the name gets no memory.
-fn patch_a(alloc: Global) -> Result<PatchStack, PatchFault> {
-    let symbols = name_a(alloc).map_err(|_| PatchFault::NoMemory)?;
-    let mut sets = Vec::new(alloc);
-    sets.push(PatchSet::build(alloc, &symbols, &[A])?)?;
-    PatchStack::new(alloc, sets)
-}
-
-/// The engine of these tasks, after one patch of function `a`, in a box: docs/GATE.md says why.
-fn booted_over_a<M: Consistency>(
-    alloc: Global,
-    model: M,
-    boots: &[(TaskId, Class)],
-) -> Result<Box<Core<M>>, BootFault> {
-    let patches = patch_a(alloc).map_err(|_| BootFault::NoMemory)?;
-    let core = Core::boot(alloc, model, patches, boots)?;
-    Ok(Box::new(alloc, core)?)
-}
-
-/// The same. Where an allocation fails, nothing was made, and the same call makes it.
+/// The engine of these tasks. Where an allocation fails, nothing was made, and the same call makes it.
 fn booted<M: Consistency>(
     alloc: Global,
     model: M,
     boots: &[(TaskId, Class)],
 ) -> Result<Box<Core<M>>, Fail> {
-    match booted_over_a(alloc, model, boots) {
-        Err(BootFault::NoMemory) => Ok(booted_over_a(alloc, model, boots)?),
+    match boot_over_a(alloc, model, boots) {
+        Err(BootFault::NoMemory) => Ok(boot_over_a(alloc, model, boots)?),
         answer => Ok(answer?),
     }
 }
@@ -115,121 +87,91 @@ fn answer<M: Consistency>(
     }
 }
 
-/// Keeps a reply. Where an allocation fails, the list is as it was, and the same call keeps it.
-fn keep(replies: &mut Vec<Said>, said: Said) -> Result<(), Fail> {
-    replies.push(said).or_else(|_| replies.push(said))?;
-    Ok(())
-}
+/// An event and the answer to it.
+type Answered = (Event, Said);
 
-/// What an engine says to these events, each of them given once more where memory was refused.
+/// Whether an engine gives these answers, each event given once more where memory was refused.
 fn answers<M: Consistency>(
     rt: &impl Abort,
     alloc: Global,
     core: &mut Core<M>,
-    events: &[Event],
-) -> Result<Vec<Said>, Fail> {
-    let mut replies = Vec::new(alloc);
-    for event in events {
-        keep(&mut replies, answer(rt, alloc, core, *event)?)?;
+    rows: &[Answered],
+) -> Result<bool, Fail> {
+    for (event, said) in rows {
+        if answer(rt, alloc, core, *event)? != *said {
+            return Ok(false);
+        }
     }
-    Ok(replies)
+    Ok(true)
 }
 
-/// What an engine that starts with these tasks says to these events, as `answers` has it.
-fn replies<M: Consistency>(
+/// Whether an engine that starts with these tasks does.
+fn goes_on<M: Consistency>(
     rt: &impl Abort,
     alloc: Global,
     model: M,
     boots: &[(TaskId, Class)],
-    events: &[Event],
-) -> Result<Vec<Said>, Fail> {
+    rows: &[Answered],
+) -> Result<bool, Fail> {
     let mut core = booted(alloc, model, boots)?;
-    answers(rt, alloc, &mut core, events)
+    answers(rt, alloc, &mut core, rows)
 }
 
-/// Births and walks, and the answers to them.
-const BIRTHS: [Event; 9] = [
-    Event::Enter(ONE),
-    Event::Fork(ONE, TWO, ForkKind::Share),
-    Event::Exit(ONE),
-    Event::Enable,
-    Event::Call(TWO, A),
-    Event::Walk,
-    Event::Ret(TWO),
-    Event::Exit(TWO),
-    Event::Walk,
-];
-
-const BORN: [Said; 9] = [
-    Said::Done,
-    Said::Done,
-    Said::Done,
-    Said::Done,
-    Said::Ran(0),
-    Said::Done,
-    Said::Done,
-    Said::Done,
-    Said::OverLast(1),
+/// Births and walks.
+const BIRTHS: [Answered; 9] = [
+    (Event::Enter(ONE), Said::Done),
+    (Event::Fork(ONE, TWO, ForkKind::Share), Said::Done),
+    (Event::Exit(ONE), Said::Done),
+    (Event::Enable, Said::Done),
+    (Event::Call(TWO, A), Said::Ran(0)),
+    (Event::Walk, Said::Done),
+    (Event::Ret(TWO), Said::Done),
+    (Event::Exit(TWO), Said::Done),
+    (Event::Walk, Said::OverLast(1)),
 ];
 
 #[test]
 fn births_and_walks_go_on_after_a_failed_allocation(rt: HostRuntime) -> Result<(), Fail> {
-    let replies = replies(&rt, rt.alloc(), ProcessGroup, &ALONE, &BIRTHS)?;
-    assert!(rt; replies.as_slice() == BORN.as_slice());
+    assert!(rt; goes_on(&rt, rt.alloc(), ProcessGroup, &ALONE, &BIRTHS)?);
     Ok(())
 }
 
-const STOPS: [Event; 6] = [
-    Event::Enter(TWO),
-    Event::Call(TWO, A),
-    Event::Enable,
-    Event::Stop,
-    Event::Ret(TWO),
-    Event::Stop,
-];
-
-const STOPPED: [Said; 6] = [
-    Said::Done,
-    Said::Ran(0),
-    Said::Done,
-    Said::Done,
-    Said::Done,
-    Said::OverLast(0),
+const STOPS: [Answered; 6] = [
+    (Event::Enter(TWO), Said::Done),
+    (Event::Call(TWO, A), Said::Ran(0)),
+    (Event::Enable, Said::Done),
+    (Event::Stop, Said::Done),
+    (Event::Ret(TWO), Said::Done),
+    (Event::Stop, Said::OverLast(0)),
 ];
 
 #[test]
 fn stops_go_on_after_a_failed_allocation(rt: HostRuntime) -> Result<(), Fail> {
-    let replies = replies(&rt, rt.alloc(), AllAtOnce, &BOTH, &STOPS)?;
-    assert!(rt; replies.as_slice() == STOPPED.as_slice());
+    assert!(rt; goes_on(&rt, rt.alloc(), AllAtOnce, &BOTH, &STOPS)?);
     Ok(())
 }
 
-const POINTS: [Event; 4] = [
-    Event::Enable,
-    Event::Enter(ONE),
-    Event::Exit(ONE),
-    Event::Idle(TWO),
+const POINTS: [Answered; 4] = [
+    (Event::Enable, Said::Done),
+    (Event::Enter(ONE), Said::Done),
+    (Event::Exit(ONE), Said::Over(1)),
+    (Event::Idle(TWO), Said::OverLast(2)),
 ];
-
-const SWITCHED: [Said; 4] = [Said::Done, Said::Done, Said::Over(1), Said::OverLast(2)];
 
 #[test]
 fn exits_and_idle_points_go_on_after_a_failed_allocation(rt: HostRuntime) -> Result<(), Fail> {
-    let replies = replies(&rt, rt.alloc(), Hybrid, &WITH_IDLE, &POINTS)?;
-    assert!(rt; replies.as_slice() == SWITCHED.as_slice());
+    assert!(rt; goes_on(&rt, rt.alloc(), Hybrid, &WITH_IDLE, &POINTS)?);
     Ok(())
 }
 
-/// The engine of tasks 1 to 3 after an enabling, when task 2 has switched.
-fn one_switched(rt: &impl Abort, alloc: Global) -> Result<Box<Core<Hybrid>>, Fail> {
-    let mut core = booted(alloc, Hybrid, &THREE_TASKS)?;
-    for event in [Event::Enable, Event::Enter(TWO), Event::Exit(TWO)] {
-        answer(rt, alloc, &mut core, event)?;
-    }
-    Ok(core)
-}
+/// The events by which task 2 of three switches.
+const ONE_SWITCHES: [Answered; 3] = [
+    (Event::Enable, Said::Done),
+    (Event::Enter(TWO), Said::Done),
+    (Event::Exit(TWO), Said::Over(2)),
+];
 
-/// The levels of its three tasks.
+/// The levels of the three tasks after them.
 const LEVELS: [Option<Level>; 3] = [Some(Level(0)), Some(Level(1)), Some(Level(0))];
 
 /// Whether a check sees the two tasks that wait.
@@ -241,15 +183,25 @@ fn is_seen(alloc: Global, core: &Core<Hybrid>) -> Result<bool, AllocError> {
     })
 }
 
-/// Whether the copy of the engine has its events, and its tasks their levels.
-fn is_copied(alloc: Global, core: &Core<Hybrid>) -> Result<bool, AllocError> {
-    let stands = core.standing(alloc).or_else(|_| core.standing(alloc))?;
+/// The copy of the engine, in a box.
+fn standing(alloc: Global, core: &Core<Hybrid>) -> Result<Box<Opening>, AllocError> {
+    Ok(Box::new(alloc, core.standing(alloc)?)?)
+}
+
+/// Whether a copy of the engine has its events, and its tasks their levels.
+fn has_levels(stands: &Opening) -> bool {
     let levels = [
         stands.level_of(ONE),
         stands.level_of(TWO),
         stands.level_of(THREE),
     ];
-    Ok(stands.number() == 3 && levels == LEVELS)
+    stands.number() == 3 && levels == LEVELS
+}
+
+/// Whether the copy of the engine does.
+fn is_copied(alloc: Global, core: &Core<Hybrid>) -> Result<bool, AllocError> {
+    let stands = standing(alloc, core).or_else(|_| standing(alloc, core))?;
+    Ok(has_levels(&stands))
 }
 
 /// Whether it says which groups wait.
@@ -258,13 +210,34 @@ fn is_told(alloc: Global, core: &Core<Hybrid>) -> Result<bool, AllocError> {
     Ok(groups.as_slice() == [GroupId(1), GroupId(3)].as_slice())
 }
 
+/// Whether it is right in all that is asked.
+fn is_right(alloc: Global, core: &Core<Hybrid>) -> Result<bool, AllocError> {
+    Ok(
+        is_told(alloc, core)?
+            && is_seen(alloc, core)?
+            && is_copied(alloc, core)?
+            && shown_by(core).levels == LEVELS,
+    )
+}
+
 #[test]
 fn an_engine_is_asked_again_after_a_failed_allocation(rt: HostRuntime) -> Result<(), Fail> {
-    let core = one_switched(&rt, rt.alloc())?;
-    assert!(rt; is_told(rt.alloc(), &core)?);
-    assert!(rt; is_seen(rt.alloc(), &core)?);
-    assert!(rt; is_copied(rt.alloc(), &core)?);
-    assert!(rt; shown_by(&core).levels == LEVELS);
+    let mut core = booted(rt.alloc(), Hybrid, &THREE_TASKS)?;
+    assert!(rt; answers(&rt, rt.alloc(), &mut core, &ONE_SWITCHES)?);
+    assert!(rt; is_right(rt.alloc(), &core)?);
+    Ok(())
+}
+
+/// Gives these events to an engine, each of them once more where memory was refused.
+fn give_again<M: Consistency>(
+    rt: &impl Abort,
+    alloc: Global,
+    core: &mut Core<M>,
+    events: &[Event],
+) -> Result<(), Fail> {
+    for event in events {
+        answer(rt, alloc, core, *event)?;
+    }
     Ok(())
 }
 
@@ -286,7 +259,7 @@ fn are_weighed(
     rows: &[Row],
 ) -> Result<bool, Fail> {
     for (events, found, _) in rows {
-        answers(rt, alloc, core, events)?;
+        give_again(rt, alloc, core, events)?;
         if !is_weighed(alloc, core, found)? {
             return Ok(false);
         }

@@ -47,37 +47,39 @@ fn open_walk(alloc: Global, core: &mut Core<Hybrid>) -> Result<Said, Fail> {
     Ok(in_short(&core.take(scan)))
 }
 
-/// What is shown before a walk, after it and after the return, and what both walks say.
-fn walks(alloc: Global) -> Result<([(usize, bool); 3], [Said; 2]), Fail> {
-    let mut core = engine_after(alloc, &ALONE, &HELD)?;
-    let before = shown(alloc, &core)?;
-    let first = open_walk(alloc, &mut core)?;
-    let after = shown(alloc, &core)?;
-    let second = open_walk(alloc, &mut core)?;
-    give(alloc, &mut core, &RETURNS)?;
-    Ok(([before, after, shown(alloc, &core)?], [first, second]))
+/// Whether a walk after this is shown says that nobody switches.
+fn walks_on(alloc: Global, core: &mut Core<Hybrid>, wanted: (usize, bool)) -> Result<bool, Fail> {
+    let seen = shown(alloc, core)?;
+    Ok(seen == wanted && open_walk(alloc, core)? == Said::Done)
+}
+
+/// Whether the group is open up to a walk, closed after it, and open after the return.
+fn closes_and_opens(alloc: Global, core: &mut Core<Hybrid>) -> Result<bool, Fail> {
+    let walked = walks_on(alloc, core, (1, false))? && walks_on(alloc, core, (0, true))?;
+    give(alloc, core, &RETURNS)?;
+    Ok(shown(alloc, core)? == (1, false) && walked)
 }
 
 #[test]
 fn a_held_group_is_closed_until_its_frame_is_popped(rt: HostRuntime) -> Result<(), Fail> {
-    let (seen, said) = walks(rt.alloc())?;
-    assert!(rt; seen == [(1, false), (0, true), (1, false)]);
-    assert!(rt; said == [Said::Done, Said::Done]);
+    let mut core = engine_after(rt.alloc(), &ALONE, &HELD)?;
+    assert!(rt; closes_and_opens(rt.alloc(), &mut core)?);
     Ok(())
 }
 
-/// How many open views there are after each of two walks that find the task on a CPU.
-fn busy(alloc: Global) -> Result<(usize, usize), Fail> {
-    let events = [Event::Enter(ONE), Event::Call(ONE, C), Event::Enable];
-    let mut core = engine_after(alloc, &ALONE, &events)?;
-    open_walk(alloc, &mut core)?;
-    let first = shown(alloc, &core)?.0;
-    open_walk(alloc, &mut core)?;
-    Ok((first, shown(alloc, &core)?.0))
+/// A task that waits on a CPU.
+const BUSY: [Event; 3] = [Event::Enter(ONE), Event::Call(ONE, C), Event::Enable];
+
+/// Whether there is one open view after a walk.
+fn stays_open(alloc: Global, core: &mut Core<Hybrid>) -> Result<bool, Fail> {
+    open_walk(alloc, core)?;
+    Ok(shown(alloc, core)?.0 == 1)
 }
 
 #[test]
 fn a_busy_task_leaves_its_group_open(rt: HostRuntime) -> Result<(), Fail> {
-    assert!(rt; busy(rt.alloc())? == (1, 1));
+    let mut core = engine_after(rt.alloc(), &ALONE, &BUSY)?;
+    assert!(rt; stays_open(rt.alloc(), &mut core)?);
+    assert!(rt; stays_open(rt.alloc(), &mut core)?);
     Ok(())
 }
