@@ -1,5 +1,5 @@
 //! An engine with the journal of its events.
-ghost use Rattle.std.specs.Prelude.{◌≡◌, ◌≤◌, ◌<◌, ◌↔◌, [], true, Err, None, IfSome, IfOk, OnErr, OnOk, length, map};
+ghost use Rattle.std.specs.Prelude.{◌≡◌, ◌≤◌, ◌<◌, ◌↔◌, [], true, Err, None, Ok, IfSome, IfOk, OnErr, OnOk, length, map};
 ghost use Rattle.lp_transition.specs.Boot.{boot_refusal};
 ghost use Rattle.lp_transition.specs.Scan.{is_scan_kind, scan_event, verdicts_of};
 ghost use Rattle.lp_transition.specs.Steps.{StandsIn};
@@ -78,10 +78,34 @@ impl<M: Consistency> Log<M> {
         ensures seats { IfOk result (λ opened. opened.seats.items ≡ map (λ boot. new_seat boot.0.0) boots.now) }
         ensures control { IfOk result (λ opened. opened.control ≡ []) }
     {
-        let kept = patches.copy(alloc);
-        let list = Vec::from_slice(alloc, boots);
+        let patched = patches.copy(alloc);
         let core = Core::boot(alloc, model, patches, boots)?;
-        Ok(Log::over(alloc, core, kept?, list?)?)
+        Ok(Log::after(alloc, core, patched, boots)?)
+    }
+
+    /// A log of an engine that has taken no event, with a copy of the patches, if one could be made.
+    ///
+    /// The engine has a `drop` of its own, here and in `over`: the proof goes over each part of it at each early return
+    /// that gives it up without one.
+    fn after(
+        alloc: Global,
+        core: Core<M>,
+        patched: Result<PatchStack, AllocError>,
+        boots: &[(TaskId, Class)],
+    ) -> Result<Opened<M>, AllocError>
+        requires patches { IfOk patched (λ patches. patches ≡ core.patches) }
+        requires stands { StandsIn M.rules (run_of (record { patches = core.patches; boots = boots.now; entries = [] })) (state_in core) }
+        ensures started { IfOk result (λ opened. opened.log.journal ≡ record { patches = core.patches; boots = boots.now; entries = [] }) }
+        ensures seats { IfOk result (λ opened. opened.seats.items ≡ map (λ boot. new_seat boot.0.0) boots.now) }
+        ensures control { IfOk result (λ opened. opened.control ≡ []) }
+    {
+        match start(alloc, patched, boots) {
+            Ok((patches, boots)) => Log::over(alloc, core, patches, boots),
+            Err(error) => {
+                drop(core);
+                Err(error)
+            }
+        }
     }
 
     /// A log of an engine that has taken no event, with an empty journal of this start, a seat for each of the tasks, in
@@ -97,18 +121,24 @@ impl<M: Consistency> Log<M> {
         ensures seats { IfOk result (λ opened. opened.seats.items ≡ map (λ boot. new_seat boot.0.0) boots.items) }
         ensures control { IfOk result (λ opened. opened.control ≡ []) }
     {
-        let seats = Seat::all(alloc, boots.as_slice())?;
-        let log = Log {
-            core,
-            patches,
-            boots,
-            entries: Vec::new(alloc),
-        };
-        Ok(Opened {
-            log,
-            seats,
-            control: Control::new(alloc),
-        })
+        match Seat::all(alloc, boots.as_slice()) {
+            Ok(seats) => Ok(Opened {
+                log: Log {
+                    core,
+                    patches,
+                    boots,
+                    entries: Vec::new(alloc),
+                },
+                seats,
+                control: Control::new(alloc),
+            }),
+            Err(error) => {
+                drop(core);
+                drop(patches);
+                drop(boots);
+                Err(error)
+            }
+        }
     }
 
     /// The events so far, in their order.
@@ -134,11 +164,12 @@ impl<M: Consistency> Log<M> {
         ensures replayed { IsReplayed M.rules result }
     {
         let Self {
-            core: _,
+            core,
             patches,
             boots,
             entries,
         } = self;
+        drop(core);
         Journal::new(patches, boots, entries)
     }
 
@@ -175,4 +206,15 @@ impl<M: Consistency> Log<M> {
         let ready = self.ready(alloc, step)?;
         Ok(self.commit(ready))
     }
+}
+
+/// The patches and the tasks with which a run starts, as a log keeps them; AllocError where an allocation failed.
+fn start(
+    alloc: Global,
+    patched: Result<PatchStack, AllocError>,
+    boots: &[(TaskId, Class)],
+) -> Result<(PatchStack, Vec<(TaskId, Class)>), AllocError>
+    ensures { IfOk result (λ start. (patched ≡ Ok start.0) × (start.1.items ≡ boots.now)) }
+{
+    Ok((patched?, Vec::from_slice(alloc, boots)?))
 }

@@ -100,9 +100,23 @@ impl<M: Consistency> Log<M> {
         ensures room { OnOk result (0 < self.new.room) }
         ensures same { AreSame self.old self.new }
     {
-        let answer = step.reply().copy(alloc)?;
+        match self.reserved(alloc, step.reply()) {
+            Ok(answer) => Ok(Ready { step, answer }),
+            Err(error) => {
+                drop(step);
+                Err(error)
+            }
+        }
+    }
+
+    /// Memory for one entry more, and the answer that it will have.
+    fn reserved(&mut self, alloc: Global, reply: &Reply) -> Result<Reply, AllocError>
+        ensures answer { IfOk result (λ answer. answer ≡ reply.now) }
+        ensures room { OnOk result (0 < self.new.room) }
+        ensures same { AreSame self.old self.new }
+    {
         self.entries.reserve(1)?;
-        Ok(Ready { step, answer })
+        reply.copy(alloc)
     }
 
     /// Takes an event that was made ready, and adds it to the journal with the answer. Never allocates.
