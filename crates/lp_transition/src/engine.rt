@@ -148,10 +148,10 @@ impl<M: Consistency> Core<M> {
     pub fn has_frame(&self, task: TaskId, serial: u64) -> bool
         ensures { result ≡ has_frame_in (state_in self.now) task.0 serial }
     {
-        match self.tasks.get(task) {
-            Some(live) => live.has_frame(serial),
-            None => false,
-        }
+        let Some(live) = self.tasks.get(task) else {
+            return false;
+        };
+        live.has_frame(serial)
     }
 
     /// The standing blame of a group: a frame by which every check of it is refused until the frame is
