@@ -28,8 +28,8 @@ use std::marker::Model;
 /// A run under way: the engine, and what the run came to so far.
 #[derive(Drop)]
 pub(super) struct Recorder<M: Consistency> {
-    core: Core<M>,
-    maker: Maker,
+    core: Box<Core<M>>,
+    maker: Box<Maker>,
     replies: ReplyList,
     stays: StayCount,
 }
@@ -39,7 +39,7 @@ impl<M: Consistency> Model for Recorder<M> {
 
     ghost Value = { Recorded };
 
-    ghost view = { λ r. record { core = r.core; made = r.maker; replies = r.replies; stays = r.stays } };
+    ghost view = { λ r. record { core = r.core.value; made = r.maker.value; replies = r.replies; stays = r.stays } };
 }
 
 impl<M: Consistency> Recorder<M> {
@@ -47,12 +47,11 @@ impl<M: Consistency> Recorder<M> {
     pub(super) fn new(alloc: Global, model: M, trace: &Trace) -> Result<Recorder<M>, ReplayFault>
         ensures { IfOk result (λ recorder. IsRecorded M.rules (run_of trace.now) recorder) }
     {
-        // The engine comes last: it is the largest, and nothing can fail behind it.
         let patches = start::stack(alloc, trace)?;
         let stays = StayCount::new(alloc, &patches)?;
         let replies = ReplyList::with_capacity(alloc, trace.events().len())?;
-        let maker = Maker::new(alloc)?;
-        let core = start::boot(alloc, model, patches, trace)?;
+        let maker = Box::new(alloc, Maker::new(alloc)?)?;
+        let core = Box::new(alloc, start::boot(alloc, model, patches, trace)?)?;
         Ok(Recorder {
             core,
             maker,
@@ -99,7 +98,7 @@ impl<M: Consistency> Recorder<M> {
         } = self;
         Ok(Outcome {
             replies,
-            legs: LegList::from_vec(maker.into_ends(alloc)?),
+            legs: LegList::from_vec(Box::into_inner(maker).into_ends(alloc)?),
             stays: stays.stays(),
             mixed: stays.mixed(),
         })

@@ -15,16 +15,18 @@ use lp_text::Trace;
 use lp_transition::{BootFault, Core};
 use std::alloc::Global;
 
-/// The engine at the start of a trace.
+/// The engine at the start of a trace. In a box: the proof of a function that owns an engine goes over
+/// each part of it at each early return.
 pub(super) fn engine<M: Consistency>(
     alloc: Global,
     model: M,
     trace: &Trace,
-) -> Result<Core<M>, ReplayFault>
-    ensures { IfOk result (λ core. StandsIn M.rules (run_of trace.now) (state_in core)) }
+) -> Result<Box<Core<M>>, ReplayFault>
+    ensures { IfOk result (λ core. StandsIn M.rules (run_of trace.now) (state_in core.value)) }
 {
     let patches = stack(alloc, trace)?;
-    boot(alloc, model, patches, trace)
+    let core = boot(alloc, model, patches, trace)?;
+    Ok(Box::new(alloc, core)?)
 }
 
 /// The engine with the trace's patches and its boot tasks, before the first event.
