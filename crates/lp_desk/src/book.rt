@@ -100,6 +100,7 @@ impl<M: Consistency, N: DeskName> Book<M, N> {
                 })
             }
             Err(refused) => {
+                drop(readers);
                 board.shut(rt);
                 Err(LaunchFault::from(refused))
             }

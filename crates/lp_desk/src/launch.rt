@@ -49,6 +49,7 @@ impl<M: Consistency, N: DeskName, G: ScanGate + Drop, R: Wait + Drop> Desk<M, N,
         ensures count { IfOk result (λ launched. length launched.readers.items ≡ blank.readers) }
     {
         if workers == 0 || workers > MOST_CREW {
+            drop(blank);
             return Err(LaunchFault::BadCrew);
         }
         let opened = Book::<M, N>::open(&rt, alloc, blank)?;

@@ -51,8 +51,10 @@ fn play_blank_in_order<T: Threads + Wait + Sync, M: Consistency + Sync, N: DeskN
         desk,
         seats,
         control,
-        readers: _,
+        readers,
     } = launched;
+    drop(readers);
+    let desk = Box::new(alloc, desk)?;
     let mut table = table_of(alloc, seats)?;
     let mut control = control;
     for event in trace.events() {
@@ -65,7 +67,7 @@ fn play_blank_in_order<T: Threads + Wait + Sync, M: Consistency + Sync, N: DeskN
         }
     }
     let seats = seats_in(alloc, table)?;
-    let journal = desk.close(rt, alloc, seats, control)?;
+    let journal = Box::into_inner(desk).close(rt, alloc, seats, control)?;
     Ok(Some(journal))
 }
 

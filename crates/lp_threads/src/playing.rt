@@ -105,36 +105,40 @@ fn play<T: Threads + Wait + Sync, M: Consistency + Send + Sync>(
 {
     let patches = stack(alloc, trace)?;
     let blank = Blank::new(alloc, model, patches, trace.boots(), READERS)?;
-    play_blank::<T, M, Brand, Brand>(rt, alloc, trace, blank)
+    play_blank::<T, M, Brand, Brand>(rt, alloc, trace, Box::new(alloc, blank)?)
 }
 
-/// The same, through the desk that starts as a blank.
+/// The same, through the desk that starts as a blank. Both are in boxes: the proof goes over each part of what a function
+/// owns at each early return.
 fn play_blank<
     T: Threads + Wait + Sync,
     M: Consistency + Send + Sync,
     N: DeskName + Send + Sync,
     S: TraceName + Send + Sync,
->(rt: &T, alloc: Global, trace: &Trace, blank: Blank<M>) -> Result<Play, ThreadsFault>
-    requires desk { name_of M.rules blank ≡ N.desk }
+>(rt: &T, alloc: Global, trace: &Trace, blank: Box<Blank<M>>) -> Result<Play, ThreadsFault>
+    requires desk { name_of M.rules blank.value ≡ N.desk }
     requires events { trace.now.events ≡ S.events }
-    requires patches { blank.patches ≡ (run_of trace.now).patches }
-    requires boots { blank.boots ≡ trace.now.boots }
+    requires patches { blank.value.patches ≡ (run_of trace.now).patches }
+    requires boots { blank.value.boots ≡ trace.now.boots }
     ensures play { IfOk result (λ play. IsPlay M.rules trace.now play) }
     ensures fault { IfErr result (λ fault. IsOfPlay fault) }
 {
     let scripts = Scripts::<S>::deal(alloc, trace.events())?;
+    let blank = Box::into_inner(blank);
     let launched = Desk::<M, N, Open, &T>::launch(rt, alloc, blank, SCAN_WORKERS, Open)?;
     let Launched {
         desk,
         seats,
         control,
-        readers: _,
+        readers,
     } = launched;
+    drop(readers);
+    let desk = Box::new(alloc, desk)?;
     let hands = dealt(alloc, seats)?;
     let control = NewControl::new(control);
     let (seats, control) = played(rt, alloc, &desk, &scripts, hands, control)?;
     let given = seats.len();
-    let journal = desk.close(rt, alloc, seats, control)?;
+    let journal = Box::into_inner(desk).close(rt, alloc, seats, control)?;
     let events = journal.entries().len();
     let skipped = trace.events().len().saturating_sub(events);
     Ok(Play {
