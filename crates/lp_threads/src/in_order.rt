@@ -5,7 +5,7 @@ ghost use Rattle.lp_log.specs.Journals.{IsReplayed};
 ghost use Rattle.lp_replay.specs.Outcome.{run_of};
 
 use crate::ThreadsFault;
-use crate::playing::{Open, READERS, SCAN_WORKERS};
+use crate::playing::{Open, READERS, SCAN_WORKERS, boxed};
 use lp_board::{Blank, DeskName};
 use lp_desk::{Commanded, Desk, Launched, Submitted};
 use lp_log::{Control, Journal, Seat, owner};
@@ -54,7 +54,7 @@ fn play_blank_in_order<T: Threads + Wait + Sync, M: Consistency + Sync, N: DeskN
         readers,
     } = launched;
     drop(readers);
-    let desk = Box::new(alloc, desk)?;
+    let desk = boxed(alloc, desk)?;
     let mut table = table_of(alloc, seats)?;
     let mut control = control;
     for event in trace.events() {

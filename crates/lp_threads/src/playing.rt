@@ -105,7 +105,7 @@ fn play<T: Threads + Wait + Sync, M: Consistency + Send + Sync>(
 {
     let patches = stack(alloc, trace)?;
     let blank = Blank::new(alloc, model, patches, trace.boots(), READERS)?;
-    play_blank::<T, M, Brand, Brand>(rt, alloc, trace, Box::new(alloc, blank)?)
+    play_blank::<T, M, Brand, Brand>(rt, alloc, trace, boxed(alloc, blank)?)
 }
 
 /// The same, through the desk that starts as a blank. Both are in boxes: the proof goes over each part of what a function
@@ -133,7 +133,7 @@ fn play_blank<
         readers,
     } = launched;
     drop(readers);
-    let desk = Box::new(alloc, desk)?;
+    let desk = boxed(alloc, desk)?;
     let hands = dealt(alloc, seats)?;
     let control = NewControl::new(control);
     let (seats, control) = played(rt, alloc, &desk, &scripts, hands, control)?;
@@ -146,6 +146,13 @@ fn play_blank<
         events,
         skipped,
     })
+}
+
+/// A value in a box; AllocError where an allocation failed.
+pub(crate) fn boxed<X: Drop>(alloc: Global, value: X) -> Result<Box<X>, AllocError>
+    ensures { IfOk result (λ inside. inside.value ≡ value) }
+{
+    Ok(Box::new(alloc, value)?)
 }
 
 /// The seats, dealt out to the players in turn.

@@ -3,7 +3,7 @@ use Rattle.lp_threads.proofs.playing.play.Given as goal
 
 -- the desk that starts as the blank which was just made
 abbrev pub ghosts-play_blank-N-DeskName : goal.ghosts-play_blank-N-DeskName
-ghosts-play_blank-N-DeskName g a = record { desk = name_of g.M.Consistency.rules a.blank }
+ghosts-play_blank-N-DeskName g a = record { desk = name_of g.M.Consistency.rules a.blank.value }
 
 -- and the trace that is played
 abbrev pub ghosts-play_blank-S-TraceName : goal.ghosts-play_blank-S-TraceName
