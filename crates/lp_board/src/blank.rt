@@ -30,7 +30,6 @@ use std::sync::Wait;
 /// An engine that has taken no event, with all that its board needs but a name.
 ///
 /// Contracts see how it starts, where its events will be kept, and how many readers its board will have.
-#[derive(Drop)]
 pub struct Blank<M: Consistency> {
     core: Core<M>,
     patches: PatchStack,
@@ -41,6 +40,23 @@ pub struct Blank<M: Consistency> {
     head: Head,
     seen: Seen<Event, u64, Law>,
     readers: usize,
+}
+
+/// In one step for who owns one: docs/GATE.md says why.
+impl<M: Consistency> Drop for Blank<M> {
+    fn drop(self) {
+        let Blank {
+            core: _,
+            patches: _,
+            boots: _,
+            heading: _,
+            first: _,
+            second: _,
+            head: _,
+            seen: _,
+            readers: _,
+        } = self;
+    }
 }
 
 impl<M: Consistency> Model for Blank<M> {

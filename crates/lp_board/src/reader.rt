@@ -65,11 +65,21 @@ pub enum BoardFault {
 /// A reader of a desk's board. It never waits.
 ///
 /// Contracts see the events that its last answer showed, and all that it has seen or learnt.
-#[derive(Drop)]
 pub struct BoardReader<N: DeskName> {
     raw: Raw<N>,
     seen: Prefix<N>,
     known: Prefix<N>,
+}
+
+/// In one step for who owns one: docs/GATE.md says why.
+impl<N: DeskName> Drop for BoardReader<N> {
+    fn drop(self) {
+        let BoardReader {
+            raw: _,
+            seen: _,
+            known: _,
+        } = self;
+    }
 }
 
 impl<N: DeskName> Model for BoardReader<N> {

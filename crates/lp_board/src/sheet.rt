@@ -30,18 +30,37 @@ pub struct Update {
 }
 
 /// What an event changes, with the events up to it.
-#[derive(Drop)]
 pub struct Change<N: DeskName> {
     pub(crate) update: Update,
     pub(crate) prefix: Prefix<N>,
 }
 
+/// In one step for who owns one: docs/GATE.md says why.
+impl<N: DeskName> Drop for Change<N> {
+    fn drop(self) {
+        let Change {
+            update: _,
+            prefix: _,
+        } = self;
+    }
+}
+
 /// The level of each task number, None where no task lives, the heading, and the events that led there.
-#[derive(Drop)]
 pub struct Sheet<N: DeskName> {
     pub(crate) levels: Levels,
     pub(crate) heading: Heading,
     pub(crate) prefix: Prefix<N>,
+}
+
+/// In one step for who owns one: docs/GATE.md says why.
+impl<N: DeskName> Drop for Sheet<N> {
+    fn drop(self) {
+        let Sheet {
+            levels: _,
+            heading: _,
+            prefix: _,
+        } = self;
+    }
 }
 
 /// A sheet as proofs see it. No value of it is made; a clause reads an array as a list.

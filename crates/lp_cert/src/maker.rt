@@ -45,7 +45,6 @@ pub(crate) struct Ready {
 ///
 /// Contracts see the ends of the legs that ended, the end of the leg under way as it stands, the
 /// event for which there is room, and the groups that a scan needn't look at.
-#[derive(Drop)]
 pub struct Maker {
     ended: Vec<LegEnd>,
     current: Option<OpenLeg>,
@@ -57,6 +56,21 @@ pub struct Maker {
     /// The certificates of the leg under way, where `ready` opens another: copies, as the maker's own
     /// room is for the greatest scan. They stand beside `ready`, since few events need them.
     closing: Option<CertList>,
+}
+
+/// In one step for who owns one: docs/GATE.md says why.
+impl Drop for Maker {
+    fn drop(self) {
+        let Maker {
+            ended: _,
+            current: _,
+            waiters: _,
+            unchanged: _,
+            noted: _,
+            ready: _,
+            closing: _,
+        } = self;
+    }
 }
 
 impl Model for Maker {
@@ -259,8 +273,10 @@ impl Maker {
             mut ended,
             current,
             waiters,
+            unchanged: _,
             noted,
-            ..
+            ready: _,
+            closing: _,
         } = self;
         if let Some(leg) = current {
             let certs = leg.into_certs(alloc, noted, waiters)?;

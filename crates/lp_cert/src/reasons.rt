@@ -25,11 +25,21 @@ const NO_REASON: Head = Head {
 ///
 /// Contracts see the head of each group, the lists and the scans, and how many more reasons and
 /// scans there is room for.
-#[derive(Drop)]
 pub(crate) struct Reasons {
     heads: Vec<Head>,
     chains: Chains,
     scans: Vec<u64>,
+}
+
+/// In one step for who owns one: docs/GATE.md says why.
+impl Drop for Reasons {
+    fn drop(self) {
+        let Reasons {
+            heads: _,
+            chains: _,
+            scans: _,
+        } = self;
+    }
 }
 
 impl Model for Reasons {
@@ -160,7 +170,12 @@ impl Reasons {
         ensures lists { result.0.lists ≡ self.lists }
         ensures scans { result.1.items ≡ self.scans }
     {
-        (self.chains, self.scans)
+        let Self {
+            heads: _,
+            chains,
+            scans,
+        } = self;
+        (chains, scans)
     }
 
     /// Takes all older reasons and scans out. Never allocates.

@@ -30,12 +30,22 @@ use std::marker::Model;
 /// The groups that wait, each with its reasons.
 ///
 /// Contracts see the set of these groups, and the reasons of all.
-#[derive(Drop)]
 pub(crate) struct Waiters {
     groups: GroupSet,
     /// Within a scan the groups that it has refused so far.
     refused: NumberSet,
     reasons: Reasons,
+}
+
+/// In one step for who owns one: docs/GATE.md says why.
+impl Drop for Waiters {
+    fn drop(self) {
+        let Waiters {
+            groups: _,
+            refused: _,
+            reasons: _,
+        } = self;
+    }
 }
 
 impl Model for Waiters {
@@ -148,7 +158,12 @@ impl Waiters {
         ensures lists { result.0.lists ≡ self.reasons.lists }
         ensures scans { result.1.items ≡ self.reasons.scans }
     {
-        self.reasons.into_past()
+        let Self {
+            groups: _,
+            refused: _,
+            reasons,
+        } = self;
+        reasons.into_past()
     }
 
     /// A group as it stands, which may wait or not.

@@ -7,8 +7,6 @@ mod comparison;
 mod first_end;
 mod json;
 mod runs;
-#[cfg(test)]
-mod tests;
 mod text;
 
 pub use compares::compare;

@@ -46,11 +46,20 @@ impl ShortReply {
 ///
 /// A run has up to a million replies, of which few switched a group. So a reply takes three bytes, and
 /// the lists of groups stand apart from them, for those that switched any.
-#[derive(Drop)]
 pub struct ReplyList {
     short: Vec<ShortReply>,
     /// The groups of each event that switched some, in the order of the events.
     groups: Vec<GroupList>,
+}
+
+/// In one step for who owns one: docs/GATE.md says why.
+impl Drop for ReplyList {
+    fn drop(self) {
+        let ReplyList {
+            short: _,
+            groups: _,
+        } = self;
+    }
 }
 
 impl Model for ReplyList {

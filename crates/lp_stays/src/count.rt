@@ -26,7 +26,6 @@ use std::marker::Model;
 /// however long the run is, and no stay is kept once it is over.
 ///
 /// Contracts see what it keeps.
-#[derive(Drop)]
 pub struct StayCount {
     patches: PatchStack,
     events: u32,
@@ -36,6 +35,20 @@ pub struct StayCount {
     present: Vec<Present>,
     /// For each function, the patches that have it.
     holders: Vec<u16>,
+}
+
+/// In one step for who owns one: docs/GATE.md says why.
+impl Drop for StayCount {
+    fn drop(self) {
+        let StayCount {
+            patches: _,
+            events: _,
+            stays: _,
+            mixed: _,
+            present: _,
+            holders: _,
+        } = self;
+    }
 }
 
 impl Model for StayCount {

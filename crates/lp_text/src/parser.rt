@@ -25,7 +25,6 @@ use std::marker::Model;
 use std::str;
 
 /// What the lines so far have given. Contracts see it as a trace.
-#[derive(Drop)]
 pub(crate) struct Parser {
     form: TraceForm,
     symbols: Symbols,
@@ -35,6 +34,21 @@ pub(crate) struct Parser {
     /// For each task number, whether a boot line has it.
     booted: Vec<bool>,
     events: Vec<Event>,
+}
+
+/// In one step for who owns one: docs/GATE.md says why.
+impl Drop for Parser {
+    fn drop(self) {
+        let Parser {
+            form: _,
+            symbols: _,
+            cache: _,
+            patches: _,
+            boots: _,
+            booted: _,
+            events: _,
+        } = self;
+    }
 }
 
 impl Model for Parser {

@@ -23,7 +23,6 @@ use std::marker::Model;
 use std::mem;
 
 /// What came of a text so far.
-#[derive(Drop)]
 struct Stream {
     /// What the whole lines have given, once the first one came.
     parser: Option<Parser>,
@@ -33,6 +32,18 @@ struct Stream {
     held: Vec<u8>,
     /// Memory for what is held next.
     next: Vec<u8>,
+}
+
+/// In one step for who owns one: docs/GATE.md says why.
+impl Drop for Stream {
+    fn drop(self) {
+        let Stream {
+            parser: _,
+            number: _,
+            held: _,
+            next: _,
+        } = self;
+    }
 }
 
 impl Model for Stream {
@@ -103,7 +114,7 @@ impl Stream {
             parser,
             number,
             held,
-            ..
+            next: _,
         } = self;
         match parser {
             None => read_all_lines(alloc, held.as_slice()),

@@ -12,13 +12,25 @@ use std::marker::Model;
 /// of them, the tasks at boot, and events, each list in the order in which it is written.
 ///
 /// Every trace keeps the text's limits, so it has a spelling.
-#[derive(Drop)]
 pub struct Trace {
     pub(crate) form: TraceForm,
     pub(crate) symbols: Symbols,
     pub(crate) patches: Vec<Vec<SymId>>,
     pub(crate) boots: Vec<(TaskId, Class)>,
     pub(crate) events: Vec<Event>,
+}
+
+/// In one step for who owns one: docs/GATE.md says why.
+impl Drop for Trace {
+    fn drop(self) {
+        let Trace {
+            form: _,
+            symbols: _,
+            patches: _,
+            boots: _,
+            events: _,
+        } = self;
+    }
 }
 
 impl Model for Trace {

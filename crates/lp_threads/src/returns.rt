@@ -12,12 +12,22 @@ use lp_log::{Cause, Control, Seat};
 use std::alloc::{AllocError, Global};
 
 /// The seats and the control that came back so far, and why a thread gave up, if one did.
-#[derive(Drop)]
 pub(crate) struct Returns<S: TraceName> {
     seats: Vec<PlayedSeat<S>>,
     control: Option<PlayedControl<S>>,
     cause: Option<Cause>,
     ghost own: { cause ≢ Some NotYours },
+}
+
+/// In one step for who owns one: docs/GATE.md says why.
+impl<S: TraceName> Drop for Returns<S> {
+    fn drop(self) {
+        let Returns {
+            seats: _,
+            control: _,
+            cause: _,
+        } = self;
+    }
 }
 
 impl<S: TraceName> Returns<S> {

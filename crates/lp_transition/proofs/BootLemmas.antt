@@ -194,7 +194,7 @@ unfolding leg_after
 at_start-stands model patches boots now in_range is = record { in_range = in_range; there = is ∙ sym (started model (new_run patches boots)) }
 
 -- where the tasks of the list are put, and nobody waits
-starts : (model : Rules) → IsLawful model → (patches : Patches) (boots : List (TaskId × Class)) (table : Table) (blames : List (Option StandingBlame)) (waiting : Numbers) → ArePut model boots table → IsEmpty waiting → length waiting ≡ 65536 → HasStarted model patches boots (at_start patches table blames) waiting
+pub starts : (model : Rules) → IsLawful model → (patches : Patches) (boots : List (TaskId × Class)) (table : Table) (blames : List (Option StandingBlame)) (waiting : Numbers) → ArePut model boots table → IsEmpty waiting → length waiting ≡ 65536 → HasStarted model patches boots (at_start patches table blames) waiting
 starts model lawful patches boots table blames waiting put none long =
     let first = start model (bounds_of patches) patches boots in
     let state : state_in (at_start patches table blames) ≡ first.opening = ap {A = ℕ → Fate Standing} {B = State} (λ tasks. record { number = 0; bounds = bounds_of patches; from = 0; aim = record { patches = patches; target = 0 }; tasks = tasks }) put.live in
@@ -211,10 +211,3 @@ starts model lawful patches boots table blames waiting put none long =
       state = state;
       stands = at_start-stands model patches boots (state_in (at_start patches table blames)) put.in_range state;
     }
-
--- the same, of the engine that code makes
-pub starts_with : (model : Rules) → IsLawful model → (held patches : Patches) (boots : List (TaskId × Class)) (now table : Table) (blames : List (Option StandingBlame)) (waiting : Numbers) → held ≡ patches → now ≡ table → ArePut model boots table → IsEmpty waiting → length waiting ≡ 65536 → HasStarted model patches boots (at_start held now blames) waiting
-starts_with model lawful held patches boots now table blames waiting same is put none long =
-    subst (λ p. HasStarted model patches boots (at_start p now blames) waiting) (sym same)
-    (subst (λ t. HasStarted model patches boots (at_start patches t blames) waiting) (sym is)
-    (starts model lawful patches boots table blames waiting put none long))

@@ -55,7 +55,6 @@ pub const MOST_EVENTS: u32 = 1_000_000;
 ///
 /// Contracts see what it keeps: the number of events so far, the levels from which and to which it
 /// goes, the patches, the tasks by their numbers, and the standing blames of the groups.
-#[derive(Drop)]
 pub struct Core<M: Consistency> {
     model: M,
     patches: PatchStack,
@@ -67,6 +66,23 @@ pub struct Core<M: Consistency> {
     waiting: NumberSet,
     unchanged: Unchanged,
     blames: Blames,
+}
+
+/// In one step for who owns one: docs/GATE.md says why.
+impl<M: Consistency> Drop for Core<M> {
+    fn drop(self) {
+        let Core {
+            model: _,
+            patches: _,
+            from: _,
+            target: _,
+            events: _,
+            tasks: _,
+            waiting: _,
+            unchanged: _,
+            blames: _,
+        } = self;
+    }
 }
 
 impl<M: Consistency> Model for Core<M> {

@@ -72,24 +72,43 @@ impl Event {
     }
 }
 
+impl Event {
+    /// The word that begins its line in a trace.
+    fn word(&self) -> &'static str {
+        match self {
+            Event::Call(..) => "call",
+            Event::Ret(_) => "ret",
+            Event::Sleep(_) => "sleep",
+            Event::Wake(_) => "wake",
+            Event::Enter(_) => "enter",
+            Event::Exit(_) => "exit",
+            Event::Idle(_) => "idle",
+            Event::Fork(..) => "fork",
+            Event::Die(_) => "die",
+            Event::Walk => "walk",
+            Event::Stop => "stop",
+            Event::Enable => "enable",
+            Event::Disable => "disable",
+            Event::Reverse => "reverse",
+        }
+    }
+}
+
 /// As the trace text writes it, but with a function's number, as an event doesn't know its name.
 impl fmt::Display for Event {
     fn fmt<W: fmt::Write>(&self, f: &mut fmt::Formatter<W>) -> fmt::Result {
+        f.write_str(self.word())?;
         match self {
-            Event::Call(task, func) => write!(f, "call {} {}", task.0, func.0),
-            Event::Ret(task) => write!(f, "ret {}", task.0),
-            Event::Sleep(task) => write!(f, "sleep {}", task.0),
-            Event::Wake(task) => write!(f, "wake {}", task.0),
-            Event::Enter(task) => write!(f, "enter {}", task.0),
-            Event::Exit(task) => write!(f, "exit {}", task.0),
-            Event::Idle(task) => write!(f, "idle {}", task.0),
-            Event::Fork(parent, child, how) => write!(f, "fork {} {} {how}", parent.0, child.0),
-            Event::Die(task) => write!(f, "die {}", task.0),
-            Event::Walk => f.write_str("walk"),
-            Event::Stop => f.write_str("stop"),
-            Event::Enable => f.write_str("enable"),
-            Event::Disable => f.write_str("disable"),
-            Event::Reverse => f.write_str("reverse"),
+            Event::Call(task, func) => write!(f, " {} {}", task.0, func.0),
+            Event::Fork(parent, child, how) => write!(f, " {} {} {how}", parent.0, child.0),
+            Event::Ret(task)
+            | Event::Sleep(task)
+            | Event::Wake(task)
+            | Event::Enter(task)
+            | Event::Exit(task)
+            | Event::Idle(task)
+            | Event::Die(task) => write!(f, " {}", task.0),
+            Event::Walk | Event::Stop | Event::Enable | Event::Disable | Event::Reverse => Ok(()),
         }
     }
 }

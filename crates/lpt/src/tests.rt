@@ -65,9 +65,20 @@ const REFUSED: &str =
 const ASLEEP: &str =
     "lptrace 1\nsym a\nsym b\nsym c\npatch a\nboot 1 normal\nenter 1\ncall 1 c\nsleep 1\nenable\nwalk\n";
 
+/// Births carry the wait on: three groups stand behind the first, and a child of the last shares its group or not.
+const BIRTHS: &str =
+    "lptrace 1\nsym a\npatch a\nboot 1 normal\nenter 1\ncall 1 a\nenable\nfork 1 2 own\nwalk\nfork 2 3 own\nfork 3 4 share\nwalk\n";
+
+/// The first leg ends where it is turned back, under all models but the one that completed it.
+const TURNED: &str =
+    "lptrace 1\nsym a\npatch a\nboot 1 normal\nenter 1\ncall 1 a\nenable\nwalk\nreverse\nwalk\n";
+
+/// No leg.
+const NO_LEG: &str = "lptrace 1\nsym a\npatch a\nboot 1 normal\nenter 1\n";
+
 /// Words with an input, and how the program ends: its status, what it writes, and its line on
 /// standard error.
-const RUNS: [(&str, &str, u8, &str, &str); 20] = [
+const RUNS: [(&str, &str, u8, &str, &str); 24] = [
     (
         "lpt run hybrid",
         TRACE,
@@ -136,7 +147,35 @@ const RUNS: [(&str, &str, u8, &str, &str); 20] = [
     ),
     (
         "lpt compare",
-        "lptrace 1\nsym a\npatch a\nboot 1 normal\nenter 1\n",
+        BIRTHS,
+        0,
+        "lpcompare 1\nleg 3\nhybrid waiting 4 births 3\nleave-kernel waiting 4 births 3\nall-at-once waiting 1 births 0\nimmediate complete 5 births 0\nprocess-group waiting 3 births 2\n",
+        "",
+    ),
+    (
+        "lpt compare --json",
+        BIRTHS,
+        0,
+        "{\"leg\":3,\"models\":[{\"births\":3,\"complete\":null,\"model\":\"hybrid\",\"waiting\":4},{\"births\":3,\"complete\":null,\"model\":\"leave-kernel\",\"waiting\":4},{\"births\":0,\"complete\":null,\"model\":\"all-at-once\",\"waiting\":1},{\"births\":0,\"complete\":5,\"model\":\"immediate\",\"waiting\":0},{\"births\":2,\"complete\":null,\"model\":\"process-group\",\"waiting\":3}],\"version\":1}\n",
+        "",
+    ),
+    (
+        "lpt compare",
+        TURNED,
+        0,
+        "lpcompare 1\nleg 3\nhybrid waiting 1 births 0\nleave-kernel waiting 1 births 0\nall-at-once waiting 1 births 0\nimmediate complete 4 births 0\nprocess-group waiting 1 births 0\n",
+        "",
+    ),
+    (
+        "lpt compare --json",
+        NO_LEG,
+        0,
+        "{\"leg\":null,\"models\":[{\"births\":0,\"complete\":null,\"model\":\"hybrid\",\"waiting\":0},{\"births\":0,\"complete\":null,\"model\":\"leave-kernel\",\"waiting\":0},{\"births\":0,\"complete\":null,\"model\":\"all-at-once\",\"waiting\":0},{\"births\":0,\"complete\":null,\"model\":\"immediate\",\"waiting\":0},{\"births\":0,\"complete\":null,\"model\":\"process-group\",\"waiting\":0}],\"version\":1}\n",
+        "",
+    ),
+    (
+        "lpt compare",
+        NO_LEG,
         0,
         "lpcompare 1\nleg none\nhybrid none\nleave-kernel none\nall-at-once none\nimmediate none\nprocess-group none\n",
         "",

@@ -17,11 +17,21 @@ use std::marker::Model;
 ///
 /// The lists go as far as the greatest number that was put: each fold of a check would else begin
 /// with more than a megabyte, for a handful of tasks.
-#[derive(Drop)]
 pub(crate) struct FoldedTable {
     slots: Vec<Option<FoldedTask>>,
     used: NumberSet,
     members: Vec<u32>,
+}
+
+/// In one step for who owns one: docs/GATE.md says why.
+impl Drop for FoldedTable {
+    fn drop(self) {
+        let FoldedTable {
+            slots: _,
+            used: _,
+            members: _,
+        } = self;
+    }
 }
 
 impl Model for FoldedTable {

@@ -26,12 +26,23 @@ use std::alloc::Global;
 use std::marker::Model;
 
 /// A run under way: the engine, and what the run came to so far.
-#[derive(Drop)]
 pub(super) struct Recorder<M: Consistency> {
     core: Box<Core<M>>,
     maker: Box<Maker>,
     replies: ReplyList,
     stays: StayCount,
+}
+
+/// In one step for who owns one: docs/GATE.md says why.
+impl<M: Consistency> Drop for Recorder<M> {
+    fn drop(self) {
+        let Recorder {
+            core: _,
+            maker: _,
+            replies: _,
+            stays: _,
+        } = self;
+    }
 }
 
 impl<M: Consistency> Model for Recorder<M> {

@@ -25,13 +25,23 @@ pub struct StandingBlame {
 }
 
 /// For each group its standing blame, if it has one. Only `new` allocates.
-#[derive(Drop)]
 pub(super) struct Blames {
     of_group: BlameTable,
     /// The groups that got a blame since the last control event, so that one needn't go over all.
     noted: NumberSet,
     /// The groups of which the present scan refused a member; of use in a scan alone.
     decided: NumberSet,
+}
+
+/// In one step for who owns one: docs/GATE.md says why.
+impl Drop for Blames {
+    fn drop(self) {
+        let Blames {
+            of_group: _,
+            noted: _,
+            decided: _,
+        } = self;
+    }
 }
 
 impl Model for Blames {

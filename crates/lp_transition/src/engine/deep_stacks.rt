@@ -18,13 +18,23 @@ use std::marker::Model;
 /// nothing.
 ///
 /// Contracts see a list that says for each number which deep stack it has.
-#[derive(Drop)]
 pub(super) struct DeepStacks {
     /// For each task which array it has, as far as the greatest number that had one.
     places: Vec<Option<u16>>,
     stacks: Vec<DeepStack>,
     /// The arrays that no task has.
     free: NumberSet,
+}
+
+/// In one step for who owns one: docs/GATE.md says why.
+impl Drop for DeepStacks {
+    fn drop(self) {
+        let DeepStacks {
+            places: _,
+            stacks: _,
+            free: _,
+        } = self;
+    }
 }
 
 impl Model for DeepStacks {

@@ -41,7 +41,6 @@ impl<T: Drop> From<AllocFailed<T>> for Halt {
 }
 
 /// An event with its answer. All that can fail is done: taking it never allocates.
-#[derive(Drop)]
 pub struct Step {
     event: Event,
     reply: Reply,
@@ -50,6 +49,19 @@ pub struct Step {
     born: Option<Box<LiveTask>>,
     /// Of a scan, the groups that switch; None where none does.
     switching: Option<NumberSet>,
+}
+
+/// In one step for who owns one: docs/GATE.md says why.
+impl Drop for Step {
+    fn drop(self) {
+        let Step {
+            event: _,
+            reply: _,
+            verdicts: _,
+            born: _,
+            switching: _,
+        } = self;
+    }
 }
 
 impl Model for Step {
@@ -98,7 +110,13 @@ impl Step {
     pub(super) fn into_reply(self) -> Reply
         ensures { result ≡ self.reply }
     {
-        let Self { reply, .. } = self;
+        let Self {
+            event: _,
+            reply,
+            verdicts: _,
+            born: _,
+            switching: _,
+        } = self;
         reply
     }
 
@@ -107,7 +125,13 @@ impl Step {
         ensures reply { result.0 ≡ self.reply }
         ensures born { option_map (λ (b : Box Standing Global). b.value) result.1 ≡ self.born }
     {
-        let Self { reply, born, .. } = self;
+        let Self {
+            event: _,
+            reply,
+            verdicts: _,
+            born,
+            switching: _,
+        } = self;
         (reply, born)
     }
 

@@ -22,7 +22,6 @@ use std::marker::Model;
 ///
 /// There is room for a slot of each number, but slots are made only as far as the greatest number that
 /// was used: memory that nothing was written to costs nothing.
-#[derive(Drop)]
 pub(crate) struct TaskTable {
     slots: Vec<Option<Box<LiveTask>>>,
     /// The stacks that the records have no room for.
@@ -31,6 +30,19 @@ pub(crate) struct TaskTable {
     used: NumberSet,
     /// The live tasks of each group.
     members: Members,
+}
+
+/// In one step for who owns one: docs/GATE.md says why.
+impl Drop for TaskTable {
+    fn drop(self) {
+        let TaskTable {
+            slots: _,
+            deep: _,
+            live: _,
+            used: _,
+            members: _,
+        } = self;
+    }
 }
 
 impl Model for TaskTable {

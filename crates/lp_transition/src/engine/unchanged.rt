@@ -18,7 +18,6 @@ use std::marker::Model;
 /// What the engine keeps of its last scan: each group that waits and hasn't changed since is
 /// refused by a scan of this kind again, and each task that waits is admitted by one, but for those
 /// of a set.
-#[derive(Drop)]
 pub(super) struct Unchanged {
     /// The kind of the leg's last scan that the model uses; None where there was none, or nobody
     /// waits.
@@ -28,6 +27,17 @@ pub(super) struct Unchanged {
     /// The tasks that a scan may refuse, and of use where there was a scan. A task that doesn't wait
     /// may be among them.
     may_refuse: NumberSet,
+}
+
+/// In one step for who owns one: docs/GATE.md says why.
+impl Drop for Unchanged {
+    fn drop(self) {
+        let Unchanged {
+            kind: _,
+            changed: _,
+            may_refuse: _,
+        } = self;
+    }
 }
 
 impl Model for Unchanged {

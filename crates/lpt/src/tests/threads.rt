@@ -9,8 +9,15 @@ const TWO: &str =
 /// A child whose fork was refused, an exit of it, and an event of a task that never was.
 const UNBORN: &str = "lptrace 1\nsym a\npatch a\nboot 1 normal\nfork 1 2 own\nexit 2\nret 3\n";
 
+/// A child whose fork was accepted, and which is played with its parent.
+const BORN: &str =
+    "lptrace 1\nsym a\npatch a\nboot 1 normal\nenter 1\nfork 1 2 own\nexit 2\nexit 1\n";
+
+/// No task, but events of the control and of one that never was.
+const OF_NOBODY: &str = "lptrace 1\nsym a\npatch a\nenable\nwalk\nenter 1\n";
+
 /// Words with an input, and what is written.
-const PLAYS: [(&str, &str, &str); 7] = [
+const PLAYS: [(&str, &str, &str); 9] = [
     (
         "lpt threads hybrid",
         TWO,
@@ -40,6 +47,16 @@ const PLAYS: [(&str, &str, &str); 7] = [
         "lpt threads hybrid",
         UNBORN,
         "lpthreads 1\nmodel hybrid\nseats 1\nevents 1\nskipped 2\nclosed\n",
+    ),
+    (
+        "lpt threads hybrid",
+        BORN,
+        "lpthreads 1\nmodel hybrid\nseats 2\nevents 4\nskipped 0\nclosed\n",
+    ),
+    (
+        "lpt threads hybrid",
+        OF_NOBODY,
+        "lpthreads 1\nmodel hybrid\nseats 0\nevents 2\nskipped 1\nclosed\n",
     ),
     (
         "lpt threads hybrid",

@@ -1,5 +1,0 @@
-//! Worked traces, played by threads.
-#![tactic(auto)]
-
-#[cfg(test)]
-mod tests;
