@@ -18,7 +18,6 @@ use std::sync::{Mutex, Wait};
 use std::thread::Threads;
 
 /// A book behind a lock, with the number of workers of its walks and stops and the gate that they pass.
-#[derive(Drop)]
 pub struct Desk<M: Consistency, N: DeskName, G: ScanGate + Drop, R: Wait + Drop> {
     held: Mutex<Held<M, N, R>>,
     model: M,
@@ -26,6 +25,18 @@ pub struct Desk<M: Consistency, N: DeskName, G: ScanGate + Drop, R: Wait + Drop>
     gate: G,
     ghost some: { 0 < workers },
     ghost few: { workers ≤ 64 },
+}
+
+/// In one step for who owns one: docs/GATE.md says why.
+impl<M: Consistency, N: DeskName, G: ScanGate + Drop, R: Wait + Drop> Drop for Desk<M, N, G, R> {
+    fn drop(self) {
+        let Desk {
+            held: _,
+            model: _,
+            workers: _,
+            gate: _,
+        } = self;
+    }
 }
 
 impl<M: Consistency, N: DeskName, G: ScanGate + Drop, R: Wait + Drop> Desk<M, N, G, R> {
@@ -46,7 +57,12 @@ impl<M: Consistency, N: DeskName, G: ScanGate + Drop, R: Wait + Drop> Desk<M, N,
 
     /// Gives the lock up. Nobody waits for it: whoever has the desk by value is alone with it.
     pub(crate) fn into_book(self) -> Book<M, N> {
-        let Desk { held, .. } = self;
+        let Desk {
+            held,
+            model: _,
+            workers: _,
+            gate: _,
+        } = self;
         held.into_inner().into_book()
     }
 

@@ -1,6 +1,6 @@
 //! Event lines that are read by their first four bytes at once: calls, returns and the others of which a trace has
 //! the most.
-ghost use Rattle.std.specs.Prelude.{◌≡◌, ◌++◌, ◌∷◌, codes, decimal, drop, IfSome};
+ghost use Rattle.std.specs.Prelude.{◌≡◌, ℕ, List, ◌++◌, ◌∷◌, codes, decimal, drop, IfSome};
 ghost use Rattle.std.specs.Int.{w32, to_le_bytes};
 ghost use Rattle.lp_text.specs.Traces.{AreNames, IsTask};
 ghost use Rattle.lp_text.specs.inside.QuickLines.{BeginsWith};
@@ -39,29 +39,70 @@ pub(crate) fn quick_event<'a>(
     ensures { IfSome result (λ x. BeginsWith symbols.now text.now x.0 x.1.now) }
 {
     let (word, rest) = first_four(text)?;
-    if word == RET {
-        let (task, more) = task_and_end(rest)?;
-        Some((Event::Ret(task), more))
-    } else if word == CALL {
-        call_rest(symbols, cache, rest)
-    } else if word == ENTE {
-        let (task, more) = task_and_end(behind(b' ', behind(b'r', rest)?)?)?;
-        Some((Event::Enter(task), more))
-    } else if word == EXIT {
-        let (task, more) = task_and_end(behind(b' ', rest)?)?;
-        Some((Event::Exit(task), more))
-    } else if word == SLEE {
-        let (task, more) = task_and_end(behind(b' ', behind(b'p', rest)?)?)?;
-        Some((Event::Sleep(task), more))
-    } else if word == WAKE {
-        let (task, more) = task_and_end(behind(b' ', rest)?)?;
-        Some((Event::Wake(task), more))
-    } else if word == WALK {
-        let more = behind(b'\n', rest)?;
-        Some((Event::Walk, more))
-    } else {
-        None
+    match word {
+        RET => ret_rest(rest),
+        CALL => call_rest(symbols, cache, rest),
+        ENTE => enter_rest(rest),
+        EXIT => exit_rest(rest),
+        SLEE => sleep_rest(rest),
+        WAKE => wake_rest(rest),
+        WALK => walk_rest(rest),
+        _ => None,
     }
+}
+
+/// The rest of a line behind `ret` and a space.
+#[inline(always)]
+fn ret_rest(text: &[u8]) -> Option<(Event, &[u8])>
+    ensures { (symbols : List (List ℕ)) → IfSome result (λ x. BeginsWith symbols (codes "ret " ++ text.now) x.0 x.1.now) }
+{
+    let (task, more) = task_and_end(text)?;
+    Some((Event::Ret(task), more))
+}
+
+/// The rest of a line behind `ente`.
+#[inline(always)]
+fn enter_rest(text: &[u8]) -> Option<(Event, &[u8])>
+    ensures { (symbols : List (List ℕ)) → IfSome result (λ x. BeginsWith symbols (codes "ente" ++ text.now) x.0 x.1.now) }
+{
+    let (task, more) = task_and_end(behind(b' ', behind(b'r', text)?)?)?;
+    Some((Event::Enter(task), more))
+}
+
+/// The rest of a line behind `exit`.
+#[inline(always)]
+fn exit_rest(text: &[u8]) -> Option<(Event, &[u8])>
+    ensures { (symbols : List (List ℕ)) → IfSome result (λ x. BeginsWith symbols (codes "exit" ++ text.now) x.0 x.1.now) }
+{
+    let (task, more) = task_and_end(behind(b' ', text)?)?;
+    Some((Event::Exit(task), more))
+}
+
+/// The rest of a line behind `slee`.
+#[inline(always)]
+fn sleep_rest(text: &[u8]) -> Option<(Event, &[u8])>
+    ensures { (symbols : List (List ℕ)) → IfSome result (λ x. BeginsWith symbols (codes "slee" ++ text.now) x.0 x.1.now) }
+{
+    let (task, more) = task_and_end(behind(b' ', behind(b'p', text)?)?)?;
+    Some((Event::Sleep(task), more))
+}
+
+/// The rest of a line behind `wake`.
+#[inline(always)]
+fn wake_rest(text: &[u8]) -> Option<(Event, &[u8])>
+    ensures { (symbols : List (List ℕ)) → IfSome result (λ x. BeginsWith symbols (codes "wake" ++ text.now) x.0 x.1.now) }
+{
+    let (task, more) = task_and_end(behind(b' ', text)?)?;
+    Some((Event::Wake(task), more))
+}
+
+/// The rest of a line behind `walk`.
+#[inline(always)]
+fn walk_rest(text: &[u8]) -> Option<(Event, &[u8])>
+    ensures { (symbols : List (List ℕ)) → IfSome result (λ x. BeginsWith symbols (codes "walk" ++ text.now) x.0 x.1.now) }
+{
+    let more = behind(b'\n', text)?;
+    Some((Event::Walk, more))
 }
 
 /// The rest of a line behind `call`: a task and a name that was looked up before.
