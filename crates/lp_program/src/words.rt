@@ -1,8 +1,9 @@
 //! The words that the program is given.
 ghost use Rattle.std.specs.Prelude.{◌≡◌, IfOk, IfErr, Some, None, codes, map};
-ghost use Rattle.clap.specs.Words.{app_of, first_value, found_of, kind_of, subcommand_rows_of};
+ghost use Rattle.clap.specs.Words.{app_of, first_value, found_of, kind_of, subcommand_rows_of, with_subcommand};
 ghost use Rattle.lp_models.specs.Names.{name_of};
-ghost use Rattle.lp_program.specs.Asked.{Asks, AsksNothing, asked_in, flag_word, lpt, words_of};
+ghost use Rattle.lp_program.specs.Asked.{Asks, AsksNothing, asked_in, comparing, flag_word, lpt, subcommand, words_of};
+ghost use Rattle.lp_program.specs.inside.Subcommands.{IsAddedAs};
 ghost use Rattle.lp_program.specs.inside.WordsFaults.{IsNoFlag, IsRefusal, NamesNoModel, NamesNoTask};
 
 use clap::error::ErrorKind;
@@ -62,31 +63,48 @@ fn refused(error: &Error) -> WordsFault
     }
 }
 
+/// A subcommand that takes the name of a model.
+fn taking_model<'a>(alloc: Global, name: &'a str) -> Result<Command<'a>, AllocError>
+    ensures { IfOk result (λ command. IsAddedAs command (subcommand name.entry.now)) }
+{
+    let model = Arg::new(alloc, "MODEL")
+        .required(true)
+        .action(ArgAction::Set);
+    Command::new(alloc, name).arg(model)
+}
+
+/// The comparison, which takes a flag.
+fn comparing<'a>(alloc: Global) -> Result<Command<'a>, AllocError>
+    ensures { IfOk result (λ command. IsAddedAs command comparing) }
+{
+    let json = Arg::new(alloc, "json")
+        .long("json")
+        .action(ArgAction::SetTrue);
+    Command::new(alloc, "compare").arg(json)
+}
+
+/// A command line with one more subcommand that takes the name of a model. What it is added to is
+/// handed in: held beside others, each `?` would drop all its fields once more in the proof.
+fn with_taking_model<'a>(
+    alloc: Global,
+    app: Command<'a>,
+    name: &'a str,
+) -> Result<Command<'a>, AllocError>
+    ensures { IfOk result (λ command. app_of command ≡ with_subcommand (app_of app.entry) (subcommand name.entry.now).top) }
+{
+    let taking = taking_model(alloc, name)?;
+    app.subcommand(taking)
+}
+
 /// The words of the program: one of the subcommands, three of them with a model.
 fn command<'a>(alloc: Global) -> Result<Command<'a>, AllocError>
     ensures { IfOk result (λ command. app_of command ≡ lpt) }
 {
-    let first = Arg::new(alloc, "MODEL")
-        .required(true)
-        .action(ArgAction::Set);
-    let second = Arg::new(alloc, "MODEL")
-        .required(true)
-        .action(ArgAction::Set);
-    let third = Arg::new(alloc, "MODEL")
-        .required(true)
-        .action(ArgAction::Set);
-    let json = Arg::new(alloc, "json")
-        .long("json")
-        .action(ArgAction::SetTrue);
-    let run = Command::new(alloc, "run").arg(first)?;
-    let check = Command::new(alloc, "check").arg(second)?;
-    let threads = Command::new(alloc, "threads").arg(third)?;
-    let compare = Command::new(alloc, "compare").arg(json)?;
-    Command::new(alloc, "lpt")
-        .subcommand(run)?
-        .subcommand(check)?
-        .subcommand(threads)?
-        .subcommand(compare)
+    let lpt = Command::new(alloc, "lpt");
+    let lpt = with_taking_model(alloc, lpt, "run")?;
+    let lpt = with_taking_model(alloc, lpt, "check")?;
+    let lpt = with_taking_model(alloc, lpt, "threads")?;
+    lpt.subcommand(comparing(alloc)?)
 }
 
 /// Whether a flag that a subcommand has is there.

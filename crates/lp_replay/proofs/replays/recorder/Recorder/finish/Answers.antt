@@ -11,6 +11,6 @@ returns g c = λ run is.
     record {
       replied = is_kept.replied;
       legs = c.from_vec.ensures ∙ (c.in_ok-into_ends.ensures ∙ rw c.into_inner.ensures (legs_made model run kept.made is_kept.made));
-      stays = c.stays-2.ensures ∙ is_kept.counts.stays;
+      stays = c.stays.ensures ∙ is_kept.counts.stays;
       mixed = c.mixed.ensures ∙ is_kept.counts.mixed;
     }
