@@ -1,11 +1,12 @@
 //! A trace, played by one thread, each event in its turn.
 ghost use Rattle.std.specs.Prelude.{◌≡◌, IfOk, IfSome, length};
 ghost use Rattle.lp_board.specs.Blanks.{name_of};
+ghost use Rattle.lp_desk.specs.Books.{IsOf};
 ghost use Rattle.lp_log.specs.Journals.{IsReplayed};
 ghost use Rattle.lp_replay.specs.Outcome.{run_of};
 
 use crate::ThreadsFault;
-use crate::playing::{Open, READERS, SCAN_WORKERS, boxed};
+use crate::playing::{Open, READERS, SCAN_WORKERS};
 use lp_board::{Blank, DeskName};
 use lp_desk::{Commanded, Desk, Launched, Submitted};
 use lp_log::{Control, Journal, Seat, owner};
@@ -47,6 +48,20 @@ fn play_blank_in_order<T: Threads + Wait + Sync, M: Consistency + Sync, N: DeskN
     ensures replayed { IfOk result (λ journal. IfSome journal (λ journal. IsReplayed M.rules journal)) }
 {
     let launched = Desk::<M, N, Open, &T>::launch(rt, alloc, blank, SCAN_WORKERS, Open)?;
+    play_launched(rt, alloc, trace, launched)
+}
+
+/// The same, through a desk at its start. The desk stands apart from the seats and the control while events can fail: the
+/// proof goes over each part of what a function owns at each early return.
+fn play_launched<T: Threads + Wait + Sync, M: Consistency + Sync, N: DeskName>(
+    rt: &T,
+    alloc: Global,
+    trace: &Trace,
+    launched: Launched<M, N, Open, &T>,
+) -> Result<Option<Journal>, ThreadsFault>
+    ensures named { IfOk result (λ journal. IfSome journal (IsOf N.desk M.rules)) }
+    ensures replayed { IfOk result (λ journal. IfSome journal (λ journal. IsReplayed M.rules journal)) }
+{
     let Launched {
         desk,
         seats,
@@ -54,21 +69,72 @@ fn play_blank_in_order<T: Threads + Wait + Sync, M: Consistency + Sync, N: DeskN
         readers,
     } = launched;
     drop(readers);
-    let desk = boxed(alloc, desk)?;
+    let Some((seats, control)) = played(rt, alloc, &desk, trace.events(), seats, control)? else {
+        return Ok(None);
+    };
+    let journal = desk.close(rt, alloc, seats, control)?;
+    Ok(Some(journal))
+}
+
+/// Plays these events by these seats and the control, which come back with those of the children; None where an event is
+/// of a task that has no seat.
+fn played<T: Threads + Wait + Sync, M: Consistency + Sync, N: DeskName>(
+    rt: &T,
+    alloc: Global,
+    desk: &Desk<M, N, Open, &T>,
+    events: &[Event],
+    seats: Vec<Seat>,
+    control: Control,
+) -> Result<Option<(Vec<Seat>, Control)>, ThreadsFault> {
     let mut table = table_of(alloc, seats)?;
+    match play_events(rt, alloc, desk, events, table.as_mut_slice(), control)? {
+        Some(control) => Ok(Some((seats_in(alloc, table)?, control))),
+        None => Ok(None),
+    }
+}
+
+/// Plays these events; the control comes back, but where an event is of a task that has no seat.
+fn play_events<T: Threads + Wait + Sync, M: Consistency + Sync, N: DeskName>(
+    rt: &T,
+    alloc: Global,
+    desk: &Desk<M, N, Open, &T>,
+    events: &[Event],
+    table: &mut [Option<Seat>],
+    control: Control,
+) -> Result<Option<Control>, ThreadsFault>
+    requires { length table.old ≡ 65536 }
+{
     let mut control = control;
-    for event in trace.events() {
-        let Some(task) = owner(*event) else {
-            control = commanded(rt, alloc, &desk, control, *event)?;
-            continue;
-        };
-        if !submitted(rt, alloc, &desk, table.as_mut_slice(), task, *event)? {
-            return Ok(None);
+    for event in events {
+        match play_event(rt, alloc, desk, table, control, *event)? {
+            Some(back) => control = back,
+            None => return Ok(None),
         }
     }
-    let seats = seats_in(alloc, table)?;
-    let journal = Box::into_inner(desk).close(rt, alloc, seats, control)?;
-    Ok(Some(journal))
+    Ok(Some(control))
+}
+
+/// Plays an event; the control comes back, but where the event is of a task that has no seat.
+fn play_event<T: Threads + Wait + Sync, M: Consistency + Sync, N: DeskName>(
+    rt: &T,
+    alloc: Global,
+    desk: &Desk<M, N, Open, &T>,
+    table: &mut [Option<Seat>],
+    control: Control,
+    event: Event,
+) -> Result<Option<Control>, ThreadsFault>
+    requires { length table.old ≡ 65536 }
+    ensures { length table.new ≡ 65536 }
+{
+    let Some(task) = owner(event) else {
+        let control = commanded(rt, alloc, desk, control, event)?;
+        return Ok(Some(control));
+    };
+    if submitted(rt, alloc, desk, table, task, event)? {
+        Ok(Some(control))
+    } else {
+        Ok(None)
+    }
 }
 
 /// Sends an event from the control, which is handed back.

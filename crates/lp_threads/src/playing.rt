@@ -126,6 +126,30 @@ fn play_blank<
     let scripts = Scripts::<S>::deal(alloc, trace.events())?;
     let blank = Box::into_inner(blank);
     let launched = Desk::<M, N, Open, &T>::launch(rt, alloc, blank, SCAN_WORKERS, Open)?;
+    play_launched(rt, alloc, trace, &scripts, launched)
+}
+
+/// The same, through a desk at its start.
+fn play_launched<
+    T: Threads + Wait + Sync,
+    M: Consistency + Send + Sync,
+    N: DeskName + Send + Sync,
+    S: TraceName + Send + Sync,
+>(
+    rt: &T,
+    alloc: Global,
+    trace: &Trace,
+    scripts: &Scripts<S>,
+    launched: Launched<M, N, Open, &T>,
+) -> Result<Play, ThreadsFault>
+    requires seats { All (λ seat. seat.entries ≡ []) launched.seats.items }
+    requires control { launched.control ≡ [] }
+    requires events { trace.now.events ≡ S.events }
+    requires patches { N.desk.patches ≡ (run_of trace.now).patches }
+    requires boots { N.desk.boots ≡ trace.now.boots }
+    ensures play { IfOk result (λ play. IsPlay M.rules trace.now play) }
+    ensures fault { IfErr result (λ fault. IsOfPlay fault) }
+{
     let Launched {
         desk,
         seats,
@@ -133,12 +157,9 @@ fn play_blank<
         readers,
     } = launched;
     drop(readers);
-    let desk = boxed(alloc, desk)?;
-    let hands = dealt(alloc, seats)?;
-    let control = NewControl::new(control);
-    let (seats, control) = played(rt, alloc, &desk, &scripts, hands, control)?;
+    let (seats, control) = sent(rt, alloc, &desk, scripts, seats, control)?;
     let given = seats.len();
-    let journal = Box::into_inner(desk).close(rt, alloc, seats, control)?;
+    let journal = desk.close(rt, alloc, seats, control)?;
     let events = journal.entries().len();
     let skipped = trace.events().len().saturating_sub(events);
     Ok(Play {
@@ -146,6 +167,30 @@ fn play_blank<
         events,
         skipped,
     })
+}
+
+/// Lets threads send all scripts from these seats and the control, and gives what comes back.
+fn sent<
+    T: Threads + Wait + Sync,
+    M: Consistency + Send + Sync,
+    N: DeskName + Send + Sync,
+    S: TraceName + Send + Sync,
+>(
+    rt: &T,
+    alloc: Global,
+    desk: &Desk<M, N, Open, &T>,
+    scripts: &Scripts<S>,
+    seats: Vec<Seat>,
+    control: Control,
+) -> Result<(Vec<Seat>, Control), ThreadsFault>
+    requires seats { All (λ seat. seat.entries ≡ []) seats.items }
+    requires control { control ≡ [] }
+    ensures sent { IfOk result (λ parts. AreSent S.events parts.0.items parts.1) }
+    ensures fault { IfErr result (λ fault. IsOfPlay fault) }
+{
+    let control = NewControl::new(control);
+    let hands = dealt(alloc, seats)?;
+    played(rt, alloc, desk, scripts, hands, control)
 }
 
 /// A value in a box; AllocError where an allocation failed.
