@@ -1,6 +1,6 @@
 -- Lines of a text that comes in pieces.
 use Rattle.std.proofs.Common.{◌≡◌, ◌+◌, ℕ, List, ◌∷◌, ◌++◌, Result, Ok, Err, sym, ap, ◌∙◌, subst, append_assoc}
-use Rattle.std.specs.Prelude.{IfErr, IsErrAnd}
+use Rattle.std.specs.Prelude.{IfErr, IfOk, IsErrAnd}
 use Rattle.lp_text.specs.declared.fault.LineFault.{LineFault}
 use Rattle.lp_text.specs.declared.fault.Cause.TheVariants as cause
 use Rattle.lp_text.specs.declared.fault.ReadFault.{ReadFault}
@@ -37,20 +37,32 @@ pub fault_then : {A B : Type 0} (e : ReadFault) (x : Result A TraceFault) (f : A
 fault_then read.NoMemory x f h = tt
 fault_then (read.Trace fault) x f h = ap (λ y. y >>= f) h
 
-module _ (text line rest : List ℕ) (cut : IsCut 10 text line rest) where
-  begins : (bytes : List ℕ) → reading_lines (parts 10 (text ++ bytes)) ≡ (fault_at 1 (needs cause.Header (form_of line)) >>= λ form. reading_from 2 (empty form) (parts 10 (rest ++ bytes)))
-  begins bytes = ap reading_lines (cut_on 10 text line rest bytes cut) ∙ first_step line (rest ++ bytes)
+module _ (text line rest : List ℕ) (cut : parts 10 text ≡ line ∷ parts 10 rest) where
+  begins : reading_lines (parts 10 text) ≡ (fault_at 1 (needs cause.Header (form_of line)) >>= λ form. reading_from 2 (empty form) (parts 10 rest))
+  begins = ap reading_lines cut ∙ first_step line rest
 
+  pub begins_ok : (parser : TraceValue) → fault_at 1 (needs cause.Header (form_of line)) ≡ Ok parser.form → parser ≡ empty parser.form → reading_lines (parts 10 text) ≡ reading_from 2 parser (parts 10 rest)
+  begins_ok parser h e =
+      begins
+      ∙ (ap (λ x. x >>= λ form. reading_from 2 (empty form) (parts 10 rest)) h
+      ∙ ap (λ d. reading_from 2 d (parts 10 rest)) (sym e))
+
+  pub begins_err : (e : ReadFault) → IsReadFault e (fault_at 1 (needs cause.Header (form_of line))) → IsReadFault e (reading_lines (parts 10 text))
+  begins_err e h = rw begins (fault_then e _ _ h)
+
+-- the same with bytes that follow
+module _ (text line rest : List ℕ) (cut : IsCut 10 text line rest) where
   pub first_line : (parser : TraceValue) → fault_at 1 (needs cause.Header (form_of line)) ≡ Ok parser.form → parser ≡ empty parser.form → (bytes : List ℕ) → reading_lines (parts 10 (text ++ bytes)) ≡ reading_from 2 parser (parts 10 (rest ++ bytes))
-  first_line parser h e bytes =
-      begins bytes
-      ∙ (ap (λ x. x >>= λ form. reading_from 2 (empty form) (parts 10 (rest ++ bytes))) h
-      ∙ ap (λ d. reading_from 2 d (parts 10 (rest ++ bytes))) (sym e))
+  first_line parser h e bytes = begins_ok (text ++ bytes) line (rest ++ bytes) (cut_on 10 text line rest bytes cut) parser h e
 
   pub first_fault : (e : ReadFault) → IsReadFault e (fault_at 1 (needs cause.Header (form_of line))) → (bytes : List ℕ) → IsReadFault e (reading_lines (parts 10 (text ++ bytes)))
-  first_fault e h bytes = rw (begins bytes) (fault_then e _ _ h)
+  first_fault e h bytes = begins_err (text ++ bytes) line (rest ++ bytes) (cut_on 10 text line rest bytes cut) e h
 
--- a fault, as it is returned
-pub as_err : {X : Type 0} (r : Result X ReadFault) (e : ReadFault) (P : ReadFault → Type 0) → IsErrAnd r (λ x. x ≡ e) → P e → IfErr r P
-as_err (Ok x) e P h p = tt
-as_err (Err x) e P h p = subst P (sym h) p
+-- what follows for each value that is returned, and for each fault
+pub map_ok : {A E : Type 0} (r : Result A E) (P Q : A → Type 0) → ((x : A) → P x → Q x) → IfOk r P → IfOk r Q
+map_ok (Ok x) P Q goes h = goes x h
+map_ok (Err e) P Q goes h = tt
+
+pub map_err : {A E : Type 0} (r : Result A E) (P Q : E → Type 0) → ((e : E) → P e → Q e) → IfErr r P → IfErr r Q
+map_err (Ok x) P Q goes h = tt
+map_err (Err e) P Q goes h = goes e h

@@ -7,7 +7,11 @@ use Rattle.lp_text.specs.declared.fault.TraceFault.{TraceFault}
 use Rattle.lp_text.specs.declared.input.InputFault.{InputFault}
 use Rattle.lp_text.specs.declared.input.InputFault.TheVariants as input
 use Rattle.lp_text.specs.declared.stream_fault.StreamFault.{StreamFault}
-use Rattle.lp_text.specs.Input.{AtText, ReadsAll}
+use Rattle.lp_text.specs.declared.fault.ReadFault.{ReadFault}
+use Rattle.lp_text.specs.declared.fault.ReadFault.TheVariants as read
+use Rattle.lp_text.specs.Faults.{IsReadFault}
+use Rattle.lp_text.specs.Input.{AtText, ReadsAll, of_read}
+use Rattle.lp_text.specs.Traces.{TraceValue}
 use Rattle.lp_text.specs.Reading.{reading}
 use Rattle.lp_text.specs.inside.Streams.{ReadsTooMuch, IsInputFault, of_input}
 
@@ -23,6 +27,15 @@ all_known None new text P all h = tt
 all_known (Some xs) None text P all h = absurd all.0
 all_known (Some xs) (Some ys) text P all h =
     subst P (sym (all.0 ∙ ap (λ l. text ++ l) all.1 ∙ append-nil text)) h
+
+-- the fault of reading a text, as a fault of the reader that had it
+pub known_fault : (old new : Option (List ℕ)) (text : List ℕ) (fault : ReadFault) (e : StreamFault) (gives : Result TraceValue TraceFault) → ReadsAll old new text → reading text ≡ gives → IsReadFault fault gives → e ≡ of_read fault → AtText e (λ why. IfSome old (λ t. reading t ≡ Err why))
+known_fault old new text read.NoMemory e gives all is h at =
+    let P : StreamFault → Type 0 = λ x. AtText x (λ why. IfSome old (λ t. reading t ≡ Err why)) in
+    subst P (sym at) tt
+known_fault old new text (read.Trace fault) e gives all is h at =
+    let P : StreamFault → Type 0 = λ x. AtText x (λ why. IfSome old (λ t. reading t ≡ Err why)) in
+    subst P (sym at) (all_known old new text (λ t. reading t ≡ Err fault) all (is ∙ h))
 
 -- the text of an input is read so, and is at fault where it is too long
 module _ {A : Type 0} (reads : List ℕ → Result A TraceFault) (long : (text : List ℕ) → 134217728 < length text → reads text ≡ Err (record { line = 0; cause = cause.Long })) where

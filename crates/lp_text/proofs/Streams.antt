@@ -1,8 +1,8 @@
 -- What is read of a reader piece by piece.
-use Rattle.std.proofs.Common.{◌≡◌, ◌≤◌, ◌+◌, ℕ, false, List, ◌++◌, length, Option, IfSome, Err, refl, sym, ap, ◌∙◌, subst, append_assoc, arith, nat_lt, ◌<◌}
+use Rattle.std.proofs.Common.{◌≡◌, ◌≤◌, ◌+◌, ℕ, false, List, ◌++◌, length, Option, IfSome, Result, Ok, Err, refl, sym, ap, ◌∙◌, subst, append_assoc, arith, nat_lt, ◌<◌}
 use Rattle.std.proofs.lemmas.List.{length-append}
 use Rattle.std.proofs.lemmas.Bool.Decides.{Decides-ltb}
-use Rattle.std.specs.Prelude.{Bool, true}
+use Rattle.std.specs.Prelude.{Bool, OnOk, true}
 use Rattle.std.specs.Io.KnownBytes.{Consumes}
 use Rattle.lp_text.specs.declared.fault.ReadFault.{ReadFault}
 use Rattle.lp_text.specs.declared.fault.ReadFault.TheVariants as read
@@ -11,7 +11,7 @@ use Rattle.lp_text.specs.declared.input.InputFault.TheVariants as input
 use Rattle.lp_text.specs.declared.stream_fault.StreamFault.{StreamFault}
 use Rattle.lp_text.specs.Faults.{IsReadFault}
 use Rattle.lp_text.specs.Input.{AtText, ReadsAll, of_read}
-use Rattle.lp_text.specs.inside.Streams.{IsFaultBehind, Stream, of_input, reading_after}
+use Rattle.lp_text.specs.inside.Streams.{IsFaultBehind, Stream, of_input, reading_after, reading_on}
 use Rattle.lp_text.specs.Reading.{reading, reading_lines}
 use Rattle.lp_text.specs.Words.{lines}
 use Rattle.lp_text.proofs.Inputs.{consumes_more}
@@ -55,6 +55,15 @@ module _ (a b : Option (List ℕ)) (text : List ℕ) (came : Stream) (gave : Con
   pub one_more : (c : Option (List ℕ)) (piece : List ℕ) (next : Stream) → Consumes b c piece → ((bytes : List ℕ) → reading_after came (piece ++ bytes) ≡ reading_after next bytes) → Consumes a c (text ++ piece) × ((bytes : List ℕ) → reading_lines (lines ((text ++ piece) ++ bytes)) ≡ reading_after next bytes)
   one_more c piece next h goes =
       (consumes_more a b c text piece gave h, λ bytes. ap (λ t. reading_lines (lines t)) (append_assoc text piece bytes) ∙ (so_far (piece ++ bytes) ∙ goes bytes))
+
+-- what is held has grown by a piece
+pub held_on : (old : Stream) (piece now : List ℕ) → now ≡ old.held ++ piece → (bytes : List ℕ) → reading_after old (piece ++ bytes) ≡ reading_after (record old { held = now }) bytes
+held_on old piece now is bytes =
+    ap (λ l. reading_on old.parser old.number (lines l)) (sym (append_assoc old.held piece bytes)) ∙ ap (λ l. reading_on old.parser old.number (lines (l ++ bytes))) (sym is)
+
+pub on_ok : {A E P Q : Type 0} (r : Result A E) → (P → Q) → OnOk r P → OnOk r Q
+on_ok (Ok x) goes h = goes h
+on_ok (Err e) goes h = tt
 
 -- a fault in reading behind some bytes, as a fault of a run
 pub input_fault_behind : (a b c : Option (List ℕ)) (bytes : List ℕ) (total : ℕ) (fault : InputFault) (e : StreamFault) → Consumes a b bytes → length bytes ≡ total → IsFaultBehind total b c fault → e ≡ of_input fault → AtText e (λ why. IfSome a (λ t. reading t ≡ Err why))

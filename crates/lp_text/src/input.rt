@@ -15,7 +15,7 @@ use std::io::{self, Read};
 pub(crate) const PIECE: usize = 131_072;
 
 /// Why an input was not read to its end.
-#[derive(Debug, Drop)]
+#[derive(Drop)]
 pub(crate) enum InputFault {
     /// The reader failed, or was interrupted.
     Failed(io::Error),

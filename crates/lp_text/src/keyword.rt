@@ -7,7 +7,7 @@ use lp_model::ForkKind;
 use lp_stack::Class;
 
 /// The first word of an event's line.
-#[derive(Clone, Copy, Debug, PartialEq, Eq)]
+#[derive(Clone, Copy)]
 pub enum EventKeyword {
     Call,
     Ret,
@@ -26,7 +26,7 @@ pub enum EventKeyword {
 }
 
 /// The first word of a line after the first line.
-#[derive(Clone, Copy, Debug, PartialEq, Eq)]
+#[derive(Clone, Copy)]
 pub enum LineKeyword {
     Sym,
     Patch,

@@ -45,7 +45,7 @@ pub(crate) fn read_text(alloc: Global, text: &[u8]) -> Result<Parser, ReadFault>
 }
 
 /// All lines of a text.
-#[tactic(auto, using(crate::proofs::Lines::first_step), unfolding(crate::specs::Reading::reading_lines))]
+#[tactic(auto, unfolding(crate::specs::Reading::reading_lines))]
 pub(crate) fn read_all_lines(alloc: Global, text: &[u8]) -> Result<Parser, ReadFault>
     requires { length text.now ≤ 134217728 }
     ensures { Gives (λ parser. parser) result (reading_lines (lines text.now)) }
@@ -59,8 +59,10 @@ pub(crate) fn read_all_lines(alloc: Global, text: &[u8]) -> Result<Parser, ReadF
         };
         return Err(cause.at(1));
     };
-    let parser = parser_of(alloc, first)?;
-    read_lines(alloc, 2, parser, rest)
+    match parser_of(alloc, first) {
+        Ok(parser) => read_lines(alloc, 2, parser, rest),
+        Err(fault) => Err(fault),
+    }
 }
 
 /// What the first line gives.

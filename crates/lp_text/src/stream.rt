@@ -92,12 +92,15 @@ impl Stream {
         ensures few { OnOk result (self.new.number + length self.new.held ≤ self.old.number + length self.old.held) }
         ensures fault { IfErr result (λ fault. (bytes : List ℕ) → IsReadFault fault (reading_after self.old bytes)) }
     {
-        let rest = take_whole_lines(
+        let rest = match take_whole_lines(
             alloc,
             &mut self.parser,
             &mut self.number,
             self.held.as_slice(),
-        )?;
+        ) {
+            Ok(rest) => rest,
+            Err(fault) => return Err(fault),
+        };
         self.next.clear();
         self.next.extend_from_slice(rest)?;
         mem::swap(&mut self.held, &mut self.next);
@@ -140,38 +143,35 @@ fn take_whole_lines<'a>(
 {
     match parser {
         Some(parser) => take_lines(alloc, parser, number, text),
-        None => match take_first(alloc, number, text)? {
-            Some((first, rest)) => {
-                *parser = Some(first);
-                Ok(rest)
-            }
-            None => Ok(text),
-        },
+        None => take_first(alloc, parser, number, text),
     }
 }
 
-/// The same where the first line is still to come: what the whole lines give, and what stands after
-/// them; None where the first isn't whole.
+/// The same where the first line is still to come, as it stays where it isn't whole.
 fn take_first<'a>(
     alloc: Global,
+    parser: &mut Option<Parser>,
     number: &mut u64,
     text: &'a [u8],
-) -> Result<Option<(Parser, &'a [u8])>, ReadFault>
+) -> Result<&'a [u8], ReadFault>
+    requires none { parser.old ≡ None }
+    requires begun { 1 ≤ number.old }
     requires few { length text.now ≤ 134217728 }
-    ensures read { IfOk result (λ found. IfSome found (λ x. (bytes : List ℕ) → reading_lines (lines (text.now ++ bytes)) ≡ reading_from number.new x.0 (lines (x.1.now ++ bytes)))) }
-    ensures few { IfOk result (λ found. IfSome found (λ x. number.new + length x.1.now ≤ 1 + length text.now)) }
-    ensures more { IfOk result (λ found. IfSome found (λ x. 2 ≤ number.new)) }
-    ensures none { IfOk result (λ found. IfNone found (number.new ≡ number.old)) }
+    ensures read { IfOk result (λ rest. (bytes : List ℕ) → reading_lines (lines (text.now ++ bytes)) ≡ reading_on parser.new number.new (lines (rest.now ++ bytes))) }
+    ensures few { IfOk result (λ rest. number.new + length rest.now ≤ number.old + length text.now) }
+    ensures more { OnOk result (1 ≤ number.new) }
     ensures fault { IfErr result (λ fault. (bytes : List ℕ) → IsReadFault fault (reading_lines (lines (text.now ++ bytes)))) }
 {
     let (first, left) = cut(b'\n', text);
     let Some(rest) = left else {
-        return Ok(None);
+        return Ok(text);
     };
-    let mut parser = parser_of(alloc, first)?;
+    let begun = match parser_of(alloc, first) {
+        Ok(begun) => parser.insert(begun),
+        Err(fault) => return Err(fault),
+    };
     *number = 2;
-    let rest = take_lines(alloc, &mut parser, number, rest)?;
-    Ok(Some((parser, rest)))
+    take_lines(alloc, begun, number, rest)
 }
 
 /// Takes the whole lines of a text, of which the first has this number, and gives what stands after
@@ -256,6 +256,31 @@ fn read_by<R: Read>(
     ensures calls { AtMost 134217729 reader.old.calls reader.new.calls }
 {
     let mut stream = Stream::new(alloc);
+    if let Err(fault) = add_all(alloc, reader, piece, &mut stream) {
+        return Err(fault);
+    }
+    match stream.finish(alloc) {
+        Ok(parser) => Ok(parser),
+        Err(fault) => Err(StreamFault::from(fault)),
+    }
+}
+
+/// Adds all that a reader has to a stream that has nothing yet.
+fn add_all<R: Read>(
+    alloc: Global,
+    reader: &mut Counted<R>,
+    piece: &mut [u8],
+    stream: &mut Stream,
+) -> Result<(), StreamFault>
+    requires piece { 0 < length piece.old }
+    requires empty { stream.old ≡ record { parser = None; number = 1; held = [] } }
+    ensures found { OnOk result ((text : List ℕ) × ReadsAll (R.remaining reader.old.stream) (R.remaining reader.new.stream) text × (reading text ≡ reading_after stream.new [])) }
+    ensures some { OnOk result (1 ≤ stream.new.number) }
+    ensures few { OnOk result (stream.new.number + length stream.new.held ≤ 134217729) }
+    ensures trace { IfErr result (λ fault. AtText fault (λ why. IfSome (R.remaining reader.old.stream) (λ text. reading text ≡ Err why))) }
+    ensures counted { MatchResult result (λ _. Ended reader.old reader.new) (StreamFails reader.old reader.new) }
+    ensures calls { AtMost 134217729 reader.old.calls reader.new.calls }
+{
     let mut total = 0;
     loop {
         let count = match read_piece(reader, piece, total) {
@@ -263,10 +288,7 @@ fn read_by<R: Read>(
             Err(fault) => return Err(StreamFault::from(fault)),
         };
         if count == 0 {
-            return match stream.finish(alloc) {
-                Ok(parser) => Ok(parser),
-                Err(fault) => Err(StreamFault::from(fault)),
-            };
+            return Ok(());
         }
         total += count;
         if let Err(fault) = stream.add(alloc, &piece[..count]) {

@@ -4,7 +4,7 @@ use Rattle.lp_text.specs.Counts.{AtMost}
 use Rattle.lp_text.specs.inside.Streams.{Going, reading_after}
 use Rattle.lp_text.specs.Reading.{reading_lines}
 use Rattle.lp_text.specs.Words.{lines}
-use Rattle.lp_text.proofs.stream.read_by.Given as goal
+use Rattle.lp_text.proofs.stream.add_all.Given as goal
 
 abbrev pub invariant-loop-count : goal.invariant-loop-count
 invariant-loop-count g l =
