@@ -33,7 +33,9 @@ fn next_event(left: Option<&[u8]>) -> Result<(u64, Option<&[u8]>), Cause>
     ensures { GivesExactly (λ x. (x.0, words_left (option_copied x.1))) result (next_event (words_left (option_copied left.entry))) }
 {
     let (word, left) = next_word(left)?;
-    let number = event_number_of(word).ok_or(Cause::Cert)?;
+    let Some(number) = event_number_of(word) else {
+        return Err(Cause::Cert);
+    };
     Ok((u64::from(number), left))
 }
 
@@ -43,7 +45,9 @@ fn last_event(left: Option<&[u8]>) -> Result<u64, Cause>
     ensures { GivesExactly (λ number. number) result (last_event (words_left (option_copied left.entry))) }
 {
     let word = last_word(left)?;
-    let number = event_number_of(word).ok_or(Cause::Cert)?;
+    let Some(number) = event_number_of(word) else {
+        return Err(Cause::Cert);
+    };
     Ok(u64::from(number))
 }
 
@@ -65,7 +69,9 @@ fn claim_words(alloc: Global, left: Option<&[u8]>) -> Result<Cert, Cause>
     ensures { GivesExactly (λ cert. cert) result (claim_line (words_left (option_copied left.entry))) }
 {
     let (word, left) = next_word(left)?;
-    let claim = claim_of(word).ok_or(Cause::Cert)?;
+    let Some(claim) = claim_of(word) else {
+        return Err(Cause::Cert);
+    };
     let (leg, left) = next_event(left)?;
     let (group, left) = next_member(left)?;
     let upto = last_event(left)?;
@@ -83,11 +89,26 @@ fn claim_words(alloc: Global, left: Option<&[u8]>) -> Result<Cert, Cause>
 fn hold_line(left: Option<&[u8]>) -> Result<Line, Cause>
     ensures { GivesExactly (λ line. line) result (hold_line (words_left (option_copied left.entry))) }
 {
-    let (group, left) = next_member(left)?;
-    let (task, left) = next_member(left)?;
-    let (serial, left) = next_event(left)?;
-    let (from, left) = next_event(left)?;
-    let to = last_event(left)?;
+    let (group, left) = match next_member(left) {
+        Ok(found) => found,
+        Err(fault) => return Err(fault),
+    };
+    let (task, left) = match next_member(left) {
+        Ok(found) => found,
+        Err(fault) => return Err(fault),
+    };
+    let (serial, left) = match next_event(left) {
+        Ok(found) => found,
+        Err(fault) => return Err(fault),
+    };
+    let (from, left) = match next_event(left) {
+        Ok(found) => found,
+        Err(fault) => return Err(fault),
+    };
+    let to = match last_event(left) {
+        Ok(to) => to,
+        Err(fault) => return Err(fault),
+    };
     Ok(Line::Hold {
         group: GroupId(group),
         task: TaskId(task),

@@ -46,7 +46,9 @@ pub(crate) fn read_input<R: Read>(
     ensures counted { MatchResult result (λ _. Ended reader.old reader.new) (InputFails reader.old reader.new) }
     ensures calls { AtMost 134217729 reader.old.calls reader.new.calls }
 {
-    let mut piece = vec![in alloc; 0; PIECE]?;
+    let Ok(mut piece) = vec![in alloc; 0; PIECE] else {
+        return Err(InputFault::NoMemory);
+    };
     read_pieces(alloc, reader, piece.as_mut_slice())
 }
 

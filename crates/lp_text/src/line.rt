@@ -81,7 +81,9 @@ fn fork_line(left: Option<&[u8]>) -> Result<Event, Cause>
     let (first, left) = next_number(left)?;
     let (second, left) = next_number(left)?;
     let word = last_word(left)?;
-    let how = fork_kind_of(word).ok_or(Cause::Shape)?;
+    let Some(how) = fork_kind_of(word) else {
+        return Err(Cause::Shape);
+    };
     let parent = task_of(first)?;
     let child = task_of(second)?;
     Ok(Event::Fork(parent, child, how))
@@ -152,6 +154,8 @@ pub(crate) fn boot_line(left: Option<&[u8]>) -> Result<(u32, Class), Cause>
 {
     let (number, left) = next_number(left)?;
     let word = last_word(left)?;
-    let class = class_of(word).ok_or(Cause::Shape)?;
+    let Some(class) = class_of(word) else {
+        return Err(Cause::Shape);
+    };
     Ok((number, class))
 }

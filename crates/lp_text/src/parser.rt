@@ -173,7 +173,9 @@ impl Parser {
     fn first_word(&self, word: &[u8]) -> Result<LineKeyword, Cause>
         ensures { GivesExactly (λ first. first) result (first_word self.now word.now) }
     {
-        let first = LineKeyword::of(word).ok_or(Cause::Word)?;
+        let Some(first) = LineKeyword::of(word) else {
+            return Err(Cause::Word);
+        };
         if part_of(first) < self.part_reached() {
             return Err(Cause::Word);
         }

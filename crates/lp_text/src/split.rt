@@ -90,7 +90,9 @@ pub(crate) fn next_number(left: Option<&[u8]>) -> Result<(u32, Option<&[u8]>), C
     ensures { GivesExactly (λ x. (x.0, words_left (option_copied x.1))) result (next_number (words_left (option_copied left.entry))) }
 {
     let (word, left) = next_word(left)?;
-    let number = number_of(word).ok_or(Cause::Shape)?;
+    let Some(number) = number_of(word) else {
+        return Err(Cause::Shape);
+    };
     Ok((number, left))
 }
 
@@ -104,5 +106,8 @@ pub(crate) fn last_number(left: Option<&[u8]>) -> Result<u32, Cause>
     let Some(word) = left else {
         return Err(Cause::Shape);
     };
-    number_of(word).ok_or(Cause::Shape)
+    match number_of(word) {
+        Some(number) => Ok(number),
+        None => Err(Cause::Shape),
+    }
 }

@@ -239,7 +239,9 @@ fn parse_all<R: Read>(alloc: Global, reader: &mut Counted<R>) -> Result<Parser, 
     ensures counted { MatchResult result (λ _. Ended reader.old reader.new) (StreamFails reader.old reader.new) }
     ensures calls { AtMost 134217729 reader.old.calls reader.new.calls }
 {
-    let mut piece = vec![in alloc; 0; PIECE]?;
+    let Ok(mut piece) = vec![in alloc; 0; PIECE] else {
+        return Err(StreamFault::NoMemory);
+    };
     read_by(alloc, reader, piece.as_mut_slice())
 }
 
