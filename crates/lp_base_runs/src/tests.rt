@@ -15,7 +15,6 @@ use lp_patch::{PatchFault, PatchSet, PatchStack};
 use lp_stack::{Class, Frame, Level, Mode, TaskId, TaskStack};
 use lp_symbols::{SymFault, SymId, Symbols};
 use std::alloc::Global;
-use std::test::Fail;
 
 const A: SymId = SymId(0);
 
@@ -28,11 +27,13 @@ fn none(alloc: Global) -> Result<Box<Symbols>, SymFault> {
     Ok(Box::new(alloc, Symbols::new(alloc)?)?)
 }
 
+const THREE: [&str; 3] = ["a", "b", "c"];
+
 /// The symbols `a`, `b` and `c`.
 fn three(alloc: Global) -> Result<Box<Symbols>, SymFault> {
     let mut symbols = none(alloc)?;
-    for name in ["a", "b", "c"] {
-        symbols.add(name)?;
+    for name in &THREE {
+        symbols.add(*name)?;
     }
     Ok(symbols)
 }

@@ -72,13 +72,21 @@ fn are_in(set: &mut NumberSet, members: &Members) -> bool {
         && has_these(set, members, 0, &[])
 }
 
+/// Whether what is told of them, and who they are, is that of these members.
+fn are_there(alloc: Global, members: &Members) -> Result<bool, AllocError> {
+    let mut set = no_numbers(alloc)?;
+    Ok(are_told(members) && are_in(&mut set, members))
+}
+
+/// Whether it is of those who were put in.
+fn were_put_in(alloc: Global) -> Result<bool, AllocError> {
+    let members = five(alloc)?;
+    are_there(alloc, &members)
+}
+
 #[test]
-fn a_group_has_who_was_put_in(rt: HostRuntime) -> Result<(), Fail> {
-    let members = five(rt.alloc())?;
-    let mut set = no_numbers(rt.alloc())?;
-    assert!(rt; are_told(&members));
-    assert!(rt; are_in(&mut set, &members));
-    Ok(())
+fn a_group_has_who_was_put_in(rt: HostRuntime) {
+    assert!(rt; were_put_in(rt.alloc()) == Ok(true));
 }
 
 /// Takes out the third that was put in, then the last, then the first; whether each time the others
@@ -94,13 +102,23 @@ fn are_taken_out(set: &mut NumberSet, members: &mut Members) -> bool
     middle && last && has_these(set, members, GROUP, &[2]) && members.is_only(GROUP, 2)
 }
 
+/// Whether the other group keeps its member.
+fn are_taken_out_alone(alloc: Global, members: &mut Members) -> Result<bool, AllocError>
+    requires { (n : ℕ) → 0 < n → n ≤ 4 → is_member members.old 7 n ≡ true }
+{
+    let mut set = no_numbers(alloc)?;
+    Ok(are_taken_out(&mut set, members) && has_these(&mut set, members, OTHER, &[65_535]))
+}
+
+/// Whether all of this is so of the five.
+fn were_taken_out(alloc: Global) -> Result<bool, AllocError> {
+    let mut members = five(alloc)?;
+    are_taken_out_alone(alloc, &mut members)
+}
+
 #[test]
-fn a_group_has_not_who_was_taken_out(rt: HostRuntime) -> Result<(), Fail> {
-    let mut members = five(rt.alloc())?;
-    let mut set = no_numbers(rt.alloc())?;
-    assert!(rt; are_taken_out(&mut set, &mut members));
-    assert!(rt; has_these(&mut set, &members, OTHER, &[65_535]));
-    Ok(())
+fn a_group_has_not_who_was_taken_out(rt: HostRuntime) {
+    assert!(rt; were_taken_out(rt.alloc()) == Ok(true));
 }
 
 /// A copy, in a box.
@@ -119,27 +137,62 @@ fn is_apart(set: &mut NumberSet, members: &Members, copied: &mut Members) -> boo
     same && are_in(set, members) && has_these(set, copied, GROUP, &[1, 3, 4])
 }
 
-#[test]
-fn members_are_copied(rt: HostRuntime) -> Result<(), Fail> {
-    let members = five(rt.alloc())?;
-    let mut copied = copy_of(rt.alloc(), &members)?;
-    let mut set = no_numbers(rt.alloc())?;
-    assert!(rt; is_apart(&mut set, &members, &mut copied));
-    Ok(())
+/// Whether the copy of these members does.
+fn is_copied(alloc: Global, set: &mut NumberSet, members: &Members) -> Result<bool, AllocError>
+    requires { is_member members.now 7 2 ≡ true }
+{
+    let mut copied = copy_of(alloc, members)?;
+    Ok(is_apart(set, members, &mut copied))
 }
 
-/// Whether members and their copy, made again where an allocation failed, are those.
+/// Whether the copy of the five does.
+fn is_copied_of_five(alloc: Global) -> Result<bool, AllocError> {
+    let mut set = no_numbers(alloc)?;
+    let members = five(alloc)?;
+    is_copied(alloc, &mut set, &members)
+}
+
+#[test]
+fn members_are_copied(rt: HostRuntime) {
+    assert!(rt; is_copied_of_five(rt.alloc()) == Ok(true));
+}
+
+/// Whether the copy of these members has those in it. Where an allocation fails there is none, and the
+/// same call makes it.
+fn is_copied_again(
+    alloc: Global,
+    set: &mut NumberSet,
+    members: &Members,
+) -> Result<bool, AllocError> {
+    let copied = match copy_of(alloc, members) {
+        Err(_) => copy_of(alloc, members)?,
+        Ok(copied) => copied,
+    };
+    Ok(are_in(set, &copied))
+}
+
+/// Whether members and their copy are those. Where an allocation fails there are none, and the same
+/// call makes them.
 fn are_made_again(alloc: Global, set: &mut NumberSet) -> Result<bool, AllocError> {
-    let members = five(alloc).or_else(|_| five(alloc))?;
-    let copied = copy_of(alloc, &members).or_else(|_| copy_of(alloc, &members))?;
-    Ok(are_in(set, &members) && are_in(set, &copied))
+    let members = match five(alloc) {
+        Err(_) => five(alloc)?,
+        Ok(members) => members,
+    };
+    Ok(are_in(set, &members) && is_copied_again(alloc, set, &members)?)
+}
+
+/// Whether they are, told by a set that is made likewise.
+fn are_all_made_again(alloc: Global) -> Result<bool, AllocError> {
+    let mut set = match no_numbers(alloc) {
+        Err(_) => no_numbers(alloc)?,
+        Ok(set) => set,
+    };
+    are_made_again(alloc, &mut set)
 }
 
 /// For `scripts/refuse-memory`: after a failed allocation there are none, and the same call makes
 /// them.
 #[test]
-fn members_are_made_again_after_a_failed_allocation(rt: HostRuntime) -> Result<(), Fail> {
-    let mut set = no_numbers(rt.alloc()).or_else(|_| no_numbers(rt.alloc()))?;
-    assert!(rt; are_made_again(rt.alloc(), &mut set)?);
-    Ok(())
+fn members_are_made_again_after_a_failed_allocation(rt: HostRuntime) {
+    assert!(rt; are_all_made_again(rt.alloc()) == Ok(true));
 }

@@ -5,9 +5,10 @@ use lp_models::{AllAtOnce, Hybrid, Immediate, LeaveKernel, ModelName};
 use lp_patch::Aim;
 use lp_process::ProcessGroup;
 use lp_stack::{GroupId, View};
+use std::alloc::AllocError;
 
 /// Task 1 with calls at level 0, of which the first has serial 2, the next 3 and so on, in a box.
-fn task_in(alloc: Global, mode: Mode, funcs: &[SymId]) -> Result<Box<TaskStack>, PatchFault> {
+fn task_in(alloc: Global, mode: Mode, funcs: &[SymId]) -> Result<Box<TaskStack>, AllocError> {
     let mut stack = Box::new(alloc, TaskStack::new(TaskId(1), Class::Normal, mode))?;
     push_all(&mut stack, funcs);
     Ok(stack)
@@ -87,35 +88,39 @@ const BLAMED: [(Mode, &[SymId], &Blamed); 4] = [
     (Mode::Kernel, &[], &ON_A_CPU),
 ];
 
-/// Whether each of the four blames a task for these, on the way to a patch of `a`.
-fn each_blames(patches: &PatchStack, task: &TaskStack, want: &Blamed) -> bool {
-    let aim = Aim {
-        patches,
-        target: Level(1),
-    };
+/// Whether each of the four blames a task for these.
+fn each_blames(aim: &Aim<'_>, task: &TaskStack, want: &Blamed) -> bool {
     let [hybrid, leave_kernel, all_at_once, immediate] = want;
-    are_blamed(Hybrid, &aim, task, hybrid)
-        && are_blamed(LeaveKernel, &aim, task, leave_kernel)
-        && are_blamed(AllAtOnce, &aim, task, all_at_once)
-        && are_blamed(Immediate, &aim, task, immediate)
+    are_blamed(Hybrid, aim, task, hybrid)
+        && are_blamed(LeaveKernel, aim, task, leave_kernel)
+        && are_blamed(AllAtOnce, aim, task, all_at_once)
+        && are_blamed(Immediate, aim, task, immediate)
 }
 
-/// How many of the rows of `BLAMED` are right, up to the first that isn't.
-fn rows_right(alloc: Global, patches: &PatchStack) -> Result<usize, PatchFault> {
-    for (row, (mode, funcs, want)) in BLAMED.into_iter().enumerate() {
-        let task = task_in(alloc, mode, funcs)?;
-        if !each_blames(patches, &task, want) {
-            return Ok(row);
+/// Whether a row of `BLAMED` is right.
+fn is_right(
+    alloc: Global,
+    aim: &Aim<'_>,
+    row: &(Mode, &[SymId], &Blamed),
+) -> Result<bool, AllocError> {
+    let (mode, funcs, want) = *row;
+    let task = task_in(alloc, mode, funcs)?;
+    Ok(each_blames(aim, &task, want))
+}
+
+/// Whether each row is.
+fn are_right(alloc: Global, aim: &Aim<'_>) -> Result<bool, AllocError> {
+    for row in &BLAMED {
+        if !is_right(alloc, aim, row)? {
+            return Ok(false);
         }
     }
-    Ok(BLAMED.len())
+    Ok(true)
 }
 
 #[test]
-fn models_blame_frames_and_cpus(rt: HostRuntime) -> Result<(), Fail> {
-    let patches = stacked(rt.alloc(), &[A])?;
-    assert!(rt; rows_right(rt.alloc(), &patches)? == 4);
-    Ok(())
+fn models_blame_frames_and_cpus(rt: HostRuntime) {
+    assert!(rt; on_the_way_to_a(rt.alloc(), Table::Blamed) == Ok(true));
 }
 
 /// A task with these calls in a mode, and what process-group blames it for at each kind of check.
@@ -126,26 +131,29 @@ const BLAMED_IN_A_GROUP: [(Mode, &[SymId], Blames); 4] = [
     (Mode::Kernel, &[A], [FIRST, FIRST, FIRST, UNUSED]),
 ];
 
-/// How many of these rows are right, up to the first that isn't.
-fn rows_right_in_a_group(alloc: Global, patches: &PatchStack) -> Result<usize, PatchFault> {
-    let aim = Aim {
-        patches,
-        target: Level(1),
-    };
-    for (row, (mode, funcs, want)) in BLAMED_IN_A_GROUP.into_iter().enumerate() {
-        let task = task_in(alloc, mode, funcs)?;
-        if !are_blamed(ProcessGroup, &aim, &task, &want) {
-            return Ok(row);
+/// Whether a row of `BLAMED_IN_A_GROUP` is right.
+fn is_right_in_a_group(
+    alloc: Global,
+    aim: &Aim<'_>,
+    row: &(Mode, &[SymId], Blames),
+) -> Result<bool, AllocError> {
+    let task = task_in(alloc, row.0, row.1)?;
+    Ok(are_blamed(ProcessGroup, aim, &task, &row.2))
+}
+
+/// Whether each row is.
+fn are_right_in_a_group(alloc: Global, aim: &Aim<'_>) -> Result<bool, AllocError> {
+    for row in &BLAMED_IN_A_GROUP {
+        if !is_right_in_a_group(alloc, aim, row)? {
+            return Ok(false);
         }
     }
-    Ok(BLAMED_IN_A_GROUP.len())
+    Ok(true)
 }
 
 #[test]
-fn process_group_blames_frames_and_the_kernel(rt: HostRuntime) -> Result<(), Fail> {
-    let patches = stacked(rt.alloc(), &[A])?;
-    assert!(rt; rows_right_in_a_group(rt.alloc(), &patches)? == 4);
-    Ok(())
+fn process_group_blames_frames_and_the_kernel(rt: HostRuntime) {
+    assert!(rt; on_the_way_to_a(rt.alloc(), Table::BlamedInAGroup) == Ok(true));
 }
 
 /// Calls of a task, and the serial of the lowest that is stale.
@@ -156,26 +164,56 @@ const LOWEST: [([SymId; 3], Option<u64>); 4] = [
     ([C, C, A], Some(4)),
 ];
 
-/// How many of these are right, up to the first that isn't.
-fn lowest_right(alloc: Global, patches: &PatchStack) -> Result<usize, PatchFault> {
-    let aim = Aim {
-        patches,
-        target: Level(1),
-    };
-    for (row, (funcs, lowest)) in LOWEST.into_iter().enumerate() {
-        let task = task_in(alloc, Mode::User, &funcs)?;
-        if lowest_stale(&task.view(), &aim) != lowest {
-            return Ok(row);
+/// Whether a row of `LOWEST` is right.
+fn is_lowest(
+    alloc: Global,
+    aim: &Aim<'_>,
+    row: &([SymId; 3], Option<u64>),
+) -> Result<bool, AllocError> {
+    let task = task_in(alloc, Mode::User, &row.0)?;
+    Ok(lowest_stale(&task.view(), aim) == row.1)
+}
+
+/// Whether each row is.
+fn are_lowest(alloc: Global, aim: &Aim<'_>) -> Result<bool, AllocError> {
+    for row in &LOWEST {
+        if !is_lowest(alloc, aim, row)? {
+            return Ok(false);
         }
     }
-    Ok(LOWEST.len())
+    Ok(true)
+}
+
+/// The tables of tasks in calls.
+#[derive(Clone, Copy)]
+enum Table {
+    Blamed,
+    BlamedInAGroup,
+    Lowest,
+}
+
+/// Whether each row of a table is right.
+fn is_table_right(alloc: Global, aim: &Aim<'_>, table: Table) -> Result<bool, AllocError> {
+    match table {
+        Table::Blamed => are_right(alloc, aim),
+        Table::BlamedInAGroup => are_right_in_a_group(alloc, aim),
+        Table::Lowest => are_lowest(alloc, aim),
+    }
+}
+
+/// The same, on the way to a patch of `a`.
+fn on_the_way_to_a(alloc: Global, table: Table) -> Result<bool, PatchFault> {
+    let patches = stacked(alloc, &[A])?;
+    let aim = Aim {
+        patches: &patches,
+        target: Level(1),
+    };
+    Ok(is_table_right(alloc, &aim, table)?)
 }
 
 #[test]
-fn the_lowest_stale_frame(rt: HostRuntime) -> Result<(), Fail> {
-    let patches = stacked(rt.alloc(), &[A])?;
-    assert!(rt; lowest_right(rt.alloc(), &patches)? == 4);
-    Ok(())
+fn the_lowest_stale_frame(rt: HostRuntime) {
+    assert!(rt; on_the_way_to_a(rt.alloc(), Table::Lowest) == Ok(true));
 }
 
 /// Whether task 7 has this group, and a child 9 of group 3 these, by a fork of its own and a shared one.
@@ -216,27 +254,29 @@ const NAMES: [(&str, ModelName); 5] = [
     ("process-group", ModelName::ProcessGroup),
 ];
 
-/// The first of these names that isn't read, or that the model hasn't.
-fn name_misread() -> Option<&'static str> {
-    for (name, model) in NAMES {
-        if ModelName::read(name) != Some(model) || model.name() != name {
-            return Some(name);
+/// Whether each of these names is read, and the model has it.
+fn models_have_names() -> bool {
+    for (name, model) in &NAMES {
+        if ModelName::read(*name) != Some(*model) || model.name() != *name {
+            return false;
         }
     }
-    None
+    true
 }
 
-/// The first of these that is read as a name.
-fn no_name_read() -> Option<&'static str> {
-    for other in ["", "Hybrid", "hybrid "] {
-        if ModelName::read(other) != None {
-            return Some(other);
+const OTHERS: [&str; 3] = ["", "Hybrid", "hybrid "];
+
+/// Whether none of these is read as a name.
+fn others_are_no_names() -> bool {
+    for other in &OTHERS {
+        if ModelName::read(*other) != None {
+            return false;
         }
     }
-    None
+    true
 }
 
 #[test]
 fn names_are_read(rt: HostRuntime) {
-    assert!(rt; name_misread() == None && no_name_read() == None);
+    assert!(rt; models_have_names() && others_are_no_names());
 }

@@ -18,14 +18,14 @@ fn set_of(alloc: Global, numbers: &[u16]) -> Result<Box<NumberSet>, AllocError> 
 /// From where a walk begins, and the member that it meets.
 type Walk = (u16, Option<u16>);
 
-/// The first of these walks that ends elsewhere.
-fn other_walk(set: &NumberSet, walks: &[Walk]) -> Option<u16> {
+/// Whether each of these walks ends there.
+fn end_there(set: &NumberSet, walks: &[Walk]) -> bool {
     for (from, want) in walks {
         if set.next(*from) != *want {
-            return Some(*from);
+            return false;
         }
     }
-    None
+    true
 }
 
 /// Walks over all of `MEMBERS`.
@@ -46,25 +46,16 @@ const WALKS: [Walk; 11] = [
 /// Walks over 0 and 64.
 const SHORT_WALKS: [Walk; 3] = [(64, Some(64)), (65, None), (65_535, None)];
 
-/// Sets, and walks over each.
-const SETS: [(&[u16], &[Walk]); 2] = [(&MEMBERS, &WALKS), (&[0, 64], &SHORT_WALKS)];
-
-/// The first of these walks over the set of these numbers that ends elsewhere.
-fn other_walk_over(
-    alloc: Global,
-    numbers: &[u16],
-    walks: &[Walk],
-) -> Result<Option<u16>, AllocError> {
+/// Whether each of these walks over the set of these numbers ends there.
+fn end_there_over(alloc: Global, numbers: &[u16], walks: &[Walk]) -> Result<bool, AllocError> {
     let set = set_of(alloc, numbers)?;
-    Ok(other_walk(&set, walks))
+    Ok(end_there(&set, walks))
 }
 
 #[test]
-fn a_walk_meets_each_member_and_ends_past_the_last(rt: HostRuntime) -> Result<(), Fail> {
-    for (numbers, walks) in SETS {
-        assert!(rt; other_walk_over(rt.alloc(), numbers, walks)? == None);
-    }
-    Ok(())
+fn a_walk_meets_each_member_and_ends_past_the_last(rt: HostRuntime) {
+    assert!(rt; end_there_over(rt.alloc(), &MEMBERS, &WALKS) == Ok(true));
+    assert!(rt; end_there_over(rt.alloc(), &[0, 64], &SHORT_WALKS) == Ok(true));
 }
 
 /// Walks after 0, 64, 4,096 and 65,472 were removed.
@@ -81,17 +72,21 @@ fn remove(set: &mut NumberSet, numbers: &[u16]) {
     }
 }
 
+/// Whether these numbers of a set are passed over once they are removed.
+fn are_passed_over(set: &mut NumberSet) -> bool {
+    remove(set, &[0, 64, 4_096, 65_472, 5]);
+    end_there(set, &WALKS_PAST) && !set.contains(64) && set.contains(63)
+}
+
+/// Whether they are of `MEMBERS`.
+fn are_passed_over_in_members(alloc: Global) -> Result<bool, AllocError> {
+    let mut set = set_of(alloc, &MEMBERS)?;
+    Ok(are_passed_over(&mut set))
+}
+
 #[test]
-fn what_is_removed_is_passed_over(rt: HostRuntime) -> Result<(), Fail> {
-    let mut set = set_of(rt.alloc(), &MEMBERS)?;
-    remove(&mut set, &[0, 64, 4_096, 65_472, 5]);
-    let (walk, removed, kept) = (
-        other_walk(&set, &WALKS_PAST),
-        set.contains(64),
-        set.contains(63),
-    );
-    assert!(rt; walk == None && !removed && kept);
-    Ok(())
+fn what_is_removed_is_passed_over(rt: HostRuntime) {
+    assert!(rt; are_passed_over_in_members(rt.alloc()) == Ok(true));
 }
 
 /// Whether an empty set is empty, but where it has a member.
@@ -106,11 +101,15 @@ fn is_empty_without_members(set: &mut NumberSet) -> bool {
     new && !inserted && removed && set.is_empty() && set.next(0) == None
 }
 
+/// Whether a new set is.
+fn is_empty_at_first(alloc: Global) -> Result<bool, AllocError> {
+    let mut set = set_of(alloc, &[])?;
+    Ok(is_empty_without_members(&mut set))
+}
+
 #[test]
-fn a_set_is_empty_until_it_has_a_member(rt: HostRuntime) -> Result<(), Fail> {
-    let mut set = set_of(rt.alloc(), &[])?;
-    assert!(rt; is_empty_without_members(&mut set));
-    Ok(())
+fn a_set_is_empty_until_it_has_a_member(rt: HostRuntime) {
+    assert!(rt; is_empty_at_first(rt.alloc()) == Ok(true));
 }
 
 /// Whether a copy changes alone, and is then made anew.
@@ -127,9 +126,13 @@ fn is_copied(alloc: Global, set: &NumberSet) -> Result<bool, AllocError> {
     Ok(is_apart(set, &mut copied))
 }
 
+/// Whether the copy of a set of three is.
+fn is_copied_of_three(alloc: Global) -> Result<bool, AllocError> {
+    let set = set_of(alloc, &[3, 64, 128])?;
+    is_copied(alloc, &set)
+}
+
 #[test]
-fn sets_are_copied(rt: HostRuntime) -> Result<(), Fail> {
-    let set = set_of(rt.alloc(), &[3, 64, 128])?;
-    assert!(rt; is_copied(rt.alloc(), &set)?);
-    Ok(())
+fn sets_are_copied(rt: HostRuntime) {
+    assert!(rt; is_copied_of_three(rt.alloc()) == Ok(true));
 }

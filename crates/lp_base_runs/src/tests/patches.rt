@@ -19,21 +19,25 @@ fn fault_of(alloc: Global, symbols: &Symbols, ids: &[SymId]) -> Option<PatchFaul
     PatchSet::build(alloc, symbols, ids).err()
 }
 
-/// The first fault that isn't found.
-fn fault_that_is_missed(alloc: Global, symbols: &Symbols) -> Option<PatchFault> {
-    for (ids, want) in FAULTS {
-        if fault_of(alloc, symbols, ids) != Some(want) {
-            return Some(want);
+/// Whether each fault is found.
+fn faults_are_found(alloc: Global, symbols: &Symbols) -> bool {
+    for (ids, want) in &FAULTS {
+        if fault_of(alloc, symbols, *ids) != Some(*want) {
+            return false;
         }
     }
-    None
+    true
+}
+
+/// Whether each is, over `a`, `b` and `c`.
+fn faults_are_found_over_three(alloc: Global) -> Result<bool, SymFault> {
+    let symbols = three(alloc)?;
+    Ok(faults_are_found(alloc, &symbols))
 }
 
 #[test]
-fn faults_of_a_patch_come_in_their_order(rt: HostRuntime) -> Result<(), Fail> {
-    let symbols = three(rt.alloc())?;
-    assert!(rt; fault_that_is_missed(rt.alloc(), &symbols) == None);
-    Ok(())
+fn faults_of_a_patch_come_in_their_order(rt: HostRuntime) {
+    assert!(rt; faults_are_found_over_three(rt.alloc()) == Ok(true));
 }
 
 /// A patch of these over `a`, `b` and `c`, in a box.
@@ -68,18 +72,20 @@ fn is_of(
     Ok(set.same(&other))
 }
 
-/// Whether a patch of `c` and `a` has these, in its copy too, and is no patch of `a` and `b`.
+/// Whether a patch has `c` and `a`, in its copy too, and is no patch of `a` and `b`.
+fn is_of_c_and_a(alloc: Global, symbols: &Symbols, set: &PatchSet) -> Result<bool, PatchFault> {
+    Ok(has_c_and_a(set) && is_copied(alloc, set)? && !is_of(alloc, symbols, &[A, B], set)?)
+}
+
+/// Whether a patch of `c` and `a` does.
 fn has_what_it_was_built_of(alloc: Global, symbols: &Symbols) -> Result<bool, PatchFault> {
     let set = patch_of(alloc, symbols, &[C, A])?;
-    let copied = is_copied(alloc, &set)?;
-    Ok(has_c_and_a(&set) && copied && !is_of(alloc, symbols, &[A, B], &set)?)
+    is_of_c_and_a(alloc, symbols, &set)
 }
 
 #[test]
-fn a_patch_has_what_it_was_built_of(rt: HostRuntime) -> Result<(), Fail> {
-    let symbols = three(rt.alloc())?;
-    assert!(rt; has_what_it_was_built_of(rt.alloc(), &symbols)?);
-    Ok(())
+fn a_patch_has_what_it_was_built_of(rt: HostRuntime) {
+    assert!(rt; over_three(rt.alloc(), Build::Once) == Ok(true));
 }
 
 /// A level, and the versions of `a` and `b` that run at it, where `a`, `b` and `a` are patched in turn.
@@ -100,14 +106,14 @@ fn runs(stack: &PatchStack, level: Level, a: u8, b: u8) -> bool {
         && stack.version(UNKNOWN, level) == Level(0)
 }
 
-/// The first level at which other versions run.
-fn other_versions(stack: &PatchStack) -> Option<u8> {
-    for (level, a, b) in VERSIONS {
-        if !runs(stack, Level(level), a, b) {
-            return Some(level);
+/// Whether these versions run at each level.
+fn run_at_each(stack: &PatchStack) -> bool {
+    for (level, a, b) in &VERSIONS {
+        if !runs(stack, Level(*level), *a, *b) {
+            return false;
         }
     }
-    None
+    true
 }
 
 /// A copy of a stack, in a box.
@@ -121,13 +127,20 @@ fn is_stack_copied(alloc: Global, stack: &PatchStack) -> Result<bool, PatchFault
     Ok(copy.same(stack))
 }
 
+/// Whether a stack of three patches over three symbols runs them.
+fn runs_three(stack: &PatchStack) -> bool {
+    stack.patches() == Level(3) && stack.symbols() == 3 && run_at_each(stack)
+}
+
+/// Whether one of `a`, `b` and `a` does, and is copied.
+fn three_run(alloc: Global) -> Result<bool, PatchFault> {
+    let stack = stacked(alloc, &[A, B, A])?;
+    Ok(runs_three(&stack) && is_stack_copied(alloc, &stack)?)
+}
+
 #[test]
-fn a_level_runs_the_last_patch_up_to_it(rt: HostRuntime) -> Result<(), Fail> {
-    let stack = stacked(rt.alloc(), &[A, B, A])?;
-    assert!(rt; stack.patches() == Level(3) && stack.symbols() == 3);
-    assert!(rt; other_versions(&stack) == None);
-    assert!(rt; is_stack_copied(rt.alloc(), &stack)?);
-    Ok(())
+fn a_level_runs_the_last_patch_up_to_it(rt: HostRuntime) {
+    assert!(rt; three_run(rt.alloc()) == Ok(true));
 }
 
 /// A call at a level, and whether it is stale on the way to level 2 of the same patches.
@@ -141,25 +154,28 @@ const STALE: [(SymId, u8, bool); 7] = [
     (C, 0, false),
 ];
 
-/// The first of these calls of which the other is said.
-fn call_said_otherwise(patches: &PatchStack) -> Option<(SymId, u8)> {
-    let aim = Aim {
-        patches,
-        target: Level(2),
-    };
-    for (func, level, stale) in STALE {
-        if aim.stale(&frame(func, level, 1)) != stale {
-            return Some((func, level));
+/// Whether this is said of each of these calls.
+fn is_said_of_each(aim: &Aim<'_>) -> bool {
+    for (func, level, stale) in &STALE {
+        if aim.stale(&frame(*func, *level, 1)) != *stale {
+            return false;
         }
     }
-    None
+    true
+}
+
+/// Whether it is where `a`, `b` and `a` are patched in turn.
+fn is_said(alloc: Global) -> Result<bool, PatchFault> {
+    let patches = stacked(alloc, &[A, B, A])?;
+    Ok(is_said_of_each(&Aim {
+        patches: &patches,
+        target: Level(2),
+    }))
 }
 
 #[test]
-fn a_call_of_another_version_is_stale(rt: HostRuntime) -> Result<(), Fail> {
-    let stack = stacked(rt.alloc(), &[A, B, A])?;
-    assert!(rt; call_said_otherwise(&stack) == None);
-    Ok(())
+fn a_call_of_another_version_is_stale(rt: HostRuntime) {
+    assert!(rt; is_said(rt.alloc()) == Ok(true));
 }
 
 /// Lists of functions, and how many patches a stack has with one of each function.
@@ -177,8 +193,8 @@ fn patches_of(alloc: Global, ids: &[SymId]) -> Result<Level, PatchFault> {
 
 #[test]
 fn a_stack_has_1_to_16_patches(rt: HostRuntime) {
-    for (ids, want) in COUNTS {
-        assert!(rt; patches_of(rt.alloc(), ids) == want);
+    for (ids, want) in &COUNTS {
+        assert!(rt; patches_of(rt.alloc(), *ids) == *want);
     }
 }
 
@@ -205,10 +221,8 @@ fn builds_and_copies(alloc: Global, symbols: &Symbols) -> Result<bool, PatchFaul
 /// For `scripts/refuse-memory`: after a failed allocation no patch is there, and the same call
 /// makes it.
 #[test]
-fn builds_again_after_a_failed_allocation(rt: HostRuntime) -> Result<(), Fail> {
-    let symbols = three_again(rt.alloc())?;
-    assert!(rt; builds_and_copies(rt.alloc(), &symbols)?);
-    Ok(())
+fn builds_again_after_a_failed_allocation(rt: HostRuntime) {
+    assert!(rt; over_three(rt.alloc(), Build::Again) == Ok(true));
 }
 
 /// Whether the stack of `a`, then `b`, runs these, in a copy too, as `is_copied_again` has it.
@@ -229,9 +243,35 @@ fn stacks_and_copies(alloc: Global, symbols: &Symbols) -> Result<bool, PatchFaul
     is_stack_copied_again(alloc, &stack)
 }
 
+/// What is built over three symbols, which are made again where an allocation failed.
+#[derive(Clone, Copy)]
+enum Build {
+    /// A patch.
+    Once,
+    /// A patch, each call again where an allocation failed.
+    Again,
+    /// A stack, likewise.
+    StackAgain,
+}
+
+/// Whether that is right.
+fn is_built(alloc: Global, symbols: &Symbols, build: Build) -> Result<bool, PatchFault> {
+    match build {
+        Build::Once => has_what_it_was_built_of(alloc, symbols),
+        Build::Again => builds_and_copies(alloc, symbols),
+        Build::StackAgain => stacks_and_copies(alloc, symbols),
+    }
+}
+
+/// The same, over `a`, `b` and `c`. The fault is NoMemory also where the names get no memory.
+fn over_three(alloc: Global, build: Build) -> Result<bool, PatchFault> {
+    match three_again(alloc) {
+        Ok(symbols) => is_built(alloc, &symbols, build),
+        Err(_) => Err(PatchFault::NoMemory),
+    }
+}
+
 #[test]
-fn stacks_again_after_a_failed_allocation(rt: HostRuntime) -> Result<(), Fail> {
-    let symbols = three_again(rt.alloc())?;
-    assert!(rt; stacks_and_copies(rt.alloc(), &symbols)?);
-    Ok(())
+fn stacks_again_after_a_failed_allocation(rt: HostRuntime) {
+    assert!(rt; over_three(rt.alloc(), Build::StackAgain) == Ok(true));
 }

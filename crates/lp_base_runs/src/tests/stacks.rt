@@ -13,14 +13,14 @@ fn in_kernel(alloc: Global, class: Class) -> Result<Box<TaskStack>, AllocError> 
     Ok(Box::new(alloc, TaskStack::new(TaskId(7), class, Mode::Kernel))?)
 }
 
-/// The serial of the first of 100 calls that a task has no room for.
-fn no_room(stack: &mut TaskStack) -> Option<u32> {
+/// Whether a task has room for 100 calls.
+fn has_room(stack: &mut TaskStack) -> bool {
     for serial in 0..100 {
         if stack.push(called(serial)) != Ok(()) {
-            return Some(serial);
+            return false;
         }
     }
-    None
+    true
 }
 
 /// Whether a task of 100 frames has room for one in place of the last alone.
@@ -32,11 +32,15 @@ fn has_room_for_no_more(stack: &mut TaskStack) -> bool {
         && stack.pop() == Some(called(101))
 }
 
+/// Whether a task has room for 100 frames.
+fn has_room_for_100(alloc: Global) -> Result<bool, AllocError> {
+    let mut stack = in_kernel(alloc, Class::Normal)?;
+    Ok(has_room(&mut stack) && has_room_for_no_more(&mut stack))
+}
+
 #[test]
-fn refuses_the_101st_frame(rt: HostRuntime) -> Result<(), Fail> {
-    let mut stack = in_kernel(rt.alloc(), Class::Normal)?;
-    assert!(rt; no_room(&mut stack) == None && has_room_for_no_more(&mut stack));
-    Ok(())
+fn refuses_the_101st_frame(rt: HostRuntime) {
+    assert!(rt; has_room_for_100(rt.alloc()) == Ok(true));
 }
 
 /// Whether a task has no frame, and then one.
@@ -44,14 +48,17 @@ fn has_its_first_frame(stack: &mut TaskStack) -> bool {
     stack.pop() == None && stack.push(called(1)) == Ok(())
 }
 
-/// Whether a view that was kept is that of the task until its mode or its frames change.
-fn tells_changes(stack: &mut TaskStack, kept: &ViewCopy) -> bool {
+/// Whether a view that was kept is that of the task until its mode changes.
+fn tells_modes(stack: &mut TaskStack, kept: &ViewCopy) -> bool {
     let same = kept.same_as(&stack.view());
     stack.set_mode(Mode::Asleep);
-    let told = !kept.same_as(&stack.view()) && kept.view().mode == Mode::Kernel;
+    same && !kept.same_as(&stack.view()) && kept.view().mode == Mode::Kernel
+}
+
+/// Whether, in the mode of then, it is that of the task until its frames change.
+fn tells_frames(stack: &mut TaskStack, kept: &ViewCopy) -> bool {
     stack.set_mode(Mode::Kernel);
-    let pushed = stack.push(called(2)) == Ok(());
-    same && told && pushed && !kept.same_as(&stack.view())
+    stack.push(called(2)) == Ok(()) && !kept.same_as(&stack.view())
 }
 
 /// Whether it has the one frame of then, and the task is who it was.
@@ -64,12 +71,16 @@ fn is_as_it_was(stack: &TaskStack, kept: &ViewCopy) -> bool {
 /// Whether a view is kept while the task changes.
 fn is_kept(alloc: Global, stack: &mut TaskStack) -> Result<bool, AllocError> {
     let kept = Box::new(alloc, ViewCopy::of(&stack.view()))?;
-    Ok(tells_changes(stack, &kept) && is_as_it_was(stack, &kept))
+    Ok(tells_modes(stack, &kept) && tells_frames(stack, &kept) && is_as_it_was(stack, &kept))
+}
+
+/// Whether one is of a task that gets its first frame.
+fn is_kept_of_one(alloc: Global) -> Result<bool, AllocError> {
+    let mut stack = in_kernel(alloc, Class::Idle)?;
+    Ok(has_its_first_frame(&mut stack) && is_kept(alloc, &mut stack)?)
 }
 
 #[test]
-fn keeps_a_view(rt: HostRuntime) -> Result<(), Fail> {
-    let mut stack = in_kernel(rt.alloc(), Class::Idle)?;
-    assert!(rt; has_its_first_frame(&mut stack) && is_kept(rt.alloc(), &mut stack)?);
-    Ok(())
+fn keeps_a_view(rt: HostRuntime) {
+    assert!(rt; is_kept_of_one(rt.alloc()) == Ok(true));
 }

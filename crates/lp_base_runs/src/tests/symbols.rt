@@ -18,12 +18,16 @@ fn are_found(symbols: &Symbols) -> bool {
         && symbols.name(SymId(2)) == None
 }
 
+/// Whether an empty list numbers them in order, and then these two alone are found.
+fn are_numbered_and_found(alloc: Global) -> Result<bool, SymFault> {
+    let mut symbols = none(alloc)?;
+    Ok(are_numbered_in_order(&mut symbols) && are_found(&symbols))
+}
+
 #[test]
-fn numbers_names_in_order(rt: HostRuntime) -> Result<(), Fail> {
-    let mut symbols = none(rt.alloc())?;
-    assert!(rt; are_numbered_in_order(&mut symbols) && are_found(&symbols));
+fn numbers_names_in_order(rt: HostRuntime) {
+    assert!(rt; are_numbered_and_found(rt.alloc()) == Ok(true));
     assert!(rt; SymId(65_535).index() == 65_535);
-    Ok(())
 }
 
 /// How many of these names an empty list takes, up to the first that it refuses.
@@ -37,15 +41,15 @@ fn taken(alloc: Global, names: &[&str]) -> Result<usize, SymFault> {
     Ok(symbols.len())
 }
 
-/// The first of these names that an empty list doesn't call bad, or of which it keeps something.
-fn not_bad<'a>(alloc: Global, names: &[&'a str]) -> Result<Option<&'a str>, SymFault> {
+/// Whether an empty list calls each of these names bad, and keeps nothing of it.
+fn are_bad(alloc: Global, names: &[&str]) -> Result<bool, SymFault> {
     let mut symbols = none(alloc)?;
     for name in names {
         if symbols.add(name) != Err(SymFault::BadName) || !symbols.is_empty() {
-            return Ok(Some(name));
+            return Ok(false);
         }
     }
-    Ok(None)
+    Ok(true)
 }
 
 /// How many are taken of four names, one of 512 bytes among them.
@@ -57,16 +61,15 @@ fn taken_of_four(alloc: Global) -> Result<usize, SymFault> {
 /// Whether a name of 513 bytes is bad.
 fn is_too_long(alloc: Global) -> Result<bool, SymFault> {
     let too_long = "f".repeat(alloc, 513)?;
-    Ok(not_bad(alloc, &[too_long.as_str()])? == None)
+    are_bad(alloc, &[too_long.as_str()])
 }
 
 const BAD: [&str; 6] = ["", " ", "a b", "a\t", "\x7f", "caf\u{e9}"];
 
 #[test]
-fn takes_1_to_512_graphic_bytes(rt: HostRuntime) -> Result<(), Fail> {
-    assert!(rt; taken_of_four(rt.alloc())? == 4);
-    assert!(rt; not_bad(rt.alloc(), &BAD)? == None && is_too_long(rt.alloc())?);
-    Ok(())
+fn takes_1_to_512_graphic_bytes(rt: HostRuntime) {
+    assert!(rt; taken_of_four(rt.alloc()) == Ok(4));
+    assert!(rt; are_bad(rt.alloc(), &BAD) == Ok(true) && is_too_long(rt.alloc()) == Ok(true));
 }
 
 /// The number of the name `f` with this number.
@@ -75,14 +78,14 @@ fn add_numbered(alloc: Global, symbols: &mut Symbols, number: u16) -> Result<Sym
     symbols.add(&name)
 }
 
-/// Adds the names `f0` to `f4095`; the first of them that gets another number.
-fn fill(alloc: Global, symbols: &mut Symbols) -> Result<Option<u16>, SymFault> {
+/// Adds the names `f0` to `f4095`; whether each gets its number.
+fn fill(alloc: Global, symbols: &mut Symbols) -> Result<bool, SymFault> {
     for number in 0..4_096 {
         if add_numbered(alloc, symbols, number)? != SymId(number) {
-            return Ok(Some(number));
+            return Ok(false);
         }
     }
-    Ok(None)
+    Ok(true)
 }
 
 /// Whether 4,096 names are refused others, each for the first fault of it.
@@ -94,11 +97,15 @@ fn is_full(symbols: &mut Symbols) -> bool {
         && symbols.find("f4095") == Some(SymId(4_095))
 }
 
+/// Whether an empty list takes 4,096 names, and is full then.
+fn fills_up(alloc: Global) -> Result<bool, SymFault> {
+    let mut symbols = none(alloc)?;
+    Ok(fill(alloc, &mut symbols)? && is_full(&mut symbols))
+}
+
 #[test]
-fn refuses_in_order_where_4096_names_are_there(rt: HostRuntime) -> Result<(), Fail> {
-    let mut symbols = none(rt.alloc())?;
-    assert!(rt; fill(rt.alloc(), &mut symbols)? == None && is_full(&mut symbols));
-    Ok(())
+fn refuses_in_order_where_4096_names_are_there(rt: HostRuntime) {
+    assert!(rt; fills_up(rt.alloc()) == Ok(true));
 }
 
 /// The number that a name is given. Where an allocation fails, nothing changes, and the same call adds it.
@@ -119,27 +126,43 @@ fn is_added(symbols: &Symbols, name: &str, added: SymId, number: usize) -> bool 
         && symbols.find("schedule") == Some(SymId(0))
 }
 
-const NAMES: [&str; 5] = ["schedule", "do_exit", "vfs_read", "vfs_write", "kthread"];
+/// Names, and their numbers.
+const NAMES: [(&str, usize); 5] = [
+    ("schedule", 0),
+    ("do_exit", 1),
+    ("vfs_read", 2),
+    ("vfs_write", 3),
+    ("kthread", 4),
+];
 
-/// The first of these names that isn't added in its turn.
-fn not_added(symbols: &mut Symbols) -> Result<Option<&'static str>, SymFault> {
-    for (number, name) in NAMES.into_iter().enumerate() {
-        let added = added_again(symbols, name)?;
-        if !is_added(symbols, name, added, number) {
-            return Ok(Some(name));
+/// Whether each of these names is added in its turn.
+fn are_added(symbols: &mut Symbols) -> Result<bool, SymFault> {
+    for (name, number) in &NAMES {
+        let added = added_again(symbols, *name)?;
+        if !is_added(symbols, *name, added, *number) {
+            return Ok(false);
         }
     }
-    Ok(None)
+    Ok(true)
+}
+
+/// No names. Where an allocation fails, the same call makes them.
+fn none_again(alloc: Global) -> Result<Box<Symbols>, SymFault> {
+    match none(alloc) {
+        Err(SymFault::NoMemory) => none(alloc),
+        answer => answer,
+    }
+}
+
+/// Whether they are added to an empty list.
+fn are_added_to_none(alloc: Global) -> Result<bool, SymFault> {
+    let mut symbols = none_again(alloc)?;
+    are_added(&mut symbols)
 }
 
 /// For `scripts/refuse-memory`: a failed allocation changes nothing, and the same call succeeds
 /// after it.
 #[test]
-fn adds_again_after_a_failed_allocation(rt: HostRuntime) -> Result<(), Fail> {
-    let mut symbols = match none(rt.alloc()) {
-        Err(_) => none(rt.alloc())?,
-        Ok(symbols) => symbols,
-    };
-    assert!(rt; not_added(&mut symbols)? == None);
-    Ok(())
+fn adds_again_after_a_failed_allocation(rt: HostRuntime) {
+    assert!(rt; are_added_to_none(rt.alloc()) == Ok(true));
 }
