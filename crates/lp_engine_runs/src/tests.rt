@@ -21,9 +21,8 @@ use lp_models::Hybrid;
 use lp_patch::{PatchFault, PatchSet, PatchStack};
 use lp_stack::{Class, GroupId, Level, TaskId};
 use lp_symbols::{SymFault, SymId, Symbols};
-use lp_transition::{BootFault, Core, Event, Reply, What};
-use std::alloc::Global;
-use std::test::Fail;
+use lp_transition::{BootFault, Core, Event, Halt, Opening, Reply, What};
+use std::alloc::{AllocError, Global};
 
 const A: SymId = SymId(0);
 
@@ -107,13 +106,13 @@ fn patches(alloc: Global, lists: &[&[SymId]]) -> Result<PatchStack, PatchFault> 
 }
 
 /// What an engine says to an event.
-fn reply_to<M: Consistency>(alloc: Global, core: &mut Core<M>, event: Event) -> Result<Said, Fail> {
+fn reply_to<M: Consistency>(alloc: Global, core: &mut Core<M>, event: Event) -> Result<Said, Halt> {
     let reply = core.step(alloc, event)?;
     Ok(in_short(&reply))
 }
 
 /// Gives these events to an engine.
-fn give<M: Consistency>(alloc: Global, core: &mut Core<M>, events: &[Event]) -> Result<(), Fail> {
+fn give<M: Consistency>(alloc: Global, core: &mut Core<M>, events: &[Event]) -> Result<(), Halt> {
     for event in events {
         reply_to(alloc, core, *event)?;
     }
@@ -134,16 +133,48 @@ fn boot_over_a<M: Consistency>(
     Ok(Box::new(alloc, core)?)
 }
 
+/// The same. The fault is NoMemory wherever no engine starts, so that a helper has one type of fault.
+fn start<M: Consistency>(
+    alloc: Global,
+    model: M,
+    boots: &[(TaskId, Class)],
+) -> Result<Box<Core<M>>, Halt> {
+    match boot_over_a(alloc, model, boots) {
+        Ok(core) => Ok(core),
+        Err(_) => Err(Halt::NoMemory),
+    }
+}
+
+/// The tasks 1 up to this number.
+fn normal_tasks(alloc: Global, count: u16) -> Result<Vec<(TaskId, Class)>, AllocError> {
+    let mut tasks = Vec::new(alloc);
+    for number in 1..=count {
+        tasks.push(normal(number))?;
+    }
+    Ok(tasks)
+}
+
+/// An engine that starts with them.
+fn start_with<M: Consistency>(alloc: Global, model: M, count: u16) -> Result<Box<Core<M>>, Halt> {
+    let tasks = normal_tasks(alloc, count)?;
+    start(alloc, model, tasks.as_slice())
+}
+
 /// An engine under `hybrid` that started with these tasks, over one patch of function `a`, after
 /// these events.
 fn engine_after(
     alloc: Global,
     boots: &[(TaskId, Class)],
     events: &[Event],
-) -> Result<Box<Core<Hybrid>>, Fail> {
-    let mut core = boot_over_a(alloc, Hybrid, boots)?;
+) -> Result<Box<Core<Hybrid>>, Halt> {
+    let mut core = start(alloc, Hybrid, boots)?;
     give(alloc, &mut core, events)?;
     Ok(core)
+}
+
+/// The copy of an engine, in a box.
+fn standing(alloc: Global, core: &Core<Hybrid>) -> Result<Box<Opening>, AllocError> {
+    Ok(Box::new(alloc, core.standing(alloc)?)?)
 }
 
 fn normal(number: u16) -> (TaskId, Class) {

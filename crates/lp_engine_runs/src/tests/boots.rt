@@ -2,7 +2,6 @@
 use super::*;
 use lp_models::Immediate;
 use lp_stack::Mode;
-use lp_transition::{BootFault, Opening};
 
 const ZERO: (TaskId, Class) = (TaskId(0), Class::Normal);
 
@@ -38,15 +37,19 @@ fn are_live(core: &Core<Immediate>) -> bool {
         && !core.is_alone(TaskId(4))
 }
 
+/// Whether they are as it starts.
+fn start_live(alloc: Global) -> Result<bool, BootFault> {
+    let core = booted(alloc)?;
+    Ok(are_live(&core))
+}
+
 #[test]
-fn tasks_are_live_as_they_start(rt: HostRuntime) -> Result<(), Fail> {
-    let core = booted(rt.alloc())?;
-    assert!(rt; are_live(&core));
-    Ok(())
+fn tasks_are_live_as_they_start(rt: HostRuntime) {
+    assert!(rt; start_live(rt.alloc()) == Ok(true));
 }
 
 /// The copy of that engine.
-fn opening(alloc: Global) -> Result<Box<Opening>, Fail> {
+fn opening(alloc: Global) -> Result<Box<Opening>, BootFault> {
     let core = booted(alloc)?;
     Ok(Box::new(alloc, core.standing(alloc)?)?)
 }
@@ -86,11 +89,13 @@ fn has_its_tasks(opening: &Opening) -> bool {
         && stands(opening, TaskId(4), None)
 }
 
+/// Whether all of this is so of the copy.
+fn stands_as_it_starts(alloc: Global) -> Result<bool, BootFault> {
+    let opening = opening(alloc)?;
+    Ok(is_at_the_first_level(&opening) && has_its_numbers(&opening) && has_its_tasks(&opening))
+}
+
 #[test]
-fn an_opening_has_no_events_and_its_tasks_as_they_start(rt: HostRuntime) -> Result<(), Fail> {
-    let opening = opening(rt.alloc())?;
-    assert!(rt; is_at_the_first_level(&opening));
-    assert!(rt; has_its_numbers(&opening));
-    assert!(rt; has_its_tasks(&opening));
-    Ok(())
+fn an_opening_has_no_events_and_its_tasks_as_they_start(rt: HostRuntime) {
+    assert!(rt; stands_as_it_starts(rt.alloc()) == Ok(true));
 }

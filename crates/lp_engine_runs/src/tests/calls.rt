@@ -1,11 +1,10 @@
 //! An event that is weighed, and then taken; and what can be asked of an engine.
 use super::*;
 use lp_model::CheckKind;
-use lp_transition::{Halt, Step, verdicts};
-use std::alloc::AllocError;
+use lp_transition::{Step, verdicts};
 
 /// The engine of tasks 1 and 2 after these events.
-fn two_tasks_after(alloc: Global, events: &[Event]) -> Result<Box<Core<Hybrid>>, Fail> {
+fn two_tasks_after(alloc: Global, events: &[Event]) -> Result<Box<Core<Hybrid>>, Halt> {
     engine_after(alloc, &[normal(1), normal(2)], events)
 }
 
@@ -27,15 +26,19 @@ fn enables(alloc: Global, core: &mut Core<Hybrid>) -> Result<bool, Halt> {
     Ok(weighed && taken == Said::Done && place(core) == (1, true))
 }
 
+/// Whether it is by an engine that starts.
+fn enables_at_first(alloc: Global) -> Result<bool, Halt> {
+    let mut core = two_tasks_after(alloc, &[])?;
+    enables(alloc, &mut core)
+}
+
 #[test]
-fn an_event_is_weighed_and_then_taken(rt: HostRuntime) -> Result<(), Fail> {
-    let mut core = two_tasks_after(rt.alloc(), &[])?;
-    assert!(rt; enables(rt.alloc(), &mut core)?);
-    Ok(())
+fn an_event_is_weighed_and_then_taken(rt: HostRuntime) {
+    assert!(rt; enables_at_first(rt.alloc()) == Ok(true));
 }
 
 /// A walk is taken by the verdicts on the tasks that wait: how many there are, and the answer.
-fn walk(alloc: Global, core: &mut Core<Hybrid>) -> Result<(usize, Said), Fail> {
+fn walk(alloc: Global, core: &mut Core<Hybrid>) -> Result<(usize, Said), Halt> {
     let views = core.views(alloc)?;
     let found = verdicts(
         alloc,
@@ -53,16 +56,20 @@ fn walk(alloc: Global, core: &mut Core<Hybrid>) -> Result<(usize, Said), Fail> {
 const ASLEEP: [Event; 3] = [Event::Enable, Event::Enter(ONE), Event::Sleep(ONE)];
 
 /// Whether such a walk has two verdicts and lets task 1 switch.
-fn walks(alloc: Global, core: &mut Core<Hybrid>) -> Result<bool, Fail> {
+fn walks(alloc: Global, core: &mut Core<Hybrid>) -> Result<bool, Halt> {
     let walked = walk(alloc, core)?;
     Ok(walked == (2, Said::Over(1)) && place(core) == (4, true))
 }
 
+/// Whether one does where task 1 sleeps.
+fn walks_asleep(alloc: Global) -> Result<bool, Halt> {
+    let mut core = two_tasks_after(alloc, &ASLEEP)?;
+    walks(alloc, &mut core)
+}
+
 #[test]
-fn a_walk_is_taken_by_its_verdicts(rt: HostRuntime) -> Result<(), Fail> {
-    let mut core = two_tasks_after(rt.alloc(), &ASLEEP)?;
-    assert!(rt; walks(rt.alloc(), &mut core)?);
-    Ok(())
+fn a_walk_is_taken_by_its_verdicts(rt: HostRuntime) {
+    assert!(rt; walks_asleep(rt.alloc()) == Ok(true));
 }
 
 /// The events after which task 1 has switched, and task 2 waits.
@@ -106,9 +113,13 @@ fn says_how_it_stands(alloc: Global, core: &Core<Hybrid>) -> Result<bool, AllocE
     )
 }
 
+/// Whether it does where task 1 has switched.
+fn says_who_is_over(alloc: Global) -> Result<bool, Halt> {
+    let core = two_tasks_after(alloc, &ONE_OVER)?;
+    Ok(says_how_it_stands(alloc, &core)?)
+}
+
 #[test]
-fn an_engine_is_asked_how_it_stands(rt: HostRuntime) -> Result<(), Fail> {
-    let core = two_tasks_after(rt.alloc(), &ONE_OVER)?;
-    assert!(rt; says_how_it_stands(rt.alloc(), &core)?);
-    Ok(())
+fn an_engine_is_asked_how_it_stands(rt: HostRuntime) {
+    assert!(rt; says_who_is_over(rt.alloc()) == Ok(true));
 }

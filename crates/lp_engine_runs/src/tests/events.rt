@@ -18,9 +18,9 @@ const KINDS: [(Event, bool, bool); 8] = [
 
 #[test]
 fn events_have_kinds(rt: HostRuntime) {
-    for (event, scan, control) in KINDS {
+    for (event, scan, control) in &KINDS {
         assert!(rt;
-            event.is_scan() == scan && event.is_control() == control,
+            event.is_scan() == *scan && event.is_control() == *control,
             "{event:?}"
         );
     }
@@ -37,7 +37,7 @@ fn refusals_have_numbers(rt: HostRuntime) {
 const BOTH: [GroupId; 2] = [GroupId(3), GroupId(7)];
 
 /// A reply by which they switch and the transition is complete.
-fn both_over(alloc: Global) -> Result<Reply, Fail> {
+fn both_over(alloc: Global) -> Result<Reply, AllocError> {
     let groups = GroupList::from_vec(alloc, Vec::from_slice(alloc, &BOTH)?)?;
     Ok(Reply {
         what: What::Switched(groups),
@@ -54,11 +54,19 @@ fn are_both(what: What) -> bool {
     told && list.into_vec().pop() == Some(GroupId(7))
 }
 
+/// Whether the copy of such a reply says so.
+fn is_reply_copied(alloc: Global) -> Result<bool, AllocError> {
+    let Reply { what, completed } = both_over(alloc)?.copy(alloc)?;
+    Ok(completed && are_both(what))
+}
+
+/// Whether the copy of a call that ran says at which level.
+fn is_run_copied(alloc: Global) -> Result<bool, AllocError> {
+    let ran = What::Ran(Level(2)).copy(alloc)?;
+    Ok(matches!(&ran, What::Ran(Level(2))))
+}
+
 #[test]
-fn replies_are_copied(rt: HostRuntime) -> Result<(), Fail> {
-    let Reply { what, completed } = both_over(rt.alloc())?.copy(rt.alloc())?;
-    assert!(rt; completed && are_both(what));
-    let ran = What::Ran(Level(2)).copy(rt.alloc())?;
-    assert!(rt; matches!(&ran, What::Ran(Level(2))));
-    Ok(())
+fn replies_are_copied(rt: HostRuntime) {
+    assert!(rt; is_reply_copied(rt.alloc()) == Ok(true) && is_run_copied(rt.alloc()) == Ok(true));
 }

@@ -8,7 +8,7 @@ use super::*;
 use lp_model::{Blame, CheckKind, ForkKind, Verdict};
 use lp_models::AllAtOnce;
 use lp_process::ProcessGroup;
-use lp_transition::{Halt, Step};
+use lp_transition::Step;
 
 /// Three members of a group that waits: they sleep, and the second is in a call.
 const HELD: [Event; 8] = [
@@ -96,8 +96,30 @@ fn whole<M: Consistency>(alloc: Global, core: &Core<M>, scan: Event) -> Result<S
     Ok(in_short(step.reply()))
 }
 
-/// Whether such a scan, which is then taken, has these verdicts, and says this, as one does that looks
-/// at every member.
+/// The event of a scan.
+fn scan_of(kind: CheckKind) -> Event {
+    match kind {
+        CheckKind::Stop => Event::Stop,
+        _ => Event::Walk,
+    }
+}
+
+/// Whether a scan by first refusals, which is then taken, has these verdicts, and says this.
+fn scans_in_part<M: Consistency>(
+    alloc: Global,
+    core: &mut Core<M>,
+    kind: CheckKind,
+    found: &[Verdict],
+    said: Said,
+) -> Result<bool, Halt>
+    requires { is_scan_kind kind ≡ true }
+{
+    let scan = weighed(alloc, core, kind)?;
+    let right = scan.event() == scan_of(kind) && scan.verdicts() == found;
+    Ok(in_short(&core.take(scan)) == said && right)
+}
+
+/// Whether it does, and says what one does that looks at every member.
 fn scans<M: Consistency>(
     alloc: Global,
     core: &mut Core<M>,
@@ -107,15 +129,8 @@ fn scans<M: Consistency>(
 ) -> Result<bool, Halt>
     requires { is_scan_kind kind ≡ true }
 {
-    let event = match kind {
-        CheckKind::Stop => Event::Stop,
-        _ => Event::Walk,
-    };
-    let whole = whole(alloc, core, event)?;
-    let scan = weighed(alloc, core, kind)?;
-    let right = scan.event() == event && scan.verdicts() == found;
-    let told = in_short(&core.take(scan));
-    Ok(right && told == said && whole == said)
+    let whole = whole(alloc, core, scan_of(kind))?;
+    Ok(scans_in_part(alloc, core, kind, found, said)? && whole == said)
 }
 
 /// What a scan says at which this group switches, or none.
@@ -134,7 +149,7 @@ fn turn_out<M: Consistency>(
     kind: CheckKind,
     group: u16,
     rows: &[Row],
-) -> Result<bool, Fail>
+) -> Result<bool, Halt>
     requires { is_scan_kind kind ≡ true }
 {
     for (events, found, switches) in rows {
@@ -153,27 +168,36 @@ fn turn_out_from_start<M: Consistency>(
     kind: CheckKind,
     group: u16,
     rows: &[Row],
-) -> Result<bool, Fail>
+) -> Result<bool, Halt>
     requires { is_scan_kind kind ≡ true }
 {
-    let mut core = boot_over_a(alloc, model, &[normal(1)])?;
+    let mut core = start(alloc, model, &[normal(1)])?;
     turn_out(alloc, &mut core, kind, group, rows)
 }
 
-#[test]
-fn a_process_is_asked_up_to_its_first_refusal(rt: HostRuntime) -> Result<(), Fail> {
-    let alloc = rt.alloc();
-    assert!(rt; turn_out_from_start(alloc, ProcessGroup, CheckKind::Walk, 1, &RETURNS)?);
-    assert!(rt; turn_out_from_start(alloc, ProcessGroup, CheckKind::Walk, 1, &DIES)?);
-    Ok(())
+/// The same, where the second member returns, and where it dies.
+fn turn_out_both_ways<M: Consistency>(
+    alloc: Global,
+    model: M,
+    kind: CheckKind,
+    group: u16,
+) -> Result<bool, Halt>
+    requires { is_scan_kind kind ≡ true }
+{
+    Ok(
+        turn_out_from_start(alloc, model, kind, group, &RETURNS)?
+            && turn_out_from_start(alloc, model, kind, group, &DIES)?,
+    )
 }
 
 #[test]
-fn all_are_asked_up_to_the_first_refusal(rt: HostRuntime) -> Result<(), Fail> {
-    let alloc = rt.alloc();
-    assert!(rt; turn_out_from_start(alloc, AllAtOnce, CheckKind::Stop, 0, &RETURNS)?);
-    assert!(rt; turn_out_from_start(alloc, AllAtOnce, CheckKind::Stop, 0, &DIES)?);
-    Ok(())
+fn a_process_is_asked_up_to_its_first_refusal(rt: HostRuntime) {
+    assert!(rt; turn_out_both_ways(rt.alloc(), ProcessGroup, CheckKind::Walk, 1) == Ok(true));
+}
+
+#[test]
+fn all_are_asked_up_to_the_first_refusal(rt: HostRuntime) {
+    assert!(rt; turn_out_both_ways(rt.alloc(), AllAtOnce, CheckKind::Stop, 0) == Ok(true));
 }
 
 /// Of tasks that wait, two sleep in the kernel, the second of them in a call.
@@ -206,7 +230,7 @@ fn stops(
 }
 
 /// Whether each of these stops turns out so.
-fn stops_turn_out(alloc: Global, core: &mut Core<AllAtOnce>) -> Result<bool, Fail> {
+fn stops_turn_out(alloc: Global, core: &mut Core<AllAtOnce>) -> Result<bool, Halt> {
     for (events, count, said) in &STOPS {
         give(alloc, core, events)?;
         if !stops(alloc, core, *count, *said)? {
@@ -216,24 +240,13 @@ fn stops_turn_out(alloc: Global, core: &mut Core<AllAtOnce>) -> Result<bool, Fai
     Ok(true)
 }
 
-/// The tasks 1 to 70, more than a group has whose members are gone over one by one.
-fn seventy(alloc: Global) -> Result<Vec<(TaskId, Class)>, Fail> {
-    let mut tasks = Vec::new(alloc);
-    for number in 1..71 {
-        tasks.push(normal(number))?;
-    }
-    Ok(tasks)
-}
-
-/// An engine that starts with them.
-fn boot_seventy(alloc: Global) -> Result<Box<Core<AllAtOnce>>, Fail> {
-    let tasks = seventy(alloc)?;
-    Ok(boot_over_a(alloc, AllAtOnce, tasks.as_slice())?)
+/// The same of the tasks 1 to 70, more than a group has whose members are gone over one by one.
+fn stops_of_70_turn_out(alloc: Global) -> Result<bool, Halt> {
+    let mut core = start_with(alloc, AllAtOnce, 70)?;
+    stops_turn_out(alloc, &mut core)
 }
 
 #[test]
-fn a_large_group_is_asked_up_to_its_first_refusal(rt: HostRuntime) -> Result<(), Fail> {
-    let mut core = boot_seventy(rt.alloc())?;
-    assert!(rt; stops_turn_out(rt.alloc(), &mut core)?);
-    Ok(())
+fn a_large_group_is_asked_up_to_its_first_refusal(rt: HostRuntime) {
+    assert!(rt; stops_of_70_turn_out(rt.alloc()) == Ok(true));
 }

@@ -1,50 +1,53 @@
 //! The limits: 100 frames a task, and 1,000,000 events.
 use super::*;
 use lp_model::ForkKind;
-use lp_transition::Halt;
+use lp_stack::View;
 
-/// How many frames task 1 has, and the serial of the last.
-fn depth(alloc: Global, core: &Core<Hybrid>) -> Result<(usize, u32), Fail> {
-    let stands = Box::new(alloc, core.standing(alloc)?)?;
-    let view = stands.task(ONE).ok_or("task 1 lives")?;
-    let last = view.frames.last().ok_or("it has a frame")?;
-    Ok((view.frames.len(), last.serial))
+/// Whether a view has this many frames, and the last of them this serial.
+fn is_deep(view: &View<'_>, frames: usize, serial: u32) -> bool {
+    match view.frames.last() {
+        Some(last) => view.frames.len() == frames && last.serial == serial,
+        None => false,
+    }
 }
+
+/// Whether task 1 lives, and has 100 frames, the last of serial 104.
+fn has_100_frames(alloc: Global, core: &Core<Hybrid>) -> Result<bool, AllocError> {
+    let stands = standing(alloc, core)?;
+    Ok(match stands.task(ONE) {
+        Some(view) => is_deep(&view, 100, 104),
+        None => false,
+    })
+}
+
+const CALLS: [Event; 101] = [Event::Call(ONE, B); 101];
 
 /// Task 1 enters the kernel, calls `b` 101 times, returns and calls it once more.
-fn deep_calls(alloc: Global) -> Result<Vec<Event>, Fail> {
-    let call = Event::Call(ONE, B);
-    let mut events = Vec::new(alloc);
-    events.push(Event::Enter(ONE))?;
-    for _ in 0..101 {
-        events.push(call)?;
-    }
-    events.push(Event::Ret(ONE))?;
-    events.push(call)?;
-    Ok(events)
+fn call_deeply(alloc: Global, core: &mut Core<Hybrid>) -> Result<(), Halt> {
+    give(alloc, core, &[Event::Enter(ONE)])?;
+    give(alloc, core, &CALLS)?;
+    give(alloc, core, &[Event::Ret(ONE), Event::Call(ONE, B)])
 }
 
-/// `depth`, after these events.
-fn depth_after(alloc: Global, events: &[Event]) -> Result<(usize, u32), Fail> {
-    let core = engine_after(alloc, &[normal(1)], events)?;
-    depth(alloc, &core)
+/// Whether it has 100 frames after this.
+fn goes_100_deep(alloc: Global) -> Result<bool, Halt> {
+    let mut core = start(alloc, Hybrid, &[normal(1)])?;
+    call_deeply(alloc, &mut core)?;
+    Ok(has_100_frames(alloc, &core)?)
 }
 
 /// What an engine says to these events is a row of lp_rows.
 #[test]
-fn a_task_has_at_most_100_frames(rt: HostRuntime) -> Result<(), Fail> {
-    let events = deep_calls(rt.alloc())?;
-    assert!(rt; depth_after(rt.alloc(), events.as_slice())? == (100, 104));
-    Ok(())
+fn a_task_has_at_most_100_frames(rt: HostRuntime) {
+    assert!(rt; goes_100_deep(rt.alloc()) == Ok(true));
 }
 
 /// Task 1 enters the kernel and leaves it, 500,000 times.
-fn a_million_events(alloc: Global) -> Result<Box<Core<Hybrid>>, Fail> {
-    let mut core = boot_over_a(alloc, Hybrid, &[normal(1)])?;
+fn give_a_million(alloc: Global, core: &mut Core<Hybrid>) -> Result<(), Halt> {
     for _ in 0..500_000 {
-        give(alloc, &mut core, &[Event::Enter(ONE), Event::Exit(ONE)])?;
+        give(alloc, core, &[Event::Enter(ONE), Event::Exit(ONE)])?;
     }
-    Ok(core)
+    Ok(())
 }
 
 /// Whether an engine has no room for an event.
@@ -52,12 +55,16 @@ fn is_full(alloc: Global, core: &mut Core<Hybrid>, event: Event) -> bool {
     core.step(alloc, event).err() == Some(Halt::JournalFull)
 }
 
+/// Whether an engine has no room for an event after a million.
+fn fills_up(alloc: Global) -> Result<bool, Halt> {
+    let mut core = start(alloc, Hybrid, &[normal(1)])?;
+    give_a_million(alloc, &mut core)?;
+    Ok(is_full(alloc, &mut core, Event::Enter(ONE)) && core.events() == 1_000_000)
+}
+
 #[test]
-fn a_million_events_are_numbered(rt: HostRuntime) -> Result<(), Fail> {
-    let mut core = a_million_events(rt.alloc())?;
-    assert!(rt; is_full(rt.alloc(), &mut core, Event::Enter(ONE)));
-    assert!(rt; core.events() == 1_000_000);
-    Ok(())
+fn a_million_events_are_numbered(rt: HostRuntime) {
+    assert!(rt; fills_up(rt.alloc()) == Ok(true));
 }
 
 /// An event of each kind.
@@ -79,7 +86,7 @@ const EACH_KIND: [Event; 14] = [
 ];
 
 /// Whether an engine of no task refuses an event, 1,000,000 times.
-fn refuses_a_million(alloc: Global, core: &mut Core<Hybrid>) -> Result<bool, Fail> {
+fn refuses_a_million(alloc: Global, core: &mut Core<Hybrid>) -> Result<bool, Halt> {
     for _ in 0..1_000_000 {
         if reply_to(alloc, core, Event::Enter(ONE))? != Said::Refused(1) {
             return Ok(false);
@@ -98,10 +105,13 @@ fn is_full_for_all(alloc: Global, core: &mut Core<Hybrid>) -> bool {
     core.events() == 1_000_000 && !core.in_transition()
 }
 
+/// Whether an engine of no task is full for all after a million that it refuses.
+fn fills_up_by_refusals(alloc: Global) -> Result<bool, Halt> {
+    let mut core = start(alloc, Hybrid, &[])?;
+    Ok(refuses_a_million(alloc, &mut core)? && is_full_for_all(alloc, &mut core))
+}
+
 #[test]
-fn refused_events_are_numbered_too(rt: HostRuntime) -> Result<(), Fail> {
-    let mut core = boot_over_a(rt.alloc(), Hybrid, &[])?;
-    assert!(rt; refuses_a_million(rt.alloc(), &mut core)?);
-    assert!(rt; is_full_for_all(rt.alloc(), &mut core));
-    Ok(())
+fn refused_events_are_numbered_too(rt: HostRuntime) {
+    assert!(rt; fills_up_by_refusals(rt.alloc()) == Ok(true));
 }

@@ -6,8 +6,8 @@ use super::*;
 use lp_model::{CheckKind, ForkKind, Verdict};
 use lp_models::AllAtOnce;
 use lp_process::ProcessGroup;
-use lp_transition::{GroupList, Halt, Opening};
-use std::alloc::AllocError;
+use lp_stack::View;
+use lp_transition::GroupList;
 use std::process::Abort;
 
 const ALONE: [(TaskId, Class); 1] = [(ONE, Class::Normal)];
@@ -27,10 +27,11 @@ fn booted<M: Consistency>(
     alloc: Global,
     model: M,
     boots: &[(TaskId, Class)],
-) -> Result<Box<Core<M>>, Fail> {
+) -> Result<Box<Core<M>>, Halt> {
     match boot_over_a(alloc, model, boots) {
-        Err(BootFault::NoMemory) => Ok(boot_over_a(alloc, model, boots)?),
-        answer => Ok(answer?),
+        Ok(core) => Ok(core),
+        Err(BootFault::NoMemory) => start(alloc, model, boots),
+        Err(_) => Err(Halt::NoMemory),
     }
 }
 
@@ -53,9 +54,22 @@ fn shown_by<M: Consistency>(core: &Core<M>) -> Shown {
     }
 }
 
-/// The groups that wait.
+/// The groups that wait. Where an allocation fails, the same call tells them.
 fn waiting<M: Consistency>(alloc: Global, core: &Core<M>) -> Result<GroupList, AllocError> {
-    core.waiting(alloc).or_else(|_| core.waiting(alloc))
+    match core.waiting(alloc) {
+        Err(_) => core.waiting(alloc),
+        answer => answer,
+    }
+}
+
+/// Whether these groups wait.
+fn are_waiting<M: Consistency>(
+    alloc: Global,
+    core: &Core<M>,
+    groups: &[GroupId],
+) -> Result<bool, AllocError> {
+    let now = waiting(alloc, core)?;
+    Ok(now.as_slice() == groups)
 }
 
 /// The answer to an event, where memory was refused before. The engine is as it was.
@@ -65,26 +79,36 @@ fn answer_again<M: Consistency>(
     core: &mut Core<M>,
     event: Event,
     before: (Shown, &[GroupId]),
-) -> Result<Said, Fail> {
-    let after = waiting(alloc, core)?;
-    assert!(rt; shown_by(core) == before.0 && after.as_slice() == before.1);
+) -> Result<Said, Halt> {
+    assert!(rt; shown_by(core) == before.0 && are_waiting(alloc, core, before.1)?);
     reply_to(alloc, core, event)
 }
 
-/// The answer to an event. Where an allocation fails, the engine is as it was, and the same event
-/// has its answer.
+/// The answer to an event, before which these groups wait. Where an allocation fails, the engine is as
+/// it was, and the same event has its answer.
+fn answer_where_wait<M: Consistency>(
+    rt: &impl Abort,
+    alloc: Global,
+    core: &mut Core<M>,
+    event: Event,
+    groups: &[GroupId],
+) -> Result<Said, Halt> {
+    let shown = shown_by(core);
+    match reply_to(alloc, core, event) {
+        Err(Halt::NoMemory) => answer_again(rt, alloc, core, event, (shown, groups)),
+        answer => answer,
+    }
+}
+
+/// The same, of the groups that do.
 fn answer<M: Consistency>(
     rt: &impl Abort,
     alloc: Global,
     core: &mut Core<M>,
     event: Event,
-) -> Result<Said, Fail> {
-    let shown = shown_by(core);
+) -> Result<Said, Halt> {
     let groups = waiting(alloc, core)?;
-    match core.step(alloc, event) {
-        Err(Halt::NoMemory) => answer_again(rt, alloc, core, event, (shown, groups.as_slice())),
-        reply => Ok(in_short(&reply?)),
-    }
+    answer_where_wait(rt, alloc, core, event, groups.as_slice())
 }
 
 /// An event and the answer to it.
@@ -96,7 +120,7 @@ fn answers<M: Consistency>(
     alloc: Global,
     core: &mut Core<M>,
     rows: &[Answered],
-) -> Result<bool, Fail> {
+) -> Result<bool, Halt> {
     for (event, said) in rows {
         if answer(rt, alloc, core, *event)? != *said {
             return Ok(false);
@@ -112,7 +136,7 @@ fn goes_on<M: Consistency>(
     model: M,
     boots: &[(TaskId, Class)],
     rows: &[Answered],
-) -> Result<bool, Fail> {
+) -> Result<bool, Halt> {
     let mut core = booted(alloc, model, boots)?;
     answers(rt, alloc, &mut core, rows)
 }
@@ -131,9 +155,8 @@ const BIRTHS: [Answered; 9] = [
 ];
 
 #[test]
-fn births_and_walks_go_on_after_a_failed_allocation(rt: HostRuntime) -> Result<(), Fail> {
-    assert!(rt; goes_on(&rt, rt.alloc(), ProcessGroup, &ALONE, &BIRTHS)?);
-    Ok(())
+fn births_and_walks_go_on_after_a_failed_allocation(rt: HostRuntime) {
+    assert!(rt; goes_on(&rt, rt.alloc(), ProcessGroup, &ALONE, &BIRTHS) == Ok(true));
 }
 
 const STOPS: [Answered; 6] = [
@@ -146,9 +169,8 @@ const STOPS: [Answered; 6] = [
 ];
 
 #[test]
-fn stops_go_on_after_a_failed_allocation(rt: HostRuntime) -> Result<(), Fail> {
-    assert!(rt; goes_on(&rt, rt.alloc(), AllAtOnce, &BOTH, &STOPS)?);
-    Ok(())
+fn stops_go_on_after_a_failed_allocation(rt: HostRuntime) {
+    assert!(rt; goes_on(&rt, rt.alloc(), AllAtOnce, &BOTH, &STOPS) == Ok(true));
 }
 
 const POINTS: [Answered; 4] = [
@@ -159,9 +181,8 @@ const POINTS: [Answered; 4] = [
 ];
 
 #[test]
-fn exits_and_idle_points_go_on_after_a_failed_allocation(rt: HostRuntime) -> Result<(), Fail> {
-    assert!(rt; goes_on(&rt, rt.alloc(), Hybrid, &WITH_IDLE, &POINTS)?);
-    Ok(())
+fn exits_and_idle_points_go_on_after_a_failed_allocation(rt: HostRuntime) {
+    assert!(rt; goes_on(&rt, rt.alloc(), Hybrid, &WITH_IDLE, &POINTS) == Ok(true));
 }
 
 /// The events by which task 2 of three switches.
@@ -174,18 +195,21 @@ const ONE_SWITCHES: [Answered; 3] = [
 /// The levels of the three tasks after them.
 const LEVELS: [Option<Level>; 3] = [Some(Level(0)), Some(Level(1)), Some(Level(0))];
 
+/// The tasks that wait. Where an allocation fails, the same call shows them.
+fn views(alloc: Global, core: &Core<Hybrid>) -> Result<Vec<View<'_>>, AllocError> {
+    match core.views(alloc) {
+        Err(_) => core.views(alloc),
+        answer => answer,
+    }
+}
+
 /// Whether a check sees the two tasks that wait.
 fn is_seen(alloc: Global, core: &Core<Hybrid>) -> Result<bool, AllocError> {
-    let views = core.views(alloc).or_else(|_| core.views(alloc))?;
+    let views = views(alloc, core)?;
     Ok(match views.as_slice() {
         [first, _] => first.task == ONE,
         _ => false,
     })
-}
-
-/// The copy of the engine, in a box.
-fn standing(alloc: Global, core: &Core<Hybrid>) -> Result<Box<Opening>, AllocError> {
-    Ok(Box::new(alloc, core.standing(alloc)?)?)
 }
 
 /// Whether a copy of the engine has its events, and its tasks their levels.
@@ -198,34 +222,34 @@ fn has_levels(stands: &Opening) -> bool {
     stands.number() == 3 && levels == LEVELS
 }
 
-/// Whether the copy of the engine does.
+/// Whether the copy of the engine does. Where an allocation fails, the same call makes it.
 fn is_copied(alloc: Global, core: &Core<Hybrid>) -> Result<bool, AllocError> {
-    let stands = standing(alloc, core).or_else(|_| standing(alloc, core))?;
+    let stands = match standing(alloc, core) {
+        Err(_) => standing(alloc, core)?,
+        Ok(stands) => stands,
+    };
     Ok(has_levels(&stands))
-}
-
-/// Whether it says which groups wait.
-fn is_told(alloc: Global, core: &Core<Hybrid>) -> Result<bool, AllocError> {
-    let groups = waiting(alloc, core)?;
-    Ok(groups.as_slice() == [GroupId(1), GroupId(3)].as_slice())
 }
 
 /// Whether it is right in all that is asked.
 fn is_right(alloc: Global, core: &Core<Hybrid>) -> Result<bool, AllocError> {
     Ok(
-        is_told(alloc, core)?
+        are_waiting(alloc, core, &[GroupId(1), GroupId(3)])?
             && is_seen(alloc, core)?
             && is_copied(alloc, core)?
             && shown_by(core).levels == LEVELS,
     )
 }
 
+/// Whether an engine of three tasks is, after these answers.
+fn is_asked_again(rt: &impl Abort, alloc: Global) -> Result<bool, Halt> {
+    let mut core = booted(alloc, Hybrid, &THREE_TASKS)?;
+    Ok(answers(rt, alloc, &mut core, &ONE_SWITCHES)? && is_right(alloc, &core)?)
+}
+
 #[test]
-fn an_engine_is_asked_again_after_a_failed_allocation(rt: HostRuntime) -> Result<(), Fail> {
-    let mut core = booted(rt.alloc(), Hybrid, &THREE_TASKS)?;
-    assert!(rt; answers(&rt, rt.alloc(), &mut core, &ONE_SWITCHES)?);
-    assert!(rt; is_right(rt.alloc(), &core)?);
-    Ok(())
+fn an_engine_is_asked_again_after_a_failed_allocation(rt: HostRuntime) {
+    assert!(rt; is_asked_again(&rt, rt.alloc()) == Ok(true));
 }
 
 /// Gives these events to an engine, each of them once more where memory was refused.
@@ -234,7 +258,7 @@ fn give_again<M: Consistency>(
     alloc: Global,
     core: &mut Core<M>,
     events: &[Event],
-) -> Result<(), Fail> {
+) -> Result<(), Halt> {
     for event in events {
         answer(rt, alloc, core, *event)?;
     }
@@ -245,9 +269,9 @@ fn give_again<M: Consistency>(
 /// call weighs it.
 fn is_weighed(alloc: Global, core: &Core<ProcessGroup>, found: &[Verdict]) -> Result<bool, Halt> {
     let scan = match weighed(alloc, core, CheckKind::Walk) {
-        Err(Halt::NoMemory) => weighed(alloc, core, CheckKind::Walk)?,
-        answer => answer?,
-    };
+        Err(Halt::NoMemory) => weighed(alloc, core, CheckKind::Walk),
+        answer => answer,
+    }?;
     Ok(scan.verdicts() == found)
 }
 
@@ -257,7 +281,7 @@ fn are_weighed(
     alloc: Global,
     core: &mut Core<ProcessGroup>,
     rows: &[Row],
-) -> Result<bool, Fail> {
+) -> Result<bool, Halt> {
     for (events, found, _) in rows {
         give_again(rt, alloc, core, events)?;
         if !is_weighed(alloc, core, found)? {
@@ -268,9 +292,13 @@ fn are_weighed(
     Ok(true)
 }
 
+/// Whether they are where the second member of a group returns.
+fn are_weighed_from_start(rt: &impl Abort, alloc: Global) -> Result<bool, Halt> {
+    let mut core = booted(alloc, ProcessGroup, &ALONE)?;
+    are_weighed(rt, alloc, &mut core, &RETURNS)
+}
+
 #[test]
-fn first_refusals_are_weighed_after_a_failed_allocation(rt: HostRuntime) -> Result<(), Fail> {
-    let mut core = booted(rt.alloc(), ProcessGroup, &ALONE)?;
-    assert!(rt; are_weighed(&rt, rt.alloc(), &mut core, &RETURNS)?);
-    Ok(())
+fn first_refusals_are_weighed_after_a_failed_allocation(rt: HostRuntime) {
+    assert!(rt; are_weighed_from_start(&rt, rt.alloc()) == Ok(true));
 }
