@@ -29,12 +29,17 @@ fn none(alloc: Global) -> Result<Box<Symbols>, SymFault> {
 
 const THREE: [&str; 3] = ["a", "b", "c"];
 
-/// The symbols `a`, `b` and `c`.
-fn three(alloc: Global) -> Result<Box<Symbols>, SymFault> {
-    let mut symbols = none(alloc)?;
+fn add_three(symbols: &mut Symbols) -> Result<(), SymFault> {
     for name in &THREE {
         symbols.add(*name)?;
     }
+    Ok(())
+}
+
+/// The symbols `a`, `b` and `c`.
+fn three(alloc: Global) -> Result<Box<Symbols>, SymFault> {
+    let mut symbols = none(alloc)?;
+    add_three(&mut symbols)?;
     Ok(symbols)
 }
 

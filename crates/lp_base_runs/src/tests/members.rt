@@ -165,28 +165,33 @@ fn is_copied_again(
     members: &Members,
 ) -> Result<bool, AllocError> {
     let copied = match copy_of(alloc, members) {
-        Err(_) => copy_of(alloc, members)?,
-        Ok(copied) => copied,
-    };
+        Err(_) => copy_of(alloc, members),
+        answer => answer,
+    }?;
     Ok(are_in(set, &copied))
 }
 
-/// Whether members and their copy are those. Where an allocation fails there are none, and the same
-/// call makes them.
+/// Whether these members and their copy are those.
+fn are_in_both(alloc: Global, set: &mut NumberSet, members: &Members) -> Result<bool, AllocError> {
+    Ok(are_in(set, members) && is_copied_again(alloc, set, members)?)
+}
+
+/// Whether the five and their copy are. Where an allocation fails there are none, and the same call
+/// makes them.
 fn are_made_again(alloc: Global, set: &mut NumberSet) -> Result<bool, AllocError> {
     let members = match five(alloc) {
-        Err(_) => five(alloc)?,
-        Ok(members) => members,
-    };
-    Ok(are_in(set, &members) && is_copied_again(alloc, set, &members)?)
+        Err(_) => five(alloc),
+        answer => answer,
+    }?;
+    are_in_both(alloc, set, &members)
 }
 
 /// Whether they are, told by a set that is made likewise.
 fn are_all_made_again(alloc: Global) -> Result<bool, AllocError> {
     let mut set = match no_numbers(alloc) {
-        Err(_) => no_numbers(alloc)?,
-        Ok(set) => set,
-    };
+        Err(_) => no_numbers(alloc),
+        answer => answer,
+    }?;
     are_made_again(alloc, &mut set)
 }
 

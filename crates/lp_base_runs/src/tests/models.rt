@@ -81,7 +81,9 @@ const ON_A_CPU: Blamed = [
 ];
 
 /// A task with these calls in a mode, and what each of the four blames it for.
-const BLAMED: [(Mode, &[SymId], &Blamed); 4] = [
+type Row<'a> = (Mode, &'a [SymId], &'a Blamed);
+
+const BLAMED: [Row<'static>; 4] = [
     (Mode::Asleep, &[C], &ASLEEP_IN_C),
     (Mode::Asleep, &[A, C], &ASLEEP_IN_A),
     (Mode::User, &[], &ON_A_CPU),
@@ -98,19 +100,15 @@ fn each_blames(aim: &Aim<'_>, task: &TaskStack, want: &Blamed) -> bool {
 }
 
 /// Whether a row of `BLAMED` is right.
-fn is_right(
-    alloc: Global,
-    aim: &Aim<'_>,
-    row: &(Mode, &[SymId], &Blamed),
-) -> Result<bool, AllocError> {
+fn is_right(alloc: Global, aim: &Aim<'_>, row: &Row<'_>) -> Result<bool, AllocError> {
     let (mode, funcs, want) = *row;
     let task = task_in(alloc, mode, funcs)?;
     Ok(each_blames(aim, &task, want))
 }
 
-/// Whether each row is.
-fn are_right(alloc: Global, aim: &Aim<'_>) -> Result<bool, AllocError> {
-    for row in &BLAMED {
+/// Whether each of these rows is.
+fn are_right(alloc: Global, aim: &Aim<'_>, rows: &[Row<'_>]) -> Result<bool, AllocError> {
+    for row in rows {
         if !is_right(alloc, aim, row)? {
             return Ok(false);
         }
@@ -124,7 +122,9 @@ fn models_blame_frames_and_cpus(rt: HostRuntime) {
 }
 
 /// A task with these calls in a mode, and what process-group blames it for at each kind of check.
-const BLAMED_IN_A_GROUP: [(Mode, &[SymId], Blames); 4] = [
+type GroupRow<'a> = (Mode, &'a [SymId], Blames);
+
+const BLAMED_IN_A_GROUP: [GroupRow<'static>; 4] = [
     (Mode::User, &[], [None, None, None, UNUSED]),
     (Mode::Kernel, &[], [None, None, BUSY, UNUSED]),
     (Mode::Asleep, &[], [None, None, None, UNUSED]),
@@ -135,15 +135,19 @@ const BLAMED_IN_A_GROUP: [(Mode, &[SymId], Blames); 4] = [
 fn is_right_in_a_group(
     alloc: Global,
     aim: &Aim<'_>,
-    row: &(Mode, &[SymId], Blames),
+    row: &GroupRow<'_>,
 ) -> Result<bool, AllocError> {
     let task = task_in(alloc, row.0, row.1)?;
     Ok(are_blamed(ProcessGroup, aim, &task, &row.2))
 }
 
-/// Whether each row is.
-fn are_right_in_a_group(alloc: Global, aim: &Aim<'_>) -> Result<bool, AllocError> {
-    for row in &BLAMED_IN_A_GROUP {
+/// Whether each of these rows is.
+fn are_right_in_a_group(
+    alloc: Global,
+    aim: &Aim<'_>,
+    rows: &[GroupRow<'_>],
+) -> Result<bool, AllocError> {
+    for row in rows {
         if !is_right_in_a_group(alloc, aim, row)? {
             return Ok(false);
         }
@@ -157,7 +161,9 @@ fn process_group_blames_frames_and_the_kernel(rt: HostRuntime) {
 }
 
 /// Calls of a task, and the serial of the lowest that is stale.
-const LOWEST: [([SymId; 3], Option<u64>); 4] = [
+type LowestRow = ([SymId; 3], Option<u64>);
+
+const LOWEST: [LowestRow; 4] = [
     ([C, C, C], None),
     ([C, A, C], Some(3)),
     ([C, A, A], Some(3)),
@@ -165,18 +171,14 @@ const LOWEST: [([SymId; 3], Option<u64>); 4] = [
 ];
 
 /// Whether a row of `LOWEST` is right.
-fn is_lowest(
-    alloc: Global,
-    aim: &Aim<'_>,
-    row: &([SymId; 3], Option<u64>),
-) -> Result<bool, AllocError> {
+fn is_lowest(alloc: Global, aim: &Aim<'_>, row: &LowestRow) -> Result<bool, AllocError> {
     let task = task_in(alloc, Mode::User, &row.0)?;
     Ok(lowest_stale(&task.view(), aim) == row.1)
 }
 
-/// Whether each row is.
-fn are_lowest(alloc: Global, aim: &Aim<'_>) -> Result<bool, AllocError> {
-    for row in &LOWEST {
+/// Whether each of these rows is.
+fn are_lowest(alloc: Global, aim: &Aim<'_>, rows: &[LowestRow]) -> Result<bool, AllocError> {
+    for row in rows {
         if !is_lowest(alloc, aim, row)? {
             return Ok(false);
         }
@@ -195,9 +197,9 @@ enum Table {
 /// Whether each row of a table is right.
 fn is_table_right(alloc: Global, aim: &Aim<'_>, table: Table) -> Result<bool, AllocError> {
     match table {
-        Table::Blamed => are_right(alloc, aim),
-        Table::BlamedInAGroup => are_right_in_a_group(alloc, aim),
-        Table::Lowest => are_lowest(alloc, aim),
+        Table::Blamed => are_right(alloc, aim, &BLAMED),
+        Table::BlamedInAGroup => are_right_in_a_group(alloc, aim, &BLAMED_IN_A_GROUP),
+        Table::Lowest => are_lowest(alloc, aim, &LOWEST),
     }
 }
 

@@ -127,15 +127,16 @@ fn is_stack_copied(alloc: Global, stack: &PatchStack) -> Result<bool, PatchFault
     Ok(copy.same(stack))
 }
 
-/// Whether a stack of three patches over three symbols runs them.
-fn runs_three(stack: &PatchStack) -> bool {
-    stack.patches() == Level(3) && stack.symbols() == 3 && run_at_each(stack)
+/// Whether a stack of three patches over three symbols runs them, and is copied.
+fn runs_three(alloc: Global, stack: &PatchStack) -> Result<bool, PatchFault> {
+    let whole = stack.patches() == Level(3) && stack.symbols() == 3 && run_at_each(stack);
+    Ok(whole && is_stack_copied(alloc, stack)?)
 }
 
-/// Whether one of `a`, `b` and `a` does, and is copied.
+/// Whether one of `a`, `b` and `a` does.
 fn three_run(alloc: Global) -> Result<bool, PatchFault> {
     let stack = stacked(alloc, &[A, B, A])?;
-    Ok(runs_three(&stack) && is_stack_copied(alloc, &stack)?)
+    runs_three(alloc, &stack)
 }
 
 #[test]
@@ -202,9 +203,9 @@ fn a_stack_has_1_to_16_patches(rt: HostRuntime) {
 /// none, and the same call makes it.
 fn is_copied_again(alloc: Global, set: &PatchSet) -> Result<bool, PatchFault> {
     let copied = match is_copied(alloc, set) {
-        Err(PatchFault::NoMemory) => is_copied(alloc, set)?,
-        answer => answer?,
-    };
+        Err(PatchFault::NoMemory) => is_copied(alloc, set),
+        answer => answer,
+    }?;
     Ok(copied && has_c_and_a(set))
 }
 
@@ -212,9 +213,9 @@ fn is_copied_again(alloc: Global, set: &PatchSet) -> Result<bool, PatchFault> {
 /// makes it.
 fn builds_and_copies(alloc: Global, symbols: &Symbols) -> Result<bool, PatchFault> {
     let set = match patch_of(alloc, symbols, &[C, A]) {
-        Err(PatchFault::NoMemory) => patch_of(alloc, symbols, &[C, A])?,
-        answer => answer?,
-    };
+        Err(PatchFault::NoMemory) => patch_of(alloc, symbols, &[C, A]),
+        answer => answer,
+    }?;
     is_copied_again(alloc, &set)
 }
 
@@ -228,18 +229,18 @@ fn builds_again_after_a_failed_allocation(rt: HostRuntime) {
 /// Whether the stack of `a`, then `b`, runs these, in a copy too, as `is_copied_again` has it.
 fn is_stack_copied_again(alloc: Global, stack: &PatchStack) -> Result<bool, PatchFault> {
     let copied = match is_stack_copied(alloc, stack) {
-        Err(PatchFault::NoMemory) => is_stack_copied(alloc, stack)?,
-        answer => answer?,
-    };
+        Err(PatchFault::NoMemory) => is_stack_copied(alloc, stack),
+        answer => answer,
+    }?;
     Ok(copied && runs(stack, Level(2), 1, 2))
 }
 
 /// Likewise for a stack. The refused call has taken the patches, so they are built anew.
 fn stacks_and_copies(alloc: Global, symbols: &Symbols) -> Result<bool, PatchFault> {
     let stack = match stacked_over(alloc, symbols, &[A, B]) {
-        Err(PatchFault::NoMemory) => stacked_over(alloc, symbols, &[A, B])?,
-        answer => answer?,
-    };
+        Err(PatchFault::NoMemory) => stacked_over(alloc, symbols, &[A, B]),
+        answer => answer,
+    }?;
     is_stack_copied_again(alloc, &stack)
 }
 

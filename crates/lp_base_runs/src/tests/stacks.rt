@@ -68,19 +68,25 @@ fn is_as_it_was(stack: &TaskStack, kept: &ViewCopy) -> bool {
         && stack.view().class == Class::Idle
 }
 
-/// Whether a view is kept while the task changes.
-fn is_kept(alloc: Global, stack: &mut TaskStack) -> Result<bool, AllocError> {
-    let kept = Box::new(alloc, ViewCopy::of(&stack.view()))?;
-    Ok(tells_modes(stack, &kept) && tells_frames(stack, &kept) && is_as_it_was(stack, &kept))
+/// Whether a view stays what it was, and tells each change of the task.
+fn stays(stack: &mut TaskStack, kept: &ViewCopy) -> bool {
+    tells_modes(stack, kept) && tells_frames(stack, kept) && is_as_it_was(stack, kept)
 }
 
-/// Whether one is of a task that gets its first frame.
-fn is_kept_of_one(alloc: Global) -> Result<bool, AllocError> {
+/// Whether a view is kept while the task changes, which gets its first frame before.
+fn is_kept(alloc: Global, stack: &mut TaskStack) -> Result<bool, AllocError> {
+    let first = has_its_first_frame(stack);
+    let kept = Box::new(alloc, ViewCopy::of(&stack.view()))?;
+    Ok(first && stays(stack, &kept))
+}
+
+/// Whether one is of a new task.
+fn is_kept_of_a_task(alloc: Global) -> Result<bool, AllocError> {
     let mut stack = in_kernel(alloc, Class::Idle)?;
-    Ok(has_its_first_frame(&mut stack) && is_kept(alloc, &mut stack)?)
+    is_kept(alloc, &mut stack)
 }
 
 #[test]
 fn keeps_a_view(rt: HostRuntime) {
-    assert!(rt; is_kept_of_one(rt.alloc()) == Ok(true));
+    assert!(rt; is_kept_of_a_task(rt.alloc()) == Ok(true));
 }

@@ -41,11 +41,16 @@ fn taken(alloc: Global, names: &[&str]) -> Result<usize, SymFault> {
     Ok(symbols.len())
 }
 
-/// Whether an empty list calls each of these names bad, and keeps nothing of it.
+/// Whether an empty list calls a name bad, and keeps nothing of it.
+fn is_bad(symbols: &mut Symbols, name: &str) -> bool {
+    symbols.add(name) == Err(SymFault::BadName) && symbols.is_empty()
+}
+
+/// Whether it does so with each of these.
 fn are_bad(alloc: Global, names: &[&str]) -> Result<bool, SymFault> {
     let mut symbols = none(alloc)?;
     for name in names {
-        if symbols.add(name) != Err(SymFault::BadName) || !symbols.is_empty() {
+        if !is_bad(&mut symbols, name) {
             return Ok(false);
         }
     }
@@ -97,15 +102,20 @@ fn is_full(symbols: &mut Symbols) -> bool {
         && symbols.find("f4095") == Some(SymId(4_095))
 }
 
-/// Whether an empty list takes 4,096 names, and is full then.
-fn fills_up(alloc: Global) -> Result<bool, SymFault> {
+/// Whether these take 4,096 names, and are full then.
+fn fill_up(alloc: Global, symbols: &mut Symbols) -> Result<bool, SymFault> {
+    Ok(fill(alloc, symbols)? && is_full(symbols))
+}
+
+/// Whether an empty list does.
+fn none_fill_up(alloc: Global) -> Result<bool, SymFault> {
     let mut symbols = none(alloc)?;
-    Ok(fill(alloc, &mut symbols)? && is_full(&mut symbols))
+    fill_up(alloc, &mut symbols)
 }
 
 #[test]
 fn refuses_in_order_where_4096_names_are_there(rt: HostRuntime) {
-    assert!(rt; fills_up(rt.alloc()) == Ok(true));
+    assert!(rt; none_fill_up(rt.alloc()) == Ok(true));
 }
 
 /// The number that a name is given. Where an allocation fails, nothing changes, and the same call adds it.
