@@ -104,6 +104,11 @@ fn scan_of(kind: CheckKind) -> Event {
     }
 }
 
+/// Whether a scan has these verdicts.
+fn has_found(scan: &Step, kind: CheckKind, found: &[Verdict]) -> bool {
+    scan.event() == scan_of(kind) && scan.verdicts() == found
+}
+
 /// Whether a scan by first refusals, which is then taken, has these verdicts, and says this.
 fn scans_in_part<M: Consistency>(
     alloc: Global,
@@ -115,8 +120,9 @@ fn scans_in_part<M: Consistency>(
     requires { is_scan_kind kind ≡ true }
 {
     let scan = weighed(alloc, core, kind)?;
-    let right = scan.event() == scan_of(kind) && scan.verdicts() == found;
-    Ok(in_short(&core.take(scan)) == said && right)
+    let right = has_found(&scan, kind, found);
+    let told = in_short(&core.take(scan));
+    Ok(right && told == said)
 }
 
 /// Whether it does, and says what one does that looks at every member.
@@ -142,7 +148,21 @@ fn said_of(group: u16, switches: bool) -> Said {
     }
 }
 
-/// Whether each of these rows turns out so, for the group of task 1.
+/// Whether a row turns out so, for the group of task 1.
+fn turns_out<M: Consistency>(
+    alloc: Global,
+    core: &mut Core<M>,
+    kind: CheckKind,
+    group: u16,
+    row: &Row,
+) -> Result<bool, Halt>
+    requires { is_scan_kind kind ≡ true }
+{
+    give(alloc, core, row.0)?;
+    scans(alloc, core, kind, row.1, said_of(group, row.2))
+}
+
+/// Whether each of these rows does.
 fn turn_out<M: Consistency>(
     alloc: Global,
     core: &mut Core<M>,
@@ -152,9 +172,8 @@ fn turn_out<M: Consistency>(
 ) -> Result<bool, Halt>
     requires { is_scan_kind kind ≡ true }
 {
-    for (events, found, switches) in rows {
-        give(alloc, core, events)?;
-        if !scans(alloc, core, kind, found, said_of(group, *switches))? {
+    for row in rows {
+        if !turns_out(alloc, core, kind, group, row)? {
             return Ok(false);
         }
     }
@@ -171,7 +190,7 @@ fn turn_out_from_start<M: Consistency>(
 ) -> Result<bool, Halt>
     requires { is_scan_kind kind ≡ true }
 {
-    let mut core = start(alloc, model, &[normal(1)])?;
+    let mut core = start_with(alloc, model, 1)?;
     turn_out(alloc, &mut core, kind, group, rows)
 }
 
@@ -226,7 +245,8 @@ fn stops(
 ) -> Result<bool, Halt> {
     let scan = weighed(alloc, core, CheckKind::Stop)?;
     let right = scan.verdicts().len() == count;
-    Ok(in_short(&core.take(scan)) == said && right)
+    let told = in_short(&core.take(scan));
+    Ok(right && told == said)
 }
 
 /// Whether each of these stops turns out so.

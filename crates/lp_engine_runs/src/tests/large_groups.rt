@@ -26,25 +26,43 @@ fn looks_after(alloc: Global, core: &mut Core<AllAtOnce>, event: Event) -> Resul
     Ok(looked_at)
 }
 
-/// Whether stops look at so many tasks, each after one event. The first knows nothing, and at the last one
-/// all switch.
-fn look(alloc: Global, core: &mut Core<AllAtOnce>, all: usize) -> Result<bool, Halt> {
-    Ok(
-        looks_after(alloc, core, Event::Wake(ONE))? == all
-            && looks_after(alloc, core, Event::Enter(THREE))? == 1
-            && looks_after(alloc, core, Event::Sleep(ONE))? == 2
-            && looks_after(alloc, core, Event::Ret(TWO))? == all,
-    )
+/// An event, and at how many tasks a stop looks after it.
+type Look = (Event, usize);
+
+/// The looks in a group of three. The first knows nothing, and at the last one all switch.
+const IN_A_GROUP_OF_3: [Look; 4] = [
+    (Event::Wake(ONE), 3),
+    (Event::Enter(THREE), 1),
+    (Event::Sleep(ONE), 2),
+    (Event::Ret(TWO), 3),
+];
+
+/// Likewise in one of a hundred.
+const IN_A_GROUP_OF_100: [Look; 4] = [
+    (Event::Wake(ONE), 100),
+    (Event::Enter(THREE), 1),
+    (Event::Sleep(ONE), 2),
+    (Event::Ret(TWO), 100),
+];
+
+/// Whether stops look at so many tasks.
+fn look(alloc: Global, core: &mut Core<AllAtOnce>, looks: &[Look]) -> Result<bool, Halt> {
+    for (event, count) in looks {
+        if looks_after(alloc, core, *event)? != *count {
+            return Ok(false);
+        }
+    }
+    Ok(true)
 }
 
 /// The same of a group of so many.
-fn look_in_a_group(alloc: Global, count: u16) -> Result<bool, Halt> {
+fn look_in_a_group(alloc: Global, count: u16, looks: &[Look]) -> Result<bool, Halt> {
     let mut core = held_group(alloc, count)?;
-    look(alloc, &mut core, usize::from(count))
+    look(alloc, &mut core, looks)
 }
 
 #[test]
 fn a_group_is_asked_up_to_its_first_refusal(rt: HostRuntime) {
-    assert!(rt; look_in_a_group(rt.alloc(), 3) == Ok(true));
-    assert!(rt; look_in_a_group(rt.alloc(), 100) == Ok(true));
+    assert!(rt; look_in_a_group(rt.alloc(), 3, &IN_A_GROUP_OF_3) == Ok(true));
+    assert!(rt; look_in_a_group(rt.alloc(), 100, &IN_A_GROUP_OF_100) == Ok(true));
 }

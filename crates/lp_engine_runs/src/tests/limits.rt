@@ -30,22 +30,29 @@ fn call_deeply(alloc: Global, core: &mut Core<Hybrid>) -> Result<(), Halt> {
 }
 
 /// Whether it has 100 frames after this.
-fn goes_100_deep(alloc: Global) -> Result<bool, Halt> {
-    let mut core = start(alloc, Hybrid, &[normal(1)])?;
-    call_deeply(alloc, &mut core)?;
-    Ok(has_100_frames(alloc, &core)?)
+fn goes_100_deep(alloc: Global, core: &mut Core<Hybrid>) -> Result<bool, Halt> {
+    call_deeply(alloc, core)?;
+    Ok(has_100_frames(alloc, core)?)
+}
+
+/// Whether an engine of task 1 does.
+fn calls_100_deep(alloc: Global) -> Result<bool, Halt> {
+    let mut core = start_with(alloc, Hybrid, 1)?;
+    goes_100_deep(alloc, &mut core)
 }
 
 /// What an engine says to these events is a row of lp_rows.
 #[test]
 fn a_task_has_at_most_100_frames(rt: HostRuntime) {
-    assert!(rt; goes_100_deep(rt.alloc()) == Ok(true));
+    assert!(rt; calls_100_deep(rt.alloc()) == Ok(true));
 }
+
+const ENTER_AND_EXIT: [Event; 2] = [Event::Enter(ONE), Event::Exit(ONE)];
 
 /// Task 1 enters the kernel and leaves it, 500,000 times.
 fn give_a_million(alloc: Global, core: &mut Core<Hybrid>) -> Result<(), Halt> {
     for _ in 0..500_000 {
-        give(alloc, core, &[Event::Enter(ONE), Event::Exit(ONE)])?;
+        give(alloc, core, &ENTER_AND_EXIT)?;
     }
     Ok(())
 }
@@ -56,10 +63,15 @@ fn is_full(alloc: Global, core: &mut Core<Hybrid>, event: Event) -> bool {
 }
 
 /// Whether an engine has no room for an event after a million.
+fn is_filled(alloc: Global, core: &mut Core<Hybrid>) -> Result<bool, Halt> {
+    give_a_million(alloc, core)?;
+    Ok(is_full(alloc, core, Event::Enter(ONE)) && core.events() == 1_000_000)
+}
+
+/// Whether an engine of task 1 has none.
 fn fills_up(alloc: Global) -> Result<bool, Halt> {
-    let mut core = start(alloc, Hybrid, &[normal(1)])?;
-    give_a_million(alloc, &mut core)?;
-    Ok(is_full(alloc, &mut core, Event::Enter(ONE)) && core.events() == 1_000_000)
+    let mut core = start_with(alloc, Hybrid, 1)?;
+    is_filled(alloc, &mut core)
 }
 
 #[test]

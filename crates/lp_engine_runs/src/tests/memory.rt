@@ -72,15 +72,25 @@ fn are_waiting<M: Consistency>(
     Ok(now.as_slice() == groups)
 }
 
+/// Whether an engine shows this, and these groups wait.
+fn is_as_it_was<M: Consistency>(
+    alloc: Global,
+    core: &Core<M>,
+    shown: &Shown,
+    groups: &[GroupId],
+) -> Result<bool, AllocError> {
+    Ok(shown_by(core) == *shown && are_waiting(alloc, core, groups)?)
+}
+
 /// The answer to an event, where memory was refused before. The engine is as it was.
 fn answer_again<M: Consistency>(
     rt: &impl Abort,
     alloc: Global,
     core: &mut Core<M>,
     event: Event,
-    before: (Shown, &[GroupId]),
+    before: (&Shown, &[GroupId]),
 ) -> Result<Said, Halt> {
-    assert!(rt; shown_by(core) == before.0 && are_waiting(alloc, core, before.1)?);
+    assert!(rt; is_as_it_was(alloc, core, before.0, before.1)?);
     reply_to(alloc, core, event)
 }
 
@@ -95,7 +105,7 @@ fn answer_where_wait<M: Consistency>(
 ) -> Result<Said, Halt> {
     let shown = shown_by(core);
     match reply_to(alloc, core, event) {
-        Err(Halt::NoMemory) => answer_again(rt, alloc, core, event, (shown, groups)),
+        Err(Halt::NoMemory) => answer_again(rt, alloc, core, event, (&shown, groups)),
         answer => answer,
     }
 }
@@ -241,10 +251,15 @@ fn is_right(alloc: Global, core: &Core<Hybrid>) -> Result<bool, AllocError> {
     )
 }
 
-/// Whether an engine of three tasks is, after these answers.
+/// Whether it is, after the events by which task 2 switches.
+fn is_right_after(rt: &impl Abort, alloc: Global, core: &mut Core<Hybrid>) -> Result<bool, Halt> {
+    Ok(answers(rt, alloc, core, &ONE_SWITCHES)? && is_right(alloc, core)?)
+}
+
+/// Whether an engine of three tasks is.
 fn is_asked_again(rt: &impl Abort, alloc: Global) -> Result<bool, Halt> {
     let mut core = booted(alloc, Hybrid, &THREE_TASKS)?;
-    Ok(answers(rt, alloc, &mut core, &ONE_SWITCHES)? && is_right(alloc, &core)?)
+    is_right_after(rt, alloc, &mut core)
 }
 
 #[test]
@@ -275,19 +290,30 @@ fn is_weighed(alloc: Global, core: &Core<ProcessGroup>, found: &[Verdict]) -> Re
     Ok(scan.verdicts() == found)
 }
 
-/// Whether each of these walks, before it is taken, is weighed so.
+/// Whether a walk after the events of a row, before it is taken, is weighed so.
+fn is_weighed_after(
+    rt: &impl Abort,
+    alloc: Global,
+    core: &mut Core<ProcessGroup>,
+    row: &Row,
+) -> Result<bool, Halt> {
+    give_again(rt, alloc, core, row.0)?;
+    let right = is_weighed(alloc, core, row.1)?;
+    answer(rt, alloc, core, Event::Walk)?;
+    Ok(right)
+}
+
+/// Whether each of these walks is.
 fn are_weighed(
     rt: &impl Abort,
     alloc: Global,
     core: &mut Core<ProcessGroup>,
     rows: &[Row],
 ) -> Result<bool, Halt> {
-    for (events, found, _) in rows {
-        give_again(rt, alloc, core, events)?;
-        if !is_weighed(alloc, core, found)? {
+    for row in rows {
+        if !is_weighed_after(rt, alloc, core, row)? {
             return Ok(false);
         }
-        answer(rt, alloc, core, Event::Walk)?;
     }
     Ok(true)
 }

@@ -53,11 +53,16 @@ fn walks_on(alloc: Global, core: &mut Core<Hybrid>, wanted: (usize, bool)) -> Re
     Ok(seen == wanted && open_walk(alloc, core)? == Said::Done)
 }
 
+/// Whether the group is open after the return.
+fn opens(alloc: Global, core: &mut Core<Hybrid>) -> Result<bool, Halt> {
+    give(alloc, core, &RETURNS)?;
+    Ok(shown(alloc, core)? == (1, false))
+}
+
 /// Whether the group is open up to a walk, closed after it, and open after the return.
 fn closes_and_opens(alloc: Global, core: &mut Core<Hybrid>) -> Result<bool, Halt> {
     let walked = walks_on(alloc, core, (1, false))? && walks_on(alloc, core, (0, true))?;
-    give(alloc, core, &RETURNS)?;
-    Ok(shown(alloc, core)? == (1, false) && walked)
+    Ok(walked && opens(alloc, core)?)
 }
 
 /// Whether that of a task in a call is.
@@ -81,9 +86,14 @@ fn stays_open(alloc: Global, core: &mut Core<Hybrid>) -> Result<bool, Halt> {
 }
 
 /// Whether there is after each of two walks.
+fn stays_open_twice(alloc: Global, core: &mut Core<Hybrid>) -> Result<bool, Halt> {
+    Ok(stays_open(alloc, core)? && stays_open(alloc, core)?)
+}
+
+/// Whether there is where a task is busy.
 fn stays_open_for_a_busy_task(alloc: Global) -> Result<bool, Halt> {
     let mut core = engine_after(alloc, &ALONE, &BUSY)?;
-    Ok(stays_open(alloc, &mut core)? && stays_open(alloc, &mut core)?)
+    stays_open_twice(alloc, &mut core)
 }
 
 #[test]

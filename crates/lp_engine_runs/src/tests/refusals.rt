@@ -27,7 +27,7 @@ fn says(alloc: Global, core: &mut Core<Hybrid>, rows: &[(Event, Said)]) -> Resul
 
 /// Whether an engine of task 1 says to each of `EVENTS` what stands beside it.
 fn says_to_each(alloc: Global) -> Result<bool, Halt> {
-    let mut core = start(alloc, Hybrid, &[normal(1)])?;
+    let mut core = start_with(alloc, Hybrid, 1)?;
     says(alloc, &mut core, &EVENTS)
 }
 
