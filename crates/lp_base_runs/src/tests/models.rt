@@ -116,6 +116,12 @@ fn are_right(alloc: Global, aim: &Aim<'_>, rows: &[Row<'_>]) -> Result<bool, All
     Ok(true)
 }
 
+/// Whether all of `BLAMED` are: a table costs at each step of a function that has it, so that this one
+/// has no other.
+fn all_are_right(alloc: Global, aim: &Aim<'_>) -> Result<bool, AllocError> {
+    are_right(alloc, aim, &BLAMED)
+}
+
 #[test]
 fn models_blame_frames_and_cpus(rt: HostRuntime) {
     assert!(rt; on_the_way_to_a(rt.alloc(), Table::Blamed) == Ok(true));
@@ -155,6 +161,10 @@ fn are_right_in_a_group(
     Ok(true)
 }
 
+fn all_are_right_in_a_group(alloc: Global, aim: &Aim<'_>) -> Result<bool, AllocError> {
+    are_right_in_a_group(alloc, aim, &BLAMED_IN_A_GROUP)
+}
+
 #[test]
 fn process_group_blames_frames_and_the_kernel(rt: HostRuntime) {
     assert!(rt; on_the_way_to_a(rt.alloc(), Table::BlamedInAGroup) == Ok(true));
@@ -186,6 +196,10 @@ fn are_lowest(alloc: Global, aim: &Aim<'_>, rows: &[LowestRow]) -> Result<bool, 
     Ok(true)
 }
 
+fn all_are_lowest(alloc: Global, aim: &Aim<'_>) -> Result<bool, AllocError> {
+    are_lowest(alloc, aim, &LOWEST)
+}
+
 /// The tables of tasks in calls.
 #[derive(Clone, Copy)]
 enum Table {
@@ -197,9 +211,9 @@ enum Table {
 /// Whether each row of a table is right.
 fn is_table_right(alloc: Global, aim: &Aim<'_>, table: Table) -> Result<bool, AllocError> {
     match table {
-        Table::Blamed => are_right(alloc, aim, &BLAMED),
-        Table::BlamedInAGroup => are_right_in_a_group(alloc, aim, &BLAMED_IN_A_GROUP),
-        Table::Lowest => are_lowest(alloc, aim, &LOWEST),
+        Table::Blamed => all_are_right(alloc, aim),
+        Table::BlamedInAGroup => all_are_right_in_a_group(alloc, aim),
+        Table::Lowest => all_are_lowest(alloc, aim),
     }
 }
 
