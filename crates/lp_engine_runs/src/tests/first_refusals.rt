@@ -121,8 +121,7 @@ fn scans_in_part<M: Consistency>(
 {
     let scan = weighed(alloc, core, kind)?;
     let right = has_found(&scan, kind, found);
-    let told = in_short(&core.take(scan));
-    Ok(right && told == said)
+    Ok(in_short(&core.take(scan)) == said && right)
 }
 
 /// Whether it does, and says what one does that looks at every member.
@@ -245,8 +244,7 @@ fn stops(
 ) -> Result<bool, Halt> {
     let scan = weighed(alloc, core, CheckKind::Stop)?;
     let right = scan.verdicts().len() == count;
-    let told = in_short(&core.take(scan));
-    Ok(right && told == said)
+    Ok(in_short(&core.take(scan)) == said && right)
 }
 
 /// Whether each of these stops turns out so.

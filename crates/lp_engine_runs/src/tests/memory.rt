@@ -72,16 +72,6 @@ fn are_waiting<M: Consistency>(
     Ok(now.as_slice() == groups)
 }
 
-/// Whether an engine shows this, and these groups wait.
-fn is_as_it_was<M: Consistency>(
-    alloc: Global,
-    core: &Core<M>,
-    shown: &Shown,
-    groups: &[GroupId],
-) -> Result<bool, AllocError> {
-    Ok(shown_by(core) == *shown && are_waiting(alloc, core, groups)?)
-}
-
 /// The answer to an event, where memory was refused before. The engine is as it was.
 fn answer_again<M: Consistency>(
     rt: &impl Abort,
@@ -90,7 +80,7 @@ fn answer_again<M: Consistency>(
     event: Event,
     before: (&Shown, &[GroupId]),
 ) -> Result<Said, Halt> {
-    assert!(rt; is_as_it_was(alloc, core, before.0, before.1)?);
+    assert!(rt; shown_by(core) == *before.0 && are_waiting(alloc, core, before.1)?);
     reply_to(alloc, core, event)
 }
 
