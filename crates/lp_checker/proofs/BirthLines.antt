@@ -29,6 +29,10 @@ pub pred_is : (n : ℕ) → n - 1 ≡ pred n
 pred_is zero = refl
 pred_is (suc n) = omega arith
 
+pub suc_pred : (n : ℕ) → 0 < n → suc (pred n) ≡ n
+suc_pred zero lt = absurd (omega (arith, lt))
+suc_pred (suc n) lt = refl
+
 module _ (model : Rules) (leg : Leg) where
   -- a birth's event is asked by the parent's group alone
   pub fork_same : (o : Option Event) (fate : Fate Life) (from : ℕ) (birth : Birth) → forks_group model leg o fate from birth ≡ is_own_fork model o (group_in fate) from birth.group birth.parent

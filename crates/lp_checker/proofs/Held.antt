@@ -1,8 +1,8 @@
 -- A frame that is on a task's stack at two moments is there all the time between.
-use Rattle.std.proofs.Common.{◌≡◌, ℕ, zero, suc, ◌+◌, ◌-◌, ◌≤◌, true, false, not, ◌&&◌, Contains, [], ◌∷◌, Some, None, nat_eq, nat_le, sym, ap, subst, ◌∙◌, ⊎_elim, arith}
+use Rattle.std.proofs.Common.{◌≡◌, ℕ, zero, suc, ◌+◌, ◌-◌, ◌≤◌, Bool, true, false, not, ◌&&◌, Contains, [], ◌∷◌, Option, Some, None, nat_eq, nat_le, nat_lt, refl, sym, ap, subst, ◌∙◌, ⊎_elim, arith}
 use Rattle.std.specs.List.{list_any}
 use Rattle.std.specs.Option.{option_map}
-use Rattle.std.proofs.lemmas.Bool.{cases_eq, and_parts, eq-eqb, not_from_true}
+use Rattle.std.proofs.lemmas.Bool.{cases_eq, and_parts, eq-eqb, leb-true, not_from_true}
 use Rattle.std.proofs.lemmas.List.Elements.{All-contains}
 use Rattle.std.proofs.lemmas.List.Folds.{list_any_at}
 use Rattle.lp_stack.specs.declared.frame.Frame.{Frame}
@@ -23,9 +23,17 @@ use Rattle.lp_checker.specs.declared.fault.CertFault.TheVariants.{NotOnStack, No
 use Rattle.lp_checker.specs.inside.Marks.{is_blamed}
 use Rattle.lp_checker.specs.Verdict.{Section, blame_at, first_bad, is_held_by, is_on_stack, lies_in, line_test, moment_of}
 use Rattle.lp_checker.proofs.Accepted.{blamed-is, held-is}
-use Rattle.lp_checker.proofs.FirstBad.{all_good, first_none}
+use Rattle.lp_checker.proofs.FirstBad.{all_good, first_none, first_some}
 use Rattle.lp_checker.proofs.Stacks.{Stands, stands-is, were_there}
 use Rattle.lp_checker.proofs.Stages.{fit_none}
+
+refused : {A : Type 0} (b : Bool) (x : A) → b ≡ false → fits (not b) x ≡ Some x
+refused false x e = refl
+refused true x e = absurd (cc)
+
+only : {A : Type 0} (o : Option A) → first_of (o ∷ []) ≡ o
+only None = refl
+only (Some x) = refl
 
 module _ (model : Rules) (leg : Leg) where
   abbrev LivesAt : ℕ → ℕ → Type 0
@@ -43,6 +51,41 @@ module _ (model : Rules) (leg : Leg) where
       (λ (same : k ≡ suc e). (x, subst (λ n. after model leg n t ≡ Live x) (sym same) now))
       (λ (ne : k ≡ suc e → ⊥). one_earlier f e k t y x (omega (arith, ne)) was (λ z live. alive f k e t y z low (omega (arith, ne)) was live) (came model.child_group leg e t x now))
       (cases_eq k (suc e))
+
+  module _ (section : Section) (group : GroupId) (t : TaskId) (serial from to : ℕ) where
+    abbrev begin : ℕ
+    begin = moment_of model leg from
+
+    abbrev end : ℕ
+    end = moment_of model leg to
+
+    abbrev placed : Bool
+    placed = nat_le from to && (lies_in section begin && lies_in section end)
+
+    abbrev blamed : Bool
+    blamed = placed && is_held_by serial (blame_at model leg section.group begin t.0)
+
+    abbrev off : Option ℕ
+    off = first_bad (suc end - begin) begin (is_on_stack model leg t.0 serial)
+
+    -- a blamed hold ends no earlier than it begins, in its section's time
+    pub hold_within : is_blamed model leg section (Hold group t serial from to) ≡ true → (begin ≤ end) × (end ≤ section.until)
+    hold_within e =
+        let place = (and_parts placed (is_held_by serial (blame_at model leg section.group begin t.0)) e).0 in
+        let times = and_parts (nat_le from to) (lies_in section begin && lies_in section end) place in
+        let ends = (and_parts (lies_in section begin) (lies_in section end) times.1).1 in
+        let order = leb-true from to times.0 in
+        (omega (arith, order), leb-true end section.until (and_parts (nat_lt section.begin end) (nat_le end section.until) ends).1)
+
+    -- a hold that isn't blamed has a fault
+    pub no_hold : is_blamed model leg section (Hold group t serial from to) ≡ false → line_test model leg section (Hold group t serial from to) ≡ Some (NoBlame from)
+    no_hold e = first_some (fits (not blamed) (NoBlame from)) (option_map (λ (moment : ℕ). NotOnStack (leg.number + moment)) off ∷ []) (NoBlame from) (refused blamed (NoBlame from) e)
+
+    -- one that is has one where its frame isn't on the stack
+    pub hold_by : is_blamed model leg section (Hold group t serial from to) ≡ true → line_test model leg section (Hold group t serial from to) ≡ option_map (λ (moment : ℕ). NotOnStack (leg.number + moment)) off
+    hold_by e =
+        first_none (fits (not blamed) (NoBlame from)) (option_map (λ (moment : ℕ). NotOnStack (leg.number + moment)) off ∷ []) (fit_none (not blamed) (NoBlame from) (not_from_true blamed e))
+        ∙ only (option_map (λ (moment : ℕ). NotOnStack (leg.number + moment)) off)
 
 module _ (model : Rules) (leg : Leg) (lawful : IsLawful model) (sound : IsSound leg.opening) where
   pub between : (f k e t serial : ℕ) → f ≤ k → k ≤ e → Stands model leg t serial f → Stands model leg t serial e → is_on_stack model leg t serial k ≡ true

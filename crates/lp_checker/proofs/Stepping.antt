@@ -1,6 +1,5 @@
 -- The fold steps by an event of the leg.
-use Rattle.std.proofs.Common.{◌≡◌, ℕ, suc, ◌+◌, List, Option, Some, Result, Ok, Err, OnOk, IfOk, slice_get, sym, ap, ◌∙◌, arith}
-use Rattle.std.proofs.lemmas.Result.{IfOk-weaker}
+use Rattle.std.proofs.Common.{◌≡◌, ℕ, suc, ◌+◌, List, Option, Some, slice_get, sym, ap, ◌∙◌, arith}
 use Rattle.lp_patch.specs.Patches.{Patches}
 use Rattle.lp_model.specs.Rules.{Rules, IsLawful}
 use Rattle.lp_transition.specs.declared.event.Event.{Event}
@@ -23,10 +22,6 @@ module _ (model : Rules) (lawful : IsLawful model) (opening : Engine) (events : 
   unfolding unswitched
   opened fold sound number target patches tasks = record { sound = sound; number = omega (arith, number); target = target; patches = patches; tasks = tasks }
 
-  pub opened_as : {E : Type 0} (r : Result Fold E) → IsOpening opening → IfOk r (λ fold. fold.number ≡ opening.number) → IfOk r (λ fold. fold.target.0 ≡ opening.target) → IfOk r (λ fold. fold.patches ≡ opening.patches) → IfOk r (λ fold. standings fold.tasks ≡ standings opening.table) → IfOk r (λ fold. IsAt model opening events 0 fold)
-  opened_as (Ok fold) sound number target patches tasks = opened fold sound number target patches tasks
-  opened_as (Err e) sound number target patches tasks = tt
-
   module _ (k : ℕ) (old : Fold) (event : Event) (at : IsAt model opening events k old) (comes : slice_get events k ≡ Some event) where
     accepts_as : accept_standing (bounds_of old.patches) (standings old.tasks) (Some event) ≡ accept_standing leg.bounds (now model leg lawful at.sound.sound k) (slice_get events k)
     accepts_as =
@@ -34,10 +29,10 @@ module _ (model : Rules) (lawful : IsLawful model) (opening : Engine) (events : 
         ∙ ap (λ (s : Standings). accept_standing leg.bounds s (Some event)) at.tasks
         ∙ ap (accept_standing leg.bounds (now model leg lawful at.sound.sound k)) (sym comes)
 
-    pub told_as : {E : Type 0} (r : Result (Option Event) E) → IfOk r (λ o. o ≡ accept_standing (bounds_of old.patches) (standings old.tasks) (Some event)) → IfOk r (λ o. o ≡ accepted model leg k)
-    told_as r h = IfOk-weaker r (λ o. o ≡ accept_standing (bounds_of old.patches) (standings old.tasks) (Some event)) (λ o. o ≡ accepted model leg k) (λ o e. e ∙ accepts_as ∙ accepted_is model leg lawful at.sound.sound k) h
+    pub told : (o : Option Event) → o ≡ accept_standing (bounds_of old.patches) (standings old.tasks) (Some event) → o ≡ accepted model leg k
+    told o e = e ∙ accepts_as ∙ accepted_is model leg lawful at.sound.sound k
 
-    one_on : (new : Fold) → new.number ≡ suc old.number → new.target ≡ old.target → new.patches ≡ old.patches → standings new.tasks ≡ take_own_effect model.child_group (suc old.number) (accept_standing (bounds_of old.patches) (standings old.tasks) (Some event)) (standings old.tasks) → IsAt model opening events (suc k) new
+    pub one_on : (new : Fold) → new.number ≡ suc old.number → new.target ≡ old.target → new.patches ≡ old.patches → standings new.tasks ≡ take_own_effect model.child_group (suc old.number) (accept_standing (bounds_of old.patches) (standings old.tasks) (Some event)) (standings old.tasks) → IsAt model opening events (suc k) new
     one_on new number target patches tasks =
         record {
           sound = at.sound;
@@ -51,7 +46,3 @@ module _ (model : Rules) (lawful : IsLawful model) (opening : Engine) (events : 
               ∙ ap (λ (s : Standings). take_own_effect model.child_group (suc (opening.number + k)) (accept_standing leg.bounds (now model leg lawful at.sound.sound k) (slice_get events k)) s) at.tasks
               ∙ next_is model leg lawful at.sound.sound k;
         }
-
-    pub steps : {T E : Type 0} (r : Result T E) (new : Fold) → OnOk r (new.number ≡ suc old.number) → OnOk r (new.target ≡ old.target) → OnOk r (new.patches ≡ old.patches) → OnOk r (standings new.tasks ≡ take_own_effect model.child_group (suc old.number) (accept_standing (bounds_of old.patches) (standings old.tasks) (Some event)) (standings old.tasks)) → OnOk r (IsAt model opening events (suc k) new)
-    steps (Ok x) new number target patches tasks = one_on new number target patches tasks
-    steps (Err e) new number target patches tasks = tt

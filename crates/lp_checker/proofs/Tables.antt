@@ -7,7 +7,7 @@ use Rattle.std.proofs.lemmas.List.Sums.{count_by-le-length}
 use mathlib.Core.Path.{fun_ext}
 use Rattle.std.specs.Option.{option_map}
 use Rattle.lp_numbers.specs.Numbers.{Numbers, has}
-use Rattle.lp_transition.specs.Tasks.{Fate, Live, Dead, change, map_live}
+use Rattle.lp_transition.specs.Tasks.{Fate, Unused, Live, Dead, change, map_live}
 use Rattle.lp_transition.specs.Leg.{Standing}
 use Rattle.lp_transition.specs.Table.{Table, slot, fate_at, standings}
 use Rattle.lp_transition.specs.inside.Table.{is_in, changed, with_task, without_task, IsBlank}
@@ -233,6 +233,16 @@ where_ok-group (Err e) f same x = refl
 pub where_ok-on : {T E : Type 0} (r : Result T E) (f : Standing → Standing) (i : ℕ) (new old : ℕ → Fate Standing) → new ≡ change i (where_ok r f) old → OnOk r (new ≡ change i f old)
 where_ok-on (Ok v) f i new old e = e
 where_ok-on (Err e) f i new old h = tt
+
+unchanged_at : (fate : Fate Standing) (b : Bool) → (if b then map_live (λ (x : Standing). x) fate else fate) ≡ fate
+unchanged_at fate false = refl
+unchanged_at Unused true = refl
+unchanged_at (Live x) true = refl
+unchanged_at Dead true = refl
+
+pub where_ok-off : {T E : Type 0} (r : Result T E) (f : Standing → Standing) (i : ℕ) (new old : ℕ → Fate Standing) → new ≡ change i (where_ok r f) old → OnErr r (new ≡ old)
+where_ok-off (Ok v) f i new old e = tt
+where_ok-off (Err e) f i new old h = h ∙ fun_ext (λ t. unchanged_at (old t) (nat_eq t i))
 
 -- ---- A task that comes or goes
 

@@ -6,3 +6,4 @@ pub mod Spans
 pub mod Tables
 pub mod Cursors
 pub mod Folds
+pub mod Stages

@@ -1,16 +1,14 @@
 //! The births of a certificate.
-ghost use Rattle.std.specs.Prelude.{◌≡◌, ℕ, ◌+◌, ◌<◌, ◌≤◌, pred, length, nat_eq, IfOk, OnOk};
+ghost use Rattle.std.specs.Prelude.{◌≡◌, ℕ, ◌<◌, ◌≤◌, pred, nat_eq, IfOk};
 ghost use Rattle.std.specs.Option.{option_map};
 ghost use Rattle.lp_transition.specs.Tasks.{first_of};
 ghost use Rattle.lp_transition.specs.Leg.{accepted, after};
 ghost use Rattle.lp_checker.specs.inside.Births.{group_in, group_or_0, is_own_fork, group_now};
-ghost use Rattle.lp_checker.specs.Folds.{leg_with};
-ghost use Rattle.lp_checker.specs.inside.Folds.{IsAt};
+ghost use Rattle.lp_checker.specs.inside.Cursors.{leg_in};
 ghost use Rattle.lp_checker.specs.Verdict.{births, birth_tests, first_group};
 
 use crate::CertFault;
-use crate::fold::Fold;
-use crate::given_leg::GivenLeg;
+use crate::cursor::Cursor;
 use lp_cert::Line;
 use lp_model::Consistency;
 use lp_stack::{GroupId, TaskId};
@@ -25,26 +23,23 @@ struct BornLine {
     moment: usize,
 }
 
-/// The fault of the first `born` line that is no birth, of those up to a moment.
+/// The fault of the first `born` line that is no birth, of those up to the cursor's end.
 pub(crate) fn birth_fault<M: Consistency>(
     alloc: Global,
-    model: M,
-    leg: &GivenLeg<'_>,
+    cursor: &mut Cursor<'_, M>,
     lines: &[Line],
-    last: usize,
 ) -> Result<Option<CertFault>, AllocError>
-    requires within { last ≤ length leg.now.events.now }
-    requires room { leg.now.opening.now.number + last ≤ 1000000 }
-    ensures { IfOk result (λ fault. (claimed : ℕ) → fault ≡ first_of (birth_tests M.rules (leg_with leg.now.opening.now leg.now.events.now) last (first_group M.rules (leg_with leg.now.opening.now leg.now.events.now) claimed (births lines.now)) 0 (births lines.now))) }
+    ensures range { cursor.new.range ≡ cursor.old.range }
+    ensures fault { let leg = leg_in cursor.old.range in let rest = births lines.now in IfOk result (λ fault. (claimed : ℕ) → fault ≡ first_of (birth_tests M.rules leg cursor.old.range.end (first_group M.rules leg claimed rest) 0 rest)) }
 {
-    let mut fold = leg.open(alloc, model)?;
+    let last = cursor.end();
     let mut begin = 0;
     let mut from = None;
     for line in lines {
         let Line::Born { group, parent, at } = *line else {
             continue;
         };
-        let Some(moment) = leg.moment_within(at, begin, last) else {
+        let Some(moment) = cursor.moment_within(at, begin, last) else {
             return Ok(Some(CertFault::BadBirth(at)));
         };
         let birth = BornLine {
@@ -52,7 +47,7 @@ pub(crate) fn birth_fault<M: Consistency>(
             parent,
             moment,
         };
-        if !is_birth(alloc, model, leg, &mut fold, begin, from, birth)? {
+        if !is_birth(alloc, cursor, from, birth)? {
             return Ok(Some(CertFault::BadBirth(at)));
         }
         begin = moment;
@@ -61,29 +56,22 @@ pub(crate) fn birth_fault<M: Consistency>(
     Ok(None)
 }
 
-/// Whether a birth is one, by a parent of the group of the birth before, if there was one. Takes
-/// the events up to it.
+/// Whether a birth is one, by a parent of the group of the birth before, if there was one.
 fn is_birth<M: Consistency>(
     alloc: Global,
-    model: M,
-    leg: &GivenLeg<'_>,
-    fold: &mut Fold,
-    begin: usize,
+    cursor: &mut Cursor<'_, M>,
     from: Option<GroupId>,
     birth: BornLine,
 ) -> Result<bool, AllocError>
-    requires at { IsAt M.rules leg.now.opening.now leg.now.events.now begin fold.old }
-    requires order { begin < birth.moment }
-    requires within { birth.moment ≤ length leg.now.events.now }
-    requires room { leg.now.opening.now.number + birth.moment ≤ 1000000 }
-    ensures at { OnOk result (IsAt M.rules leg.now.opening.now leg.now.events.now birth.moment fold.new) }
-    ensures birth { IfOk result (λ b. b ≡ is_own_fork M.rules (accepted M.rules (leg_with leg.now.opening.now leg.now.events.now) (pred birth.moment)) (group_in (after M.rules (leg_with leg.now.opening.now leg.now.events.now) (pred birth.moment) birth.parent.0)) (group_now from (group_or_0 (after M.rules (leg_with leg.now.opening.now leg.now.events.now) (pred birth.moment) birth.parent.0))) birth.group.0 birth.parent.0) }
+    requires event { 0 < birth.moment }
+    requires within { birth.moment ≤ cursor.old.range.end }
+    ensures range { cursor.new.range ≡ cursor.old.range }
+    ensures birth { let leg = leg_in cursor.old.range in IfOk result (λ b. b ≡ is_own_fork M.rules (accepted M.rules leg (pred birth.moment)) (group_in (after M.rules leg (pred birth.moment) birth.parent.0)) (group_now from (group_or_0 (after M.rules leg (pred birth.moment) birth.parent.0))) birth.group.0 birth.parent.0) }
 {
-    let place = birth.moment - 1;
-    leg.step_to(alloc, model, fold, begin, place)?;
-    let own = leg.group_at(model, fold, place, birth.parent);
-    let event = leg.step(alloc, model, fold, place)?;
-    Ok(is_own_fork(model, event, own, from, birth))
+    cursor.go_to(alloc, birth.moment - 1)?;
+    let own = cursor.group_of(birth.parent);
+    cursor.go_to(alloc, birth.moment)?;
+    Ok(is_own_fork(cursor.model(), cursor.event(), own, from, birth))
 }
 
 /// A fork into the parent's own group is no birth: the child's waiting is the group's.

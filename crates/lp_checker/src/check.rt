@@ -1,19 +1,24 @@
 //! The check of a certificate.
-ghost use Rattle.std.specs.Prelude.{◌≡◌, ◌⊎◌, true, None, Some, Ok, Err, IfOk, MatchResult};
+ghost use Rattle.std.specs.Prelude.{◌≡◌, ◌⊎◌, true, None, Some, Ok, Err, length, map, IfOk, MatchResult};
+ghost use Rattle.lp_transition.specs.Tasks.{first_of};
 ghost use Rattle.lp_checker.specs.Folds.{leg_with};
 ghost use Rattle.lp_checker.specs.Laws.{Holds};
-ghost use Rattle.lp_checker.specs.Verdict.{no_leg, verdict_on};
+ghost use Rattle.lp_checker.specs.Verdict.{births, no_leg, verdict_on};
+ghost use Rattle.lp_checker.specs.inside.Cursors.{leg_in};
+ghost use Rattle.lp_checker.specs.inside.Sections.{section_of, AreInOrder, FollowOn};
+ghost use Rattle.lp_checker.specs.inside.Stages.{part_tests, chain_tests, later_tests};
 ghost use Rattle.lp_checker.specs.declared.fault.CertFault.TheVariants.{NoLeg};
 
 use crate::CertFault;
 use crate::births::birth_fault;
+use crate::cursor::Cursor;
 use crate::gaps::gap_fault;
-use crate::given_leg::GivenLeg;
 use crate::groups::{first_group, is_no_such_group};
 use crate::lines::line_fault;
-use crate::sections::sections;
+use crate::sections::{Section, sections};
 use lp_cert::{Cert, Claim, Line};
 use lp_model::Consistency;
+use lp_stack::GroupId;
 use lp_transition::{Event, MOST_EVENTS, Opening};
 use std::alloc::{AllocError, Global};
 
@@ -72,59 +77,105 @@ fn check<M: Consistency>(
     ensures sound { IfOk result (λ _. Holds M.rules (leg_with opening.now events.now) cert.now) }
 {
     let _ = opening.number();
-    let leg = GivenLeg { opening, events };
-    match fault_of(alloc, model, &leg, claim, cert)? {
+    match fault_of(alloc, model, opening, events, claim, cert)? {
         None => Ok(()),
         Some(fault) => Err(fault),
     }
 }
 
-/// Each part may lean on those before it: lines are tested only against sections that births gave.
+/// The first fault of a certificate that is to make a claim.
 fn fault_of<M: Consistency>(
     alloc: Global,
     model: M,
-    leg: &GivenLeg<'_>,
+    opening: &Opening,
+    events: &[Event],
     claim: Claim,
     cert: &Cert,
 ) -> Result<Option<CertFault>, AllocError>
-    ensures verdict { IfOk result (λ fault. fault ≡ verdict_on M.rules (leg_with leg.now.opening.now leg.now.events.now) claim cert.now) }
-    ensures early { no_leg M.rules (leg_with leg.now.opening.now leg.now.events.now) claim cert.now ≡ true → result ≡ Ok (Some NoLeg) }
+    ensures verdict { IfOk result (λ fault. fault ≡ verdict_on M.rules (leg_with opening.now events.now) claim cert.now) }
+    ensures early { no_leg M.rules (leg_with opening.now events.now) claim cert.now ≡ true → result ≡ Ok (Some NoLeg) }
 {
-    if is_no_leg(model, leg, claim, cert) {
+    if is_no_leg(model, opening, events, claim, cert) {
         return Ok(Some(CertFault::NoLeg));
     }
-    let lines = cert.lines.as_slice();
-    let last = leg.moment(cert.upto) as usize;
-    let fault = birth_fault(alloc, model, leg, lines, last)?;
+    let last = cert.upto.saturating_sub(opening.number()) as usize;
+    let mut cursor = Cursor::open(alloc, model, opening, events, last)?;
+    later_fault(alloc, &mut cursor, cert.lines.as_slice(), cert.group)
+}
+
+/// The first fault past C6. Each part may lean on those before it: lines are tested only against
+/// sections that births gave.
+fn later_fault<M: Consistency>(
+    alloc: Global,
+    cursor: &mut Cursor<'_, M>,
+    lines: &[Line],
+    claimed: GroupId,
+) -> Result<Option<CertFault>, AllocError>
+    ensures { IfOk result (λ fault. fault ≡ first_of (later_tests M.rules cursor.old.range claimed.0 lines.now)) }
+{
+    let fault = birth_fault(alloc, cursor, lines)?;
     if fault.is_some() {
         return Ok(fault);
     }
-    let first = first_group(alloc, model, leg, lines, cert.group, last)?;
-    if is_no_such_group(alloc, model, leg, lines, first, cert.group, last)? {
+    let first = first_group(alloc, cursor, lines, claimed)?;
+    chain_fault(alloc, cursor, lines, first, claimed)
+}
+
+/// The first fault past C5, where the births begin with a group.
+fn chain_fault<M: Consistency>(
+    alloc: Global,
+    cursor: &mut Cursor<'_, M>,
+    lines: &[Line],
+    first: GroupId,
+    claimed: GroupId,
+) -> Result<Option<CertFault>, AllocError>
+    requires { AreInOrder (leg_in cursor.old.range) cursor.old.range.end 0 (births lines.now) }
+    ensures { IfOk result (λ fault. fault ≡ first_of (chain_tests M.rules cursor.old.range first.0 claimed.0 lines.now)) }
+{
+    if is_no_such_group(alloc, cursor, lines, first, claimed)? {
         return Ok(Some(CertFault::NoSuchGroup));
     }
-    let parts = sections(alloc, leg, lines, first, last)?;
-    let fault = line_fault(alloc, model, leg, lines, &parts, last)?;
+    let parts = sections(alloc, cursor, lines, first)?;
+    part_fault(alloc, cursor, lines, parts.as_slice())
+}
+
+/// The first fault of the sections of a certificate.
+fn part_fault<M: Consistency>(
+    alloc: Global,
+    cursor: &mut Cursor<'_, M>,
+    lines: &[Line],
+    parts: &[Section],
+) -> Result<Option<CertFault>, AllocError>
+    requires { FollowOn (length lines.now) cursor.old.range.end 0 parts.now }
+    ensures { IfOk result (λ fault. fault ≡ first_of (part_tests M.rules (leg_in cursor.old.range) (map (section_of lines.now) parts.now))) }
+{
+    let fault = line_fault(alloc, cursor, lines, parts)?;
     if fault.is_some() {
         return Ok(fault);
     }
-    gap_fault(alloc, model, leg, lines, &parts, last)
+    gap_fault(alloc, cursor, lines, parts)
 }
 
 /// Whether a certificate makes another claim or is of another leg, or its end lies outside of the
 /// leg or past the events that a run can have.
-fn is_no_leg<M: Consistency>(_model: M, leg: &GivenLeg<'_>, claim: Claim, cert: &Cert) -> bool
-    ensures { result ≡ no_leg M.rules (leg_with leg.now.opening.now leg.now.events.now) claim cert.now }
+fn is_no_leg<M: Consistency>(
+    _model: M,
+    opening: &Opening,
+    events: &[Event],
+    claim: Claim,
+    cert: &Cert,
+) -> bool
+    ensures { result ≡ no_leg M.rules (leg_with opening.now events.now) claim cert.now }
 {
     if cert.claim != claim {
         return true;
     }
-    let number = leg.opening.number();
+    let number = opening.number();
     if cert.leg != number {
         return true;
     }
     if cert.upto < number || cert.upto > u64::from(MOST_EVENTS) {
         return true;
     }
-    cert.upto - number > leg.events.len() as u64
+    cert.upto - number > events.len() as u64
 }

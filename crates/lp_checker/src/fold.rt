@@ -1,6 +1,6 @@
 //! The events of a leg, taken with nobody switching: a call has its task's level, a child its
 //! parent's.
-ghost use Rattle.std.specs.Prelude.{◌≡◌, ℕ, suc, ◌<◌, ◌≤◌, false, Some, None, if◌then◌else◌, nat_eq, IfOk, OnOk};
+ghost use Rattle.std.specs.Prelude.{◌≡◌, ℕ, suc, ◌<◌, ◌≤◌, false, Some, None, if◌then◌else◌, nat_eq, IfOk, OnOk, OnErr};
 ghost use Rattle.std.specs.List.{list_any};
 ghost use Rattle.std.specs.Option.{option_map};
 ghost use Rattle.lp_transition.specs.Tasks.{first_of, tests, on_live, Unused, Dead};
@@ -74,34 +74,41 @@ impl Fold {
     ) -> Result<Option<Event>, AllocError>
         requires room { self.old.number < 1000000 }
         ensures number { OnOk result (self.new.number ≡ suc self.old.number) }
-        ensures target { OnOk result (self.new.target ≡ self.old.target) }
-        ensures patches { OnOk result (self.new.patches ≡ self.old.patches) }
+        ensures target { self.new.target ≡ self.old.target }
+        ensures patches { self.new.patches ≡ self.old.patches }
         ensures accepted { IfOk result (λ accepted. accepted ≡ accept_standing (bounds_of self.old.patches) (standings self.old.tasks) (Some event)) }
         ensures tasks { OnOk result (standings self.new.tasks ≡ take_own_effect M.rules.child_group (suc self.old.number) (accept_standing (bounds_of self.old.patches) (standings self.old.tasks) (Some event)) (standings self.old.tasks)) }
+        // A failed allocation leaves the fold where it was.
+        ensures no_number { OnErr result (self.new.number ≡ self.old.number) }
+        ensures no_tasks { OnErr result (standings self.new.tasks ≡ standings self.old.tasks) }
     {
-        self.number += 1;
+        let number = self.number + 1;
         if !accepts(&self.tasks, self.patches.symbols(), event) {
+            self.number = number;
             return Ok(None);
         }
-        self.take(alloc, model, event)?;
+        self.take(alloc, model, event, number)?;
+        self.number = number;
         Ok(Some(event))
     }
 
-    /// Takes an accepted event.
+    /// Takes an accepted event of a number.
     fn take<M: Consistency>(
         &mut self,
         alloc: Global,
         model: M,
         event: Event,
+        number: u32,
     ) -> Result<(), AllocError>
         requires { first_of (tests (bounds_of self.old.patches) (outlines_of (standings self.old.tasks)) event) ≡ None }
         ensures number { self.new.number ≡ self.old.number }
         ensures target { self.new.target ≡ self.old.target }
         ensures patches { self.new.patches ≡ self.old.patches }
-        ensures tasks { OnOk result (standings self.new.tasks ≡ own_effect M.rules.child_group self.old.number event (standings self.old.tasks)) }
+        ensures tasks { OnOk result (standings self.new.tasks ≡ own_effect M.rules.child_group number event (standings self.old.tasks)) }
+        ensures no_tasks { OnErr result (standings self.new.tasks ≡ standings self.old.tasks) }
     {
         match event {
-            Event::Call(task, func) => return self.tasks.call(task, func, self.number),
+            Event::Call(task, func) => return self.tasks.call(task, func, number),
             Event::Ret(task) => self.tasks.ret(task),
             Event::Sleep(task) => self.tasks.set_mode(task, Mode::Asleep),
             Event::Wake(task) | Event::Enter(task) => self.tasks.set_mode(task, Mode::Kernel),
@@ -134,6 +141,7 @@ impl Fold {
         ensures target { self.new.target ≡ self.old.target }
         ensures patches { self.new.patches ≡ self.old.patches }
         ensures tasks { OnOk result (standings self.new.tasks ≡ own_effect M.rules.child_group self.old.number (Event.Fork parent child how) (standings self.old.tasks)) }
+        ensures no_tasks { OnErr result (standings self.new.tasks ≡ standings self.old.tasks) }
     {
         let Some(live) = self.tasks.get(parent) else {
             unreachable!();

@@ -3,16 +3,14 @@ ghost use Rattle.std.specs.Prelude.{◌≡◌, ℕ, suc, ◌+◌, ◌-◌, ◌<�
 ghost use Rattle.std.specs.List.{list_any};
 ghost use Rattle.lp_model.specs.Rules.{Rules};
 ghost use Rattle.lp_transition.specs.Tasks.{first_of};
-ghost use Rattle.lp_transition.specs.Leg.{check};
-ghost use Rattle.lp_checker.specs.Folds.{leg_with};
-ghost use Rattle.lp_checker.specs.inside.Folds.{IsAt};
+ghost use Rattle.lp_transition.specs.Leg.{Leg, check};
+ghost use Rattle.lp_checker.specs.inside.Cursors.{leg_in};
 ghost use Rattle.lp_checker.specs.Verdict.{covers, first_bad, gap_test};
 ghost use Rattle.lp_checker.specs.inside.Sections.{section_of, with_lines, FollowOn};
 ghost use Rattle.lp_checker.specs.inside.Spans.{span_of, AreEnds};
 
 use crate::CertFault;
-use crate::fold::Fold;
-use crate::given_leg::GivenLeg;
+use crate::cursor::Cursor;
 use crate::sections::Section;
 use lp_cert::Line;
 use lp_model::Consistency;
@@ -21,21 +19,17 @@ use std::alloc::{AllocError, Global};
 /// The fault of the first section with a check that no line covers.
 pub(crate) fn gap_fault<M: Consistency>(
     alloc: Global,
-    model: M,
-    leg: &GivenLeg<'_>,
+    cursor: &mut Cursor<'_, M>,
     lines: &[Line],
     sections: &[Section],
-    last: usize,
 ) -> Result<Option<CertFault>, AllocError>
-    requires times { FollowOn (length lines.now) last 0 sections.now }
-    requires within { last ≤ length leg.now.events.now }
-    requires room { leg.now.opening.now.number + last ≤ 1000000 }
-    ensures { IfOk result (λ fault. fault ≡ first_of (map (gap_test M.rules (leg_with leg.now.opening.now leg.now.events.now)) (map (section_of lines.now) sections.now))) }
+    requires { FollowOn (length lines.now) cursor.old.range.end 0 sections.now }
+    ensures range { cursor.new.range ≡ cursor.old.range }
+    ensures fault { IfOk result (λ fault. fault ≡ first_of (map (gap_test M.rules (leg_in cursor.old.range)) (map (section_of lines.now) sections.now))) }
 {
-    let mut fold = leg.open(alloc, model)?;
     for section in sections {
         let own = &lines[section.start..section.end];
-        let fault = gap_in(alloc, model, leg, &mut fold, *section, own)?;
+        let fault = gap_in(alloc, cursor, *section, own)?;
         if fault.is_some() {
             return Ok(fault);
         }
@@ -43,30 +37,23 @@ pub(crate) fn gap_fault<M: Consistency>(
     Ok(None)
 }
 
-/// The fault of a section, with its lines, that has a check which no line covers. Takes the events
-/// of its time, where there is none.
+/// The fault of a section, with its lines, that has a check which no line covers.
 fn gap_in<M: Consistency>(
     alloc: Global,
-    model: M,
-    leg: &GivenLeg<'_>,
-    fold: &mut Fold,
+    cursor: &mut Cursor<'_, M>,
     section: Section,
     lines: &[Line],
 ) -> Result<Option<CertFault>, AllocError>
-    requires at { IsAt M.rules leg.now.opening.now leg.now.events.now section.begin fold.old }
     requires order { section.begin ≤ section.until }
-    requires within { section.until ≤ length leg.now.events.now }
-    requires room { leg.now.opening.now.number + section.until ≤ 1000000 }
-    ensures at { IfOk result (λ fault. fault ≡ None → IsAt M.rules leg.now.opening.now leg.now.events.now section.until fold.new) }
-    ensures fault { IfOk result (λ fault. fault ≡ gap_test M.rules (leg_with leg.now.opening.now leg.now.events.now) (with_lines lines.now section)) }
+    requires within { section.until ≤ cursor.old.range.end }
+    ensures range { cursor.new.range ≡ cursor.old.range }
+    ensures fault { IfOk result (λ fault. fault ≡ gap_test M.rules (leg_in cursor.old.range) (with_lines lines.now section)) }
 {
-    let ends = ends_by(alloc, leg, section, lines)?;
-    match first_gap(alloc, model, leg, fold, section, ends.as_slice())? {
+    let number = cursor.number();
+    let ends = ends_by(alloc, number, section, lines)?;
+    match first_gap(alloc, cursor, section, ends.as_slice())? {
         None => Ok(None),
-        Some(place) => {
-            let moment = place as u64 + 1;
-            Ok(Some(CertFault::Gap(leg.opening.number() + moment)))
-        }
+        Some(place) => Ok(Some(CertFault::Gap(number + place as u64 + 1))),
     }
 }
 
@@ -74,23 +61,19 @@ fn gap_in<M: Consistency>(
 /// later than the spans that begin by then.
 fn first_gap<M: Consistency>(
     alloc: Global,
-    model: M,
-    leg: &GivenLeg<'_>,
-    fold: &mut Fold,
+    cursor: &mut Cursor<'_, M>,
     section: Section,
     ends: &[u64],
 ) -> Result<Option<usize>, AllocError>
-    requires at { IsAt M.rules leg.now.opening.now leg.now.events.now section.begin fold.old }
     requires order { section.begin ≤ section.until }
-    requires within { section.until ≤ length leg.now.events.now }
-    requires room { leg.now.opening.now.number + section.until ≤ 1000000 }
+    requires within { section.until ≤ cursor.old.range.end }
     requires all { section.until - section.begin < length ends.now }
-    ensures at { IfOk result (λ gap. gap ≡ None → IsAt M.rules leg.now.opening.now leg.now.events.now section.until fold.new) }
-    ensures gap { IfOk result (λ gap. gap ≡ first_bad (section.until - section.begin) section.begin (λ place. is_none (check M.rules (leg_with leg.now.opening.now leg.now.events.now) place section.group.0) || nat_le (suc place) (slice_index ends.now (suc place - section.begin)))) }
+    ensures range { cursor.new.range ≡ cursor.old.range }
+    ensures gap { IfOk result (λ gap. gap ≡ first_bad (section.until - section.begin) section.begin (λ place. is_none (check M.rules (leg_in cursor.old.range) place section.group.0) || nat_le (suc place) (slice_index ends.now (suc place - section.begin)))) }
 {
     for place in section.begin..section.until {
-        let event = leg.step(alloc, model, fold, place)?;
-        let check = leg.check(model, fold, place, event, section.group);
+        cursor.go_to(alloc, place + 1)?;
+        let check = cursor.check(section.group);
         if check.is_some() && ends[place + 1 - section.begin] <= place as u64 {
             return Ok(Some(place));
         }
@@ -120,16 +103,16 @@ fn span_of(line: Line) -> Option<Span>
 /// begin by then.
 fn ends_by(
     alloc: Global,
-    leg: &GivenLeg<'_>,
+    number: u64,
     section: Section,
     lines: &[Line],
 ) -> Result<Vec<u64>, AllocError>
     requires order { section.begin ≤ section.until }
     requires room { section.until ≤ 1000000 }
     ensures all { IfOk result (λ ends. length ends.items ≡ section.until - section.begin + 1) }
-    ensures covers { IfOk result (λ ends. (model : Rules) (moment : ℕ) → section.begin < moment → moment ≤ section.until → nat_le moment (slice_index ends.items (moment - section.begin)) ≡ list_any (covers model (leg_with leg.now.opening.now leg.now.events.now) moment) lines.now) }
+    ensures covers { IfOk result (λ ends. (model : Rules) (leg : Leg) (moment : ℕ) → leg.number ≡ number → section.begin < moment → moment ≤ section.until → nat_le moment (slice_index ends.items (moment - section.begin)) ≡ list_any (covers model leg moment) lines.now) }
 {
-    let mut ends = own_ends(alloc, leg, section, lines)?;
+    let mut ends = own_ends(alloc, number, section, lines)?;
     keep_greatest(&mut ends);
     Ok(ends)
 }
@@ -156,14 +139,14 @@ fn greater(one: u64, other: u64) -> u64
 /// begin at it. Those that begin earlier stand at the beginning.
 fn own_ends(
     alloc: Global,
-    leg: &GivenLeg<'_>,
+    number: u64,
     section: Section,
     lines: &[Line],
 ) -> Result<Vec<u64>, AllocError>
     requires order { section.begin ≤ section.until }
     requires room { section.until ≤ 1000000 }
     ensures all { IfOk result (λ ends. length ends.items ≡ section.until - section.begin + 1) }
-    ensures ends { IfOk result (λ ends. AreEnds leg.now.opening.now.number section.begin (section.until - section.begin) (λ place at. nat_eq at place) lines.now ends.items) }
+    ensures ends { IfOk result (λ ends. AreEnds number section.begin (section.until - section.begin) (λ place at. nat_eq at place) lines.now ends.items) }
 {
     let last = section.until - section.begin;
     let mut ends = zeros(alloc, last + 1)?;
@@ -171,9 +154,10 @@ fn own_ends(
         let Some(span) = span_of(*line) else {
             continue;
         };
-        let place = leg.moment(span.from).saturating_sub(section.begin as u64);
+        let begin = span.from.saturating_sub(number);
+        let place = begin.saturating_sub(section.begin as u64);
         if place <= last as u64 {
-            raise(&mut ends, place as usize, leg.moment(span.to));
+            raise(&mut ends, place as usize, span.to.saturating_sub(number));
         }
     }
     Ok(ends)

@@ -9,16 +9,15 @@ ghost use Rattle.lp_transition.specs.Table.{slot};
 ghost use Rattle.lp_transition.specs.Tasks.{outlines};
 ghost use Rattle.lp_model.specs.Rules.{Rules};
 ghost use Rattle.lp_checker.specs.inside.Births.{group_or_0};
-ghost use Rattle.lp_checker.specs.Folds.{leg_with};
+ghost use Rattle.lp_checker.specs.inside.Cursors.{leg_in};
 ghost use Rattle.lp_checker.specs.inside.Sections.{AreInOrder, is_waiting_member};
 ghost use Rattle.lp_checker.specs.Verdict.{births, first_group, first_lines, has_stray, last_group, no_such_group, sections};
 
-use crate::given_leg::GivenLeg;
+use crate::cursor::Cursor;
 use lp_cert::Line;
 use lp_model::Consistency;
 use lp_numbers::NUMBERS;
 use lp_stack::{GroupId, TaskId};
-use lp_transition::Opening;
 use std::alloc::{AllocError, Global};
 
 /// The group of the last `born` line; the first group where there is none.
@@ -58,90 +57,55 @@ pub(crate) fn has_stray(lines: &[Line], first: GroupId) -> bool
 /// member at the end.
 pub(crate) fn is_no_such_group<M: Consistency>(
     alloc: Global,
-    model: M,
-    leg: &GivenLeg<'_>,
+    cursor: &mut Cursor<'_, M>,
     lines: &[Line],
     first: GroupId,
     claimed: GroupId,
-    last: usize,
 ) -> Result<bool, AllocError>
-    requires within { last ≤ length leg.now.events.now }
-    requires room { leg.now.opening.now.number + last ≤ 1000000 }
-    ensures { let its = leg_with leg.now.opening.now leg.now.events.now in let rest = births lines.now in IfOk result (λ none. none ≡ no_such_group M.rules its last claimed.0 first.0 rest (sections M.rules its last first.0 0 (first_lines lines.now) rest)) }
+    ensures range { cursor.new.range ≡ cursor.old.range }
+    ensures none { let leg = leg_in cursor.old.range in let last = cursor.old.range.end in let rest = births lines.now in IfOk result (λ none. none ≡ no_such_group M.rules leg last claimed.0 first.0 rest (sections M.rules leg last first.0 0 (first_lines lines.now) rest)) }
 {
     if last_group(lines, first).0 != claimed.0 {
         return Ok(true);
     }
-    if !waits_at_opening(model, leg, first) {
+    if !waits_at_opening(cursor, first) {
         return Ok(true);
     }
     if has_stray(lines, first) {
         return Ok(true);
     }
-    let has_member = has_member_at(alloc, model, leg, last, claimed)?;
-    Ok(!has_member)
-}
-
-/// Whether a group has a live member after so many events.
-fn has_member_at<M: Consistency>(
-    alloc: Global,
-    model: M,
-    leg: &GivenLeg<'_>,
-    moment: usize,
-    group: GroupId,
-) -> Result<bool, AllocError>
-    requires within { moment ≤ length leg.now.events.now }
-    requires room { leg.now.opening.now.number + moment ≤ 1000000 }
-    ensures { let its = leg_with leg.now.opening.now leg.now.events.now in IfOk result (λ some. some ≡ has_member its.bounds (outlines (after M.rules its moment)) group.0) }
-{
-    let mut fold = leg.open(alloc, model)?;
-    leg.step_to(alloc, model, &mut fold, 0, moment)?;
-    Ok(leg.has_member(model, &fold, moment, group))
+    cursor.go_to(alloc, cursor.end())?;
+    Ok(!cursor.has_member(claimed))
 }
 
 /// Whether a group has a live member off the target at the opening.
-fn waits_at_opening<M: Consistency>(_model: M, leg: &GivenLeg<'_>, group: GroupId) -> bool
-    ensures { result ≡ waits M.rules (leg_with leg.now.opening.now leg.now.events.now) nobody 0 group.0 }
+fn waits_at_opening<M: Consistency>(cursor: &Cursor<'_, M>, group: GroupId) -> bool
+    ensures { result ≡ waits M.rules (leg_in cursor.now.range) nobody 0 group.0 }
 {
-    let _ = leg.opening.number();
+    let _ = cursor.number();
     for number in 0..NUMBERS {
-        if is_waiting_member(leg.opening, TaskId(number as u16), group) {
+        if cursor.was_waiting(TaskId(number as u16), group) {
             return true;
         }
     }
     false
 }
 
-/// Whether a number is a live member of a group at the opening, and off the target.
-fn is_waiting_member(opening: &Opening, task: TaskId, group: GroupId) -> bool
-    ensures { result ≡ is_waiting_member opening.now.target group.0 (slot opening.now.table task.0) }
-{
-    let Some(own) = opening.group_of(task) else {
-        return false;
-    };
-    let Some(level) = opening.level_of(task) else {
-        return false;
-    };
-    own.0 == group.0 && level.0 != opening.target().0
-}
-
 /// The group of the first birth's parent just before it; the claimed group where there is no birth.
 pub(crate) fn first_group<M: Consistency>(
     alloc: Global,
-    model: M,
-    leg: &GivenLeg<'_>,
+    cursor: &mut Cursor<'_, M>,
     lines: &[Line],
     claimed: GroupId,
-    last: usize,
 ) -> Result<GroupId, AllocError>
-    requires order { AreInOrder (leg_with leg.now.opening.now leg.now.events.now) last 0 (births lines.now) }
-    requires within { last ≤ length leg.now.events.now }
-    requires room { leg.now.opening.now.number + last ≤ 1000000 }
-    ensures { IfOk result (λ group. group.0 ≡ first_group M.rules (leg_with leg.now.opening.now leg.now.events.now) claimed.0 (births lines.now)) }
+    requires { AreInOrder (leg_in cursor.old.range) cursor.old.range.end 0 (births lines.now) }
+    ensures range { cursor.new.range ≡ cursor.old.range }
+    ensures group { IfOk result (λ group. group.0 ≡ first_group M.rules (leg_in cursor.old.range) claimed.0 (births lines.now)) }
 {
     for line in lines {
         if let Line::Born { parent, at, .. } = *line {
-            return group_before(alloc, model, leg, leg.moment(at) as usize, parent);
+            let moment = cursor.moment_of(at) as usize;
+            return group_before(alloc, cursor, moment, parent);
         }
     }
     Ok(claimed)
@@ -150,19 +114,16 @@ pub(crate) fn first_group<M: Consistency>(
 /// The group of a live task just before an event; group 0 for any other task.
 fn group_before<M: Consistency>(
     alloc: Global,
-    model: M,
-    leg: &GivenLeg<'_>,
+    cursor: &mut Cursor<'_, M>,
     moment: usize,
     task: TaskId,
 ) -> Result<GroupId, AllocError>
-    requires within { moment ≤ length leg.now.events.now }
-    requires room { leg.now.opening.now.number + moment ≤ 1000000 }
-    ensures { IfOk result (λ group. group.0 ≡ group_or_0 (after M.rules (leg_with leg.now.opening.now leg.now.events.now) (pred moment) task.0)) }
+    requires { moment ≤ cursor.old.range.end }
+    ensures range { cursor.new.range ≡ cursor.old.range }
+    ensures group { IfOk result (λ group. group.0 ≡ group_or_0 (after M.rules (leg_in cursor.old.range) (pred moment) task.0)) }
 {
-    let place = moment.saturating_sub(1);
-    let mut fold = leg.open(alloc, model)?;
-    leg.step_to(alloc, model, &mut fold, 0, place)?;
-    match leg.group_at(model, &fold, place, task) {
+    cursor.go_to(alloc, moment.saturating_sub(1))?;
+    match cursor.group_of(task) {
         Some(group) => Ok(group),
         None => Ok(GroupId(0)),
     }

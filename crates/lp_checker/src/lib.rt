@@ -8,7 +8,6 @@ mod cursor;
 mod fault;
 mod fold;
 mod gaps;
-mod given_leg;
 mod groups;
 pub mod laws;
 mod lines;

@@ -2,18 +2,14 @@
 ghost use Rattle.std.specs.Prelude.{◌≡◌, ℕ, true, suc, ◌+◌, ◌-◌, ◌≤◌, length, map, IfOk};
 ghost use Rattle.std.specs.List.{flat_map};
 ghost use Rattle.lp_transition.specs.Tasks.{first_of};
-ghost use Rattle.lp_checker.specs.Folds.{leg_with};
-ghost use Rattle.lp_checker.specs.inside.Folds.{IsAt};
 ghost use Rattle.lp_cert.specs.declared.line.Line.{Line};
 ghost use Rattle.lp_checker.specs.Verdict.{first_bad, is_busy, is_held_by, is_on_stack, line_test, line_tests};
-ghost use Rattle.lp_checker.specs.inside.Marks.{AreMarked};
-ghost use Rattle.lp_checker.specs.inside.Cursors.{IsCursor};
+ghost use Rattle.lp_checker.specs.inside.Marks.{is_blamed, was_busy, AreMarked};
+ghost use Rattle.lp_checker.specs.inside.Cursors.{leg_in};
 ghost use Rattle.lp_checker.specs.inside.Sections.{section_of, timed, FollowOn};
 
 use crate::CertFault;
 use crate::cursor::Cursor;
-use crate::fold::Fold;
-use crate::given_leg::GivenLeg;
 use crate::marks::{Mark, marks_of};
 use crate::sections::Section;
 use lp_cert::Line;
@@ -24,22 +20,17 @@ use std::alloc::{AllocError, Global};
 /// The fault of the first line at fault among those of all sections.
 pub(crate) fn line_fault<M: Consistency>(
     alloc: Global,
-    model: M,
-    leg: &GivenLeg<'_>,
+    cursor: &mut Cursor<'_, M>,
     lines: &[Line],
     sections: &[Section],
-    last: usize,
 ) -> Result<Option<CertFault>, AllocError>
-    requires times { FollowOn (length lines.now) last 0 sections.now }
-    requires within { last ≤ length leg.now.events.now }
-    requires room { leg.now.opening.now.number + last ≤ 1000000 }
-    ensures { IfOk result (λ fault. fault ≡ first_of (flat_map (line_tests M.rules (leg_with leg.now.opening.now leg.now.events.now)) (map (section_of lines.now) sections.now))) }
+    requires { FollowOn (length lines.now) cursor.old.range.end 0 sections.now }
+    ensures range { cursor.new.range ≡ cursor.old.range }
+    ensures fault { IfOk result (λ fault. fault ≡ first_of (flat_map (line_tests M.rules (leg_in cursor.old.range)) (map (section_of lines.now) sections.now))) }
 {
-    let mut cursor = Cursor::open(alloc, model, leg)?;
     for section in sections {
         let own = &lines[section.start..section.end];
-        let marks = marks_of(alloc, model, leg, &mut cursor, *section, own)?;
-        let fault = fault_in(alloc, model, leg, *section, own, marks.as_slice())?;
+        let fault = section_fault(alloc, cursor, *section, own)?;
         if fault.is_some() {
             return Ok(fault);
         }
@@ -47,26 +38,40 @@ pub(crate) fn line_fault<M: Consistency>(
     Ok(None)
 }
 
+/// The fault of the first line at fault among those of a section.
+fn section_fault<M: Consistency>(
+    alloc: Global,
+    cursor: &mut Cursor<'_, M>,
+    section: Section,
+    lines: &[Line],
+) -> Result<Option<CertFault>, AllocError>
+    requires { section.until ≤ cursor.old.range.end }
+    ensures range { cursor.new.range ≡ cursor.old.range }
+    ensures fault { IfOk result (λ fault. fault ≡ first_of (map (line_test M.rules (leg_in cursor.old.range) (timed section)) lines.now)) }
+{
+    let marks = marks_of(alloc, cursor, section, lines)?;
+    fault_in(alloc, cursor, section, lines, marks.as_slice())
+}
+
 /// The fault of the first line at fault among those of a section. Lines that are marked as sound
 /// have none.
 fn fault_in<M: Consistency>(
     alloc: Global,
-    model: M,
-    leg: &GivenLeg<'_>,
+    cursor: &mut Cursor<'_, M>,
     section: Section,
     lines: &[Line],
     marks: &[Mark],
 ) -> Result<Option<CertFault>, AllocError>
-    requires within { section.until ≤ length leg.now.events.now }
-    requires room { leg.now.opening.now.number + section.until ≤ 1000000 }
-    requires marks { AreMarked M.rules (leg_with leg.now.opening.now leg.now.events.now) (timed section) lines.now marks.now }
-    ensures { IfOk result (λ fault. fault ≡ first_of (map (line_test M.rules (leg_with leg.now.opening.now leg.now.events.now) (timed section)) lines.now)) }
+    requires within { section.until ≤ cursor.old.range.end }
+    requires marks { AreMarked M.rules (leg_in cursor.old.range) (timed section) lines.now marks.now }
+    ensures range { cursor.new.range ≡ cursor.old.range }
+    ensures fault { IfOk result (λ fault. fault ≡ first_of (map (line_test M.rules (leg_in cursor.old.range) (timed section)) lines.now)) }
 {
     for (i, line) in lines.iter().enumerate() {
         if is_sound(marks[i]) {
             continue;
         }
-        let fault = fault_of(alloc, model, leg, section, *line)?;
+        let fault = fault_of(alloc, cursor, section, *line)?;
         if fault.is_some() {
             return Ok(fault);
         }
@@ -84,14 +89,13 @@ fn is_sound(mark: Mark) -> bool
 /// The fault of a line of a section.
 fn fault_of<M: Consistency>(
     alloc: Global,
-    model: M,
-    leg: &GivenLeg<'_>,
+    cursor: &mut Cursor<'_, M>,
     section: Section,
     line: Line,
 ) -> Result<Option<CertFault>, AllocError>
-    requires within { section.until ≤ length leg.now.events.now }
-    requires room { leg.now.opening.now.number + section.until ≤ 1000000 }
-    ensures { IfOk result (λ fault. fault ≡ line_test M.rules (leg_with leg.now.opening.now leg.now.events.now) (timed section) line) }
+    requires { section.until ≤ cursor.old.range.end }
+    ensures range { cursor.new.range ≡ cursor.old.range }
+    ensures fault { IfOk result (λ fault. fault ≡ line_test M.rules (leg_in cursor.old.range) (timed section) line) }
 {
     match line {
         Line::Hold {
@@ -107,9 +111,9 @@ fn fault_of<M: Consistency>(
                 from,
                 to,
             };
-            hold_fault(alloc, model, leg, section, hold)
+            hold_fault(alloc, cursor, section, hold)
         },
-        Line::Busy { task, at, .. } => busy_fault(alloc, model, leg, section, task, at),
+        Line::Busy { task, at, .. } => busy_fault(alloc, cursor, section, task, at),
         Line::Born { .. } => Ok(None),
     }
 }
@@ -126,63 +130,117 @@ pub(crate) struct Hold {
 /// The fault of a `hold` line of a section.
 fn hold_fault<M: Consistency>(
     alloc: Global,
-    model: M,
-    leg: &GivenLeg<'_>,
+    cursor: &mut Cursor<'_, M>,
     section: Section,
     hold: Hold,
 ) -> Result<Option<CertFault>, AllocError>
-    requires within { section.until ≤ length leg.now.events.now }
-    requires room { leg.now.opening.now.number + section.until ≤ 1000000 }
-    ensures { IfOk result (λ fault. (group : GroupId) → fault ≡ line_test M.rules (leg_with leg.now.opening.now leg.now.events.now) (timed section) (Line.Hold group hold.task hold.serial hold.from hold.to)) }
+    requires { section.until ≤ cursor.old.range.end }
+    ensures range { cursor.new.range ≡ cursor.old.range }
+    ensures fault { IfOk result (λ fault. (group : GroupId) → fault ≡ line_test M.rules (leg_in cursor.old.range) (timed section) (Line.Hold group hold.task hold.serial hold.from hold.to)) }
 {
-    let refused = Ok(Some(CertFault::NoBlame(hold.from)));
-    if hold.from > hold.to {
-        return refused;
+    if !is_blamed(alloc, cursor, section, hold)? {
+        return Ok(Some(CertFault::NoBlame(hold.from)));
     }
-    let Some(begin) = leg.moment_within(hold.from, section.begin, section.until) else {
-        return refused;
-    };
-    let Some(end) = leg.moment_within(hold.to, section.begin, section.until) else {
-        return refused;
-    };
-    let mut fold = leg.open(alloc, model)?;
-    let blame = leg.blame_at(alloc, model, &mut fold, 0, begin, section.group, hold.task)?;
-    if !is_held_by(blame, hold.serial) {
-        return refused;
-    }
-    match first_off(alloc, model, leg, &mut fold, begin, end, hold)? {
+    match first_off(alloc, cursor, section, hold)? {
         None => Ok(None),
         Some(moment) => {
-            let left = leg.opening.number() + moment as u64;
+            let left = cursor.number() + moment as u64;
             Ok(Some(CertFault::NotOnStack(left)))
         }
     }
 }
 
+/// The first event of a `hold` line, by its place in the leg, after which its frame isn't on the
+/// task's stack.
+fn first_off<M: Consistency>(
+    alloc: Global,
+    cursor: &mut Cursor<'_, M>,
+    section: Section,
+    hold: Hold,
+) -> Result<Option<usize>, AllocError>
+    requires within { section.until ≤ cursor.old.range.end }
+    requires blamed { (group : GroupId) → is_blamed M.rules (leg_in cursor.old.range) (timed section) (Line.Hold group hold.task hold.serial hold.from hold.to) ≡ true }
+    ensures range { cursor.new.range ≡ cursor.old.range }
+    ensures off { let leg = leg_in cursor.old.range in let begin = hold.from - leg.number in IfOk result (λ off. off ≡ first_bad (suc (hold.to - leg.number) - begin) begin (is_on_stack M.rules leg hold.task.0 hold.serial)) }
+{
+    let begin = cursor.moment_of(hold.from) as usize;
+    let end = cursor.moment_of(hold.to) as usize;
+    for moment in begin..end + 1 {
+        cursor.go_to(alloc, moment)?;
+        if !cursor.has_frame(hold.task, hold.serial) {
+            return Ok(Some(moment));
+        }
+    }
+    Ok(None)
+}
+
+/// Whether a `hold` line lies in its section's time, and its frame is blamed at its first event. The
+/// cursor goes there.
+pub(crate) fn is_blamed<M: Consistency>(
+    alloc: Global,
+    cursor: &mut Cursor<'_, M>,
+    section: Section,
+    hold: Hold,
+) -> Result<bool, AllocError>
+    requires { section.until ≤ cursor.old.range.end }
+    ensures range { cursor.new.range ≡ cursor.old.range }
+    ensures blamed { IfOk result (λ b. (group : GroupId) → b ≡ is_blamed M.rules (leg_in cursor.old.range) (timed section) (Line.Hold group hold.task hold.serial hold.from hold.to)) }
+{
+    if hold.from > hold.to {
+        return Ok(false);
+    }
+    let Some(begin) = cursor.moment_within(hold.from, section.begin, section.until) else {
+        return Ok(false);
+    };
+    let Some(_) = cursor.moment_within(hold.to, section.begin, section.until) else {
+        return Ok(false);
+    };
+    cursor.go_to(alloc, begin)?;
+    let blame = cursor.blame(section.group, hold.task);
+    Ok(is_held_by(blame, hold.serial))
+}
+
 /// The fault of a `busy` line of a section.
 fn busy_fault<M: Consistency>(
     alloc: Global,
-    model: M,
-    leg: &GivenLeg<'_>,
+    cursor: &mut Cursor<'_, M>,
     section: Section,
     task: TaskId,
     at: u64,
 ) -> Result<Option<CertFault>, AllocError>
-    requires within { section.until ≤ length leg.now.events.now }
-    requires room { leg.now.opening.now.number + section.until ≤ 1000000 }
-    ensures { IfOk result (λ fault. (group : GroupId) → fault ≡ line_test M.rules (leg_with leg.now.opening.now leg.now.events.now) (timed section) (Line.Busy group task at)) }
+    requires { section.until ≤ cursor.old.range.end }
+    ensures range { cursor.new.range ≡ cursor.old.range }
+    ensures fault { IfOk result (λ fault. (group : GroupId) → fault ≡ line_test M.rules (leg_in cursor.old.range) (timed section) (Line.Busy group task at)) }
 {
-    let refused = Ok(Some(CertFault::NoBlame(at)));
-    let Some(moment) = leg.moment_within(at, section.begin, section.until) else {
-        return refused;
+    if was_busy(alloc, cursor, section, task, at)? {
+        Ok(None)
+    } else {
+        Ok(Some(CertFault::NoBlame(at)))
+    }
+}
+
+/// Whether the event of a `busy` line lies in its section's time, and its task is busy at it. The
+/// cursor goes there.
+pub(crate) fn was_busy<M: Consistency>(
+    alloc: Global,
+    cursor: &mut Cursor<'_, M>,
+    section: Section,
+    task: TaskId,
+    at: u64,
+) -> Result<bool, AllocError>
+    requires { section.until ≤ cursor.old.range.end }
+    ensures range { cursor.new.range ≡ cursor.old.range }
+    ensures busy { IfOk result (λ b. b ≡ was_busy M.rules (leg_in cursor.old.range) (timed section) task.0 at) }
+{
+    let Some(moment) = cursor.moment_within(at, section.begin, section.until) else {
+        return Ok(false);
     };
-    let mut fold = leg.open(alloc, model)?;
-    let blame = leg.blame_at(alloc, model, &mut fold, 0, moment, section.group, task)?;
-    if is_busy(blame) { Ok(None) } else { refused }
+    cursor.go_to(alloc, moment)?;
+    Ok(is_busy(cursor.blame(section.group, task)))
 }
 
 /// Whether a blame is that of the frame with a serial.
-pub(crate) fn is_held_by(blame: Option<Blame>, serial: u64) -> bool
+fn is_held_by(blame: Option<Blame>, serial: u64) -> bool
     ensures { result ≡ is_held_by serial blame }
 {
     match blame {
@@ -192,37 +250,8 @@ pub(crate) fn is_held_by(blame: Option<Blame>, serial: u64) -> bool
 }
 
 /// Whether a blame is that of a task on a CPU.
-pub(crate) fn is_busy(blame: Option<Blame>) -> bool
+fn is_busy(blame: Option<Blame>) -> bool
     ensures { result ≡ is_busy blame }
 {
     matches!(blame, Some(Blame::Busy))
-}
-
-/// The first of the moments from one to another at which the frame of a hold isn't on the task's stack.
-fn first_off<M: Consistency>(
-    alloc: Global,
-    model: M,
-    leg: &GivenLeg<'_>,
-    fold: &mut Fold,
-    begin: usize,
-    end: usize,
-    hold: Hold,
-) -> Result<Option<usize>, AllocError>
-    requires at { IsAt M.rules leg.now.opening.now leg.now.events.now begin fold.old }
-    requires order { begin ≤ end }
-    requires within { end ≤ length leg.now.events.now }
-    requires room { leg.now.opening.now.number + end ≤ 1000000 }
-    ensures { IfOk result (λ off. off ≡ first_bad (suc end - begin) begin (is_on_stack M.rules (leg_with leg.now.opening.now leg.now.events.now) hold.task.0 hold.serial)) }
-{
-    for moment in begin..end {
-        if !leg.has_frame(model, fold, moment, hold.task, hold.serial) {
-            return Ok(Some(moment));
-        }
-        leg.step(alloc, model, fold, moment)?;
-    }
-    if leg.has_frame(model, fold, end, hold.task, hold.serial) {
-        Ok(None)
-    } else {
-        Ok(Some(end))
-    }
 }

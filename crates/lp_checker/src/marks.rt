@@ -2,18 +2,15 @@
 ghost use Rattle.std.specs.Prelude.{◌≡◌, ℕ, All, ◌+◌, ◌<◌, ◌≤◌, true, length, IfOk, OnOk};
 ghost use Rattle.lp_stack.specs.declared.number.GroupId.{GroupId};
 ghost use Rattle.lp_cert.specs.declared.line.Line.{Line};
-ghost use Rattle.lp_checker.specs.Folds.{leg_with};
 ghost use Rattle.lp_checker.specs.inside.Marks.{is_blamed, IsMarked, AreMarked};
 ghost use Rattle.lp_checker.specs.inside.Sections.{timed};
-ghost use Rattle.lp_checker.specs.inside.Cursors.{IsCursor};
+ghost use Rattle.lp_checker.specs.inside.Cursors.{leg_in};
 
 use crate::cursor::Cursor;
-use crate::given_leg::GivenLeg;
-use crate::lines::{Hold, is_busy, is_held_by};
+use crate::lines::{Hold, is_blamed, was_busy};
 use crate::sections::Section;
 use lp_cert::Line;
 use lp_model::Consistency;
-use lp_stack::TaskId;
 use std::alloc::{AllocError, Global};
 
 /// What was found of a line so far.
@@ -36,79 +33,132 @@ struct Look {
     line: usize,
 }
 
+impl Look {
+    /// A look at the line of a place just after an event, with this many events up to the opening.
+    fn new(number: u64, at: u64, ends: bool, line: usize) -> Look
+        ensures { result.line ≡ line }
+    {
+        Look {
+            moment: at.saturating_sub(number),
+            ends,
+            line,
+        }
+    }
+}
+
 /// A mark for each line of a section.
 pub(crate) fn marks_of<M: Consistency>(
     alloc: Global,
-    model: M,
-    leg: &GivenLeg<'_>,
-    cursor: &mut Cursor,
+    cursor: &mut Cursor<'_, M>,
     section: Section,
     lines: &[Line],
 ) -> Result<Vec<Mark>, AllocError>
-    requires cursor { IsCursor M.rules leg.now.opening.now leg.now.events.now cursor.old }
-    requires within { section.until ≤ length leg.now.events.now }
-    requires room { leg.now.opening.now.number + section.until ≤ 1000000 }
-    ensures cursor { OnOk result (IsCursor M.rules leg.now.opening.now leg.now.events.now cursor.new) }
-    ensures marks { IfOk result (λ marks. AreMarked M.rules (leg_with leg.now.opening.now leg.now.events.now) (timed section) lines.now marks.items) }
+    requires { section.until ≤ cursor.old.range.end }
+    ensures range { cursor.new.range ≡ cursor.old.range }
+    ensures marks { IfOk result (λ marks. AreMarked M.rules (leg_in cursor.old.range) (timed section) lines.now marks.items) }
 {
     let mut marks = vec![in alloc; Mark::Open; lines.len()]?;
-    for look in &looks_at(alloc, leg, lines)? {
-        let i = look.line;
-        let mark = if look.ends {
-            at_end(alloc, model, leg, cursor, section, lines[i], marks[i])?
-        } else {
-            at_begin(alloc, model, leg, cursor, section, lines[i])?
-        };
-        marks[i] = mark;
-    }
+    mark_lines(alloc, cursor, section, lines, &mut marks)?;
     Ok(marks)
 }
 
-/// The looks at lines, in the order of the events.
-fn looks_at(alloc: Global, leg: &GivenLeg<'_>, lines: &[Line]) -> Result<Vec<Look>, AllocError>
+/// Marks the lines of a section, which have their marks so far.
+fn mark_lines<M: Consistency>(
+    alloc: Global,
+    cursor: &mut Cursor<'_, M>,
+    section: Section,
+    lines: &[Line],
+    marks: &mut [Mark],
+) -> Result<(), AllocError>
+    requires within { section.until ≤ cursor.old.range.end }
+    requires marks { AreMarked M.rules (leg_in cursor.old.range) (timed section) lines.now marks.old }
+    ensures range { cursor.new.range ≡ cursor.old.range }
+    ensures marks { OnOk result (AreMarked M.rules (leg_in cursor.old.range) (timed section) lines.now marks.new) }
+{
+    let looks = looks_at(alloc, cursor.number(), lines)?;
+    mark_by(alloc, cursor, section, lines, looks.as_slice(), marks)
+}
+
+/// Marks lines by looks at them, one after the other.
+fn mark_by<M: Consistency>(
+    alloc: Global,
+    cursor: &mut Cursor<'_, M>,
+    section: Section,
+    lines: &[Line],
+    looks: &[Look],
+    marks: &mut [Mark],
+) -> Result<(), AllocError>
+    requires within { section.until ≤ cursor.old.range.end }
+    requires looks { All (λ look. look.line < length lines.now) looks.now }
+    requires marks { AreMarked M.rules (leg_in cursor.old.range) (timed section) lines.now marks.old }
+    ensures range { cursor.new.range ≡ cursor.old.range }
+    ensures marks { OnOk result (AreMarked M.rules (leg_in cursor.old.range) (timed section) lines.now marks.new) }
+{
+    for look in looks {
+        let i = look.line;
+        marks[i] = mark_at(alloc, cursor, section, look.ends, lines[i], marks[i])?;
+    }
+    Ok(())
+}
+
+/// The looks at lines, in the order of the events, with this many events up to the opening.
+fn looks_at(alloc: Global, number: u64, lines: &[Line]) -> Result<Vec<Look>, AllocError>
     ensures { IfOk result (λ looks. All (λ look. look.line < length lines.now) looks.items) }
 {
     let mut looks = Vec::new(alloc);
-    for (line, what) in lines.iter().enumerate() {
-        match *what {
-            Line::Hold { from, to, .. } => {
-                looks.push(Look {
-                    moment: leg.moment(from),
-                    ends: false,
-                    line,
-                })?;
-                looks.push(Look {
-                    moment: leg.moment(to),
-                    ends: true,
-                    line,
-                })?;
-            }
-            Line::Busy { at, .. } => looks.push(Look {
-                moment: leg.moment(at),
-                ends: false,
-                line,
-            })?,
-            Line::Born { .. } => {}
-        }
+    for (i, line) in lines.iter().enumerate() {
+        add_looks(&mut looks, number, *line, i)?;
     }
     looks.sort_unstable();
     Ok(looks)
 }
 
+/// Adds the looks at a line, which has this place among the lines.
+fn add_looks(looks: &mut Vec<Look>, number: u64, line: Line, place: usize) -> Result<(), AllocError>
+    ensures { (size : ℕ) → place < size → All (λ look. look.line < size) looks.old.items → OnOk result (All (λ look. look.line < size) looks.new.items) }
+{
+    match line {
+        Line::Hold { from, to, .. } => {
+            looks.push(Look::new(number, from, false, place))?;
+            looks.push(Look::new(number, to, true, place))?;
+        }
+        Line::Busy { at, .. } => looks.push(Look::new(number, at, false, place))?,
+        Line::Born { .. } => {}
+    }
+    Ok(())
+}
+
+/// The mark of a line that had one, after a look at where it ends or at where it begins.
+fn mark_at<M: Consistency>(
+    alloc: Global,
+    cursor: &mut Cursor<'_, M>,
+    section: Section,
+    ends: bool,
+    line: Line,
+    mark: Mark,
+) -> Result<Mark, AllocError>
+    requires within { section.until ≤ cursor.old.range.end }
+    requires marked { IsMarked M.rules (leg_in cursor.old.range) (timed section) line mark }
+    ensures range { cursor.new.range ≡ cursor.old.range }
+    ensures marked { IfOk result (λ mark. IsMarked M.rules (leg_in cursor.old.range) (timed section) line mark) }
+{
+    if ends {
+        at_end(alloc, cursor, section, line, mark)
+    } else {
+        at_begin(alloc, cursor, section, line)
+    }
+}
+
 /// The mark of a line by the event at which it begins.
 fn at_begin<M: Consistency>(
     alloc: Global,
-    model: M,
-    leg: &GivenLeg<'_>,
-    cursor: &mut Cursor,
+    cursor: &mut Cursor<'_, M>,
     section: Section,
     line: Line,
 ) -> Result<Mark, AllocError>
-    requires cursor { IsCursor M.rules leg.now.opening.now leg.now.events.now cursor.old }
-    requires within { section.until ≤ length leg.now.events.now }
-    requires room { leg.now.opening.now.number + section.until ≤ 1000000 }
-    ensures cursor { OnOk result (IsCursor M.rules leg.now.opening.now leg.now.events.now cursor.new) }
-    ensures marked { IfOk result (λ mark. IsMarked M.rules (leg_with leg.now.opening.now leg.now.events.now) (timed section) line mark) }
+    requires { section.until ≤ cursor.old.range.end }
+    ensures range { cursor.new.range ≡ cursor.old.range }
+    ensures marked { IfOk result (λ mark. IsMarked M.rules (leg_in cursor.old.range) (timed section) line mark) }
 {
     match line {
         Line::Hold {
@@ -124,9 +174,13 @@ fn at_begin<M: Consistency>(
                 from,
                 to,
             };
-            held_at_first(alloc, model, leg, cursor, section, hold)
+            let blamed = is_blamed(alloc, cursor, section, hold)?;
+            Ok(if blamed { Mark::Blamed } else { Mark::Open })
         }
-        Line::Busy { task, at, .. } => was_busy(alloc, model, leg, cursor, section, task, at),
+        Line::Busy { task, at, .. } => {
+            let busy = was_busy(alloc, cursor, section, task, at)?;
+            Ok(if busy { Mark::Sound } else { Mark::Open })
+        }
         Line::Born { .. } => Ok(Mark::Sound),
     }
 }
@@ -134,19 +188,15 @@ fn at_begin<M: Consistency>(
 /// The mark of a line that had one by the event at which it ends.
 fn at_end<M: Consistency>(
     alloc: Global,
-    model: M,
-    leg: &GivenLeg<'_>,
-    cursor: &mut Cursor,
+    cursor: &mut Cursor<'_, M>,
     section: Section,
     line: Line,
     mark: Mark,
 ) -> Result<Mark, AllocError>
-    requires cursor { IsCursor M.rules leg.now.opening.now leg.now.events.now cursor.old }
-    requires within { section.until ≤ length leg.now.events.now }
-    requires room { leg.now.opening.now.number + section.until ≤ 1000000 }
-    requires marked { IsMarked M.rules (leg_with leg.now.opening.now leg.now.events.now) (timed section) line mark }
-    ensures cursor { OnOk result (IsCursor M.rules leg.now.opening.now leg.now.events.now cursor.new) }
-    ensures marked { IfOk result (λ mark. IsMarked M.rules (leg_with leg.now.opening.now leg.now.events.now) (timed section) line mark) }
+    requires within { section.until ≤ cursor.old.range.end }
+    requires marked { IsMarked M.rules (leg_in cursor.old.range) (timed section) line mark }
+    ensures range { cursor.new.range ≡ cursor.old.range }
+    ensures marked { IfOk result (λ mark. IsMarked M.rules (leg_in cursor.old.range) (timed section) line mark) }
 {
     let Line::Hold {
         task,
@@ -167,93 +217,27 @@ fn at_end<M: Consistency>(
         from,
         to,
     };
-    held_to_end(alloc, model, leg, cursor, section, hold)
-}
-
-/// The mark of a `hold` line by its first event.
-fn held_at_first<M: Consistency>(
-    alloc: Global,
-    model: M,
-    leg: &GivenLeg<'_>,
-    cursor: &mut Cursor,
-    section: Section,
-    hold: Hold,
-) -> Result<Mark, AllocError>
-    requires cursor { IsCursor M.rules leg.now.opening.now leg.now.events.now cursor.old }
-    requires within { section.until ≤ length leg.now.events.now }
-    requires room { leg.now.opening.now.number + section.until ≤ 1000000 }
-    ensures cursor { OnOk result (IsCursor M.rules leg.now.opening.now leg.now.events.now cursor.new) }
-    ensures marked { IfOk result (λ mark. (group : GroupId) → IsMarked M.rules (leg_with leg.now.opening.now leg.now.events.now) (timed section) (Line.Hold group hold.task hold.serial hold.from hold.to) mark) }
-{
-    if hold.from > hold.to {
-        return Ok(Mark::Open);
-    }
-    let Some(begin) = leg.moment_within(hold.from, section.begin, section.until) else {
-        return Ok(Mark::Open);
-    };
-    let Some(_) = leg.moment_within(hold.to, section.begin, section.until) else {
-        return Ok(Mark::Open);
-    };
-    cursor.go_to(alloc, model, leg, begin)?;
-    if is_held_by(
-        cursor.blame(model, leg, section.group, hold.task),
-        hold.serial,
-    ) {
-        Ok(Mark::Blamed)
-    } else {
-        Ok(Mark::Open)
-    }
+    held_to_end(alloc, cursor, section, hold)
 }
 
 /// The mark of a `hold` line, whose frame was blamed at its first event, by its last one. A frame
 /// that is there at both was there all the time.
 fn held_to_end<M: Consistency>(
     alloc: Global,
-    model: M,
-    leg: &GivenLeg<'_>,
-    cursor: &mut Cursor,
+    cursor: &mut Cursor<'_, M>,
     section: Section,
     hold: Hold,
 ) -> Result<Mark, AllocError>
-    requires cursor { IsCursor M.rules leg.now.opening.now leg.now.events.now cursor.old }
-    requires within { section.until ≤ length leg.now.events.now }
-    requires room { leg.now.opening.now.number + section.until ≤ 1000000 }
-    requires blamed { (group : GroupId) → is_blamed M.rules (leg_with leg.now.opening.now leg.now.events.now) (timed section) (Line.Hold group hold.task hold.serial hold.from hold.to) ≡ true }
-    ensures cursor { OnOk result (IsCursor M.rules leg.now.opening.now leg.now.events.now cursor.new) }
-    ensures marked { IfOk result (λ mark. (group : GroupId) → IsMarked M.rules (leg_with leg.now.opening.now leg.now.events.now) (timed section) (Line.Hold group hold.task hold.serial hold.from hold.to) mark) }
+    requires within { section.until ≤ cursor.old.range.end }
+    requires blamed { (group : GroupId) → is_blamed M.rules (leg_in cursor.old.range) (timed section) (Line.Hold group hold.task hold.serial hold.from hold.to) ≡ true }
+    ensures range { cursor.new.range ≡ cursor.old.range }
+    ensures marked { IfOk result (λ mark. (group : GroupId) → IsMarked M.rules (leg_in cursor.old.range) (timed section) (Line.Hold group hold.task hold.serial hold.from hold.to) mark) }
 {
-    let Some(end) = leg.moment_within(hold.to, section.begin, section.until) else {
+    let Some(end) = cursor.moment_within(hold.to, section.begin, section.until) else {
         return Ok(Mark::Open);
     };
-    cursor.go_to(alloc, model, leg, end)?;
-    if cursor.has_frame(model, leg, hold.task, hold.serial) {
-        Ok(Mark::Sound)
-    } else {
-        Ok(Mark::Open)
-    }
-}
-
-/// The mark of a `busy` line.
-fn was_busy<M: Consistency>(
-    alloc: Global,
-    model: M,
-    leg: &GivenLeg<'_>,
-    cursor: &mut Cursor,
-    section: Section,
-    task: TaskId,
-    at: u64,
-) -> Result<Mark, AllocError>
-    requires cursor { IsCursor M.rules leg.now.opening.now leg.now.events.now cursor.old }
-    requires within { section.until ≤ length leg.now.events.now }
-    requires room { leg.now.opening.now.number + section.until ≤ 1000000 }
-    ensures cursor { OnOk result (IsCursor M.rules leg.now.opening.now leg.now.events.now cursor.new) }
-    ensures marked { IfOk result (λ mark. (group : GroupId) → IsMarked M.rules (leg_with leg.now.opening.now leg.now.events.now) (timed section) (Line.Busy group task at) mark) }
-{
-    let Some(moment) = leg.moment_within(at, section.begin, section.until) else {
-        return Ok(Mark::Open);
-    };
-    cursor.go_to(alloc, model, leg, moment)?;
-    if is_busy(cursor.blame(model, leg, section.group, task)) {
+    cursor.go_to(alloc, end)?;
+    if cursor.has_frame(hold.task, hold.serial) {
         Ok(Mark::Sound)
     } else {
         Ok(Mark::Open)

@@ -1,12 +1,12 @@
 //! The sections of a certificate: a group each, its time in the leg, and its lines.
-ghost use Rattle.std.specs.Prelude.{◌≡◌, ℕ, map, length, IfOk};
-ghost use Rattle.lp_model.specs.Rules.{Rules};
-ghost use Rattle.lp_checker.specs.Folds.{leg_with};
+ghost use Rattle.std.specs.Prelude.{◌≡◌, map, length, IfOk};
+ghost use Rattle.lp_checker.specs.inside.Cursors.{leg_in};
 ghost use Rattle.lp_checker.specs.Verdict.{births, first_lines, sections};
 ghost use Rattle.lp_checker.specs.inside.Sections.{section_of, AreInOrder, FollowOn};
 
-use crate::given_leg::GivenLeg;
+use crate::cursor::Cursor;
 use lp_cert::Line;
+use lp_model::Consistency;
 use lp_stack::GroupId;
 use std::alloc::{AllocError, Global};
 
@@ -26,17 +26,17 @@ pub(crate) struct Section {
 
 /// The sections of a certificate, the first of which is that of the first group. Each birth ends
 /// one and begins the next.
-pub(crate) fn sections(
+pub(crate) fn sections<M: Consistency>(
     alloc: Global,
-    leg: &GivenLeg<'_>,
+    cursor: &Cursor<'_, M>,
     lines: &[Line],
     first: GroupId,
-    last: usize,
 ) -> Result<Vec<Section>, AllocError>
-    requires { AreInOrder (leg_with leg.now.opening.now leg.now.events.now) last 0 (births lines.now) }
-    ensures sections { IfOk result (λ parts. (model : Rules) → map (section_of lines.now) parts.items ≡ sections model (leg_with leg.now.opening.now leg.now.events.now) last first.0 0 (first_lines lines.now) (births lines.now)) }
-    ensures times { IfOk result (λ parts. FollowOn (length lines.now) last 0 parts.items) }
+    requires { AreInOrder (leg_in cursor.now.range) cursor.now.range.end 0 (births lines.now) }
+    ensures sections { IfOk result (λ parts. map (section_of lines.now) parts.items ≡ sections M.rules (leg_in cursor.now.range) cursor.now.range.end first.0 0 (first_lines lines.now) (births lines.now)) }
+    ensures times { IfOk result (λ parts. FollowOn (length lines.now) cursor.now.range.end 0 parts.items) }
 {
+    let last = cursor.end();
     let mut parts = Vec::new(alloc);
     let mut part = Section {
         group: first,
@@ -47,7 +47,7 @@ pub(crate) fn sections(
     };
     for (i, line) in lines.iter().enumerate() {
         if let Line::Born { group, at, .. } = *line {
-            let moment = leg.moment(at) as usize;
+            let moment = cursor.moment_of(at) as usize;
             parts.push(Section {
                 until: moment,
                 end: i,

@@ -6,7 +6,7 @@ use Rattle.lp_cert.specs.declared.line.Line.{Line}
 use Rattle.lp_cert.specs.declared.line.Line.TheVariants.{Hold, Busy, Born}
 use Rattle.lp_checker.specs.declared.marks.Mark.{Mark}
 use Rattle.lp_checker.specs.declared.marks.Mark.TheVariants.{Open, Blamed, Sound}
-use Rattle.lp_checker.specs.Verdict.{Section, blame_at, is_held_by, lies_in, line_test, moment_of}
+use Rattle.lp_checker.specs.Verdict.{Section, blame_at, is_busy, is_held_by, lies_in, line_test, moment_of}
 
 module _ (model : Rules) (leg : Leg) (section : Section) where
   -- a hold lies in the section's time, and its frame is blamed at its first event
@@ -17,6 +17,10 @@ module _ (model : Rules) (leg : Leg) (section : Section) where
       && is_held_by serial (blame_at model leg section.group begin t.0)
   is_blamed (Busy group t at) = false
   is_blamed (Born group parent at) = false
+
+  -- a busy line lies in the section's time, and its task is busy there
+  abbrev pub was_busy : (task at : ℕ) → Bool
+  was_busy task at = let moment = moment_of model leg at in lies_in section moment && is_busy (blame_at model leg section.group moment task)
 
   abbrev pub IsMarked : Line → Mark → Type 0
   IsMarked line Open = Unit {0}

@@ -1,5 +1,5 @@
 //! The live tasks by their numbers.
-ghost use Rattle.std.specs.Prelude.{◌≡◌, ℕ, ◌<◌, ◌≤◌, None, not, length, count_by, is_some, option_copied, slice_index, nat_eq, if◌then◌else◌, Some, IfOk, OnOk};
+ghost use Rattle.std.specs.Prelude.{◌≡◌, ℕ, ◌<◌, ◌≤◌, None, not, length, count_by, is_some, option_copied, slice_index, nat_eq, if◌then◌else◌, Some, IfOk, OnOk, OnErr};
 ghost use Rattle.std.specs.Option.{ForSome, option_map};
 ghost use Rattle.lp_numbers.specs.Numbers.{has};
 ghost use Rattle.lp_checker.specs.inside.Tables.{all_slots};
@@ -110,7 +110,8 @@ impl FoldedTable {
     pub(crate) fn put(&mut self, task: TaskId, live: FoldedTask) -> Result<(), AllocError>
         requires positive { 0 < task.0 }
         requires free { slot self.old task.0 ≡ None }
-        ensures { OnOk result (standings self.new ≡ (λ t. if nat_eq t task.0 then Live live else standings self.old t)) }
+        ensures put { OnOk result (standings self.new ≡ (λ t. if nat_eq t task.0 then Live live else standings self.old t)) }
+        ensures unchanged { OnErr result (standings self.new ≡ standings self.old) }
     {
         let place = usize::from(task.0);
         let group = usize::from(live.group().0);
@@ -134,7 +135,8 @@ impl FoldedTable {
     /// The task calls a function, if it is live; it has room for one more frame.
     pub(crate) fn call(&mut self, task: TaskId, func: SymId, serial: u32) -> Result<(), AllocError>
         requires { ForSome (slot self.old task.0) (λ x. length x.frames < 100) }
-        ensures { OnOk result (standings self.new ≡ change task.0 (calling serial func) (standings self.old)) }
+        ensures called { OnOk result (standings self.new ≡ change task.0 (calling serial func) (standings self.old)) }
+        ensures unchanged { OnErr result (standings self.new ≡ standings self.old) }
     {
         let place = usize::from(task.0);
         if place >= self.slots.len() {

@@ -17,7 +17,7 @@ returns-in-Some c =
     let live = live_from_slot table t x (sym c.in_ok-live.ensures ∙ c.in-Some.is) in
     on_ok_weaker c.put.result
     (λ (e : standings c.put.new.self ≡ (λ u. if nat_eq u t then Live x else standings c.args.tasks.now u)). one_set t (standings c.put.new.self) (standings c.args.tasks.now) (standings table) (Live x) live e)
-    c.put.ensures
+    c.put.ensures.put
 
 pub returns-in-None : goal.returns-in-None
 returns-in-None c =

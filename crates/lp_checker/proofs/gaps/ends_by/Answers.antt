@@ -1,13 +1,12 @@
-use Rattle.std.proofs.Common.{◌≡◌, ℕ, suc, ◌-◌, ◌<◌, ◌++◌, List, length, take, drop, nat_le, slice_index, take_all, ap, ◌∙◌, arith}
+use Rattle.std.proofs.Common.{◌≡◌, ℕ, suc, ◌-◌, ◌<◌, ◌++◌, List, length, take, drop, nat_le, nat_lt, slice_index, take_all, sym, ap, ◌∙◌, arith}
 use Rattle.std.proofs.lemmas.List.{take-append-le}
 use Rattle.std.specs.List.{list_any}
-use Rattle.lp_checker.specs.Folds.{leg_with}
+use Rattle.lp_checker.specs.inside.Spans.{some_spans_to}
 use Rattle.lp_checker.proofs.SpanLines.{ends_so_far, lines_cover}
 use Rattle.lp_checker.proofs.gaps.ends_by.Goals as goal
 
 pub returns-clause-covers : goal.returns-clause-covers
-returns-clause-covers c = λ model moment low high.
-    let leg = leg_with c.args.leg.now.opening.now c.args.leg.now.events.now in
+returns-clause-covers c = λ model leg moment its low high.
     let begin = c.args.section.begin in
     let last : ℕ = c.args.section.until - begin in
     let place : ℕ = moment - begin in
@@ -22,5 +21,6 @@ returns-clause-covers c = λ model moment low high.
     ap (λ (xs : List ℕ). nat_le moment (slice_index xs place)) written
     ∙ c.keep_greatest.ensures place moment there positive
     ∙ ap (λ (xs : List ℕ). list_any (nat_le moment) (take (suc place) xs)) c.deref_mut.ensures.value
-    ∙ ends_so_far leg.number begin last c.args.lines.now own all c.in_ok-ends.ensures.ends moment positive (suc place) (omega (arith, low, high))
+    ∙ ends_so_far c.args.number begin last c.args.lines.now own all c.in_ok-ends.ensures.ends moment positive (suc place) (omega (arith, low, high))
+    ∙ ap (λ n. some_spans_to n begin (λ at. nat_lt at (suc (moment - begin))) moment c.args.lines.now) (sym its)
     ∙ lines_cover model leg begin moment low c.args.lines.now

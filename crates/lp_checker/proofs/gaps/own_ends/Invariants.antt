@@ -6,5 +6,5 @@ use Rattle.lp_checker.proofs.gaps.own_ends.Given as goal
 abbrev pub invariant-loop-line : goal.invariant-loop-line
 invariant-loop-line l = record {
   all : length l.ends.items ≡ suc (l.fn.section.until - l.fn.section.begin);
-  ends : AreEnds l.fn.leg.opening.now.number l.fn.section.begin (l.fn.section.until - l.fn.section.begin) (λ place at. nat_eq at place) (take l.line-index l.fn.lines) l.ends.items;
+  ends : AreEnds l.fn.number l.fn.section.begin (l.fn.section.until - l.fn.section.begin) (λ place at. nat_eq at place) (take l.line-index l.fn.lines) l.ends.items;
 }

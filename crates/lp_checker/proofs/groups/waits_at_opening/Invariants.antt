@@ -5,4 +5,4 @@ use Rattle.lp_checker.proofs.groups.waits_at_opening.Given as goal
 
 -- none so far
 abbrev pub invariant-loop-number : goal.invariant-loop-number
-invariant-loop-number g l = (t : ℕ) → t < l.number → is_waiting_member l.fn.leg.opening.now.target l.fn.group.0 (slot l.fn.leg.opening.now.table t) ≡ false
+invariant-loop-number g l = (t : ℕ) → t < l.number → is_waiting_member l.fn.cursor.range.opening.target l.fn.group.0 (slot l.fn.cursor.range.opening.table t) ≡ false

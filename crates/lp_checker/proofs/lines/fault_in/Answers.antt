@@ -1,11 +1,14 @@
 use Rattle.std.proofs.Common.{add-one, ◌∙◌}
 use Rattle.lp_cert.specs.declared.line.Line.TheVariants.{Hold}
-use Rattle.lp_checker.specs.Folds.{leg_with}
+use Rattle.lp_checker.specs.inside.Cursors.{leg_in}
 use Rattle.lp_checker.specs.inside.Sections.{timed}
 use Rattle.lp_checker.proofs.MarkLines.{passes_sound}
 use Rattle.lp_checker.proofs.lines.fault_in.Goals as goal
 
 pub loop-i-preserved-then-is_sound : goal.loop-i-preserved-then-is_sound
 loop-i-preserved-then-is_sound g c =
-    let leg = leg_with c.args.leg.now.opening.now c.args.leg.now.events.now in
-    rw add-one (c.loop-i.invariant ∙ passes_sound g.M.Consistency.rules leg (timed c.args.section) c.args.lines.now c.args.marks.now c.loop-i.i (Hold (record { 0 = 0 }) (record { 0 = 0 }) 0 0 0) _ c.loop-i-test.true (c.is_sound.ensures c.if-is_sound.true) c.requires.marks)
+    let leg = leg_in c.args.cursor.now.range in
+    rw add-one (record {
+      range = c.loop-i.invariant.range;
+      rest = c.loop-i.invariant.rest ∙ passes_sound g.M.Consistency.rules leg (timed c.args.section) c.args.lines.now c.args.marks.now c.loop-i.i (Hold (record { 0 = 0 }) (record { 0 = 0 }) 0 0 0) _ c.loop-i-test.true (c.is_sound.ensures c.if-is_sound.true) c.requires.marks;
+    })

@@ -1,10 +1,13 @@
 use Rattle.std.proofs.Common.{◌≡◌, map, drop}
 use Rattle.lp_transition.specs.Tasks.{first_of}
-use Rattle.lp_checker.specs.Folds.{leg_with}
 use Rattle.lp_checker.specs.Verdict.{line_test}
+use Rattle.lp_checker.specs.inside.Cursors.{leg_in}
 use Rattle.lp_checker.specs.inside.Sections.{timed}
 use Rattle.lp_checker.proofs.lines.fault_in.Given as goal
 
 -- no fault so far
 abbrev pub invariant-loop-i : goal.invariant-loop-i
-invariant-loop-i g l = let test = line_test g.M.Consistency.rules (leg_with l.fn.leg.opening.now l.fn.leg.events.now) (timed l.fn.section) in first_of (map test l.fn.lines) ≡ first_of (map test (drop l.i l.fn.lines))
+invariant-loop-i g l = record {
+  range : l.cursor.range ≡ l.fn.cursor.range;
+  rest : let test = line_test g.M.Consistency.rules (leg_in l.fn.cursor.range) (timed l.fn.section) in first_of (map test l.fn.lines) ≡ first_of (map test (drop l.i l.fn.lines));
+}

@@ -2,5 +2,5 @@ use Rattle.std.proofs.Common.{◌<◌, All, length}
 use Rattle.lp_checker.proofs.marks.looks_at.Given as goal
 
 -- each look is at a line
-abbrev pub invariant-loop-line : goal.invariant-loop-line
-invariant-loop-line l = All (λ look. look.line < length l.fn.lines) l.looks.items
+abbrev pub invariant-loop-i : goal.invariant-loop-i
+invariant-loop-i l = All (λ look. look.line < length l.fn.lines) l.looks.items

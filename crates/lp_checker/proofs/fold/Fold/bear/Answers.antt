@@ -21,4 +21,4 @@ returns-clause-tasks g c =
     let fate : Live c.new-born.result ≡ map_live (bearing grouping c.args.child.0 c.args.how) (standings old c.args.parent.0) = ap Live born ∙ sym (ap (map_live (bearing grouping c.args.child.0 c.args.how)) live) in
     on_ok_weaker c.put.result
     (λ (e : standings c.put.new.self ≡ (λ t. if nat_eq t c.args.child.0 then Live c.new-born.result else standings old t)). e ∙ ap (λ (f : Fate Standing). λ (t : ℕ). if nat_eq t c.args.child.0 then f else standings old t) fate)
-    c.put.ensures
+    c.put.ensures.put

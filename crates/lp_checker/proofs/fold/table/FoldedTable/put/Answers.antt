@@ -34,8 +34,8 @@ invariant_of-self-2 c =
     (subst (λ m. IsKept (set slots t (Some x)) (set i.used t true) (set members c.from-group.result (m + 1))) (sym here)
     (subst (λ n. IsKept (set slots t (Some x)) (set i.used t true) (set members n (get_or members n 0 + 1))) same kept))
 
-pub returns : goal.returns
-returns c =
+pub returns-clause-put : goal.returns-clause-put
+returns-clause-put c =
     let i = c.self.inside in
     let t = c.args.task.0 in
     let x = c.args.live in
