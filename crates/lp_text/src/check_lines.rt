@@ -89,26 +89,11 @@ fn claim_words(alloc: Global, left: Option<&[u8]>) -> Result<Cert, Cause>
 fn hold_line(left: Option<&[u8]>) -> Result<Line, Cause>
     ensures { GivesExactly (λ line. line) result (hold_line (words_left (option_copied left.entry))) }
 {
-    let (group, left) = match next_member(left) {
-        Ok(found) => found,
-        Err(fault) => return Err(fault),
-    };
-    let (task, left) = match next_member(left) {
-        Ok(found) => found,
-        Err(fault) => return Err(fault),
-    };
-    let (serial, left) = match next_event(left) {
-        Ok(found) => found,
-        Err(fault) => return Err(fault),
-    };
-    let (from, left) = match next_event(left) {
-        Ok(found) => found,
-        Err(fault) => return Err(fault),
-    };
-    let to = match last_event(left) {
-        Ok(to) => to,
-        Err(fault) => return Err(fault),
-    };
+    let (group, left) = next_member(left)?;
+    let (task, left) = next_member(left)?;
+    let (serial, left) = next_event(left)?;
+    let (from, left) = next_event(left)?;
+    let to = last_event(left)?;
     Ok(Line::Hold {
         group: GroupId(group),
         task: TaskId(task),
