@@ -86,11 +86,19 @@ fn name_a(alloc: Global) -> Result<Symbols, SymFault> {
     Ok(symbols)
 }
 
-/// A stack of one patch of `a`. The fault is NoMemory also where the name gets no memory.
+/// A patch of `a`. The fault is NoMemory also where the name gets no memory.
+fn patch_of_a(alloc: Global) -> Result<PatchSet, PatchFault> {
+    match name_a(alloc) {
+        Ok(symbols) => PatchSet::build(alloc, &symbols, &[A]),
+        Err(_) => Err(PatchFault::NoMemory),
+    }
+}
+
+/// A stack of one patch of `a`.
 fn patched(alloc: Global) -> Result<PatchStack, PatchFault> {
-    let symbols = name_a(alloc).map_err(|_| PatchFault::NoMemory)?;
+    let patch = patch_of_a(alloc)?;
     let mut sets = Vec::new(alloc);
-    sets.push(PatchSet::build(alloc, &symbols, &[A])?)?;
+    sets.push(patch)?;
     PatchStack::new(alloc, sets)
 }
 
@@ -136,24 +144,84 @@ fn submit<M: Consistency, N: DeskName, R: Wait>(
     }
     let seat = seats.remove(place);
     match desk.submit(rt, alloc, seat, event) {
-        Ok(
-            Submitted {
-                seat,
-                reply,
-                child,
-                ..
-            },
-        ) => {
-            seats.insert(place, seat)?;
-            if let Some(child) = child {
-                seats.push(child)?;
-            }
-            Ok(Ok(in_short(&reply)))
-        }
+        Ok(done) => Ok(Ok(put_back(seats, place, done)?)),
         Err(Turned { part, cause }) => {
             seats.insert(place, part)?;
             Ok(Err(cause))
         }
+    }
+}
+
+/// What is said in an answer, whose seat goes back to its place. The child's seat comes last.
+fn put_back<N: DeskName>(
+    seats: &mut Vec<Seat>,
+    place: usize,
+    done: Submitted<N>,
+) -> Result<Said, Fail> {
+    if place > seats.len() {
+        return Err("no such place".into());
+    }
+    let Submitted {
+        seat,
+        reply,
+        told,
+        child,
+    } = done;
+    drop(told);
+    let said = in_short(&reply);
+    drop(reply);
+    seats.insert(place, seat)?;
+    if let Some(child) = child {
+        seats.push(child)?;
+    }
+    Ok(said)
+}
+
+/// The seat after an event that was sent from it, and what was said and told.
+fn sent_from<M: Consistency, N: DeskName, G: ScanGate + Drop, R: Wait>(
+    rt: &R,
+    alloc: Global,
+    desk: &Desk<M, N, G, &R>,
+    seat: Seat,
+    event: Event,
+) -> Option<(Seat, Said, Told<N>)> {
+    match desk.submit(rt, alloc, seat, event) {
+        Ok(
+            Submitted {
+                seat,
+                reply,
+                told,
+                ..
+            },
+        ) => Some((seat, in_short(&reply), told)),
+        Err(_) => None,
+    }
+}
+
+/// What a desk says to an event that is sent from a seat; None where it is turned back.
+fn said_to_seat<M: Consistency, N: DeskName, G: ScanGate + Drop, R: Wait>(
+    rt: &R,
+    alloc: Global,
+    desk: &Desk<M, N, G, &R>,
+    seat: Seat,
+    event: Event,
+) -> Option<Said> {
+    match desk.submit(rt, alloc, seat, event) {
+        Ok(done) => Some(in_short(&done.reply)),
+        Err(_) => None,
+    }
+}
+
+/// What a desk says to an event that is sent from the control; None where it is turned back.
+fn said_to_control<
+    M: Consistency + Sync,
+    N: DeskName,
+    G: ScanGate + Sync + Drop,
+    R: Threads + Wait + Sync,
+>(rt: &R, alloc: Global, desk: &Desk<M, N, G, &R>, control: Control, event: Event) -> Option<Said> {
+    match desk.command(rt, alloc, control, event) {
+        Ok(done) => Some(in_short(&done.reply)),
+        Err(_) => None,
     }
 }
 

@@ -25,34 +25,73 @@ fn shown_after_an_exit<
 >(rt: &R, alloc: Global, blank: Box<Blank<M>>) -> Result<(), Fail>
     requires { name_of M.rules blank.value ≡ N.desk }
 {
-    let started = started::<M, N, R>(rt, alloc, blank)?;
-    let (started, told) = after_an_exit(rt, alloc, started)?;
+    let mut started = started::<M, N, R>(rt, alloc, blank)?;
+    let mut reader = one_reader(&mut started.readers)?;
     let Launched {
         desk,
-        seats,
+        mut seats,
         control,
-        mut readers,
+        ..
     } = Box::into_inner(started);
-    let Some(mut reader) = readers.pop() else {
-        return Err("one reader".into());
+    let control = shown_while_open(rt, alloc, &desk, &mut seats, control, &mut reader)?;
+    let entries = match desk.close(rt, alloc, seats, control) {
+        Ok(journal) => journal.entries().len(),
+        Err(_) => return Err("not closed".into()),
     };
+    assert!(rt; entries == 4);
+    nothing_is_shown(rt, alloc, &mut reader);
+    Ok(())
+}
+
+/// The reader of a board that has one.
+fn one_reader<N: DeskName>(readers: &mut Vec<BoardReader<N>>) -> Result<BoardReader<N>, Fail> {
+    match readers.pop() {
+        Some(reader) => Ok(reader),
+        None => Err("one reader".into()),
+    }
+}
+
+/// What is shown while the desk is open. The control comes back.
+fn shown_while_open<
+    M: Consistency + Send + Sync,
+    N: DeskName + Send + Sync,
+    R: Threads + Wait + Abort + Sync,
+>(
+    rt: &R,
+    alloc: Global,
+    desk: &Desk<M, N, Open, &R>,
+    seats: &mut Vec<Seat>,
+    control: Control,
+    reader: &mut BoardReader<N>,
+) -> Result<Control, Fail> {
+    let (control, told) = after_an_exit(rt, alloc, desk, seats, control)?;
     reader.learn(told);
-    assert_eq!(rt; reader.state_of(ONE), Some(Shown::Patched));
-    assert_eq!(rt; reader.state_of(TWO), Some(Shown::Unpatched));
-    let (control, told) = command(rt, alloc, &desk, control, Event::Walk)?;
+    assert!(rt; reader.state_of(ONE) == Some(Shown::Patched));
+    assert!(rt; reader.state_of(TWO) == Some(Shown::Unpatched));
+    let (control, told) = command(rt, alloc, desk, control, Event::Walk)?;
     reader.learn(told);
+    shows_one_patched(rt, alloc, reader)?;
+    Ok(control)
+}
+
+/// After four events task 1 is patched, and task 2 isn't.
+fn shows_one_patched<N: DeskName, R: Abort>(
+    rt: &R,
+    alloc: Global,
+    reader: &mut BoardReader<N>,
+) -> Result<(), Fail> {
     let all = reader.snapshot(alloc)?;
     let wanted = [(ONE, Shown::Patched), (TWO, Shown::Unpatched)];
-    assert_eq!(rt; all.as_slice(), wanted.as_slice());
-    assert_eq!(rt; reader.seen(), 4);
-    let Ok(journal) = desk.close(rt, alloc, seats, control) else {
-        return Err("not closed".into());
-    };
-    assert_eq!(rt; journal.entries().len(), 4);
-    assert_eq!(rt; reader.state_of(ONE), None);
-    assert_eq!(rt; reader.snapshot(alloc).err(), Some(BoardFault::Shut));
-    assert_eq!(rt; reader.seen(), 4);
+    assert!(rt; all.as_slice() == wanted.as_slice());
+    assert!(rt; reader.seen() == 4);
     Ok(())
+}
+
+/// The board is shut after four events.
+fn nothing_is_shown<N: DeskName, R: Abort>(rt: &R, alloc: Global, reader: &mut BoardReader<N>) {
+    assert!(rt; reader.state_of(ONE) == None);
+    assert!(rt; reader.snapshot(alloc).err() == Some(BoardFault::Shut));
+    assert!(rt; reader.seen() == 4);
 }
 
 /// While both tasks switch together a reader looks all along, and sees them together.
@@ -70,25 +109,39 @@ fn watched_stop<
 >(rt: &R, alloc: Global, blank: Box<Blank<M>>) -> Result<(), Fail>
     requires { name_of M.rules blank.value ≡ N.desk }
 {
-    let started = started::<M, N, R>(rt, alloc, blank)?;
-    let Launched {
-        desk,
-        control,
-        mut readers,
-        ..
-    } = Box::into_inner(started);
-    let Some(reader) = readers.pop() else {
-        return Err("one reader".into());
-    };
-    let (told, (step, mut reader)) = join(
+    let mut started = started::<M, N, R>(rt, alloc, blank)?;
+    let reader = one_reader(&mut started.readers)?;
+    let Launched { desk, control, .. } = Box::into_inner(started);
+    let (step, last) = watched(rt, alloc, &desk, control, reader)?;
+    assert!(rt; step.is_some());
+    assert!(rt; last == Some(Shown::Settled));
+    Ok(())
+}
+
+/// How far a reader saw the tasks get during a stop, and what is shown of both once it learnt what was told of it.
+fn watched<M: Consistency + Send + Sync, N: DeskName + Send + Sync, R: Threads + Wait + Sync>(
+    rt: &R,
+    alloc: Global,
+    desk: &Desk<M, N, Open, &R>,
+    control: Control,
+    reader: BoardReader<N>,
+) -> Result<(Option<u8>, Option<Shown>), Fail> {
+    let (told, (step, reader)) = join(
         rt,
-        || enable_and_stop(rt, alloc, &desk, control),
+        || enable_and_stop(rt, alloc, desk, control),
         || looks(alloc, reader),
     );
-    assert!(rt; step.is_some());
-    reader.learn(told?);
-    assert_eq!(rt; both(alloc, &mut reader), Some(Shown::Settled));
-    Ok(())
+    Ok((step, both_after(alloc, reader, told?)))
+}
+
+/// What is shown of both tasks to a reader that learnt this.
+fn both_after<N: DeskName>(
+    alloc: Global,
+    mut reader: BoardReader<N>,
+    told: Told<N>,
+) -> Option<Shown> {
+    reader.learn(told);
+    both(alloc, &mut reader)
 }
 
 /// What is told of the second.
@@ -148,15 +201,20 @@ fn seen_by_all<M: Consistency, N: DeskName, R: Wait + Abort>(
     requires { name_of M.rules blank.value ≡ N.desk }
 {
     let mut started = started::<M, N, R>(rt, alloc, blank)?;
-    assert_eq!(rt; started.readers.len(), 64);
+    assert!(rt; started.readers.len() == 64);
     let said = submit(rt, alloc, &mut started, 0, Event::Enter(ONE))?;
-    assert_eq!(rt; said, Ok(Said::Done));
+    assert!(rt; said == Ok(Said::Done));
     for reader in started.readers.as_mut_slice() {
-        assert_eq!(rt; reader.state_of(ONE), Some(Shown::Settled));
-        assert_eq!(rt; reader.state_of(TWO), Some(Shown::Absent));
-        assert_eq!(rt; reader.seen(), 1);
+        sees_one_settled(rt, reader);
     }
     Ok(())
+}
+
+/// Task 1 is settled after one event, and task 2 isn't there.
+fn sees_one_settled<N: DeskName, R: Abort>(rt: &R, reader: &mut BoardReader<N>) {
+    assert!(rt; reader.state_of(ONE) == Some(Shown::Settled));
+    assert!(rt; reader.state_of(TWO) == Some(Shown::Absent));
+    assert!(rt; reader.seen() == 1);
 }
 
 #[test]

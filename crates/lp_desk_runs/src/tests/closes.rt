@@ -48,16 +48,38 @@ fn unclosed<M: Consistency, N: DeskName, R: Wait>(
         control,
         ..
     } = Box::into_inner(b);
+    match missed(desk.close(rt, alloc, seats, control)) {
+        Some((journal, control)) => Ok((journal, own, control)),
+        None => Err("a seat is missing".into()),
+    }
+}
+
+/// What is handed back where the one seat of a desk is missing.
+fn missed(closed: Result<Journal, Unclosed>) -> Option<(Journal, Control)> {
+    let Unclosed {
+        journal,
+        seats: _,
+        control,
+        cause,
+    } = closed.err()?;
+    if cause == (CloseCause::Missing { have: 0, want: 1 }) {
+        Some((journal, control))
+    } else {
+        None
+    }
+}
+
+/// Why a desk isn't closed with these; None where it is.
+fn cause_of<M: Consistency, N: DeskName, R: Wait>(
+    rt: &R,
+    alloc: Global,
+    desk: Desk<M, N, Open, &R>,
+    seats: Vec<Seat>,
+    control: Control,
+) -> Option<CloseCause> {
     match desk.close(rt, alloc, seats, control) {
-        Err(
-            Unclosed {
-                journal,
-                control,
-                cause: CloseCause::Missing { have: 0, want: 1 },
-                ..
-            },
-        ) => Ok((journal, own, control)),
-        _ => Err("a seat is missing".into()),
+        Ok(_) => None,
+        Err(unclosed) => Some(unclosed.cause),
     }
 }
 
@@ -145,8 +167,8 @@ fn closed_after_a_stranger<M: Consistency, N: DeskName, R: Wait>(
     requires { name_of M.rules blank.value ≡ N.desk }
 {
     let b = started::<M, N, R>(rt, alloc, blank)?;
-    let done = b.desk.submit(rt, alloc, seat, Event::Enter(TWO)).ok();
-    if done.map(|done| in_short(&done.reply)) != Some(Said::Refused(1)) {
+    let said = said_to_seat(rt, alloc, &b.desk, seat, Event::Enter(TWO));
+    if said != Some(Said::Refused(1)) {
         return Err("it isn't refused".into());
     }
     let Launched {
@@ -155,11 +177,7 @@ fn closed_after_a_stranger<M: Consistency, N: DeskName, R: Wait>(
         control,
         ..
     } = Box::into_inner(b);
-    Ok(
-        desk.close(rt, alloc, seats, control)
-            .err()
-            .map(|unclosed| unclosed.cause),
-    )
+    Ok(cause_of(rt, alloc, desk, seats, control))
 }
 
 fn closed_by_another<M: Consistency + Sync, N: DeskName, R: Threads + Wait + Sync>(
@@ -178,9 +196,5 @@ fn closed_by_another<M: Consistency + Sync, N: DeskName, R: Threads + Wait + Syn
         ..
     } = Box::into_inner(b);
     drop(command(rt, alloc, &desk, control, Event::Enable)?);
-    Ok(
-        desk.close(rt, alloc, seats, other)
-            .err()
-            .map(|unclosed| unclosed.cause),
-    )
+    Ok(cause_of(rt, alloc, desk, seats, other))
 }

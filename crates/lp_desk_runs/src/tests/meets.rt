@@ -87,10 +87,25 @@ fn scanned<M: Consistency + Sync, N: DeskName, R: Threads + Wait + Sync>(
     let gate = Meeting(marks);
     let launched = Desk::launch(rt, alloc, Box::into_inner(blank), 2, gate)?;
     let Launched::<M, N, Meeting<'_>, &R> { desk, control, .. } = launched;
-    let (control, _) = command(rt, alloc, &desk, control, Event::Enable)?;
-    match desk.command(rt, alloc, control, scan) {
-        Ok(Commanded { reply, .. }) => Ok(in_short(&reply)),
-        Err(_) => Err("turned back".into()),
+    said_after_enable(rt, alloc, &desk, control, scan)
+}
+
+fn said_after_enable<
+    M: Consistency + Sync,
+    N: DeskName,
+    G: ScanGate + Sync + Drop,
+    R: Threads + Wait + Sync,
+>(
+    rt: &R,
+    alloc: Global,
+    desk: &Desk<M, N, G, &R>,
+    control: Control,
+    scan: Event,
+) -> Result<Said, Fail> {
+    let (control, _) = command(rt, alloc, desk, control, Event::Enable)?;
+    match said_to_control(rt, alloc, desk, control, scan) {
+        Some(said) => Ok(said),
+        None => Err("turned back".into()),
     }
 }
 
@@ -98,17 +113,27 @@ fn scanned<M: Consistency + Sync, N: DeskName, R: Threads + Wait + Sync>(
 #[test]
 fn desk_pieces_meet(rt: HostRuntime) -> Result<(), Fail> {
     let alloc = rt.alloc();
-    let marks = Marks::new();
-    let walked = blank(alloc, Hybrid, &BOTH, 1)?;
-    let walk = scanned::<Hybrid, Brand, _>(&rt, alloc, walked, &marks, Event::Walk)?;
-    assert_eq!(rt; walk, Said::Done);
-    assert!(rt; !marks.gave_up());
-    let marks = Marks::new();
-    let stopped = blank(alloc, AllAtOnce, &BOTH, 1)?;
-    let stop = scanned::<AllAtOnce, Brand, _>(&rt, alloc, stopped, &marks, Event::Stop)?;
-    assert_eq!(rt; stop, Said::SwitchedLast(0));
-    assert!(rt; !marks.gave_up());
+    let walk = met_in_a_walk(&rt, alloc)?;
+    assert!(rt; walk == (Said::Done, false));
+    let stop = met_in_a_stop(&rt, alloc)?;
+    assert!(rt; stop == (Said::SwitchedLast(0), false));
     Ok(())
+}
+
+/// What a desk says to a walk, and whether a piece waited for another in vain.
+fn met_in_a_walk<R: Threads + Wait + Sync>(rt: &R, alloc: Global) -> Result<(Said, bool), Fail> {
+    let marks = Marks::new();
+    let blank = blank(alloc, Hybrid, &BOTH, 1)?;
+    let said = scanned::<Hybrid, Brand, R>(rt, alloc, blank, &marks, Event::Walk)?;
+    Ok((said, marks.gave_up()))
+}
+
+/// The same for a stop.
+fn met_in_a_stop<R: Threads + Wait + Sync>(rt: &R, alloc: Global) -> Result<(Said, bool), Fail> {
+    let marks = Marks::new();
+    let blank = blank(alloc, AllAtOnce, &BOTH, 1)?;
+    let said = scanned::<AllAtOnce, Brand, R>(rt, alloc, blank, &marks, Event::Stop)?;
+    Ok((said, marks.gave_up()))
 }
 
 /// Holds piece 0 until a seat was answered.
@@ -134,9 +159,9 @@ fn submit_meanwhile<M: Consistency, N: DeskName, G: ScanGate + Drop, R: Wait>(
     if !is_set_in_time(&marks.first) {
         return None;
     }
-    let answer = desk.submit(rt, alloc, seat, Event::Enter(ONE)).ok()?;
+    let said = said_to_seat(rt, alloc, desk, seat, Event::Enter(ONE))?;
     marks.second.store(true, Ordering::SeqCst);
-    Some(in_short(&answer.reply))
+    Some(said)
 }
 
 /// A walk that is judged under the lock would hold the seat back until the gate gives up.
@@ -169,16 +194,32 @@ fn walked_meanwhile<
     let launched = Desk::launch(rt, alloc, Box::into_inner(blank), 2, gate)?;
     let Launched::<M, N, Holding<'_>, &R> {
         desk,
-        mut seats,
+        seats,
         control,
         ..
     } = launched;
+    walk_and_submit(rt, alloc, &desk, marks, seats, control)
+}
+
+/// The same, from the parts of a desk at its start; the desk itself stays with who launched it.
+fn walk_and_submit<
+    M: Consistency + Send + Sync,
+    N: DeskName + Send + Sync,
+    G: ScanGate + Send + Sync + Drop,
+    R: Threads + Wait + Sync,
+>(
+    rt: &R,
+    alloc: Global,
+    desk: &Desk<M, N, G, &R>,
+    marks: &Marks,
+    mut seats: Vec<Seat>,
+    control: Control,
+) -> Result<(Option<Said>, Option<Said>), Fail> {
+    let (control, _) = command(rt, alloc, desk, control, Event::Enable)?;
     let seat = first(&mut seats)?;
-    let (control, _) = command(rt, alloc, &desk, control, Event::Enable)?;
-    let (walk, entered) = join(
+    Ok(join(
         rt,
-        || desk.command(rt, alloc, control, Event::Walk).ok(),
-        || submit_meanwhile(rt, alloc, &desk, marks, seat),
-    );
-    Ok((walk.map(|done| in_short(&done.reply)), entered))
+        || said_to_control(rt, alloc, desk, control, Event::Walk),
+        || submit_meanwhile(rt, alloc, desk, marks, seat),
+    ))
 }

@@ -110,29 +110,63 @@ fn played_through<M: Consistency + Sync, N: DeskName, R: Threads + Wait + Abort 
     let Launched {
         desk,
         mut seats,
-        mut control,
-        mut readers,
+        control,
+        readers,
     } = launched;
-    for (place, event, said) in rows {
-        let answer;
-        (control, answer) = match place {
-            Some(place) => (
-                control,
-                submitted(rt, alloc, &desk, &mut seats, *place, *event)?,
-            ),
-            None => commanded(rt, alloc, &desk, control, *event)?,
-        };
-        assert_eq!(rt; answer, *said);
+    let control = rows_played(rt, alloc, &desk, &mut seats, control, rows)?;
+    rows_seen(rt, readers, rows)?;
+    let journal = closed(rt, alloc, desk, seats, control)?;
+    assert!(rt; journal.entries().len() == rows.len());
+    assert!(rt; are_numbered(&journal));
+    Ok(true)
+}
+
+/// The control after the rows.
+fn rows_played<M: Consistency + Sync, N: DeskName, R: Threads + Wait + Abort + Sync>(
+    rt: &R,
+    alloc: Global,
+    desk: &Desk<M, N, Open, &R>,
+    seats: &mut Vec<Seat>,
+    control: Control,
+    rows: &[Row],
+) -> Result<Control, Fail> {
+    let mut control = control;
+    for row in rows {
+        control = row_played(rt, alloc, desk, seats, control, *row)?;
     }
+    Ok(control)
+}
+
+/// The control after a row, which is answered as it should be.
+fn row_played<M: Consistency + Sync, N: DeskName, R: Threads + Wait + Abort + Sync>(
+    rt: &R,
+    alloc: Global,
+    desk: &Desk<M, N, Open, &R>,
+    seats: &mut Vec<Seat>,
+    control: Control,
+    row: Row,
+) -> Result<Control, Fail> {
+    let (place, event, said) = row;
+    let (control, answer) = match place {
+        Some(place) => (control, submitted(rt, alloc, desk, seats, place, event)?),
+        None => commanded(rt, alloc, desk, control, event)?,
+    };
+    assert!(rt; answer == said);
+    Ok(control)
+}
+
+/// The one reader has seen the rows.
+fn rows_seen<N: DeskName, R: Abort>(
+    rt: &R,
+    mut readers: Vec<BoardReader<N>>,
+    rows: &[Row],
+) -> Result<(), Fail> {
     let Some(mut reader) = readers.pop() else {
         return Err("one reader".into());
     };
     assert!(rt; reader.state_of(ONE).is_some());
-    assert_eq!(rt; reader.seen(), rows.len() as u64);
-    let journal = closed(rt, alloc, desk, seats, control)?;
-    assert_eq!(rt; journal.entries().len(), rows.len());
-    assert!(rt; are_numbered(&journal));
-    Ok(true)
+    assert!(rt; reader.seen() == rows.len() as u64);
+    Ok(())
 }
 
 /// The answer to an event that is sent from the seat at a place: once more where an allocation failed, after which the
@@ -150,32 +184,45 @@ fn submitted<M: Consistency, N: DeskName, R: Wait + Abort>(
         return Err("no such seat".into());
     }
     let seat = seats.remove(place);
+    let done = sent_at_last(rt, alloc, desk, seat, event)?;
+    put_back(seats, place, done)
+}
+
+/// What a desk gives for an event: after a failed allocation for the same call, made again.
+fn sent_at_last<M: Consistency, N: DeskName, R: Wait + Abort>(
+    rt: &R,
+    alloc: Global,
+    desk: &Desk<M, N, Open, &R>,
+    seat: Seat,
+    event: Event,
+) -> Result<Submitted<N>, Fail> {
     let sent = seat.entries().len();
     let taken = match desk.submit(rt, alloc, seat, event) {
-        Err(Turned { part, cause }) => {
-            assert_eq!(rt; cause, Cause::NoMemory);
-            assert_eq!(rt; part.entries().len(), sent);
-            desk.submit(rt, alloc, part, event)
-        }
-        taken => taken,
+        Ok(done) => Ok(done),
+        Err(turned) => sent_again(rt, alloc, desk, turned, sent, event),
     };
-    let Ok(
-        Submitted {
-            seat,
-            reply,
-            child,
-            ..
-        },
-    ) = taken
-    else {
-        return Err("turned back twice".into());
-    };
-    assert_eq!(rt; seat.entries().len(), sent + 1);
-    seats.insert(place, seat)?;
-    if let Some(child) = child {
-        seats.push(child)?;
+    if let Ok(done) = &taken {
+        assert!(rt; done.seat.entries().len() == sent + 1);
     }
-    Ok(in_short(&reply))
+    taken
+}
+
+/// What a desk gives for an event that was turned back as an allocation failed, with the seat as it was.
+fn sent_again<M: Consistency, N: DeskName, R: Wait + Abort>(
+    rt: &R,
+    alloc: Global,
+    desk: &Desk<M, N, Open, &R>,
+    turned: Turned<Seat>,
+    sent: usize,
+    event: Event,
+) -> Result<Submitted<N>, Fail> {
+    let Turned { part, cause } = turned;
+    assert!(rt; cause == Cause::NoMemory);
+    assert!(rt; part.entries().len() == sent);
+    match desk.submit(rt, alloc, part, event) {
+        Ok(done) => Ok(done),
+        Err(_) => Err("turned back twice".into()),
+    }
 }
 
 /// The control after an event, and the answer to it, in the same way.
@@ -188,18 +235,37 @@ fn commanded<M: Consistency + Sync, N: DeskName, R: Threads + Wait + Abort + Syn
 ) -> Result<(Control, Said), Fail> {
     let sent = control.entries().len();
     let taken = match desk.command(rt, alloc, control, event) {
-        Err(Turned { part, cause }) => {
-            assert_eq!(rt; cause, Cause::NoMemory);
-            assert_eq!(rt; part.entries().len(), sent);
-            desk.command(rt, alloc, part, event)
-        }
-        taken => taken,
+        Ok(done) => Ok(answered(done)),
+        Err(turned) => commanded_again(rt, alloc, desk, turned, sent, event),
     };
-    let Ok(Commanded { control, reply, .. }) = taken else {
-        return Err("turned back twice".into());
-    };
-    assert_eq!(rt; control.entries().len(), sent + 1);
-    Ok((control, in_short(&reply)))
+    if let Ok((control, _)) = &taken {
+        assert!(rt; control.entries().len() == sent + 1);
+    }
+    taken
+}
+
+/// The same for an event that was turned back as an allocation failed, with the control as it was.
+fn commanded_again<M: Consistency + Sync, N: DeskName, R: Threads + Wait + Abort + Sync>(
+    rt: &R,
+    alloc: Global,
+    desk: &Desk<M, N, Open, &R>,
+    turned: Turned<Control>,
+    sent: usize,
+    event: Event,
+) -> Result<(Control, Said), Fail> {
+    let Turned { part, cause } = turned;
+    assert!(rt; cause == Cause::NoMemory);
+    assert!(rt; part.entries().len() == sent);
+    match desk.command(rt, alloc, part, event) {
+        Ok(done) => Ok(answered(done)),
+        Err(_) => Err("turned back twice".into()),
+    }
+}
+
+/// The control and what is said, of an answer.
+fn answered<N: DeskName>(done: Commanded<N>) -> (Control, Said) {
+    let said = in_short(&done.reply);
+    (done.control, said)
 }
 
 /// The journal of a desk that is closed with all its seats: the audit is made once more where an allocation failed, with

@@ -15,47 +15,44 @@ fn enter_and_exit<M: Consistency, N: DeskName, R: Wait>(
     desk: &Desk<M, N, Open, &R>,
     seat: Seat,
 ) -> Option<(Seat, Said, Told<N>)> {
-    let seat = desk.submit(rt, alloc, seat, Event::Enter(ONE)).ok()?.seat;
-    let Submitted {
-        seat,
-        reply,
-        told,
-        ..
-    } = desk.submit(rt, alloc, seat, Event::Exit(ONE)).ok()?;
-    Some((seat, in_short(&reply), told))
+    let (seat, _, _) = sent_from(rt, alloc, desk, seat, Event::Enter(ONE))?;
+    sent_from(rt, alloc, desk, seat, Event::Exit(ONE))
 }
 
 /// What is told where `enable` is sent from here, and `enter 1` and `exit 1` from another thread.
+/// The first seat comes last, and the control comes back.
 pub(super) fn after_an_exit<
-    'a,
     M: Consistency + Send + Sync,
     N: DeskName + Send + Sync,
     R: Threads + Wait + Sync,
 >(
-    rt: &'a R,
+    rt: &R,
     alloc: Global,
-    started: Started<'a, M, N, R>,
-) -> Result<(Started<'a, M, N, R>, Told<N>), Fail> {
-    let Launched {
-        desk,
-        mut seats,
-        control,
-        readers,
-    } = Box::into_inner(started);
-    let (control, _) = command(rt, alloc, &desk, control, Event::Enable)?;
-    let one = first(&mut seats)?;
-    let (sent, _) = join(rt, || enter_and_exit(rt, alloc, &desk, one), || ());
-    let Some((one, Said::Switched(1), told)) = sent else {
-        return Err("task 1 switches".into());
-    };
-    seats.push(one)?;
-    let started = Launched {
-        desk,
-        seats,
-        control,
-        readers,
-    };
-    Ok((Box::new(alloc, started)?, told))
+    desk: &Desk<M, N, Open, &R>,
+    seats: &mut Vec<Seat>,
+    control: Control,
+) -> Result<(Control, Told<N>), Fail> {
+    let (control, _) = command(rt, alloc, desk, control, Event::Enable)?;
+    let told = exited(rt, alloc, desk, seats)?;
+    Ok((control, told))
+}
+
+/// What is told where the first seat sends `enter 1` and `exit 1` from another thread, and comes last then.
+fn exited<M: Consistency + Send + Sync, N: DeskName + Send + Sync, R: Threads + Wait + Sync>(
+    rt: &R,
+    alloc: Global,
+    desk: &Desk<M, N, Open, &R>,
+    seats: &mut Vec<Seat>,
+) -> Result<Told<N>, Fail> {
+    let one = first(seats)?;
+    let (sent, _) = join(rt, || enter_and_exit(rt, alloc, desk, one), || ());
+    match sent {
+        Some((one, Said::Switched(1), told)) => {
+            seats.push(one)?;
+            Ok(told)
+        }
+        _ => Err("task 1 switches".into()),
+    }
 }
 
 /// Seat 2 is kept back, and the audit is made again with it.
@@ -74,25 +71,55 @@ fn kept_back<
     requires { name_of M.rules blank.value ≡ N.desk }
 {
     let started = started::<M, N, R>(rt, alloc, blank)?;
-    let (started, _) = after_an_exit(rt, alloc, started)?;
     let Launched {
         desk,
         mut seats,
         control,
         ..
     } = Box::into_inner(started);
-    let two = first(&mut seats)?;
-    let Err(unclosed) = desk.close(rt, alloc, seats, control) else {
-        return Err("closed".into());
-    };
+    let (control, two) = first_kept_back(rt, alloc, &desk, &mut seats, control)?;
+    match desk.close(rt, alloc, seats, control) {
+        Ok(_) => Err("closed".into()),
+        Err(unclosed) => audited_again(rt, alloc, unclosed, two),
+    }
+}
+
+/// The control, and the seat that comes first after the exit.
+fn first_kept_back<
+    M: Consistency + Send + Sync,
+    N: DeskName + Send + Sync,
+    R: Threads + Wait + Sync,
+>(
+    rt: &R,
+    alloc: Global,
+    desk: &Desk<M, N, Open, &R>,
+    seats: &mut Vec<Seat>,
+    control: Control,
+) -> Result<(Control, Seat), Fail> {
+    let (control, _) = after_an_exit(rt, alloc, desk, seats, control)?;
+    let two = first(seats)?;
+    Ok((control, two))
+}
+
+/// One of two seats is missed, and with it the audit finds nothing.
+fn audited_again<R: Abort>(
+    rt: &R,
+    alloc: Global,
+    unclosed: Unclosed,
+    kept_back: Seat,
+) -> Result<(), Fail> {
     let Unclosed {
         journal,
         mut seats,
         control,
         cause,
     } = unclosed;
-    assert_eq!(rt; cause, CloseCause::Missing { have: 1, want: 2 });
-    seats.push(two)?;
-    assert_eq!(rt; journal.audit(alloc, seats.as_slice(), &control), Ok(()));
+    seats.push(kept_back)?;
+    let audited = journal.audit(alloc, seats.as_slice(), &control);
+    drop(journal);
+    drop(seats);
+    drop(control);
+    assert!(rt; cause == (CloseCause::Missing { have: 1, want: 2 }));
+    assert!(rt; audited == Ok(()));
     Ok(())
 }

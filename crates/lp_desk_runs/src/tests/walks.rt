@@ -11,15 +11,25 @@ type Boxed = Box<Log<Hybrid>>;
 fn asleep_in_a(alloc: Global) -> Result<Boxed, Fail> {
     let Opened { log, .. } = Log::open(alloc, Hybrid, patched(alloc)?, &FIRST)?;
     let mut log = Box::new(alloc, log)?;
-    for event in [
-        Event::Enter(ONE),
-        Event::Call(ONE, A),
-        Event::Sleep(ONE),
-        Event::Enable,
-    ] {
-        log.apply(alloc, event)?;
-    }
+    apply_all(
+        alloc,
+        &mut log,
+        &[
+            Event::Enter(ONE),
+            Event::Call(ONE, A),
+            Event::Sleep(ONE),
+            Event::Enable,
+        ],
+    )?;
     Ok(log)
+}
+
+/// Applies these events to a log.
+fn apply_all(alloc: Global, log: &mut Log<Hybrid>, events: &[Event]) -> Result<(), Fail> {
+    for event in events {
+        log.apply(alloc, *event)?;
+    }
+    Ok(())
 }
 
 /// What a walk finds of copies of the tasks.
@@ -41,12 +51,24 @@ fn a_copy_that_has_changed_is_not_used(rt: HostRuntime) -> Result<(), Fail> {
         task: ONE,
         blame: Some(Blame::Frame(2)),
     };
-    assert_eq!(rt; judged.verdicts(), [refused].as_slice());
-    for event in [Event::Wake(ONE), Event::Ret(ONE), Event::Sleep(ONE)] {
-        log.apply(alloc, event)?;
-    }
-    let reply = log.apply_judged(alloc, &judged)?;
-    assert_eq!(rt; in_short(&reply), Said::SwitchedLast(1));
-    assert_eq!(rt; log.entries().last().map(|entry| entry.number()), Some(8));
+    assert!(rt; judged.verdicts() == [refused].as_slice());
+    apply_all(
+        alloc,
+        &mut log,
+        &[Event::Wake(ONE), Event::Ret(ONE), Event::Sleep(ONE)],
+    )?;
+    let said = said_to_judged(alloc, &mut log, &judged)?;
+    assert!(rt; said == Said::SwitchedLast(1));
+    assert!(rt; log.entries().last().map(|entry| entry.number()) == Some(8));
     Ok(())
+}
+
+/// What a log says to what was judged.
+fn said_to_judged(
+    alloc: Global,
+    log: &mut Log<Hybrid>,
+    judged: &Judged<Hybrid>,
+) -> Result<Said, Fail> {
+    let reply = log.apply_judged(alloc, judged)?;
+    Ok(in_short(&reply))
 }
