@@ -29,6 +29,10 @@ held_prefix a b h x y text e prefix = prefix_more a b (h ++ x) y (h ++ text) (ap
 pub held_start : (a : Seen) (text : List ℕ) → Left a a text text
 held_start a text = ([], refl, takes_none a)
 
+-- a piece was held, and nothing was written
+pub only_held : (a : Seen) (h k piece : List ℕ) → k ≡ h ++ piece → Left a a (h ++ piece) k
+only_held a h k piece e = let P : List ℕ → Type 0 = λ l. Left a a (h ++ piece) l in subst P (sym e) (held_start a (h ++ piece))
+
 module _ (a b c : Seen) (text h piece now next : List ℕ) where
   pub held_err : now ≡ piece ++ next → Left a b text (h ++ now) → TakesPrefix b c (h ++ piece) → TakesPrefix a c text
   held_err e left prefix =

@@ -140,8 +140,29 @@ impl Page {
         self.put(writer, b"\n")
     }
 
-    /// Puts a line of a word and at most six numbers.
+    /// Takes a line of a word and at most six numbers, if there is room for the longest, and says whether it did.
+    ///
+    /// Nearly every line is taken so, and the answer is a bit: a fault has room for an error, which would be cleared for
+    /// each line, and moved.
     #[inline(always)]
+    pub(crate) fn hold_numbers(&mut self, first: &[u8], numbers: &[u64]) -> bool
+        requires { length numbers.now ≤ 6 }
+        ensures taken { IsTrue result → self.new.held.items ≡ self.old.held.items ++ line_of (first.now ∷ map decimal numbers.now) }
+        ensures kept { IsFalse result → self.new.held.items ≡ self.old.held.items }
+    {
+        let start = self.held.len();
+        if !self.hold(first) {
+            return false;
+        }
+        if self.hold_rest(numbers) {
+            return true;
+        }
+        self.held.truncate(start);
+        false
+    }
+
+    /// Puts a line of a word and at most six numbers.
+    #[inline(never)]
     pub(crate) fn put_numbers<W: Write>(
         &mut self,
         writer: &mut Counted<W>,
@@ -156,7 +177,6 @@ impl Page {
     }
 
     /// Puts the end of a line: at most six numbers, each behind a space.
-    #[inline(always)]
     fn put_rest<W: Write>(
         &mut self,
         writer: &mut Counted<W>,

@@ -1,5 +1,5 @@
 //! Writing how the legs of a run ended, with their certificates.
-ghost use Rattle.std.specs.Prelude.{◌≡◌, ◌<◌, ◌∷◌, [], length, map, slice_get, Some};
+ghost use Rattle.std.specs.Prelude.{◌≡◌, ◌≤◌, ◌<◌, ◌∷◌, ◌++◌, [], decimal, length, map, slice_get, take, IsFalse, IsTrue, Some};
 ghost use Rattle.std.specs.List.{flat_map};
 ghost use Rattle.lp_cert.specs.declared.cert.Cert.{Cert};
 ghost use Rattle.lp_cert.specs.Ends.{cert_head};
@@ -98,7 +98,10 @@ fn put_cert<W: Write>(
     requires { place < length certs.now }
     ensures { (cert : Cert) → slice_get certs.now place ≡ Some cert → Puts (seen_of W.contents writer.old) (seen_of W.contents writer.new) page.old.held.items page.new.held.items result (flat_map line_of (cert_lines cert)) }
 {
-    put_claim(page, writer, certs.head(place))?;
+    let head = certs.head(place);
+    if !hold_claim(page, head) {
+        put_claim(page, writer, head)?;
+    }
     put_reasons(page, writer, &mut certs.lines(place))
 }
 
@@ -112,7 +115,25 @@ fn claim_word(claim: Claim) -> &'static [u8]
     }
 }
 
+/// What follows the first word of a certificate that begins so.
+#[inline(always)]
+fn claim_numbers(head: CertHead) -> [u64; 3]
+    ensures { result ≡ head.leg ∷ head.group.0 ∷ head.upto ∷ [] }
+{
+    [head.leg, u64::from(head.group.0), head.upto]
+}
+
+/// Holds the first line of a certificate, the one that begins so, where there is room, and says whether it did.
+#[inline(always)]
+fn hold_claim(page: &mut Page, head: CertHead) -> bool
+    ensures taken { IsTrue result → (cert : Cert) → cert_head cert ≡ head → page.new.held.items ≡ page.old.held.items ++ line_of (claim_words cert) }
+    ensures kept { IsFalse result → page.new.held.items ≡ page.old.held.items }
+{
+    page.hold_numbers(claim_word(head.claim), &claim_numbers(head))
+}
+
 /// Puts the first line of a certificate, the one that begins so.
+#[inline(never)]
 fn put_claim<W: Write>(
     page: &mut Page,
     writer: &mut Counted<W>,
@@ -120,12 +141,7 @@ fn put_claim<W: Write>(
 ) -> Result<(), WriteFault>
     ensures { (cert : Cert) → cert_head cert ≡ head → Puts (seen_of W.contents writer.old) (seen_of W.contents writer.new) page.old.held.items page.new.held.items result (line_of (claim_words cert)) }
 {
-    let group = u64::from(head.group.0);
-    page.put_numbers(
-        writer,
-        claim_word(head.claim),
-        &[head.leg, group, head.upto],
-    )
+    page.put_numbers(writer, claim_word(head.claim), &claim_numbers(head))
 }
 
 /// Puts the reasons of a certificate that are left, a line each.
@@ -137,19 +153,18 @@ fn put_reasons<W: Write>(
     ensures { Puts (seen_of W.contents writer.old) (seen_of W.contents writer.new) page.old.held.items page.new.held.items result (flat_map line_of (map reason_words reasons.old)) }
 {
     while let Some(reason) = reasons.next() {
-        put_reason(page, writer, reason)?;
+        if !hold_reason(page, reason) {
+            put_reason(page, writer, reason)?;
+        }
     }
     Ok(())
 }
 
-/// Puts the line of a reason.
+/// The first word of a reason's line, and the numbers that follow it: so many of these.
 #[inline(always)]
-fn put_reason<W: Write>(
-    page: &mut Page,
-    writer: &mut Counted<W>,
-    reason: Line,
-) -> Result<(), WriteFault>
-    ensures { Puts (seen_of W.contents writer.old) (seen_of W.contents writer.new) page.old.held.items page.new.held.items result (line_of (reason_words reason)) }
+fn reason_parts(reason: Line) -> (&'static [u8], [u64; 5], usize)
+    ensures words { result.0.now ∷ map decimal (take result.2 result.1) ≡ reason_words reason }
+    ensures few { result.2 ≤ 5 }
 {
     match reason {
         Line::Hold {
@@ -160,15 +175,38 @@ fn put_reason<W: Write>(
             to,
         } => {
             let (group, task) = (u64::from(group.0), u64::from(task.0));
-            page.put_numbers(writer, b"hold", &[group, task, serial, from, to])
+            (b"hold", [group, task, serial, from, to], 5)
         }
         Line::Busy { group, task, at } => {
             let (group, task) = (u64::from(group.0), u64::from(task.0));
-            page.put_numbers(writer, b"busy", &[group, task, at])
+            (b"busy", [group, task, at, 0, 0], 3)
         }
         Line::Born { group, parent, at } => {
             let (group, parent) = (u64::from(group.0), u64::from(parent.0));
-            page.put_numbers(writer, b"born", &[group, parent, at])
+            (b"born", [group, parent, at, 0, 0], 3)
         }
     }
+}
+
+/// Holds the line of a reason where there is room, and says whether it did.
+#[inline(always)]
+fn hold_reason(page: &mut Page, reason: Line) -> bool
+    ensures taken { IsTrue result → page.new.held.items ≡ page.old.held.items ++ line_of (reason_words reason) }
+    ensures kept { IsFalse result → page.new.held.items ≡ page.old.held.items }
+{
+    let (first, numbers, count) = reason_parts(reason);
+    page.hold_numbers(first, &numbers[..count])
+}
+
+/// Puts the line of a reason.
+#[inline(never)]
+fn put_reason<W: Write>(
+    page: &mut Page,
+    writer: &mut Counted<W>,
+    reason: Line,
+) -> Result<(), WriteFault>
+    ensures { Puts (seen_of W.contents writer.old) (seen_of W.contents writer.new) page.old.held.items page.new.held.items result (line_of (reason_words reason)) }
+{
+    let (first, numbers, count) = reason_parts(reason);
+    page.put_numbers(writer, first, &numbers[..count])
 }
