@@ -1,5 +1,5 @@
 -- The sections that are kept are gone through one by one.
-use Rattle.std.proofs.Common.{◌≡◌, ℕ, List, ◌∷◌, map, slice_range, Option, Some, None, is_some, true, false, refl, sym, ap, subst, ◌∙◌}
+use Rattle.std.proofs.Common.{◌≡◌, ℕ, ◌≤◌, List, ◌∷◌, map, slice_range, Option, Some, None, is_some, true, false, refl, sym, ap, subst, ◌∙◌}
 use Rattle.std.specs.List.{flat_map}
 use mathlib.Core.Path.{fun_ext}
 use Rattle.lp_model.specs.Rules.{Rules}
@@ -16,6 +16,10 @@ use Rattle.lp_checker.proofs.FirstBad.{first_of_append, first_of_found, first_no
 -- what comes behind the first of them
 pub follows : (size last : ℕ) (parts more : List Part) (part : Part) → parts ≡ part ∷ more → (begin : ℕ) × FollowOn size last begin parts → FollowOn size last part.until more
 follows size last parts more part here h = let first = subst (FollowOn size last h.0) here h.1 in first.5
+
+-- the first of them lies in time and has some of the lines
+pub in_time : (size last : ℕ) (parts more : List Part) (part : Part) → parts ≡ part ∷ more → (begin : ℕ) × FollowOn size last begin parts → (part.begin ≤ part.until) × (part.until ≤ last) × (part.start ≤ part.end) × (part.end ≤ size)
+in_time size last parts more part here h = let first = subst (FollowOn size last h.0) here h.1 in (subst (λ begin. begin ≤ part.until) (sym first.0) first.1, first.2, first.3, first.4)
 
 module _ (model : Rules) (leg : Leg) (lines : List Line) where
   -- a line is tested by its section's group and time

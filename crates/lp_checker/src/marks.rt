@@ -115,7 +115,7 @@ fn looks_at(alloc: Global, number: u64, lines: &[Line]) -> Result<Vec<Look>, All
 
 /// Adds the looks at a line, which has this place among the lines.
 fn add_looks(looks: &mut Vec<Look>, number: u64, line: Line, place: usize) -> Result<(), AllocError>
-    ensures { (size : ℕ) → place < size → All (λ look. look.line < size) looks.old.items → OnOk result (All (λ look. look.line < size) looks.new.items) }
+    ensures { OnOk result ((size : ℕ) → place < size → All (λ look. look.line < size) looks.old.items → All (λ look. look.line < size) looks.new.items) }
 {
     match line {
         Line::Hold { from, to, .. } => {

@@ -1,8 +1,26 @@
-use Rattle.std.proofs.Common.{add-one, sym, ◌∙◌}
+use Rattle.std.proofs.Common.{◌≤◌, add-one, sym, ◌∙◌, arith}
 use Rattle.std.proofs.Math.Seq.{drop-cons}
 use Rattle.lp_checker.specs.inside.Cursors.{leg_in}
-use Rattle.lp_checker.proofs.PartLines.{gap_here, no_gap_here, follows}
+use Rattle.lp_checker.proofs.PartLines.{gap_here, no_gap_here, in_time, follows}
 use Rattle.lp_checker.proofs.gaps.gap_fault.Goals as goal
+
+pub slice_bounds-own-start : goal.slice_bounds-own-start
+slice_bounds-own-start g c =
+    let here = drop-cons c.args.sections.now c.loop-section.section-index (record { group = record { 0 = 0 }; begin = 0; until = 0; start = 0; end = 0 }) c.loop-section-test.true in
+    let its = in_time _ c.args.cursor.now.range.end _ _ _ here c.loop-section.invariant.times in
+    omega (arith, its.2, its.3)
+
+pub slice_bounds-own-end : goal.slice_bounds-own-end
+slice_bounds-own-end g c =
+    let here = drop-cons c.args.sections.now c.loop-section.section-index (record { group = record { 0 = 0 }; begin = 0; until = 0; start = 0; end = 0 }) c.loop-section-test.true in
+    let its = in_time _ c.args.cursor.now.range.end _ _ _ here c.loop-section.invariant.times in
+    omega (arith, its.2, its.3)
+
+pub slice_bounds-own-count : goal.slice_bounds-own-count
+slice_bounds-own-count g c =
+    let here = drop-cons c.args.sections.now c.loop-section.section-index (record { group = record { 0 = 0 }; begin = 0; until = 0; start = 0; end = 0 }) c.loop-section-test.true in
+    let its = in_time _ c.args.cursor.now.range.end _ _ _ here c.loop-section.invariant.times in
+    omega (arith, its.2, its.3)
 
 pub returns-then-is_some-clause-fault : goal.returns-then-is_some-clause-fault
 returns-then-is_some-clause-fault g c =

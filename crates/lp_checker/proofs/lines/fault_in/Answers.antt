@@ -1,7 +1,11 @@
-use Rattle.std.proofs.Common.{add-one, ◌∙◌}
+use Rattle.std.proofs.Common.{List, map, drop, add-one, sym, ap, ◌∙◌, arith}
+use Rattle.std.proofs.lemmas.List.{drop_all}
+use Rattle.lp_transition.specs.Tasks.{first_of}
+use Rattle.lp_cert.specs.declared.line.Line.{Line}
 use Rattle.lp_cert.specs.declared.line.Line.TheVariants.{Hold}
 use Rattle.lp_checker.specs.inside.Cursors.{leg_in}
 use Rattle.lp_checker.specs.inside.Sections.{timed}
+use Rattle.lp_checker.specs.Verdict.{line_test}
 use Rattle.lp_checker.proofs.MarkLines.{passes_sound}
 use Rattle.lp_checker.proofs.lines.fault_in.Goals as goal
 
@@ -12,3 +16,11 @@ loop-i-preserved-then-is_sound g c =
       range = c.loop-i.invariant.range;
       rest = c.loop-i.invariant.rest ∙ passes_sound g.M.Consistency.rules leg (timed c.args.section) c.args.lines.now c.args.marks.now c.loop-i.i (Hold (record { 0 = 0 }) (record { 0 = 0 }) 0 0 0) _ c.loop-i-test.true (c.is_sound.ensures c.if-is_sound.true) c.requires.marks;
     })
+
+pub bounds-marks-i : goal.bounds-marks-i
+bounds-marks-i g c = omega (arith, c.requires.marks.all, c.loop-i-test.true)
+
+pub returns-clause-fault : goal.returns-clause-fault
+returns-clause-fault g c =
+    let test = line_test g.M.Consistency.rules (leg_in c.args.cursor.now.range) (timed c.args.section) in
+    sym (c.loop-i.invariant.rest ∙ ap (λ (lines : List Line). first_of (map test lines)) (drop_all c.loop-i.i c.args.lines.now (omega (arith, c.loop-i-test.false))))
