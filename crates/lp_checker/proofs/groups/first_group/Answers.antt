@@ -17,3 +17,6 @@ group_before-requires g c =
     let order = subst (AreInOrder leg c.args.cursor.now.range.end 0) here c.requires in
     let in_time = ends_in_time leg c.args.cursor.now.range.end (c.in-Born.at - leg.number) (births (drop (suc i) lines)) order.1 in
     rw c.loop-line.invariant.range (omega (arith, in_time, rw c.loop-line.invariant.range at c.moment_of-moment.ensures.value))
+
+pub returns-in-Born-clause-range : goal.returns-in-Born-clause-range
+returns-in-Born-clause-range g c = c.group_before.ensures.range ∙ c.loop-line.invariant.range

@@ -24,3 +24,6 @@ pub returns-clause-fault : goal.returns-clause-fault
 returns-clause-fault g c =
     let test = line_test g.M.Consistency.rules (leg_in c.args.cursor.now.range) (timed c.args.section) in
     sym (c.loop-i.invariant.rest ∙ ap (λ (lines : List Line). first_of (map test lines)) (drop_all c.loop-i.i c.args.lines.now (omega (arith, c.loop-i-test.false))))
+
+pub fault_of-requires : goal.fault_of-requires
+fault_of-requires g c = rw c.loop-i.invariant.range c.requires.within

@@ -52,3 +52,6 @@ returns-in-Some-clause-fault g c = λ group.
     hold_by g.M.Consistency.rules leg (timed c.args.section) group hold.task hold.serial hold.from hold.to blamed
     ∙ ap (λ (o : Option ℕ). option_map (λ (moment : ℕ). NotOnStack (leg.number + moment)) o) (sym off ∙ c.in-Some.is)
     ∙ ap (λ (n : ℕ). Some (NotOnStack (n + c.in-Some.moment))) (sym number))
+
+pub first_off-requires-clause-within : goal.first_off-requires-clause-within
+first_off-requires-clause-within g c = rw c.is_blamed.ensures.range c.requires

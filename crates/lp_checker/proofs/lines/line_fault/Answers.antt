@@ -37,3 +37,9 @@ loop-section-preserved g c =
       times = (_, follows _ c.args.cursor.now.range.end _ _ _ here c.loop-section.invariant.times);
       rest = c.loop-section.invariant.rest ∙ no_fault_here g.M.Consistency.rules (leg_in c.args.cursor.now.range) c.args.lines.now _ _ _ c.in_ok-fault.fault here own c.if-is_some.ensures;
     })
+
+pub section_fault-requires : goal.section_fault-requires
+section_fault-requires g c =
+    let here = drop-cons c.args.sections.now c.loop-section.section-index (record { group = record { 0 = 0 }; begin = 0; until = 0; start = 0; end = 0 }) c.loop-section-test.true in
+    let its = in_time _ c.args.cursor.now.range.end _ _ _ here c.loop-section.invariant.times in
+    rw c.loop-section.invariant.range its.1

@@ -14,3 +14,6 @@ loop-look-preserved g c =
       range = c.mark_at.ensures.range ∙ c.loop-look.invariant.range;
       marks = marks_with g.M.Consistency.rules (leg_in c.args.cursor.now.range) (timed c.args.section) c.args.lines.now c.loop-look.marks _ _ _ (c.requires.looks c.loop-look.look-index _ c.loop-look-test.true) marked c.loop-look.invariant.marks;
     }
+
+pub mark_at-requires-clause-within : goal.mark_at-requires-clause-within
+mark_at-requires-clause-within g c = rw c.loop-look.invariant.range c.requires.within
