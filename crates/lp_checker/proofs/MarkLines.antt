@@ -1,5 +1,5 @@
 -- Marks of lines, one by one.
-use Rattle.std.proofs.Common.{◌≡◌, ℕ, suc, ◌<◌, List, length, map, drop, set, get_or, None, length-set, get_or-set_same, get_or-set_other, sym, ap, subst, ◌∙◌, ⊎_elim, arith}
+use Rattle.std.proofs.Common.{◌≡◌, ℕ, suc, ◌<◌, List, length, map, drop, set, get_or, Option, Some, None, is_some, true, false, length-set, get_or-set_same, get_or-set_other, sym, ap, subst, ◌∙◌, ⊎_elim, arith}
 use Rattle.std.proofs.lemmas.Bool.{cases_eq}
 use Rattle.std.proofs.lemmas.List.{get_or_default}
 use Rattle.std.proofs.Math.Seq.{drop-cons}
@@ -7,11 +7,12 @@ use Rattle.lp_model.specs.Rules.{Rules}
 use Rattle.lp_transition.specs.Leg.{Leg}
 use Rattle.lp_transition.specs.Tasks.{first_of}
 use Rattle.lp_cert.specs.declared.line.Line.{Line}
+use Rattle.lp_checker.specs.declared.fault.CertFault.{CertFault}
 use Rattle.lp_checker.specs.declared.marks.Mark.{Mark}
 use Rattle.lp_checker.specs.declared.marks.Mark.TheVariants.{Sound}
 use Rattle.lp_checker.specs.inside.Marks.{IsMarked, AreMarked}
 use Rattle.lp_checker.specs.Verdict.{Section, line_test}
-use Rattle.lp_checker.proofs.FirstBad.{first_none}
+use Rattle.lp_checker.proofs.FirstBad.{first_none, first_some}
 
 module _ (model : Rules) (leg : Leg) (section : Section) (lines : List Line) where
   -- one line's mark is put
@@ -34,3 +35,12 @@ module _ (model : Rules) (leg : Leg) (section : Section) (lines : List Line) whe
       let none : line_test model leg section (get_or lines i d) ≡ None = subst (λ m. IsMarked model leg section (get_or lines i d) m) is (marked.each i lt d e) in
       ap (λ (ls : List Line). first_of (map (line_test model leg section) ls)) (drop-cons lines i d lt)
       ∙ first_none (line_test model leg section (get_or lines i d)) (map (line_test model leg section) (drop (suc i) lines)) none
+
+-- the first line at fault, where the lines before it have none
+pub line_here : (test : Line → Option CertFault) (lines : List Line) (i : ℕ) (d : Line) (fault : Option CertFault) → i < length lines → fault ≡ test (get_or lines i d) → true ≡ is_some fault → first_of (map test (drop i lines)) ≡ fault
+line_here test lines i d (Some fault) lt e some = ap (λ (ls : List Line). first_of (map test ls)) (drop-cons lines i d lt) ∙ first_some (test (get_or lines i d)) (map test (drop (suc i) lines)) fault (sym e)
+line_here test lines i d None lt e some = absurd (cc)
+
+pub line_passed : (test : Line → Option CertFault) (lines : List Line) (i : ℕ) (d : Line) (fault : Option CertFault) → i < length lines → fault ≡ test (get_or lines i d) → false ≡ is_some fault → first_of (map test (drop i lines)) ≡ first_of (map test (drop (suc i) lines))
+line_passed test lines i d (Some fault) lt e none = absurd (cc)
+line_passed test lines i d None lt e none = ap (λ (ls : List Line). first_of (map test ls)) (drop-cons lines i d lt) ∙ first_none (test (get_or lines i d)) (map test (drop (suc i) lines)) (sym e)

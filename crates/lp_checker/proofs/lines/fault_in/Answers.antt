@@ -6,7 +6,7 @@ use Rattle.lp_cert.specs.declared.line.Line.TheVariants.{Hold}
 use Rattle.lp_checker.specs.inside.Cursors.{leg_in}
 use Rattle.lp_checker.specs.inside.Sections.{timed}
 use Rattle.lp_checker.specs.Verdict.{line_test}
-use Rattle.lp_checker.proofs.MarkLines.{passes_sound}
+use Rattle.lp_checker.proofs.MarkLines.{line_here, line_passed, passes_sound}
 use Rattle.lp_checker.proofs.lines.fault_in.Goals as goal
 
 pub loop-i-preserved-then-is_sound : goal.loop-i-preserved-then-is_sound
@@ -27,3 +27,18 @@ returns-clause-fault g c =
 
 pub fault_of-requires : goal.fault_of-requires
 fault_of-requires g c = rw c.loop-i.invariant.range c.requires.within
+
+pub returns-then-is_some-clause-fault : goal.returns-then-is_some-clause-fault
+returns-then-is_some-clause-fault g c =
+    let test = line_test g.M.Consistency.rules (leg_in c.args.cursor.now.range) (timed c.args.section) in
+    let own = rw c.loop-i.invariant.range at c.in_ok-fault.ensures.fault in
+    sym (c.loop-i.invariant.rest ∙ line_here test c.args.lines.now c.loop-i.i _ c.in_ok-fault.fault c.loop-i-test.true own c.if-is_some.ensures)
+
+pub loop-i-preserved : goal.loop-i-preserved
+loop-i-preserved g c =
+    let test = line_test g.M.Consistency.rules (leg_in c.args.cursor.now.range) (timed c.args.section) in
+    let own = rw c.loop-i.invariant.range at c.in_ok-fault.ensures.fault in
+    rw add-one (record {
+      range = c.fault_of.ensures.range ∙ c.loop-i.invariant.range;
+      rest = c.loop-i.invariant.rest ∙ line_passed test c.args.lines.now c.loop-i.i _ c.in_ok-fault.fault c.loop-i-test.true own c.if-is_some.ensures;
+    })
