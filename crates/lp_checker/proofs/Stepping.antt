@@ -22,6 +22,17 @@ module _ (model : Rules) (lawful : IsLawful model) (opening : Engine) (events : 
   unfolding unswitched
   opened fold sound number target patches tasks = record { sound = sound; number = omega (arith, number); target = target; patches = patches; tasks = tasks }
 
+  -- a fold that nothing was taken into
+  pub stays : (k : ℕ) (old new : Fold) → IsAt model opening events k old → new.number ≡ old.number → new.target ≡ old.target → new.patches ≡ old.patches → standings new.tasks ≡ standings old.tasks → IsAt model opening events k new
+  stays k old new at number target patches tasks =
+      record {
+        sound = at.sound;
+        number = number ∙ at.number;
+        target = ap (λ l. l.0) target ∙ at.target;
+        patches = patches ∙ at.patches;
+        tasks = tasks ∙ at.tasks;
+      }
+
   module _ (k : ℕ) (old : Fold) (event : Event) (at : IsAt model opening events k old) (comes : slice_get events k ≡ Some event) where
     accepts_as : accept_standing (bounds_of old.patches) (standings old.tasks) (Some event) ≡ accept_standing leg.bounds (now model leg lawful at.sound.sound k) (slice_get events k)
     accepts_as =

@@ -1,10 +1,14 @@
-use Rattle.std.proofs.Common.{◌≡◌, suc, ◌-◌, ◌∷◌, drop, ap, ◌∙◌, subst, arith}
+use Rattle.std.proofs.Common.{◌≡◌, ℕ, suc, pred, ◌-◌, ◌∷◌, drop, sym, ap, ◌∙◌, subst, arith}
+use Rattle.std.proofs.lemmas.Result.{IfOk-weaker}
+use Rattle.lp_stack.specs.declared.number.GroupId.{GroupId}
+use Rattle.lp_transition.specs.Leg.{after}
+use Rattle.lp_checker.specs.inside.Births.{group_or_0}
 use Rattle.std.proofs.Math.Seq.{drop-cons}
 use Rattle.lp_cert.specs.declared.line.Line.{Line}
 use Rattle.lp_cert.specs.declared.line.Line.TheVariants.{Born}
 use Rattle.lp_checker.specs.inside.Cursors.{leg_in}
 use Rattle.lp_checker.specs.inside.Sections.{AreInOrder}
-use Rattle.lp_checker.specs.Verdict.{births}
+use Rattle.lp_checker.specs.Verdict.{births, first_group}
 use Rattle.lp_checker.proofs.SectionLines.{ends_in_time}
 use Rattle.lp_checker.proofs.groups.first_group.Goals as goal
 
@@ -20,3 +24,14 @@ group_before-requires g c =
 
 pub returns-in-Born-clause-range : goal.returns-in-Born-clause-range
 returns-in-Born-clause-range g c = c.group_before.ensures.range ∙ c.loop-line.invariant.range
+
+pub returns-in-Born-clause-group : goal.returns-in-Born-clause-group
+returns-in-Born-clause-group g c =
+    let model = g.M.Consistency.rules in
+    let leg = leg_in c.args.cursor.now.range in
+    let lines = c.args.lines.now in
+    let i = c.loop-line.line-index in
+    let here : births lines ≡ births (Born c.in-Born.group c.in-Born.parent c.in-Born.at ∷ drop (suc i) lines) = c.loop-line.invariant.rest ∙ ap births (drop-cons lines i _ c.loop-line-test.true) ∙ ap (λ (l : Line). births (l ∷ drop (suc i) lines)) c.in-Born.is in
+    let before = λ (m : ℕ). group_or_0 (after model leg (pred m) c.in-Born.parent.0) in
+    let moment = rw c.loop-line.invariant.range at c.moment_of-moment.ensures.value in
+    IfOk-weaker c.group_before.result (λ (group : GroupId). group.0 ≡ before c.moment_of-moment.result) (λ group. group.0 ≡ first_group model leg c.args.claimed.0 (births lines)) (λ group e. e ∙ ap before moment ∙ sym (ap (first_group model leg c.args.claimed.0) here)) (rw c.loop-line.invariant.range at c.group_before.ensures.group)

@@ -1,4 +1,4 @@
-use Rattle.std.proofs.Common.{List, map, drop, add-one, sym, ap, ◌∙◌, arith}
+use Rattle.std.proofs.Common.{List, map, add-one, sym, ap, ◌∙◌, arith}
 use Rattle.std.proofs.lemmas.List.{drop_all}
 use Rattle.lp_transition.specs.Tasks.{first_of}
 use Rattle.lp_cert.specs.declared.line.Line.{Line}

@@ -1,4 +1,4 @@
-use Rattle.std.proofs.Common.{◌≤◌, add-one, sym, ◌∙◌, arith}
+use Rattle.std.proofs.Common.{add-one, sym, ◌∙◌, arith}
 use Rattle.std.proofs.Math.Seq.{drop-cons}
 use Rattle.lp_checker.specs.inside.Cursors.{leg_in}
 use Rattle.lp_checker.proofs.PartLines.{fault_here, no_fault_here, in_time, follows}
