@@ -6,7 +6,7 @@ use Rattle.lp_cert.specs.declared.line.Line.TheVariants.{Born}
 use Rattle.lp_transition.specs.Leg.{accepted, after}
 use Rattle.lp_checker.specs.inside.Births.{group_in, group_or_0, is_own_fork, group_now}
 use Rattle.lp_checker.specs.inside.Cursors.{leg_in}
-use Rattle.lp_checker.proofs.BirthLines.{Passed, pass_birth, late_birth, no_birth, all_passed, fits_some, fits_none}
+use Rattle.lp_checker.proofs.BirthLines.{Passed, moment_between, pass_birth, late_birth, no_birth, all_passed, fits_some, fits_none}
 use Rattle.lp_checker.proofs.births.birth_fault.Goals as goal
 
 pub returns-in_default-moment_within-clause-fault : goal.returns-in_default-moment_within-clause-fault
@@ -52,3 +52,15 @@ returns-clause-fault g c = λ claimed.
     let leg = leg_in c.args.cursor.now.range in
     let lines = c.args.lines.now in
     all_passed g.M.Consistency.rules leg lines c.args.cursor.now.range.end c.loop-line.line-index c.loop-line.begin c.loop-line.from (drop_all c.loop-line.line-index lines (omega (arith, c.loop-line-test.false))) c.loop-line.invariant.passed claimed
+
+pub is_birth-requires-clause-event : goal.is_birth-requires-clause-event
+is_birth-requires-clause-event g c =
+    let range = c.args.cursor.now.range in
+    let between = moment_between c.loop-line.begin range.end (c.in-Born.at - range.opening.number) c.in-Some.moment (rw (c.loop-line.invariant.range, c.end-last.ensures.value) at c.in-Some.ensures) in
+    omega (arith, between.0)
+
+pub is_birth-requires-clause-within : goal.is_birth-requires-clause-within
+is_birth-requires-clause-within g c =
+    let range = c.args.cursor.now.range in
+    let between = moment_between c.loop-line.begin range.end (c.in-Born.at - range.opening.number) c.in-Some.moment (rw (c.loop-line.invariant.range, c.end-last.ensures.value) at c.in-Some.ensures) in
+    rw c.loop-line.invariant.range between.1

@@ -1,7 +1,8 @@
-use Rattle.std.proofs.Common.{add-one, sym, ◌∙◌, arith}
+use Rattle.std.proofs.Common.{add-one, sym, ap, ◌∙◌, arith}
+use Rattle.std.proofs.lemmas.List.{drop_all}
 use Rattle.std.proofs.Math.Seq.{drop-cons}
 use Rattle.lp_checker.specs.inside.Cursors.{leg_in}
-use Rattle.lp_checker.proofs.PartLines.{gap_here, no_gap_here, in_time, follows}
+use Rattle.lp_checker.proofs.PartLines.{gaps_from, gap_here, no_gap_here, in_time, follows}
 use Rattle.lp_checker.proofs.gaps.gap_fault.Goals as goal
 
 pub slice_bounds-own-start : goal.slice_bounds-own-start
@@ -49,3 +50,6 @@ gap_in-requires-clause-order g c =
     let here = drop-cons c.args.sections.now c.loop-section.section-index (record { group = record { 0 = 0 }; begin = 0; until = 0; start = 0; end = 0 }) c.loop-section-test.true in
     let its = in_time _ c.args.cursor.now.range.end _ _ _ here c.loop-section.invariant.times in
     its.0
+
+pub returns-clause-fault : goal.returns-clause-fault
+returns-clause-fault g c = sym (c.loop-section.invariant.rest ∙ ap (gaps_from g.M.Consistency.rules (leg_in c.args.cursor.now.range) c.args.lines.now) (drop_all c.loop-section.section-index c.args.sections.now (omega (arith, c.loop-section-test.false))))

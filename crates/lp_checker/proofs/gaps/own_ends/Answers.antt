@@ -1,0 +1,9 @@
+use Rattle.std.proofs.Common.{nat_le, ap, ◌∙◌, arith}
+use Rattle.std.proofs.lemmas.Bool.{lt-leb}
+use Rattle.lp_checker.proofs.gaps.own_ends.Goals as goal
+
+pub loop-line-init : goal.loop-line-init
+loop-line-init c = record {
+  all = omega (arith, c.in_ok-ends.ensures.count);
+  ends = λ place moment le lt. ap (nat_le moment) (c.in_ok-ends.ensures.zero place) ∙ lt-leb moment 0 lt;
+}
