@@ -3,6 +3,7 @@
 
 mod checks;
 mod counter;
+mod for_run;
 pub mod laws;
 mod page;
 mod place;
