@@ -98,6 +98,7 @@ fn fault_of<M: Consistency>(
     if is_no_leg(model, opening, events, claim, cert) {
         return Ok(Some(CertFault::NoLeg));
     }
+    // The cursor counts moments elsewhere; it is opened with this one.
     let last = cert.upto.saturating_sub(opening.number()) as usize;
     let mut cursor = Cursor::open(alloc, model, opening, events, last)?;
     later_fault(alloc, &mut cursor, cert.lines.as_slice(), cert.group)

@@ -137,6 +137,9 @@ fn greater(one: u64, other: u64) -> u64
 
 /// For each moment of a section's time, counted from its beginning, the last end of the spans that
 /// begin at it. Those that begin earlier stand at the beginning.
+///
+/// It counts moments from the opening's number itself: to be given a cursor for that alone, it would have to be compiled for
+/// each model.
 fn own_ends(
     alloc: Global,
     number: u64,
