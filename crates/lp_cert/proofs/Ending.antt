@@ -1,5 +1,5 @@
 -- The certificates of the leg under way as it ends.
-use Rattle.std.proofs.Common.{◌≡◌, ℕ, ◌+◌, ◌<◌, ◌||◌, Bool, true, List, [], ◌∷◌, ◌++◌, length, map, nat_eq, get_or, Option, Some, None, is_some, refl, sym, ap, ap₂, ◌∙◌, arith}
+use Rattle.std.proofs.Common.{◌≡◌, ℕ, ◌<◌, ◌||◌, Bool, true, List, [], ◌∷◌, ◌++◌, length, map, nat_eq, get_or, Option, Some, None, is_some, refl, sym, ap, ap₂, ◌∙◌, arith}
 use Rattle.std.specs.Option.{option_map}
 use Rattle.lp_transition.specs.Scan.{passing}
 use Rattle.lp_numbers.specs.Numbers.{Numbers, has}

@@ -55,7 +55,7 @@ all_fit_further n (r ∷ rs) fits = (fit_further n r fits.0, all_fit_further n r
 
 continues_further : (n : ℕ) (o : Ongoing) → ContinuesIn n o → ContinuesIn (n + 1) o
 continues_further n Nothing h = tt
-continues_further n (Hold t serial from) h = tt
+continues_further n (Hold t serial from) h = omega arith
 continues_further n (Busy t first) h = omega arith
 
 last-more : (scans : List ℕ) (at : ℕ) → get_or (more scans at) (length (more scans at) - 1) 0 ≡ at
@@ -102,7 +102,7 @@ begun_lines scans g t at blame.Busy rs used =
 begun_lines scans g t at blame.Unused rs used = absurd used
 
 begun_continues : (n : ℕ) (t : TaskId) (at : ℕ) (b : Blame) → IsUsed b → ContinuesIn (n + 1) (reason_begun_by n t at b)
-begun_continues n t at (blame.Frame serial) used = tt
+begun_continues n t at (blame.Frame serial) used = omega arith
 begun_continues n t at blame.Busy used = omega arith
 begun_continues n t at blame.Unused used = absurd used
 

@@ -20,6 +20,7 @@ pub mod UnchangedEvents
 pub mod Touching
 pub mod UnchangedScans
 pub mod Completions
+pub mod Bare
 pub mod Keeping
 pub mod Making
 pub mod Ending

@@ -8,7 +8,7 @@ use Rattle.lp_model.specs.declared.check.CheckKind.{CheckKind}
 use Rattle.lp_model.specs.declared.check.CheckKind.TheVariants as kind
 use Rattle.lp_transition.specs.Leg.{State}
 use Rattle.lp_transition.specs.Run.{Run, leg_of, plus}
-use Rattle.lp_transition.specs.Scan.{is_scan_kind, scan_event, verdicts_among, MayLeaveOut}
+use Rattle.lp_transition.specs.Scan.{is_scan_kind, scan_event, MayLeaveOut}
 use Rattle.lp_transition.specs.Steps.{StandsIn}
 use Rattle.lp_transition.specs.Table.{Engine, state_in}
 use Rattle.lp_transition.specs.Weigh.{IsWeighed}

@@ -1,17 +1,15 @@
 -- What a scan tells of each group, though it leaves out those that are unchanged.
-use Rattle.std.proofs.Common.{◌≡◌, ℕ, Bool, true, false, not, ◌&&◌, ◌||◌, List, [], ◌∷◌, map, Option, Some, None, is_some, IsTrue, nat_eq, refl, sym, ap, subst, ◌∙◌, ⊎_elim}
-use Rattle.std.specs.List.{filter, list_any}
-use Rattle.std.specs.Option.{option_map}
-use Rattle.std.proofs.lemmas.Bool.{false≢true, cond-true, cond-false, cases_Bool, and_parts, eqb-true, not-true, false_from_ne_true}
+use Rattle.std.proofs.Common.{◌≡◌, ℕ, Bool, true, false, not, ◌&&◌, List, Some, is_some, IsTrue, nat_eq, sym, ap, subst, ◌∙◌, ⊎_elim}
+use Rattle.std.specs.List.{list_any}
+use Rattle.std.proofs.lemmas.Bool.{false≢true, cases_Bool, and_parts, eqb-true, not-true, false_from_ne_true}
 use Rattle.lp_numbers.specs.Numbers.{has}
 use Rattle.lp_model.specs.Rules.{Rules}
 use Rattle.lp_model.specs.declared.check.Blame.{Blame}
 use Rattle.lp_model.specs.declared.check.CheckKind.{CheckKind}
 use Rattle.lp_model.specs.declared.verdict.Verdict.{Verdict}
-use Rattle.lp_transition.specs.Tasks.{Live, on_live, first_of}
-use Rattle.lp_transition.specs.Leg.{Standing, State}
+use Rattle.lp_transition.specs.Leg.{State}
 use Rattle.lp_transition.specs.Machine.{view_of, waits_in}
-use Rattle.lp_transition.specs.Scan.{is_asked, verdict_of, verdicts_among, verdicts_of}
+use Rattle.lp_transition.specs.Scan.{verdict_of, verdicts_of}
 use Rattle.lp_transition.specs.Sound.{IsSound}
 use Rattle.lp_transition.proofs.Quantifiers.{some_live-is}
 use Rattle.lp_transition.proofs.GroupsTold.{first_left, is_member}

@@ -1,5 +1,5 @@
 -- Which groups are unchanged after an event that opens no leg.
-use Rattle.std.proofs.Common.{◌≡◌, ℕ, suc, ◌<◌, ◌⊎◌, Bool, true, false, not, ◌&&◌, ◌||◌, List, [], ◌∷◌, length, Option, Some, None, is_some, IsTrue, IsFalse, if◌then◌else◌, nat_eq, nat_lt, refl, sym, ap, ap₂, subst, ◌∙◌, ⊎_elim, inl, inr}
+use Rattle.std.proofs.Common.{◌≡◌, ℕ, suc, ◌<◌, ◌⊎◌, Bool, true, false, ◌&&◌, ◌||◌, List, [], ◌∷◌, length, Option, Some, None, is_some, IsTrue, IsFalse, if◌then◌else◌, nat_eq, nat_lt, refl, sym, ap, subst, ◌∙◌, ⊎_elim, inl, inr}
 use Rattle.std.specs.List.{filter, list_any}
 use Rattle.std.proofs.lemmas.Bool.{false≢true, cond-true, cond-false, and_parts, eqb-true, eq-eqb, ltb-true, or_cases}
 use Rattle.lp_numbers.specs.Numbers.{has}
@@ -15,7 +15,7 @@ use Rattle.lp_transition.specs.Leg.{Standing, State, Leg}
 use Rattle.lp_transition.specs.Run.{and_then, opens}
 use Rattle.lp_transition.specs.Sound.{IsSound}
 use Rattle.lp_transition.specs.Machine.{view_of, waits_in, state_of}
-use Rattle.lp_transition.specs.Scan.{is_asked, is_scan_kind, scan_event, verdict_of, verdicts_among, verdicts_of}
+use Rattle.lp_transition.specs.Scan.{is_scan_kind, scan_event, verdict_of, verdicts_of}
 use mathlib.Core.Path.{fun_ext}
 use Rattle.lp_transition.specs.Table.{Engine, fate_at, slot, state_in}
 use Rattle.lp_transition.specs.inside.Table.{is_in}
@@ -29,12 +29,12 @@ use Rattle.lp_cert.specs.inside.Heads.{is_busy}
 use Rattle.lp_cert.specs.Certificates.{lines, group_id}
 use Rattle.lp_cert.specs.Unchanged.{Continues, IsUnchanged, AreUnchanged, says_busy}
 use Rattle.lp_cert.specs.LastScan.{LastScan, AreUnchangedBy, AreUnchangedSince, AreThoseOf, Suffices, used_kind, used_scan}
-use Rattle.lp_cert.specs.inside.LastScan.{AreKeptApart, IsLastScanAfter, continues_by as reason_goes_by, is_of_group, is_refused_in, says_busy_on, leaves_unchanged, refuses_as_before}
+use Rattle.lp_cert.specs.inside.LastScan.{AreKeptApart, IsLastScanAfter, continues_by as reason_goes_by, is_of_group, is_refused_in, leaves_unchanged, refuses_as_before}
 use Rattle.lp_transition.specs.Blames.{TellOf, has_frame_in, is_of}
 use Rattle.lp_cert.specs.Waiters.{LegReasons, WaitingGroups, head_of}
 use Rattle.lp_cert.specs.inside.Waiters.{AreStanding, lines_at}
 use Rattle.lp_cert.proofs.HeadLemmas.{busy_blame}
-use Rattle.lp_cert.proofs.UnchangedLines.{OngoingContinues, head_continues, head_busy}
+use Rattle.lp_cert.proofs.UnchangedLines.{OngoingContinues, head_continues}
 use Rattle.lp_cert.proofs.UnchangedEvents.{IsNoUsedScan}
 use Rattle.lp_cert.proofs.Touching.{lines_held, touched_unchanged}
 use Rattle.lp_cert.proofs.UnchangedScans.{scan_leaves_unchanged, after_scan_is, busy_is_first}

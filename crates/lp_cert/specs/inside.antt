@@ -1,4 +1,5 @@
 -- What code and proofs share and no public contract names.
+pub mod Bare
 pub mod Chains
 pub mod GroupSet
 pub mod StepLines

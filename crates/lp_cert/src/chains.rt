@@ -1,5 +1,5 @@
 //! Lists of reasons that share their older parts.
-ghost use Rattle.std.specs.Prelude.{◌≡◌, ◌+◌, ◌<◌, ◌≤◌, [], ◌∷◌, ◌++◌, Some, drop, length, slice_get, slice_index_or, IfOk, OnOk};
+ghost use Rattle.std.specs.Prelude.{◌≡◌, ◌+◌, ◌<◌, ◌≤◌, [], ◌∷◌, ◌++◌, Some, drop, length, slice_get, slice_index_or, IfOk, IsTrue, OnOk};
 ghost use Rattle.lp_cert.specs.inside.Chains.{IsTail};
 ghost use Rattle.lp_cert.specs.inside.Parts.{AreWithout};
 
@@ -61,6 +61,13 @@ impl Chains {
         ensures { self.new.lists ≡ [] ∷ [] }
     {
         self.entries.clear();
+    }
+
+    /// Whether there is the empty list alone.
+    pub(crate) fn is_empty(&self) -> bool
+        ensures { IsTrue result → self.now.lists ≡ [] ∷ [] }
+    {
+        self.entries.is_empty()
     }
 
     /// Makes room for so many more lists; AllocError where an allocation failed.

@@ -1,11 +1,17 @@
 //! Sets of groups.
-ghost use Rattle.std.specs.Prelude.{◌≡◌, ◌<◌, ◌≤◌, ◌↔◌, ℕ, true, false, length, slice_set, IfOk, IsTrue};
+ghost use Rattle.std.specs.Prelude.{◌≡◌, ◌<◌, ◌≤◌, ◌↔◌, ℕ, true, false, length, map, slice_set, IfOk, IsTrue};
 ghost use Rattle.lp_numbers.specs.Numbers.{has, IsEmpty, IsNextFrom};
 ghost use Rattle.lp_numbers.specs.Ascending.{members_from};
+ghost use Rattle.lp_transition.specs.Scan.{passing};
+ghost use Rattle.lp_cert.specs.Certificates.{group_id};
 
 use lp_numbers::{Ascending, NumberSet};
+use lp_stack::GroupId;
 use std::alloc::{AllocError, Global};
 use std::marker::Model;
+
+/// How many groups there is room for in a new list: no memory that is asked for is less.
+const LEAST_ROOM: usize = 12;
 
 /// A set of groups that knows a number above all of them, so that a table of what is kept of each
 /// needn't be longer. Only `new` allocates.
@@ -72,6 +78,18 @@ impl GroupSet {
         ensures { result ≡ members_from 0 self.now }
     {
         self.groups.iter()
+    }
+
+    /// The members as a list, in increasing order; AllocError where an allocation failed.
+    #[tactic(auto, using(lp_transition::proofs::Ascending::in_order))]
+    pub(crate) fn list(&self, alloc: Global) -> Result<Vec<GroupId>, AllocError>
+        ensures { IfOk result (λ list. list.items ≡ map group_id (passing 0 65536 (has self.now))) }
+    {
+        let mut list = Vec::with_capacity(alloc, LEAST_ROOM)?;
+        for number in self {
+            list.push(GroupId(number))?;
+        }
+        Ok(list)
     }
 
     /// Makes a group a member.

@@ -3,9 +3,11 @@ ghost use Rattle.std.specs.Prelude.{◌≡◌, ◌<◌, ◌↔◌, [], ◌∷◌
 ghost use Rattle.std.specs.Option.{option_map};
 ghost use Rattle.lp_cert.specs.Ends.{cert_head};
 ghost use Rattle.lp_cert.specs.Waiters.{kept_cert};
+ghost use Rattle.lp_cert.specs.inside.Bare.{bare_cert};
 ghost use Rattle.lp_cert.specs.inside.Kept.{up_to};
 ghost use Rattle.lp_cert.specs.inside.Waiters.{AreHeads};
 
+use crate::bare_certs::BareCerts;
 use crate::cert::{Cert, CertHead, Claim};
 use crate::cert_lines::CertLines;
 use crate::chains::Chains;
@@ -55,12 +57,14 @@ pub(crate) struct BareCert {
     upto: u32,
 }
 
-/// What is kept of the certificates of a leg. A run may have as many legs as events, and most short
-/// ones have no certificate or one without a line: these take no memory beside the leg's.
+/// What is kept of the certificates of a leg. A run may have as many legs as events. Most short ones
+/// have no certificate or one without a line, which take no memory beside the leg's, or several
+/// without a line, of which the groups are enough.
 #[derive(Drop)]
 pub(crate) enum Kept {
     Nothing,
     Bare(BareCert),
+    Bares(Box<BareCerts>),
     Many(Box<ManyCerts>),
 }
 
@@ -86,7 +90,7 @@ impl CertList {
 
     /// The certificate of a group without any reason. Never allocates.
     pub(crate) fn bare(claim: Claim, leg: u32, upto: u32, group: GroupId) -> CertList
-        ensures { result ≡ record { claim = claim; leg = leg; group = group; upto = upto; lines = [] } ∷ [] }
+        ensures { result ≡ bare_cert claim leg upto group ∷ [] }
     {
         CertList {
             kept: Kept::Bare(BareCert {
@@ -96,6 +100,22 @@ impl CertList {
                 upto,
             }),
         }
+    }
+
+    /// The certificates of groups without any reason; AllocError where an allocation failed.
+    pub(crate) fn bares(
+        alloc: Global,
+        claim: Claim,
+        leg: u32,
+        upto: u32,
+        groups: Vec<GroupId>,
+    ) -> Result<CertList, AllocError>
+        ensures { IfOk result (λ certs. certs ≡ map (bare_cert claim leg upto) groups.items) }
+    {
+        let bares = BareCerts::new(claim, leg, upto, groups);
+        Ok(CertList {
+            kept: Kept::Bares(Box::new(alloc, bares)?),
+        })
     }
 
     /// The certificates of these groups, over their older reasons and the scans of the leg;
@@ -125,6 +145,7 @@ impl CertList {
         match &mut self.kept {
             Kept::Nothing => {}
             Kept::Bare(bare) => bare.upto = upto,
+            Kept::Bares(bares) => bares.go_up_to(upto),
             Kept::Many(many) => many.go_up_to(upto),
         }
     }
@@ -136,6 +157,7 @@ impl CertList {
         match &self.kept {
             Kept::Nothing => 0,
             Kept::Bare(_) => 1,
+            Kept::Bares(bares) => bares.len(),
             Kept::Many(many) => many.len(),
         }
     }
@@ -183,6 +205,7 @@ impl CertList {
                 group: bare.group,
                 upto: u64::from(bare.upto),
             },
+            Kept::Bares(bares) => bares.head(place),
             Kept::Many(many) => many.head(place),
         }
     }
@@ -193,6 +216,7 @@ impl CertList {
         ensures { option_map (λ cert. cert.lines) (slice_get self.now place) ≡ Some result }
     {
         match &self.kept {
+            Kept::Bares(bares) => bares.lines(place),
             Kept::Many(many) => many.lines(place),
             _ => CertLines::none(),
         }

@@ -1,6 +1,7 @@
 //! Certificates: why a group still waits.
 #![tactic(auto)]
 
+mod bare_certs;
 mod cert;
 mod cert_lines;
 mod chains;

@@ -62,6 +62,10 @@ impl OpenLeg {
                 return Ok(CertList::bare(claim, self.opened, upto, group));
             }
         }
+        if self.completed.is_none() && waiters.are_bare() {
+            let groups = waiters.groups(alloc)?;
+            return CertList::bares(alloc, claim, self.opened, upto, groups);
+        }
         let list = self.waiters(alloc, waiters)?;
         if list.is_empty() {
             return Ok(CertList::none());

@@ -100,6 +100,14 @@ impl Reasons {
         self.head(group).is_bare(&self.chains)
     }
 
+    /// Whether no scan and no birth was noted.
+    pub(crate) fn is_empty(&self) -> bool
+        ensures lists { IsTrue result → self.now.lists ≡ [] ∷ [] }
+        ensures scans { IsTrue result → self.now.scans ≡ [] }
+    {
+        self.chains.is_empty() && self.scans.is_empty()
+    }
+
     /// The lines of a group, the oldest first. Never allocates.
     pub(crate) fn lines(&self, group: GroupId) -> CertLines<'_>
         requires { StandsAt (length self.now.scans) self.now group.0 }

@@ -9,10 +9,11 @@ ghost use Rattle.lp_transition.specs.Scan.{passing};
 ghost use Rattle.lp_transition.specs.Table.{state_in};
 ghost use Rattle.lp_cert.specs.inside.Heads.{HasFrameAs};
 ghost use Rattle.lp_transition.specs.Blames.{has_frame_in, first_refused};
+ghost use Rattle.lp_cert.specs.Certificates.{group_id};
 ghost use Rattle.lp_cert.specs.Heads.{head_lines};
 ghost use Rattle.lp_cert.specs.Invariant.{floor_waiters};
 ghost use Rattle.lp_cert.specs.Waiters.{head_of, waiter_in, waiters_of};
-ghost use Rattle.lp_cert.specs.inside.Waiters.{HasHeadFor, HasHeads, IsAboveChild, AreHeads, AreStanding, StandsAt, IsJudged, AreJudged, IsUsedVerdict, is_left, after_birth, has_off, lines_at, scanned_lines, AreTakenIn, IsTakenIn};
+ghost use Rattle.lp_cert.specs.inside.Waiters.{AreBare, HasHeadFor, HasHeads, IsAboveChild, AreHeads, AreStanding, StandsAt, IsJudged, AreJudged, IsUsedVerdict, is_left, after_birth, has_off, lines_at, scanned_lines, AreTakenIn, IsTakenIn};
 
 use crate::cert_lines::CertLines;
 use crate::chains::Chains;
@@ -143,6 +144,22 @@ impl Waiters {
         ensures { IsTrue result → (scans : List ℕ) → head_lines self.now.reasons.lists scans group (head_of self.now.reasons group.0) ≡ [] }
     {
         self.reasons.is_bare(group)
+    }
+
+    /// Whether nothing is known of any group, as no scan and no birth was noted in the leg.
+    pub(crate) fn are_bare(&self) -> bool
+        ensures { IsTrue result → AreBare self.now }
+    {
+        let _ = &self.groups;
+        self.reasons.is_empty()
+    }
+
+    /// The groups that wait, in increasing order, without their reasons; AllocError where an
+    /// allocation failed.
+    pub(crate) fn groups(&self, alloc: Global) -> Result<Vec<GroupId>, AllocError>
+        ensures { IfOk result (λ list. list.items ≡ map group_id (passing 0 65536 (has self.now.groups))) }
+    {
+        self.groups.list(alloc)
     }
 
     /// A copy of the older reasons, and of the scans; AllocError where an allocation failed.

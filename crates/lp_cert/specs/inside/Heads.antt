@@ -21,9 +21,11 @@ abbrev pub FitsIn : ℕ → Reason → Type 0
 FitsIn scans (reason.One line) = Unit {0}
 FitsIn scans (reason.Busy group task first end) = (first < end) × (end ≤ scans)
 
+-- what continues began with one of so many scans
 abbrev pub ContinuesIn : ℕ → Ongoing → Type 0
+ContinuesIn scans Nothing = Unit {0}
+ContinuesIn scans (Hold task serial from) = 0 < scans
 ContinuesIn scans (Busy task first) = first < scans
-ContinuesIn scans _ = Unit {0}
 
 -- what was checked last isn't in front: there is nothing, or a birth
 abbrev pub IsUnchecked : List Reason → Type 0

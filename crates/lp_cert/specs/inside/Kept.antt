@@ -1,17 +1,14 @@
 -- The certificates of a leg as they are kept.
 use Rattle.std.specs.Prelude.{ℕ, List, [], ◌∷◌, map}
 use Rattle.lp_cert.specs.declared.cert.Cert.{Cert}
-use Rattle.lp_cert.specs.declared.leg_end.BareCert.{BareCert}
 use Rattle.lp_cert.specs.declared.leg_end.Kept.{Kept}
-use Rattle.lp_cert.specs.declared.leg_end.Kept.TheVariants.{Nothing, Bare, Many}
-
--- a certificate without lines
-abbrev pub bare_cert : BareCert → Cert
-bare_cert bare = record { claim = bare.claim; leg = bare.leg; group = bare.group; upto = bare.upto; lines = [] }
+use Rattle.lp_cert.specs.declared.leg_end.Kept.TheVariants.{Nothing, Bare, Bares, Many}
+use Rattle.lp_cert.specs.inside.Bare.{bare_cert}
 
 abbrev pub certs_in : Kept → List Cert
 certs_in Nothing = []
-certs_in (Bare bare) = bare_cert bare ∷ []
+certs_in (Bare bare) = bare_cert bare.claim bare.leg bare.upto bare.group ∷ []
+certs_in (Bares certs) = certs.value
 certs_in (Many certs) = certs.value
 
 -- these certificates, up to another event

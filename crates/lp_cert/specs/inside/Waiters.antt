@@ -122,6 +122,10 @@ after_birth birth parent lines group =
     then option_map (λ ls. birth_line birth.child.0 birth.parent birth.at ∷ ls) (lines parent)
     else lines group
 
+-- no group that waits has a line
+abbrev pub AreBare : WaitingGroups → Type 0
+AreBare waiters = (group : ℕ) → has waiters.groups group ≡ true → lines_in waiters.reasons group ≡ []
+
 -- their reasons speak of so many scans
 abbrev pub AreHeads : List (List Reason) → ℕ → List Waiter → Type 0
 AreHeads lists scans waiters = AllByRecursion (λ waiter. IsHead lists scans waiter.head) waiters

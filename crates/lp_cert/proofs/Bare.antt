@@ -1,0 +1,95 @@
+-- Groups that wait without a line.
+use Rattle.std.proofs.Common.{◌≡◌, ℕ, zero, suc, ◌-◌, ◌<◌, Bool, true, false, List, [], ◌∷◌, length, map, filter, reverse, get_or, slice_get, Option, Some, None, refl, sym, ap, ap₂, subst, ◌∙◌, arith}
+use Rattle.std.specs.List.{range_with_len}
+use Rattle.std.specs.Option.{option_map}
+use Rattle.std.proofs.lemmas.Bool.{cond-true, cond-false}
+use Rattle.lp_stack.specs.declared.number.GroupId.{GroupId}
+use Rattle.lp_numbers.specs.Numbers.{has}
+use Rattle.lp_transition.specs.Scan.{passing}
+use Rattle.lp_cert.specs.declared.cert.Claim.{Claim}
+use Rattle.lp_cert.specs.declared.cert.Cert.{Cert}
+use Rattle.lp_cert.specs.declared.head.Head.{Head}
+use Rattle.lp_cert.specs.declared.line.Line.{Line}
+use Rattle.lp_cert.specs.declared.head.Waiter.{Waiter}
+use Rattle.lp_cert.specs.declared.open_leg.Completion.{Completion}
+use Rattle.lp_cert.specs.declared.open_leg.OpenLeg.{OpenLeg}
+use Rattle.lp_cert.specs.declared.ongoing.Ongoing.{Ongoing}
+use Rattle.lp_cert.specs.declared.ongoing.Ongoing.TheVariants.{Nothing, Hold, Busy}
+use Rattle.lp_cert.specs.declared.reason.Reason.{Reason}
+use Rattle.lp_cert.specs.Certificates.{group_id}
+use Rattle.lp_cert.specs.Heads.{head_lines}
+use Rattle.lp_cert.specs.Invariant.{claim_of, end_waiters, upto_of}
+use Rattle.lp_cert.specs.Waiters.{LegReasons, WaitingGroups, head_of, kept_cert, waiter_in, waiters_of}
+use Rattle.lp_cert.specs.inside.Heads.{ContinuesIn, IsHead}
+use Rattle.lp_cert.specs.inside.Invariant.{certs_at}
+use Rattle.lp_cert.specs.inside.Bare.{bare_cert}
+use Rattle.lp_cert.specs.inside.Kept.{up_to}
+use Rattle.lp_cert.specs.inside.Waiters.{AreBare, AreStanding, lines_in}
+use Rattle.lp_cert.proofs.Ending.{bare_lines}
+
+-- ---- Before any scan and any birth
+
+nothing_yet : (n : ℕ) (o : Ongoing) → n ≡ 0 → ContinuesIn n o → o ≡ Nothing
+nothing_yet n Nothing none goes = refl
+nothing_yet n (Hold task serial from) none goes = absurd (omega arith)
+nothing_yet n (Busy task first) none goes = absurd (omega arith)
+
+untold : (lists : List (List Reason)) (scans : List ℕ) (head : Head) (group : GroupId) → IsHead lists (length scans) head → lists ≡ [] ∷ [] → scans ≡ []
+    → head_lines lists scans group head ≡ []
+untold lists scans head group is one none =
+    let first : head.older.0 ≡ 0 = omega (arith, is.known, ap length one) in
+    bare_lines lists head (nothing_yet (length scans) head.ongoing (ap length none) is.continues) (ap₂ (λ (ls : List (List Reason)) (n : ℕ). length (get_or ls n [])) one first) scans group
+
+-- no group that waits has a line
+pub all_bare : (w : WaitingGroups) → AreStanding w → w.reasons.lists ≡ [] ∷ [] → w.reasons.scans ≡ [] → AreBare w
+all_bare w stand one none = λ group there. untold w.reasons.lists w.reasons.scans (head_of w.reasons group) (group_id group) (stand group there) one none
+
+-- ---- Their certificates
+
+module _ (claim : Claim) (leg upto : ℕ) (reasons : LegReasons) where
+  abbrev kept : ℕ → Cert
+  kept group = kept_cert claim leg upto reasons.lists reasons.scans (waiter_in reasons group)
+
+  bare_kept : (group : ℕ) → lines_in reasons group ≡ [] → bare_cert claim leg upto (group_id group) ≡ kept group
+  bare_kept group none = ap (λ (lines : List Line). record { claim = claim; leg = leg; group = group_id group; upto = upto; lines = reverse lines }) (sym none)
+
+  each_bare : (test : ℕ → Bool) (xs : List ℕ) → ((group : ℕ) → test group ≡ true → lines_in reasons group ≡ [])
+      → map (bare_cert claim leg upto) (map group_id (filter test xs)) ≡ map (kept_cert claim leg upto reasons.lists reasons.scans) (map (waiter_in reasons) (filter test xs))
+  each_bare test [] bare = refl
+  each_bare test (x ∷ xs) bare = by (each_bare test xs bare) (test x) refl
+    where
+      SameOf : List ℕ → Type 0
+      SameOf l = map (bare_cert claim leg upto) (map group_id l) ≡ map (kept_cert claim leg upto reasons.lists reasons.scans) (map (waiter_in reasons) l)
+
+      by : SameOf (filter test xs) → (b : Bool) → test x ≡ b → SameOf (filter test (x ∷ xs))
+      by rest true e = subst SameOf (sym (cond-true (test x) (x ∷ filter test xs) (filter test xs) e)) (ap₂ (λ (c : Cert) (cs : List Cert). c ∷ cs) (bare_kept x (bare x e)) rest)
+      by rest false e = subst SameOf (sym (cond-false (test x) (x ∷ filter test xs) (filter test xs) e)) rest
+
+-- of groups that wait without a line the numbers say all
+pub bare_certs : (claim : Claim) (leg upto : ℕ) (w : WaitingGroups) → AreBare w
+    → map (bare_cert claim leg upto) (map group_id (passing 0 65536 (has w.groups))) ≡ map (kept_cert claim leg upto w.reasons.lists w.reasons.scans) (waiters_of w)
+unfolding passing
+bare_certs claim leg upto w bare = each_bare claim leg upto w.reasons (has w.groups) (range_with_len 0 (65536 - 0)) bare
+
+-- up to another event they are those of the same groups
+pub up_to_bare : (upto before : ℕ) (claim : Claim) (leg : ℕ) (groups : List GroupId) → up_to upto (map (bare_cert claim leg before) groups) ≡ map (bare_cert claim leg upto) groups
+up_to_bare upto before claim leg [] = refl
+up_to_bare upto before claim leg (group ∷ groups) = ap (λ (certs : List Cert). bare_cert claim leg upto group ∷ certs) (up_to_bare upto before claim leg groups)
+
+-- and none has a line
+pub no_lines : (claim : Claim) (leg upto : ℕ) (groups : List GroupId) (k : ℕ) → k < length (map (bare_cert claim leg upto) groups)
+    → option_map (λ (cert : Cert). cert.lines) (slice_get (map (bare_cert claim leg upto) groups) k) ≡ Some []
+no_lines claim leg upto [] k within = absurd (omega arith)
+no_lines claim leg upto (group ∷ groups) zero within = refl
+no_lines claim leg upto (group ∷ groups) (suc k) within = no_lines claim leg upto groups k (omega arith)
+
+-- those of a leg that isn't complete
+pub open_bare : (leg : OpenLeg) (noted : ℕ) (w : WaitingGroups) (claim : Claim) (upto : ℕ) (groups : List GroupId)
+    → claim ≡ claim_of leg.completed → upto ≡ upto_of noted leg.completed → leg.completed ≡ None → AreBare w → groups ≡ map group_id (passing 0 65536 (has w.groups))
+    → map (bare_cert claim leg.opened upto) groups ≡ certs_at noted w leg
+open_bare leg noted w claim upto groups claimed up unended bare all =
+    let of_waiters = λ (c : Claim) (u : ℕ) (waiters : List Waiter). map (kept_cert c leg.opened u w.reasons.lists w.reasons.scans) waiters in
+    ap (map (bare_cert claim leg.opened upto)) all
+    ∙ (bare_certs claim leg.opened upto w bare
+    ∙ (ap₂ (λ (c : Claim) (u : ℕ). of_waiters c u (waiters_of w)) claimed up
+    ∙ ap (λ (o : Option Completion). of_waiters (claim_of leg.completed) (upto_of noted leg.completed) (end_waiters o w)) (sym unended)))
