@@ -1,5 +1,5 @@
 //! Sets of groups.
-ghost use Rattle.std.specs.Prelude.{◌≡◌, ◌<◌, ◌≤◌, ◌↔◌, ℕ, true, false, length, map, slice_set, IfOk, IsTrue};
+ghost use Rattle.std.specs.Prelude.{◌≡◌, ◌<◌, ◌≤◌, ℕ, true, false, length, map, slice_set, IfOk};
 ghost use Rattle.lp_numbers.specs.Numbers.{has, IsEmpty, IsNextFrom};
 ghost use Rattle.lp_numbers.specs.Ascending.{members_from};
 ghost use Rattle.lp_transition.specs.Scan.{passing};
@@ -57,13 +57,6 @@ impl GroupSet {
         ensures { result ≡ has self.now group }
     {
         self.groups.contains(group)
-    }
-
-    /// Whether there is no member.
-    pub(crate) fn is_empty(&self) -> bool
-        ensures { IsTrue result ↔ IsEmpty self.now }
-    {
-        self.groups.is_empty()
     }
 
     /// The least member that is at or above a number, if there is one.

@@ -56,12 +56,25 @@ impl OpenLeg {
         requires { HasFloor waiters.now self.completed }
         ensures { IfOk result (λ certs. certs ≡ certs_at noted waiters.now self) }
     {
-        let (claim, upto) = (self.claim(), self.upto(noted));
         if let Some(group) = self.lone(waiters) {
             if waiters.is_bare(group) {
-                return Ok(CertList::bare(claim, self.opened, upto, group));
+                return Ok(CertList::bare(self.claim(), self.opened, self.upto(noted), group));
             }
         }
+        self.several(alloc, noted, waiters)
+    }
+
+    /// The same, where there may be several.
+    fn several(
+        self,
+        alloc: Global,
+        noted: u32,
+        waiters: &Waiters,
+    ) -> Result<CertList, AllocError>
+        requires { HasFloor waiters.now self.completed }
+        ensures { IfOk result (λ certs. certs ≡ certs_at noted waiters.now self) }
+    {
+        let (claim, upto) = (self.claim(), self.upto(noted));
         if self.completed.is_none() && waiters.are_bare() {
             let groups = waiters.groups(alloc)?;
             return CertList::bares(alloc, claim, self.opened, upto, groups);

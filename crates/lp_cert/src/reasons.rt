@@ -3,12 +3,12 @@ ghost use Rattle.std.specs.Prelude.{◌≡◌, ◌≢◌, ◌+◌, ◌<◌, ◌�
 ghost use Rattle.lp_cert.specs.inside.Heads.{IsUsed, IsRefusedBy, IsBornBy};
 ghost use Rattle.lp_cert.specs.Certificates.{group_id};
 ghost use Rattle.lp_cert.specs.Heads.{head_lines};
-ghost use Rattle.lp_cert.specs.Waiters.{no_head, head_of};
+ghost use Rattle.lp_cert.specs.Waiters.{no_head, head_of, waiter_in};
 ghost use Rattle.lp_cert.specs.inside.Waiters.{lines_in, StandsAt};
 
 use crate::cert_lines::CertLines;
 use crate::chains::{ChainId, Chains};
-use crate::head::{Head, OwnFork, Refused};
+use crate::head::{Head, OwnFork, Refused, Waiter};
 use crate::ongoing::Ongoing;
 use lp_stack::GroupId;
 use std::alloc::{AllocError, Global};
@@ -89,6 +89,16 @@ impl Reasons {
             self.heads[at]
         } else {
             NO_REASON
+        }
+    }
+
+    /// A group as it stands.
+    pub(crate) fn waiter(&self, group: GroupId) -> Waiter
+        ensures { result ≡ waiter_in self.now group.0 }
+    {
+        Waiter {
+            group,
+            head: self.head(group),
         }
     }
 

@@ -187,10 +187,7 @@ impl Waiters {
     pub(crate) fn waiter(&self, group: GroupId) -> Waiter
         ensures { result ≡ waiter_in self.now.reasons group.0 }
     {
-        Waiter {
-            group,
-            head: self.reasons.head(group),
-        }
+        self.reasons.waiter(group)
     }
 
     /// A group waits no longer. Never allocates.
@@ -376,13 +373,9 @@ fn listed(alloc: Global, groups: &GroupSet, reasons: &Reasons) -> Result<Vec<Wai
     ensures { IfOk result (λ list. list.items ≡ map (waiter_in reasons.now) (passing 0 65536 (has groups.now))) }
 {
     // A list that grows from nothing begins with room for four, which is most of what a short leg takes.
-    let mut list = Vec::with_capacity(alloc, usize::from(!groups.is_empty()))?;
+    let mut list = Vec::with_capacity(alloc, 1)?;
     for number in groups {
-        let group = GroupId(number);
-        list.push(Waiter {
-            group,
-            head: reasons.head(group),
-        })?;
+        list.push(reasons.waiter(GroupId(number)))?;
     }
     Ok(list)
 }

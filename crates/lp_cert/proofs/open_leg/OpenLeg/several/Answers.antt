@@ -2,7 +2,7 @@ use Rattle.std.proofs.Common.{not, ap, ◌∙◌}
 use Rattle.lp_cert.proofs.Asked.{not_some}
 use Rattle.lp_cert.proofs.Bare.{open_bare}
 use Rattle.lp_cert.proofs.Keeping.{ok_weaker}
-use Rattle.lp_cert.proofs.open_leg.OpenLeg.certs.Goals as goal
+use Rattle.lp_cert.proofs.open_leg.OpenLeg.several.Goals as goal
 
 pub returns-then-are_bare : goal.returns-then-are_bare
 returns-then-are_bare c =
