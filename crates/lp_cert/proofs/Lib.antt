@@ -21,6 +21,7 @@ pub mod Touching
 pub mod UnchangedScans
 pub mod Completions
 pub mod Bare
+pub mod Listed
 pub mod Keeping
 pub mod Making
 pub mod Ending

@@ -74,7 +74,6 @@ impl GroupSet {
     }
 
     /// The members as a list, in increasing order; AllocError where an allocation failed.
-    #[tactic(auto, using(lp_transition::proofs::Ascending::in_order))]
     pub(crate) fn list(&self, alloc: Global) -> Result<Vec<GroupId>, AllocError>
         ensures { IfOk result (λ list. list.items ≡ map group_id (passing 0 65536 (has self.now))) }
     {

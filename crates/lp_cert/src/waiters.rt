@@ -368,7 +368,6 @@ fn above_child(event: Event) -> usize
 }
 
 /// The groups of a set as they stand, in increasing order.
-#[tactic(auto, using(lp_transition::proofs::Ascending::in_order))]
 fn listed(alloc: Global, groups: &GroupSet, reasons: &Reasons) -> Result<Vec<Waiter>, AllocError>
     ensures { IfOk result (λ list. list.items ≡ map (waiter_in reasons.now) (passing 0 65536 (has groups.now))) }
 {

@@ -1,0 +1,15 @@
+use Rattle.std.proofs.Common.{Some, sym, ap, ◌∙◌}
+use Rattle.std.specs.Option.{option_map}
+use Rattle.lp_cert.specs.declared.cert.Cert.{Cert}
+use Rattle.lp_cert.specs.Waiters.{kept_cert}
+use Rattle.lp_cert.proofs.Listed.{mapped_at}
+use Rattle.lp_cert.proofs.many_certs.ManyCerts.lines.Goals as goal
+
+pub returns : goal.returns
+returns c =
+    let i = c.self.inside in
+    let of_waiter = kept_cert i.claim i.leg i.upto i.chains.lists i.scans.items in
+    let within = rw (← c.self.view_is) at c.requires in
+    let is = mapped_at of_waiter i.waiters.items c.args.place c.index.result.now within c.index.ensures in
+    let lines = rw c.as_slice.ensures.value at c.lines.ensures in
+    rw (← c.self.view_is) (ap (option_map (λ (cert : Cert). cert.lines)) is ∙ ap Some (sym lines))
