@@ -65,12 +65,7 @@ impl OpenLeg {
     }
 
     /// The same, where there may be several.
-    fn several(
-        self,
-        alloc: Global,
-        noted: u32,
-        waiters: &Waiters,
-    ) -> Result<CertList, AllocError>
+    fn several(self, alloc: Global, noted: u32, waiters: &Waiters) -> Result<CertList, AllocError>
         requires { HasFloor waiters.now self.completed }
         ensures { IfOk result (λ certs. certs ≡ certs_at noted waiters.now self) }
     {
