@@ -36,6 +36,7 @@ pub mod Births
 pub mod Alone
 pub mod LoneChecks
 pub mod Passing
+pub mod RisingGroups
 pub mod ScanGroups
 pub mod ScanLemmas
 pub mod ScanLists

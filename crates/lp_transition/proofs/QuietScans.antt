@@ -20,7 +20,7 @@ use Rattle.lp_transition.specs.Table.{Table, Engine, state_in}
 use Rattle.lp_transition.specs.Weigh.{Weighed, IsWeighed}
 use Rattle.lp_transition.specs.inside.Blames.{blame_at}
 use Rattle.lp_transition.specs.inside.Invariant.{LastScan, IsWhole}
-use Rattle.lp_transition.specs.inside.ScanSteps.{is_judged, is_switching, AreSwitched, switches_by, all_admit, tasks_of}
+use Rattle.lp_transition.specs.inside.ScanSteps.{is_judged, AreSwitched, switches_by, all_admit, tasks_of}
 use Rattle.lp_transition.proofs.AskedScans.{asked_none, among-enough, left-out, switches-among, completes-among}
 use Rattle.lp_transition.proofs.Blames.{Leaves}
 use Rattle.lp_transition.proofs.BlamedScans.{leaves_scanned, blame_within}
@@ -73,7 +73,7 @@ kept_and true = refl
 kept_and false = refl
 
 -- nobody goes where nobody was looked at
-nobody_goes : (target : ℕ) (table : Table) (waiting : Numbers) → AreSwitched (is_judged []) (is_switching None) target table table waiting waiting
+nobody_goes : (target : ℕ) (table : Table) (waiting : Numbers) → AreSwitched (is_judged []) (λ group. false) target table table waiting waiting
 nobody_goes target table waiting = record {
   tasks = λ t. refl;
   waits = λ t. kept_and (has waiting t);
@@ -91,7 +91,7 @@ module _ (model : Rules) (lawful : IsLawful model) (e old : Engine) (waiting : N
   weighed = quiet_weighed model lawful on old (subst (λ (o : Engine). IsSound (state_in o)) was whole.engine.sound) scan room quiet
 
   taken : HasTaken model old (scan_event on) (with_table e.table e) waiting
-  taken = takes_scan model lawful e old e.table waiting waiting (quiet_step on) None was whole.engine weighed (event_scans on) (λ scans group h. refl) (nobody_goes e.target e.table waiting)
+  taken = takes_scan model lawful e old e.table waiting waiting (quiet_step on) (λ group. false) was whole.engine weighed (event_scans on) (λ group h. refl) (nobody_goes e.target e.table waiting)
 
   leaves_blames : Leaves model old (scan_event on) [] (with_table e.table e)
   leaves_blames =

@@ -1,5 +1,5 @@
 -- The answer to a scan, by its verdicts.
-use Rattle.std.proofs.Common.{◌≡◌, ℕ, suc, ◌-◌, ◌<◌, Bool, true, false, not, ◌&&◌, ◌||◌, List, [], ◌∷◌, Some, None, is_none, nat_eq, refl, sym, ap, ap₂, subst, ◌∙◌, ◌↔◌, arith}
+use Rattle.std.proofs.Common.{◌≡◌, ℕ, suc, ◌-◌, ◌<◌, Bool, true, false, not, ◌&&◌, ◌||◌, List, [], ◌∷◌, Some, None, is_none, refl, sym, ap, ap₂, subst, ◌∙◌, ◌↔◌, arith}
 use Rattle.std.proofs.lemmas.Bool.{false≢true, or_left, or_right, false_from_ne_true}
 use Rattle.std.specs.List.{filter, list_any, range_with_len}
 use mathlib.Core.Path.{fun_ext}
@@ -10,7 +10,6 @@ use Rattle.lp_model.specs.declared.check.CheckKind.TheVariants.{KernelExit, Idle
 use Rattle.lp_model.specs.declared.verdict.Verdict.{Verdict}
 use Rattle.lp_transition.specs.declared.event.Event.{Event}
 use Rattle.lp_transition.specs.declared.event.Event.TheVariants.{Walk, Stop}
-use Rattle.lp_transition.specs.declared.reply.What.{What}
 use Rattle.lp_transition.specs.declared.reply.What.TheVariants.{Done}
 use Rattle.lp_transition.specs.declared.reply.Reply.{Reply}
 use Rattle.lp_transition.specs.Tasks.{Live}
@@ -25,7 +24,7 @@ use Rattle.lp_transition.specs.Weigh.{Weighed, IsWeighed, AreVerdictsFor, born_o
 use Rattle.lp_transition.specs.Scan.{is_scan_kind, scan_event, verdicts_of, AreEnough, passing}
 use Rattle.lp_transition.specs.inside.ScanSteps.{tasks_of, is_found, switches_by, all_admit, groups_of}
 use Rattle.lp_transition.proofs.TableLemmas.{slot_from_live}
-use Rattle.lp_transition.proofs.Passing.{passing-none, passing-any}
+use Rattle.lp_transition.proofs.Passing.{passing-none}
 use Rattle.lp_transition.proofs.ScanGroups.{told, completes}
 use Rattle.lp_transition.proofs.AskedScans.{switches-among, completes-among, tasks-judged}
 
@@ -47,11 +46,6 @@ still table limit vs none =
 pub groups_of-switched : (groups : List ℕ) → groups_of (switched groups) ≡ groups
 groups_of-switched [] = refl
 groups_of-switched (group ∷ groups) = refl
-
--- a set's groups are listed
-pub listed : (limit : ℕ) (set : Numbers) (groups : List ℕ) (what : What) (group : ℕ) → groups ≡ passing 0 limit (has set) → what ≡ switched groups → group < limit → has set group ≡ list_any (nat_eq group) (groups_of what)
-listed limit set groups what group e w h =
-    sym (ap (λ x. list_any (nat_eq group) (groups_of x)) w ∙ ap (list_any (nat_eq group)) (groups_of-switched groups ∙ e) ∙ passing-any limit (has set) group h)
 
 -- ---- The machine's answer
 

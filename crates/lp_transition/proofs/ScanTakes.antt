@@ -3,6 +3,7 @@ use Rattle.std.proofs.Common.{◌≡◌, ℕ, suc, ◌<◌, ◌≤◌, Bool, tru
 use Rattle.std.proofs.lemmas.Bool.{false≢true, cond-true, cond-false, cases_Bool, cases_lt, eqb-true, eq-eqb, not-true, not_from_true, not_from_false, false_from_ne_true}
 use Rattle.std.proofs.lemmas.List.{get_or_past}
 use Rattle.std.specs.List.{list_any}
+use Rattle.std.specs.List.Sorted.{IsNonDecreasing}
 use Rattle.std.specs.Option.{option_map}
 use mathlib.Core.Path.{fun_ext}
 use Rattle.lp_numbers.specs.Numbers.{Numbers, has}
@@ -22,13 +23,14 @@ use Rattle.lp_transition.specs.inside.Table.{is_off}
 use Rattle.lp_transition.specs.inside.Invariant.{IsEngine}
 use Rattle.lp_transition.specs.Weigh.{Weighed, IsWeighed, AreVerdictsFor}
 use Rattle.lp_transition.specs.Scan.{verdicts_of, AreEnough}
-use Rattle.lp_transition.specs.inside.ScanSteps.{is_judged, switches_by, switched_if, task_switches, AreSwitched, groups_of, is_switching, HasSwitching}
+use Rattle.lp_transition.specs.inside.ScanSteps.{is_judged, switches_by, switched_if, task_switches, AreSwitched, groups_of, is_listed}
 use Rattle.lp_transition.proofs.EngineLemmas.{next-accepted}
 use Rattle.lp_transition.proofs.Effects.{HasTaken, with_table, state-with_table, sound_next}
 use Rattle.lp_transition.proofs.TableLemmas.{live_from_slot, slot_from_live}
 use Rattle.lp_transition.proofs.ScanSwitches.{slot_stays}
 use Rattle.lp_transition.proofs.AskedScans.{judged-waits, switches-judged}
 use Rattle.lp_transition.proofs.Passing.{passing-any}
+use Rattle.lp_transition.proofs.RisingGroups.{passes-rise}
 use Rattle.lp_transition.proofs.ScanAnswers.{groups_of-switched, switching_by, switches-walk, switches-stop}
 
 -- ---- The tasks
@@ -128,7 +130,7 @@ group_fits e t x sound wide there =
 
 module _ (model : Rules) (lawful : IsLawful model) where
   -- the set is that of the groups that switch
-  over_is : (now : State) (event : Event) (switching : Option Numbers) (groups : List ℕ) → suc now.bounds.tasks ≡ 65536 → groups ≡ switched_groups model now event → ((g : ℕ) → g < 65536 → is_switching switching g ≡ list_any (nat_eq g) groups) → (g : ℕ) → g < 65536 → is_switching switching g ≡ switches_at model now event g
+  over_is : (now : State) (event : Event) (switching : ℕ → Bool) (groups : List ℕ) → suc now.bounds.tasks ≡ 65536 → groups ≡ switched_groups model now event → ((g : ℕ) → g < 65536 → switching g ≡ list_any (nat_eq g) groups) → (g : ℕ) → g < 65536 → switching g ≡ switches_at model now event g
   over_is now event switching groups wide e same g h =
       same g h ∙ ap (list_any (nat_eq g)) (e ∙ switching_by model 65536 now event (switches_at model now event) wide (λ group. refl)) ∙ passing-any 65536 (switches_at model now event) g h
 
@@ -153,10 +155,10 @@ module _ (model : Rules) (lawful : IsLawful model) where
   }
 
   -- an event after which the groups of a set switched
-  switches_there : (e : Engine) (waiting left : Numbers) (table : Table) (switching : Option Numbers) (event : Event) → IsEngine e waiting → e.number < 1000000 → Went (is_switching switching) e.target e.table table waiting left
+  switches_there : (e : Engine) (waiting left : Numbers) (table : Table) (switching : ℕ → Bool) (event : Event) → IsEngine e waiting → e.number < 1000000 → Went switching e.target e.table table waiting left
       → state_in (with_table table e) ≡ next model (state_in e) event → HasTaken model e event (with_table table e) left
   switches_there e waiting left table switching event kept room went state = record {
-    kept = kept_switched e waiting left table (is_switching switching) kept went room (sound_next model lawful e (with_table table e) event kept.sound state);
+    kept = kept_switched e waiting left table switching kept went room (sound_next model lawful e (with_table table e) event kept.sound state);
     state = state;
   }
 
@@ -168,6 +170,27 @@ module _ (model : Rules) (lawful : IsLawful model) where
   unfolding answer refusal_of
   stop_listed s = groups_of-switched (switched_groups model (affected model s Stop) Stop)
 
+  groups_rise : (now : State) (event : Event) → IsNonDecreasing (switched_groups model now event)
+  unfolding switched_groups
+  groups_rise now event = passes-rise (switches_at model now event) (suc now.bounds.tasks) 0
+
+  -- the groups that a scan switched are listed in increasing order
+  pub scan-rises : (s : State) (event : Event) → is_scan event ≡ true → IsNonDecreasing (groups_of (answer model s event).what)
+  scan-rises s Walk scan = subst IsNonDecreasing (sym (walk_listed s)) (groups_rise (affected model s Walk) Walk)
+  scan-rises s Stop scan = subst IsNonDecreasing (sym (stop_listed s)) (groups_rise (affected model s Stop) Stop)
+  scan-rises s (Call t f) scan = absurd (cc)
+  scan-rises s (Ret t) scan = absurd (cc)
+  scan-rises s (Sleep t) scan = absurd (cc)
+  scan-rises s (Wake t) scan = absurd (cc)
+  scan-rises s (Enter t) scan = absurd (cc)
+  scan-rises s (Exit t) scan = absurd (cc)
+  scan-rises s (Idle t) scan = absurd (cc)
+  scan-rises s (Fork p c how) scan = absurd (cc)
+  scan-rises s (Die t) scan = absurd (cc)
+  scan-rises s Enable scan = absurd (cc)
+  scan-rises s Disable scan = absurd (cc)
+  scan-rises s Reverse scan = absurd (cc)
+
   accepted : (s : State) → refusal_of model s Walk ≡ None
   unfolding refusal_of
   accepted s = refl
@@ -176,44 +199,44 @@ module _ (model : Rules) (lawful : IsLawful model) where
   unfolding refusal_of
   accepted_stop s = refl
 
-  module _ (e : Engine) (waiting left : Numbers) (table : Table) (switching : Option Numbers) (vs : List Verdict) (kept : IsEngine e waiting) (room : e.number < 1000000) (are_switched : AreSwitched (is_judged vs) (is_switching switching) e.target e.table table waiting left) where
+  module _ (e : Engine) (waiting left : Numbers) (table : Table) (switching : ℕ → Bool) (vs : List Verdict) (kept : IsEngine e waiting) (room : e.number < 1000000) (are_switched : AreSwitched (is_judged vs) switching e.target e.table table waiting left) where
     there : (t : ℕ) (x : Standing) → standings e.table t ≡ Live x → slot e.table t ≡ Some x
     there t x live = slot_from_live e.table t x live
 
     -- who was taken waits, and who waits and switches was taken
-    went_by : (kind : CheckKind) → AreEnough model kind (state_in e) vs → ((g : ℕ) → g < 65536 → is_switching switching g ≡ switches_by e.table (verdicts_of model kind (state_in e)) g) → Went (is_switching switching) e.target e.table table waiting left
+    went_by : (kind : CheckKind) → AreEnough model kind (state_in e) vs → ((g : ℕ) → g < 65536 → switching g ≡ switches_by e.table (verdicts_of model kind (state_in e)) g) → Went switching e.target e.table table waiting left
     went_by kind enough switches =
-        went_all (is_judged vs) (is_switching switching) e.target e.table table waiting left kept.wide are_switched
+        went_all (is_judged vs) switching e.target e.table table waiting left kept.wide are_switched
         (λ t taken.
         let j = judged-waits model lawful kind (state_in e) kept.sound vs enough t taken in
         kept.waits t ∙ ap (is_off e.target) (there t j.0 j.1) ∙ not_from_false (nat_eq j.0.level e.target) j.2)
         (λ t waits went.
         let w = off_target e t (slot e.table t) refl (sym (kept.waits t) ∙ waits) in
-        let group_switches = sym (ap (task_switches (is_switching switching)) w.there) ∙ went in
+        let group_switches = sym (ap (task_switches switching) w.there) ∙ went in
         switches-judged model lawful kind (state_in e) kept.sound vs enough e.table there t w.task (live_from_slot e.table t w.task w.there) w.off
         (sym (switches w.task.group (group_fits e t w.task kept.sound kept.wide w.there)) ∙ group_switches))
 
-    takes_walk : AreEnough model Check.Walk (state_in e) vs → ((g : ℕ) → g < 65536 → is_switching switching g ≡ list_any (nat_eq g) (groups_of (answer model (state_in e) Walk).what)) → HasTaken model e Walk (with_table table e) left
+    takes_walk : AreEnough model Check.Walk (state_in e) vs → ((g : ℕ) → g < 65536 → switching g ≡ list_any (nat_eq g) (groups_of (answer model (state_in e) Walk).what)) → HasTaken model e Walk (with_table table e) left
     takes_walk enough same =
         let s = state_in e in
         let now = affected model s Walk in
         let switches = over_is now Walk switching (groups_of (answer model s Walk).what) (omega arith) (walk_listed s) same in
         let went = went_by Check.Walk enough (λ g h. switches g h ∙ switches-walk model lawful 65536 s (omega arith) kept.sound e.table there g) in
         switches_there e waiting left table switching Walk kept room went
-        (state-with_table e table (λ t. map_live (switched_if (switches_at model now Walk) e.target) (standings e.table t)) (standings_switched e waiting left table (is_switching switching) (switches_at model now Walk) kept went switches)
+        (state-with_table e table (λ t. map_live (switched_if (switches_at model now Walk) e.target) (standings e.table t)) (standings_switched e waiting left table switching (switches_at model now Walk) kept went switches)
         ∙ sym (next-accepted model s Walk (accepted s) refl))
 
-    takes_stop : AreEnough model Check.Stop (state_in e) vs → ((g : ℕ) → g < 65536 → is_switching switching g ≡ list_any (nat_eq g) (groups_of (answer model (state_in e) Stop).what)) → HasTaken model e Stop (with_table table e) left
+    takes_stop : AreEnough model Check.Stop (state_in e) vs → ((g : ℕ) → g < 65536 → switching g ≡ list_any (nat_eq g) (groups_of (answer model (state_in e) Stop).what)) → HasTaken model e Stop (with_table table e) left
     takes_stop enough same =
         let s = state_in e in
         let now = affected model s Stop in
         let switches = over_is now Stop switching (groups_of (answer model s Stop).what) (omega arith) (stop_listed s) same in
         let went = went_by Check.Stop enough (λ g h. switches g h ∙ switches-stop model lawful 65536 s (omega arith) kept.sound e.table there g) in
         switches_there e waiting left table switching Stop kept room went
-        (state-with_table e table (λ t. map_live (switched_if (switches_at model now Stop) e.target) (standings e.table t)) (standings_switched e waiting left table (is_switching switching) (switches_at model now Stop) kept went switches)
+        (state-with_table e table (λ t. map_live (switched_if (switches_at model now Stop) e.target) (standings e.table t)) (standings_switched e waiting left table switching (switches_at model now Stop) kept went switches)
         ∙ sym (next-accepted model s Stop (accepted_stop s) refl))
 
-    takes_event : (event : Event) → is_scan event ≡ true → AreVerdictsFor model (state_in e) event vs → ((g : ℕ) → g < 65536 → is_switching switching g ≡ list_any (nat_eq g) (groups_of (answer model (state_in e) event).what)) → HasTaken model e event (with_table table e) left
+    takes_event : (event : Event) → is_scan event ≡ true → AreVerdictsFor model (state_in e) event vs → ((g : ℕ) → g < 65536 → switching g ≡ list_any (nat_eq g) (groups_of (answer model (state_in e) event).what)) → HasTaken model e event (with_table table e) left
     takes_event Walk scan enough same = takes_walk enough same
     takes_event Stop scan enough same = takes_stop enough same
     takes_event (Call t f) scan enough same = absurd (cc)
@@ -230,10 +253,10 @@ module _ (model : Rules) (lawful : IsLawful model) where
     takes_event Reverse scan enough same = absurd (cc)
 
   -- a scan that was weighed on the engine that code holds
-  pub takes_scan : (e old : Engine) (table : Table) (waiting left : Numbers) (step : Weighed) (switching : Option Numbers) → e ≡ old → IsEngine e waiting → IsWeighed model old step → is_scan step.event ≡ true → HasSwitching step.event step.reply.what switching → AreSwitched (is_judged step.verdicts) (is_switching switching) e.target e.table table waiting left
+  pub takes_scan : (e old : Engine) (table : Table) (waiting left : Numbers) (step : Weighed) (switching : ℕ → Bool) → e ≡ old → IsEngine e waiting → IsWeighed model old step → is_scan step.event ≡ true → ((group : ℕ) → group < 65536 → switching group ≡ is_listed (groups_of step.reply.what) group) → AreSwitched (is_judged step.verdicts) switching e.target e.table table waiting left
       → HasTaken model old step.event (with_table table e) left
   takes_scan e old table waiting left step switching was kept weighed scan listed are_switched =
       let here : IsWeighed model e step = subst (λ (o : Engine). IsWeighed model o step) (sym was) weighed in
       subst (λ (o : Engine). HasTaken model o step.event (with_table table e) left) was
       (takes_event e waiting left table switching step.verdicts kept here.room are_switched step.event scan here.verdicts
-      (λ g h. listed scan g h ∙ ap (λ r. list_any (nat_eq g) (groups_of r.what)) here.reply))
+      (λ g h. listed g h ∙ ap (λ r. list_any (nat_eq g) (groups_of r.what)) here.reply))

@@ -1,13 +1,11 @@
 -- How the engine goes from the verdicts of a scan to who switches, and what it leaves.
-use Rattle.std.specs.Prelude.{◌≡◌, ◌≢◌, ◌↔◌, ℕ, ◌<◌, Bool, true, false, not, ◌&&◌, List, [], length, map, Option, Some, None, is_some, is_none, if◌then◌else◌, nat_eq}
+use Rattle.std.specs.Prelude.{◌≡◌, ◌≢◌, ◌↔◌, ℕ, Bool, true, false, not, ◌&&◌, List, [], length, map, Option, Some, None, is_some, is_none, if◌then◌else◌, nat_eq}
 use Rattle.std.specs.List.{list_any}
 use Rattle.std.specs.Option.{option_map}
 use Rattle.lp_model.specs.declared.verdict.Verdict.{Verdict}
 use Rattle.lp_numbers.specs.Numbers.{Numbers, has}
-use Rattle.lp_transition.specs.declared.event.Event.{Event}
 use Rattle.lp_transition.specs.declared.reply.What.{What}
 use Rattle.lp_transition.specs.declared.reply.What.TheVariants.{Switched}
-use Rattle.lp_transition.specs.Events.{is_scan}
 use Rattle.lp_transition.specs.Leg.{Standing}
 use Rattle.lp_transition.specs.Table.{Table, slot, IsWide}
 use Rattle.lp_transition.specs.inside.Table.{is_in}
@@ -51,15 +49,9 @@ abbrev pub groups_of : What → List ℕ
 groups_of (Switched groups) = groups
 groups_of _ = []
 
--- the group is in the set, where there is one
-abbrev pub is_switching : Option Numbers → ℕ → Bool
-is_switching None group = false
-is_switching (Some set) group = has set group
-
--- of a scan that did this, the set is that of the groups that it switched
-abbrev pub HasSwitching : Event → What → Option Numbers → Type 0
-HasSwitching event what switching =
-    is_scan event ≡ true → (group : ℕ) → group < 65536 → is_switching switching group ≡ list_any (nat_eq group) (groups_of what)
+-- the group is in the list
+abbrev pub is_listed : List ℕ → ℕ → Bool
+is_listed groups group = list_any (nat_eq group) groups
 
 -- ---- Whom a scan looks at
 

@@ -1,6 +1,7 @@
 //! Scans, which look at the stacks of all waiting tasks.
-ghost use Rattle.std.specs.Prelude.{◌≡◌, ℕ, ◌||◌, ◌&&◌, not, ◌<◌, ◌≤◌, ◌↔◌, true, false, Err, map, is_some, is_none, nat_eq, option_copied, IfOk, IsTrue};
+ghost use Rattle.std.specs.Prelude.{◌≡◌, ℕ, ◌||◌, ◌&&◌, not, ◌<◌, ◌≤◌, ◌↔◌, true, false, Err, map, is_some, is_none, nat_eq, IfOk, IfSome, IsTrue};
 ghost use Rattle.std.specs.List.{filter_map, list_any};
+ghost use Rattle.std.specs.List.Sorted.{IsNonDecreasing};
 ghost use Rattle.std.specs.Option.{option_map};
 ghost use Rattle.lp_stack.specs.TaskView.{seen};
 ghost use Rattle.lp_numbers.specs.Numbers.{has};
@@ -8,12 +9,12 @@ ghost use Rattle.lp_transition.specs.Blames.{AreBlamesAfter};
 ghost use Rattle.lp_transition.specs.Table.{state_in, slot};
 ghost use Rattle.lp_transition.specs.inside.Table.{is_in};
 ghost use Rattle.lp_transition.specs.Machine.{view_of, waits_in, next};
-ghost use Rattle.lp_transition.specs.Events.{is_scan};
+ghost use Rattle.lp_transition.specs.Events.{is_scan, group_numbers};
 ghost use Rattle.lp_transition.specs.Run.{switched};
 ghost use Rattle.lp_transition.specs.Weigh.{IsWeighed};
 ghost use Rattle.lp_transition.specs.Steps.{IsReply};
 ghost use Rattle.lp_transition.specs.Scan.{is_scan_kind, scan_event, views_of, verdicts_of, AreEnough, passing};
-ghost use Rattle.lp_transition.specs.inside.ScanSteps.{waiting_slot, tasks_of, is_judged, is_found, switches_by, all_admit, groups_of, is_switching, IsTaskSwitched, AreSwitched};
+ghost use Rattle.lp_transition.specs.inside.ScanSteps.{waiting_slot, tasks_of, is_judged, is_found, switches_by, all_admit, groups_of, is_listed, IsTaskSwitched, AreSwitched};
 ghost use Rattle.lp_transition.specs.declared.engine.step.Halt.TheVariants.{JournalFull};
 
 use super::live_view::LiveView;
@@ -87,12 +88,12 @@ impl<M: Consistency> Core<M> {
         if self.events >= MOST_EVENTS {
             return Err(Halt::JournalFull);
         }
-        let (what, switching) = scanned(alloc, &self.tasks, verdicts.as_slice())?;
+        let what = scanned(alloc, &self.tasks, verdicts.as_slice())?;
         let reply = Reply {
             what,
             completed: completes(&self.waiting, verdicts.as_slice()),
         };
-        Ok(Step::scan(scan_event(kind), reply, verdicts, switching))
+        Ok(Step::scan(scan_event(kind), reply, verdicts))
     }
 
     /// Takes a walk or a stop that was weighed on this engine: the groups that switch do so. Never
@@ -105,11 +106,11 @@ impl<M: Consistency> Core<M> {
     {
         self.events += 1;
         self.blames.note(&self.tasks, step.verdicts());
-        switch_groups(
+        switch_tasks(
             &mut self.tasks,
             &mut self.waiting,
             step.verdicts(),
-            step.switching(),
+            groups_of(&step.reply().what),
             self.target,
         );
         let kind = scan_kind(step.event());
@@ -188,22 +189,15 @@ fn scan_kind(event: Event) -> CheckKind
     }
 }
 
-/// What a scan does by these verdicts, and the groups that switch; None where none does. It never
-/// allocates where no task is admitted.
-fn scanned(
-    alloc: Global,
-    tasks: &TaskTable,
-    verdicts: &[Verdict],
-) -> Result<(What, Option<NumberSet>), AllocError>
-    ensures what { IfOk result (λ done. done.0 ≡ switched (passing 0 65536 (switches_by tasks.now verdicts.now))) }
-    ensures switching { IfOk result (λ done. (group : ℕ) → group < 65536 → is_switching done.1 group ≡ list_any (nat_eq group) (groups_of done.0)) }
+/// What a scan does by these verdicts. It never allocates where no task is admitted.
+fn scanned(alloc: Global, tasks: &TaskTable, verdicts: &[Verdict]) -> Result<What, AllocError>
+    ensures { IfOk result (λ what. what ≡ switched (passing 0 65536 (switches_by tasks.now verdicts.now))) }
 {
     if !any_admits(verdicts) {
-        return Ok((What::Done, None));
+        return Ok(What::Done);
     }
-    let switching = switching_groups(alloc, tasks, verdicts)?;
-    let groups = group_list(alloc, &switching)?;
-    Ok((switched(groups), Some(switching)))
+    let groups = switching_groups(alloc, tasks, verdicts)?;
+    Ok(switched(groups))
 }
 
 /// What an event did that switched these groups.
@@ -216,8 +210,62 @@ fn switched(groups: GroupList) -> What
     What::Switched(groups)
 }
 
-/// The groups that switch by these verdicts: a member is admitted, and none is refused.
+/// The groups that switch by these verdicts, in increasing order: a member is admitted, and none is
+/// refused. A set of full length is made only where the groups aren't in turn.
 fn switching_groups(
+    alloc: Global,
+    tasks: &TaskTable,
+    verdicts: &[Verdict],
+) -> Result<GroupList, AllocError>
+    ensures { IfOk result (λ list. list ≡ passing 0 65536 (switches_by tasks.now verdicts.now)) }
+{
+    match groups_in_turn(alloc, tasks, verdicts)? {
+        Some(groups) => GroupList::from_vec(alloc, groups),
+        None => {
+            let switching = switching_set(alloc, tasks, verdicts)?;
+            group_list(alloc, &switching)
+        }
+    }
+}
+
+/// The groups that switch by these verdicts, where each verdict is of a greater group than those
+/// before it, as where each task is its own group: then each admitted one switches its group. None
+/// where they aren't in turn.
+fn groups_in_turn(
+    alloc: Global,
+    tasks: &TaskTable,
+    verdicts: &[Verdict],
+) -> Result<Option<Vec<GroupId>>, AllocError>
+    ensures { IfOk result (λ told. IfSome told (λ groups. group_numbers groups.items ≡ passing 0 65536 (switches_by tasks.now verdicts.now))) }
+{
+    let mut groups = Vec::new(alloc);
+    let mut from = 0u32;
+    for verdict in verdicts {
+        let Some(group) = group_from(tasks, verdict.task, from) else {
+            return Ok(None);
+        };
+        if verdict.blame.is_none() {
+            groups.push(group)?;
+        }
+        from = u32::from(group.0) + 1;
+    }
+    Ok(Some(groups))
+}
+
+/// The group of a live task, where its number is at or above another.
+fn group_from(tasks: &TaskTable, task: TaskId, from: u32) -> Option<GroupId>
+    ensures later { IfSome result (λ group. (from ≤ group.0) × (group.0 < 65536)) }
+    ensures member { IfSome result (λ group. (n : ℕ) → is_in n (slot tasks.now task.0) ≡ nat_eq group.0 n) }
+{
+    let group = tasks.group_of(task)?;
+    if u32::from(group.0) < from {
+        return None;
+    }
+    Some(group)
+}
+
+/// The groups that switch by these verdicts as a set.
+fn switching_set(
     alloc: Global,
     tasks: &TaskTable,
     verdicts: &[Verdict],
@@ -314,30 +362,27 @@ fn any_admits(verdicts: &[Verdict]) -> bool
     verdicts.iter().any(|verdict| verdict.blame.is_none())
 }
 
-/// Switches the tasks that a scan looked at, where their groups switch. Never allocates.
-fn switch_groups(
-    tasks: &mut TaskTable,
-    waiting: &mut NumberSet,
-    verdicts: &[Verdict],
-    switching: Option<&NumberSet>,
-    target: Level,
-)
-    ensures { AreSwitched (is_judged verdicts.now) (is_switching (option_copied switching.entry)) target.0 tasks.old tasks.new waiting.old waiting.new }
+/// The groups that an event switched, borrowed.
+fn groups_of(what: &What) -> &[GroupId]
+    ensures { group_numbers result.now ≡ groups_of what.now }
 {
-    if let Some(switching) = switching {
-        switch_tasks(tasks, waiting, verdicts, switching, target);
+    match what {
+        What::Switched(groups) => groups.as_slice(),
+        _ => &[],
     }
 }
 
-/// Switches the tasks of these verdicts, where their groups switch. Never allocates.
+/// Switches the tasks of these verdicts, where their groups are among those of a list that doesn't
+/// fall. Never allocates.
 fn switch_tasks(
     tasks: &mut TaskTable,
     waiting: &mut NumberSet,
     verdicts: &[Verdict],
-    switching: &NumberSet,
+    switching: &[GroupId],
     target: Level,
 )
-    ensures { AreSwitched (is_judged verdicts.now) (has switching.now) target.0 tasks.old tasks.new waiting.old waiting.new }
+    requires { IsNonDecreasing (group_numbers switching.now) }
+    ensures { AreSwitched (is_judged verdicts.now) (is_listed (group_numbers switching.now)) target.0 tasks.old tasks.new waiting.old waiting.new }
 {
     for verdict in verdicts {
         switch_task(tasks, waiting, switching, target, verdict.task);
@@ -348,18 +393,27 @@ fn switch_tasks(
 fn switch_task(
     tasks: &mut TaskTable,
     waiting: &mut NumberSet,
-    switching: &NumberSet,
+    switching: &[GroupId],
     target: Level,
     task: TaskId,
 )
-    ensures { IsTaskSwitched (has switching.now) target.0 task.0 tasks.old tasks.new waiting.old waiting.new }
+    requires { IsNonDecreasing (group_numbers switching.now) }
+    ensures { IsTaskSwitched (is_listed (group_numbers switching.now)) target.0 task.0 tasks.old tasks.new waiting.old waiting.new }
 {
     let Some(live) = tasks.get(task) else {
         return;
     };
-    if !switching.contains(live.group().0) {
+    if !is_listed(switching, live.group()) {
         return;
     }
     tasks.set_level(task, target);
     waiting.remove(task.0);
+}
+
+/// Whether a group is in a list that doesn't fall.
+fn is_listed(groups: &[GroupId], group: GroupId) -> bool
+    requires { IsNonDecreasing (group_numbers groups.now) }
+    ensures { result ≡ is_listed (group_numbers groups.now) group.0 }
+{
+    groups.binary_search(&group).is_ok()
 }

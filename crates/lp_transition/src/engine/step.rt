@@ -1,14 +1,11 @@
 //! An event that was weighed.
-ghost use Rattle.std.specs.Prelude.{◌≡◌, [], true, false, Some, None, option_copied};
+ghost use Rattle.std.specs.Prelude.{◌≡◌, [], Some, None};
 ghost use Rattle.std.specs.Option.{option_map};
-ghost use Rattle.lp_transition.specs.Events.{is_scan};
-ghost use Rattle.lp_transition.specs.inside.ScanSteps.{groups_of, HasSwitching};
 ghost use Rattle.lp_transition.specs.declared.engine.step.Halt.TheVariants.{NoMemory};
 
 use super::live_task::LiveTask;
 use crate::{Event, Reply};
 use lp_model::Verdict;
-use lp_numbers::NumberSet;
 use std::alloc::{AllocError, AllocFailed, Global};
 use std::marker::Model;
 use thiserror::Error;
@@ -47,8 +44,6 @@ pub struct Step {
     verdicts: Vec<Verdict>,
     /// The child that an accepted fork brings.
     born: Option<Box<LiveTask>>,
-    /// Of a scan, the groups that switch; None where none does.
-    switching: Option<NumberSet>,
 }
 
 /// In one step for who owns one: docs/GATE.md says why.
@@ -59,7 +54,6 @@ impl Drop for Step {
             reply: _,
             verdicts: _,
             born: _,
-            switching: _,
         } = self;
     }
 }
@@ -69,14 +63,11 @@ impl Model for Step {
     ghost use Rattle.std.specs.Global.{Global};
     ghost use Rattle.std.specs.Option.{option_map};
     ghost use Rattle.lp_transition.specs.Leg.{Standing};
-    ghost use Rattle.lp_transition.specs.inside.ScanSteps.{HasSwitching};
     ghost use Rattle.lp_transition.specs.Weigh.{Weighed};
 
     ghost Value = { Weighed };
 
     ghost view = { λ s. record { event = s.event; reply = s.reply; verdicts = s.verdicts.items; born = option_map (λ (b : Box Standing Global). b.value) s.born } };
-
-    ghost invariant = { λ s. HasSwitching s.event s.reply.what s.switching };
 }
 
 impl Step {
@@ -115,7 +106,6 @@ impl Step {
             reply,
             verdicts: _,
             born: _,
-            switching: _,
         } = self;
         reply
     }
@@ -130,26 +120,12 @@ impl Step {
             reply,
             verdicts: _,
             born,
-            switching: _,
         } = self;
         (reply, born)
     }
 
-    /// Of a scan, the groups that switch; None where none does.
-    pub(super) fn switching(&self) -> Option<&NumberSet>
-        ensures { HasSwitching self.now.event self.now.reply.what (option_copied result) }
-    {
-        self.switching.as_ref()
-    }
-
-    /// A scan with its answer, the verdicts that it was answered by, and the groups that switch.
-    pub(super) fn scan(
-        event: Event,
-        reply: Reply,
-        verdicts: Vec<Verdict>,
-        switching: Option<NumberSet>,
-    ) -> Step
-        requires { HasSwitching event reply.what switching }
+    /// A scan with its answer and the verdicts that it was answered by.
+    pub(super) fn scan(event: Event, reply: Reply, verdicts: Vec<Verdict>) -> Step
         ensures { result ≡ record { event = event; reply = reply; verdicts = verdicts.items; born = None } }
     {
         Step {
@@ -157,13 +133,11 @@ impl Step {
             reply,
             verdicts,
             born: None,
-            switching,
         }
     }
 
-    /// An event with its answer that brings no child and, if it is a scan, switches no group.
+    /// An event with its answer that no verdicts were needed for and that brings no child.
     pub(super) fn plain(alloc: Global, event: Event, reply: Reply) -> Step
-        requires { is_scan event ≡ true → groups_of reply.what ≡ [] }
         ensures { result ≡ record { event = event; reply = reply; verdicts = []; born = None } }
     {
         Step {
@@ -171,13 +145,11 @@ impl Step {
             reply,
             verdicts: Vec::new(alloc),
             born: None,
-            switching: None,
         }
     }
 
     /// An accepted fork with its answer and the child that it brings.
     pub(super) fn birth(alloc: Global, event: Event, reply: Reply, born: Box<LiveTask>) -> Step
-        requires { is_scan event ≡ false }
         ensures { result ≡ record { event = event; reply = reply; verdicts = []; born = Some born.value } }
     {
         Step {
@@ -185,7 +157,6 @@ impl Step {
             reply,
             verdicts: Vec::new(alloc),
             born: Some(born),
-            switching: None,
         }
     }
 }

@@ -9,7 +9,7 @@ pub returns-clause-weighed : goal.returns-clause-weighed
 returns-clause-weighed g c =
     let i = c.self.inside in
     let room : i.events < 1000000 = omega (arith, c.if-self-ge-MOST_EVENTS.false) in
-    let step = rw (c.scan_event.ensures, c.in_ok-what.ensures.what, c.as_slice.ensures.value) at c.scan.ensures in
+    let step = rw (c.scan_event.ensures, c.in_ok-what.ensures, c.as_slice.ensures.value) at c.scan.ensures in
     weighs g.M.Consistency.rules g.met.M.Consistency.lawful (record { number = i.events; from = i.from.0; target = i.target.0; patches = i.patches; table = i.tasks; blames = i.blames }) c.args.self.now i.waiting c.args.kind c.args.verdicts.items c.completes.result c.scan.result c.self.view_is c.self.invariant.engine c.requires.scan c.requires.found room (rw c.as_slice-2.ensures.value at c.completes.ensures) step
 
 pub returns-clause-reply : goal.returns-clause-reply

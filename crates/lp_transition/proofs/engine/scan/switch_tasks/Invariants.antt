@@ -1,8 +1,8 @@
 use Rattle.std.proofs.Common.{take}
-use Rattle.lp_numbers.specs.Numbers.{has}
-use Rattle.lp_transition.specs.inside.ScanSteps.{is_judged, AreSwitched}
+use Rattle.lp_transition.specs.Events.{group_numbers}
+use Rattle.lp_transition.specs.inside.ScanSteps.{is_judged, is_listed, AreSwitched}
 use Rattle.lp_transition.proofs.engine.scan.switch_tasks.Given as goal
 
 -- the tasks of the verdicts so far switched
 abbrev pub invariant-loop-verdict : goal.invariant-loop-verdict
-invariant-loop-verdict l = AreSwitched (is_judged (take l.verdict-index l.verdicts)) (has l.switching) l.target.0 l.fn.tasks l.tasks l.fn.waiting l.waiting
+invariant-loop-verdict l = AreSwitched (is_judged (take l.verdict-index l.verdicts)) (is_listed (group_numbers l.switching)) l.target.0 l.fn.tasks l.tasks l.fn.waiting l.waiting
