@@ -1,22 +1,18 @@
 -- Groups whose only member is the task of their number.
 use Rattle.std.proofs.Common.{◌≡◌, ℕ, ◌<◌, true, false, Some, None, nat_eq, refl, sym, ap, ◌∙◌}
 use Rattle.std.proofs.lemmas.Bool.{eqb-true, eq-eqb}
-use Rattle.std.specs.List.{filter, filter_map, list_any}
-use Rattle.std.specs.Option.{option_map}
+use Rattle.std.specs.List.{list_any}
 use Rattle.lp_numbers.specs.Numbers.{Numbers, has}
 use Rattle.lp_transition.specs.Tasks.{Live, on_live}
 use Rattle.lp_transition.specs.Leg.{Standing}
-use Rattle.lp_transition.specs.Machine.{view_of}
 use Rattle.lp_transition.specs.Table.{Table, Engine, slot, standings, state_in}
 use Rattle.lp_transition.specs.inside.Table.{is_in}
 use Rattle.lp_transition.specs.inside.Invariant.{IsEngine}
-use Rattle.lp_transition.specs.Scan.{views_of, is_asked, passing}
-use Rattle.lp_transition.specs.inside.ScanSteps.{IsOwnGroup, waiting_slot}
-use Rattle.lp_transition.proofs.AskedScans.{views-agree}
+use Rattle.lp_transition.specs.Scan.{is_asked, passing}
+use Rattle.lp_transition.specs.inside.ScanSteps.{IsOwnGroup}
 use Rattle.lp_transition.proofs.MemberLemmas.{IsLone, slot-below}
 use Rattle.lp_transition.proofs.Passing.{passing-both_is, passing-both_from}
 use Rattle.lp_transition.proofs.ScanGroups.{same_bool}
-use Rattle.lp_transition.proofs.ScanLemmas.{views-asked}
 use Rattle.lp_transition.proofs.ScanTakes.{group_fits}
 use Rattle.lp_transition.proofs.TableLemmas.{slot_from_live}
 
@@ -45,12 +41,6 @@ module _ (e : Engine) (waiting : Numbers) (kept : IsEngine e waiting) where
       (λ h. ap (has groups) ((own x.group (group_fits e t x kept.sound kept.wide at) h t x at).0 refl) ∙ h)
       ∙ sym (ap (on_live false (λ (y : Standing). has groups y.group)) live)
 
-  pub own-views : (groups : Numbers) → ((group : ℕ) → group < 65536 → has groups group ≡ true → IsOwnGroup e.table group)
-      → filter_map (λ t. option_map (view_of t) (waiting_slot e.table waiting t)) (passing 0 65536 (has groups)) ≡ filter (λ view. is_asked (state_in e) (has groups) view.task) (views_of (state_in e))
-  own-views groups own =
-      views-asked e waiting kept (has groups)
-      ∙ views-agree (state_in e) (has groups) (is_asked (state_in e) (has groups)) (λ t x live off. own-agrees groups own t x live)
-
   -- else the live tasks of these groups
   pub member-agrees : (groups set : Numbers) → ((task : ℕ) → has set task ≡ list_any (λ group. is_in group (slot e.table task)) (passing 0 65536 (has groups))) → (t : ℕ) (x : Standing) → standings e.table t ≡ Live x → has set t ≡ is_asked (state_in e) (has groups) t
   member-agrees groups set told t x live =
@@ -70,9 +60,3 @@ module _ (e : Engine) (waiting : Numbers) (kept : IsEngine e waiting) where
         passed = ap (is_in x.group) at ∙ eq-eqb x.group x.group refl;
       }))
       ∙ sym (ap (on_live false (λ (y : Standing). has groups y.group)) live)
-
-  pub member-views : (groups set : Numbers) → ((task : ℕ) → has set task ≡ list_any (λ group. is_in group (slot e.table task)) (passing 0 65536 (has groups)))
-      → filter_map (λ t. option_map (view_of t) (waiting_slot e.table waiting t)) (passing 0 65536 (has set)) ≡ filter (λ view. is_asked (state_in e) (has groups) view.task) (views_of (state_in e))
-  member-views groups set told =
-      views-asked e waiting kept (has set)
-      ∙ views-agree (state_in e) (has set) (is_asked (state_in e) (has groups)) (λ t x live off. member-agrees groups set told t x live)

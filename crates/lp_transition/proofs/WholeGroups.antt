@@ -1,5 +1,5 @@
 -- The verdicts of those who were asked, with the members of the groups that aren't refused.
-use Rattle.std.proofs.Common.{◌≡◌, ℕ, ◌<◌, Bool, true, false, not, ◌&&◌, ◌||◌, List, nat_eq, refl, sym, ap, inl, inr, ◌∙◌, ⊎_elim}
+use Rattle.std.proofs.Common.{◌≡◌, ℕ, ◌<◌, Bool, true, false, not, ◌&&◌, ◌||◌, List, map, nat_eq, refl, sym, ap, inl, inr, ◌∙◌, ⊎_elim}
 use Rattle.std.proofs.lemmas.Bool.{false≢true, and_parts, and_from, or_left, or_right, or_cases, eqb-true, eq-eqb}
 use Rattle.std.specs.List.{list_any}
 use Rattle.lp_numbers.specs.Numbers.{Numbers, has}
@@ -8,15 +8,16 @@ use Rattle.lp_model.specs.declared.check.CheckKind.{CheckKind}
 use Rattle.lp_model.specs.declared.verdict.Verdict.{Verdict}
 use Rattle.lp_transition.specs.Tasks.{Live, on_live}
 use Rattle.lp_transition.specs.Leg.{Standing}
-use Rattle.lp_transition.specs.Scan.{verdicts_of, verdicts_at, is_asked, passing}
+use Rattle.lp_transition.specs.Scan.{verdict_of, verdicts_of, verdicts_at, is_asked, passing}
 use Rattle.lp_transition.specs.Table.{Engine, slot, standings, state_in}
 use Rattle.lp_transition.specs.inside.Table.{is_in}
 use Rattle.lp_transition.specs.inside.Invariant.{IsEngine}
 use Rattle.lp_transition.specs.inside.ScanSteps.{IsOwnGroup, is_found, is_judged}
 use Rattle.lp_transition.specs.inside.FirstRefusals.{AdmitsOthers, HasAsked, AreTold}
-use Rattle.lp_transition.proofs.AskedScans.{any-filter, verdicts-agree}
+use Rattle.lp_transition.proofs.AskedScans.{among_views, any-filter, verdicts-agree}
 use Rattle.lp_transition.proofs.FirstRefusals.{pass-told}
 use Rattle.lp_transition.proofs.OwnGroups.{own-agrees, member-agrees}
+use Rattle.lp_transition.proofs.ScanLemmas.{views-asked, views-in_order}
 use Rattle.lp_transition.proofs.ScanLists.{any-map, verdict-is, verdict-from}
 
 module _ (e : Engine) (waiting : Numbers) (kept : IsEngine e waiting) (model : Rules) (kind : CheckKind) where
@@ -31,6 +32,16 @@ module _ (e : Engine) (waiting : Numbers) (kept : IsEngine e waiting) (model : R
   -- the tasks of own groups are their members
   pub own-listed : (groups : Numbers) → ((group : ℕ) → group < 65536 → has groups group ≡ true → IsOwnGroup e.table group) → verdicts_at model kind (state_in e) (has groups) ≡ verdicts_at model kind (state_in e) (is_asked (state_in e) (has groups))
   own-listed groups own = verdicts-agree model kind (state_in e) (has groups) (is_asked (state_in e) (has groups)) (λ t x live off. own-agrees e waiting kept groups own t x live)
+
+  -- as are those of a set of the members of some groups
+  pub member-listed : (groups set : Numbers) → ((task : ℕ) → has set task ≡ list_any (λ group. is_in group (slot e.table task)) (passing 0 65536 (has groups))) → verdicts_at model kind (state_in e) (has set) ≡ verdicts_at model kind (state_in e) (is_asked (state_in e) (has groups))
+  member-listed groups set told = verdicts-agree model kind (state_in e) (has set) (is_asked (state_in e) (has groups)) (λ t x live off. member-agrees e waiting kept groups set told t x live)
+
+  -- the verdicts of the waiting set are those of all
+  pub all-listed : verdicts_at model kind (state_in e) (has waiting) ≡ verdicts_of model kind (state_in e)
+  all-listed =
+      among_views model kind (state_in e) (has waiting)
+      ∙ ap (map (verdict_of model kind (state_in e).aim)) (sym (views-asked e waiting kept (has waiting)) ∙ views-in_order e waiting kept)
 
   -- a set of the members of some groups and of the tasks of verdicts
   pub members-judged : (groups set more : Numbers) (vs : List Verdict) → ((task : ℕ) → has set task ≡ list_any (λ group. is_in group (slot e.table task)) (passing 0 65536 (has groups))) → ((t : ℕ) → has more t ≡ (has set t || is_judged vs t))

@@ -143,9 +143,7 @@ impl<M: Consistency> Core<M> {
         if !self.model.uses(kind) {
             return self.weigh_found(alloc, kind, Vec::new(alloc));
         }
-        let views = self.views(alloc)?;
-        let aim = self.aim();
-        let found = verdicts(alloc, &self.model, kind, views.as_slice(), &aim)?;
+        let found = self.all_verdicts(alloc, kind)?;
         self.weigh_found(alloc, kind, found)
     }
 

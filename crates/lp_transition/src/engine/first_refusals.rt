@@ -10,10 +10,9 @@ ghost use Rattle.lp_transition.specs.declared.engine.step.Halt.TheVariants.{Jour
 ghost use Rattle.lp_transition.specs.inside.FirstRefusals.{asked_slot, AdmitsOthers, AreTold, HasAsked};
 ghost use Rattle.lp_transition.specs.inside.ScanSteps.{is_found, is_judged};
 
-use super::dispatch::verdicts;
 use super::live_view::LiveView;
 use super::open_scan::members_of;
-use super::scan::{remove_group, views_in, waiting_task};
+use super::scan::{remove_group, waiting_task};
 use super::step::{Halt, Step};
 use super::task_table::TaskTable;
 use super::{Core, MOST_EVENTS};
@@ -172,20 +171,6 @@ impl<M: Consistency> Core<M> {
         let mut tasks = members_of(alloc, &self.tasks, unrefused)?;
         add_judged(&mut tasks, found);
         self.verdicts_in(alloc, kind, &tasks)
-    }
-
-    /// What a check finds of the waiting tasks of a set.
-    fn verdicts_in(
-        &self,
-        alloc: Global,
-        kind: CheckKind,
-        tasks: &NumberSet,
-    ) -> Result<Vec<Verdict>, AllocError>
-        ensures { IfOk result (λ found. found.items ≡ verdicts_at M.rules kind (state_in self.now) (has tasks.now)) }
-    {
-        let views = views_in(alloc, &self.tasks, &self.waiting, tasks)?;
-        let aim = self.aim();
-        verdicts(alloc, &self.model, kind, views.as_slice(), &aim)
     }
 }
 

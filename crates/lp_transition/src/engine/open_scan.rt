@@ -14,8 +14,6 @@ ghost use Rattle.lp_transition.specs.inside.Table.{is_in};
 ghost use Rattle.lp_transition.specs.declared.engine.step.Halt.TheVariants.{NoMemory, JournalFull};
 ghost use Rattle.lp_transition.specs.Machine.{answer};
 
-use super::dispatch::verdicts;
-use super::scan::views_in;
 use super::step::{Halt, Step};
 use super::task_table::TaskTable;
 use super::{Core, MOST_EVENTS};
@@ -90,9 +88,12 @@ impl<M: Consistency> Core<M> {
     ) -> Result<Vec<Verdict>, AllocError>
         ensures { IfOk result (λ found. found.items ≡ verdicts_among M.rules kind (state_in self.now) (has groups.now)) }
     {
-        let views = self.asked_views(alloc, groups)?;
-        let aim = self.aim();
-        verdicts(alloc, &self.model, kind, views.as_slice(), &aim)
+        let _ = &self.tasks;
+        if self.are_own(groups) {
+            return self.verdicts_in(alloc, kind, groups);
+        }
+        let members = members_of(alloc, &self.tasks, groups)?;
+        self.verdicts_in(alloc, kind, &members)
     }
 
     /// The waiting tasks as checks see them whose groups have no standing blame, by increasing number;
@@ -142,17 +143,6 @@ impl<M: Consistency> Core<M> {
         }
         let copied = Vec::from_slice(alloc, verdicts)?;
         self.weigh_found(alloc, kind, copied)
-    }
-
-    /// The waiting tasks of some groups as checks see them, by increasing number.
-    fn asked_views(&self, alloc: Global, groups: &NumberSet) -> Result<Vec<View<'_>>, AllocError>
-        ensures { IfOk result (λ views. map seen views.items ≡ filter (λ view. is_asked (state_in self.now) (has groups.now) view.task) (views_of (state_in self.now))) }
-    {
-        if self.are_own(groups) {
-            return views_in(alloc, &self.tasks, &self.waiting, groups);
-        }
-        let members = members_of(alloc, &self.tasks, groups)?;
-        views_in(alloc, &self.tasks, &self.waiting, &members)
     }
 
     /// Most groups have one member, of their own number: then the groups are the tasks to look at, and

@@ -4,6 +4,7 @@ ghost use Rattle.std.specs.List.{filter_map, list_any};
 ghost use Rattle.std.specs.List.Sorted.{IsNonDecreasing};
 ghost use Rattle.std.specs.Option.{option_map};
 ghost use Rattle.lp_stack.specs.TaskView.{seen};
+ghost use Rattle.lp_patch.specs.Aimed.{aimed};
 ghost use Rattle.lp_numbers.specs.Numbers.{has};
 ghost use Rattle.lp_transition.specs.Blames.{AreBlamesAfter};
 ghost use Rattle.lp_transition.specs.Table.{state_in, slot};
@@ -13,7 +14,7 @@ ghost use Rattle.lp_transition.specs.Events.{is_scan, group_numbers};
 ghost use Rattle.lp_transition.specs.Run.{switched};
 ghost use Rattle.lp_transition.specs.Weigh.{IsWeighed};
 ghost use Rattle.lp_transition.specs.Steps.{IsReply};
-ghost use Rattle.lp_transition.specs.Scan.{is_scan_kind, scan_event, views_of, verdicts_of, AreEnough, passing};
+ghost use Rattle.lp_transition.specs.Scan.{is_scan_kind, scan_event, views_of, verdict_of, verdicts_of, verdicts_at, AreEnough, passing};
 ghost use Rattle.lp_transition.specs.inside.ScanSteps.{waiting_slot, tasks_of, is_judged, is_found, switches_by, all_admit, groups_of, is_listed, IsTaskSwitched, AreSwitched};
 ghost use Rattle.lp_transition.specs.declared.engine.step.Halt.TheVariants.{JournalFull};
 
@@ -25,6 +26,7 @@ use super::{Core, MOST_EVENTS};
 use crate::{Event, GroupList, Reply, What};
 use lp_model::{CheckKind, Consistency, Verdict};
 use lp_numbers::NumberSet;
+use lp_patch::Aim;
 use lp_stack::{GroupId, Level, TaskId, View};
 use std::alloc::{AllocError, Global};
 
@@ -34,7 +36,7 @@ impl<M: Consistency> Core<M> {
     pub fn views(&self, alloc: Global) -> Result<Vec<View<'_>>, AllocError>
         ensures { IfOk result (λ views. map seen views.items ≡ views_of (state_in self.now)) }
     {
-        views_in(alloc, &self.tasks, &self.waiting, &self.waiting)
+        views_in(alloc, &self.tasks, &self.waiting)
     }
 
     /// The groups that wait, which have a live member off the target, in increasing order;
@@ -44,6 +46,38 @@ impl<M: Consistency> Core<M> {
     {
         let groups = groups_in(alloc, &self.tasks, &self.waiting)?;
         group_list(alloc, &groups)
+    }
+
+    /// What a check finds of all waiting tasks.
+    pub(super) fn all_verdicts(
+        &self,
+        alloc: Global,
+        kind: CheckKind,
+    ) -> Result<Vec<Verdict>, AllocError>
+        ensures { IfOk result (λ found. found.items ≡ verdicts_of M.rules kind (state_in self.now)) }
+    {
+        self.verdicts_in(alloc, kind, &self.waiting)
+    }
+
+    /// What a check finds of the waiting tasks of a set.
+    pub(super) fn verdicts_in(
+        &self,
+        alloc: Global,
+        kind: CheckKind,
+        tasks: &NumberSet,
+    ) -> Result<Vec<Verdict>, AllocError>
+        ensures { IfOk result (λ found. found.items ≡ verdicts_at M.rules kind (state_in self.now) (has tasks.now)) }
+    {
+        let aim = self.aim();
+        found_in(
+            alloc,
+            &self.model,
+            kind,
+            &aim,
+            &self.tasks,
+            &self.waiting,
+            tasks,
+        )
     }
 
     /// The answer to a walk or a stop, by what its checks found of the waiting tasks: a group
@@ -121,24 +155,46 @@ impl<M: Consistency> Core<M> {
     }
 }
 
-/// The waiting tasks of a set as checks see them, by increasing number.
+/// The tasks of a waiting set as checks see them, by increasing number.
 #[tactic(auto, using(crate::proofs::Ascending::in_order))]
-pub(super) fn views_in<'a>(
+fn views_in<'a>(
     alloc: Global,
     tasks: &'a TaskTable,
     waiting: &NumberSet,
-    set: &NumberSet,
 ) -> Result<Vec<View<'a>>, AllocError>
-    ensures { IfOk result (λ views. map seen views.items ≡ filter_map (λ t. option_map (view_of t) (waiting_slot tasks.now waiting.now t)) (passing 0 65536 (has set.now))) }
+    ensures { IfOk result (λ views. map seen views.items ≡ filter_map (λ t. option_map (view_of t) (waiting_slot tasks.now waiting.now t)) (passing 0 65536 (has waiting.now))) }
 {
     let mut views = Vec::new(alloc);
-    for number in set {
+    for number in waiting {
         let task = TaskId(number);
         if let Some(live) = waiting_task(tasks, waiting, task) {
             views.push(live.view(task))?;
         }
     }
     Ok(views)
+}
+
+/// What a check finds of the waiting tasks of a set, by increasing number.
+#[tactic(auto, using(crate::proofs::Ascending::in_order))]
+fn found_in<M: Consistency>(
+    alloc: Global,
+    model: &M,
+    kind: CheckKind,
+    aim: &Aim<'_>,
+    tasks: &TaskTable,
+    waiting: &NumberSet,
+    set: &NumberSet,
+) -> Result<Vec<Verdict>, AllocError>
+    ensures { IfOk result (λ found. found.items ≡ map (verdict_of M.rules kind (aimed aim.now)) (filter_map (λ t. option_map (view_of t) (waiting_slot tasks.now waiting.now t)) (passing 0 65536 (has set.now)))) }
+{
+    let mut found = Vec::new(alloc);
+    for number in set {
+        let task = TaskId(number);
+        if let Some(live) = waiting_task(tasks, waiting, task) {
+            found.push(Verdict::of(model, kind, &live.view(task), aim))?;
+        }
+    }
+    Ok(found)
 }
 
 /// The live task of a number, where it waits.

@@ -1,9 +1,12 @@
-use Rattle.std.proofs.Common.{Result, Ok, Err, IfOk, ◌≡◌, List, Vec, ap, ap₂, sym, ◌∙◌, map}
+use Rattle.std.proofs.Common.{Result, Ok, Err, IfOk, ◌≡◌, List, Vec, ap, sym, ◌∙◌, map}
 use Rattle.std.specs.Global.{Global}
-use Rattle.lp_stack.specs.TaskView.{seen}
+use Rattle.std.specs.List.{filter_map}
+use Rattle.std.specs.Option.{option_map}
 use Rattle.lp_numbers.specs.Numbers.{has}
 use Rattle.lp_model.specs.declared.verdict.Verdict.{Verdict}
-use Rattle.lp_transition.specs.Scan.{verdict_of, verdicts_at}
+use Rattle.lp_transition.specs.Scan.{verdict_of, verdicts_at, passing}
+use Rattle.lp_transition.specs.Machine.{view_of}
+use Rattle.lp_transition.specs.inside.ScanSteps.{waiting_slot}
 use Rattle.lp_transition.specs.Table.{Engine, state_in}
 use Rattle.lp_transition.proofs.AskedScans.{among_views}
 use Rattle.lp_transition.proofs.ScanLemmas.{views-asked}
@@ -16,10 +19,10 @@ returns g c =
     let model = g.M.Consistency.rules in
     let looked = has c.args.tasks.now in
     let aim = c.aim-aim.ensures ∙ ap (λ (o : Engine). (state_in o).aim) (sym c.self.view_is) in
-    let listed = c.in_ok-views.ensures ∙ views-asked e i.waiting c.self.invariant.engine looked in
+    let listed = views-asked e i.waiting c.self.invariant.engine looked in
     let same = ap (map (verdict_of model c.args.kind (state_in e).aim)) listed ∙ sym (among_views model c.args.kind (state_in e) looked) in
     let here = ap (λ (o : Engine). verdicts_at model c.args.kind (state_in o) looked) c.self.view_is in
-    ok_map c.verdicts.result c.verdicts.ensures (ap₂ (λ goal items. map (verdict_of model c.args.kind goal) (map seen items)) aim c.as_slice.ensures.value ∙ same ∙ here)
+    ok_map c.found_in.result c.found_in.ensures (ap (λ goal. map (verdict_of model c.args.kind goal) (filter_map (λ t. option_map (view_of t) (waiting_slot i.tasks i.waiting t)) (passing 0 65536 looked))) aim ∙ same ∙ here)
   where
     ok_map : {E : Type 0} {vs ws : List Verdict} (r : Result (Vec Verdict Global) E) → IfOk r (λ all. all.items ≡ vs) → vs ≡ ws → IfOk r (λ all. all.items ≡ ws)
     ok_map (Ok all) told same = told ∙ same

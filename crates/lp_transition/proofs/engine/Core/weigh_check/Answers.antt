@@ -7,6 +7,4 @@ pub weigh_found-requires-clause-found : goal.weigh_found-requires-clause-found
 weigh_found-requires-clause-found g c = rw c.new.ensures.items (none-enough g.M.Consistency.rules g.met.M.Consistency.lawful c.args.kind (state_in c.args.self.now) (sym c.uses.ensures ∙ c.if-not-uses.true))
 
 pub weigh_found-requires-2-clause-found : goal.weigh_found-requires-2-clause-found
-weigh_found-requires-2-clause-found g c =
-    let found = rw (c.aim-aim.ensures, c.as_slice.ensures.value, c.in_ok-views.ensures) at c.in_ok-found.ensures in
-    all-enough g.M.Consistency.rules c.args.kind (state_in c.args.self.now) c.in_ok-found.found.items found
+weigh_found-requires-2-clause-found g c = all-enough g.M.Consistency.rules c.args.kind (state_in c.args.self.now) c.in_ok-found.found.items c.in_ok-found.ensures

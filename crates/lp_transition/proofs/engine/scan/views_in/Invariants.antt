@@ -12,4 +12,4 @@ use Rattle.lp_transition.proofs.engine.scan.views_in.Given as goal
 abbrev pub invariant-loop-number : goal.invariant-loop-number
 invariant-loop-number l =
     map seen l.views.items ++ filter_map (λ t. option_map (view_of t) (waiting_slot l.tasks l.waiting t)) l.number-iterator
-    ≡ filter_map (λ t. option_map (view_of t) (waiting_slot l.tasks l.waiting t)) (passing 0 65536 (has l.set))
+    ≡ filter_map (λ t. option_map (view_of t) (waiting_slot l.tasks l.waiting t)) (passing 0 65536 (has l.waiting))

@@ -1,0 +1,20 @@
+use Rattle.std.proofs.Common.{◌≡◌, Result, Ok, Err, IfOk, subst, ◌∙◌}
+use Rattle.lp_numbers.specs.Numbers.{has}
+use Rattle.lp_transition.specs.Scan.{verdicts_of, verdicts_at}
+use Rattle.lp_transition.specs.Table.{Engine, state_in}
+use Rattle.lp_transition.proofs.WholeGroups.{all-listed}
+use Rattle.lp_transition.proofs.engine.Core.all_verdicts.Goals as goal
+
+pub returns : goal.returns
+returns g c =
+    let i = c.self.inside in
+    let e : Engine = record { number = i.events; from = i.from.0; target = i.target.0; patches = i.patches; table = i.tasks; blames = i.blames } in
+    let model = g.M.Consistency.rules in
+    let listed =
+    subst (λ (o : Engine). verdicts_at model c.args.kind (state_in o) (has i.waiting) ≡ verdicts_of model c.args.kind (state_in o)) c.self.view_is
+    (all-listed e i.waiting c.self.invariant.engine model c.args.kind) in
+    ok_map c.verdicts_in.result c.verdicts_in.ensures (λ all found. found ∙ listed)
+  where
+    ok_map : {A E : Type 0} {P Q : A → Type 0} (r : Result A E) → IfOk r P → ((a : A) → P a → Q a) → IfOk r Q
+    ok_map (Ok a) told more = more a told
+    ok_map (Err e) told more = tt
