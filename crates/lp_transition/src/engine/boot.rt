@@ -70,6 +70,21 @@ impl<M: Consistency> Core<M> {
         if let Some(fault) = first_fault(tasks) {
             return Err(fault);
         }
+        Ok(Core::without_fault(alloc, model, patches, tasks)?)
+    }
+
+    /// An engine with tasks of which none is at fault; AllocError where an allocation failed.
+    fn without_fault(
+        alloc: Global,
+        model: M,
+        patches: PatchStack,
+        tasks: &[(TaskId, Class)],
+    ) -> Result<Core<M>, AllocError>
+        requires { boot_refusal tasks.now ≡ None }
+        ensures started { IfOk result (λ core. state_in core ≡ (start M.rules (bounds_of patches) patches tasks.now).opening) }
+        ensures blameless { IfOk result (λ core. (group : ℕ) → blame_of core group ≡ None) }
+        ensures stands { IfOk result (λ core. StandsIn M.rules (record { bounds = bounds_of patches; patches = patches; boots = tasks.now; events = [] }) (state_in core)) }
+    {
         let mut table = TaskTable::new(alloc)?;
         put_all(alloc, model, tasks, &mut table)?;
         Ok(Core {
@@ -129,13 +144,12 @@ fn put_all<M: Consistency>(
     model: M,
     boots: &[(TaskId, Class)],
     tasks: &mut TaskTable,
-) -> Result<(), BootFault>
+) -> Result<(), AllocError>
     requires no_fault { boot_refusal boots.now ≡ None }
     requires blank { IsBlank tasks.old }
     ensures live { OnOk result (standings tasks.new ≡ booted M.rules boots.now) }
     ensures wide { OnOk result (IsWide tasks.new) }
     ensures in_range { OnOk result (All (λ boot. (0 < boot.0.0) × (boot.0.0 ≤ 65535)) boots.now) }
-    ensures memory { OnErr result (result ≡ Err NoMemory) }
 {
     for (task, class) in boots {
         let live = at_boot(model, *task, *class);

@@ -2,7 +2,7 @@ use Rattle.std.proofs.Common.{◌≡◌, None, Some, sym, ◌∙◌}
 use Rattle.lp_transition.specs.declared.engine.blames.StandingBlame.{StandingBlame}
 use Rattle.lp_transition.proofs.BootLemmas.{ArePut, starts}
 use Rattle.lp_transition.proofs.Unchanged.{core_starts}
-use Rattle.lp_transition.proofs.engine.Core.boot.Goals as goal
+use Rattle.lp_transition.proofs.engine.Core.without_fault.Goals as goal
 
 pub invariant_of-result : goal.invariant_of-result
 invariant_of-result g c =
