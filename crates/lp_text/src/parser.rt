@@ -1,15 +1,17 @@
 //! What the lines of a trace text have given so far.
-ghost use Rattle.std.specs.Prelude.{◌≡◌, ◌≤◌, ◌+◌, ◌-◌, ◌<◌, ◌++◌, ◌∷◌, [], ◌==◌, ℕ, length, take, map, OnOk, IfOk, IfNone, IfSome, Ok, false, slice_index_or};
+ghost use Rattle.std.specs.Prelude.{◌≡◌, ◌≤◌, ◌+◌, ◌-◌, ◌<◌, ◌++◌, ◌∷◌, [], ◌==◌, ℕ, length, take, map, OnOk, IfOk, IfNone, IfSome, Ok, false, slice_index_or, option_copied};
+ghost use Rattle.lp_text.specs.declared.keyword.LineKeyword.TheVariants as keyword;
+ghost use Rattle.lp_text.specs.inside.Cut.{words_left};
 ghost use Rattle.lp_text.specs.inside.Parsers.{IsTable};
 ghost use Rattle.lp_text.specs.inside.QuickLines.{IsTaken};
 ghost use Rattle.lp_text.specs.Traces.{functions, IsTrace};
 ghost use Rattle.lp_text.specs.inside.LineFaults.{GivesExactly, GivesLine};
-ghost use Rattle.lp_text.specs.Reading.{add_boot, add_event, add_function, add_symbol, at_end, begun, empty, first_word, grown, part_of, part_reached, with_line};
+ghost use Rattle.lp_text.specs.Reading.{add_boot, add_event, add_function, add_symbol, at_end, begun, empty, first_word, grown, line_by_word, part_of, part_reached, with_line};
 ghost use Rattle.lp_text.specs.Words.{words};
 
 use crate::fault::{Cause, LineFault};
 use crate::form::TraceForm;
-use crate::keyword::LineKeyword;
+use crate::keyword::{EventKeyword, LineKeyword};
 use crate::line::{boot_line, event_line, patch_line, symbol_of, task_of};
 use crate::quick::quick_event;
 use crate::split::{cut_word, last_word};
@@ -90,28 +92,62 @@ impl Parser {
 
     /// One line more, without its end.
     #[inline(always)]
-    #[tactic(auto, unfolding(crate::specs::Reading::with_line, crate::specs::Reading::line_by_word))]
+    #[tactic(auto, unfolding(crate::specs::Reading::with_line))]
     pub(crate) fn add_line(&mut self, alloc: Global, line: &[u8]) -> Result<(), LineFault>
         ensures { GivesLine (λ _. self.new) result (with_line self.old (words line.now)) }
     {
         let (word, left) = cut_word(line);
-        match self.first_word(word)? {
-            LineKeyword::Sym => {
-                let name = last_word(left)?;
-                self.add_symbol(name)
-            }
-            LineKeyword::Patch => {
-                let (number, name) = patch_line(self.form, left)?;
-                self.add_function(alloc, number, name)
-            }
-            LineKeyword::Boot => {
-                let (number, class) = boot_line(left)?;
-                self.add_boot(number, class)
-            }
-            LineKeyword::Event(word) => {
-                let event = event_line(&self.symbols, &mut self.cache, word, left)?;
-                self.add_event(event)
-            }
+        match self.first_word(word) {
+            Ok(LineKeyword::Sym) => self.add_symbol_line(left),
+            Ok(LineKeyword::Patch) => self.add_patch_line(alloc, left),
+            Ok(LineKeyword::Boot) => self.add_boot_line(left),
+            Ok(LineKeyword::Event(word)) => self.add_event_line(word, left),
+            Err(cause) => Err(LineFault::Cause(cause)),
+        }
+    }
+
+    /// One line more of a symbol, by the words after its first.
+    #[tactic(auto, unfolding(crate::specs::Reading::line_by_word))]
+    fn add_symbol_line(&mut self, left: Option<&[u8]>) -> Result<(), LineFault>
+        ensures { GivesLine (λ _. self.new) result (line_by_word self.old keyword.Sym (words_left (option_copied left.entry))) }
+    {
+        match last_word(left) {
+            Ok(name) => self.add_symbol(name),
+            Err(cause) => Err(LineFault::Cause(cause)),
+        }
+    }
+
+    /// One line more of a patch.
+    #[tactic(auto, unfolding(crate::specs::Reading::line_by_word))]
+    fn add_patch_line(&mut self, alloc: Global, left: Option<&[u8]>) -> Result<(), LineFault>
+        ensures { GivesLine (λ _. self.new) result (line_by_word self.old keyword.Patch (words_left (option_copied left.entry))) }
+    {
+        match patch_line(self.form, left) {
+            Ok((number, name)) => self.add_function(alloc, number, name),
+            Err(cause) => Err(LineFault::Cause(cause)),
+        }
+    }
+
+    /// One line more of a boot task.
+    #[tactic(auto, unfolding(crate::specs::Reading::line_by_word))]
+    fn add_boot_line(&mut self, left: Option<&[u8]>) -> Result<(), LineFault>
+        ensures { GivesLine (λ _. self.new) result (line_by_word self.old keyword.Boot (words_left (option_copied left.entry))) }
+    {
+        match boot_line(left) {
+            Ok((number, class)) => self.add_boot(number, class),
+            Err(cause) => Err(LineFault::Cause(cause)),
+        }
+    }
+
+    /// One line more of an event, which begins with this word.
+    #[inline(always)]
+    #[tactic(auto, unfolding(crate::specs::Reading::line_by_word))]
+    fn add_event_line(&mut self, word: EventKeyword, left: Option<&[u8]>) -> Result<(), LineFault>
+        ensures { GivesLine (λ _. self.new) result (line_by_word self.old (keyword.Event word) (words_left (option_copied left.entry))) }
+    {
+        match event_line(&self.symbols, &mut self.cache, word, left) {
+            Ok(event) => self.add_event(event),
+            Err(cause) => Err(LineFault::Cause(cause)),
         }
     }
 
