@@ -86,19 +86,8 @@ module _ (parts : TraceValue) where
           left3 : spelling parts ≡ spelling_from p3 t3 events_asked
           left3 = left2 ∙ built_append t2 p2 s2 built2 t3 p3 s3 boots_asked events_asked built3 boots
 
-          pub events_err : (e : OfFault) → IsOfFault e (spelling_from p3 t3 events_asked) → IsOfFault e (spelling parts)
-          events_err e h = let P : Result TraceValue ℕ → Type 0 = λ r. IsOfFault e r in subst P (sym left3) h
-
-          pub all_ok : (t4 : TraceValue) → spelling_from p3 t3 events_asked ≡ Ok t4 → spelling parts ≡ Ok t4
-          all_ok t4 h = left3 ∙ h
-
-          pub all_there : (t4 : TraceValue) → t4 ≡ record t3 { events = parts.events } → t4 ≡ parts
-          all_there t4 added4 =
-              added4
-              ∙ ap (λ (t : TraceValue). let u : TraceValue = record t { events = parts.events } in u) added3
-              ∙ ap (λ (t : TraceValue). let u : TraceValue = record t { boots = parts.boots; events = parts.events } in u) added2
-              ∙ ap (λ (t : TraceValue). let u : TraceValue = record t { patches = parts.patches; boots = parts.boots; events = parts.events } in u) added1
-              ∙ ap (λ (t : TraceValue). let u : TraceValue = record t { symbols = parts.symbols; patches = parts.patches; boots = parts.boots; events = parts.events } in u) first
+          pub events_give : {X : Type 0} (view : X → TraceValue) (result : Result X OfFault) → GivesPart view result (spelling_from p3 t3 events_asked) → GivesPart view result (spelling parts)
+          events_give view result h = let P : Result TraceValue ℕ → Type 0 = λ r. GivesPart view result r in subst P (sym left3) h
 
 -- what is made is a trace
 pub made_trace : (parts t trace : TraceValue) (place size : ℕ) → IsBuilt t place size → t ≡ parts → 1 ≤ length parts.patches → trace ≡ t → IsTrace trace × (trace ≡ parts)

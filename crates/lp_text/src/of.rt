@@ -1,6 +1,8 @@
 //! Making a trace of its parts.
-ghost use Rattle.std.specs.Prelude.{◌≡◌, ◌≤◌, ◌∷◌, [], length, map, IfOk, Ok};
+ghost use Rattle.std.specs.Prelude.{◌≡◌, ◌≤◌, ◌∷◌, [], length, map, IfOk, Ok, OnOk};
 ghost use Rattle.lp_text.specs.Build.{GivesPart, of_parts, spelling};
+ghost use Rattle.lp_text.specs.inside.Builders.{IsBuilt};
+ghost use Rattle.lp_text.specs.Reading.{empty};
 ghost use Rattle.lp_text.specs.Traces.{IsTrace};
 ghost use Rattle.lp_text.specs.declared.form.TraceForm.TheVariants.{Single, Stacked};
 
@@ -84,10 +86,41 @@ fn make(
     ensures made { IfOk result (λ trace. IsTrace trace × (trace ≡ of_parts form symbols.now (map (λ patch. patch.now) patches.now) boots.now events.now)) }
     ensures exact { GivesPart (λ trace. trace) result (spelling (of_parts form symbols.now (map (λ patch. patch.now) patches.now) boots.now events.now)) }
 {
-    let mut builder = Builder::new(alloc, form)?;
-    builder.add_symbols(symbols)?;
-    builder.add_patches(alloc, symbols, patches)?;
-    builder.add_boots(boots)?;
-    builder.add_events(symbols, events)?;
-    Ok(builder.into_trace())
+    let mut builder = match Builder::new(alloc, form) {
+        Ok(builder) => builder,
+        Err(fault) => return Err(fault),
+    };
+    match fill(alloc, &mut builder, symbols, patches, boots, events) {
+        Ok(()) => Ok(builder.into_trace()),
+        Err(fault) => Err(fault),
+    }
+}
+
+/// Adds these parts to a builder that has the first line alone.
+fn fill(
+    alloc: Global,
+    builder: &mut Builder,
+    symbols: &Symbols,
+    patches: &[&[SymId]],
+    boots: &[(TaskId, Class)],
+    events: &[Event],
+) -> Result<(), OfFault>
+    requires built { IsBuilt builder.old.parser builder.old.place builder.old.size }
+    requires early { builder.old.parser ≡ empty builder.old.parser.form }
+    requires single { builder.old.parser.form ≡ Single → length patches.now ≤ 1 }
+    ensures gives { GivesPart (λ _. builder.new.parser) result (spelling (of_parts builder.old.parser.form symbols.now (map (λ patch. patch.now) patches.now) boots.now events.now)) }
+    ensures built { OnOk result (IsBuilt builder.new.parser builder.new.place builder.new.size) }
+    ensures added { OnOk result (builder.new.parser ≡ of_parts builder.old.parser.form symbols.now (map (λ patch. patch.now) patches.now) boots.now events.now) }
+    ensures some { OnOk result (1 ≤ length patches.now) }
+{
+    if let Err(fault) = builder.add_symbols(symbols) {
+        return Err(fault);
+    }
+    if let Err(fault) = builder.add_patches(alloc, symbols, patches) {
+        return Err(fault);
+    }
+    if let Err(fault) = builder.add_boots(boots) {
+        return Err(fault);
+    }
+    builder.add_events(symbols, events)
 }
