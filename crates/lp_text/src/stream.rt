@@ -76,7 +76,9 @@ impl Stream {
         ensures few { OnOk result (self.new.number + length self.new.held ≤ self.old.number + length self.old.held + length piece.now) }
         ensures fault { IfErr result (λ fault. (bytes : List ℕ) → IsReadFault fault (reading_after self.old (piece.now ++ bytes))) }
     {
-        self.held.extend_from_slice(piece)?;
+        let Ok(()) = self.held.extend_from_slice(piece) else {
+            return Err(ReadFault::NoMemory);
+        };
         if memchr(b'\n', piece).is_none() {
             return Ok(());
         }
@@ -102,7 +104,9 @@ impl Stream {
             Err(fault) => return Err(fault),
         };
         self.next.clear();
-        self.next.extend_from_slice(rest)?;
+        let Ok(()) = self.next.extend_from_slice(rest) else {
+            return Err(ReadFault::NoMemory);
+        };
         mem::swap(&mut self.held, &mut self.next);
         Ok(())
     }

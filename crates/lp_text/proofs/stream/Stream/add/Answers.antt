@@ -6,12 +6,12 @@ use Rattle.lp_text.proofs.stream.Stream.add.Goals as goal
 
 pub returns-then-is_none-clause-read : goal.returns-then-is_none-clause-read
 returns-then-is_none-clause-read c =
-    rw (← c.self.view_is) (held_on (the_view c.self.inside) c.args.piece.now c.extend_from_slice.new.self.items c.in_ok-extend_from_slice.ensures.items)
+    rw (← c.self.view_is) (held_on (the_view c.self.inside) c.args.piece.now c.extend_from_slice.new.self.items c.in-Ok.ensures.items)
 
 pub returns-clause-read : goal.returns-clause-read
 returns-clause-read c =
-    rw (← c.self.view_is) (on_ok c.take_held.result (λ goes bytes. held_on (the_view c.self.inside) c.args.piece.now c.extend_from_slice.new.self.items c.in_ok-extend_from_slice.ensures.items bytes ∙ goes bytes) c.take_held.ensures.read)
+    rw (← c.self.view_is) (on_ok c.take_held.result (λ goes bytes. held_on (the_view c.self.inside) c.args.piece.now c.extend_from_slice.new.self.items c.in-Ok.ensures.items bytes ∙ goes bytes) c.take_held.ensures.read)
 
 pub returns-clause-fault : goal.returns-clause-fault
 returns-clause-fault c =
-    rw (← c.self.view_is) (map_err c.take_held.result _ _ (λ fault h bytes. rw (held_on (the_view c.self.inside) c.args.piece.now c.extend_from_slice.new.self.items c.in_ok-extend_from_slice.ensures.items bytes) (h bytes)) c.take_held.ensures.fault)
+    rw (← c.self.view_is) (map_err c.take_held.result _ _ (λ fault h bytes. rw (held_on (the_view c.self.inside) c.args.piece.now c.extend_from_slice.new.self.items c.in-Ok.ensures.items bytes) (h bytes)) c.take_held.ensures.fault)

@@ -14,5 +14,5 @@ pub returns-clause-read : goal.returns-clause-read
 returns-clause-read c =
     let rest = c.in-Ok.rest.now in
     let P : List ℕ → Type 0 = λ held. (bytes : List ℕ) → reading_after (record (the_view c.self.inside) { held = held }) bytes ≡ reading_on c.take_whole_lines.new.parser c.take_whole_lines.new.number (lines (rest ++ bytes)) in
-    let kept : c.swap.new.x.items ≡ rest = ap (λ v. v.items) c.swap.ensures.x_after ∙ c.in_ok-extend_from_slice.ensures.items ∙ ap (λ l. l ++ rest) c.clear.ensures.items in
+    let kept : c.swap.new.x.items ≡ rest = ap (λ v. v.items) c.swap.ensures.x_after ∙ c.in-Ok-extend_from_slice.ensures.items ∙ ap (λ l. l ++ rest) c.clear.ensures.items in
     rw (← c.self.view_is) (λ bytes. subst P c.as_slice.ensures.value c.in-Ok.ensures.read bytes ∙ ap (λ l. reading_on c.take_whole_lines.new.parser c.take_whole_lines.new.number (lines (l ++ bytes))) (sym kept))
