@@ -1,5 +1,6 @@
 pub mod Numbers
 pub mod Cuts
+pub mod Lanes
 pub mod Symbols
 pub mod Choices
 pub mod Lines
