@@ -16,7 +16,7 @@ use Rattle.std.proofs.Math.ListN.{drop_of_length-le}
 use Rattle.std.proofs.Math.Seq.{drop-cons}
 use Rattle.lp_text.specs.Words.{line_of, header}
 use Rattle.lp_text.specs.Counts.{next}
-use Rattle.lp_text.specs.Writing.{AppendsPrefix, Writes}
+use Rattle.lp_text.specs.Writing.{Writes}
 use Rattle.lp_text.specs.inside.Writing.{Left, Seen, Takes, TakesPrefix, Wrote, line_rest}
 
 pub appends_more : (a b c : Option (List ℕ)) (x y : List ℕ) → Appends a b x → Appends b c y → Appends a c (x ++ y)

@@ -1,5 +1,5 @@
-use Rattle.std.proofs.Common.{◌++◌, [], List, ℕ, length, take, vec_len, ◌∙◌, refl, subst, sym, arith, rules}
-use Rattle.std.proofs.lemmas.List.{length-append, length-take-le}
+use Rattle.std.proofs.Common.{List, ℕ, take, vec_len, refl, subst, sym, arith, rules}
+use Rattle.std.proofs.lemmas.List.{length-take-le}
 use Rattle.std.specs.Io.KnownBytes.{Consumes}
 use Rattle.lp_text.proofs.Counts.{going_on, none_called, one_more_called}
 use Rattle.lp_text.proofs.Inputs.{consumes_more, consumes_none}

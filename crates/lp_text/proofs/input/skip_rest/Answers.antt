@@ -1,4 +1,4 @@
-use Rattle.std.proofs.Common.{◌++◌, ◌-◌, ◌+◌, [], take, ◌∙◌, refl, arith}
+use Rattle.std.proofs.Common.{◌++◌, ◌-◌, [], take, ◌∙◌, refl, arith}
 use Rattle.std.proofs.lemmas.List.{length-append, length-take-le}
 use Rattle.lp_text.proofs.Counts.{going_on, none_called, one_more_called}
 use Rattle.lp_text.proofs.Inputs.{consumes_more, consumes_none}

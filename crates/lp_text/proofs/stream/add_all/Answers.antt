@@ -1,6 +1,5 @@
-use Rattle.std.proofs.Common.{refl, ◌-◌, ◌≡◌, ◌≤◌, ◌+◌, ℕ, List, [], ◌++◌, length, take, Option, sym, ap, ◌∙◌, subst, arith}
+use Rattle.std.proofs.Common.{refl, ◌-◌, ◌≡◌, ◌≤◌, ◌+◌, ℕ, List, [], ◌++◌, length, take, Option, sym, ap, ◌∙◌, arith}
 use Rattle.std.proofs.lemmas.List.{length-append, length-take-le}
-use Rattle.lp_text.specs.Faults.{IsReadFault}
 use Rattle.lp_text.specs.inside.Streams.{Stream, reading_after}
 use Rattle.lp_text.proofs.Counts.{called_more, going_on, going_to_end, going_to_fault, input_told, none_called, one_more_called, text_told}
 use Rattle.lp_text.proofs.Inputs.{consumes_more, consumes_none}

@@ -1,7 +1,6 @@
 use Rattle.std.proofs.Common.{◌∙◌}
 use Rattle.lp_text.proofs.Counts.{text_told}
 use Rattle.lp_text.proofs.StreamFaults.{known_fault}
-use Rattle.lp_text.specs.inside.Streams.{reading_after}
 use Rattle.lp_text.proofs.stream.read_by.Goals as goal
 
 pub returns-in-Ok-clause-found : goal.returns-in-Ok-clause-found
