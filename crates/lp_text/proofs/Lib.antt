@@ -1,6 +1,7 @@
 pub mod Numbers
 pub mod Cuts
 pub mod Lanes
+pub mod Ends
 pub mod Symbols
 pub mod Choices
 pub mod Lines
