@@ -155,8 +155,13 @@ fn task_number(text: &[u8]) -> Option<(TaskId, &[u8])>
 fn number_before(text: &[u8]) -> Option<(u32, &[u8])>
     ensures { IfSome result (λ x. text.now ≡ decimal x.0 ++ x.1.now) }
 {
+    // At the end of a text a line is left to be read word by word, so that no digit is compared with the end.
+    if text.len() < 6 {
+        return None;
+    }
     let mut number = 0;
-    for (i, byte) in text.iter().enumerate() {
+    for i in 0..6 {
+        let byte = text[i];
         if !byte.is_ascii_digit() {
             if i == 0 || text[0] == b'0' {
                 return None;
@@ -166,7 +171,7 @@ fn number_before(text: &[u8]) -> Option<(u32, &[u8])>
         if i == 5 {
             return None;
         }
-        number = number * 10 + u32::from(*byte - b'0');
+        number = number * 10 + u32::from(byte - b'0');
     }
     None
 }
