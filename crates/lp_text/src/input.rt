@@ -72,7 +72,9 @@ fn read_pieces<R: Read>(
             Ok(count) => count,
             Err(fault) => return Err(fault),
         };
-        text.extend_from_slice(&piece[..count])?;
+        let Ok(()) = text.extend_from_slice(&piece[..count]) else {
+            return Err(InputFault::NoMemory);
+        };
     }
 }
 

@@ -264,10 +264,17 @@ impl Parser {
     ) -> Result<(), LineFault>
         ensures { GivesLine (λ _. self.new) result (add_function self.old (number, name.now)) }
     {
-        let func = symbol_of(&self.symbols, name)?;
-        check_function(self.patches.as_slice(), number, func)?;
-        put_function(alloc, &mut self.patches, number as usize, func)?;
-        Ok(())
+        let func = match symbol_of(&self.symbols, name) {
+            Ok(func) => func,
+            Err(cause) => return Err(LineFault::Cause(cause)),
+        };
+        if let Err(cause) = check_function(self.patches.as_slice(), number, func) {
+            return Err(LineFault::Cause(cause));
+        }
+        match put_function(alloc, &mut self.patches, number as usize, func) {
+            Ok(()) => Ok(()),
+            Err(_) => Err(LineFault::NoMemory),
+        }
     }
 
     /// One boot task more.
@@ -275,12 +282,17 @@ impl Parser {
     pub(crate) fn add_boot(&mut self, number: u32, class: Class) -> Result<(), LineFault>
         ensures { GivesLine (λ _. self.new) result (add_boot self.old (number, class)) }
     {
-        let task = task_of(number)?;
+        let task = match task_of(number) {
+            Ok(task) => task,
+            Err(cause) => return Err(LineFault::Cause(cause)),
+        };
         let place = usize::from(task.0);
         if self.booted[place] {
             return Err(LineFault::Cause(Cause::Task));
         }
-        self.boots.push((task, class))?;
+        let Ok(()) = self.boots.push((task, class)) else {
+            return Err(LineFault::NoMemory);
+        };
         self.booted[place] = true;
         Ok(())
     }
@@ -294,8 +306,10 @@ impl Parser {
         if self.events.len() == MOST_EVENTS as usize {
             return Err(LineFault::Cause(Cause::Many));
         }
-        self.events.push(event)?;
-        Ok(())
+        match self.events.push(event) {
+            Ok(()) => Ok(()),
+            Err(_) => Err(LineFault::NoMemory),
+        }
     }
 }
 

@@ -24,11 +24,11 @@ loop-text-preserved g c =
     let then = g.R.Read.remaining c.read_piece.new.reader.stream in
     let more = take c.in-Ok.count c.read_piece.new.piece in
     let P : List ℕ → Type 0 = λ bytes. Consumes old then bytes in (
-      subst P (sym c.in_ok-extend_from_slice.ensures.items) (consumes_more old now then c.loop-text.text.items more c.loop-text.invariant.0 c.in-Ok.ensures.bytes),
+      subst P (sym c.in-Ok-extend_from_slice.ensures.items) (consumes_more old now then c.loop-text.text.items more c.loop-text.invariant.0 c.in-Ok.ensures.bytes),
       search rules,
       search rules,
       going_on c.args.reader.now c.loop-text.reader c.read_piece.new.reader c.in-Ok.count c.loop-text.invariant.3 c.in-Ok.ensures.counted (omega (arith, c.in-Ok.count-test.1)),
-      one_more_called _ c.loop-text.reader.calls _ (vec_len c.loop-text.text) _ c.loop-text.invariant.4 c.read_piece.ensures.calls (omega (arith, c.in_ok-extend_from_slice.ensures.len, length-take-le c.in-Ok.count c.read_piece.new.piece c.in-Ok.ensures.within, c.in-Ok.count-test.1)),
+      one_more_called _ c.loop-text.reader.calls _ (vec_len c.loop-text.text) _ c.loop-text.invariant.4 c.read_piece.ensures.calls (omega (arith, c.in-Ok-extend_from_slice.ensures.len, length-take-le c.in-Ok.count c.read_piece.new.piece c.in-Ok.ensures.within, c.in-Ok.count-test.1)),
     )
 
 pub returns-in-Ok-eq0-clause-calls : goal.returns-in-Ok-eq0-clause-calls
@@ -39,8 +39,8 @@ pub returns-in-Err-clause-calls : goal.returns-in-Err-clause-calls
 returns-in-Err-clause-calls g c =
     one_more_called _ c.loop-text.reader.calls _ (vec_len c.loop-text.text) _ c.loop-text.invariant.4 c.read_piece.ensures.calls (omega (arith, c.loop-text.invariant.1))
 
-pub returns-in_err-extend_from_slice-clause-calls : goal.returns-in_err-extend_from_slice-clause-calls
-returns-in_err-extend_from_slice-clause-calls g c =
+pub returns-in_default-clause-calls : goal.returns-in_default-clause-calls
+returns-in_default-clause-calls g c =
     one_more_called _ c.loop-text.reader.calls _ (vec_len c.loop-text.text) _ c.loop-text.invariant.4 c.read_piece.ensures.calls (omega (arith, c.loop-text.invariant.1))
 
 pub returns-in-Err-clause-fault : goal.returns-in-Err-clause-fault
