@@ -90,8 +90,16 @@ impl<M: Consistency> Log<M> {
         ensures control { IfOk result (λ opened. opened.control ≡ []) }
     {
         let patched = patches.copy(alloc);
-        let core = Core::boot(alloc, model, patches, boots)?;
-        Ok(Log::after(alloc, core, patched, boots)?)
+        match Core::boot(alloc, model, patches, boots) {
+            Ok(core) => match Log::after(alloc, core, patched, boots) {
+                Ok(opened) => Ok(opened),
+                Err(_) => Err(BootFault::NoMemory),
+            },
+            Err(fault) => {
+                drop(patched);
+                Err(fault)
+            }
+        }
     }
 
     /// A log of an engine that has taken no event, with a copy of the patches, if one could be made.

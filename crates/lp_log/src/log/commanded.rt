@@ -1,6 +1,8 @@
 //! Events that are sent from the control. Walks and stops look at the tasks by several threads.
 ghost use Rattle.std.specs.Prelude.{◌≡◌, ◌≢◌, ◌≤◌, ◌<◌, ◌↔◌, [], ◌∷◌, ◌++◌, true, None, Err, IfOk, IfErr, IfSome, IsTrue, OnErr, OnOk, length};
-ghost use Rattle.lp_transition.specs.Scan.{is_scan_kind, scan_event};
+ghost use Rattle.lp_transition.specs.Blames.{is_open};
+ghost use Rattle.lp_transition.specs.Scan.{is_scan_kind, scan_event, verdicts_among};
+ghost use Rattle.lp_transition.specs.Table.{state_in};
 ghost use Rattle.lp_transition.specs.Weigh.{IsWeighed};
 ghost use Rattle.lp_transition.specs.declared.engine.step.Halt.TheVariants.{JournalFull};
 ghost use Rattle.lp_transition.specs.declared.event.Event.TheVariants.{Walk};
@@ -10,11 +12,11 @@ ghost use Rattle.lp_log.specs.Logs.{AreSame};
 ghost use Rattle.lp_log.specs.Seats.{owner};
 
 use super::Log;
-use crate::seat::{Cause, Commanded, Control, Turned};
-use lp_model::{CheckKind, Consistency};
+use crate::seat::{Commanded, Control, Turned};
+use lp_model::{CheckKind, Consistency, Verdict};
 use lp_scan::{Judged, ScanGate, scan_shared};
-use lp_transition::{Core, Event, Halt, MOST_EVENTS, Reply, Step};
-use std::alloc::Global;
+use lp_transition::{Event, Halt, MOST_EVENTS, Step};
+use std::alloc::{AllocError, Global};
 use std::thread::Threads;
 
 impl<M: Consistency + Sync> Log<M> {
@@ -31,7 +33,7 @@ impl<M: Consistency + Sync> Log<M> {
         workers: usize,
         gate: &G,
         judged: Option<&Judged<M>>,
-        mut control: Control,
+        control: Control,
         event: Event,
     ) -> Result<Commanded, Turned<Control>>
         requires some { 0 < workers }
@@ -48,45 +50,10 @@ impl<M: Consistency + Sync> Log<M> {
         ensures not_yours { IfErr result (λ turned. (turned.cause ≡ NotYours) ↔ (owner event ≢ None)) }
         ensures full { IfErr result (λ turned. (turned.cause ≡ Full) ↔ ((owner event ≡ None) × (1000000 ≤ length self.old.journal.entries))) }
     {
-        let _ = &self.core;
-        match self.take_command(rt, alloc, workers, gate, judged, &mut control, event) {
-            Ok(reply) => Ok(Commanded { control, reply }),
-            Err(cause) => Err(Turned {
-                part: control,
-                cause,
-            }),
+        match self.prepare_command(rt, alloc, workers, gate, judged, control, event) {
+            Ok(commanding) => Ok(self.send_command(commanding)),
+            Err(turned) => Err(turned),
         }
-    }
-
-    /// Takes an event that isn't a task's.
-    fn take_command<R: Threads + Sync, G: ScanGate + Sync>(
-        &mut self,
-        rt: &R,
-        alloc: Global,
-        workers: usize,
-        gate: &G,
-        judged: Option<&Judged<M>>,
-        control: &mut Control,
-        event: Event,
-    ) -> Result<Reply, Cause>
-        requires some { 0 < workers }
-        requires few { workers ≤ 64 }
-        requires walk { IfSome judged (λ _. event ≡ Walk) }
-        ensures yours { OnOk result (owner event ≡ None) }
-        ensures reply { IfOk result (λ given. given ≡ reply_to M.rules self.old.journal event) }
-        ensures journal { IfOk result (λ given. self.new.journal ≡ and_entry self.old.journal event given) }
-        ensures control { IfOk result (λ given. control.new ≡ control.old ++ next_entry self.old.journal.entries event given ∷ []) }
-        ensures left { OnOk result (length self.old.journal.entries < 1000000) }
-        ensures err { OnErr result ((control.new ≡ control.old) × AreSame self.old self.new) }
-        ensures not_yours { IfErr result (λ cause. (cause ≡ NotYours) ↔ (owner event ≢ None)) }
-        ensures full { IfErr result (λ cause. (cause ≡ Full) ↔ ((owner event ≡ None) × (1000000 ≤ length self.old.journal.entries))) }
-    {
-        if is_owned(event) {
-            return Err(Cause::NotYours);
-        }
-        let step = self.weigh_shared(rt, alloc, workers, gate, judged, event)?;
-        let reply = self.take_into(alloc, step, &mut control.entries)?;
-        Ok(reply)
     }
 
     /// An event, weighed on the engine; a walk by what was judged before, if it was; else a walk or a stop after a look at
@@ -142,10 +109,27 @@ impl<M: Consistency + Sync> Log<M> {
         ensures weighed { IfOk result (λ step. IsWeighed M.rules self.now.core step) }
         ensures event { IfOk result (λ step. step.event ≡ scan_event kind) }
     {
+        let found = self.look(rt, alloc, workers, gate, kind)?;
+        self.weigh_open(alloc, kind, found.as_slice())
+    }
+
+    /// What checks of this kind find, by several threads, of every waiting task whose group has no standing blame.
+    fn look<R: Threads + Sync, G: ScanGate + Sync>(
+        &self,
+        rt: &R,
+        alloc: Global,
+        workers: usize,
+        gate: &G,
+        kind: CheckKind,
+    ) -> Result<Vec<Verdict>, AllocError>
+        requires some { 0 < workers }
+        requires few { workers ≤ 64 }
+        ensures { IfOk result (λ found. found.items ≡ verdicts_among M.rules kind (state_in self.now.core) (is_open self.now.core)) }
+    {
         let views = self.core.open_views(alloc)?;
         let aim = self.core.aim();
         let model = self.core.model();
-        let found = scan_shared(
+        scan_shared(
             rt,
             alloc,
             workers,
@@ -154,8 +138,7 @@ impl<M: Consistency + Sync> Log<M> {
             kind,
             &aim,
             views.as_slice(),
-        )?;
-        self.weigh_open(alloc, kind, found.as_slice())
+        )
     }
 }
 

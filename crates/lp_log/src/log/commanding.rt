@@ -135,9 +135,10 @@ impl<M: Consistency + Sync> Log<M> {
         if is_owned(event) {
             return Err(Cause::NotYours);
         }
-        let step = self.weigh_shared(rt, alloc, workers, gate, judged, event)?;
-        let both = self.ready_with(alloc, step, sent)?;
-        Ok(both)
+        match self.weigh_shared(rt, alloc, workers, gate, judged, event) {
+            Ok(step) => self.ready_with(alloc, step, sent),
+            Err(halt) => Err(Cause::from(halt)),
+        }
     }
 
     /// Takes an event that was made ready, with the entry in the journal and at the control. Never allocates.

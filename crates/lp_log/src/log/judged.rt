@@ -88,7 +88,8 @@ impl<M: Consistency> Log<M> {
 
     /// Whether no number is left for one more event.
     pub(super) fn is_full(&self) -> bool
-        ensures { IsTrue result ↔ (1000000 ≤ length self.now.journal.entries) }
+        ensures journal { IsTrue result ↔ (1000000 ≤ length self.now.journal.entries) }
+        ensures number { IsTrue result ↔ (1000000 ≤ self.now.core.number) }
     {
         self.core.events() >= u64::from(MOST_EVENTS)
     }

@@ -1,15 +1,17 @@
 //! An event is made ready, which allocates all that it needs, and then taken, which never allocates.
-ghost use Rattle.std.specs.Prelude.{◌≡◌, ◌≤◌, ◌<◌, ◌↔◌, true, Err, IfOk, OnErr, OnOk, length};
+ghost use Rattle.std.specs.Prelude.{◌≡◌, ◌≤◌, ◌<◌, ◌↔◌, true, Err, IfOk, IfErr, OnErr, OnOk, length, vec_len, vec_capacity};
 ghost use Rattle.lp_transition.specs.Scan.{is_scan_kind, scan_event, verdicts_among, verdicts_of};
 ghost use Rattle.lp_transition.specs.Blames.{is_open};
 ghost use Rattle.lp_transition.specs.Table.{state_in};
 ghost use Rattle.lp_transition.specs.Weigh.{IsWeighed};
 ghost use Rattle.lp_transition.specs.declared.engine.step.Halt.TheVariants.{JournalFull};
+ghost use Rattle.lp_log.specs.declared.seat.Cause.TheVariants.{NoMemory};
 ghost use Rattle.lp_log.specs.Journals.{reply_to, and_entry};
 ghost use Rattle.lp_log.specs.Logs.{IsReady, AreSame};
 
 use super::Log;
 use crate::Entry;
+use crate::seat::Cause;
 use lp_model::{CheckKind, Consistency, Verdict};
 use lp_transition::{Event, Halt, Reply, Step};
 use std::alloc::{AllocError, Global};
@@ -41,13 +43,6 @@ impl Ready {
         ensures { result.now ≡ self.now }
     {
         &self.step
-    }
-
-    /// The answer, which isn't given yet.
-    pub(crate) fn reply(&self) -> &Reply
-        ensures { result.now ≡ self.now.reply }
-    {
-        self.step.reply()
     }
 }
 
@@ -117,6 +112,58 @@ impl<M: Consistency> Log<M> {
     {
         self.entries.reserve(1)?;
         reply.copy(alloc)
+    }
+
+    /// Allocates all that an event needs whose entry is added to a list of the sender's too; beside it the answer for that
+    /// list.
+    pub(super) fn ready_with(
+        &mut self,
+        alloc: Global,
+        step: Step,
+        sent: &mut Vec<Entry>,
+    ) -> Result<(Ready, Reply), Cause>
+        requires { IsWeighed M.rules self.old.core step }
+        ensures ready { IfOk result (λ both. IsReady M.rules self.new both.0) }
+        ensures step { IfOk result (λ both. both.0 ≡ step) }
+        ensures answer { IfOk result (λ both. both.1 ≡ step.reply) }
+        ensures room { OnOk result (vec_len sent.new < vec_capacity sent.new) }
+        ensures same { (sent.new.items ≡ sent.old.items) × AreSame self.old self.new }
+        ensures memory { IfErr result (λ cause. cause ≡ NoMemory) }
+    {
+        match self.reserved_with(alloc, step.reply(), sent) {
+            Ok((answer, other)) => Ok((Ready { step, answer }, other)),
+            Err(_) => {
+                drop(step);
+                Err(Cause::NoMemory)
+            }
+        }
+    }
+
+    /// Memory for one entry more here and in a list of the sender's, and the answer that each of the two will have.
+    fn reserved_with(
+        &mut self,
+        alloc: Global,
+        reply: &Reply,
+        sent: &mut Vec<Entry>,
+    ) -> Result<(Reply, Reply), AllocError>
+        ensures answers { IfOk result (λ both. (both.0 ≡ reply.now) × (both.1 ≡ reply.now)) }
+        ensures room { OnOk result ((0 < self.new.room) × (vec_len sent.new < vec_capacity sent.new)) }
+        ensures same { (sent.new.items ≡ sent.old.items) × AreSame self.old self.new }
+    {
+        self.room_with(sent)?;
+        let answer = reply.copy(alloc)?;
+        let other = reply.copy(alloc)?;
+        Ok((answer, other))
+    }
+
+    /// Memory for one entry more here and in a list of the sender's.
+    pub(super) fn room_with(&mut self, sent: &mut Vec<Entry>) -> Result<(), AllocError>
+        ensures room { OnOk result ((0 < self.new.room) × (vec_len sent.new < vec_capacity sent.new)) }
+        ensures same { (sent.new.items ≡ sent.old.items) × AreSame self.old self.new }
+    {
+        self.entries.reserve(1)?;
+        sent.reserve(1)?;
+        Ok(())
     }
 
     /// Takes an event that was made ready, and adds it to the journal with the answer. Never allocates.

@@ -123,9 +123,10 @@ impl<M: Consistency> Log<M> {
         if !is_own(event, task) {
             return Err(Cause::NotYours);
         }
-        let step = self.weigh(alloc, event)?;
-        let both = self.ready_with(alloc, step, sent)?;
-        Ok(both)
+        match self.weigh(alloc, event) {
+            Ok(step) => self.ready_with(alloc, step, sent),
+            Err(halt) => Err(Cause::from(halt)),
+        }
     }
 
     /// Takes an event that was made ready, with the entry in the journal and at the seat, and the seat of the child where a

@@ -1,21 +1,19 @@
 //! Events that are sent from seats and from the control.
 ghost use Rattle.std.specs.Prelude.{◌≡◌, ◌≢◌, ◌+◌, ◌≤◌, ◌<◌, ◌↔◌, [], ◌∷◌, ◌++◌, true, Some, None, Err, IfOk, IfErr, IfSome, IfNone, IsTrue, OnErr, OnOk, length, vec_len, vec_capacity};
-ghost use Rattle.lp_transition.specs.Scan.{is_scan_kind, scan_event};
-ghost use Rattle.lp_transition.specs.Events.{is_scan};
-ghost use Rattle.lp_transition.specs.Weigh.{IsWeighed};
-ghost use Rattle.lp_transition.specs.declared.engine.step.Halt.TheVariants.{JournalFull};
 ghost use Rattle.lp_log.specs.declared.seat.Cause.TheVariants.{NotYours, JournalFull as Full};
 ghost use Rattle.lp_log.specs.Journals.{IsReplayed, next_entry, reply_to, and_entry};
 ghost use Rattle.lp_log.specs.Logs.{AreSame, IsReady};
 ghost use Rattle.lp_log.specs.Seats.{owner, and_sent, child_seat};
+ghost use Rattle.lp_log.specs.inside.Plain.{is_calm};
+ghost use Rattle.lp_transition.specs.Table.{state_in};
 
 use super::{Log, Ready};
 use crate::Entry;
-use crate::seat::{Cause, Seat, Submitted, Turned};
+use crate::seat::{Seat, Submitted, Turned};
 use lp_model::Consistency;
 use lp_stack::TaskId;
-use lp_transition::{Event, Reply, Step, What};
-use std::alloc::{AllocError, Global};
+use lp_transition::{Event, Reply, What};
+use std::alloc::Global;
 
 impl<M: Consistency> Log<M> {
     /// Takes an event that is sent from a seat. The seat comes back with the entry, and with the seat of the child
@@ -26,7 +24,7 @@ impl<M: Consistency> Log<M> {
     pub fn submit(
         &mut self,
         alloc: Global,
-        mut seat: Seat,
+        seat: Seat,
         event: Event,
     ) -> Result<Submitted, Turned<Seat>>
         ensures yours { OnOk result (owner event ≡ Some seat.task) }
@@ -41,74 +39,43 @@ impl<M: Consistency> Log<M> {
         ensures not_yours { IfErr result (λ turned. (turned.cause ≡ NotYours) ↔ (owner event ≢ Some seat.task)) }
         ensures full { IfErr result (λ turned. (turned.cause ≡ Full) ↔ ((owner event ≡ Some seat.task) × (1000000 ≤ length self.old.journal.entries))) }
     {
+        if is_own(event, seat.task) && self.is_calm(event) {
+            return self.submit_calm(alloc, seat, event);
+        }
+        match self.prepare(alloc, seat, event) {
+            Ok(sending) => Ok(self.send(alloc, sending)),
+            Err(turned) => Err(turned),
+        }
+    }
+
+    /// Takes an event of the seat's task that switches nobody, without a step between.
+    fn submit_calm(
+        &mut self,
+        alloc: Global,
+        mut seat: Seat,
+        event: Event,
+    ) -> Result<Submitted, Turned<Seat>>
+        requires own { owner event ≡ Some seat.task }
+        requires calm { is_calm (state_in self.old.core) event ≡ true }
+        ensures reply { IfOk result (λ done. done.reply ≡ reply_to M.rules self.old.journal event) }
+        ensures journal { IfOk result (λ done. self.new.journal ≡ and_entry self.old.journal event done.reply) }
+        ensures seat { IfOk result (λ done. done.seat ≡ and_sent seat (next_entry self.old.journal.entries event done.reply)) }
+        ensures child { IfOk result (λ done. done.child ≡ child_seat event done.reply.what) }
+        ensures replayed { IsReplayed M.rules self.old.journal }
+        ensures left { OnOk result (length self.old.journal.entries < 1000000) }
+        ensures turned { IfErr result (λ turned. turned.part ≡ seat) }
+        ensures unchanged { OnErr result (AreSame self.old self.new) }
+        ensures yours { IfErr result (λ turned. turned.cause ≢ NotYours) }
+        ensures full { IfErr result (λ turned. (turned.cause ≡ Full) ↔ (1000000 ≤ length self.old.journal.entries)) }
+    {
         let _ = &self.core;
-        match self.take_from(alloc, &mut seat, event) {
+        match self.step_into(alloc, event, &mut seat.entries) {
             Ok(reply) => {
                 let child = child_seat(alloc, event, &reply.what);
                 Ok(Submitted { seat, reply, child })
             }
             Err(cause) => Err(Turned { part: seat, cause }),
         }
-    }
-
-    /// Takes an event of the seat's task.
-    fn take_from(&mut self, alloc: Global, seat: &mut Seat, event: Event) -> Result<Reply, Cause>
-        ensures yours { OnOk result (owner event ≡ Some seat.old.task) }
-        ensures reply { IfOk result (λ given. given ≡ reply_to M.rules self.old.journal event) }
-        ensures journal { IfOk result (λ given. self.new.journal ≡ and_entry self.old.journal event given) }
-        ensures seat { IfOk result (λ given. seat.new ≡ and_sent seat.old (next_entry self.old.journal.entries event given)) }
-        ensures left { OnOk result (length self.old.journal.entries < 1000000) }
-        ensures err { OnErr result ((seat.new ≡ seat.old) × AreSame self.old self.new) }
-        ensures not_yours { IfErr result (λ cause. (cause ≡ NotYours) ↔ (owner event ≢ Some seat.old.task)) }
-        ensures full { IfErr result (λ cause. (cause ≡ Full) ↔ ((owner event ≡ Some seat.old.task) × (1000000 ≤ length self.old.journal.entries))) }
-    {
-        if !is_own(event, seat.task) {
-            return Err(Cause::NotYours);
-        }
-        if self.is_calm(event) {
-            return self.step_into(alloc, event, &mut seat.entries);
-        }
-        let step = self.weigh(alloc, event)?;
-        let reply = self.take_into(alloc, step, &mut seat.entries)?;
-        Ok(reply)
-    }
-
-    /// Takes an event that was weighed, and adds its entry to a list of the sender's too.
-    pub(super) fn take_into(
-        &mut self,
-        alloc: Global,
-        step: Step,
-        sent: &mut Vec<Entry>,
-    ) -> Result<Reply, AllocError>
-        requires { IsWeighed M.rules self.old.core step }
-        ensures reply { IfOk result (λ given. given ≡ reply_to M.rules self.old.journal step.event) }
-        ensures journal { IfOk result (λ given. self.new.journal ≡ and_entry self.old.journal step.event given) }
-        ensures sent { IfOk result (λ given. sent.new.items ≡ sent.old.items ++ next_entry self.old.journal.entries step.event given ∷ []) }
-        ensures err { OnErr result ((sent.new.items ≡ sent.old.items) × AreSame self.old self.new) }
-    {
-        let (ready, answer) = self.ready_with(alloc, step, sent)?;
-        Ok(self.commit_into(ready, answer, sent))
-    }
-
-    /// Allocates all that an event needs whose entry is added to a list of the sender's too; beside it the answer for that
-    /// list.
-    pub(super) fn ready_with(
-        &mut self,
-        alloc: Global,
-        step: Step,
-        sent: &mut Vec<Entry>,
-    ) -> Result<(Ready, Reply), AllocError>
-        requires { IsWeighed M.rules self.old.core step }
-        ensures ready { IfOk result (λ both. IsReady M.rules self.new both.0) }
-        ensures step { IfOk result (λ both. both.0 ≡ step) }
-        ensures answer { IfOk result (λ both. both.1 ≡ step.reply) }
-        ensures room { OnOk result (vec_len sent.new < vec_capacity sent.new) }
-        ensures same { (sent.new.items ≡ sent.old.items) × AreSame self.old self.new }
-    {
-        let ready = self.ready(alloc, step)?;
-        let answer = ready.reply().copy(alloc)?;
-        sent.reserve(1)?;
-        Ok((ready, answer))
     }
 
     /// Takes an event that was made ready, and adds its entry to a list of the sender's too. Never allocates.

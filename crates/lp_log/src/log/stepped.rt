@@ -44,8 +44,9 @@ impl<M: Consistency> Log<M> {
         if self.is_full() {
             return Err(Cause::JournalFull);
         }
-        self.entries.reserve(1)?;
-        sent.reserve(1)?;
+        if self.room_with(sent).is_err() {
+            return Err(Cause::NoMemory);
+        }
         let number = self.next_number();
         let reply = self.step_reserved(alloc, event);
         sent.push_reserved(Entry::new(number, event, copy_of(&reply)));
