@@ -135,10 +135,13 @@ impl<N: DeskName> BoardReader<N> {
         ensures none { IfNone result (self.new ≡ self.old) }
     {
         let asked = (self.known.again(), task);
-        let (shown, prefix) = replace_with(&mut self.raw, asked, read_one::<N>)?;
-        self.seen = prefix.again();
-        self.known = prefix;
-        Some(shown)
+        match replace_with(&mut self.raw, asked, read_one::<N>) {
+            Some((shown, prefix)) => {
+                self.saw(prefix);
+                Some(shown)
+            }
+            None => None,
+        }
     }
 
     /// Where each live task stands, by increasing number, all at one moment. At `Err` the reader is as it was.
@@ -149,10 +152,21 @@ impl<N: DeskName> BoardReader<N> {
         ensures err { OnErr result (self.new ≡ self.old) }
     {
         let asked = (self.known.again(), alloc);
-        let (tasks, prefix) = replace_with(&mut self.raw, asked, read_all::<N>)?;
+        match replace_with(&mut self.raw, asked, read_all::<N>) {
+            Ok((tasks, prefix)) => {
+                self.saw(prefix);
+                Ok(tasks)
+            }
+            Err(fault) => Err(fault),
+        }
+    }
+
+    /// From now on it has seen these events, and knows no others.
+    fn saw(&mut self, prefix: Prefix<N>)
+        ensures { self.new ≡ record { seen = prefix; known = prefix } }
+    {
         self.seen = prefix.again();
         self.known = prefix;
-        Ok(tasks)
     }
 }
 

@@ -3,8 +3,8 @@ use mathlib.Core.List.{IsPrefix}
 use Rattle.lp_board.proofs.Prefixes.{prefix_trans}
 use Rattle.lp_board.proofs.reader.BoardReader.state_of.Goals as goal
 
-pub returns-clause-seen : goal.returns-clause-seen
-returns-clause-seen g c =
+pub returns-in-Some-clause-seen : goal.returns-in-Some-clause-seen
+returns-in-Some-clause-seen g c =
     let before : IsPrefix c.args.self.now.seen c.args.self.now.known = rw (← c.self.view_is) c.self.invariant in
-    let later : IsPrefix c.args.self.now.known c.again-2.result = search rules in
-    prefix_trans c.args.self.now.seen c.args.self.now.known c.again-2.result before later
+    let later : IsPrefix c.args.self.now.known c.saw.new.self.seen = search rules in
+    prefix_trans c.args.self.now.seen c.args.self.now.known c.saw.new.self.seen before later
