@@ -14,7 +14,7 @@ use Rattle.lp_transition.specs.Events.{is_control, is_scan}
 use Rattle.lp_transition.specs.Tasks.{Fate, on_live, first_of, change}
 use Rattle.lp_transition.specs.Leg.{Standing, State, Leg, some_live}
 use Rattle.lp_transition.specs.Run.{and_then, switched}
-use Rattle.lp_transition.specs.Scan.{is_scan_kind, scan_event, verdicts_of}
+use Rattle.lp_transition.specs.Scan.{is_scan_kind, scan_event, verdicts_of, member_verdict, first_refused}
 use Rattle.lp_transition.specs.inside.ScanSteps.{groups_of, is_found, switches_by}
 use Rattle.lp_transition.specs.Sound.{IsSound}
 use Rattle.lp_transition.specs.Machine.{waits_in, switches_at, switched_groups, switched_task, affected, with_switches, told, state_of, view_of}
@@ -30,7 +30,7 @@ use Rattle.lp_transition.proofs.ScanLists.{verdict-from}
 use Rattle.lp_transition.proofs.TableLemmas.{slot_from_live}
 use Rattle.lp_cert.specs.declared.line.Line.{Line}
 use Rattle.lp_cert.specs.Certificates.{lines, after_check, after_refusal}
-use Rattle.lp_transition.specs.Blames.{has_frame_in, member_verdict, first_refused, first_blamed_in}
+use Rattle.lp_transition.specs.Blames.{has_frame_in, first_blamed_in}
 use Rattle.lp_cert.specs.EventLines.{lines_after_scan}
 use Rattle.lp_cert.specs.inside.Waiters.{after_scan}
 use Rattle.lp_cert.proofs.NextLines.{lines_at_scan, lines_at_unused_scan}

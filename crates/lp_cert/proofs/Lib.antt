@@ -10,6 +10,7 @@ pub mod NextLines
 pub mod OtherEvents
 pub mod VerdictLines
 pub mod WaiterLemmas
+pub mod WholeScans
 pub mod MoreWaiters
 pub mod Behind
 pub mod BehindTasks
@@ -26,6 +27,7 @@ pub mod Keeping
 pub mod Making
 pub mod Ending
 pub mod Noted
+pub mod NotedBy
 pub mod Passed
 pub mod QuietScans
 pub mod Asked

@@ -106,6 +106,28 @@ module _ (model : Rules) (lawful : IsLawful model) (e : Engine) (sound : IsSound
   reply_is : step.reply ≡ reply model leg event
   reply_is = weighed.reply ∙ (ap (λ (s : State). answer model s event) there ∙ (does model leg event lawful leg_sound).answers)
 
+  -- ---- The leg under way as it is kept
+
+  module _ (noted : ℕ) (old : OpenLeg) (before : WaitingGroups) (was : open_end noted before old ≡ end_of model leg) (unended : old.completed ≡ None) where
+    was_still : open_end noted before (still old) ≡ end_of model leg
+    was_still = sym (ap (open_end noted before) (still_is old unended)) ∙ was
+
+    no_moment : completion model leg ≡ None
+    no_moment = none_map (λ m. leg.number + m) (completion model leg) (ap (λ (l : LegEnd). l.completed) was_still)
+
+    opened_same : old.opened ≡ leg.number
+    opened_same = ap (λ (l : LegEnd). l.opened) was_still
+
+    target_same : old.target.0 ≡ leg.target
+    target_same = ap (λ (l : LegEnd). l.target.0) was_still
+
+    -- the lines of who waits
+    pub lines_before : (g : ℕ) → g < 65536 → lines_at before g ≡ (if waits_in (state_in e) g then Some (lines model leg k g) else None)
+    lines_before g below =
+        certs_tell Waiting old.opened noted before Waiting leg.number (leg.number + k) (waits_in (state_of model leg)) (lines model leg k)
+        (ap (λ (l : LegEnd). l.certs) was_still ∙ (ap (certs_by model leg) no_moment ∙ waiting_are model leg tasks_are)) g below
+        ∙ ap (λ (s : State). if waits_in s g then Some (lines model leg k g) else None) (sym there)
+
   -- ---- No leg opens
 
   module _ (stays : opens model leg event ≡ false) where
@@ -141,7 +163,7 @@ module _ (model : Rules) (lawful : IsLawful model) (e : Engine) (sound : IsSound
     length_is = length-append leg.events (event ∷ []) ∙ omega arith
 
     module _ (noted number : ℕ) (old new : OpenLeg) (before later : WaitingGroups) (last_scan unchanged : LastScan) (numbered : number ≡ e.number + 1) (was : open_end noted before old ≡ end_of model leg) (gone : IsStepped model e step number old new before later)
-        (calm : AreUnchangedBy model (state_in e) (lines model leg k) last_scan) (suffices : Suffices model (state_in e) step last_scan) where
+        (calm : AreUnchangedBy model (state_in e) (lines model leg k) last_scan) (suffices : old.completed ≡ None → step.reply.completed ≡ false → Suffices model (state_in e) step last_scan) where
       -- a complete leg stays as it is
       complete_stays : (done : Completion) → old.completed ≡ Some done → open_end number later new ≡ end_of model (and_then leg event)
       complete_stays done is =
@@ -158,40 +180,21 @@ module _ (model : Rules) (lawful : IsLawful model) (e : Engine) (sound : IsSound
           ap₂ (λ (w : WaitingGroups) (l : OpenLeg). open_end number w l) kept.1 kept.0 ∙ (same ∙ (was ∙ ended))
 
       module _ (unended : old.completed ≡ None) where
-        was_still : open_end noted before (still old) ≡ end_of model leg
-        was_still = sym (ap (open_end noted before) (still_is old unended)) ∙ was
-
-        no_moment : completion model leg ≡ None
-        no_moment = none_map (λ m. leg.number + m) (completion model leg) (ap (λ (l : LegEnd). l.completed) was_still)
-
-        opened_same : old.opened ≡ leg.number
-        opened_same = ap (λ (l : LegEnd). l.opened) was_still
-
-        target_same : old.target.0 ≡ leg.target
-        target_same = ap (λ (l : LegEnd). l.target.0) was_still
-
-        -- the lines of who waits
-        lines_before : (g : ℕ) → g < 65536 → lines_at before g ≡ (if waits_in (state_in e) g then Some (lines model leg k g) else None)
-        lines_before g below =
-            certs_tell Waiting old.opened noted before Waiting leg.number (leg.number + k) (waits_in (state_of model leg)) (lines model leg k)
-            (ap (λ (l : LegEnd). l.certs) was_still ∙ (ap (certs_by model leg) no_moment ∙ waiting_are model leg tasks_are)) g below
-            ∙ ap (λ (s : State). if waits_in s g then Some (lines model leg k g) else None) (sym there)
-
         completes_now : step.reply.completed ≡ true → open_end number later new ≡ end_of model (and_then leg event)
         completes_now now =
             let done = gone.completes unended now in
             let floor = done.0 in
-            let unchanged : is_complete_now model (and_then leg event) ≡ true = sym (completes_is (incomplete_if model lawful leg leg_sound no_moment)) ∙ now in
-            let moment : completion model (and_then leg event) ≡ Some (suc k) = completion_now model lawful leg leg_sound event no_moment true unchanged in
+            let unchanged : is_complete_now model (and_then leg event) ≡ true = sym (completes_is (incomplete_if model lawful leg leg_sound (no_moment noted old before was unended))) ∙ now in
+            let moment : completion model (and_then leg event) ≡ Some (suc k) = completion_now model lawful leg leg_sound event (no_moment noted old before was unended) true unchanged in
             let at : number ≡ leg.number + suc k = omega (arith, numbered, number_is) in
             let upto : number - 1 ≡ leg.number + k = omega (arith, at) in
             let certs : map (kept_cert Floor old.opened (number - 1) before.reasons.lists before.reasons.scans) (floor_waiters before.reasons floor) ≡ certs_by model (and_then leg event) (Some (suc k)) =
-            ap₂ (λ a b. map (kept_cert Floor a b before.reasons.lists before.reasons.scans) (floor_waiters before.reasons floor)) opened_same upto
-            ∙ (floor_from leg.number (leg.number + k) before floor done.3 done.4 (waits_in (state_in e)) (lines model leg k) lines_before
+            ap₂ (λ a b. map (kept_cert Floor a b before.reasons.lists before.reasons.scans) (floor_waiters before.reasons floor)) (opened_same noted old before was unended) upto
+            ∙ (floor_from leg.number (leg.number + k) before floor done.3 done.4 (waits_in (state_in e)) (lines model leg k) (lines_before noted old before was unended)
             ∙ (ap (λ (s : State). map (cert_for Floor leg.number (leg.number + k) (lines model leg k)) (take 1 (filter (waits_in s) (range_with_len 0 65536)))) there
             ∙ (sym (floor_are model leg tasks_are) ∙ sym (past_floor model leg event k (omega arith))))) in
             ap₂ (λ (w : WaitingGroups) (l : OpenLeg). open_end number w l) done.2 done.1
-            ∙ (ap₂ (λ (a b : ℕ). let l : LegEnd = record { opened = a; target = record { 0 = b }; completed = Some number; certs = map (kept_cert Floor old.opened (number - 1) before.reasons.lists before.reasons.scans) (floor_waiters before.reasons floor) } in l) opened_same target_same
+            ∙ (ap₂ (λ (a b : ℕ). let l : LegEnd = record { opened = a; target = record { 0 = b }; completed = Some number; certs = map (kept_cert Floor old.opened (number - 1) before.reasons.lists before.reasons.scans) (floor_waiters before.reasons floor) } in l) (opened_same noted old before was unended) (target_same noted old before was unended)
             ∙ ap₂ (λ (o : Option ℕ) (cs : List Cert). let l : LegEnd = record { opened = leg.number; target = record { 0 = leg.target }; completed = o; certs = cs } in l)
             (ap {A = ℕ} {B = Option ℕ} Some at ∙ ap (option_map (λ m. leg.number + m)) (sym moment))
             (certs ∙ ap (certs_by model (and_then leg event)) (sym moment)))
@@ -199,24 +202,24 @@ module _ (model : Rules) (lawful : IsLawful model) (e : Engine) (sound : IsSound
         pub after_lines : step.reply.completed ≡ false → (g : ℕ) → g < 65536 → lines_at later g ≡ (if waits_in (state_of model (and_then leg event)) g then Some (lines model (and_then leg event) (length (and_then leg event).events) g) else None)
         after_lines now g below =
             let on = gone.continues unended now in
-            let few : refusal_of model (state_in e) event ≡ None → IsFew model lawful e sound leg leg_sound there before lines_before event =
+            let few : refusal_of model (state_in e) event ≡ None → IsFew model lawful e sound leg leg_sound there before (lines_before noted old before was unended) event =
             λ ok p c how is. subst (HasFewGroups e) is (on.2 (refused_is ∙ ok)) in
             on.1 g
-            ∙ (step_lines model lawful e sound leg leg_sound there before lines_before step weighed last_scan calm suffices on.3 plain few g below
+            ∙ (step_lines model lawful e sound leg leg_sound there before (lines_before noted old before was unended) step weighed last_scan calm (suffices unended now) on.3 plain few g below
             ∙ ap₂ (λ (s : State) (m : ℕ). if waits_in s g then Some (lines model (and_then leg event) m g) else None) state_is (sym length_is))
 
         continues_now : step.reply.completed ≡ false → open_end number later new ≡ end_of model (and_then leg event)
         continues_now now =
             let on = gone.continues unended now in
-            let changed_since : is_complete_now model (and_then leg event) ≡ false = sym (completes_is (incomplete_if model lawful leg leg_sound no_moment)) ∙ now in
-            let moment : completion model (and_then leg event) ≡ None = completion_now model lawful leg leg_sound event no_moment false changed_since in
+            let changed_since : is_complete_now model (and_then leg event) ≡ false = sym (completes_is (incomplete_if model lawful leg leg_sound (no_moment noted old before was unended))) ∙ now in
+            let moment : completion model (and_then leg event) ≡ None = completion_now model lawful leg leg_sound event (no_moment noted old before was unended) false changed_since in
             let upto : number ≡ leg.number + length (and_then leg event).events = omega (arith, numbered, number_is, length_is) in
             let certs : map (kept_cert Waiting old.opened number later.reasons.lists later.reasons.scans) (waiters_of later) ≡ waiting_certs model (and_then leg event) (length (and_then leg event).events) =
-            ap₂ (λ a b. map (kept_cert Waiting a b later.reasons.lists later.reasons.scans) (waiters_of later)) opened_same upto
+            ap₂ (λ a b. map (kept_cert Waiting a b later.reasons.lists later.reasons.scans) (waiters_of later)) (opened_same noted old before was unended) upto
             ∙ (certs_from Waiting leg.number (leg.number + length (and_then leg event).events) later (waits_in (state_of model (and_then leg event))) (lines model (and_then leg event) (length (and_then leg event).events)) (after_lines now)
             ∙ sym (waiting_are model (and_then leg event) tasks_are)) in
             ap (open_end number later) (on.0 ∙ still_is old unended)
-            ∙ (ap₂ (λ (a b : ℕ). let l : LegEnd = record { opened = a; target = record { 0 = b }; completed = None; certs = map (kept_cert Waiting old.opened number later.reasons.lists later.reasons.scans) (waiters_of later) } in l) opened_same target_same
+            ∙ (ap₂ (λ (a b : ℕ). let l : LegEnd = record { opened = a; target = record { 0 = b }; completed = None; certs = map (kept_cert Waiting old.opened number later.reasons.lists later.reasons.scans) (waiters_of later) } in l) (opened_same noted old before was unended) (target_same noted old before was unended)
             ∙ ap₂ (λ (o : Option ℕ) (cs : List Cert). let l : LegEnd = record { opened = leg.number; target = record { 0 = leg.target }; completed = option_map (λ m. leg.number + m) o; certs = cs } in l)
             (sym moment)
             (certs ∙ ap (certs_by model (and_then leg event)) (sym moment)))
@@ -239,7 +242,7 @@ module _ (model : Rules) (lawful : IsLawful model) (e : Engine) (sound : IsSound
               (λ (now : step.reply.completed ≡ false).
               let further = on.continues is now in
               subst unchanged_at (sym length_is)
-              (unchanged_on model lawful e sound leg leg_sound there step stays last_scan unchanged later further.1 suffices calm further.0
+              (unchanged_on model lawful e sound leg leg_sound there step stays last_scan unchanged later further.1 weighed.verdicts (suffices is now) calm further.0
               (λ g below. after_lines is now g below ∙ ap (λ m. if waits_in (state_of model (and_then leg event)) g then Some (lines model (and_then leg event) m g) else None) length_is)))
               (cases_Bool step.reply.completed)
 
@@ -348,7 +351,7 @@ module _ (model : Rules) where
   none_before [] leg e = refl
   none_before (first ∷ rest) leg e = absurd (cc)
 
-  some_before : (before : List Leg) (leg : Leg) (end : LegEnd) → Some end ≡ option_map (end_of model) (under_way model before leg) → (end ≡ end_of model leg) × ((other : Leg) → under_way model before other ≡ Some other)
+  pub some_before : (before : List Leg) (leg : Leg) (end : LegEnd) → Some end ≡ option_map (end_of model) (under_way model before leg) → (end ≡ end_of model leg) × ((other : Leg) → under_way model before other ≡ Some other)
   some_before [] leg end e = absurd (cc)
   some_before (first ∷ rest) leg end e = let same : end ≡ end_of model leg = cc in (same, λ other. refl)
 
@@ -417,7 +420,7 @@ module _ (model : Rules) (lawful : IsLawful model) (run : Run) (e : Engine) (sta
           }
 
       pub still_made : (noted number : ℕ) (leg later_leg : OpenLeg) (before later : WaitingGroups) → number ≡ e.number + 1 → IsStepped model e step number leg later_leg before later
-          → Suffices model (state_in e) step made.last_scan → (unchanged_next ⊎ IsUnchangedOn model e step leg later made.last_scan new.last_scan) → made.current ≡ Some (open_end noted before leg) → new.current ≡ Some (open_end number later later_leg) → IsMadeOf model (plus run step.event) new
+          → (leg.completed ≡ None → step.reply.completed ≡ false → Suffices model (state_in e) step made.last_scan) → (unchanged_next ⊎ IsUnchangedOn model e step leg later made.last_scan new.last_scan) → made.current ≡ Some (open_end noted before leg) → new.current ≡ Some (open_end number later later_leg) → IsMadeOf model (plus run step.event) new
       still_made noted number leg later_leg before later numbered gone suffices unchanged old now =
           let was = some_before model (ended_legs model (first_leg model run) run.events) (leg_of model run) (open_end noted before leg) (sym old ∙ is.current) in
           let went = went_on model lawful e engine_sound (leg_of model run) present_sound stands.there step weighed (opens_if false stays) noted number leg later_leg before later made.last_scan new.last_scan numbered was.0 gone was_unchanged suffices in
@@ -434,7 +437,7 @@ module _ (model : Rules) (lawful : IsLawful model) (run : Run) (e : Engine) (sta
 
       -- the lines of who waits in the run's leg with the event more
       pub lines_after : (noted number : ℕ) (leg later_leg : OpenLeg) (before later : WaitingGroups) → number ≡ e.number + 1 → IsStepped model e step number leg later_leg before later
-          → Suffices model (state_in e) step made.last_scan → made.current ≡ Some (open_end noted before leg) → leg.completed ≡ None → step.reply.completed ≡ false
+          → (leg.completed ≡ None → step.reply.completed ≡ false → Suffices model (state_in e) step made.last_scan) → made.current ≡ Some (open_end noted before leg) → leg.completed ≡ None → step.reply.completed ≡ false
           → (g : ℕ) → g < 65536 → lines_at later g
           ≡ (if waits_in (state_of model (and_then (leg_of model run) step.event)) g then Some (lines model (and_then (leg_of model run) step.event) (suc (length (leg_of model run).events)) g) else None)
       lines_after noted number leg later_leg before later numbered gone suffices old unended incomplete g below =

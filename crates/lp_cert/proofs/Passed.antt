@@ -33,7 +33,7 @@ use Rattle.lp_cert.specs.inside.Invariant.{IsStepped}
 use Rattle.lp_cert.specs.Waiters.{WaitingGroups}
 use Rattle.lp_cert.specs.inside.Waiters.{AreStanding, lines_at, HasFewGroups, own_lines}
 use Rattle.lp_cert.specs.inside.StepLines.{noted_by, noted_lines}
-use Rattle.lp_cert.specs.LastScan.{AreUnchangedBy, AreThoseOf, Suffices, used_scan}
+use Rattle.lp_cert.specs.LastScan.{AreUnchangedBy, TellOfChanged, Suffices, used_scan}
 use Rattle.lp_cert.specs.inside.LastScan.{IsTouched}
 use Rattle.lp_cert.proofs.UnchangedSteps.{no_scan, none_unchanged}
 use Rattle.lp_cert.proofs.Touching.{touched_unchanged}
@@ -162,14 +162,14 @@ module _ (model : Rules) (lawful : IsLawful model) (run : Run) (e : Engine) (sta
 
   module _ (made new : Made) (is : IsMadeOf model run made) (ended : new.ended ≡ made.ended) (noted number : ℕ) (waiters : WaitingGroups) (numbered : number ≡ e.number + 1) where
     suffices : Suffices model (state_in e) step made.last_scan
-    suffices = subst (λ (o : Option CheckKind). AreThoseOf model (state_in e) o [] made.last_scan) (sym (no_used model event plain)) tt
+    suffices = subst (λ (o : Option CheckKind). TellOfChanged (state_in e) o [] made.last_scan) (sym (no_used model event plain)) tt
 
     -- what is made of the run with the event more
     with_unchanged : unchanged_next model lawful run e stands step weighed made new is opens_none ended → (current : Option OpenLeg) → made.current ≡ option_map (open_end noted waiters) current → new.current ≡ option_map (open_end number waiters) current
         → IsMadeOf model (plus run event) new
     with_unchanged unchanged None was later = none_made model lawful run e stands step weighed made new is opens_none ended was later unchanged
     with_unchanged unchanged (Some leg) was later =
-        still_made model lawful run e stands step weighed made new is opens_none ended noted number leg leg waiters waiters numbered (continues number leg waiters) suffices (inl unchanged) was later
+        still_made model lawful run e stands step weighed made new is opens_none ended noted number leg leg waiters waiters numbered (continues number leg waiters) (λ unended now. suffices) (inl unchanged) was later
 
     -- where no group is unchanged any longer
     pub passed_calm : new.last_scan.kind ≡ None → (current : Option OpenLeg) → made.current ≡ option_map (open_end noted waiters) current → new.current ≡ option_map (open_end number waiters) current → IsMadeOf model (plus run event) new
@@ -187,5 +187,5 @@ module _ (model : Rules) (lawful : IsLawful model) (run : Run) (e : Engine) (sta
         unchanged =
             subst (λ m. AreUnchangedBy model (state_of model (and_then (leg_of model run) event)) (lines model (and_then (leg_of model run) event) m) new.last_scan) (sym (length-append (leg_of model run).events (event ∷ []) ∙ omega arith))
             (touched_unchanged model lawful e (leg_of model run) (present_sound model lawful run e stands) stands.there event stays_open (no_scan model event (no_used model event plain)) made.last_scan new.last_scan waiters touched stand
-            (lines_after model lawful run e stands step weighed made new is opens_none ended noted number leg leg waiters waiters numbered (continues number leg waiters) suffices was unended (still model (state_in e) event plain).0)
+            (lines_after model lawful run e stands step weighed made new is opens_none ended noted number leg leg waiters waiters numbered (continues number leg waiters) (λ still now. suffices) was unended (still model (state_in e) event plain).0)
             is.unchanged)

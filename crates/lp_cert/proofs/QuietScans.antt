@@ -13,14 +13,12 @@ use Rattle.lp_transition.specs.Steps.{StandsIn}
 use Rattle.lp_transition.specs.Table.{Engine, state_in}
 use Rattle.lp_transition.specs.Weigh.{IsWeighed}
 use Rattle.lp_transition.proofs.AskedScans.{asked_none}
-use Rattle.lp_transition.proofs.GroupsTold.{tell_among}
-use Rattle.lp_transition.specs.Blames.{TellOf}
 use Rattle.lp_transition.proofs.QuietScans.{quiet_step, quiet_weighed}
 use Rattle.lp_cert.specs.declared.open_leg.OpenLeg.{OpenLeg}
 use Rattle.lp_cert.specs.Certificates.{lines}
 use Rattle.lp_cert.specs.Ends.{Made, IsMadeOf, is_opening}
 use Rattle.lp_cert.specs.Invariant.{open_end}
-use Rattle.lp_cert.specs.LastScan.{LastScan, AreUnchangedBy, AreUnchangedSince, AreThoseOf, Suffices, used_scan}
+use Rattle.lp_cert.specs.LastScan.{LastScan, AreUnchangedBy, AreUnchangedSince, TellOfChanged, Suffices, used_scan}
 use Rattle.lp_cert.specs.Waiters.{WaitingGroups}
 use Rattle.lp_cert.specs.inside.Invariant.{IsStepped, IsUnchangedOn}
 use Rattle.lp_cert.specs.inside.StepLines.{noted_by}
@@ -93,12 +91,8 @@ module _ (model : Rules) (lawful : IsLawful model) (run : Run) (e : Engine) (sta
 
     suffices : Suffices model (state_in e) (quiet_step on) made.last_scan
     suffices =
-        subst (λ (o : Option CheckKind). AreThoseOf model (state_in e) o [] made.last_scan) (sym is_used)
-        (inr (
-          told,
-          subst (λ (asked : ℕ → Bool). TellOf model on (state_in e) asked []) (sym none_changed)
-              (subst (TellOf model on (state_in e) (λ group. false)) (sym (asked_none model on (state_in e))) (tell_among model (state_in e) (engine_sound model lawful run e stands) on (λ group. false))),
-        ))
+        subst (λ (o : Option CheckKind). TellOfChanged (state_in e) o [] made.last_scan) (sym is_used)
+        (λ t x live off. inr (told, ap (λ (asked : ℕ → Bool). asked x.group) none_changed))
 
     unchanged_on : IsUnchangedOn model e (quiet_step on) leg later made.last_scan new.last_scan
     unchanged_on = record {
@@ -115,4 +109,4 @@ module _ (model : Rules) (lawful : IsLawful model) (run : Run) (e : Engine) (sta
 
     -- what is made of the run with the scan more
     pub quiet_made : made.current ≡ Some (open_end noted before leg) → new.current ≡ Some (open_end number later leg) → IsMadeOf model (plus run (scan_event on)) new
-    quiet_made old now = still_made model lawful run e stands (quiet_step on) weighed made new is (opens_none on) ended noted number leg leg before later numbered gone suffices (inr unchanged_on) old now
+    quiet_made old now = still_made model lawful run e stands (quiet_step on) weighed made new is (opens_none on) ended noted number leg leg before later numbered gone (λ unfinished now. suffices) (inr unchanged_on) old now

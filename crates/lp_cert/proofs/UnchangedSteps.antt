@@ -15,22 +15,24 @@ use Rattle.lp_transition.specs.Leg.{Standing, State, Leg}
 use Rattle.lp_transition.specs.Run.{and_then, opens}
 use Rattle.lp_transition.specs.Sound.{IsSound}
 use Rattle.lp_transition.specs.Machine.{view_of, waits_in, state_of}
-use Rattle.lp_transition.specs.Scan.{is_scan_kind, scan_event, verdict_of, verdicts_of}
+use Rattle.lp_transition.specs.Scan.{is_scan_kind, scan_event, verdict_of, verdicts_of, is_of, AreEnough}
 use mathlib.Core.Path.{fun_ext}
 use Rattle.lp_transition.specs.Table.{Engine, fate_at, slot, state_in}
 use Rattle.lp_transition.specs.inside.Table.{is_in}
-use Rattle.lp_transition.specs.Weigh.{Weighed}
+use Rattle.lp_transition.specs.Weigh.{Weighed, AreVerdictsFor}
 use Rattle.lp_transition.proofs.ScanLists.{verdict-is, verdict-from}
 use Rattle.lp_transition.proofs.TableLemmas.{slot_from_live}
+use Rattle.lp_transition.proofs.Admitted.{enough_for}
+use Rattle.lp_cert.proofs.ScanTold.{told_unchanged}
 use Rattle.lp_cert.specs.declared.line.Line.{Line}
 use Rattle.lp_cert.specs.declared.ongoing.Ongoing.{Ongoing}
 use Rattle.lp_cert.specs.declared.ongoing.Ongoing.TheVariants.{Nothing, Hold, Busy}
 use Rattle.lp_cert.specs.inside.Heads.{is_busy}
 use Rattle.lp_cert.specs.Certificates.{lines, group_id}
 use Rattle.lp_cert.specs.Unchanged.{Continues, IsUnchanged, AreUnchanged, says_busy}
-use Rattle.lp_cert.specs.LastScan.{LastScan, AreUnchangedBy, AreUnchangedSince, AreThoseOf, Suffices, used_kind, used_scan}
+use Rattle.lp_cert.specs.LastScan.{LastScan, AreUnchangedBy, AreUnchangedSince, TellOfChanged, Suffices, used_kind, used_scan}
 use Rattle.lp_cert.specs.inside.LastScan.{AreKeptApart, IsLastScanAfter, continues_by as reason_goes_by, is_of_group, is_refused_in, leaves_unchanged, refuses_as_before}
-use Rattle.lp_transition.specs.Blames.{TellOf, has_frame_in, is_of}
+use Rattle.lp_transition.specs.Blames.{has_frame_in}
 use Rattle.lp_cert.specs.Waiters.{LegReasons, WaitingGroups, head_of}
 use Rattle.lp_cert.specs.inside.Waiters.{AreStanding, lines_at}
 use Rattle.lp_cert.proofs.HeadLemmas.{busy_blame}
@@ -69,12 +71,12 @@ no_scan model event none kind.KernelExit scan is = absurd (false≢true scan)
 no_scan model event none kind.IdlePoint scan is = absurd (false≢true scan)
 
 -- a scan of a kind that the model uses
-record IsUsedScan (model : Rules) (event : Event) (on : CheckKind) : Type 0 where
-  is : event ≡ scan_event on
-  scan : is_scan_kind on ≡ true
-  used : IsTrue (model.uses on)
+pub record IsUsedScan (model : Rules) (event : Event) (on : CheckKind) : Type 0 where
+  pub is : event ≡ scan_event on
+  pub scan : is_scan_kind on ≡ true
+  pub used : IsTrue (model.uses on)
 
-scan_is : (model : Rules) (event : Event) (on : CheckKind) → used_scan model event ≡ Some on → IsUsedScan model event on
+pub scan_is : (model : Rules) (event : Event) (on : CheckKind) → used_scan model event ≡ Some on → IsUsedScan model event on
 scan_is model Walk on some =
     let told = used_some model kind.Walk on some in
     subst (IsUsedScan model Walk) told.0 (record { is = refl; scan = refl; used = told.1 })
@@ -181,7 +183,7 @@ fate_is g None true = refl
 fate_is g None false = refl
 fate_is g (Some x) used = refl
 
-of_member : (e : Engine) (g : ℕ) (vs : List Verdict) → list_any (is_of (state_in e) g) vs ≡ list_any (is_of_group e g) vs
+pub of_member : (e : Engine) (g : ℕ) (vs : List Verdict) → list_any (is_of (state_in e) g) vs ≡ list_any (is_of_group e g) vs
 of_member e g vs = ap (λ test. list_any test vs) (fun_ext (λ v. fate_is g (slot e.table v.task.0) (has e.table.used v.task.0)))
 
 any_filtered : (p q : Verdict → Bool) (vs : List Verdict) → list_any q (filter p vs) ≡ true → list_any q vs ≡ true
@@ -196,7 +198,7 @@ any_filtered p q (v ∷ vs) h = by (any_filtered p q vs) (p v) refl (q v) refl
 -- ---- An event that opens no leg
 
 module _ (model : Rules) (lawful : IsLawful model) (e : Engine) (sound : IsSound (state_in e)) (leg : Leg) (leg_sound : IsSound leg.opening) (there : state_in e ≡ state_of model leg) (step : Weighed)
-    (stays : opens model leg step.event ≡ false) (old new : LastScan) (later : WaitingGroups) (further : IsLastScanAfter model e step.event step.verdicts later.reasons old new) (suffices : Suffices model (state_in e) step old)
+    (stays : opens model leg step.event ≡ false) (old new : LastScan) (later : WaitingGroups) (further : IsLastScanAfter model e step.event step.verdicts later.reasons old new) (given : AreVerdictsFor model (state_in e) step.event step.verdicts) (suffices : Suffices model (state_in e) step old)
     (was : AreUnchangedBy model (state_in e) (lines model leg (length leg.events)) old) (stand : AreStanding later)
     (after_lines : (g : ℕ) → g < 65536 → lines_at later g ≡ (if waits_in (state_of model (and_then leg step.event)) g then Some (lines model (and_then leg step.event) (suc (length leg.events)) g) else None)) where
   abbrev s : State
@@ -208,43 +210,20 @@ module _ (model : Rules) (lawful : IsLawful model) (e : Engine) (sound : IsSound
   abbrev n : ℕ
   n = length leg.events
 
-  was_since : (o : Option CheckKind) → old.kind ≡ o → AreUnchangedSince model s (lines model leg n) o (has old.changed_since)
-  was_since o e2 = subst (λ (k : Option CheckKind). AreUnchangedSince model s (lines model leg n) k (has old.changed_since)) e2 was
-
   -- ---- A scan that the model uses
 
-  module _ (on : CheckKind) (is_scan : IsUsedScan model step.event on) (told : AreThoseOf model s (Some on) step.verdicts old) (apart : AreKeptApart model on e later.reasons step.verdicts new.changed_since) where
-    abbrev all : List Verdict
-    all = verdicts_of model on s
-
-    -- the verdict of a task that waits is a member's of its group
-    of_group : (t : ℕ) (x : Standing) → s.tasks t ≡ Live x → is_of_group e x.group (verdict_of model on s.aim (view_of t x)) ≡ true
-    of_group t x live = ap (is_in x.group) (slot_from_live e.table t x live) ∙ eq-eqb x.group x.group refl
-
+  module _ (on : CheckKind) (is_scan : IsUsedScan model step.event on) (enough : AreEnough model on s step.verdicts) (told : TellOfChanged s (Some on) step.verdicts old) (apart : AreKeptApart model on e later.reasons step.verdicts new.changed_since) where
     -- a group of which no member was looked at was unchanged before
     was_unchanged : (t : ℕ) (x : Standing) → s.tasks t ≡ Live x → nat_eq x.level s.target ≡ false → list_any (is_of_group e x.group) step.verdicts ≡ false → IsUnchanged model on s (lines model leg n x.group) x.group
     was_unchanged t x live off none =
         ⊎_elim
-        (λ (whole : step.verdicts ≡ all).
-        let bounds = sound.numbered t x live in
-        let some : list_any (is_of_group e x.group) all ≡ true =
-        verdict-from model on s (is_of_group e x.group) (record { number = t; task = x; live = live; off = off; passed = of_group t x live }) bounds.0 bounds.1 in
-        absurd (false≢true (sym none ∙ (ap (list_any (is_of_group e x.group)) whole ∙ some))))
-        (λ (part : (old.kind ≡ Some on) × TellOf model on s (has old.changed_since) step.verdicts). was_since (Some on) part.0 t x live off (left part.1 (has old.changed_since x.group) refl))
-        told
-      where
-        left : TellOf model on s (has old.changed_since) step.verdicts → (b : Bool) → has old.changed_since x.group ≡ b → has old.changed_since x.group ≡ false
-        left part false asked = asked
-        left part true asked = absurd (false≢true (sym none ∙ (sym (of_member e x.group step.verdicts) ∙ part.each t x live off asked)))
+        (λ (some : list_any (is_of s x.group) step.verdicts ≡ true). absurd (false≢true (sym none ∙ (sym (of_member e x.group step.verdicts) ∙ some))))
+        (λ (kept : IsUnchanged model on s (lines model leg n x.group) x.group). kept)
+        (told_unchanged model s (lines model leg n) old was on step.verdicts told t x live off)
 
     by_verdict : (g : ℕ) → list_any (leaves_unchanged model on e later.reasons g) step.verdicts ≡ true → Settles model on e later.reasons g
     by_verdict g some =
-        let found : list_any (leaves_unchanged model on e later.reasons g) all ≡ true =
-        ⊎_elim
-        (λ (whole : step.verdicts ≡ all). ap (list_any (leaves_unchanged model on e later.reasons g)) (sym whole) ∙ some)
-        (λ (part : (old.kind ≡ Some on) × TellOf model on s (has old.changed_since) step.verdicts).
-        any_filtered (λ v. part.1.looked v.task.0) (leaves_unchanged model on e later.reasons g) all (ap (list_any (leaves_unchanged model on e later.reasons g)) (sym part.1.found) ∙ some))
-        told in
+        let found = any_filtered (λ v. enough.looked v.task.0) (leaves_unchanged model on e later.reasons g) (verdicts_of model on s) (ap (list_any (leaves_unchanged model on e later.reasons g)) (sym enough.found) ∙ some) in
         let j = verdict-is model on s (leaves_unchanged model on e later.reasons g) found in
         let blame = model.blame on (view_of j.number j.task) s.aim in
         leaves_unchanged_is model on e later.reasons g j.number j.task j.live blame refl
@@ -316,6 +295,8 @@ module _ (model : Rules) (lawful : IsLawful model) (e : Engine) (sound : IsSound
       by : (o : Option CheckKind) → used_scan model step.event ≡ o → AreUnchangedBy model (state_of model longer) (lines model longer (suc n)) new
       by None is = touched_unchanged model lawful e leg leg_sound there step.event stays (no_scan model step.event is) old new later (further.others is) stand after_lines (subst (λ (st : State). AreUnchangedBy model st (lines model leg n) old) there was)
       by (Some on) is =
+          let scan = scan_is model step.event on is in
+          let enough = enough_for model s on step.verdicts scan.scan (subst (λ (event : Event). AreVerdictsFor model s event step.verdicts) scan.is given) in
           let after = further.scan on is in
           subst (λ (o : Option CheckKind). AreUnchangedSince model (state_of model longer) (lines model longer (suc n)) o (has new.changed_since)) (sym after.0)
-          (scanned_unchanged on (scan_is model step.event on is) (subst (λ (o : Option CheckKind). AreThoseOf model s o step.verdicts old) is suffices) after.1)
+          (scanned_unchanged on scan enough (subst (λ (o : Option CheckKind). TellOfChanged s o step.verdicts old) is suffices) after.1)

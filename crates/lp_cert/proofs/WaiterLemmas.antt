@@ -18,7 +18,8 @@ use Rattle.lp_cert.specs.declared.ongoing.Ongoing.TheVariants.{Nothing}
 use Rattle.lp_cert.specs.Certificates.{group_id, after_refusal}
 use Rattle.lp_cert.specs.Heads.{ongoing_reasons, head_lines, lines_of}
 use Rattle.lp_cert.specs.inside.Heads.{FitsIn, IsUnchecked, IsHead, Keeps, HasFrameAs, IsRefusedBy}
-use Rattle.lp_transition.specs.Blames.{has_frame_in, member_verdict, first_refused}
+use Rattle.lp_transition.specs.Blames.{has_frame_in}
+use Rattle.lp_transition.specs.Scan.{member_verdict, first_refused}
 use Rattle.lp_cert.specs.Waiters.{LegReasons, head_of}
 use Rattle.lp_cert.specs.inside.Waiters.{lines_in, StandsAt, IsRefusedOnce, IsJudged, AreJudged, is_left, lines_at, after_verdict, scanned_lines}
 use Rattle.lp_cert.proofs.HeadLemmas.{head_further}

@@ -1,5 +1,6 @@
 -- What is kept of the groups that a scan needn't look at again.
-use Rattle.std.specs.Prelude.{◌≡◌, ◌⊎◌, ℕ, Bool, List, Option, Some, None, if◌then◌else◌}
+use Rattle.std.specs.Prelude.{◌≡◌, ◌⊎◌, ℕ, Bool, true, false, List, Option, Some, None, if◌then◌else◌, nat_eq}
+use Rattle.std.specs.List.{list_any}
 use Rattle.lp_numbers.specs.Numbers.{Numbers, has}
 use Rattle.lp_model.specs.Rules.{Rules}
 use Rattle.lp_model.specs.declared.check.CheckKind.{CheckKind}
@@ -7,9 +8,9 @@ use Rattle.lp_model.specs.declared.check.CheckKind.TheVariants as check
 use Rattle.lp_model.specs.declared.verdict.Verdict.{Verdict}
 use Rattle.lp_transition.specs.declared.event.Event.{Event}
 use Rattle.lp_transition.specs.declared.event.Event.TheVariants.{Walk, Stop}
-use Rattle.lp_transition.specs.Leg.{State}
-use Rattle.lp_transition.specs.Blames.{TellOf}
-use Rattle.lp_transition.specs.Scan.{verdicts_of}
+use Rattle.lp_transition.specs.Tasks.{Live}
+use Rattle.lp_transition.specs.Leg.{Standing, State}
+use Rattle.lp_transition.specs.Scan.{is_of}
 use Rattle.lp_transition.specs.Weigh.{Weighed}
 use Rattle.lp_cert.specs.declared.line.Line.{Line}
 use Rattle.lp_cert.specs.Unchanged.{AreUnchanged}
@@ -27,13 +28,13 @@ AreUnchangedSince model s lines (Some kind) changed_since = AreUnchanged model s
 abbrev pub AreUnchangedBy : Rules → State → (lines : ℕ → List Line) → LastScan → Type 0
 AreUnchangedBy model s lines last_scan = AreUnchangedSince model s lines last_scan.kind (has last_scan.changed_since)
 
--- the verdicts of a scan of this kind, if it is one that the model uses, are those of all waiting tasks, or tell of the groups that
--- have changed
-abbrev pub AreThoseOf : Rules → State → Option CheckKind → List Verdict → LastScan → Type 0
-AreThoseOf model s None verdicts last_scan = Unit {0}
-AreThoseOf model s (Some kind) verdicts last_scan =
-    (verdicts ≡ verdicts_of model kind s)
-    ⊎ ((last_scan.kind ≡ Some kind) × TellOf model kind s (has last_scan.changed_since) verdicts)
+-- of a scan of this kind, if it is one that the model uses: of the group of each waiting task a verdict is of a member, or it hasn't
+-- changed since the last scan, which was of this kind too
+abbrev pub TellOfChanged : State → Option CheckKind → List Verdict → LastScan → Type 0
+TellOfChanged s None verdicts last_scan = Unit {0}
+TellOfChanged s (Some kind) verdicts last_scan =
+    (t : ℕ) (x : Standing) → s.tasks t ≡ Live x → nat_eq x.level s.target ≡ false →
+    (list_any (is_of s x.group) verdicts ≡ true) ⊎ ((last_scan.kind ≡ Some kind) × (has last_scan.changed_since x.group ≡ false))
 
 -- ---- By an event
 
@@ -47,7 +48,7 @@ used_scan model Walk = used_kind model check.Walk
 used_scan model Stop = used_kind model check.Stop
 used_scan model _ = None
 
--- the verdicts with which an event was weighed tell enough: of a scan that the model uses they are those of all waiting tasks, or
--- tell of the groups that have changed
+-- the verdicts with which an event was weighed are of each group that has changed, where it is a scan that the model uses: it is
+-- noted without another look at any task
 abbrev pub Suffices : Rules → State → Weighed → LastScan → Type 0
-Suffices model s step last_scan = AreThoseOf model s (used_scan model step.event) step.verdicts last_scan
+Suffices model s step last_scan = TellOfChanged s (used_scan model step.event) step.verdicts last_scan

@@ -14,12 +14,12 @@ use Rattle.lp_transition.specs.Sound.{IsSound}
 use Rattle.lp_transition.specs.Leg.{State, Leg}
 use Rattle.lp_transition.specs.Run.{Run, AreInRange, and_then, first_leg, leg_of, refused_by}
 use Rattle.lp_transition.specs.Schedule.{waits, first_check}
-use Rattle.lp_transition.specs.Scan.{is_scan_kind, scan_event, verdicts_of}
+use Rattle.lp_transition.specs.Scan.{is_scan_kind, scan_event, verdicts_of, first_refused}
 use Rattle.lp_transition.specs.Machine.{waits_in, state_of}
 use Rattle.lp_cert.specs.declared.cert.Claim.TheVariants.{Waiting, Floor}
 use Rattle.lp_cert.specs.Certificates.{lines, cert, completion, floor_certs, opened_legs}
 use Rattle.lp_cert.specs.Ends.{Made, IsFresh, IsMadeOf, IsLeastWaiting, end_of, leg_under_way, waiting_in, floor_in}
-use Rattle.lp_transition.specs.Blames.{first_refused, first_blamed_in}
+use Rattle.lp_transition.specs.Blames.{first_blamed_in}
 use Rattle.lp_cert.specs.EventLines.{lines_after_scan, lines_after_fork}
 
 -- the lines of a group come with the events of its leg: each leaves those before it as they are, or goes by the state

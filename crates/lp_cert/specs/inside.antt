@@ -10,3 +10,4 @@ pub mod Parts
 pub mod LastScan
 pub mod Touched
 pub mod Waiters
+pub mod WholeScans

@@ -1,6 +1,6 @@
 //! The maker of certificates.
 ghost use Rattle.std.specs.Prelude.{◌≡◌, ◌+◌, ◌-◌, ◌<◌, [], ◌∷◌, ◌++◌, true, Some, None, Err, IsTrue, ◌↔◌, ◌≤◌, length, vec_len, vec_capacity, option_to_list, is_some, IfOk, IfSome, OnOk};
-ghost use Rattle.lp_transition.specs.Events.{is_control};
+ghost use Rattle.lp_transition.specs.Events.{is_control, is_scan};
 ghost use Rattle.lp_transition.specs.Plain.{is_plain};
 ghost use Rattle.lp_transition.specs.Run.{Run, new_target, plus};
 ghost use Rattle.lp_transition.specs.Steps.{StandsIn};
@@ -11,7 +11,7 @@ ghost use Rattle.lp_transition.specs.declared.engine.step.Halt.TheVariants.{NoMe
 ghost use Rattle.lp_cert.specs.Ends.{IsFresh, IsMadeOf, floor_in, is_complete_in, is_opening, room_for, waiting_in};
 ghost use Rattle.lp_cert.specs.LastScan.{Suffices};
 ghost use Rattle.lp_cert.specs.Invariant.{open_end};
-ghost use Rattle.lp_cert.specs.inside.Invariant.{HasClosing, HasFloor, HasFloors, IsClosing, IsStepped, IsUnchangedOn, leg_at, waiting_cert};
+ghost use Rattle.lp_cert.specs.inside.Invariant.{HasClosing, HasFloor, HasFloors, IsClosing, IsNoted, leg_at, waiting_cert};
 ghost use Rattle.lp_cert.specs.Waiters.{WaitingGroups};
 ghost use Rattle.lp_cert.specs.inside.Waiters.{HasHeadFor, HasHeads, lines_at};
 ghost use Rattle.std.specs.Option.{option_map};
@@ -22,8 +22,10 @@ use crate::cert::{Cert, Claim};
 use crate::leg_end::{CertList, LegEnd};
 use crate::open_leg::{Completion, OpenLeg};
 use crate::unchanged::Unchanged;
+use crate::waiter_steps::untold;
 use crate::waiters::Waiters;
 use lp_model::{CheckKind, Consistency};
+use lp_numbers::NumberSet;
 use lp_stack::GroupId;
 use lp_transition::{Core, Event, Halt, Step, What};
 use std::alloc::{AllocError, Global};
@@ -50,6 +52,8 @@ pub struct Maker {
     current: Option<OpenLeg>,
     waiters: Waiters,
     unchanged: Unchanged,
+    /// Within a scan the groups of which it found anything: kept here, so that a scan needs no memory.
+    told: NumberSet,
     /// The number of the last event noted.
     noted: u32,
     ready: Option<Ready>,
@@ -66,6 +70,7 @@ impl Drop for Maker {
             current: _,
             waiters: _,
             unchanged: _,
+            told: _,
             noted: _,
             ready: _,
             closing: _,
@@ -97,6 +102,7 @@ impl Maker {
             current: None,
             waiters: Waiters::new(alloc)?,
             unchanged: Unchanged::new(alloc)?,
+            told: NumberSet::new(alloc)?,
             noted: 0,
             ready: None,
             closing: None,
@@ -163,11 +169,13 @@ impl Maker {
         Ok(())
     }
 
-    /// Notes an event that was weighed on the engine, before the engine takes it. Never allocates.
+    /// Notes an event that was weighed on the engine, before the engine takes it, however it was weighed: where a scan's
+    /// verdicts leave out a group of which it isn't known here why it waits on, each task is looked at here once more.
+    /// Never allocates.
     pub fn note<M: Consistency>(&mut self, core: &Core<M>, step: &Step)
         requires weighed { IsWeighed M.rules core.now step.now }
         requires ready { self.old.ready ≡ Some (room_for step.now) }
-        ensures made { (run : Run) → StandsIn M.rules run (state_in core.now) → IsMadeOf M.rules run self.old → Suffices M.rules (state_in core.now) step.now self.old.last_scan → IsMadeOf M.rules (plus run step.now.event) self.new }
+        ensures made { (run : Run) → StandsIn M.rules run (state_in core.now) → IsMadeOf M.rules run self.old → IsMadeOf M.rules (plus run step.now.event) self.new }
     {
         let number = core.events() as u32 + 1;
         let Some(ready) = self.ready.take() else {
@@ -187,6 +195,7 @@ impl Maker {
                 leg,
                 &mut self.waiters,
                 &mut self.unchanged,
+                &mut self.told,
             );
             return;
         }
@@ -274,6 +283,7 @@ impl Maker {
             current,
             waiters,
             unchanged: _,
+            told: _,
             noted,
             ready: _,
             closing: _,
@@ -312,15 +322,16 @@ fn step_leg<M: Consistency>(
     leg: &mut OpenLeg,
     waiters: &mut Waiters,
     unchanged: &mut Unchanged,
+    told: &mut NumberSet,
 )
     requires weighed { IsWeighed M.rules core.now step.now }
     requires floor { HasFloor waiters.old leg.old.completed }
     requires heads { HasHeads waiters.old }
     requires child { HasHeadFor step.now.event waiters.old.reasons }
     requires room { length step.now.verdicts + 1 < waiters.old.reasons.room }
+    requires all_room { is_scan step.now.event ≡ true → length waiters.old.reasons.heads ≤ waiters.old.reasons.room }
     requires scan_room { 0 < waiters.old.reasons.scan_room }
-    ensures gone_on { IsStepped M.rules core.now step.now number leg.old leg.new waiters.old waiters.new }
-    ensures unchanged { IsUnchangedOn M.rules core.now step.now leg.old waiters.new unchanged.old unchanged.new }
+    ensures noted { IsNoted M.rules core.now step.now number leg.old leg.new waiters.old waiters.new unchanged.old unchanged.new }
     ensures floor { HasFloor waiters.new leg.new.completed }
 {
     if leg.completed.is_some() {
@@ -335,7 +346,13 @@ fn step_leg<M: Consistency>(
         });
         return;
     }
-    waiters.step_waiters(core, step, unchanged);
+    match untold(core, step, waiters, unchanged, told) {
+        Some(kind) => {
+            unchanged.reset();
+            waiters.step_whole(core, step, kind);
+        }
+        None => waiters.step_waiters(core, step, unchanged, told),
+    }
 }
 
 /// Ends the leg under way after so many events, if there is one. Never allocates.

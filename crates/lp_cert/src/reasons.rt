@@ -80,6 +80,18 @@ impl Reasons {
         widen(&mut self.heads, groups)
     }
 
+    /// Makes room for one more reason of each group; AllocError where an allocation failed.
+    pub(crate) fn reserve_all(&mut self) -> Result<(), AllocError>
+        ensures heads { self.new.heads ≡ self.old.heads }
+        ensures lists { self.new.lists ≡ self.old.lists }
+        ensures scans { self.new.scans ≡ self.old.scans }
+        ensures room { OnOk result (length self.new.heads ≤ self.new.room) }
+        ensures no_less { self.old.room ≤ self.new.room }
+        ensures scan_room { self.new.scan_room ≡ self.old.scan_room }
+    {
+        self.chains.reserve(self.heads.len())
+    }
+
     /// How a group stands.
     pub(crate) fn head(&self, group: GroupId) -> Head
         ensures { result ≡ head_of self.now group.0 }

@@ -1,5 +1,5 @@
 //! The groups that a scan needn't look at again.
-ghost use Rattle.std.specs.Prelude.{◌≡◌, ◌||◌, ◌⊎◌, ◌<◌, ℕ, false, true, None, Some, IfOk, IfSome, IsTrue, nat_eq};
+ghost use Rattle.std.specs.Prelude.{◌≡◌, ◌||◌, ◌⊎◌, ◌<◌, ℕ, false, true, None, Some, IfOk, IfSome, IsSome, IsTrue, nat_eq};
 ghost use Rattle.std.specs.List.{list_any};
 ghost use Rattle.std.specs.Option.{option_map};
 ghost use Rattle.lp_numbers.specs.Numbers.{has, IsEmpty};
@@ -7,7 +7,7 @@ ghost use Rattle.lp_transition.specs.Table.{slot, state_in};
 ghost use Rattle.lp_transition.specs.Leg.{Standing};
 ghost use Rattle.lp_cert.specs.inside.Touched.{touched};
 ghost use Rattle.lp_cert.specs.LastScan.{used_scan};
-ghost use Rattle.lp_cert.specs.inside.LastScan.{AreKeptApart, IsLastScanAfter, IsTouched, continues_by, is_of_group, is_refused_in, leaves_unchanged, rests_on, supports};
+ghost use Rattle.lp_cert.specs.inside.LastScan.{IsLastScanAfter, IsTouched, continues_by, is_of_group, is_refused_in, leaves_unchanged, rests_on, supports};
 ghost use Rattle.lp_transition.specs.Blames.{has_frame_in};
 
 use crate::ongoing::Ongoing;
@@ -19,6 +19,7 @@ use lp_stack::{GroupId, TaskId};
 use lp_transition::{Core, Event};
 use std::alloc::{AllocError, Global};
 use std::marker::Model;
+use std::mem::swap;
 
 /// Which waiting groups are unchanged: the last scan refused a member that the group's newest
 /// reason names, and nothing happened since to a member on which that reason rests, so that a scan
@@ -93,15 +94,17 @@ impl Unchanged {
         }
     }
 
-    /// An event that opens no leg, with what it found if it is a scan, and the reasons after it.
-    /// Never allocates.
+    /// An event that opens no leg, with what it found if it is a scan, the groups of which it found
+    /// anything then, and the reasons after it. Never allocates.
     pub(crate) fn note<M: Consistency>(
         &mut self,
         core: &Core<M>,
         event: Event,
         verdicts: &[Verdict],
         reasons: &Reasons,
+        told: &mut NumberSet,
     )
+        requires told { IsSome (used_scan M.rules event) → (group : ℕ) → has told.old group ≡ list_any (is_of_group core.now group) verdicts.now }
         ensures { IsLastScanAfter M.rules core.now event verdicts.now reasons.now self.old self.new }
     {
         let Some(kind) = used_scan(&core.model(), event) else {
@@ -109,28 +112,9 @@ impl Unchanged {
             return;
         };
         self.kind = Some(kind);
-        keep_apart(core, kind, verdicts, reasons, &mut self.changed_since);
+        swap(&mut self.changed_since, told);
+        keep_unchanged(core, kind, verdicts, reasons, &mut self.changed_since);
     }
-}
-
-/// Puts the groups into a set that a scan has to look at again after one that found this. Most scans
-/// ask nobody, and then the set is empty as it is.
-#[inline(always)]
-fn keep_apart<M: Consistency>(
-    core: &Core<M>,
-    kind: CheckKind,
-    verdicts: &[Verdict],
-    reasons: &Reasons,
-    changed_since: &mut NumberSet,
-)
-    ensures { AreKeptApart M.rules kind core.now reasons.now verdicts.now changed_since.new }
-{
-    if verdicts.is_empty() && changed_since.is_empty() {
-        return;
-    }
-    changed_since.clear();
-    take_in_all(core, verdicts, changed_since);
-    keep_unchanged(core, kind, verdicts, reasons, changed_since);
 }
 
 /// The task to which something happens at an event.
@@ -188,7 +172,7 @@ fn take_in(set: &mut NumberSet, group: GroupId)
 }
 
 /// The kind of scan that an event is, if the model uses it.
-fn used_scan<M: Consistency>(model: &M, event: Event) -> Option<CheckKind>
+pub(crate) fn used_scan<M: Consistency>(model: &M, event: Event) -> Option<CheckKind>
     ensures { result ≡ used_scan M.rules event }
 {
     let kind = match event {
@@ -200,7 +184,7 @@ fn used_scan<M: Consistency>(model: &M, event: Event) -> Option<CheckKind>
 }
 
 /// Makes the groups of these verdicts' tasks members of a set.
-fn take_in_all<M: Consistency>(core: &Core<M>, verdicts: &[Verdict], set: &mut NumberSet)
+pub(crate) fn take_in_all<M: Consistency>(core: &Core<M>, verdicts: &[Verdict], set: &mut NumberSet)
     ensures { (group : ℕ) → has set.new group ≡ (has set.old group || list_any (is_of_group core.now group) verdicts.now) }
 {
     for verdict in verdicts {

@@ -1,19 +1,23 @@
 //! The groups that wait, as events come.
-ghost use Rattle.std.specs.Prelude.{◌≡◌, ◌+◌, ◌<◌, ◌≤◌, ℕ, suc, [], length, IsTrue, IsSome, IsNone};
-ghost use Rattle.std.specs.List.{AllByRecursion};
+ghost use Rattle.std.specs.Prelude.{◌≡◌, ◌+◌, ◌<◌, ◌≤◌, ℕ, suc, [], true, None, Some, length, IfSome, IsTrue, IsSome, IsNone};
+ghost use Rattle.std.specs.List.{AllByRecursion, list_any};
 ghost use Rattle.lp_transition.specs.Events.{group_numbers};
 ghost use Rattle.lp_transition.specs.inside.ScanSteps.{groups_of};
+ghost use Rattle.lp_numbers.specs.Numbers.{has};
+ghost use Rattle.lp_transition.specs.Scan.{verdicts_of};
 ghost use Rattle.lp_transition.specs.Table.{state_in};
 ghost use Rattle.lp_transition.specs.Weigh.{IsWeighed, refusal_in};
 ghost use Rattle.lp_cert.specs.LastScan.{used_kind, used_scan};
-ghost use Rattle.lp_cert.specs.inside.LastScan.{IsLastScanAfter};
+ghost use Rattle.lp_cert.specs.inside.LastScan.{AreToldOf, IsLastScanAfter, is_of_group};
+ghost use Rattle.lp_cert.specs.inside.Invariant.{with_verdicts};
 ghost use Rattle.lp_cert.specs.inside.StepLines.{stepped_lines, after_scan_kind, noted_lines};
 ghost use Rattle.lp_cert.specs.inside.Waiters.{AreStanding, HasFewGroups, HasHeadFor, HasHeads, IsUsedVerdict, after_switch, lines_at, own_lines};
 
 use crate::head::OwnFork;
-use crate::unchanged::Unchanged;
+use crate::unchanged::{Unchanged, take_in_all, used_scan};
 use crate::waiters::Waiters;
 use lp_model::{CheckKind, Consistency, ForkKind, Verdict};
+use lp_numbers::NumberSet;
 use lp_stack::{GroupId, TaskId};
 use lp_transition::{Core, Event, Step, What};
 
@@ -24,12 +28,14 @@ impl Waiters {
         core: &Core<M>,
         step: &Step,
         unchanged: &mut Unchanged,
+        told: &mut NumberSet,
     )
         requires weighed { IsWeighed M.rules core.now step.now }
         requires wide { HasHeads self.old }
         requires child { HasHeadFor step.now.event self.old.reasons }
         requires room { length step.now.verdicts + 1 < self.old.reasons.room }
         requires scan_room { 0 < self.old.reasons.scan_room }
+        requires told { IsSome (used_scan M.rules step.now.event) → (group : ℕ) → has told.old group ≡ list_any (is_of_group core.now group) step.now.verdicts }
         ensures lines { (group : ℕ) → lines_at self.new group ≡ stepped_lines M.rules core.now step.now self.old group }
         ensures few { IsNone (refusal_in step.now.reply.what) → HasFewGroups core.now step.now.event }
         ensures stood { IsSome (used_scan M.rules step.now.event) → IsNone (refusal_in step.now.reply.what) → AreStanding self.old }
@@ -41,7 +47,31 @@ impl Waiters {
             self.affect(core, step);
             self.switch(what);
         }
-        unchanged.note(core, step.event(), step.verdicts(), self.reasons());
+        unchanged.note(core, step.event(), step.verdicts(), self.reasons(), told);
+    }
+
+    /// A scan of this kind that was weighed and opens no leg, of which it isn't known of each group
+    /// what it found: so all tasks are looked at. Never allocates.
+    pub(crate) fn step_whole<M: Consistency>(
+        &mut self,
+        core: &Core<M>,
+        step: &Step,
+        kind: CheckKind,
+    )
+        requires weighed { IsWeighed M.rules core.now step.now }
+        requires used { used_scan M.rules step.now.event ≡ Some kind }
+        requires wide { HasHeads self.old }
+        requires room { length self.old.reasons.heads ≤ self.old.reasons.room }
+        requires scan_room { 0 < self.old.reasons.scan_room }
+        ensures lines { (group : ℕ) → lines_at self.new group ≡ stepped_lines M.rules core.now (with_verdicts step.now (verdicts_of M.rules kind (state_in core.now))) self.old group }
+        ensures few { IsNone (refusal_in step.now.reply.what) → HasFewGroups core.now step.now.event }
+        ensures stood { IsNone (refusal_in step.now.reply.what) → AreStanding self.old }
+    {
+        let what = &step.reply().what;
+        if !matches!(what, What::Refused(_)) {
+            self.scan_all(core, kind, core.events() + 1);
+            self.switch(what);
+        }
     }
 
     /// The own effect of an accepted event. Never allocates.
@@ -148,4 +178,28 @@ impl Waiters {
             self.switch_one(*group);
         }
     }
+}
+
+/// The kind of a scan that the model uses, where a group waits of which the scan found nothing, and
+/// of which it isn't known from the last scan what it would have found. The set has the groups of
+/// which such a scan found anything then.
+pub(crate) fn untold<M: Consistency>(
+    core: &Core<M>,
+    step: &Step,
+    waiters: &Waiters,
+    unchanged: &Unchanged,
+    told: &mut NumberSet,
+) -> Option<CheckKind>
+    ensures used { IfSome result (λ kind. used_scan M.rules step.now.event ≡ Some kind) }
+    ensures enough { result ≡ None → AreToldOf M.rules core.now step.now.event waiters.now unchanged.now step.now.verdicts }
+    ensures told { IsSome (used_scan M.rules step.now.event) → (group : ℕ) → has told.new group ≡ list_any (is_of_group core.now group) step.now.verdicts }
+{
+    let kind = used_scan(&core.model(), step.event())?;
+    told.clear();
+    take_in_all(core, step.verdicts(), told);
+    let is_told = match unchanged.asked(kind) {
+        Some(asked) => waiters.are_told(asked, told),
+        None => waiters.all_told(told),
+    };
+    if is_told { None } else { Some(kind) }
 }

@@ -2,18 +2,22 @@
 ghost use Rattle.std.specs.Prelude.{◌≡◌, ◌≢◌, Bool, ◌+◌, ◌<◌, ◌≤◌, ◌↔◌, ℕ, List, [], ◌∷◌, ◌++◌, true, false, Some, None, length, map, reverse, slice_set, IfOk, IfSome, IsTrue, OnOk, if◌then◌else◌, nat_eq};
 ghost use Rattle.std.specs.List.{AllByRecursion, list_any};
 ghost use Rattle.std.specs.Option.{option_map};
+ghost use Rattle.lp_cert.specs.inside.WholeScans.{count_below};
 ghost use Rattle.lp_numbers.specs.Numbers.{has, IsEmpty, IsNextFrom};
+ghost use Rattle.lp_transition.specs.Events.{is_scan};
 ghost use Rattle.lp_transition.specs.Leg.{State};
 ghost use Rattle.lp_transition.specs.Sound.{IsSound};
-ghost use Rattle.lp_transition.specs.Scan.{passing};
+ghost use Rattle.lp_transition.specs.Scan.{passing, first_refused};
 ghost use Rattle.lp_transition.specs.Table.{state_in};
 ghost use Rattle.lp_cert.specs.inside.Heads.{HasFrameAs};
-ghost use Rattle.lp_transition.specs.Blames.{has_frame_in, first_refused};
+ghost use Rattle.lp_transition.specs.Blames.{has_frame_in};
 ghost use Rattle.lp_cert.specs.Certificates.{group_id};
 ghost use Rattle.lp_cert.specs.Heads.{head_lines};
 ghost use Rattle.lp_cert.specs.Invariant.{floor_waiters};
 ghost use Rattle.lp_cert.specs.Waiters.{head_of, waiter_in, waiters_of};
 ghost use Rattle.lp_cert.specs.inside.Waiters.{AreBare, HasHeadFor, HasHeads, IsAboveChild, AreHeads, AreStanding, StandsAt, IsJudged, AreJudged, IsUsedVerdict, is_left, after_birth, has_off, lines_at, scanned_lines, AreTakenIn, IsTakenIn};
+
+mod whole;
 
 use crate::cert_lines::CertLines;
 use crate::chains::Chains;
@@ -73,7 +77,7 @@ impl Waiters {
     }
 
     /// Makes room for an event with so many more reasons, for one more scan, and for what is kept of
-    /// each group that waits then; AllocError where an allocation failed.
+    /// each group that waits then; at a scan for one more reason of each. AllocError where an allocation failed.
     pub(crate) fn reserve(&mut self, more: usize, event: Event) -> Result<(), AllocError>
         ensures groups { self.new.groups ≡ self.old.groups }
         ensures wide { OnOk result (HasHeads self.new) }
@@ -82,10 +86,14 @@ impl Waiters {
         ensures lists { self.new.reasons.lists ≡ self.old.reasons.lists }
         ensures scans { self.new.reasons.scans ≡ self.old.reasons.scans }
         ensures room { OnOk result (more ≤ self.new.reasons.room) }
+        ensures all_room { OnOk result (is_scan event ≡ true → length self.new.reasons.heads ≤ self.new.reasons.room) }
         ensures scan_room { OnOk result (0 < self.new.reasons.scan_room) }
     {
         let groups = greater(self.groups.bound(), above_child(event));
         self.reasons.reserve(more, groups)?;
+        if matches!(event, Event::Walk | Event::Stop) {
+            self.reasons.reserve_all()?;
+        }
         Ok(())
     }
 
@@ -316,8 +324,9 @@ fn judge<M: Consistency>(
     requires stand { (group : ℕ) → is_left waiting.now refused.old group ≡ true → StandsAt (length reasons.old.scans) reasons.old group }
     requires wide { (group : ℕ) → has waiting.now group ≡ true → group < length reasons.old.heads }
     requires used { IsUsedVerdict verdict.now }
-    requires room { 0 < reasons.old.room }
+    requires room { (group : ℕ) → is_left waiting.now refused.old group ≡ true → 0 < reasons.old.room }
     ensures width { length reasons.new.heads ≡ length reasons.old.heads }
+    ensures spent { reasons.old.room + count_below (is_left waiting.now refused.new) (length reasons.old.heads) ≤ reasons.new.room + count_below (is_left waiting.now refused.old) (length reasons.old.heads) }
     ensures judged { IsJudged (state_in core.now) at verdict.now (is_left waiting.now refused.old) (is_left waiting.now refused.new) reasons.old reasons.new }
 {
     let Some(blame) = verdict.blame else {

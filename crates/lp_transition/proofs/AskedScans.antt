@@ -1,20 +1,22 @@
 -- A scan that passes over tasks of whose groups it would refuse a member answers as one that asks all.
 use Rattle.std.proofs.Common.{◌≡◌, ℕ, zero, suc, ◌<◌, ◌≤◌, Bool, true, false, not, ◌&&◌, ◌||◌, List, [], ◌∷◌, ◌++◌, length, take, get_or, map, Option, Some, None, is_some, is_none, if◌then◌else◌, nat_eq, refl, sym, ap, ap₂, subst, ◌∙◌, ◌↔◌, ⊎_elim, arith}
 use Rattle.std.proofs.lemmas.Bool.{false≢true, cond-true, cond-false, cases_Bool, and_parts, and_from, eqb-true, eq-eqb, not-true, not_from_false, false_from_ne_true}
+use Rattle.std.specs.Option.{option_map}
 use Rattle.std.specs.List.{filter, filter_map, cons_option, list_any, range_with_len}
 use Rattle.lp_stack.specs.TaskView.{TaskView}
 use Rattle.lp_numbers.specs.Numbers.{Numbers, has}
 use Rattle.lp_model.specs.Rules.{Rules, IsLawful}
+use Rattle.lp_model.specs.declared.check.Blame.{Blame}
 use Rattle.lp_model.specs.declared.check.CheckKind.{CheckKind}
 use Rattle.lp_model.specs.declared.verdict.Verdict.{Verdict}
-use Rattle.lp_transition.specs.Tasks.{Fate, Unused, Live, Dead, on_live}
+use Rattle.lp_transition.specs.Tasks.{Fate, Unused, Live, Dead, on_live, first_of}
 use Rattle.lp_transition.specs.Leg.{Standing, State}
 use Rattle.lp_transition.specs.Sound.{IsSound}
 use Rattle.lp_transition.specs.Machine.{view_of}
 use Rattle.lp_transition.specs.Table.{Table, Engine, slot, state_in}
 use Rattle.lp_transition.specs.inside.Table.{is_in}
 use Rattle.lp_transition.specs.inside.Invariant.{IsEngine}
-use Rattle.lp_transition.specs.Scan.{waiting_view, views_of, verdict_of, verdicts_of, RefusesMember, MayLeaveOut, MayPassOver, is_asked, verdicts_at, verdicts_among, AreEnough, passing}
+use Rattle.lp_transition.specs.Scan.{waiting_view, views_of, verdict_of, verdicts_of, RefusesMember, MayLeaveOut, MayPassOver, is_of, member_verdict, first_refused, is_asked, verdicts_at, verdicts_among, AreEnough, passing}
 use Rattle.lp_transition.specs.inside.ScanSteps.{tasks_of, is_judged, is_found, switches_by, all_admit}
 use Rattle.lp_transition.proofs.ScanLists.{any-map, verdict-is, verdict-from}
 use Rattle.lp_transition.proofs.ScanGroups.{same_bool, found-from, found-is}
@@ -250,6 +252,33 @@ module _ (model : Rules) (lawful : IsLawful model) (kind : CheckKind) (s : State
       let same = all_looked (not-true (list_any (λ v. is_some v.blame) whole) parts.1) in
       tells.1 (ap all_admit same ∙ h, ap tasks_of same))
 
+-- ---- The first refusal of a group
+
+first_next : {X : Type 0} (o : Option X) (os ps : List (Option X)) → first_of os ≡ first_of ps → first_of (o ∷ os) ≡ first_of (o ∷ ps)
+first_next None os ps same = same
+first_next (Some x) os ps same = refl
+
+-- it is kept where each verdict of a member is
+first-filter : (s : State) (group : ℕ) (p : Verdict → Bool) → ((v : Verdict) → is_of s group v ≡ true → p v ≡ true) → (vs : List Verdict) → first_refused s group (filter p vs) ≡ first_refused s group vs
+first-filter s group p keeps [] = refl
+first-filter s group p keeps (v ∷ vs) = by (p v) refl (first-filter s group p keeps vs)
+  where
+    by : (b : Bool) → p v ≡ b → first_refused s group (filter p vs) ≡ first_refused s group vs → first_refused s group (if b then v ∷ filter p vs else filter p vs) ≡ first_refused s group (v ∷ vs)
+    by true kept rest = first_next (member_verdict s group v) (map (member_verdict s group) (filter p vs)) (map (member_verdict s group) vs) rest
+    by false out rest =
+        let stranger : is_of s group v ≡ false = false_from_ne_true (is_of s group v) (λ mine. false≢true (sym out ∙ keeps v mine)) in
+        rest ∙ sym (ap (λ (o : Option (ℕ × Blame)). first_of (o ∷ map (member_verdict s group) vs)) (cond-false (is_of s group v) (option_map {U = ℕ × Blame} (λ why. (v.task.0, why)) v.blame) None stranger))
+
+-- a group is asked of whom a verdict is
+pub asked-from : (model : Rules) (kind : CheckKind) (s : State) (looked asked : ℕ → Bool) (group : ℕ) (vs : List Verdict) → vs ≡ verdicts_at model kind s looked
+    → ((t : ℕ) (x : Standing) → s.tasks t ≡ Live x → looked t ≡ true → asked x.group ≡ true) → list_any (is_of s group) vs ≡ true → asked group ≡ true
+asked-from model kind s looked asked group vs found only some =
+    let seen = sym (any-filter (λ (v : Verdict). looked v.task.0) (is_of s group) (verdicts_of model kind s)) ∙ (ap (list_any (is_of s group)) (sym found) ∙ some) in
+    let j = verdict-is model kind s (λ v. looked v.task.0 && is_of s group v) seen in
+    let parts = and_parts (looked j.number) (on_live false (λ (x : Standing). nat_eq x.group group) (s.tasks j.number)) j.passed in
+    let mine : nat_eq j.task.group group ≡ true = sym (ap (on_live false (λ (x : Standing). nat_eq x.group group)) j.live) ∙ parts.1 in
+    ap asked (sym (eqb-true j.task.group group mine)) ∙ only j.number j.task j.live parts.0
+
 -- ---- Verdicts that are enough
 
 -- a scan that looks at all
@@ -266,6 +295,7 @@ all-enough model kind s vs found = record {
   looked = λ t. true;
   others = λ t x live off out. absurd (false≢true (sym out));
   found = found ∙ sym (all-looked model kind s);
+  first = λ group some. ap (first_refused s group) found;
 }
 
 -- groups that are left out are passed over
@@ -283,7 +313,19 @@ left-out model kind s asked others t x live off out =
 
 -- the verdicts of the waiting tasks of some groups, where the others may be left out
 pub among-enough : (model : Rules) (kind : CheckKind) (s : State) (asked : ℕ → Bool) (vs : List Verdict) → MayLeaveOut model kind s asked → vs ≡ verdicts_among model kind s asked → AreEnough model kind s vs
-among-enough model kind s asked vs others found = record { looked = is_asked s asked; others = left-out model kind s asked others; found = found }
+among-enough model kind s asked vs others found = record {
+  looked = is_asked s asked;
+  others = left-out model kind s asked others;
+  found = found;
+  first = λ group some.
+      let mine = asked-from model kind s (is_asked s asked) asked group vs found (λ t x live seen. sym (ap (on_live false (λ (y : Standing). asked y.group)) live) ∙ seen) some in
+      ap (first_refused s group) found ∙ first-filter s group (λ v. is_asked s asked v.task.0) (λ v of. member_asked group mine (s.tasks v.task.0) of) (verdicts_of model kind s);
+}
+  where
+    member_asked : (group : ℕ) → asked group ≡ true → (fate : Fate Standing) → on_live false (λ (x : Standing). nat_eq x.group group) fate ≡ true → on_live false (λ (x : Standing). asked x.group) fate ≡ true
+    member_asked group mine Unused of = absurd (false≢true of)
+    member_asked group mine (Live x) of = ap asked (eqb-true x.group group of) ∙ mine
+    member_asked group mine Dead of = absurd (false≢true of)
 
 -- a scan that leaves out all finds nothing
 pub asked_none : (model : Rules) (kind : CheckKind) (s : State) → [] ≡ verdicts_among model kind s (λ group. false)

@@ -18,8 +18,8 @@ use Rattle.lp_transition.specs.Leg.{Standing, State}
 use Rattle.lp_transition.specs.Sound.{IsSound}
 use Rattle.lp_transition.specs.Machine.{view_of}
 use Rattle.lp_transition.specs.Table.{slot, standings, fate_at, Engine, state_in}
-use Rattle.lp_transition.specs.Scan.{verdicts_of, AreEnough}
-use Rattle.lp_transition.specs.Blames.{member_verdict, first_refused, frame_blame}
+use Rattle.lp_transition.specs.Scan.{verdicts_of, AreEnough, member_verdict, first_refused}
+use Rattle.lp_transition.specs.Blames.{frame_blame}
 use Rattle.lp_transition.specs.inside.Table.{is_in}
 use Rattle.lp_transition.specs.inside.Blames.{found_by, IsBlamed}
 use Rattle.lp_transition.proofs.ScanLists.{verdict-is}

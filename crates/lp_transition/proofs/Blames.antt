@@ -24,8 +24,8 @@ use Rattle.lp_transition.specs.Leg.{Standing, State, check_by, if_used}
 use Rattle.lp_transition.specs.Sound.{IsSound}
 use Rattle.lp_transition.specs.Machine.{view_of, outlines_of, waits_in, admits_all, switches_at, own_effect, affected, returning, switched_task, with_switches, counted, refusal_of, next}
 use Rattle.lp_transition.specs.Table.{Table, Engine, slot, standings, state_in}
-use Rattle.lp_transition.specs.Scan.{RefusesMember, MayLeaveOut}
-use Rattle.lp_transition.specs.Blames.{blame_of, is_open, has_frame_in, while_there, or_blame, frame_blame, first_refused, blame_by, AreBlamesAfter}
+use Rattle.lp_transition.specs.Scan.{RefusesMember, MayLeaveOut, first_refused}
+use Rattle.lp_transition.specs.Blames.{blame_of, is_open, has_frame_in, while_there, or_blame, frame_blame, blame_by, AreBlamesAfter}
 use Rattle.lp_transition.specs.inside.Blames.{blame_at, frame_there, looked_at, IsBlamed, AreBlamed}
 use Rattle.lp_transition.specs.inside.Table.{is_in, is_off, changed}
 use Rattle.lp_transition.specs.inside.Invariant.{IsEngine}

@@ -15,14 +15,14 @@ use Rattle.lp_model.specs.declared.verdict.Verdict.{Verdict}
 use Rattle.lp_transition.specs.Tasks.{Live, on_live, first_of}
 use Rattle.lp_transition.specs.Leg.{Standing, State}
 use Rattle.lp_transition.specs.Machine.{view_of}
-use Rattle.lp_transition.specs.Blames.{member_verdict, first_refused, TellOf}
-use Rattle.lp_transition.specs.Scan.{verdict_of, verdicts_of, verdicts_at, RefusesMember, MayLeaveOut, is_asked, AreEnough, passing}
+use Rattle.lp_transition.specs.Blames.{TellOf}
+use Rattle.lp_transition.specs.Scan.{verdict_of, verdicts_of, verdicts_at, RefusesMember, MayLeaveOut, is_asked, AreEnough, passing, member_verdict, first_refused}
 use Rattle.lp_transition.specs.Table.{Engine, slot, standings, state_in}
 use Rattle.lp_transition.specs.inside.Table.{is_off}
 use Rattle.lp_transition.specs.inside.Invariant.{IsEngine}
 use Rattle.lp_transition.specs.inside.ScanSteps.{waiting_slot, is_found}
 use Rattle.lp_transition.specs.inside.FirstRefusals.{AdmitsOthers, SeesRefused, SeesRefusedBefore, HasAsked, AreTold}
-use Rattle.lp_transition.proofs.AskedScans.{among_views, any-filter, map-map, all-looked, among-is}
+use Rattle.lp_transition.proofs.AskedScans.{among_views, any-filter, map-map, all-looked, among-is, asked-from}
 use Rattle.lp_transition.proofs.FirstKept.{named, passing-last, first-kept}
 use Rattle.lp_transition.proofs.MemberLemmas.{slot-below}
 use Rattle.lp_transition.proofs.ScanLemmas.{views-asked}
@@ -176,8 +176,8 @@ module _ (e : Engine) (waiting : Numbers) (kept : IsEngine e waiting) where
             }) bounds.0 bounds.1
 
 -- they are enough, where the other groups may be left out
-pub told-enough : (model : Rules) (kind : CheckKind) (s : State) (asked : ℕ → Bool) (vs : List Verdict) → MayLeaveOut model kind s asked → AreTold model kind s asked vs → AreEnough model kind s vs
-told-enough model kind s asked vs others told = record {
+pub told-enough : (e : Engine) (waiting : Numbers) → IsEngine e waiting → (model : Rules) (kind : CheckKind) (asked : ℕ → Bool) (vs : List Verdict) → MayLeaveOut model kind (state_in e) asked → AreTold model kind (state_in e) asked vs → AreEnough model kind (state_in e) vs
+told-enough e waiting kept model kind asked vs others told = record {
   looked = told.looked;
   others = λ t x live off out.
       ⊎_elim
@@ -190,6 +190,7 @@ told-enough model kind s asked vs others told = record {
       })
       (cases_Bool (asked x.group));
   found = told.found;
+  first = λ group some. (told-tells e waiting kept model kind asked vs told).first group (asked-from model kind (state_in e) told.looked asked group vs told.found told.only some);
 }
 
 -- the verdicts of all who wait of these groups tell it

@@ -58,7 +58,6 @@ pub mod Unchanged
 pub mod BlameLists
 pub mod Blames
 pub mod BlamedScans
-pub mod GroupsTold
 pub mod QuietScans
 pub mod BootLemmas
 pub mod OpeningLemmas

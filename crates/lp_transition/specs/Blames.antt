@@ -14,7 +14,7 @@ use Rattle.lp_transition.specs.Events.{is_control}
 use Rattle.lp_transition.specs.Tasks.{Live, on_live, first_of}
 use Rattle.lp_transition.specs.Leg.{Standing, State}
 use Rattle.lp_transition.specs.Machine.{view_of, affected, refusal_of}
-use Rattle.lp_transition.specs.Scan.{verdicts_of, verdicts_at}
+use Rattle.lp_transition.specs.Scan.{verdicts_of, verdicts_at, is_of, first_refused}
 use Rattle.lp_transition.specs.Table.{Engine, state_in}
 use Rattle.lp_transition.specs.Weigh.{AreVerdictsFor}
 
@@ -33,21 +33,6 @@ blame_in model s kind group t =
 abbrev pub first_blamed_in : Rules → State → CheckKind → (group : ℕ) → Option (ℕ × Blame)
 first_blamed_in model s kind group =
     first_of (map (λ t. option_map (λ why. (t, why)) (blame_in model s kind group t)) (range_with_len 1 s.bounds.tasks))
-
--- the verdict is of a member of the group
-abbrev pub is_of : State → (group : ℕ) → Verdict → Bool
-is_of s group verdict = on_live false (λ x. nat_eq x.group group) (s.tasks verdict.task.0)
-
--- the verdict's task and blame, if it refuses a member of the group
-abbrev pub member_verdict : State → (group : ℕ) → Verdict → Option (ℕ × Blame)
-member_verdict s group verdict =
-    if on_live false (λ x. nat_eq x.group group) (s.tasks verdict.task.0)
-    then option_map (λ why. (verdict.task.0, why)) verdict.blame
-    else None
-
--- the first of these verdicts that refuses a member of the group
-abbrev pub first_refused : State → (group : ℕ) → List Verdict → Option (ℕ × Blame)
-first_refused s group verdicts = first_of (map (member_verdict s group) verdicts)
 
 -- of each group that passes a test these verdicts tell the first member that a scan refuses, or that it refuses none; of the
 -- others nothing

@@ -1,15 +1,17 @@
 -- Scans, which look at the stacks of all waiting tasks: what they look at, and what they find.
 use Rattle.std.specs.Prelude.{◌≡◌, ℕ, ◌-◌, Bool, true, false, List, [], map, Option, Some, None, is_some, if◌then◌else◌, nat_eq}
-use Rattle.std.specs.List.{filter, filter_map, range_with_len}
+use Rattle.std.specs.List.{filter, filter_map, list_any, range_with_len}
+use Rattle.std.specs.Option.{option_map}
 use Rattle.lp_stack.specs.TaskView.{TaskView}
 use Rattle.lp_patch.specs.Patches.{Goal}
 use Rattle.lp_model.specs.Rules.{Rules}
+use Rattle.lp_model.specs.declared.check.Blame.{Blame}
 use Rattle.lp_model.specs.declared.check.CheckKind.{CheckKind}
 use Rattle.lp_model.specs.declared.check.CheckKind.TheVariants.{Walk, Stop}
 use Rattle.lp_model.specs.declared.verdict.Verdict.{Verdict}
 use Rattle.lp_transition.specs.declared.event.Event.{Event}
 use Rattle.lp_transition.specs.declared.event.Event.TheVariants.{Walk, Stop}
-use Rattle.lp_transition.specs.Tasks.{Fate, Unused, Live, Dead, on_live}
+use Rattle.lp_transition.specs.Tasks.{Fate, Unused, Live, Dead, on_live, first_of}
 use Rattle.lp_transition.specs.Leg.{Standing, State}
 use Rattle.lp_transition.specs.Machine.{view_of}
 
@@ -77,6 +79,23 @@ verdicts_among model kind s asked = filter (λ v. is_asked s asked v.task.0) (ve
 abbrev pub verdicts_used : Rules → CheckKind → State → List Verdict
 verdicts_used model kind s = if model.uses kind then verdicts_of model kind s else []
 
+-- ---- Whom it refuses
+
+-- the verdict is of a member of the group
+abbrev pub is_of : State → (group : ℕ) → Verdict → Bool
+is_of s group verdict = on_live false (λ x. nat_eq x.group group) (s.tasks verdict.task.0)
+
+-- the verdict's task and blame, if it refuses a member of the group
+abbrev pub member_verdict : State → (group : ℕ) → Verdict → Option (ℕ × Blame)
+member_verdict s group verdict =
+    if is_of s group verdict
+    then option_map (λ why. (verdict.task.0, why)) verdict.blame
+    else None
+
+-- the first of these verdicts that refuses a member of the group
+abbrev pub first_refused : State → (group : ℕ) → List Verdict → Option (ℕ × Blame)
+first_refused s group verdicts = first_of (map (member_verdict s group) verdicts)
+
 -- ---- Whom a scan may pass over
 
 -- a check of this kind refuses a waiting member of the group, and a scan that looks at any waiting member looks at this one
@@ -101,6 +120,10 @@ pub record AreEnough (model : Rules) (kind : CheckKind) (s : State) (verdicts : 
   pub looked : ℕ → Bool
   pub others : MayPassOver model kind s looked
   pub found : verdicts ≡ verdicts_at model kind s looked
+  -- of each group of which one is of a member they tell the first member that the scan refuses, or that it refuses none
+  pub first :
+      (group : ℕ) → list_any (is_of s group) verdicts ≡ true →
+      first_refused s group verdicts ≡ first_refused s group (verdicts_of model kind s)
 
 -- ---- Numbers in increasing order
 

@@ -1,11 +1,13 @@
 -- What holds of a maker between events, and what an event makes of the leg under way.
-use Rattle.std.specs.Prelude.{◌≡◌, ℕ, ◌+◌, ◌<◌, Bool, true, false, List, length, map, reverse, Option, Some, None, IfSome, IsSome, if◌then◌else◌}
+use Rattle.std.specs.Prelude.{◌≡◌, ◌⊎◌, ℕ, ◌+◌, ◌<◌, ◌≤◌, Bool, true, false, List, length, map, reverse, Option, Some, None, IfSome, IsSome, if◌then◌else◌}
 use Rattle.std.specs.Option.{option_map}
 use Rattle.lp_stack.specs.declared.number.GroupId.{GroupId}
 use Rattle.lp_numbers.specs.Numbers.{has, IsNextFrom}
 use Rattle.lp_model.specs.Rules.{Rules}
-use Rattle.lp_transition.specs.Table.{Engine}
-use Rattle.lp_transition.specs.Weigh.{Weighed, refusal_in}
+use Rattle.lp_model.specs.declared.verdict.Verdict.{Verdict}
+use Rattle.lp_transition.specs.Events.{is_scan}
+use Rattle.lp_transition.specs.Table.{Engine, state_in}
+use Rattle.lp_transition.specs.Weigh.{Weighed, AreVerdictsFor, refusal_in}
 use Rattle.lp_cert.specs.declared.cert.Claim.{Claim}
 use Rattle.lp_cert.specs.declared.cert.Cert.{Cert}
 use Rattle.lp_cert.specs.declared.line.Line.{Line}
@@ -14,7 +16,7 @@ use Rattle.lp_cert.specs.declared.open_leg.OpenLeg.{OpenLeg}
 use Rattle.lp_cert.specs.declared.maker.Ready.{Ready}
 use Rattle.lp_cert.specs.inside.StepLines.{stepped_lines}
 use Rattle.lp_cert.specs.LastScan.{LastScan, used_scan}
-use Rattle.lp_cert.specs.inside.LastScan.{IsLastScanAfter}
+use Rattle.lp_cert.specs.inside.LastScan.{AreToldOf, IsLastScanAfter}
 use Rattle.lp_cert.specs.Waiters.{WaitingGroups, kept_cert}
 use Rattle.lp_cert.specs.inside.Waiters.{AreHeads, AreStanding, HasFewGroups, HasHeadFor, HasHeads, lines_at}
 use Rattle.lp_cert.specs.Invariant.{claim_of, upto_of, floor_waiters, end_waiters}
@@ -56,6 +58,8 @@ pub record IsReady (current : Option OpenLeg) (waiters : WaitingGroups) (ended_r
   pub heads : HasHeads waiters
   pub child : HasHeadFor ready.event waiters.reasons
   pub end_room : ready.opens ≡ true → 0 < ended_room
+  -- and for a look at all tasks, at a scan
+  pub all_room : is_scan ready.event ≡ true → length waiters.reasons.heads ≤ waiters.reasons.room
   pub left : HasClosing current waiters ready.opens closing
 
 abbrev pub IfReady : Option OpenLeg → WaitingGroups → ℕ → Option (List Cert) → Option Ready → Type 0
@@ -95,3 +99,20 @@ pub record IsUnchangedOn (model : Rules) (e : Engine) (step : Weighed) (old : Op
   pub continues :
       old.completed ≡ None → step.reply.completed ≡ false →
       AreStanding after × IsLastScanAfter model e step.event step.verdicts after.reasons was is
+
+-- the step with other verdicts
+abbrev pub with_verdicts : Weighed → List Verdict → Weighed
+with_verdicts step verdicts = record { event = step.event; reply = step.reply; verdicts = verdicts; born = step.born }
+
+-- an event may be noted by these verdicts: it may be answered by them, and where the leg continues they tell of each group that
+-- has changed
+pub record MayBeNotedBy (model : Rules) (e : Engine) (step : Weighed) (leg : OpenLeg) (waiters : WaitingGroups) (last_scan : LastScan) (verdicts : List Verdict) : Type 0 where
+  pub enough : AreVerdictsFor model (state_in e) step.event verdicts
+  pub told : leg.completed ≡ None → step.reply.completed ≡ false → AreToldOf model e step.event waiters last_scan verdicts
+
+-- what an event that opens no leg makes of the one under way, by verdicts that tell enough: its own, or those of all who wait
+pub record IsNoted (model : Rules) (e : Engine) (step : Weighed) (number : ℕ) (old new : OpenLeg) (before after : WaitingGroups) (was is : LastScan) : Type 0 where
+  pub verdicts : List Verdict
+  pub told : MayBeNotedBy model e step old before was verdicts
+  pub gone_on : IsStepped model e (with_verdicts step verdicts) number old new before after
+  pub unchanged : (is.kind ≡ None) ⊎ IsUnchangedOn model e (with_verdicts step verdicts) old after was is

@@ -15,7 +15,8 @@ use Rattle.lp_cert.specs.declared.ongoing.Ongoing.TheVariants.{Nothing, Hold, Bu
 use Rattle.lp_cert.specs.inside.Heads.{is_busy}
 use Rattle.lp_cert.specs.inside.Touched.{touched, is_childs}
 use Rattle.lp_transition.specs.Blames.{blame_in, has_frame_in}
-use Rattle.lp_cert.specs.Waiters.{LegReasons, head_of}
+use Rattle.lp_transition.specs.Scan.{verdicts_of}
+use Rattle.lp_cert.specs.Waiters.{LegReasons, WaitingGroups, head_of}
 use Rattle.lp_cert.specs.LastScan.{LastScan, used_scan}
 
 -- the reason of a group continues where this task is refused so: a hold whose frame is still there, if its own task is refused too;
@@ -83,6 +84,13 @@ pub record IsTouched (e : Engine) (reasons : LegReasons) (event : Event) (old ne
   pub groups : (group : ℕ) → has new.changed_since group ≡ (has old.changed_since group || (is_some old.kind && disturbs e reasons event group))
   -- reasons are kept of the group to whose member something happens
   pub few : is_some old.kind ≡ true → (t : ℕ) (x : Standing) → touched event ≡ Some t → slot e.table t ≡ Some x → x.group < 65536
+
+-- of a scan that the model uses the verdicts are of all waiting tasks, or one is of a member of each group that waits and has changed
+abbrev pub AreToldOf : Rules → Engine → Event → WaitingGroups → LastScan → List Verdict → Type 0
+AreToldOf model e event waiters last_scan verdicts =
+    (kind : CheckKind) → used_scan model event ≡ Some kind →
+    (verdicts ≡ verdicts_of model kind (state_in e))
+    ⊎ ((group : ℕ) → group < 65536 → has waiters.groups group ≡ true → (list_any (is_of_group e group) verdicts ≡ true) ⊎ ((last_scan.kind ≡ Some kind) × (has last_scan.changed_since group ≡ false)))
 
 -- after an event that opens no leg, with the reasons after it
 pub record IsLastScanAfter (model : Rules) (e : Engine) (event : Event) (verdicts : List Verdict) (reasons : LegReasons) (old new : LastScan) : Type 0 where

@@ -24,7 +24,8 @@ use Rattle.lp_cert.specs.declared.head.Waiter.{Waiter}
 use Rattle.lp_cert.specs.Certificates.{after_refusal, birth_line, group_id}
 use Rattle.lp_cert.specs.Heads.{head_lines}
 use Rattle.lp_cert.specs.inside.Heads.{IsHead, IsUsed, Keeps}
-use Rattle.lp_transition.specs.Blames.{has_frame_in, member_verdict, first_refused}
+use Rattle.lp_transition.specs.Blames.{has_frame_in}
+use Rattle.lp_transition.specs.Scan.{member_verdict, first_refused}
 use Rattle.lp_cert.specs.Waiters.{no_head, LegReasons, head_of, WaitingGroups}
 
 -- the lines of a group, the newest in front

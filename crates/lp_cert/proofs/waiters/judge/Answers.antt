@@ -1,9 +1,10 @@
-use Rattle.std.proofs.Common.{◌≡◌, ◌<◌, subst, sym, ◌∙◌, arith}
+use Rattle.std.proofs.Common.{◌≡◌, ◌<◌, length, subst, sym, ◌∙◌, arith}
 use Rattle.lp_cert.specs.declared.head.Head.{Head}
 use Rattle.lp_cert.specs.inside.Heads.{HasFrameAs}
 use Rattle.lp_transition.specs.Blames.{has_frame_in}
 use Rattle.lp_transition.specs.Table.{state_in}
 use Rattle.lp_cert.specs.inside.Waiters.{is_left}
+use Rattle.lp_cert.proofs.WholeScans.{count_less}
 use Rattle.lp_cert.proofs.WaiterLemmas.{grouped, judges, not_left, others_left}
 use Rattle.lp_cert.proofs.waiters.judge.Goals as goal
 
@@ -21,3 +22,14 @@ returns-clause-judged g c =
     judges s c.args.at c.args.verdict.now c.in-Some.blame group c.has_standing_frame.result (is_left c.args.waiting.now c.args.refused.now) (is_left c.args.waiting.now c.insert.new.self) c.args.reasons.now c.refuse.new.self
     mine c.in-Some.is waits (subst (λ (h : Head). HasFrameAs (has_frame_in s) h.ongoing c.has_standing_frame.result) c.head.ensures c.has_standing_frame.ensures) c.refuse.ensures.refused c.refuse.ensures.others c.refuse.ensures.scans c.refuse.ensures.room c.refuse.ensures.scan_room
     (not_left c.args.waiting.now c.args.refused.now c.insert.new.self group.0 c.insert.ensures.after c.insert.ensures.numbers few) (others_left c.args.waiting.now c.args.refused.now c.insert.new.self group.0 c.insert.ensures.after)
+
+pub returns-clause-spent : goal.returns-clause-spent
+returns-clause-spent g c =
+    let group = c.in-Some-group_of.group in
+    let waits = sym c.is_left.ensures.left ∙ c.if-not-is_left.false in
+    let few : group.0 < 65536 = omega arith in
+    let below = c.requires.wide group.0 (c.is_left.ensures.waits c.if-not-is_left.false) in
+    let less = count_less (is_left c.args.waiting.now c.args.refused.now) (is_left c.args.waiting.now c.insert.new.self) group.0 waits
+    (not_left c.args.waiting.now c.args.refused.now c.insert.new.self group.0 c.insert.ensures.after c.insert.ensures.numbers few)
+    (others_left c.args.waiting.now c.args.refused.now c.insert.new.self group.0 c.insert.ensures.after) (length c.args.reasons.now.heads) below in
+    omega (arith, less, c.refuse.ensures.room)

@@ -1,13 +1,15 @@
-use Rattle.std.proofs.Common.{Bool, inr, ◌≡◌, ◌+◌, [], Some, None, true, false, if◌then◌else◌, refl, sym, ap, subst, ◌∙◌}
+use Rattle.std.proofs.Common.{Bool, ◌≡◌, ◌+◌, [], Some, None, true, false, if◌then◌else◌, refl, sym, ap, subst, ◌∙◌}
 use Rattle.std.specs.Option.{option_map}
 use Rattle.lp_transition.specs.declared.event.Event.{Event}
+use Rattle.lp_transition.specs.Events.{is_scan}
 use Rattle.lp_transition.specs.Table.{state_in}
 use Rattle.lp_cert.specs.declared.open_leg.OpenLeg.{OpenLeg}
 use Rattle.lp_cert.specs.Ends.{Made, Room, IsMadeOf, is_opening, room_for}
 use Rattle.lp_cert.specs.Invariant.{open_end, room_of}
 use Rattle.lp_cert.specs.inside.Invariant.{HasClosing, IsClosing}
 use Rattle.lp_cert.specs.inside.Waiters.{HasHeadFor, has_off}
-use Rattle.lp_cert.proofs.Noted.{none_made, still_made, turned_made, ready_for, room_is, opens_is}
+use Rattle.lp_cert.proofs.Noted.{none_made, turned_made, ready_for, room_is, opens_is}
+use Rattle.lp_cert.proofs.NotedBy.{noted_made}
 use Rattle.lp_cert.proofs.Asked.{not_so, not_other}
 use Rattle.lp_cert.proofs.UnchangedSteps.{none_unchanged}
 use Rattle.lp_cert.proofs.maker.Maker.note.Goals as goal
@@ -25,9 +27,17 @@ step_leg-requires-clause-child g c =
     let ready = ready_for i.current i.waiters _ i.closing i.ready c.in-Some.ready c.self.invariant.for_event kept in
     subst (λ (event : Event). HasHeadFor event i.waiters.reasons) (ap (λ (r : Room). r.event) (room_is i.ready c.in-Some.ready (room_for c.args.step.now) kept asked)) ready.child
 
+pub step_leg-requires-clause-all_room : goal.step_leg-requires-clause-all_room
+step_leg-requires-clause-all_room g c = λ scan.
+    let i = c.self.inside in
+    let kept : i.ready ≡ Some c.in-Some.ready = sym c.take.ensures.value ∙ c.in-Some.is in
+    let asked = rw (← c.self.view_is) at c.requires.ready in
+    let ready = ready_for i.current i.waiters _ i.closing i.ready c.in-Some.ready c.self.invariant.for_event kept in
+    ready.all_room (ap (λ (r : Room). is_scan r.event) (room_is i.ready c.in-Some.ready (room_for c.args.step.now) kept asked) ∙ scan)
+
 pub returns-in_default-current : goal.returns-in_default-current
 returns-in_default-current g c = record {
-  made = λ run stands is suffices.
+  made = λ run stands is.
       let i = c.self.inside in
       let number = c.events.result + 1 in
       let old : Made = record { ended = i.ended.items; current = option_map (open_end i.noted i.waiters) i.current; ready = option_map room_of i.ready; last_scan = i.unchanged } in
@@ -42,7 +52,7 @@ returns-in_default-current g c = record {
 
 pub returns-then-not-ready : goal.returns-then-not-ready
 returns-then-not-ready g c = record {
-  made = λ run stands is suffices.
+  made = λ run stands is.
       let i = c.self.inside in
       let number = c.events.result + 1 in
       let old : Made = record { ended = i.ended.items; current = option_map (open_end i.noted i.waiters) i.current; ready = option_map room_of i.ready; last_scan = i.unchanged } in
@@ -50,14 +60,13 @@ returns-then-not-ready g c = record {
       let was : IsMadeOf g.M.Consistency.rules run old = rw (← c.self.view_is) at is in
       let asked = rw (← c.self.view_is) at c.requires.ready in
       let stays : is_opening c.args.step.now ≡ false = sym (opens_is i.ready c.in-Some.ready (room_for c.args.step.now) (sym c.take.ensures.value ∙ c.in-Some.is) asked) ∙ not_so c.in-Some.ready.opens c.if-not-ready.true in
-      still_made g.M.Consistency.rules g.met.M.Consistency.lawful run c.args.core.now stands c.args.step.now c.requires.weighed old new was stays refl
-      i.noted number c.in-Some-current.leg c.step_leg.new.leg i.waiters c.step_leg.new.waiters (ap (λ m. m + 1) c.events.ensures.value) c.step_leg.ensures.gone_on (rw (← c.self.view_is) at suffices) (inr c.step_leg.ensures.unchanged)
-      (ap (option_map (open_end i.noted i.waiters)) c.in-Some-current.is) refl;
+      noted_made g.M.Consistency.rules g.met.M.Consistency.lawful run c.args.core.now stands c.args.step.now c.requires.weighed old new was stays refl c.events.ensures.wide i.noted number c.in-Some-current.leg c.step_leg.new.leg i.waiters c.step_leg.new.waiters
+      (ap (option_map (open_end i.noted i.waiters)) c.in-Some-current.is) (ap (λ m. m + 1) c.events.ensures.value) c.step_leg.ensures.noted refl;
 }
 
 pub returns : goal.returns
 returns g c = record {
-  made = λ run stands is suffices.
+  made = λ run stands is.
       let i = c.self.inside in
       let model = g.M.Consistency.rules in
       let s = state_in c.args.core.now in

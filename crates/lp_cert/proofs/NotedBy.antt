@@ -1,0 +1,118 @@
+-- What is made of a run with an event more that opens no leg, by verdicts that tell of each group that has changed.
+use Rattle.std.proofs.Common.{◌≡◌, ◌⊎◌, ℕ, ◌+◌, ◌<◌, Bool, true, false, List, length, Option, Some, None, IsTrue, if◌then◌else◌, nat_eq, refl, sym, ap, subst, inl, inr, ◌∙◌, ⊎_elim}
+use Rattle.std.specs.List.{list_any}
+use Rattle.std.proofs.lemmas.Bool.{false≢true, cond-true, eq-eqb}
+use Rattle.lp_numbers.specs.Numbers.{has}
+use Rattle.lp_model.specs.Rules.{Rules, IsLawful}
+use Rattle.lp_model.specs.declared.check.CheckKind.{CheckKind}
+use Rattle.lp_model.specs.declared.check.CheckKind.TheVariants as kind
+use Rattle.lp_model.specs.declared.verdict.Verdict.{Verdict}
+use Rattle.lp_transition.specs.declared.event.Event.{Event}
+use Rattle.lp_transition.specs.Tasks.{Live, on_live}
+use Rattle.lp_transition.specs.Leg.{Standing, State}
+use Rattle.lp_transition.specs.Machine.{state_of, waits_in}
+use Rattle.lp_transition.specs.Run.{Run, leg_of, plus}
+use Rattle.lp_transition.specs.Scan.{is_of, is_scan_kind, scan_event, verdicts_of}
+use Rattle.lp_transition.specs.Sound.{IsSound}
+use Rattle.lp_transition.specs.Steps.{StandsIn}
+use Rattle.lp_transition.specs.Table.{Engine, IsWide, state_in}
+use Rattle.lp_transition.specs.Weigh.{AreVerdictsFor, IsWeighed, Weighed, verdicts_for}
+use Rattle.lp_transition.proofs.AskedScans.{all-enough}
+use Rattle.lp_transition.proofs.ScanAnswers.{verdicts-scan}
+use Rattle.lp_transition.proofs.ScanLists.{verdict-from}
+use Rattle.lp_transition.proofs.ScanTakes.{group_fits}
+use Rattle.lp_transition.proofs.TableLemmas.{slot_from_live}
+use Rattle.lp_cert.specs.declared.line.Line.{Line}
+use Rattle.lp_cert.specs.declared.open_leg.OpenLeg.{OpenLeg}
+use Rattle.lp_cert.specs.Certificates.{lines}
+use Rattle.lp_cert.specs.Ends.{Made, IsMadeOf, is_opening}
+use Rattle.lp_cert.specs.Invariant.{open_end}
+use Rattle.lp_cert.specs.LastScan.{LastScan, TellOfChanged, used_scan}
+use Rattle.lp_cert.specs.Waiters.{WaitingGroups}
+use Rattle.lp_cert.specs.inside.Invariant.{IsNoted, IsUnchangedOn, with_verdicts}
+use Rattle.lp_cert.specs.inside.LastScan.{AreToldOf, is_of_group}
+use Rattle.lp_cert.proofs.Noted.{engine_sound, lines_before, present_sound, some_before, still_made}
+use Rattle.lp_cert.proofs.Touching.{lines_held}
+use Rattle.lp_cert.proofs.UnchangedSteps.{none_unchanged, of_member, scan_is}
+
+-- ---- The verdicts of all waiting tasks
+
+told_of_all : (model : Rules) (s : State) → IsSound s → (on : CheckKind) (last_scan : LastScan) → TellOfChanged s (Some on) (verdicts_of model on s) last_scan
+told_of_all model s sound on last_scan t x live off =
+    let bounds = sound.numbered t x live in
+    inl (verdict-from model on s (is_of s x.group) (record {
+      number = t;
+      task = x;
+      live = live;
+      off = off;
+      passed = ap (on_live false (λ (y : Standing). nat_eq y.group x.group)) live ∙ eq-eqb x.group x.group refl;
+    }) bounds.0 bounds.1)
+
+all_used : (model : Rules) (s : State) (on : CheckKind) → is_scan_kind on ≡ true → IsTrue (model.uses on) → verdicts_for model s (scan_event on) ≡ verdicts_of model on s
+all_used model s kind.Walk scan used = cond-true (model.uses kind.Walk) _ _ used
+all_used model s kind.Stop scan used = cond-true (model.uses kind.Stop) _ _ used
+all_used model s kind.KernelExit scan used = absurd (false≢true scan)
+all_used model s kind.IdlePoint scan used = absurd (false≢true scan)
+
+-- an event that was weighed after a look at all of them
+pub suffices_all : (model : Rules) (s : State) → IsSound s → (event : Event) (vs : List Verdict) → vs ≡ verdicts_for model s event → (last_scan : LastScan) → TellOfChanged s (used_scan model event) vs last_scan
+suffices_all model s sound event vs all last_scan = by (used_scan model event) refl
+  where
+    by : (o : Option CheckKind) → used_scan model event ≡ o → TellOfChanged s o vs last_scan
+    by None is = tt
+    by (Some on) is =
+        let scan = scan_is model event on is in
+        subst (λ ws. TellOfChanged s (Some on) ws last_scan) (sym (all ∙ (ap (verdicts_for model s) scan.is ∙ all_used model s on scan.scan scan.used))) (told_of_all model s sound on last_scan)
+
+-- it may be answered by them
+pub enough_all : (model : Rules) (s : State) (event : Event) (on : CheckKind) → used_scan model event ≡ Some on → AreVerdictsFor model s event (verdicts_of model on s)
+enough_all model s event on is =
+    let scan = scan_is model event on is in
+    subst (λ (ev : Event). AreVerdictsFor model s ev (verdicts_of model on s)) (sym scan.is) (verdicts-scan model s on (verdicts_of model on s) scan.scan (all-enough model on s (verdicts_of model on s) refl))
+
+-- ---- Verdicts of the groups that have changed
+
+suffices_from : (model : Rules) (e : Engine) (event : Event) (before : WaitingGroups) (last_scan : LastScan) (vs : List Verdict) → IsSound (state_in e) → IsWide e.table
+    → ((t : ℕ) (x : Standing) → (state_in e).tasks t ≡ Live x → nat_eq x.level e.target ≡ false → x.group < 65536 → has before.groups x.group ≡ true)
+    → AreToldOf model e event before last_scan vs → TellOfChanged (state_in e) (used_scan model event) vs last_scan
+suffices_from model e event before last_scan vs sound wide waits told = by (used_scan model event) refl
+  where
+    by : (o : Option CheckKind) → used_scan model event ≡ o → TellOfChanged (state_in e) o vs last_scan
+    by None is = tt
+    by (Some on) is =
+        ⊎_elim
+        (λ (all : vs ≡ verdicts_of model on (state_in e)). subst (λ ws. TellOfChanged (state_in e) (Some on) ws last_scan) (sym all) (told_of_all model (state_in e) sound on last_scan))
+        (λ (groups : (g : ℕ) → g < 65536 → has before.groups g ≡ true → (list_any (is_of_group e g) vs ≡ true) ⊎ ((last_scan.kind ≡ Some on) × (has last_scan.changed_since g ≡ false))).
+        λ t x live off.
+        let few = group_fits e t x sound wide (slot_from_live e.table t x live) in
+        ⊎_elim
+        (λ (some : list_any (is_of_group e x.group) vs ≡ true). inl (of_member e x.group vs ∙ some))
+        (λ (left : (last_scan.kind ≡ Some on) × (has last_scan.changed_since x.group ≡ false)). inr left)
+        (groups x.group few (waits t x live off few)))
+        (told on is)
+
+module _ (model : Rules) (lawful : IsLawful model) (run : Run) (e : Engine) (stands : StandsIn model run (state_in e)) (step : Weighed) (weighed : IsWeighed model e step) (made new : Made) (is : IsMadeOf model run made)
+    (stays : is_opening step ≡ false) (ended : new.ended ≡ made.ended) (wide : IsWide e.table) (noted number : ℕ) (leg later_leg : OpenLeg) (before later : WaitingGroups) (old : made.current ≡ Some (open_end noted before leg)) where
+  abbrev sound : IsSound (state_in e)
+  sound = engine_sound model lawful run e stands
+
+  -- who waits is kept
+  waits_kept : leg.completed ≡ None → (t : ℕ) (x : Standing) → (state_in e).tasks t ≡ Live x → nat_eq x.level e.target ≡ false → x.group < 65536 → has before.groups x.group ≡ true
+  waits_kept unended t x live off few =
+      let present = leg_of model run in
+      let was = some_before model _ present (open_end noted before leg) (sym old ∙ is.current) in
+      let told : (g : ℕ) → g < 65536 → _ = λ g below.
+      lines_before model lawful e sound present (present_sound model lawful run e stands) stands.there step weighed noted leg before was.0 unended g below
+      ∙ ap (λ (s : State). if waits_in s g then Some (lines model present (length present.events) g) else None) stands.there in
+      (lines_held model lawful present (present_sound model lawful run e stands) before (length present.events) told t x
+      (subst (λ (s : State). s.tasks t ≡ Live x) stands.there live) (subst (λ (s : State). nat_eq x.level s.target ≡ false) stands.there off) few).0
+
+  pub noted_made : number ≡ e.number + 1 → IsNoted model e step number leg later_leg before later made.last_scan new.last_scan → new.current ≡ Some (open_end number later later_leg) → IsMadeOf model (plus run step.event) new
+  noted_made numbered on now =
+      still_made model lawful run e stands (with_verdicts step on.verdicts) (record { room = weighed.room; reply = weighed.reply; born = weighed.born; verdicts = on.told.enough }) made new is stays ended noted number leg later_leg before later numbered on.gone_on
+      (λ unended incomplete. suffices_from model e step.event before made.last_scan on.verdicts sound wide (waits_kept unended) (on.told.told unended incomplete))
+      (⊎_elim
+      (λ (none : new.last_scan.kind ≡ None). inl (none_unchanged model _ _ new.last_scan none))
+      (λ (unchanged : IsUnchangedOn model e (with_verdicts step on.verdicts) leg later made.last_scan new.last_scan). inr unchanged)
+      on.unchanged)
+      old now

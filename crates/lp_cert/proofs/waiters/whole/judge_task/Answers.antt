@@ -1,0 +1,12 @@
+use Rattle.std.proofs.Common.{not, length, arith}
+use Rattle.std.proofs.lemmas.Bool.{and_parts}
+use Rattle.lp_numbers.specs.Numbers.{has}
+use Rattle.lp_cert.specs.inside.Waiters.{is_left}
+use Rattle.lp_cert.proofs.WholeScans.{count_some}
+use Rattle.lp_cert.proofs.waiters.whole.judge_task.Goals as goal
+
+pub judge-requires-clause-room : goal.judge-requires-clause-room
+judge-requires-clause-room g c = λ group left.
+    let waits = (and_parts (has c.args.waiting.now group) (not (has c.args.refused.now group)) left).0 in
+    let some = count_some (is_left c.args.waiting.now c.args.refused.now) (length c.args.reasons.now.heads) group (c.requires.wide group waits) left in
+    omega (arith, some, c.requires.room)

@@ -1,0 +1,113 @@
+//! Scans of which it isn't known of each group that waits what they found.
+ghost use Rattle.std.specs.Prelude.{◌≡◌, ◌+◌, ◌<◌, ◌≤◌, ℕ, true, length, IsTrue};
+ghost use Rattle.lp_numbers.specs.Numbers.{has};
+ghost use Rattle.lp_transition.specs.Scan.{verdicts_of};
+ghost use Rattle.lp_transition.specs.Table.{state_in};
+ghost use Rattle.lp_cert.specs.inside.Waiters.{AreJudged, AreStanding, HasHeads, StandsAt, is_left, lines_at, scanned_lines};
+ghost use Rattle.lp_cert.specs.inside.WholeScans.{IsLookedAt, IsTold, count_below, found_of};
+
+use super::{Waiters, judge};
+use crate::group_set::GroupSet;
+use crate::reasons::Reasons;
+use lp_model::{CheckKind, Consistency, Verdict};
+use lp_numbers::NumberSet;
+use lp_stack::TaskId;
+use lp_transition::Core;
+
+impl Waiters {
+    /// Whether each of these groups that waits is among those that are told of.
+    pub(crate) fn are_told(&self, asked: &NumberSet, told: &NumberSet) -> bool
+        ensures { IsTrue result → (group : ℕ) → group < 65536 → has self.now.groups group ≡ true → has asked.now group ≡ true → has told.now group ≡ true }
+    {
+        for number in asked {
+            if !is_told(&self.groups, told, number) {
+                return false;
+            }
+        }
+        true
+    }
+
+    /// Whether each group that waits is among those that are told of.
+    pub(crate) fn all_told(&self, told: &NumberSet) -> bool
+        ensures { IsTrue result → (group : ℕ) → group < 65536 → has self.now.groups group ≡ true → has told.now group ≡ true }
+    {
+        for number in &self.groups {
+            if !is_told(&self.groups, told, number) {
+                return false;
+            }
+        }
+        true
+    }
+
+    /// A scan of this kind, with what it finds of each task that waits. Never allocates.
+    pub(crate) fn scan_all<M: Consistency>(&mut self, core: &Core<M>, kind: CheckKind, at: u64)
+        requires used { IsTrue (M.rules.uses kind) }
+        requires wide { HasHeads self.old }
+        requires room { length self.old.reasons.heads ≤ self.old.reasons.room }
+        requires scan_room { 0 < self.old.reasons.scan_room }
+        ensures lines { (group : ℕ) → lines_at self.new group ≡ scanned_lines (state_in core.now) at (verdicts_of M.rules kind (state_in core.now)) self.old group }
+        ensures stood { AreStanding self.old }
+    {
+        let refused = &mut self.refused;
+        refused.clear();
+        judge_tasks(core, kind, at, &self.groups, refused, &mut self.reasons);
+        self.reasons.scanned(at);
+    }
+}
+
+/// Whether a group is told of, where it waits.
+fn is_told(waiting: &GroupSet, told: &NumberSet, group: u16) -> bool
+    ensures { IsTrue result → IsTold waiting.now told.now group }
+{
+    !waiting.contains(group) || told.contains(group)
+}
+
+/// Notes what a scan of this kind finds of each task that waits.
+fn judge_tasks<M: Consistency>(
+    core: &Core<M>,
+    kind: CheckKind,
+    at: u64,
+    waiting: &GroupSet,
+    refused: &mut NumberSet,
+    reasons: &mut Reasons,
+)
+    requires used { IsTrue (M.rules.uses kind) }
+    requires stand { (group : ℕ) → is_left waiting.now refused.old group ≡ true → StandsAt (length reasons.old.scans) reasons.old group }
+    requires wide { (group : ℕ) → has waiting.now group ≡ true → group < length reasons.old.heads }
+    requires room { length reasons.old.heads ≤ reasons.old.room }
+    ensures { AreJudged (state_in core.now) at (verdicts_of M.rules kind (state_in core.now)) (is_left waiting.now refused.old) (is_left waiting.now refused.new) reasons.old reasons.new }
+{
+    let mut from = 1u32;
+    while let Some(number) = core.next_live(from) {
+        judge_task(core, kind, at, TaskId(number), waiting, refused, reasons);
+        from = u32::from(number) + 1;
+    }
+}
+
+/// Notes what a scan of this kind finds of a task, if it waits.
+fn judge_task<M: Consistency>(
+    core: &Core<M>,
+    kind: CheckKind,
+    at: u64,
+    task: TaskId,
+    waiting: &GroupSet,
+    refused: &mut NumberSet,
+    reasons: &mut Reasons,
+)
+    requires used { IsTrue (M.rules.uses kind) }
+    requires stand { (group : ℕ) → is_left waiting.now refused.old group ≡ true → StandsAt (length reasons.old.scans) reasons.old group }
+    requires wide { (group : ℕ) → has waiting.now group ≡ true → group < length reasons.old.heads }
+    requires room { count_below (is_left waiting.now refused.old) (length reasons.old.heads) ≤ reasons.old.room }
+    ensures width { length reasons.new.heads ≡ length reasons.old.heads }
+    ensures looked { IsLookedAt (state_in core.now) at (found_of M.rules kind (state_in core.now) task.0) waiting.now refused.old refused.new reasons.old reasons.new }
+    ensures room { count_below (is_left waiting.now refused.new) (length reasons.new.heads) ≤ reasons.new.room }
+{
+    let Some(view) = core.task(task) else {
+        return;
+    };
+    if core.side_of(task) == Some(core.target()) {
+        return;
+    }
+    let verdict = Verdict::of(&core.model(), kind, &view, &core.aim());
+    judge(core, at, &verdict, waiting, refused, reasons);
+}
