@@ -1,6 +1,6 @@
 -- The heading after an event.
-use Rattle.std.proofs.Common.{◌≡◌, ℕ, suc, pred, ◌<◌, ◌≤◌, min, Bool, true, false, not, ◌&&◌, List, [], ◌∷◌, Option, Some, None, IsTrue, nat_eq, if◌then◌else◌, refl, sym, ap, ap₂, subst, ◌∙◌, ⊎_elim, arith}
-use Rattle.std.proofs.lemmas.Bool.{cases_Bool, eq-eqb, eqb-true, cond-true, cond-false}
+use Rattle.std.proofs.Common.{◌≡◌, ℕ, suc, pred, min, Bool, true, false, not, ◌&&◌, List, [], ◌∷◌, Option, Some, None, IsTrue, nat_eq, if◌then◌else◌, refl, sym, ap, ap₂, subst, ◌∙◌, arith}
+use Rattle.std.proofs.lemmas.Bool.{eq-eqb, eqb-true, cond-true, cond-false}
 use Rattle.std.specs.List.{filter_map, list_any, cons_option}
 use Rattle.lp_stack.specs.declared.number.Level.{Level}
 use Rattle.lp_stack.specs.declared.number.TaskId.{TaskId}
@@ -21,13 +21,11 @@ use Rattle.lp_transition.specs.Table.{Engine, IsWide, slot, standings, state_in}
 use Rattle.lp_transition.specs.Weigh.{Weighed, IsWeighed, AreVerdictsFor}
 use Rattle.lp_transition.specs.inside.ScanSteps.{task_switches}
 use Rattle.lp_transition.proofs.Quantifiers.{each_live-at, each_live-from}
-use Rattle.lp_transition.proofs.States.{next_keeps_sound}
-use Rattle.lp_transition.proofs.EngineLemmas.{next-accepted}
 use Rattle.lp_board.specs.declared.sheet.Heading.{Heading}
 use Rattle.lp_board.specs.declared.sheet.Update.{Update}
 use Rattle.lp_board.specs.Pages.{level_of, level_by, IsHeading, Leads}
-use Rattle.lp_board.specs.Changes.{target_if, target_among, levels_switched, levels_done, levels_by, heading_on, heading_unless, heading_by}
-use Rattle.lp_board.proofs.NewLevels.{some_level, levels-lead}
+use Rattle.lp_board.specs.Changes.{target_if, levels_switched, levels_done, levels_by, heading_on, heading_unless, heading_by}
+use Rattle.lp_board.proofs.NewLevels.{levels-lead}
 
 -- ---- Levels that are on the target, where there are any
 

@@ -1,5 +1,5 @@
 -- The levels that an event changes.
-use Rattle.std.proofs.Common.{◌≡◌, ◌≢◌, ◌⊎◌, ℕ, zero, suc, ◌+◌, ◌<◌, ◌≤◌, Bool, true, false, not, ◌&&◌, ◌||◌, List, [], ◌∷◌, ◌++◌, length, Option, Some, None, IsTrue, nat_eq, if◌then◌else◌, refl, sym, ap, ap₂, subst, ◌∙◌, ⊎_elim, inl, inr, arith}
+use Rattle.std.proofs.Common.{◌≡◌, ◌≢◌, ℕ, suc, ◌<◌, ◌≤◌, Bool, true, false, not, ◌&&◌, ◌||◌, List, [], ◌∷◌, Option, Some, None, IsTrue, nat_eq, if◌then◌else◌, refl, sym, ap, ap₂, subst, ◌∙◌, ⊎_elim, arith}
 use Rattle.std.proofs.lemmas.Bool.{cases_Bool, cases_eq, eq-eqb, ne_eqb, eqb-true, cond-true, cond-false, false≢true}
 use Rattle.std.specs.List.{filter, filter_map, list_any, cons_option, range_with_len}
 use Rattle.lp_stack.specs.declared.number.Level.{Level}
@@ -15,11 +15,11 @@ use Rattle.lp_transition.specs.declared.refusal.Refusal.{Refusal}
 use Rattle.lp_transition.specs.Tasks.{Fate, Unused, Live, Dead, on_live, map_live, change}
 use Rattle.lp_transition.specs.Leg.{Standing, State, each_live, is_alone, check_by, when, if_used}
 use Rattle.lp_transition.specs.Sound.{IsSound}
-use Rattle.lp_transition.specs.Machine.{Standings, outline_of, outlines_of, put_in, calling, returning, bearing, own_effect, waits_in, admits_all, switches_at, switched_groups, switched_task, affected, with_switches, refusal_of, next_by, answer_by}
+use Rattle.lp_transition.specs.Machine.{Standings, outline_of, outlines_of, put_in, calling, returning, bearing, waits_in, admits_all, switches_at, switched_groups, switched_task, affected, next_by, answer_by}
 use Rattle.lp_transition.specs.Run.{switched}
-use Rattle.lp_transition.specs.Table.{Table, Engine, IsWide, slot, fate_at, standings, state_in}
+use Rattle.lp_transition.specs.Table.{Engine, IsWide, slot, standings, state_in}
 use Rattle.lp_transition.specs.Weigh.{AreVerdictsFor}
-use Rattle.lp_transition.specs.Scan.{verdicts_of, AreEnough, passing}
+use Rattle.lp_transition.specs.Scan.{verdicts_of, AreEnough}
 use Rattle.lp_transition.specs.inside.ScanSteps.{is_judged, switches_by, task_switches}
 use Rattle.lp_transition.proofs.EngineLemmas.{and-false, is_quiet, quiet-stays}
 use Rattle.lp_transition.proofs.TableLemmas.{slot_from_live, live_from_slot}
@@ -29,7 +29,7 @@ use Rattle.lp_transition.proofs.Passing.{passing-any}
 use Rattle.lp_transition.proofs.ScanAnswers.{switching_by, switches-walk, switches-stop}
 use Rattle.lp_transition.proofs.ScanTakes.{group_fits}
 use Rattle.lp_board.specs.Pages.{level_of, level_by}
-use Rattle.lp_board.specs.Changes.{target_if, target_among, levels_switched, levels_done, levels_by}
+use Rattle.lp_board.specs.Changes.{target_if, target_among, levels_by}
 
 abbrev pub some_level : ℕ → Option Level
 some_level l = Some (record { 0 = l })

@@ -1,5 +1,5 @@
 -- What is shown by a page, and a page after a change.
-use Rattle.std.proofs.Common.{◌≡◌, ◌≢◌, ℕ, zero, suc, ◌<◌, ◌+◌, Bool, true, false, List, [], ◌∷◌, ◌++◌, length, fold, get_or, set, Option, Some, None, nat_eq, if◌then◌else◌, refl, sym, ap, subst, ◌∙◌, ⊎_elim, arith}
+use Rattle.std.proofs.Common.{◌≡◌, ℕ, zero, suc, ◌<◌, ◌+◌, Bool, List, [], ◌∷◌, ◌++◌, length, fold, get_or, set, Option, Some, None, nat_eq, if◌then◌else◌, refl, sym, ap, subst, ◌∙◌, ⊎_elim, arith}
 use Rattle.std.proofs.lemmas.Bool.{cases_eq, cond-true, cond-false}
 use Rattle.std.proofs.lemmas.Bool.Decides.{nat_tests}
 use Rattle.std.proofs.lemmas.List.{length-set, get_or-set_same, get_or-set_other, append-nil}
@@ -11,14 +11,13 @@ use Rattle.lp_transition.specs.declared.event.Event.{Event}
 use Rattle.lp_transition.specs.Tasks.{Fate, Unused, Live, Dead}
 use Rattle.lp_transition.specs.Leg.{Standing, State}
 use Rattle.lp_board.specs.declared.shown.Shown.{Shown}
-use Rattle.lp_board.specs.declared.shown.Shown.TheVariants.{Absent}
 use Rattle.lp_board.specs.declared.sheet.Heading.{Heading}
 use Rattle.lp_board.specs.declared.sheet.Page.{Page}
 use Rattle.lp_board.specs.declared.sheet.Update.{Update}
 use Rattle.lp_board.specs.declared.sheet.Change.{Change}
-use Rattle.lp_board.specs.Words.{shown_on, shown_of, shown_word, is_in_transition, lower_level, if_live, all_shown}
+use Rattle.lp_board.specs.Words.{shown_of, shown_word, is_in_transition, lower_level, if_live, all_shown}
 use Rattle.lp_board.specs.Names.{Name, state_after}
-use Rattle.lp_board.specs.Pages.{level_of, IsHeading, IsPageOf, IsPage, shown_by, shown_at, written, level_by, Leads, page_after}
+use Rattle.lp_board.specs.Pages.{level_of, IsPageOf, IsPage, shown_by, shown_at, written, level_by, Leads, page_after}
 
 -- ---- What is shown
 

@@ -1,18 +1,16 @@
 -- What an event changes on the board, by the answer to it.
-use Rattle.std.specs.Prelude.{ℕ, pred, Bool, true, false, not, ◌&&◌, List, [], ◌∷◌, Option, Some, None, if◌then◌else◌, nat_eq}
+use Rattle.std.specs.Prelude.{ℕ, pred, Bool, not, ◌&&◌, List, [], ◌∷◌, Option, Some, None, if◌then◌else◌, nat_eq}
 use Rattle.std.specs.List.{list_any, filter_map}
 use Rattle.lp_stack.specs.declared.number.Level.{Level}
 use Rattle.lp_stack.specs.declared.number.TaskId.{TaskId}
-use Rattle.lp_stack.specs.declared.number.GroupId.{GroupId}
 use Rattle.lp_model.specs.declared.verdict.Verdict.{Verdict}
 use Rattle.lp_transition.specs.declared.event.Event.{Event}
 use Rattle.lp_transition.specs.declared.event.Event.TheVariants.{Exit, Idle, Fork, Die, Enable, Disable, Reverse}
 use Rattle.lp_transition.specs.declared.reply.What.{What}
-use Rattle.lp_transition.specs.declared.reply.What.TheVariants.{Ran, Done, Switched, Refused}
+use Rattle.lp_transition.specs.declared.reply.What.TheVariants.{Done, Switched, Refused}
 use Rattle.lp_transition.specs.declared.reply.Reply.{Reply}
 use Rattle.lp_transition.specs.Table.{Engine, standings, slot}
 use Rattle.lp_transition.specs.inside.ScanSteps.{task_switches}
-use Rattle.lp_transition.specs.Leg.{Standing}
 use Rattle.lp_board.specs.declared.sheet.Heading.{Heading}
 use Rattle.lp_board.specs.Pages.{level_of}
 

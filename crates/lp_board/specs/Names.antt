@@ -1,5 +1,5 @@
 -- Which desk it is: the start that its board shows, and the history of its events.
-use Rattle.std.specs.Prelude.{ℕ, false, List, [], Some}
+use Rattle.std.specs.Prelude.{false, List, [], Some}
 use Rattle.logbook.specs.Pages.{Book}
 use Rattle.lp_stack.specs.declared.number.TaskId.{TaskId}
 use Rattle.lp_stack.specs.declared.view.Class.{Class}

@@ -1,13 +1,12 @@
 -- What holds of a publisher between two events.
-use Rattle.std.specs.Prelude.{◌≡◌, List, [], drop}
+use Rattle.std.specs.Prelude.{◌≡◌, List, []}
 use Rattle.logbook.specs.Pages.{Named}
 use Rattle.lp_transition.specs.declared.event.Event.{Event}
 use Rattle.lp_board.specs.declared.sheet.Page.{Page}
 use Rattle.lp_board.specs.declared.sheet.Sheet.{Sheet}
-use Rattle.lp_board.specs.declared.sheet.Change.{Change}
 use Rattle.lp_board.specs.Names.{Name}
 use Rattle.lp_board.specs.History.{head_of}
-use Rattle.lp_board.specs.Pages.{IsPage, written}
+use Rattle.lp_board.specs.Pages.{IsPage}
 
 module _ {N : Type 0} where
   -- a sheet as plain data

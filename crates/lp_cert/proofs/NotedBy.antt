@@ -1,5 +1,5 @@
 -- What is made of a run with an event more that opens no leg, by verdicts that tell of each group that has changed.
-use Rattle.std.proofs.Common.{◌≡◌, ◌⊎◌, ℕ, ◌+◌, ◌<◌, Bool, true, false, List, length, Option, Some, None, IsTrue, if◌then◌else◌, nat_eq, refl, sym, ap, subst, inl, inr, ◌∙◌, ⊎_elim}
+use Rattle.std.proofs.Common.{◌≡◌, ◌⊎◌, ℕ, ◌+◌, ◌<◌, true, false, List, length, Option, Some, None, IsTrue, if◌then◌else◌, nat_eq, refl, sym, ap, subst, inl, inr, ◌∙◌, ⊎_elim}
 use Rattle.std.specs.List.{list_any}
 use Rattle.std.proofs.lemmas.Bool.{false≢true, cond-true, eq-eqb}
 use Rattle.lp_numbers.specs.Numbers.{has}
@@ -10,7 +10,7 @@ use Rattle.lp_model.specs.declared.verdict.Verdict.{Verdict}
 use Rattle.lp_transition.specs.declared.event.Event.{Event}
 use Rattle.lp_transition.specs.Tasks.{Live, on_live}
 use Rattle.lp_transition.specs.Leg.{Standing, State}
-use Rattle.lp_transition.specs.Machine.{state_of, waits_in}
+use Rattle.lp_transition.specs.Machine.{waits_in}
 use Rattle.lp_transition.specs.Run.{Run, leg_of, plus}
 use Rattle.lp_transition.specs.Scan.{is_of, is_scan_kind, scan_event, verdicts_of}
 use Rattle.lp_transition.specs.Sound.{IsSound}
@@ -22,7 +22,6 @@ use Rattle.lp_transition.proofs.ScanAnswers.{verdicts-scan}
 use Rattle.lp_transition.proofs.ScanLists.{verdict-from}
 use Rattle.lp_transition.proofs.ScanTakes.{group_fits}
 use Rattle.lp_transition.proofs.TableLemmas.{slot_from_live}
-use Rattle.lp_cert.specs.declared.line.Line.{Line}
 use Rattle.lp_cert.specs.declared.open_leg.OpenLeg.{OpenLeg}
 use Rattle.lp_cert.specs.Certificates.{lines}
 use Rattle.lp_cert.specs.Ends.{Made, IsMadeOf, is_opening}

@@ -12,7 +12,6 @@ use Rattle.lp_transition.specs.Scan.{is_scan_kind, scan_event, MayLeaveOut}
 use Rattle.lp_transition.specs.Steps.{StandsIn}
 use Rattle.lp_transition.specs.Table.{Engine, state_in}
 use Rattle.lp_transition.specs.Weigh.{IsWeighed}
-use Rattle.lp_transition.proofs.AskedScans.{asked_none}
 use Rattle.lp_transition.proofs.QuietScans.{quiet_step, quiet_weighed}
 use Rattle.lp_cert.specs.declared.open_leg.OpenLeg.{OpenLeg}
 use Rattle.lp_cert.specs.Certificates.{lines}

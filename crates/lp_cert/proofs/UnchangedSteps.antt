@@ -1,7 +1,7 @@
 -- Which groups are unchanged after an event that opens no leg.
 use Rattle.std.proofs.Common.{◌≡◌, ℕ, suc, ◌<◌, ◌⊎◌, Bool, true, false, ◌&&◌, ◌||◌, List, [], ◌∷◌, length, Option, Some, None, is_some, IsTrue, IsFalse, if◌then◌else◌, nat_eq, nat_lt, refl, sym, ap, subst, ◌∙◌, ⊎_elim, inl, inr}
 use Rattle.std.specs.List.{filter, list_any}
-use Rattle.std.proofs.lemmas.Bool.{false≢true, cond-true, cond-false, and_parts, eqb-true, eq-eqb, ltb-true, or_cases}
+use Rattle.std.proofs.lemmas.Bool.{false≢true, cond-true, cond-false, and_parts, eqb-true, ltb-true, or_cases}
 use Rattle.lp_numbers.specs.Numbers.{has}
 use Rattle.lp_model.specs.Rules.{Rules, IsLawful}
 use Rattle.lp_model.specs.declared.check.Blame.{Blame}
@@ -15,12 +15,12 @@ use Rattle.lp_transition.specs.Leg.{Standing, State, Leg}
 use Rattle.lp_transition.specs.Run.{and_then, opens}
 use Rattle.lp_transition.specs.Sound.{IsSound}
 use Rattle.lp_transition.specs.Machine.{view_of, waits_in, state_of}
-use Rattle.lp_transition.specs.Scan.{is_scan_kind, scan_event, verdict_of, verdicts_of, is_of, AreEnough}
+use Rattle.lp_transition.specs.Scan.{is_scan_kind, scan_event, verdicts_of, is_of, AreEnough}
 use mathlib.Core.Path.{fun_ext}
 use Rattle.lp_transition.specs.Table.{Engine, fate_at, slot, state_in}
 use Rattle.lp_transition.specs.inside.Table.{is_in}
 use Rattle.lp_transition.specs.Weigh.{Weighed, AreVerdictsFor}
-use Rattle.lp_transition.proofs.ScanLists.{verdict-is, verdict-from}
+use Rattle.lp_transition.proofs.ScanLists.{verdict-is}
 use Rattle.lp_transition.proofs.TableLemmas.{slot_from_live}
 use Rattle.lp_transition.proofs.Admitted.{enough_for}
 use Rattle.lp_cert.proofs.ScanTold.{told_unchanged}

@@ -1,11 +1,11 @@
 //! Why a text is no trace or no input of a check, or could not be read.
 ghost use Rattle.std.specs.Prelude.{◌≡◌};
-ghost use Rattle.lp_text.specs.declared.fault.LineFault.TheVariants.{Cause as LineCause, NoMemory as LineNoMemory};
+ghost use Rattle.lp_text.specs.declared.fault.LineFault.TheVariants.{NoMemory as LineNoMemory};
 ghost use Rattle.lp_text.specs.declared.fault.ReadFault.TheVariants.{NoMemory as ReadNoMemory};
 ghost use Rattle.lp_text.specs.Faults.{cause_number};
 ghost use Rattle.lp_text.specs.inside.LineFaults.{cause_at, read_fault};
 
-use std::alloc::{AllocError, AllocFailed};
+use std::alloc::AllocError;
 use thiserror::Error;
 
 /// What is wrong with a line of a trace text, or of the input of a check. On one line the first that
@@ -123,26 +123,10 @@ impl LineFault {
     }
 }
 
-impl From<Cause> for LineFault {
-    ghost from_gives = { λ cause e. e ≡ LineCause cause };
-
-    fn from(cause: Cause) -> LineFault {
-        LineFault::Cause(cause)
-    }
-}
-
 impl From<AllocError> for LineFault {
     ghost from_gives = { λ _ e. e ≡ LineNoMemory };
 
     fn from(_e: AllocError) -> LineFault {
-        LineFault::NoMemory
-    }
-}
-
-impl<T: Drop> From<AllocFailed<T>> for LineFault {
-    ghost from_gives = { λ _ e. e ≡ LineNoMemory };
-
-    fn from(_e: AllocFailed<T>) -> LineFault {
         LineFault::NoMemory
     }
 }

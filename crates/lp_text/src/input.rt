@@ -25,14 +25,6 @@ pub(crate) enum InputFault {
     NoMemory,
 }
 
-impl From<AllocError> for InputFault {
-    ghost from_gives = { λ _ e. e ≡ InputNoMemory };
-
-    fn from(_e: AllocError) -> InputFault {
-        InputFault::NoMemory
-    }
-}
-
 /// All that a reader has, if it has no more than a text may have.
 ///
 /// Each read but the last gives a byte at least, so there are at most 134,217,729.

@@ -120,7 +120,7 @@ pub record AreEnough (model : Rules) (kind : CheckKind) (s : State) (verdicts : 
   pub looked : ℕ → Bool
   pub others : MayPassOver model kind s looked
   pub found : verdicts ≡ verdicts_at model kind s looked
-  -- of each group of which one is of a member they tell the first member that the scan refuses, or that it refuses none
+  -- where a verdict is of a member of a group, they tell the first member that the scan refuses, or that it refuses none
   pub first :
       (group : ℕ) → list_any (is_of s group) verdicts ≡ true →
       first_refused s group verdicts ≡ first_refused s group (verdicts_of model kind s)

@@ -1,4 +1,4 @@
-use Rattle.std.proofs.Common.{rules, ◌≡◌, ◌∷◌, [], ◌++◌, Some, None, get_or, ap, sym, ◌∙◌, arith}
+use Rattle.std.proofs.Common.{sym, ◌∙◌}
 use Rattle.lp_numbers.specs.Numbers.{has}
 use Rattle.lp_board.specs.Changes.{target_if}
 use Rattle.lp_board.proofs.Taken.{given-more, none-more}

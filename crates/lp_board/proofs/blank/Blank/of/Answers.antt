@@ -1,4 +1,4 @@
-use Rattle.std.proofs.Common.{◌≡◌, [], refl, ap, sym, ◌∙◌, subst}
+use Rattle.std.proofs.Common.{[], refl, ap, sym, ◌∙◌, subst}
 use Rattle.lp_transition.specs.Table.{bounds_of, state_in}
 use Rattle.lp_transition.specs.Steps.{StandsIn}
 use Rattle.lp_patch.specs.Patches.{Patches}

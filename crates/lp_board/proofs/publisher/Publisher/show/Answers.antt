@@ -1,5 +1,4 @@
-use Rattle.std.proofs.Common.{rules, ◌≡◌, ◌∷◌, ◌++◌, [], drop, subst, refl, fold, ap, sym, ◌∙◌, List}
-use Rattle.lp_transition.specs.declared.event.Event.{Event}
+use Rattle.std.proofs.Common.{rules, ◌≡◌, ◌∷◌, ◌++◌, [], drop, subst, fold, ap, sym, ◌∙◌}
 use Rattle.lp_board.specs.Names.{state_after}
 use Rattle.lp_board.specs.Pages.{IsPage, Leads, page_after}
 use Rattle.lp_board.specs.Publishers.{page_of}

@@ -1,7 +1,4 @@
-use Rattle.std.proofs.Common.{◌≡◌, refl, ap, sym, ◌∙◌}
-use Rattle.lp_transition.specs.declared.event.Event.{Event}
-use Rattle.lp_transition.specs.declared.reply.Reply.{Reply}
-use Rattle.lp_board.specs.Changes.{heading_by, levels_by}
+use Rattle.std.proofs.Common.{refl, ◌∙◌}
 use Rattle.lp_board.proofs.Headings.{update-leads}
 use Rattle.lp_board.proofs.sheet.Update.of.Goals as goal
 

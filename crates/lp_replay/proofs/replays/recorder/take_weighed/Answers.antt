@@ -2,10 +2,9 @@ use Rattle.std.proofs.Common.{length, sym, subst, ◌∙◌}
 use Rattle.lp_transition.specs.declared.event.Event.{Event}
 use Rattle.lp_transition.specs.Machine.{state_of}
 use Rattle.lp_transition.specs.Run.{leg_of, plus}
-use Rattle.lp_transition.specs.Table.{state_in}
 use Rattle.lp_cert.specs.Ends.{IsMadeOf}
 use Rattle.lp_cert.specs.Certificates.{lines}
-use Rattle.lp_cert.specs.LastScan.{LastScan, AreUnchangedBy, Suffices}
+use Rattle.lp_cert.specs.LastScan.{LastScan, AreUnchangedBy}
 use Rattle.lp_replay.proofs.replays.recorder.take_weighed.Goals as goal
 
 pub returns-clause-made : goal.returns-clause-made
@@ -18,5 +17,4 @@ returns-clause-made g c = λ run stands is.
       current = ready.current ∙ is.current;
       unchanged = subst (λ (last_scan : LastScan). AreUnchangedBy model (state_of model leg) (lines model leg (length leg.events)) last_scan) (sym ready.last_scan) is.unchanged;
     } in
-    let suffices = subst (λ (last_scan : LastScan). Suffices model (state_in c.args.core.now) c.in-Ok.step last_scan) (sym ready.last_scan) c.in-Ok.ensures.suffices in
-    subst (λ (event : Event). IsMadeOf model (plus run event) c.note.new.self) c.in-Ok.ensures.event (c.note.ensures.made run stands readied suffices)
+    subst (λ (event : Event). IsMadeOf model (plus run event) c.note.new.self) c.in-Ok.ensures.event (c.note.ensures.made run stands readied)
