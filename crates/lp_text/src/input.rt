@@ -2,13 +2,12 @@
 ghost use Rattle.std.specs.Prelude.{◌≡◌, ℕ, ◌+◌, ◌-◌, ◌<◌, ◌≤◌, List, length, take, IfOk, IfErr, MatchResult, OnOk};
 ghost use Rattle.std.specs.Io.KnownBytes.{Consumes, IsAtEnd};
 ghost use Rattle.lp_text.specs.Counts.{AtMost, next};
-ghost use Rattle.lp_text.specs.declared.input.InputFault.TheVariants.{NoMemory as InputNoMemory};
 ghost use Rattle.lp_text.specs.Input.{ReadsAll};
 ghost use Rattle.lp_text.specs.inside.Streams.{Ended, Gave, InputFails, IsFaultBehind, IsInputFault};
 
 use crate::counted::Counted;
 use crate::read::MOST_BYTES;
-use std::alloc::{AllocError, Global};
+use std::alloc::Global;
 use std::io::{self, Read};
 
 /// How many bytes one read asks for.

@@ -6,6 +6,7 @@ ghost use Rattle.lp_transition.specs.Scan.{is_scan_kind};
 ghost use Rattle.lp_transition.specs.Weigh.{IsWeighed};
 
 mod given;
+mod left_out;
 mod memory;
 
 use super::*;
