@@ -9,8 +9,6 @@ mod play;
 mod rows;
 mod rows_through_desk;
 mod streams;
-#[cfg(test)]
-mod tests;
 mod trouble;
 
 use difference::Difference;

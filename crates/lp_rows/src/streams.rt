@@ -40,10 +40,6 @@ impl Sink {
         }
     }
 
-    pub fn taken(&self) -> &[u8] {
-        self.taken.as_slice()
-    }
-
     /// What it took, and what is pushed behind it.
     pub fn into_taken(self) -> Vec<u8> {
         let Sink { taken, .. } = self;

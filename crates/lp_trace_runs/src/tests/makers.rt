@@ -10,7 +10,6 @@ mod left_out;
 mod memory;
 
 use super::*;
-use crate::engine::{boot, stack};
 use given::{given_by, given_in, heads, lines};
 use lp_cert::{Cert, CertList, LegEnd, LineList, Maker};
 use lp_model::CheckKind;
@@ -64,7 +63,7 @@ fn feed_all(
 /// A maker after the events of a trace of these lines.
 fn made(alloc: Global, lines: &str) -> Result<Box<Maker>, Fail> {
     let trace = trace_of(alloc, lines)?;
-    let mut core = boot(alloc, Hybrid, stack(alloc, &trace)?, &trace)?;
+    let mut core = boot(alloc, Hybrid, &trace)?;
     let mut maker = Box::new(alloc, Maker::new(alloc)?)?;
     feed_all(alloc, &mut core, &mut maker, trace.events())?;
     Ok(maker)

@@ -3,10 +3,8 @@
 mod memory;
 
 use super::*;
-use crate::engine::{boot, stack};
 use lp_cert::{Cert, LineList};
 use lp_checker::{CertFault, check_floor, check_waiting, laws};
-use lp_model::Consistency;
 use lp_process::ProcessGroup;
 use lp_transition::Opening;
 use std::alloc::AllocError;
@@ -65,7 +63,7 @@ fn opened<M: Consistency>(
     trace: &Trace,
     before: &[Event],
 ) -> Result<Box<Opening>, Fail> {
-    let mut core = boot(alloc, model, stack(alloc, trace)?, trace)?;
+    let mut core = boot(alloc, model, trace)?;
     for event in before {
         core.step(alloc, *event)?;
     }

@@ -1,8 +1,8 @@
 //! How the replies of a list print.
 use super::*;
-use crate::engine::lines_of;
 use lp_models::Immediate;
 use lp_trace::{Outcome, ReplyList, replay};
+use std::alloc::AllocError;
 use std::str;
 use std::test::*;
 
@@ -30,13 +30,24 @@ fn outcome(alloc: Global) -> Result<Box<Outcome>, Fail> {
     Ok(Box::new(alloc, replay(alloc, Immediate, &trace)?)?)
 }
 
+/// The lines of a report's events.
+fn event_lines(alloc: Global, report: &str) -> Result<String, AllocError> {
+    let mut text = String::new(alloc);
+    for line in report.lines() {
+        if line.starts_with(|byte: char| byte.is_ascii_digit()) {
+            writeln!(text, "{line}")?;
+        }
+    }
+    Ok(text)
+}
+
 /// The lines of events in the trace's report.
 fn reported(alloc: Global) -> Result<String, Fail> {
     let mut source = Counted::new(Source::new(TRACE.as_bytes(), 1_000_000));
     let mut sink = Counted::new(Sink::new(alloc, 1_000_000));
     run(alloc, "immediate", Immediate, &mut source, &mut sink)?;
     let report = str::from_utf8(sink.stream().taken()).unwrap_or("");
-    Ok(lines_of(alloc, report, false)?)
+    Ok(event_lines(alloc, report)?)
 }
 
 #[test]

@@ -11,15 +11,16 @@ mod replies;
 mod streams;
 mod traces;
 
-use crate::streams::{Sink, Source};
 use lp_cert::{CertHead, Claim, Line};
+use lp_model::Consistency;
 use lp_models::Hybrid;
 use lp_stack::{Class, GroupId, Level, TaskId};
 use lp_symbols::{SymId, Symbols};
-use lp_trace::{Counted, RunFault, Trace, check, run};
+use lp_trace::{Counted, RunFault, Trace, check, run, stack};
 use lp_transition::{Core, Event};
 use std::alloc::Global;
 use std::test::Fail;
+use streams::{Sink, Source};
 
 /// A child that goes on waiting: the boot and event lines of its trace.
 const CHILD: &str =
@@ -44,6 +45,12 @@ fn read(alloc: Global, text: &str) -> Result<Box<Trace>, Fail> {
 fn trace_of(alloc: Global, lines: &str) -> Result<Box<Trace>, Fail> {
     let text = text_of(alloc, lines)?;
     read(alloc, text.as_str())
+}
+
+/// The engine of a trace before its first event.
+fn boot<M: Consistency>(alloc: Global, model: M, trace: &Trace) -> Result<Box<Core<M>>, Fail> {
+    let core = Core::boot(alloc, model, stack(alloc, trace)?, trace.boots())?;
+    Ok(Box::new(alloc, core)?)
 }
 
 /// The frame of this serial is on a task's stack.
