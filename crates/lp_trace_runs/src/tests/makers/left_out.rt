@@ -24,7 +24,7 @@ fn open_walk(alloc: Global, core: &Core<Hybrid>) -> Result<Step, Fail>
 /// A maker that has noted such a walk behind these events, and how many verdicts the walk had.
 fn noted(alloc: Global) -> Result<(Box<Maker>, usize), Fail> {
     let trace = trace_of(alloc, HELD_AND_BUSY)?;
-    let mut core = boot(alloc, Hybrid, stack(alloc, &trace)?, &trace)?;
+    let mut core = boot(alloc, Hybrid, &trace)?;
     let mut maker = Box::new(alloc, Maker::new(alloc)?)?;
     feed_all(alloc, &mut core, &mut maker, trace.events())?;
     let step = open_walk(alloc, &core)?;
@@ -38,15 +38,12 @@ fn tells_of_both(alloc: Global, maker: &Maker) -> Result<bool, Fail> {
     let held = maker.waiting(alloc, GroupId(1))?;
     let busy_one = maker.waiting(alloc, GroupId(2))?;
     Ok(
-        is_cert(
-            held,
-            head(Claim::Waiting, 5, 1, 8),
-            &[hold(1, 1, 2, 6, 8)],
-        ) && is_cert(
-            busy_one,
-            head(Claim::Waiting, 5, 2, 8),
-            &[busy(2, 2, 6), busy(2, 2, 8)],
-        ),
+        is_cert(held, head(Claim::Waiting, 5, 1, 8), &[hold(1, 1, 2, 6, 8)])
+            && is_cert(
+                busy_one,
+                head(Claim::Waiting, 5, 2, 8),
+                &[busy(2, 2, 6), busy(2, 2, 8)],
+            ),
     )
 }
 
