@@ -1,5 +1,5 @@
 -- What a check has written where its writer failed: the clause of `lp_trace::check` at each model.
-use Rattle.std.proofs.Common.{ap}
+use Rattle.std.proofs.Common.{ap, rules}
 use Rattle.std.proofs.lemmas.Result.{IfErr-weaker}
 use Rattle.lp_model.specs.Row.{rules_of}
 use Rattle.lp_models.specs.Models.{hybrid, leave_kernel, all_at_once, immediate}
@@ -32,3 +32,9 @@ pub returns-in-ProcessGroup-clause-prefix : goal.returns-in-ProcessGroup-clause-
 returns-in-ProcessGroup-clause-prefix g c =
     IfErr-weaker c.check-in-ProcessGroup.result _ _ (λ fault prefix. prefix_named c.args.model (rules_of process_group) (ap rules_named c.in-ProcessGroup.is) _ _ _ _ fault prefix)
     c.check-in-ProcessGroup.ensures.prefix
+
+pub returns-in-Hybrid-clause-answer : goal.returns-in-Hybrid-clause-answer
+returns-in-Hybrid-clause-answer g c = search rules
+
+pub returns-in-Hybrid-clause-sound : goal.returns-in-Hybrid-clause-sound
+returns-in-Hybrid-clause-sound g c = search rules
