@@ -5,7 +5,7 @@ ghost use Rattle.lp_text.specs.Words.{line_of};
 ghost use Rattle.lp_text.specs.inside.Writing.{Puts, line_rest, seen_of, Wrote};
 
 use crate::counter::Counter;
-use crate::place::{SHORT_END, place_end, place_rest};
+use crate::place::{SHORT_END, place_end, place_joined, place_rest};
 use lp_text::{Counted, WriteFault, put};
 use std::alloc::{AllocError, Global};
 use std::io::Write;
@@ -159,6 +159,54 @@ impl Page {
         }
         self.held.truncate(start);
         false
+    }
+
+    /// Takes a word and two numbers, with so many bytes between these, and a line's end behind, if there is room for the
+    /// longest, and says whether it did.
+    #[inline(always)]
+    pub(crate) fn hold_joined(
+        &mut self,
+        first: &[u8],
+        number: u64,
+        between: &[u8; SHORT_END],
+        len: usize,
+        last: u64,
+    ) -> bool
+        requires { len ≤ 16 }
+        ensures taken { IsTrue result → self.new.held.items ≡ self.old.held.items ++ (first.now ++ (decimal number ++ (take len between.now ++ (decimal last ++ 10 ∷ [])))) }
+        ensures kept { IsFalse result → self.new.held.items ≡ self.old.held.items }
+    {
+        let start = self.held.len();
+        if !self.hold(first) {
+            return false;
+        }
+        if self.hold_between(number, between, len, last) {
+            return true;
+        }
+        self.held.truncate(start);
+        false
+    }
+
+    /// The same behind the word.
+    #[inline(always)]
+    fn hold_between(
+        &mut self,
+        number: u64,
+        between: &[u8; SHORT_END],
+        len: usize,
+        last: u64,
+    ) -> bool
+        requires { len ≤ 16 }
+        ensures taken { IsTrue result → self.new.held.items ≡ self.old.held.items ++ (decimal number ++ (take len between.now ++ (decimal last ++ 10 ∷ []))) }
+        ensures kept { IsFalse result → self.new.held.items ≡ self.old.held.items }
+    {
+        let start = self.held.len();
+        if !self.hold(&BLANK) {
+            return false;
+        }
+        let end = place_joined(self.held.as_mut_slice(), start, number, between, len, last);
+        self.held.truncate(end);
+        true
     }
 
     /// Puts a line of a word and at most six numbers.

@@ -1,5 +1,5 @@
 //! Numbers that are put into a text in place.
-ghost use Rattle.std.specs.Prelude.{◌≡◌, ℕ, ◌≤◌, ◌<◌, ◌+◌, ◌*◌, ◌++◌, decimal, length, map, take};
+ghost use Rattle.std.specs.Prelude.{◌≡◌, ℕ, ◌≤◌, ◌<◌, ◌+◌, ◌*◌, ◌∷◌, ◌++◌, [], decimal, length, map, take};
 ghost use Rattle.lp_text.specs.inside.Writing.{line_rest};
 
 use itoa::write_digits;
@@ -84,4 +84,27 @@ pub(crate) fn place_end(text: &mut [u8], at: usize, end: &[u8; SHORT_END])
     ensures size { length text.new ≡ length text.old }
 {
     text[at..at + SHORT_END].copy_from_slice(end);
+}
+
+/// Puts two numbers behind the first `at` bytes, with so many bytes between them, and a line's end. Gives where it ends.
+#[inline(always)]
+pub(crate) fn place_joined(
+    text: &mut [u8],
+    at: usize,
+    number: u64,
+    between: &[u8; SHORT_END],
+    len: usize,
+    last: u64,
+) -> usize
+    requires room { at + 64 ≤ length text.old }
+    requires short { len ≤ 16 }
+    ensures placed { take result text.new ≡ take at text.old ++ (decimal number ++ (take len between.now ++ (decimal last ++ 10 ∷ []))) }
+    ensures within { result ≤ length text.new }
+    ensures size { length text.new ≡ length text.old }
+{
+    let first = place_number(text, at, number);
+    place_end(text, first, between);
+    let end = place_number(text, first + len, last);
+    text[end] = b'\n';
+    end + 1
 }

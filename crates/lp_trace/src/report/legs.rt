@@ -1,15 +1,16 @@
 //! Writing how the legs of a run ended, with their certificates.
-ghost use Rattle.std.specs.Prelude.{◌≡◌, ◌≤◌, ◌<◌, ◌∷◌, ◌++◌, [], decimal, length, map, slice_get, take, IsFalse, IsTrue, Some};
+ghost use Rattle.std.specs.Prelude.{◌≡◌, ◌≤◌, ◌<◌, ◌∷◌, ◌++◌, [], decimal, length, map, slice_get, take, IfSome, IsFalse, IsTrue, Some};
 ghost use Rattle.std.specs.List.{flat_map};
 ghost use Rattle.lp_cert.specs.declared.cert.Cert.{Cert};
 ghost use Rattle.lp_cert.specs.Ends.{cert_head};
 ghost use Rattle.lp_cert.specs.Text.{cert_lines, claim_word, claim_words, reason_words};
 ghost use Rattle.lp_text.specs.Words.{line_of};
-ghost use Rattle.lp_trace.specs.Report.{end_words, leg_line, leg_lines};
-ghost use Rattle.lp_text.specs.inside.Writing.{Puts, seen_of};
+ghost use Rattle.lp_trace.specs.Report.{end_words, leg_line, leg_lines, target_words};
+ghost use Rattle.lp_text.specs.inside.Writing.{Puts, line_rest, seen_of};
 
 use super::{level_word, number};
 use crate::page::Page;
+use crate::place::SHORT_END;
 use itoa::Buffer;
 use lp_cert::{CertHead, CertLines, CertList, Claim, LegEnd, Line};
 use lp_text::{Counted, TraceForm, WriteFault};
@@ -53,8 +54,56 @@ fn end_words<'a>(buffer: &'a mut Buffer, leg: &LegEnd) -> (&'static [u8], &'a [u
     }
 }
 
+/// What stands between the two numbers of the line of a leg's end, where a trace has one patch: so many of the bytes; and
+/// the second number.
+#[inline(always)]
+fn end_parts(form: TraceForm, leg: &LegEnd) -> Option<(&'static [u8; SHORT_END], usize, u64)>
+    ensures size { IfSome result (λ end. end.1 ≤ 16) }
+    ensures words { IfSome result (λ end. line_rest (target_words form leg.now.target ++ end_words leg.now.completed (length leg.now.certs)) ≡ take end.1 end.0.now ++ (decimal end.2 ++ 10 ∷ [])) }
+{
+    if matches!(form, TraceForm::Stacked) {
+        return None;
+    }
+    let is_old = leg.target.0 == 0;
+    Some(match leg.completed {
+        Some(event) if is_old => (b" old complete ..", 14, event),
+        Some(event) => (b" new complete ..", 14, event),
+        None if is_old => (b" old waiting ...", 13, leg.certs.len() as u64),
+        None => (b" new waiting ...", 13, leg.certs.len() as u64),
+    })
+}
+
+/// Holds the line of the end of a leg where it is short and there is room, and says whether it did.
+#[inline(always)]
+fn hold_end(page: &mut Page, form: TraceForm, leg: &LegEnd) -> bool
+    ensures taken { IsTrue result → page.new.held.items ≡ page.old.held.items ++ line_of (leg_line form leg.now) }
+    ensures kept { IsFalse result → page.new.held.items ≡ page.old.held.items }
+{
+    let Some((between, len, last)) = end_parts(form, leg) else {
+        return false;
+    };
+    page.hold_joined(b"leg ", leg.opened, between, len, last)
+}
+
 /// Puts the line of the end of a leg.
+#[inline(always)]
 fn put_end<W: Write>(
+    page: &mut Page,
+    writer: &mut Counted<W>,
+    form: TraceForm,
+    leg: &LegEnd,
+) -> Result<(), WriteFault>
+    ensures { Puts (seen_of W.contents writer.old) (seen_of W.contents writer.new) page.old.held.items page.new.held.items result (line_of (leg_line form leg.now)) }
+{
+    if hold_end(page, form, leg) {
+        return Ok(());
+    }
+    put_end_line(page, writer, form, leg)
+}
+
+/// The same, where it isn't short or there is no room.
+#[inline(never)]
+fn put_end_line<W: Write>(
     page: &mut Page,
     writer: &mut Counted<W>,
     form: TraceForm,
