@@ -1,24 +1,24 @@
 //! A walk of which the verdicts leave out a group that has changed since the last one.
-ghost use Rattle.std.specs.Prelude.{IfOk};
-ghost use Rattle.lp_model.specs.Row.{rules_of};
-ghost use Rattle.lp_models.specs.Models.{hybrid};
+ghost use Rattle.std.specs.Prelude.{◌≡◌, true, IfOk};
+ghost use Rattle.lp_transition.specs.Scan.{is_scan_kind};
 ghost use Rattle.lp_transition.specs.Weigh.{IsWeighed};
 
 use super::*;
+use lp_transition::Halt;
 
 /// A walk finds a task held by a frame, and one on a CPU; then the first wakes up.
 const HELD_AND_BUSY: &str =
     "boot 1 normal / boot 2 normal / enter 1 / call 1 a / sleep 1 / enter 2 / enable / walk / wake 1";
 
-/// A walk, weighed by the verdicts on those of whose groups no frame is known to keep them back.
-fn open_walk(alloc: Global, core: &Core<Hybrid>) -> Result<Step, Fail>
-    ensures { IfOk result (λ step. IsWeighed (rules_of hybrid) core.now step) }
+/// A scan, weighed by the verdicts on those of whose groups no frame is known to keep them back.
+fn open_scan<M: Consistency>(alloc: Global, core: &Core<M>, kind: CheckKind) -> Result<Step, Halt>
+    requires { is_scan_kind kind ≡ true }
+    ensures { IfOk result (λ step. IsWeighed M.rules core.now step) }
 {
     let views = core.open_views(alloc)?;
-    let aim = core.aim();
     let model = core.model();
-    let found = verdicts(alloc, &model, CheckKind::Walk, views.as_slice(), &aim)?;
-    Ok(core.weigh_open(alloc, CheckKind::Walk, found.as_slice())?)
+    let found = verdicts(alloc, &model, kind, views.as_slice(), &core.aim())?;
+    core.weigh_open(alloc, kind, found.as_slice())
 }
 
 /// A maker that has noted such a walk behind these events, and how many verdicts the walk had.
@@ -27,7 +27,7 @@ fn noted(alloc: Global) -> Result<(Box<Maker>, usize), Fail> {
     let mut core = boot(alloc, Hybrid, &trace)?;
     let mut maker = Box::new(alloc, Maker::new(alloc)?)?;
     feed_all(alloc, &mut core, &mut maker, trace.events())?;
-    let step = open_walk(alloc, &core)?;
+    let step = open_scan(alloc, &core, CheckKind::Walk)?;
     maker.ready(alloc, &core, &step)?;
     maker.note(&core, &step);
     Ok((maker, step.verdicts().len()))
