@@ -6,3 +6,4 @@ pub mod Switching
 pub mod LegByLeg
 pub mod Headline
 pub mod FirstEnd
+pub mod ListsOfGroups

@@ -1,15 +1,17 @@
 //! The replies of a run.
-ghost use Rattle.std.specs.Prelude.{◌≡◌, ◌≤◌, ◌↔◌, ◌∷◌, ◌++◌, [], drop, length, IsTrue, IfOk, OnErr, OnOk};
+ghost use Rattle.std.specs.Prelude.{◌≡◌, ◌≤◌, ◌↔◌, ◌∷◌, ◌++◌, [], length, IsTrue, IfOk, OnErr, OnOk};
 ghost use Rattle.lp_transition.specs.Events.{group_numbers};
-ghost use Rattle.lp_replay.specs.Replies.{first_groups, lists_in, replies_of, what_of};
+ghost use Rattle.lp_replay.specs.Replies.{lists_in, replies_of, what_of};
 
 use lp_stack::{GroupId, Level};
 use lp_transition::{GroupList, Refusal, Reply, What};
 use std::alloc::{AllocError, Global};
 use std::marker::Model;
 
+mod group_lists;
 mod kept;
 
+pub use group_lists::GroupLists;
 pub use kept::{KeptReply, Replies};
 
 /// What an event did, without the groups that it switched.
@@ -49,7 +51,7 @@ impl ShortReply {
 pub struct ReplyList {
     short: Vec<ShortReply>,
     /// The groups of each event that switched some, in the order of the events.
-    groups: Vec<GroupList>,
+    groups: GroupLists,
 }
 
 /// In one step for who owns one: docs/GATE.md says why.
@@ -69,9 +71,9 @@ impl Model for ReplyList {
 
     ghost Value = { List Reply };
 
-    ghost view = { λ l. replies_of l.short.items l.groups.items };
+    ghost view = { λ l. replies_of l.short.items l.groups };
 
-    ghost invariant = { λ l. lists_of l.short.items ≡ length l.groups.items };
+    ghost invariant = { λ l. lists_of l.short.items ≡ length l.groups };
 }
 
 impl ReplyList {
@@ -81,7 +83,7 @@ impl ReplyList {
     {
         Ok(ReplyList {
             short: Vec::with_capacity(alloc, replies)?,
-            groups: Vec::new(alloc),
+            groups: GroupLists::new(alloc),
         })
     }
 
@@ -98,7 +100,7 @@ impl ReplyList {
             What::Done => ShortWhat::Done,
             What::Refused(why) => ShortWhat::Refused(why),
             What::Switched(groups) => {
-                self.groups.push(groups)?;
+                self.groups.push(groups.as_slice())?;
                 ShortWhat::Switched
             }
         };
@@ -113,7 +115,7 @@ impl ReplyList {
         let mut replies = Vec::with_capacity(alloc, self.short.len())?;
         let mut next = 0;
         for reply in self.short.as_slice() {
-            let what = what_of(alloc, reply.what, groups_at(self.groups.as_slice(), next))?;
+            let what = what_of(alloc, reply.what, self.groups.at(next))?;
             replies.push(Reply {
                 what,
                 completed: reply.completed,
@@ -138,20 +140,10 @@ impl ReplyList {
     }
 
     /// The replies in short, and the groups of those events that switched some.
-    pub fn parts(&self) -> (&[ShortReply], &[GroupList])
+    pub fn parts(&self) -> (&[ShortReply], &GroupLists)
         ensures { replies_of result.0.now result.1.now ≡ self.now }
     {
-        (self.short.as_slice(), self.groups.as_slice())
-    }
-}
-
-/// The groups of a list at a place; none past the last one.
-pub fn groups_at(lists: &[GroupList], place: usize) -> &[GroupId]
-    ensures { group_numbers result.now ≡ first_groups (drop place lists.now) }
-{
-    match lists.get(place) {
-        Some(groups) => groups.as_slice(),
-        None => &[],
+        (self.short.as_slice(), &self.groups)
     }
 }
 

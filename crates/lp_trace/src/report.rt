@@ -16,10 +16,9 @@ use crate::page::Page;
 use crate::place::SHORT_END;
 use itoa::Buffer;
 use legs::put_legs;
-use lp_replay::{Outcome, ReplyList, ShortReply, ShortWhat, groups_at};
+use lp_replay::{GroupLists, Outcome, ReplyList, ShortReply, ShortWhat};
 use lp_stack::{GroupId, Level};
 use lp_text::{Counted, TraceForm, WriteFault};
-use lp_transition::GroupList;
 use std::io::Write;
 
 /// Writes what the page holds, and then the report of an outcome under a model of this name.
@@ -168,7 +167,7 @@ fn put_replies<W: Write>(
     writer: &mut Counted<W>,
     form: TraceForm,
     replies: &[ShortReply],
-    lists: &[GroupList],
+    lists: &GroupLists,
 ) -> Result<(), WriteFault>
     ensures { Puts (seen_of W.contents writer.old) (seen_of W.contents writer.new) page.old.held.items page.new.held.items result (flat_map line_of (reply_lines form 1 (replies_of replies.now lists.now))) }
 {
@@ -177,7 +176,7 @@ fn put_replies<W: Write>(
     for (i, reply) in replies.iter().enumerate() {
         event.increment();
         if !hold_event(page, form, &event, reply) {
-            let groups = groups_at(lists, next);
+            let groups = lists.at(next);
             put_event(page, writer, form, i as u64 + 1, reply, groups)?;
         }
         next += reply.lists();

@@ -2,9 +2,8 @@
 ghost use Rattle.std.specs.Prelude.{◌≡◌, drop};
 ghost use Rattle.lp_replay.specs.Replies.{replies_of};
 
-use super::{ReplyList, ShortReply, ShortWhat, groups_at};
+use super::{GroupLists, ReplyList, ShortReply, ShortWhat};
 use lp_stack::GroupId;
-use lp_transition::GroupList;
 use std::fmt;
 
 /// A reply as a list keeps it.
@@ -48,26 +47,29 @@ fn fmt_over<W: fmt::Write>(groups: &[GroupId], f: &mut fmt::Formatter<W>) -> fmt
 #[derive(Clone, Copy)]
 pub struct Replies<'a> {
     short: &'a [ShortReply],
-    /// The groups of those that switched some.
-    groups: &'a [GroupList],
+    /// The groups of all that switched some.
+    groups: &'a GroupLists,
+    /// The place of the next list.
+    next: usize,
 }
 
 impl<'a> Iterator for Replies<'a> {
+    ghost use Rattle.std.specs.Prelude.{drop};
     ghost use Rattle.std.specs.Iterator.{YieldsFirstBy, item_count};
     ghost use Rattle.lp_replay.specs.Replies.{kept_reply, replies_of};
 
     type Item = KeptReply<'a>;
 
-    ghost next_gives = { YieldsFirstBy kept_reply (λ s. replies_of s.short.now s.groups.now) };
+    ghost next_gives = { YieldsFirstBy kept_reply (λ s. replies_of s.short.now (drop s.next s.groups.now)) };
 
-    ghost remaining = { item_count (λ s. replies_of s.short.now s.groups.now) };
+    ghost remaining = { item_count (λ s. replies_of s.short.now (drop s.next s.groups.now)) };
 
     fn next(&mut self) -> Option<KeptReply<'a>> {
         let (short, others) = self.short.split_first()?;
-        let groups = groups_at(self.groups, 0);
+        let groups = self.groups.at(self.next);
         self.short = others;
         if short.lists() == 1 {
-            self.groups = behind_first(self.groups);
+            self.next = self.groups.place_after(self.next);
         }
         Some(KeptReply {
             short: *short,
@@ -76,25 +78,19 @@ impl<'a> Iterator for Replies<'a> {
     }
 }
 
-/// The lists behind the first; none where there is none.
-fn behind_first(lists: &[GroupList]) -> &[GroupList]
-    ensures { result.now ≡ drop 1 lists.now }
-{
-    match lists.split_first() {
-        Some((_, others)) => others,
-        None => &[],
-    }
-}
-
 impl<'a> IntoIterator for &'a ReplyList {
     type Item = KeptReply<'a>;
 
     type IntoIter = Replies<'a>;
 
-    ghost into_iter_gives = { λ l it. replies_of it.short.now it.groups.now ≡ l.now };
+    ghost into_iter_gives = { λ l it. replies_of it.short.now (drop it.next it.groups.now) ≡ l.now };
 
     fn into_iter(self) -> Replies<'a> {
         let (short, groups) = self.parts();
-        Replies { short, groups }
+        Replies {
+            short,
+            groups,
+            next: 0,
+        }
     }
 }

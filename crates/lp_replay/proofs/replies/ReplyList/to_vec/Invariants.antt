@@ -5,4 +5,4 @@ use Rattle.lp_replay.proofs.replies.ReplyList.to_vec.Given as goal
 abbrev pub invariant-loop-reply : goal.invariant-loop-reply
 invariant-loop-reply l =
     (l.next ≤ l.reply-index)
-    × (l.replies.items ++ replies_of (drop l.reply-index l.reply-items) (drop l.next l.self-inside.groups.items) ≡ replies_of l.reply-items l.self-inside.groups.items)
+    × (l.replies.items ++ replies_of (drop l.reply-index l.reply-items) (drop l.next l.self-inside.groups) ≡ replies_of l.reply-items l.self-inside.groups)

@@ -4,4 +4,4 @@ use Rattle.lp_replay.proofs.replies.ReplyList.with_capacity.Goals as goal
 
 pub returns : goal.returns
 unfolding replies_of
-returns c = ap₂ replies_of c.in_ok-with_capacity.ensures.items c.new.ensures.items
+returns c = ap₂ replies_of c.in_ok-with_capacity.ensures.items c.new.ensures

@@ -8,27 +8,27 @@ use Rattle.lp_replay.proofs.replies.kept.RepliesIterator.next.Goals.{then-lists-
 
 pub returns-in_err-short-clause-steps : goal.returns-in_err-short-clause-steps
 returns-in_err-short-clause-steps c =
-    let none = none-left c.args.self.now.short.now c.args.self.now.groups.now c.in_err-short.ensures.cases in
+    let none = none-left c.args.self.now.short.now (drop c.args.self.now.next c.args.self.now.groups.now) c.in_err-short.ensures.cases in
     rw c.from_residual.ensures (none, none)
 
-first_reply : (c : goal.After-result-1) → replies_of c.args.self.now.short.now c.args.self.now.groups.now ≡ kept_reply (record { short = c.in_ok-short.short.now; groups = c.groups_at-groups.result }) ∷ replies_of c.if-lists-eq1.self.short.now c.if-lists-eq1.self.groups.now
+first_reply : (c : goal.After-result-1) → replies_of c.args.self.now.short.now (drop c.args.self.now.next c.args.self.now.groups.now) ≡ kept_reply (record { short = c.in_ok-short.short.now; groups = c.at-groups.result }) ∷ replies_of c.if-lists-eq1.self.short.now (drop c.if-lists-eq1.self.next c.if-lists-eq1.self.groups.now)
 first_reply c =
     let short = c.in_ok-short.short.now in
     let others = c.in_ok-short.others.now in
-    let lists : List (List ℕ) = c.args.self.now.groups.now in
-    let kept : Reply = kept_reply (record { short = short; groups = c.groups_at-groups.result }) in
+    let lists : List (List ℕ) = drop c.args.self.now.next c.args.self.now.groups.now in
+    let kept : Reply = kept_reply (record { short = short; groups = c.at-groups.result }) in
     let first = ap (λ l. replies_of l lists) c.in_ok-short.ensures.cases.0 in
     elim c.if-lists-eq1.branch [
       | then-lists-eq1 w ↦
           let one : 1 ≡ lists_in short.what = omega (arith, c.lists.ensures.value, w.if-lists-eq1) in
           first
-          ∙ kept-next short others lists w.behind_first-self.result.now _ (w.behind_first-self.ensures ∙ ap (λ (n : ℕ). drop n lists) one) c.groups_at-groups.ensures
-          ∙ ap {A = Replies} {B = List Reply} (λ s. kept ∷ replies_of s.short.now s.groups.now) (sym w.self-is)
+          ∙ kept-next short others lists (drop w.place_after-self.result c.args.self.now.groups.now) _ (w.place_after-self.ensures ∙ ap (λ (n : ℕ). drop n lists) one) c.at-groups.ensures
+          ∙ ap {A = Replies} {B = List Reply} (λ s. kept ∷ replies_of s.short.now (drop s.next s.groups.now)) (sym w.self-is)
       | else-lists-eq1 w ↦
           let none : 0 ≡ lists_in short.what = omega (arith, c.lists.ensures.value, c.lists.ensures.few, w.if-lists-eq1) in
           first
-          ∙ kept-next short others lists lists _ (ap (λ (n : ℕ). drop n lists) none) c.groups_at-groups.ensures
-          ∙ ap {A = Replies} {B = List Reply} (λ s. kept ∷ replies_of s.short.now s.groups.now) (sym w.self-is)
+          ∙ kept-next short others lists lists _ (ap (λ (n : ℕ). drop n lists) none) c.at-groups.ensures
+          ∙ ap {A = Replies} {B = List Reply} (λ s. kept ∷ replies_of s.short.now (drop s.next s.groups.now)) (sym w.self-is)
     ]
 
 pub returns-clause-steps : goal.returns-clause-steps
