@@ -99,7 +99,7 @@ impl Levels {
 }
 
 /// What is shown under a heading of the tasks that live, by increasing number.
-#[tactic(auto, using(lp_transition::proofs::Ascending::in_order))]
+#[tactic(auto, using(lp_transition::proofs::AscendingLemmas::in_order))]
 fn shown_of(
     alloc: Global,
     levels: &[Option<Level>],

@@ -4,7 +4,7 @@ use Rattle.std.specs.Option.{option_map}
 use Rattle.lp_transition.specs.Scan.{passing}
 use Rattle.lp_numbers.specs.Numbers.{Numbers, has}
 use Rattle.lp_numbers.specs.Ascending.{members_from}
-use Rattle.lp_transition.proofs.Ascending.{members-any, members-passing}
+use Rattle.lp_transition.proofs.AscendingLemmas.{members-any, members-passing}
 use Rattle.std.proofs.lemmas.Bool.{eq-eqb}
 use Rattle.std.specs.List.{list_any}
 use Rattle.lp_cert.specs.declared.cert.Claim.{Claim}

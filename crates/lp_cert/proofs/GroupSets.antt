@@ -3,11 +3,7 @@ use Rattle.std.proofs.Common.{◌≡◌, ◌≢◌, ℕ, ◌<◌, ◌≤◌, Boo
 use Rattle.std.proofs.lemmas.Bool.{false≢true, eqb-true, eqb-false}
 use Rattle.std.proofs.lemmas.List.{get_or-set_same, get_or-set_other, length-set}
 use Rattle.lp_numbers.specs.Numbers.{Numbers, has, IsEmpty}
-use Rattle.lp_transition.specs.declared.event.Event.{Event}
-use Rattle.lp_transition.specs.declared.event.Event.TheVariants.{Fork}
-use Rattle.lp_cert.specs.Waiters.{LegReasons}
 use Rattle.lp_cert.specs.inside.GroupSet.{IsBounded}
-use Rattle.lp_cert.specs.inside.Waiters.{HasHeadFor, IsAboveChild}
 
 module _ (groups new : Numbers) (member bound : ℕ) (bounded : IsBounded bound groups) where
   pub with_member : (more : ℕ) → new ≡ set groups member true → bound ≤ more → member < more → IsBounded more new
@@ -36,9 +32,3 @@ module _ (groups new : Numbers) (member bound : ℕ) (bounded : IsBounded bound 
 
 pub no_member : (groups : Numbers) (bound : ℕ) → IsEmpty groups → IsBounded bound groups
 no_member groups bound none g there = absurd (false≢true (sym (none g) ∙ there))
-
--- ---- The table of what is kept of each group
-
-pub head_for : (event : Event) (reasons : LegReasons) (bound : ℕ) → IsAboveChild event bound → bound ≤ length reasons.heads → HasHeadFor event reasons
-head_for (Fork p c how) reasons bound above long = omega (arith, above)
-head_for _ reasons bound above long = tt

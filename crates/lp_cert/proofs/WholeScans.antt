@@ -17,6 +17,7 @@ use Rattle.lp_transition.specs.Table.{Engine, slot, fate_at, state_in}
 use Rattle.lp_cert.specs.Waiters.{LegReasons}
 use Rattle.lp_cert.specs.inside.Waiters.{AreJudged, StandsAt, is_left}
 use Rattle.lp_cert.specs.inside.WholeScans.{IsLookedAt, count_below, found_of, found_up_to}
+use Rattle.lp_cert.proofs.Completions.{range_more}
 use Rattle.lp_cert.proofs.WaiterLemmas.{one_judged, still_standing}
 
 -- ---- Members of a set that all pass a test
@@ -48,10 +49,6 @@ all_members P set g below there all = members_at P set g there (65536 - 0) 0 (om
 module _ (model : Rules) (kind : CheckKind) (s : State) where
   abbrev seen : ℕ → Option TaskView
   seen t = waiting_view s.target t (s.tasks t)
-
-  range_more : (a n : ℕ) → range_with_len a (suc n) ≡ range_with_len a n ++ (a + n) ∷ []
-  range_more a zero = ap (λ (m : ℕ). m ∷ []) (omega arith)
-  range_more a (suc n) = ap (λ (ns : List ℕ). a ∷ ns) (range_more (a + 1) n ∙ ap (λ (m : ℕ). range_with_len (a + 1) n ++ m ∷ []) (omega arith))
 
   found_are : (n : ℕ) → found_up_to model kind s n ≡ map (verdict_of model kind s.aim) (filter_map seen (range_with_len 1 n))
   unfolding found_up_to

@@ -49,6 +49,6 @@ used_scan model Stop = used_kind model check.Stop
 used_scan model _ = None
 
 -- the verdicts with which an event was weighed are of each group that has changed, where it is a scan that the model uses: it is
--- noted without another look at any task
+-- noted without another look at a task, but for that of a hold where another member is refused
 abbrev pub Suffices : Rules → State → Weighed → LastScan → Type 0
 Suffices model s step last_scan = TellOfChanged s (used_scan model step.event) step.verdicts last_scan

@@ -94,6 +94,13 @@ impl GroupSet {
         self.bound = bound;
     }
 
+    /// The groups, as a set.
+    pub(crate) fn as_set(&self) -> &NumberSet
+        ensures { result.now ≡ self.now }
+    {
+        &self.groups
+    }
+
     /// Makes a group no member.
     pub(crate) fn remove(&mut self, group: u16)
         ensures after { self.new ≡ slice_set self.old group false }

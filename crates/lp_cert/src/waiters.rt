@@ -133,7 +133,7 @@ impl Waiters {
     }
 
     /// The only group that waits, if there is just one.
-    #[tactic(auto, using(lp_transition::proofs::Ascending::in_order))]
+    #[tactic(auto, using(lp_transition::proofs::AscendingLemmas::in_order))]
     pub(crate) fn lone(&self) -> Option<GroupId>
         ensures lone { IfSome result (λ group. waiters_of self.now ≡ waiter_in self.now.reasons group.0 ∷ []) }
         ensures stands { AreHeads self.now.reasons.lists (length self.now.reasons.scans) (floor_waiters self.now.reasons result) }
@@ -399,10 +399,8 @@ fn take_in_all<M: Consistency>(
     ensures taken { AreTakenIn core.now.table level.0 65536 groups.new reasons.old reasons.new }
     ensures groups { IsSound (state_in core.now) → (group : ℕ) → has groups.new group ≡ has_off (state_in core.now) level.0 group }
 {
-    let mut from = 0u32;
-    while let Some(number) = core.next_live(from) {
+    for number in core.live() {
         take_in(core, level, TaskId(number), groups, reasons);
-        from = u32::from(number) + 1;
     }
 }
 

@@ -5,7 +5,7 @@ use Rattle.std.proofs.lemmas.List.{append-nil}
 use Rattle.std.specs.Iterator.{YieldsFirst}
 use Rattle.std.specs.List.{list_any}
 use Rattle.std.specs.Option.{option_eq}
-use Rattle.lp_numbers.specs.Numbers.{Numbers, has}
+use Rattle.lp_numbers.specs.Numbers.{Numbers, has, IsLeastFrom}
 use Rattle.lp_numbers.specs.Ascending.{members_from}
 use Rattle.lp_transition.specs.Scan.{passing}
 use Rattle.lp_transition.specs.inside.FirstRefusals.{place_of}
@@ -23,6 +23,49 @@ pub members-any : (set : Numbers) (left : List ℕ) → left ≡ members_from 0 
 members-any set left is n few = ap (list_any (nat_eq n)) (is ∙ members-passing set) ∙ passing-any 65536 (has set) n few
 
 -- ---- Those that are left in a loop
+
+module _ (test : ℕ → Bool) where
+  least_in : (k first n : ℕ) (left : List ℕ) → first + k ≡ 65536 → n ∷ left ≡ passes test first k → IsLeastFrom test first n
+  least_in zero first n left whole is = absurd (cc)
+  least_in (suc k) first n left whole is =
+      ⊎_elim
+      (λ (yes : test first ≡ true).
+      let more = is ∙ keep_one test first k yes in
+      let same : n ≡ first = cc in
+      let l : IsLeastFrom test first n = record { within = omega (arith, same); passes = ap test same ∙ yes; least = λ t low high. absurd (omega (arith, same, low, high)) } in
+      l)
+      (λ (out : test first ≡ false).
+      let later = least_in k (first + 1) n left (omega arith) (is ∙ skip_one test first k out) in
+      let behind = later.within in
+      let l : IsLeastFrom test first n = record {
+        within = omega (arith, behind);
+        passes = later.passes;
+        least = λ t low high. ⊎_elim (λ (same : t ≡ first). ap test same ∙ out) (λ (ne : t ≡ first → ⊥). later.least t (omega (arith, ne, low)) high) (cases_eq t first);
+      } in
+      l)
+      (cases_Bool (test first))
+
+  over_in : (k first : ℕ) → first + k ≡ 65536 → [] ≡ passes test first k → (t : ℕ) → first ≤ t → t < 65536 → test t ≡ false
+  over_in zero first whole is t low high = absurd (omega (arith, whole, low, high))
+  over_in (suc k) first whole is t low high =
+      ⊎_elim
+      (λ (yes : test first ≡ true). let none = is ∙ keep_one test first k yes in absurd (cc))
+      (λ (out : test first ≡ false).
+      ⊎_elim
+      (λ (same : t ≡ first). ap test same ∙ out)
+      (λ (ne : t ≡ first → ⊥). over_in k (first + 1) (omega arith) (is ∙ skip_one test first k out) t (omega (arith, ne, low)) high)
+      (cases_eq t first))
+      (cases_Bool (test first))
+
+  -- the next of those that pass is the first that does
+  pub passing-least : (first n : ℕ) (left : List ℕ) → first ≤ 65536 → n ∷ left ≡ passing first 65536 test → IsLeastFrom test first n
+  unfolding passing
+  passing-least first n left fits is = least_in (65536 - first) first n left (omega arith) is
+
+  -- and where none is left none does
+  pub passing-over : (first : ℕ) → first ≤ 65536 → [] ≡ passing first 65536 test → (t : ℕ) → first ≤ t → t < 65536 → test t ≡ false
+  unfolding passing
+  passing-over first fits is = over_in (65536 - first) first (omega arith) is
 
 -- no member from a first number on is before them
 pub record IsBefore (set : Numbers) (first : ℕ) (left : List ℕ) : Type 0 where
@@ -67,17 +110,21 @@ rest_in test (suc k) first n left whole is =
     (λ (out : test first ≡ false). rest_in test k (first + 1) n left (omega arith) (is ∙ skip_one test first k out))
     (cases_Bool (test first))
 
--- behind the first of them are the members above it
-pub members-rest : (set : Numbers) (first n : ℕ) (left : List ℕ) → n ∷ left ≡ members_from first set → left ≡ members_from (n + 1) set
-unfolding members_from
-members-rest set first n left is =
+-- behind the first of them are those above it
+pub passing-rest : (test : ℕ → Bool) (first n : ℕ) (left : List ℕ) → n ∷ left ≡ passing first 65536 test → left ≡ passing (n + 1) 65536 test
+unfolding passing
+passing-rest test first n left is =
     ⊎_elim
-    (λ (low : first < 65536). rest_in (has set) (65536 - first) first n left (omega arith) is)
+    (λ (low : first < 65536). rest_in test (65536 - first) first n left (omega arith) is)
     (λ (past : 65536 ≤ first).
     let none : 65536 - first ≡ 0 = omega arith in
-    let empty : n ∷ left ≡ [] = is ∙ ap (passes (has set) first) none in
+    let empty : n ∷ left ≡ [] = is ∙ ap (passes test first) none in
     absurd (cc))
     (cases_lt first 65536)
+
+pub members-rest : (set : Numbers) (first n : ℕ) (left : List ℕ) → n ∷ left ≡ members_from first set → left ≡ members_from (n + 1) set
+unfolding members_from passing
+members-rest set first n left is = passing-rest (has set) first n left is
 
 -- ---- A list beside those that are left
 

@@ -13,7 +13,7 @@ use Rattle.lp_transition.specs.Table.{Table, Engine, state_in}
 use Rattle.lp_transition.specs.inside.Invariant.{IsEngine}
 use Rattle.lp_transition.specs.inside.ScanSteps.{waiting_slot, task_switches, is_found}
 use Rattle.lp_transition.specs.inside.FirstRefusals.{asked_slot, place_of, HasAsked}
-use Rattle.lp_transition.proofs.Ascending.{IsBefore, members-before}
+use Rattle.lp_transition.proofs.AscendingLemmas.{IsBefore, members-before}
 use Rattle.lp_transition.proofs.FirstRefusals.{pass-begins, pass-ends, pass-over, pass-asks}
 
 module _ (table : Table) (waiting may_refuse unrefused : Numbers) (t : ℕ) where

@@ -62,4 +62,5 @@ pub mod QuietScans
 pub mod BootLemmas
 pub mod OpeningLemmas
 pub mod Readers
-pub mod Ascending
+pub mod AscendingLemmas
+pub mod LiveTasks

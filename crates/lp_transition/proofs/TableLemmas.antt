@@ -1,6 +1,6 @@
 -- A change of the table of tasks is a change of the tasks' fates.
-use Rattle.std.proofs.Common.{◌≡◌, ◌≢◌, ℕ, ◌<◌, Bool, true, false, not, is_some, IsSome, length, Option, Some, None, if◌then◌else◌, nat_eq, refl, sym, ap, ap₂, subst, ◌∙◌, ⊎_elim, arith}
-use Rattle.std.proofs.lemmas.Bool.{cases_eq, eq-eqb, ne_eqb, cond-true, cond-false}
+use Rattle.std.proofs.Common.{◌≡◌, ◌≢◌, ℕ, zero, suc, ◌<◌, Bool, true, false, not, is_some, IsSome, length, Option, Some, None, if◌then◌else◌, nat_eq, refl, sym, ap, ap₂, subst, ◌∙◌, ⊎_elim, arith}
+use Rattle.std.proofs.lemmas.Bool.{false≢true, cases_eq, eq-eqb, ne_eqb, cond-true, cond-false}
 use Rattle.std.proofs.lemmas.List.{length-set, get_or-set_same, get_or-set_other}
 use Rattle.std.specs.Option.{option_map}
 use mathlib.Core.Path.{fun_ext}
@@ -161,3 +161,8 @@ slot-zero engine sound = at (slot engine.table 0) refl
     at : (o : Option Standing) → slot engine.table 0 ≡ o → o ≡ None
     at None e = refl
     at (Some x) e = let numbered = sound.numbered 0 x (live_from_slot engine.table 0 x e) in absurd (omega (arith, numbered.0))
+
+-- so the number of a live task is above it
+pub positive_of_live : (engine : Engine) → IsSound (state_in engine) → (t : ℕ) → is_some (slot engine.table t) ≡ true → 0 < t
+positive_of_live engine sound zero lives = absurd (false≢true (sym (ap is_some (slot-zero engine sound)) ∙ lives))
+positive_of_live engine sound (suc t) lives = omega arith

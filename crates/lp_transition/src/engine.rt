@@ -2,7 +2,7 @@
 ghost use Rattle.std.specs.Prelude.{◌≡◌, ◌≤◌, None, not, is_some, false};
 ghost use Rattle.std.specs.Option.{ForSome, option_map};
 ghost use Rattle.lp_patch.specs.Aimed.{aimed};
-ghost use Rattle.lp_numbers.specs.Numbers.{IsNextFrom};
+ghost use Rattle.lp_transition.specs.Scan.{passing};
 ghost use Rattle.lp_transition.specs.Sound.{IsSound};
 ghost use Rattle.lp_transition.specs.Table.{IsWide, slot, standings, bounds_of, state_in};
 ghost use Rattle.lp_transition.specs.Blames.{blame_of, has_frame_in};
@@ -39,7 +39,7 @@ pub use blames::StandingBlame;
 pub use boot::BootFault;
 pub use dispatch::verdicts;
 use lp_model::Consistency;
-use lp_numbers::NumberSet;
+use lp_numbers::{Ascending, NumberSet};
 use lp_patch::{Aim, PatchStack};
 use lp_stack::{GroupId, Level, TaskId, View};
 pub use opening::Opening;
@@ -189,10 +189,12 @@ impl<M: Consistency> Core<M> {
         }
     }
 
-    /// The least number of a live task that is at or above a number, which may be past all of them.
-    pub fn next_live(&self, from: u32) -> Option<u16>
-        ensures { IsNextFrom (λ t. is_some (slot self.now.table t)) from result }
+    /// The numbers of the live tasks in increasing order.
+    pub fn live(&self) -> Ascending<'_>
+        ensures numbers { result ≡ passing 0 65536 (λ t. is_some (slot self.now.table t)) }
+        ensures sound { IsSound (state_in self.now) }
+        ensures wide { IsWide self.now.table }
     {
-        self.tasks.next_live_from(from)
+        self.tasks.live()
     }
 }

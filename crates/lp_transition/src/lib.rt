@@ -11,7 +11,7 @@ mod reply;
 pub use engine::{BootFault, Core, Halt, MOST_EVENTS, Opening, StandingBlame, Step, verdicts};
 pub use event::Event;
 pub use lp_model::{CheckKind, Consistency, ForkKind, Verdict};
-pub use lp_numbers::NumberSet;
+pub use lp_numbers::{Ascending, NumberSet};
 pub use lp_patch::{Aim, PatchStack};
 pub use lp_stack::{Class, GroupId, Level, TaskId, View};
 pub use lp_symbols::SymId;

@@ -1,5 +1,7 @@
 //! Scans of which it isn't known of each group that waits what they found.
 ghost use Rattle.std.specs.Prelude.{◌≡◌, ◌+◌, ◌<◌, ◌≤◌, ℕ, true, length, IsTrue};
+ghost use Rattle.std.specs.List.{AllByRecursion};
+ghost use Rattle.lp_numbers.specs.Ascending.{members_from};
 ghost use Rattle.lp_numbers.specs.Numbers.{has};
 ghost use Rattle.lp_transition.specs.Scan.{verdicts_of};
 ghost use Rattle.lp_transition.specs.Table.{state_in};
@@ -19,24 +21,14 @@ impl Waiters {
     pub(crate) fn are_told(&self, asked: &NumberSet, told: &NumberSet) -> bool
         ensures { IsTrue result → (group : ℕ) → group < 65536 → has self.now.groups group ≡ true → has asked.now group ≡ true → has told.now group ≡ true }
     {
-        for number in asked {
-            if !is_told(&self.groups, told, number) {
-                return false;
-            }
-        }
-        true
+        each_is_told(asked, &self.groups, told)
     }
 
     /// Whether each group that waits is among those that are told of.
     pub(crate) fn all_told(&self, told: &NumberSet) -> bool
         ensures { IsTrue result → (group : ℕ) → group < 65536 → has self.now.groups group ≡ true → has told.now group ≡ true }
     {
-        for number in &self.groups {
-            if !is_told(&self.groups, told, number) {
-                return false;
-            }
-        }
-        true
+        each_is_told(self.groups.as_set(), &self.groups, told)
     }
 
     /// A scan of this kind, with what it finds of each task that waits. Never allocates.
@@ -53,6 +45,18 @@ impl Waiters {
         judge_tasks(core, kind, at, &self.groups, refused, &mut self.reasons);
         self.reasons.scanned(at);
     }
+}
+
+/// Whether each of these groups is told of, where it waits.
+fn each_is_told(groups: &NumberSet, waiting: &GroupSet, told: &NumberSet) -> bool
+    ensures { IsTrue result → AllByRecursion (IsTold waiting.now told.now) (members_from 0 groups.now) }
+{
+    for number in groups {
+        if !is_told(waiting, told, number) {
+            return false;
+        }
+    }
+    true
 }
 
 /// Whether a group is told of, where it waits.
@@ -77,10 +81,8 @@ fn judge_tasks<M: Consistency>(
     requires room { length reasons.old.heads ≤ reasons.old.room }
     ensures { AreJudged (state_in core.now) at (verdicts_of M.rules kind (state_in core.now)) (is_left waiting.now refused.old) (is_left waiting.now refused.new) reasons.old reasons.new }
 {
-    let mut from = 1u32;
-    while let Some(number) = core.next_live(from) {
+    for number in core.live() {
         judge_task(core, kind, at, TaskId(number), waiting, refused, reasons);
-        from = u32::from(number) + 1;
     }
 }
 

@@ -60,10 +60,8 @@ pub(super) fn waiting<M: Consistency>(
     ensures { IfOk result (λ set. (task : ℕ) (x : Standing) → slot core.now.table task ≡ Some x → nat_eq x.level core.now.target ≡ false → has set x.group ≡ true) }
 {
     let mut set = NumberSet::new(alloc)?;
-    let mut from = 0u32;
-    while let Some(number) = core.next_live(from) {
+    for number in core.live() {
         take_in(core, TaskId(number), &mut set);
-        from = u32::from(number) + 1;
     }
     Ok(set)
 }

@@ -2,6 +2,7 @@
 use super::*;
 use lp_models::Immediate;
 use lp_stack::Mode;
+use lp_transition::Ascending;
 
 const ZERO: (TaskId, Class) = (TaskId(0), Class::Normal);
 
@@ -29,12 +30,14 @@ fn booted(alloc: Global) -> Result<Box<Core<Immediate>>, BootFault> {
     boot_over_a(alloc, Immediate, &TASKS)
 }
 
+/// Whether these are the numbers of its two tasks, in increasing order.
+fn are_the_two(mut numbers: Ascending<'_>) -> bool {
+    numbers.next() == Some(3) && numbers.next() == Some(65_535) && numbers.next() == None
+}
+
 /// Whether its two tasks are live, each alone in its group.
 fn are_live(core: &Core<Immediate>) -> bool {
-    core.next_live(0) == Some(3)
-        && core.next_live(4) == Some(65_535)
-        && core.is_alone(TaskId(3))
-        && !core.is_alone(TaskId(4))
+    are_the_two(core.live()) && core.is_alone(TaskId(3)) && !core.is_alone(TaskId(4))
 }
 
 /// Whether they are as it starts.
@@ -64,10 +67,7 @@ fn is_at_the_first_level(opening: &Opening) -> bool {
 
 /// Whether it has the numbers of its two tasks.
 fn has_its_numbers(opening: &Opening) -> bool {
-    opening.next_live(0) == Some(3)
-        && opening.next_live(4) == Some(65_535)
-        && opening.used(TaskId(3))
-        && !opening.used(TaskId(4))
+    are_the_two(opening.live()) && opening.used(TaskId(3)) && !opening.used(TaskId(4))
 }
 
 /// Whether a task runs so, on level 0 and in a group of its own; where it runs nowhere, whether it has none of the three.

@@ -117,10 +117,8 @@ fn collect_off(tasks: &TaskTable, waiting: &mut NumberSet, level: Level)
     ensures numbers { length waiting.new ≡ 65536 }
 {
     waiting.clear();
-    let mut from = 0u32;
-    while let Some(number) = tasks.next_live_from(from) {
+    for number in tasks.live() {
         put_number(waiting, number, is_off_level(tasks, number, level));
-        from = u32::from(number) + 1;
     }
 }
 
@@ -128,12 +126,10 @@ fn collect_off(tasks: &TaskTable, waiting: &mut NumberSet, level: Level)
 fn all_on(tasks: &TaskTable, level: Level) -> bool
     ensures { IsTrue result ↔ ((t : ℕ) → is_off level.0 (slot tasks.now t) ≡ false) }
 {
-    let mut from = 0u32;
-    while let Some(number) = tasks.next_live_from(from) {
+    for number in tasks.live() {
         if is_off_level(tasks, number, level) {
             return false;
         }
-        from = u32::from(number) + 1;
     }
     true
 }

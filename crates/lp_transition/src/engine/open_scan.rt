@@ -172,7 +172,7 @@ impl<M: Consistency> Core<M> {
 }
 
 /// The live tasks of some groups, at the cost of the groups and of these tasks.
-#[tactic(auto, using(crate::proofs::Ascending::in_order))]
+#[tactic(auto, using(crate::proofs::AscendingLemmas::in_order))]
 pub(super) fn members_of(
     alloc: Global,
     tasks: &TaskTable,

@@ -1,8 +1,8 @@
 //! The engine as it stood when a leg opened.
 ghost use Rattle.std.specs.Prelude.{◌≡◌, ◌≤◌, [], not, length, is_some, IfOk};
 ghost use Rattle.std.specs.Option.{option_map};
-ghost use Rattle.lp_numbers.specs.Numbers.{IsNextFrom};
 ghost use Rattle.lp_stack.specs.TaskView.{seen};
+ghost use Rattle.lp_transition.specs.Scan.{passing};
 ghost use Rattle.lp_transition.specs.Tasks.{is_unused};
 ghost use Rattle.lp_transition.specs.Machine.{view_of};
 ghost use Rattle.lp_transition.specs.Table.{slot, standings, state_in};
@@ -12,6 +12,7 @@ ghost use Rattle.lp_transition.specs.Steps.{OpensLegs};
 use super::Core;
 use super::task_table::TaskTable;
 use lp_model::Consistency;
+use lp_numbers::Ascending;
 use lp_patch::PatchStack;
 use lp_stack::{GroupId, Level, TaskId, View};
 use std::alloc::{AllocError, Global};
@@ -110,11 +111,11 @@ impl Opening {
         self.tasks.is_used(task)
     }
 
-    /// The least number of a live task that is at or above a number.
-    pub fn next_live(&self, from: u16) -> Option<u16>
-        ensures { IsNextFrom (λ t. is_some (slot self.now.table t)) from result }
+    /// The numbers of the live tasks in increasing order.
+    pub fn live(&self) -> Ascending<'_>
+        ensures { result ≡ passing 0 65536 (λ t. is_some (slot self.now.table t)) }
     {
-        self.tasks.next_live(from)
+        self.tasks.live()
     }
 
     /// A live task as it stood, borrowed; None for any other.

@@ -156,7 +156,7 @@ impl<M: Consistency> Core<M> {
 }
 
 /// The tasks of a waiting set as checks see them, by increasing number.
-#[tactic(auto, using(crate::proofs::Ascending::in_order))]
+#[tactic(auto, using(crate::proofs::AscendingLemmas::in_order))]
 fn views_in<'a>(
     alloc: Global,
     tasks: &'a TaskTable,
@@ -175,7 +175,7 @@ fn views_in<'a>(
 }
 
 /// What a check finds of the waiting tasks of a set, by increasing number.
-#[tactic(auto, using(crate::proofs::Ascending::in_order))]
+#[tactic(auto, using(crate::proofs::AscendingLemmas::in_order))]
 fn found_in<M: Consistency>(
     alloc: Global,
     model: &M,
@@ -212,7 +212,7 @@ pub(super) fn waiting_task<'a>(
 }
 
 /// The members of a set as groups, in increasing order.
-#[tactic(auto, using(crate::proofs::Ascending::in_order))]
+#[tactic(auto, using(crate::proofs::AscendingLemmas::in_order))]
 fn group_list(alloc: Global, set: &NumberSet) -> Result<GroupList, AllocError>
     ensures { IfOk result (λ list. list ≡ passing 0 65536 (has set.now)) }
 {
@@ -357,7 +357,7 @@ fn remove_refused(groups: &mut NumberSet, tasks: &TaskTable, verdicts: &[Verdict
 }
 
 /// The groups of the live tasks of a set.
-#[tactic(auto, using(crate::proofs::Ascending::in_order))]
+#[tactic(auto, using(crate::proofs::AscendingLemmas::in_order))]
 pub(super) fn groups_in(
     alloc: Global,
     tasks: &TaskTable,

@@ -1,9 +1,10 @@
 //! The live tasks by their numbers.
 ghost use Rattle.std.specs.Prelude.{◌≡◌, ℕ, ◌<◌, ◌≤◌, ◌&&◌, ◌||◌, false, not, length, nat_eq, true, None, IfSome, IfNone, IsTrue, ◌↔◌, is_some, slice_set, vec_capacity, IfOk};
 ghost use Rattle.std.specs.Option.{ForSome, option_map};
-ghost use Rattle.lp_numbers.specs.Numbers.{has, IsNextFrom};
+ghost use Rattle.lp_numbers.specs.Numbers.{has};
 ghost use Rattle.lp_numbers.specs.Groups.{is_member};
 ghost use Rattle.lp_transition.specs.inside.Slots.{slots_of, padded};
+ghost use Rattle.lp_transition.specs.Scan.{passing};
 ghost use Rattle.lp_transition.specs.Tasks.{is_unused};
 ghost use Rattle.lp_transition.specs.Machine.{put_in, calling, returning};
 ghost use Rattle.lp_transition.specs.inside.Points.{at_point};
@@ -12,7 +13,7 @@ use super::deep_stacks::DeepStacks;
 use super::live_task::LiveTask;
 use super::live_view::LiveView;
 use lp_model::CheckKind;
-use lp_numbers::{Members, NUMBERS, NumberSet};
+use lp_numbers::{Ascending, Members, NUMBERS, NumberSet};
 use lp_stack::{GroupId, Level, Mode, TaskId};
 use lp_symbols::SymId;
 use std::alloc::{AllocError, Global};
@@ -122,22 +123,13 @@ impl TaskTable {
         self.used.contains(task.0)
     }
 
-    /// The live task with the least number that is at or above a number.
-    pub(crate) fn next_live(&self, from: u16) -> Option<u16>
-        ensures { IsNextFrom (λ t. is_some (slot self.now t)) from result }
-    {
-        self.live.next(from)
-    }
-
-    /// The same for any number; none is at or above 65,536.
-    pub(crate) fn next_live_from(&self, from: u32) -> Option<u16>
-        ensures { IsNextFrom (λ t. is_some (slot self.now t)) from result }
+    /// The numbers of the live tasks in increasing order.
+    pub(crate) fn live(&self) -> Ascending<'_>
+        ensures numbers { result ≡ passing 0 65536 (λ t. is_some (slot self.now t)) }
+        ensures wide { IsWide self.now }
     {
         let _ = &self.slots;
-        match u16::try_from(from) {
-            Ok(number) => self.next_live(number),
-            Err(_) => None,
-        }
+        self.live.iter()
     }
 
     /// Whether a task is the only live one of a group.

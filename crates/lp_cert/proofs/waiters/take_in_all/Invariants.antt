@@ -1,13 +1,14 @@
-use Rattle.std.proofs.Common.{◌≤◌, ◌-◌}
+use Rattle.std.proofs.Common.{◌≡◌, ℕ, ◌≤◌, is_some}
+use Rattle.lp_transition.specs.Scan.{passing}
+use Rattle.lp_transition.specs.Table.{slot}
 use Rattle.lp_cert.specs.inside.Waiters.{AreTakenIn}
 use Rattle.lp_cert.proofs.waiters.take_in_all.Given as goal
 
--- the groups of the tasks below the next number are in
+-- the groups of the tasks before those that are left are in
 abbrev pub invariant-loop-number : goal.invariant-loop-number
 invariant-loop-number g l = record {
-  fits : l.from ≤ 65536;
-  taken : AreTakenIn l.core.table l.level.0 l.from l.groups l.fn.reasons l.reasons;
+  from : ℕ;
+  fits : from ≤ 65536;
+  rest : l.number-iterator ≡ passing from 65536 (λ t. is_some (slot l.core.table t));
+  taken : AreTakenIn l.core.table l.level.0 from l.groups l.fn.reasons l.reasons;
 }
-
-abbrev pub decreases-loop-number : goal.decreases-loop-number
-decreases-loop-number g l = 65536 - l.from

@@ -1,18 +1,10 @@
-use Rattle.std.proofs.Common.{sym, subst}
-use Rattle.std.specs.List.{AllByRecursion}
 use Rattle.lp_cert.specs.inside.WholeScans.{IsTold}
 use Rattle.lp_cert.proofs.WholeScans.{all_members}
 use Rattle.lp_cert.proofs.waiters.Waiters.are_told.Goals as goal
 
-pub loop-number-init : goal.loop-number-init
-loop-number-init c = λ all. subst (AllByRecursion (IsTold c.self.inside.groups c.args.told.now)) c.into_iter-number-iterator.ensures.into_iter_gives all
-
-pub loop-number-preserved : goal.loop-number-preserved
-loop-number-preserved c = λ rest.
-    c.loop-number.invariant (subst (AllByRecursion (IsTold c.self.inside.groups c.args.told.now)) (sym c.in-Some.ensures.steps) (c.is_told.ensures c.if-not-is_told.false, rest))
-
 pub returns : goal.returns
 returns c =
+    let Told = IsTold c.self.inside.groups c.args.told.now in
     rw (← c.self.view_is) (λ done.
-    let none = subst (AllByRecursion (IsTold c.self.inside.groups c.args.told.now)) (sym c.in-None.ensures.steps.0) tt in
-    λ group below waits there. all_members (IsTold c.self.inside.groups c.args.told.now) c.args.asked.now group below there (c.loop-number.invariant none) waits)
+    let each = c.each_is_told.ensures done in
+    λ group below waits there. all_members Told c.args.asked.now group below there each waits)

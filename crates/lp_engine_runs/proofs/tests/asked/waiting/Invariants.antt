@@ -1,13 +1,14 @@
-use Rattle.std.proofs.Common.{◌≤◌, ◌-◌}
+use Rattle.std.proofs.Common.{◌≡◌, ℕ, ◌≤◌, is_some}
+use Rattle.lp_transition.specs.Scan.{passing}
+use Rattle.lp_transition.specs.Table.{slot}
 use Rattle.lp_engine_runs.proofs.Asked.{AreIn}
 use Rattle.lp_engine_runs.proofs.tests.asked.waiting.Given as goal
 
--- the groups of the waiting tasks below the next number are in
+-- the groups of the waiting tasks before those that are left are in
 abbrev pub invariant-loop-number : goal.invariant-loop-number
 invariant-loop-number g l = record {
-  fits : l.from ≤ 65536;
-  taken : AreIn l.core l.set l.from;
+  from : ℕ;
+  fits : from ≤ 65536;
+  rest : l.number-iterator ≡ passing from 65536 (λ t. is_some (slot l.core.table t));
+  taken : AreIn l.core l.set from;
 }
-
-abbrev pub decreases-loop-number : goal.decreases-loop-number
-decreases-loop-number g l = 65536 - l.from

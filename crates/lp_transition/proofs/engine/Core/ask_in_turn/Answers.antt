@@ -7,7 +7,7 @@ use Rattle.lp_transition.specs.Machine.{view_of}
 use Rattle.lp_transition.specs.Scan.{verdict_of}
 use Rattle.lp_transition.specs.Table.{Engine, state_in}
 use Rattle.lp_transition.specs.inside.FirstRefusals.{HasAsked, place_of}
-use Rattle.lp_transition.proofs.Ascending.{members-rest}
+use Rattle.lp_transition.proofs.AscendingLemmas.{members-rest}
 use Rattle.lp_transition.proofs.InTurn.{turn-begins, turn-ends, turn-over, turn-asks}
 use Rattle.lp_transition.proofs.engine.Core.ask_in_turn.Goals as goal
 
