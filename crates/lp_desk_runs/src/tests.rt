@@ -40,7 +40,7 @@ const FIRST: [(TaskId, Class); 1] = [(ONE, Class::Normal)];
 const BOTH: [(TaskId, Class); 2] = [(ONE, Class::Normal), (TWO, Class::Normal)];
 
 /// What a reply says.
-#[derive(Clone, Copy, Debug, PartialEq, Eq)]
+#[derive(Clone, Copy, PartialEq, Eq)]
 enum Said {
     Ran(u8),
     Done,

@@ -222,7 +222,7 @@ fn a_board_has_1_to_64_readers(rt: HostRuntime) -> Result<(), Fail> {
     let alloc = rt.alloc();
     for readers in [0, 65] {
         let made = Blank::new(alloc, Hybrid, patched(alloc)?, &[], readers);
-        assert_eq!(&rt; made.err(), Some(LaunchFault::BadCrew));
+        assert!(&rt; made.err() == Some(LaunchFault::BadCrew));
     }
     Ok(())
 }

@@ -46,7 +46,7 @@ fn a_log_takes_a_walk_by_its_verdicts_and_a_command(rt: HostRuntime) -> Result<(
     }
     let found = found(alloc, log.core())?;
     let walked = log.apply_scan(alloc, CheckKind::Walk, found.as_slice())?;
-    assert_eq!(rt; in_short(&walked), Said::Done);
+    assert!(rt; in_short(&walked) == Said::Done);
     for event in [Event::Wake(ONE), Event::Ret(ONE), Event::Sleep(ONE)] {
         log.apply(alloc, event)?;
     }
@@ -54,7 +54,7 @@ fn a_log_takes_a_walk_by_its_verdicts_and_a_command(rt: HostRuntime) -> Result<(
         .command(&rt, alloc, 1, &Open, None, control, Event::Walk)
         .ok();
     let said = commanded.map(|done| in_short(&done.reply));
-    assert_eq!(rt; said, Some(Said::SwitchedLast(1)));
+    assert!(rt; said == Some(Said::SwitchedLast(1)));
     Ok(())
 }
 
@@ -63,7 +63,7 @@ fn a_book_takes_events_and_scans(rt: HostRuntime) -> Result<(), Fail> {
     let alloc = rt.alloc();
     let blank = blank(alloc, Hybrid, &FIRST, 1)?;
     let said = in_a_book::<Hybrid, Brand, _>(&rt, alloc, blank)?;
-    assert_eq!(rt; said, [Said::Done, Said::Done]);
+    assert!(rt; said == [Said::Done, Said::Done]);
     Ok(())
 }
 

@@ -175,9 +175,9 @@ fn a_complete_leg_has_a_floor(rt: HostRuntime) -> Result<(), Fail> {
 #[test]
 fn lists_lend_their_lines(rt: HostRuntime) -> Result<(), Fail> {
     let list = LineList::from_vec(vec![in rt.alloc(); born(2, 1, 6)]?);
-    assert_eq!(rt; list.len(), 1);
+    assert!(rt; list.len() == 1);
     assert!(rt; !list.is_empty());
-    assert_eq!(rt; list.as_slice(), [born(2, 1, 6)].as_slice());
+    assert!(rt; list.as_slice() == [born(2, 1, 6)].as_slice());
     Ok(())
 }
 
@@ -249,11 +249,8 @@ fn events_of(alloc: Global, outcome: &Outcome) -> Result<[Option<usize>; 3], Fai
 fn an_outcome_has_replies_legs_and_stays(rt: HostRuntime) -> Result<(), Fail> {
     let outcome = outcome(rt.alloc())?;
     assert!(rt; given_in(rt.alloc(), outcome.legs.as_slice())?.is_worked());
-    assert_eq!(rt;
-        (outcome.replies.len(), outcome.stays, outcome.mixed),
-        (15, 1, 0)
-    );
+    assert!(rt; (outcome.replies.len(), outcome.stays, outcome.mixed) == (15, 1, 0));
     let events = events_of(rt.alloc(), &outcome)?;
-    assert_eq!(rt; events, [Some(4), Some(5), Some(11)]);
+    assert!(rt; events == [Some(4), Some(5), Some(11)]);
     Ok(())
 }

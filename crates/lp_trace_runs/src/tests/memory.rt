@@ -37,12 +37,12 @@ fn a_certificate_is_checked_after_a_failed_allocation(rt: HostRuntime) -> Result
         let mut room = [0; 20];
         let (answer, rest) = match checked(alloc, text, &mut room) {
             (Err(RunFault::NoMemory), rest) => {
-                assert_eq!(rt; rest, 20);
+                assert!(rt; rest == 20);
                 checked(alloc, text, &mut room)
             }
             given => given,
         };
-        assert_eq!(rt; (answer?, rest), (accepted, left));
+        assert!(rt; (answer?, rest) == (accepted, left));
         assert!(rt; room.starts_with(line.as_bytes()));
     }
     Ok(())
@@ -76,13 +76,13 @@ fn a_trace_is_run_after_a_failed_allocation(rt: HostRuntime) -> Result<(), Fail>
     let mut room = [0; 200];
     let (answer, rest) = match ran(alloc, &mut room) {
         (Err(RunFault::NoMemory), rest) => {
-            assert_eq!(rt; rest, 200);
+            assert!(rt; rest == 200);
             ran(alloc, &mut room)
         }
         given => given,
     };
     answer?;
-    assert_eq!(rt; rest, 200 - REPORT.len());
+    assert!(rt; rest == 200 - REPORT.len());
     assert!(rt; room.starts_with(REPORT.as_bytes()));
     Ok(())
 }
@@ -110,9 +110,6 @@ fn a_trace_is_replayed_after_a_failed_allocation(rt: HostRuntime) -> Result<(), 
         given => given?,
     };
     let legs = outcome.legs.as_slice().len();
-    assert_eq!(rt;
-        (outcome.replies.len(), legs, outcome.stays, outcome.mixed),
-        (8, 1, 1, 0)
-    );
+    assert!(rt; (outcome.replies.len(), legs, outcome.stays, outcome.mixed) == (8, 1, 1, 0));
     Ok(())
 }
