@@ -239,6 +239,20 @@ fn command<M: Consistency + Sync, N: DeskName, G: ScanGate + Sync + Drop, R: Thr
     }
 }
 
+/// How many entries the journal of a desk has that is closed; None where it isn't.
+fn entries_at_close<M: Consistency, N: DeskName, R: Wait>(
+    rt: &R,
+    alloc: Global,
+    desk: Desk<M, N, Open, &R>,
+    seats: Vec<Seat>,
+    control: Control,
+) -> Option<usize> {
+    match desk.close(rt, alloc, seats, control) {
+        Ok(journal) => Some(journal.entries().len()),
+        Err(_) => None,
+    }
+}
+
 /// The first seat; an error where there is none.
 fn first(seats: &mut Vec<Seat>) -> Result<Seat, Fail> {
     if seats.is_empty() {

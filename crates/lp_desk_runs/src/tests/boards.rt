@@ -34,11 +34,8 @@ fn shown_after_an_exit<
         ..
     } = Box::into_inner(started);
     let control = shown_while_open(rt, alloc, &desk, &mut seats, control, &mut reader)?;
-    let entries = match desk.close(rt, alloc, seats, control) {
-        Ok(journal) => journal.entries().len(),
-        Err(_) => return Err("not closed".into()),
-    };
-    assert!(rt; entries == 4);
+    let entries = entries_at_close(rt, alloc, desk, seats, control);
+    assert!(rt; entries == Some(4));
     nothing_is_shown(rt, alloc, &mut reader);
     Ok(())
 }

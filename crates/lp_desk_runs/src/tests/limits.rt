@@ -47,10 +47,7 @@ fn closed_after_enter<M: Consistency + Sync, N: DeskName, R: Threads + Wait + Ab
         ..
     } = started;
     let control = not_the_controls(rt, alloc, &desk, control)?;
-    match desk.close(rt, alloc, seats, control) {
-        Ok(journal) => Ok(Some(journal.entries().len())),
-        Err(_) => Ok(None),
-    }
+    Ok(entries_at_close(rt, alloc, desk, seats, control))
 }
 
 /// The control, from which `enter 1` is turned back.
