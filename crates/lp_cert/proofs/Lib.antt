@@ -17,8 +17,9 @@ pub mod BehindTasks
 pub mod ScanTold
 pub mod UnchangedSteps
 pub mod StepLines
+pub mod HoldNames
 pub mod UnchangedEvents
-pub mod Touching
+pub mod HeldLines
 pub mod UnchangedScans
 pub mod Completions
 pub mod Bare

@@ -33,14 +33,16 @@ use Rattle.lp_cert.specs.declared.open_leg.Completion.{Completion}
 use Rattle.lp_cert.specs.declared.open_leg.OpenLeg.{OpenLeg}
 use Rattle.lp_cert.specs.declared.maker.Ready.{Ready}
 use Rattle.lp_cert.specs.Certificates.{lines, waiting_groups, waiting_certs, floor_certs, completion, certs_by}
-use Rattle.lp_cert.specs.Ends.{Made, IsMadeOf, Room, end_of, ended_legs, is_opening, under_way}
+use Rattle.lp_cert.specs.Ends.{Made, IsMadeWith, Room, end_of, ended_legs, is_opening, under_way}
 use Rattle.lp_cert.specs.Invariant.{open_end, floor_waiters, room_of}
-use Rattle.lp_cert.specs.inside.Invariant.{IfReady, IsReady, leg_at, IsStepped, IsUnchangedOn}
+use Rattle.lp_cert.specs.inside.Invariant.{IfReady, IsReady, leg_at, IsStepped}
 use Rattle.lp_cert.specs.Waiters.{WaitingGroups, kept_cert, waiters_of}
 use Rattle.lp_cert.specs.inside.Waiters.{HasFewGroups, has_off, lines_at}
 use Rattle.lp_cert.proofs.Completions.{past_floor, completion_opened, completion_below, certs_kept, completion_stays, completion_now, incomplete_if}
 use Rattle.lp_cert.proofs.Making.{none_is, cert_for, certs_from, certs_tell, floor_from}
-use Rattle.lp_cert.specs.LastScan.{LastScan, AreUnchangedBy, Suffices}
+use Rattle.lp_transition.specs.LastScan.{IsLastScanAfter, used_scan}
+use Rattle.lp_cert.specs.Unchanged.{AreUnchangedBy}
+use Rattle.lp_cert.proofs.ScanTold.{TellsOrUnchanged}
 use Rattle.lp_cert.proofs.UnchangedSteps.{none_unchanged, unchanged_on}
 use Rattle.lp_cert.proofs.StepLines.{IsFew, step_lines}
 
@@ -162,8 +164,8 @@ module _ (model : Rules) (lawful : IsLawful model) (e : Engine) (sound : IsSound
     length_is : length (and_then leg event).events ≡ suc k
     length_is = length-append leg.events (event ∷ []) ∙ omega arith
 
-    module _ (noted number : ℕ) (old new : OpenLeg) (before later : WaitingGroups) (last_scan unchanged : LastScan) (numbered : number ≡ e.number + 1) (was : open_end noted before old ≡ end_of model leg) (gone : IsStepped model e step number old new before later)
-        (calm : AreUnchangedBy model (state_in e) (lines model leg k) last_scan) (suffices : old.completed ≡ None → step.reply.completed ≡ false → Suffices model (state_in e) step last_scan) where
+    module _ (noted number : ℕ) (old new : OpenLeg) (before later : WaitingGroups) (numbered : number ≡ e.number + 1) (was : open_end noted before old ≡ end_of model leg) (gone : IsStepped model e step number old new before later)
+        (suffices : old.completed ≡ None → step.reply.completed ≡ false → TellsOrUnchanged model (state_in e) (lines model leg k) (used_scan model step.event) step.verdicts) where
       -- a complete leg stays as it is
       complete_stays : (done : Completion) → old.completed ≡ Some done → open_end number later new ≡ end_of model (and_then leg event)
       complete_stays done is =
@@ -184,8 +186,8 @@ module _ (model : Rules) (lawful : IsLawful model) (e : Engine) (sound : IsSound
         completes_now now =
             let done = gone.completes unended now in
             let floor = done.0 in
-            let unchanged : is_complete_now model (and_then leg event) ≡ true = sym (completes_is (incomplete_if model lawful leg leg_sound (no_moment noted old before was unended))) ∙ now in
-            let moment : completion model (and_then leg event) ≡ Some (suc k) = completion_now model lawful leg leg_sound event (no_moment noted old before was unended) true unchanged in
+            let complete : is_complete_now model (and_then leg event) ≡ true = sym (completes_is (incomplete_if model lawful leg leg_sound (no_moment noted old before was unended))) ∙ now in
+            let moment : completion model (and_then leg event) ≡ Some (suc k) = completion_now model lawful leg leg_sound event (no_moment noted old before was unended) true complete in
             let at : number ≡ leg.number + suc k = omega (arith, numbered, number_is) in
             let upto : number - 1 ≡ leg.number + k = omega (arith, at) in
             let certs : map (kept_cert Floor old.opened (number - 1) before.reasons.lists before.reasons.scans) (floor_waiters before.reasons floor) ≡ certs_by model (and_then leg event) (Some (suc k)) =
@@ -205,14 +207,14 @@ module _ (model : Rules) (lawful : IsLawful model) (e : Engine) (sound : IsSound
             let few : refusal_of model (state_in e) event ≡ None → IsFew model lawful e sound leg leg_sound there before (lines_before noted old before was unended) event =
             λ ok p c how is. subst (HasFewGroups e) is (on.2 (refused_is ∙ ok)) in
             on.1 g
-            ∙ (step_lines model lawful e sound leg leg_sound there before (lines_before noted old before was unended) step weighed last_scan calm (suffices unended now) on.3 plain few g below
+            ∙ (step_lines model lawful e sound leg leg_sound there before (lines_before noted old before was unended) step weighed (suffices unended now) on.3 plain few g below
             ∙ ap₂ (λ (s : State) (m : ℕ). if waits_in s g then Some (lines model (and_then leg event) m g) else None) state_is (sym length_is))
 
         continues_now : step.reply.completed ≡ false → open_end number later new ≡ end_of model (and_then leg event)
         continues_now now =
             let on = gone.continues unended now in
-            let changed_since : is_complete_now model (and_then leg event) ≡ false = sym (completes_is (incomplete_if model lawful leg leg_sound (no_moment noted old before was unended))) ∙ now in
-            let moment : completion model (and_then leg event) ≡ None = completion_now model lawful leg leg_sound event (no_moment noted old before was unended) false changed_since in
+            let incomplete : is_complete_now model (and_then leg event) ≡ false = sym (completes_is (incomplete_if model lawful leg leg_sound (no_moment noted old before was unended))) ∙ now in
+            let moment : completion model (and_then leg event) ≡ None = completion_now model lawful leg leg_sound event (no_moment noted old before was unended) false incomplete in
             let upto : number ≡ leg.number + length (and_then leg event).events = omega (arith, numbered, number_is, length_is) in
             let certs : map (kept_cert Waiting old.opened number later.reasons.lists later.reasons.scans) (waiters_of later) ≡ waiting_certs model (and_then leg event) (length (and_then leg event).events) =
             ap₂ (λ a b. map (kept_cert Waiting a b later.reasons.lists later.reasons.scans) (waiters_of later)) (opened_same noted old before was unended) upto
@@ -223,28 +225,6 @@ module _ (model : Rules) (lawful : IsLawful model) (e : Engine) (sound : IsSound
             ∙ ap₂ (λ (o : Option ℕ) (cs : List Cert). let l : LegEnd = record { opened = leg.number; target = record { 0 = leg.target }; completed = option_map (λ m. leg.number + m) o; certs = cs } in l)
             (sym moment)
             (certs ∙ ap (certs_by model (and_then leg event)) (sym moment)))
-
-      -- who is unchanged
-      abbrev unchanged_at : ℕ → Type 0
-      unchanged_at m = AreUnchangedBy model (state_of model (and_then leg event)) (lines model (and_then leg event) m) unchanged
-
-      pub still_unchanged : IsUnchangedOn model e step old later last_scan unchanged → unchanged_at (length (and_then leg event).events)
-      still_unchanged on = by old.completed refl
-        where
-          none : unchanged.kind ≡ None → unchanged_at (length (and_then leg event).events)
-          none kind_is = none_unchanged model (state_of model (and_then leg event)) (lines model (and_then leg event) (length (and_then leg event).events)) unchanged kind_is
-
-          by : (o : Option Completion) → old.completed ≡ o → unchanged_at (length (and_then leg event).events)
-          by (Some done) is = none (on.complete done is)
-          by None is =
-              ⊎_elim
-              (λ (now : step.reply.completed ≡ true). none (on.completes is now))
-              (λ (now : step.reply.completed ≡ false).
-              let further = on.continues is now in
-              subst unchanged_at (sym length_is)
-              (unchanged_on model lawful e sound leg leg_sound there step stays last_scan unchanged later further.1 weighed.verdicts (suffices is now) calm further.0
-              (λ g below. after_lines is now g below ∙ ap (λ m. if waits_in (state_of model (and_then leg event)) g then Some (lines model (and_then leg event) m g) else None) length_is)))
-              (cases_Bool step.reply.completed)
 
       pub went_on : open_end number later new ≡ end_of model (and_then leg event)
       went_on = by old.completed refl
@@ -315,8 +295,8 @@ module _ (model : Rules) (lawful : IsLawful model) (e : Engine) (sound : IsSound
             ∙ ap₂ (λ (o : Option ℕ) (cs : List Cert). let l : LegEnd = record { opened = leg.number + suc k; target = record { 0 = (opened model leg event).target }; completed = o; certs = cs } in l)
             (ap {A = ℕ} {B = Option ℕ} Some (omega (arith, at)) ∙ ap (option_map (λ m. (leg.number + suc k) + m)) (sym moment))
             (ap (certs_by model (opened model leg event)) (sym moment)))
-        by false changed_since =
-            let moment : completion model (opened model leg event) ≡ None = completion_opened model leg event ∙ cond-false (is_complete_now model (opened model leg event)) (Some 0) None changed_since in
+        by false incomplete =
+            let moment : completion model (opened model leg event) ≡ None = completion_opened model leg event ∙ cond-false (is_complete_now model (opened model leg event)) (Some 0) None incomplete in
             let upto : number ≡ (leg.number + suc k) + 0 = omega (arith, at) in
             let after_lines : (g : ℕ) → g < 65536 → lines_at later g ≡ (if waits_in (state_of model (opened model leg event)) g then Some (lines model (opened model leg event) 0 g) else None) =
             λ g below. is g ∙ ap₂ (λ (s : State) (ls : List Line). if waits_in s g then Some ls else None) turned_is (sym (no_lines g)) in
@@ -324,13 +304,17 @@ module _ (model : Rules) (lawful : IsLawful model) (e : Engine) (sound : IsSound
             ap₂ (λ a b. map (kept_cert Waiting a b later.reasons.lists later.reasons.scans) (waiters_of later)) at upto
             ∙ (certs_from Waiting (leg.number + suc k) ((leg.number + suc k) + 0) later (waits_in (state_of model (opened model leg event))) (lines model (opened model leg event) 0) after_lines
             ∙ sym (waiting_are model (opened model leg event) tasks_are)) in
-            ap (λ b. open_end number later (leg_at number (new_target (state_in e) event) b)) (completed_is ∙ changed_since)
+            ap (λ b. open_end number later (leg_at number (new_target (state_in e) event) b)) (completed_is ∙ incomplete)
             ∙ (ap₂ (λ a t. let l : LegEnd = record { opened = a; target = record { 0 = t }; completed = None; certs = map (kept_cert Waiting number number later.reasons.lists later.reasons.scans) (waiters_of later) } in l) at target
             ∙ ap₂ (λ (o : Option ℕ) (cs : List Cert). let l : LegEnd = record { opened = leg.number + suc k; target = record { 0 = (opened model leg event).target }; completed = option_map (λ m. (leg.number + suc k) + m) o; certs = cs } in l)
             (sym moment)
             (certs ∙ ap (certs_by model (opened model leg event)) (sym moment)))
 
 -- ---- A run with one event more
+
+is_none-true : {A : Type 0} (o : Option A) → is_none o ≡ true → o ≡ None
+is_none-true None e = refl
+is_none-true (Some a) e = absurd (cc)
 
 module _ (model : Rules) where
   abbrev end_if : Leg → Event → List Leg
@@ -375,7 +359,12 @@ module _ (model : Rules) (lawful : IsLawful model) (run : Run) (e : Engine) (sta
   pub engine_sound : IsSound (state_in e)
   engine_sound = subst IsSound (sym stands.there) (state_sound model lawful (leg_of model run) present_sound)
 
-  module _ (step : Weighed) (weighed : IsWeighed model e step) (made new : Made) (is : IsMadeOf model run made) where
+  -- who is unchanged where the engine stands
+  pub was_unchanged : (made : Made) → IsMadeWith model run e.last_scan made → AreUnchangedBy model (state_in e) (lines model (leg_of model run) (length (leg_of model run).events)) e.last_scan
+  was_unchanged made is = subst (λ (st : State). AreUnchangedBy model st (lines model (leg_of model run) (length (leg_of model run).events)) e.last_scan) (sym stands.there) is.unchanged
+
+  module _ (step : Weighed) (weighed : IsWeighed model e step) (made new : Made) (is : IsMadeWith model run e.last_scan made)
+      (after : Engine) (stands_after : StandsIn model (plus run step.event) (state_in after)) (known : IsLastScanAfter model e step.event after) where
     next_present : leg_of model (plus run step.event) ≡ next_leg model (leg_of model run) step.event
     next_present = leg_after-plus model (first_leg model run) run.events step.event
 
@@ -400,76 +389,72 @@ module _ (model : Rules) (lawful : IsLawful model) (run : Run) (e : Engine) (sta
       ends = ended ∙ (is.ended ∙ ap (λ ls. map (end_of model) (drop 1 ls)) (sym same_ended))
 
       -- who is unchanged in the run's leg with the event more
-      abbrev pub unchanged_next : Type 0
-      unchanged_next =
-          AreUnchangedBy model (state_of model (and_then (leg_of model run) step.event)) (lines model (and_then (leg_of model run) step.event) (length (and_then (leg_of model run) step.event).events)) new.last_scan
+      unchanged_longer : AreUnchangedBy model (state_of model (leg_of model (plus run step.event))) (lines model (leg_of model (plus run step.event)) (length (leg_of model (plus run step.event)).events)) after.last_scan
+      unchanged_longer =
+          subst (λ (l : Leg). AreUnchangedBy model (state_of model l) (lines model l (length l.events)) after.last_scan) (sym longer_is)
+          (subst (λ m. AreUnchangedBy model (state_of model (and_then (leg_of model run) step.event)) (lines model (and_then (leg_of model run) step.event) m) after.last_scan) (sym (length-append (leg_of model run).events (step.event ∷ []) ∙ omega arith))
+          (unchanged_on model lawful e engine_sound (leg_of model run) present_sound stands.there step.event (opens_if false stays) after (stands_after.there ∙ ap (state_of model) longer_is) known is.unchanged))
 
-      unchanged_longer : unchanged_next → AreUnchangedBy model (state_of model (leg_of model (plus run step.event))) (lines model (leg_of model (plus run step.event)) (length (leg_of model (plus run step.event)).events)) new.last_scan
-      unchanged_longer unchanged = subst (λ (l : Leg). AreUnchangedBy model (state_of model l) (lines model l (length l.events)) new.last_scan) (sym longer_is) unchanged
-
-      pub was_unchanged : AreUnchangedBy model (state_in e) (lines model (leg_of model run) (length (leg_of model run).events)) made.last_scan
-      was_unchanged = subst (λ (st : State). AreUnchangedBy model st (lines model (leg_of model run) (length (leg_of model run).events)) made.last_scan) (sym stands.there) is.unchanged
-
-      pub none_made : made.current ≡ None → new.current ≡ None → unchanged_next → IsMadeOf model (plus run step.event) new
-      none_made old now unchanged =
+      pub none_made : made.current ≡ None → new.current ≡ None → IsMadeWith model (plus run step.event) after.last_scan new
+      none_made old now =
           let none = none_before model (ended_legs model (first_leg model run) run.events) (leg_of model run) (sym old ∙ is.current) in
           record {
-            ended = ends;
-            current = now ∙ ap (λ ls. option_map (end_of model) (under_way model ls (leg_of model (plus run step.event)))) (sym (same_ended ∙ none));
-            unchanged = unchanged_longer unchanged;
+            of_run = record {
+              ended = ends;
+              current = now ∙ ap (λ ls. option_map (end_of model) (under_way model ls (leg_of model (plus run step.event)))) (sym (same_ended ∙ none));
+            };
+            unchanged = unchanged_longer;
           }
 
       pub still_made : (noted number : ℕ) (leg later_leg : OpenLeg) (before later : WaitingGroups) → number ≡ e.number + 1 → IsStepped model e step number leg later_leg before later
-          → (leg.completed ≡ None → step.reply.completed ≡ false → Suffices model (state_in e) step made.last_scan) → (unchanged_next ⊎ IsUnchangedOn model e step leg later made.last_scan new.last_scan) → made.current ≡ Some (open_end noted before leg) → new.current ≡ Some (open_end number later later_leg) → IsMadeOf model (plus run step.event) new
-      still_made noted number leg later_leg before later numbered gone suffices unchanged old now =
+          → (leg.completed ≡ None → step.reply.completed ≡ false → TellsOrUnchanged model (state_in e) (lines model (leg_of model run) (length (leg_of model run).events)) (used_scan model step.event) step.verdicts) → made.current ≡ Some (open_end noted before leg) → new.current ≡ Some (open_end number later later_leg)
+          → IsMadeWith model (plus run step.event) after.last_scan new
+      still_made noted number leg later_leg before later numbered gone suffices old now =
           let was = some_before model (ended_legs model (first_leg model run) run.events) (leg_of model run) (open_end noted before leg) (sym old ∙ is.current) in
-          let went = went_on model lawful e engine_sound (leg_of model run) present_sound stands.there step weighed (opens_if false stays) noted number leg later_leg before later made.last_scan new.last_scan numbered was.0 gone was_unchanged suffices in
-          let by_event = still_unchanged model lawful e engine_sound (leg_of model run) present_sound stands.there step weighed (opens_if false stays) noted number leg later_leg before later made.last_scan new.last_scan numbered was.0 gone was_unchanged suffices in
+          let went = went_on model lawful e engine_sound (leg_of model run) present_sound stands.there step weighed (opens_if false stays) noted number leg later_leg before later numbered was.0 gone suffices in
           record {
-            ended = ends;
-            current =
-                now
-                ∙ (ap {A = LegEnd} {B = Option LegEnd} Some went
-                ∙ (sym (ap (option_map (end_of model)) (was.1 (and_then (leg_of model run) step.event)))
-                ∙ ap₂ (λ ls (l : Leg). option_map (end_of model) (under_way model ls l)) (sym same_ended) (sym longer_is)));
-            unchanged = unchanged_longer (⊎_elim (λ (is_so : unchanged_next). is_so) (λ (on : IsUnchangedOn model e step leg later made.last_scan new.last_scan). by_event on) unchanged);
+            of_run = record {
+              ended = ends;
+              current =
+                  now
+                  ∙ (ap {A = LegEnd} {B = Option LegEnd} Some went
+                  ∙ (sym (ap (option_map (end_of model)) (was.1 (and_then (leg_of model run) step.event)))
+                  ∙ ap₂ (λ ls (l : Leg). option_map (end_of model) (under_way model ls l)) (sym same_ended) (sym longer_is)));
+            };
+            unchanged = unchanged_longer;
           }
-
-      -- the lines of who waits in the run's leg with the event more
-      pub lines_after : (noted number : ℕ) (leg later_leg : OpenLeg) (before later : WaitingGroups) → number ≡ e.number + 1 → IsStepped model e step number leg later_leg before later
-          → (leg.completed ≡ None → step.reply.completed ≡ false → Suffices model (state_in e) step made.last_scan) → made.current ≡ Some (open_end noted before leg) → leg.completed ≡ None → step.reply.completed ≡ false
-          → (g : ℕ) → g < 65536 → lines_at later g
-          ≡ (if waits_in (state_of model (and_then (leg_of model run) step.event)) g then Some (lines model (and_then (leg_of model run) step.event) (suc (length (leg_of model run).events)) g) else None)
-      lines_after noted number leg later_leg before later numbered gone suffices old unended incomplete g below =
-          let was = some_before model (ended_legs model (first_leg model run) run.events) (leg_of model run) (open_end noted before leg) (sym old ∙ is.current) in
-          after_lines model lawful e engine_sound (leg_of model run) present_sound stands.there step weighed (opens_if false stays) noted number leg later_leg before later made.last_scan new.last_scan numbered was.0 gone was_unchanged suffices unended incomplete g below
-          ∙ ap (λ m. if waits_in (state_of model (and_then (leg_of model run) step.event)) g then Some (lines model (and_then (leg_of model run) step.event) m g) else None)
-          (length-append (leg_of model run).events (step.event ∷ []) ∙ omega arith)
 
     module _ (turns : is_opening step ≡ true) where
       opened_next : next_leg model (leg_of model run) step.event ≡ opened model (leg_of model run) step.event
       unfolding next_leg
       opened_next = cond-true (opens model (leg_of model run) step.event) (opened model (leg_of model run) step.event) (and_then (leg_of model run) step.event) (opens_if true turns)
 
+      -- nothing is known of a scan where a leg opens
+      forgotten : after.last_scan.kind ≡ None
+      forgotten =
+          let parts = and_parts (is_control step.event) (is_none (refusal_in step.reply.what)) turns in
+          known.opening parts.0 (sym (ap (λ (r : Reply). refusal_in r.what) weighed.reply ∙ refused-as model (state_in e) step.event) ∙ is_none-true (refusal_in step.reply.what) parts.1)
+
       pub turned_made : (number : ℕ) (later : WaitingGroups) → number ≡ e.number + 1
           → (IsSound (state_in e) → (g : ℕ) → lines_at later g ≡ (if has_off (state_in e) (new_target (state_in e) step.event) g then Some [] else None))
           → new.ended ≡ made.ended ++ option_to_list made.current
           → new.current ≡ Some (open_end number later (leg_at number (new_target (state_in e) step.event) step.reply.completed))
-          → new.last_scan.kind ≡ None
-          → IsMadeOf model (plus run step.event) new
-      turned_made number later numbered lines_are ended now changed_since =
+          → IsMadeWith model (plus run step.event) after.last_scan new
+      turned_made number later numbered lines_are ended now =
           let more : ended_legs model (first_leg model run) (run.events ++ step.event ∷ []) ≡ ended_legs model (first_leg model run) run.events ++ leg_of model run ∷ [] =
           ended_next ∙ ap (λ ls. ended_legs model (first_leg model run) run.events ++ ls) (cond-true (opens model (leg_of model run) step.event) (leg_of model run ∷ []) [] (opens_if true turns)) in
           let anew = opened_anew model lawful e engine_sound (leg_of model run) present_sound stands.there step weighed (opens_if true turns) number later numbered (lines_are engine_sound) in
           let next_is : leg_of model (plus run step.event) ≡ opened model (leg_of model run) step.event = next_present ∙ opened_next in
           record {
-            ended = ended ∙ (one_more model (ended_legs model (first_leg model run) run.events) (leg_of model run) made.ended made.current is.ended is.current ∙ ap (λ ls. map (end_of model) (drop 1 ls)) (sym more));
-            current =
-                now
-                ∙ (ap {A = LegEnd} {B = Option LegEnd} Some anew
-                ∙ (sym (ap (option_map (end_of model)) (under_way-plus model (ended_legs model (first_leg model run) run.events) (leg_of model run) (opened model (leg_of model run) step.event)))
-                ∙ ap₂ (λ ls (l : Leg). option_map (end_of model) (under_way model ls l)) (sym more) (sym next_is)));
-            unchanged = none_unchanged model _ _ new.last_scan changed_since;
+            of_run = record {
+              ended = ended ∙ (one_more model (ended_legs model (first_leg model run) run.events) (leg_of model run) made.ended made.current is.ended is.current ∙ ap (λ ls. map (end_of model) (drop 1 ls)) (sym more));
+              current =
+                  now
+                  ∙ (ap {A = LegEnd} {B = Option LegEnd} Some anew
+                  ∙ (sym (ap (option_map (end_of model)) (under_way-plus model (ended_legs model (first_leg model run) run.events) (leg_of model run) (opened model (leg_of model run) step.event)))
+                  ∙ ap₂ (λ ls (l : Leg). option_map (end_of model) (under_way model ls l)) (sym more) (sym next_is)));
+            };
+            unchanged = none_unchanged model (state_of model (leg_of model (plus run step.event))) (lines model (leg_of model (plus run step.event)) (length (leg_of model (plus run step.event)).events)) after.last_scan forgotten;
           }
 
 -- ---- What the maker needs of what it keeps

@@ -15,7 +15,7 @@ use Rattle.lp_transition.specs.Run.{Run, leg_of, plus}
 use Rattle.lp_transition.specs.Scan.{is_of, is_scan_kind, scan_event, verdicts_of}
 use Rattle.lp_transition.specs.Sound.{IsSound}
 use Rattle.lp_transition.specs.Steps.{StandsIn}
-use Rattle.lp_transition.specs.Table.{Engine, IsWide, state_in}
+use Rattle.lp_transition.specs.Table.{Engine, IsWide, LastScan, state_in}
 use Rattle.lp_transition.specs.Weigh.{AreVerdictsFor, IsWeighed, Weighed, verdicts_for}
 use Rattle.lp_transition.proofs.AskedScans.{all-enough}
 use Rattle.lp_transition.proofs.ScanAnswers.{verdicts-scan}
@@ -24,15 +24,16 @@ use Rattle.lp_transition.proofs.ScanTakes.{group_fits}
 use Rattle.lp_transition.proofs.TableLemmas.{slot_from_live}
 use Rattle.lp_cert.specs.declared.open_leg.OpenLeg.{OpenLeg}
 use Rattle.lp_cert.specs.Certificates.{lines}
-use Rattle.lp_cert.specs.Ends.{Made, IsMadeOf, is_opening}
+use Rattle.lp_cert.specs.Ends.{Made, IsMadeWith, is_opening}
 use Rattle.lp_cert.specs.Invariant.{open_end}
-use Rattle.lp_cert.specs.LastScan.{LastScan, TellOfChanged, used_scan}
+use Rattle.lp_transition.specs.LastScan.{IsLastScanAfter, used_scan}
 use Rattle.lp_cert.specs.Waiters.{WaitingGroups}
-use Rattle.lp_cert.specs.inside.Invariant.{IsNoted, IsUnchangedOn, with_verdicts}
-use Rattle.lp_cert.specs.inside.LastScan.{AreToldOf, is_of_group}
-use Rattle.lp_cert.proofs.Noted.{engine_sound, lines_before, present_sound, some_before, still_made}
-use Rattle.lp_cert.proofs.Touching.{lines_held}
-use Rattle.lp_cert.proofs.UnchangedSteps.{none_unchanged, of_member, scan_is}
+use Rattle.lp_cert.specs.inside.Invariant.{IsNoted, with_verdicts}
+use Rattle.lp_cert.specs.inside.LastScan.{AreToldOf, TellOfChanged, is_of_group}
+use Rattle.lp_cert.proofs.Noted.{engine_sound, lines_before, present_sound, some_before, still_made, was_unchanged}
+use Rattle.lp_cert.proofs.ScanTold.{tells_unchanged}
+use Rattle.lp_cert.proofs.HeldLines.{lines_held}
+use Rattle.lp_cert.proofs.UnchangedSteps.{of_member, scan_is}
 
 -- ---- The verdicts of all waiting tasks
 
@@ -71,26 +72,27 @@ enough_all model s event on is =
 
 -- ---- Verdicts of the groups that have changed
 
-suffices_from : (model : Rules) (e : Engine) (event : Event) (before : WaitingGroups) (last_scan : LastScan) (vs : List Verdict) → IsSound (state_in e) → IsWide e.table
+suffices_from : (model : Rules) (e : Engine) (event : Event) (before : WaitingGroups) (vs : List Verdict) → IsSound (state_in e) → IsWide e.table
     → ((t : ℕ) (x : Standing) → (state_in e).tasks t ≡ Live x → nat_eq x.level e.target ≡ false → x.group < 65536 → has before.groups x.group ≡ true)
-    → AreToldOf model e event before last_scan vs → TellOfChanged (state_in e) (used_scan model event) vs last_scan
-suffices_from model e event before last_scan vs sound wide waits told = by (used_scan model event) refl
+    → AreToldOf model e event before vs → TellOfChanged (state_in e) (used_scan model event) vs e.last_scan
+suffices_from model e event before vs sound wide waits told = by (used_scan model event) refl
   where
-    by : (o : Option CheckKind) → used_scan model event ≡ o → TellOfChanged (state_in e) o vs last_scan
+    by : (o : Option CheckKind) → used_scan model event ≡ o → TellOfChanged (state_in e) o vs e.last_scan
     by None is = tt
     by (Some on) is =
         ⊎_elim
-        (λ (all : vs ≡ verdicts_of model on (state_in e)). subst (λ ws. TellOfChanged (state_in e) (Some on) ws last_scan) (sym all) (told_of_all model (state_in e) sound on last_scan))
-        (λ (groups : (g : ℕ) → g < 65536 → has before.groups g ≡ true → (list_any (is_of_group e g) vs ≡ true) ⊎ ((last_scan.kind ≡ Some on) × (has last_scan.changed_since g ≡ false))).
+        (λ (all : vs ≡ verdicts_of model on (state_in e)). subst (λ ws. TellOfChanged (state_in e) (Some on) ws e.last_scan) (sym all) (told_of_all model (state_in e) sound on e.last_scan))
+        (λ (groups : (g : ℕ) → g < 65536 → has before.groups g ≡ true → (list_any (is_of_group e g) vs ≡ true) ⊎ ((e.last_scan.kind ≡ Some on) × (has e.last_scan.changed g ≡ false))).
         λ t x live off.
         let few = group_fits e t x sound wide (slot_from_live e.table t x live) in
         ⊎_elim
         (λ (some : list_any (is_of_group e x.group) vs ≡ true). inl (of_member e x.group vs ∙ some))
-        (λ (left : (last_scan.kind ≡ Some on) × (has last_scan.changed_since x.group ≡ false)). inr left)
+        (λ (left : (e.last_scan.kind ≡ Some on) × (has e.last_scan.changed x.group ≡ false)). inr left)
         (groups x.group few (waits t x live off few)))
         (told on is)
 
-module _ (model : Rules) (lawful : IsLawful model) (run : Run) (e : Engine) (stands : StandsIn model run (state_in e)) (step : Weighed) (weighed : IsWeighed model e step) (made new : Made) (is : IsMadeOf model run made)
+module _ (model : Rules) (lawful : IsLawful model) (run : Run) (e : Engine) (stands : StandsIn model run (state_in e)) (step : Weighed) (weighed : IsWeighed model e step) (made new : Made) (is : IsMadeWith model run e.last_scan made)
+    (after : Engine) (stands_after : StandsIn model (plus run step.event) (state_in after)) (known : IsLastScanAfter model e step.event after)
     (stays : is_opening step ≡ false) (ended : new.ended ≡ made.ended) (wide : IsWide e.table) (noted number : ℕ) (leg later_leg : OpenLeg) (before later : WaitingGroups) (old : made.current ≡ Some (open_end noted before leg)) where
   abbrev sound : IsSound (state_in e)
   sound = engine_sound model lawful run e stands
@@ -106,12 +108,10 @@ module _ (model : Rules) (lawful : IsLawful model) (run : Run) (e : Engine) (sta
       (lines_held model lawful present (present_sound model lawful run e stands) before (length present.events) told t x
       (subst (λ (s : State). s.tasks t ≡ Live x) stands.there live) (subst (λ (s : State). nat_eq x.level s.target ≡ false) stands.there off) few).0
 
-  pub noted_made : number ≡ e.number + 1 → IsNoted model e step number leg later_leg before later made.last_scan new.last_scan → new.current ≡ Some (open_end number later later_leg) → IsMadeOf model (plus run step.event) new
+  pub noted_made : number ≡ e.number + 1 → IsNoted model e step number leg later_leg before later → new.current ≡ Some (open_end number later later_leg) → IsMadeWith model (plus run step.event) after.last_scan new
   noted_made numbered on now =
-      still_made model lawful run e stands (with_verdicts step on.verdicts) (record { room = weighed.room; reply = weighed.reply; born = weighed.born; verdicts = on.told.enough }) made new is stays ended noted number leg later_leg before later numbered on.gone_on
-      (λ unended incomplete. suffices_from model e step.event before made.last_scan on.verdicts sound wide (waits_kept unended) (on.told.told unended incomplete))
-      (⊎_elim
-      (λ (none : new.last_scan.kind ≡ None). inl (none_unchanged model _ _ new.last_scan none))
-      (λ (unchanged : IsUnchangedOn model e (with_verdicts step on.verdicts) leg later made.last_scan new.last_scan). inr unchanged)
-      on.unchanged)
+      still_made model lawful run e stands (with_verdicts step on.verdicts) (record { room = weighed.room; reply = weighed.reply; born = weighed.born; verdicts = on.told.enough }) made new is after stands_after known stays ended noted number leg later_leg before later numbered on.gone_on
+      (λ unended incomplete.
+      tells_unchanged model (state_in e) (lines model (leg_of model run) (length (leg_of model run).events)) e.last_scan (was_unchanged model lawful run e stands made is) (used_scan model step.event) on.verdicts
+      (suffices_from model e step.event before on.verdicts sound wide (waits_kept unended) (on.told.told unended incomplete)))
       old now

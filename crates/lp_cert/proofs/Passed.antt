@@ -1,5 +1,5 @@
 -- A call, a return, a sleep, a wake-up and an entry into the kernel change the lines of no group.
-use Rattle.std.proofs.Common.{◌≡◌, ◌<◌, ◌+◌, ℕ, suc, Bool, true, false, not, ◌&&◌, List, [], ◌∷◌, Option, Some, None, IsSome, is_none, if◌then◌else◌, nat_eq, refl, sym, ap, subst, ◌∙◌, inl, arith, length-append}
+use Rattle.std.proofs.Common.{◌≡◌, ◌<◌, ◌+◌, ℕ, suc, Bool, true, false, not, ◌&&◌, List, [], ◌∷◌, length, Option, Some, None, IsSome, is_none, if◌then◌else◌, nat_eq, refl, sym, ap, subst, ◌∙◌, inl}
 use mathlib.Core.Path.{fun_ext}
 use Rattle.std.specs.Option.{option_map}
 use Rattle.std.specs.List.{list_any}
@@ -27,17 +27,15 @@ use Rattle.lp_model.specs.declared.check.CheckKind.{CheckKind}
 use Rattle.lp_cert.specs.declared.line.Line.{Line}
 use Rattle.lp_cert.specs.Certificates.{lines}
 use Rattle.lp_cert.specs.declared.open_leg.OpenLeg.{OpenLeg}
-use Rattle.lp_cert.specs.Ends.{Made, IsMadeOf, is_opening}
+use Rattle.lp_cert.specs.Ends.{Made, IsMadeWith, is_opening}
 use Rattle.lp_cert.specs.Invariant.{open_end}
 use Rattle.lp_cert.specs.inside.Invariant.{IsStepped}
 use Rattle.lp_cert.specs.Waiters.{WaitingGroups}
 use Rattle.lp_cert.specs.inside.Waiters.{AreStanding, lines_at, HasFewGroups, own_lines}
 use Rattle.lp_cert.specs.inside.StepLines.{noted_by, noted_lines}
-use Rattle.lp_cert.specs.LastScan.{AreUnchangedBy, TellOfChanged, Suffices, used_scan}
-use Rattle.lp_cert.specs.inside.LastScan.{IsTouched}
-use Rattle.lp_cert.proofs.UnchangedSteps.{no_scan, none_unchanged}
-use Rattle.lp_cert.proofs.Touching.{touched_unchanged}
-use Rattle.lp_cert.proofs.Noted.{lines_after, none_made, opens_if, present_sound, unchanged_next, still_made}
+use Rattle.lp_transition.specs.LastScan.{IsLastScanAfter, used_scan}
+use Rattle.lp_cert.proofs.ScanTold.{TellsOrUnchanged}
+use Rattle.lp_cert.proofs.Noted.{none_made, still_made}
 
 quiet : (event : Event) → is_plain event ≡ true → is_quiet event ≡ true
 quiet (Call t f) h = refl
@@ -133,6 +131,9 @@ module _ (model : Rules) (lawful : IsLawful model) (run : Run) (e : Engine) (sta
   opens_none : is_opening step ≡ false
   opens_none = ap (λ b. b && is_none (refusal_in step.reply.what)) (quiet-control model event (quiet event plain))
 
+  suffices : TellsOrUnchanged model (state_in e) (lines model (leg_of model run) (length (leg_of model run).events)) (used_scan model event) []
+  suffices = subst (λ (o : Option CheckKind). TellsOrUnchanged model (state_in e) (lines model (leg_of model run) (length (leg_of model run).events)) o []) (sym (no_used model event plain)) tt
+
   continues : (number : ℕ) (leg : OpenLeg) (waiters : WaitingGroups) → IsStepped model e step number leg leg waiters waiters
   continues number leg waiters =
       let answered = still model (state_in e) event plain in
@@ -160,32 +161,11 @@ module _ (model : Rules) (lawful : IsLawful model) (run : Run) (e : Engine) (sta
       noted accepted group =
           ap (λ (o : Option CheckKind). if accepted then (if list_any (nat_eq group) (groups_of step.reply.what) then None else noted_by model e o event [] waiters group) else lines_at waiters group) (sym (no_used model event plain))
 
-  module _ (made new : Made) (is : IsMadeOf model run made) (ended : new.ended ≡ made.ended) (noted number : ℕ) (waiters : WaitingGroups) (numbered : number ≡ e.number + 1) where
-    suffices : Suffices model (state_in e) step made.last_scan
-    suffices = subst (λ (o : Option CheckKind). TellOfChanged (state_in e) o [] made.last_scan) (sym (no_used model event plain)) tt
-
-    -- what is made of the run with the event more
-    with_unchanged : unchanged_next model lawful run e stands step weighed made new is opens_none ended → (current : Option OpenLeg) → made.current ≡ option_map (open_end noted waiters) current → new.current ≡ option_map (open_end number waiters) current
-        → IsMadeOf model (plus run event) new
-    with_unchanged unchanged None was later = none_made model lawful run e stands step weighed made new is opens_none ended was later unchanged
-    with_unchanged unchanged (Some leg) was later =
-        still_made model lawful run e stands step weighed made new is opens_none ended noted number leg leg waiters waiters numbered (continues number leg waiters) (λ unended now. suffices) (inl unchanged) was later
-
-    -- where no group is unchanged any longer
-    pub passed_calm : new.last_scan.kind ≡ None → (current : Option OpenLeg) → made.current ≡ option_map (open_end noted waiters) current → new.current ≡ option_map (open_end number waiters) current → IsMadeOf model (plus run event) new
-    passed_calm calm current was later = with_unchanged (none_unchanged model _ _ new.last_scan calm) current was later
-
-    -- where a leg continues
-    pub passed_on : AreStanding waiters → IsTouched e waiters.reasons event made.last_scan new.last_scan → (leg : OpenLeg) → leg.completed ≡ None → made.current ≡ Some (open_end noted waiters leg) → new.current ≡ Some (open_end number waiters leg)
-        → IsMadeOf model (plus run event) new
-    passed_on stand touched leg unended was later = with_unchanged unchanged (Some leg) was later
-      where
-        stays_open : opens model (leg_of model run) event ≡ false
-        stays_open = opens_if model lawful run e stands step weighed made new is false opens_none
-
-        unchanged : unchanged_next model lawful run e stands step weighed made new is opens_none ended
-        unchanged =
-            subst (λ m. AreUnchangedBy model (state_of model (and_then (leg_of model run) event)) (lines model (and_then (leg_of model run) event) m) new.last_scan) (sym (length-append (leg_of model run).events (event ∷ []) ∙ omega arith))
-            (touched_unchanged model lawful e (leg_of model run) (present_sound model lawful run e stands) stands.there event stays_open (no_scan model event (no_used model event plain)) made.last_scan new.last_scan waiters touched stand
-            (lines_after model lawful run e stands step weighed made new is opens_none ended noted number leg leg waiters waiters numbered (continues number leg waiters) (λ still now. suffices) was unended (still model (state_in e) event plain).0)
-            is.unchanged)
+  -- what is made of the run with the event more
+  pub passed : (made new : Made) → IsMadeWith model run e.last_scan made → (after : Engine) → StandsIn model (plus run event) (state_in after) → IsLastScanAfter model e event after → new.ended ≡ made.ended
+      → (noted number : ℕ) (waiters : WaitingGroups) → number ≡ e.number + 1 → (current : Option OpenLeg) → made.current ≡ option_map (open_end noted waiters) current → new.current ≡ option_map (open_end number waiters) current
+      → IsMadeWith model (plus run event) after.last_scan new
+  passed made new is after stands_after known ended noted number waiters numbered None was later =
+      none_made model lawful run e stands step weighed made new is after stands_after known opens_none ended was later
+  passed made new is after stands_after known ended noted number waiters numbered (Some leg) was later =
+      still_made model lawful run e stands step weighed made new is after stands_after known opens_none ended noted number leg leg waiters waiters numbered (continues number leg waiters) (λ unended now. suffices) was later

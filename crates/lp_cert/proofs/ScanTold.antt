@@ -16,13 +16,13 @@ use Rattle.lp_transition.specs.Tasks.{Live, first_of}
 use Rattle.lp_transition.proofs.Quantifiers.{some_live-is}
 use Rattle.lp_cert.specs.declared.line.Line.{Line}
 use Rattle.lp_cert.specs.Certificates.{group_id, after_refusal}
-use Rattle.lp_cert.specs.Unchanged.{IsUnchanged}
-use Rattle.lp_transition.specs.Blames.{has_frame_in}
-use Rattle.lp_cert.specs.LastScan.{LastScan, AreUnchangedBy, AreUnchangedSince, TellOfChanged}
+use Rattle.lp_cert.specs.Unchanged.{IsUnchanged, AreUnchangedBy, AreUnchangedSince}
+use Rattle.lp_transition.specs.Blames.{has_frame_in, first_blamed_in}
+use Rattle.lp_transition.specs.Table.{LastScan}
+use Rattle.lp_cert.specs.inside.LastScan.{TellOfChanged}
 use Rattle.lp_cert.specs.Waiters.{WaitingGroups, head_of}
 use Rattle.lp_cert.specs.inside.Waiters.{AreStanding, after_verdict, lines_in}
-use Rattle.lp_cert.proofs.UnchangedLines.{lines_again}
-use Rattle.lp_cert.proofs.UnchangedScans.{blamed_alike}
+use Rattle.lp_cert.proofs.UnchangedLines.{unchanged_refused}
 use Rattle.lp_cert.proofs.VerdictLines.{verdicts_tell}
 
 -- ---- Verdicts of other groups
@@ -44,14 +44,24 @@ none_refused_of s g (v ∷ vs) none =
 -- of the group of each waiting task a verdict is of a member, or it is unchanged
 abbrev pub ToldOrUnchanged : Rules → State → (lines : ℕ → List Line) → CheckKind → List Verdict → Type 0
 ToldOrUnchanged model s lines on vs =
-    (t : ℕ) (x : Standing) → s.tasks t ≡ Live x → nat_eq x.level s.target ≡ false → (list_any (is_of s x.group) vs ≡ true) ⊎ IsUnchanged model on s (lines x.group) x.group
+    (t : ℕ) (x : Standing) → s.tasks t ≡ Live x → nat_eq x.level s.target ≡ false → (list_any (is_of s x.group) vs ≡ true) ⊎ IsUnchanged model on s x.group (lines x.group)
 
-pub told_unchanged : (model : Rules) (s : State) (lines : ℕ → List Line) (last_scan : LastScan) → AreUnchangedBy model s lines last_scan → (on : CheckKind) (vs : List Verdict) → TellOfChanged s (Some on) vs last_scan → ToldOrUnchanged model s lines on vs
+-- if it is a scan that the model uses
+abbrev pub TellsOrUnchanged : Rules → State → (lines : ℕ → List Line) → Option CheckKind → List Verdict → Type 0
+TellsOrUnchanged model s lines None vs = Unit {0}
+TellsOrUnchanged model s lines (Some on) vs = ToldOrUnchanged model s lines on vs
+
+told_unchanged : (model : Rules) (s : State) (lines : ℕ → List Line) (last_scan : LastScan) → AreUnchangedBy model s lines last_scan → (on : CheckKind) (vs : List Verdict) → TellOfChanged s (Some on) vs last_scan → ToldOrUnchanged model s lines on vs
 told_unchanged model s lines last_scan calm on vs told t x live off =
     ⊎_elim
     (λ (some : list_any (is_of s x.group) vs ≡ true). inl some)
-    (λ (left : (last_scan.kind ≡ Some on) × (has last_scan.changed_since x.group ≡ false)). inr (subst (λ (k : Option CheckKind). AreUnchangedSince model s lines k (has last_scan.changed_since)) left.0 calm t x live off left.1))
+    (λ (left : (last_scan.kind ≡ Some on) × (has last_scan.changed x.group ≡ false)). inr (subst (λ (k : Option CheckKind). AreUnchangedSince model s lines k (has last_scan.changed)) left.0 calm t x live off left.1))
     (told t x live off)
+
+-- where what wasn't told of is unchanged since the last scan
+pub tells_unchanged : (model : Rules) (s : State) (lines : ℕ → List Line) (last_scan : LastScan) → AreUnchangedBy model s lines last_scan → (o : Option CheckKind) (vs : List Verdict) → TellOfChanged s o vs last_scan → TellsOrUnchanged model s lines o vs
+tells_unchanged model s lines last_scan calm None vs told = tt
+tells_unchanged model s lines last_scan calm (Some on) vs told = told_unchanged model s lines last_scan calm on vs told
 
 module _ (model : Rules) (s : State) (sound : IsSound s) (on : CheckKind) (lines : ℕ → List Line) (vs : List Verdict) (enough : AreEnough model on s vs)
     (told : ToldOrUnchanged model s lines on vs) (waiters : WaitingGroups) (stand : AreStanding waiters) (at g : ℕ) (there : has waiters.groups g ≡ true) (same : lines_in waiters.reasons g ≡ lines g) (behind : IsTrue (waits_in s g))
@@ -59,11 +69,11 @@ module _ (model : Rules) (s : State) (sound : IsSound s) (on : CheckKind) (lines
   abbrev Told : Type 0
   Told = after_verdict s at (first_refused s g vs) waiters.reasons g ≡ after_refusal (has_frame_in s) g at blamed (lines_in waiters.reasons g)
 
-  told_here : (list_any (is_of s g) vs ≡ true) ⊎ IsUnchanged model on s (lines g) g
+  told_here : (list_any (is_of s g) vs ≡ true) ⊎ IsUnchanged model on s g (lines g)
   told_here =
       let w = some_live-is s.bounds s.tasks (λ u y. nat_eq y.group g && not (nat_eq y.level s.target)) behind in
       let both = and_parts (nat_eq w.life.group g) (not (nat_eq w.life.level s.target)) w.passed in
-      subst (λ k. (list_any (is_of s k) vs ≡ true) ⊎ IsUnchanged model on s (lines k) k) (eqb-true w.life.group g both.0)
+      subst (λ k. (list_any (is_of s k) vs ≡ true) ⊎ IsUnchanged model on s k (lines k)) (eqb-true w.life.group g both.0)
       (told w.task w.life w.live (not-true (nat_eq w.life.level s.target) both.1))
 
   -- a verdict is of a member
@@ -71,16 +81,15 @@ module _ (model : Rules) (s : State) (sound : IsSound s) (on : CheckKind) (lines
   by_verdict some = ap (λ o. after_verdict s at o waiters.reasons g) (enough.first g some ∙ first)
 
   -- none is, and the group is unchanged
-  by_itself : list_any (is_of s g) vs ≡ false → IsUnchanged model on s (lines g) g → Told
+  by_itself : list_any (is_of s g) vs ≡ false → IsUnchanged model on s g (lines g) → Told
   by_itself none kept =
-      let is = subst (λ ls. IsUnchanged model on s ls g) (sym same) kept in
       ap (λ o. after_verdict s at o waiters.reasons g) (none_refused_of s g vs none)
-      ∙ (lines_again (has_frame_in s) is.member is.why waiters.reasons.lists waiters.reasons.scans (group_id g) (head_of waiters.reasons g) (stand g there) at is.continues
-      ∙ sym (blamed_alike model s sound on g (lines_in waiters.reasons g) is at blamed (sym (verdicts_tell model s sound on g behind) ∙ first)))
+      ∙ unchanged_refused model s on blamed waiters.reasons.lists waiters.reasons.scans (group_id g) (head_of waiters.reasons g) (stand g there)
+      (sym (verdicts_tell model s sound on g behind) ∙ first) (subst (IsUnchanged model on s g) (sym same) kept) at
 
   -- the lines of the group are those after a scan of all
   pub scan_told : Told
   scan_told =
       ⊎_elim by_verdict
-      (λ (kept : IsUnchanged model on s (lines g) g). ⊎_elim by_verdict (λ (none : list_any (is_of s g) vs ≡ false). by_itself none kept) (cases_Bool (list_any (is_of s g) vs)))
+      (λ (kept : IsUnchanged model on s g (lines g)). ⊎_elim by_verdict (λ (none : list_any (is_of s g) vs ≡ false). by_itself none kept) (cases_Bool (list_any (is_of s g) vs)))
       told_here

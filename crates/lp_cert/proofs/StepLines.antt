@@ -36,14 +36,14 @@ use Rattle.lp_cert.specs.declared.line.Line.{Line}
 use Rattle.lp_cert.specs.Certificates.{lines, birth_line, after_refusal}
 use Rattle.lp_cert.specs.EventLines.{lines_after_fork}
 use Rattle.lp_cert.specs.inside.StepLines.{stepped_lines, noted_by, noted_lines}
-use Rattle.lp_cert.specs.LastScan.{LastScan, AreUnchangedBy, TellOfChanged, Suffices, used_kind, used_scan}
+use Rattle.lp_transition.specs.LastScan.{used_kind, used_scan}
 use Rattle.lp_transition.specs.Blames.{has_frame_in}
 use Rattle.lp_cert.specs.Waiters.{WaitingGroups}
 use Rattle.lp_cert.specs.inside.Waiters.{AreStanding, own_lines, after_scan, after_scan_of, after_switch, after_verdict, after_fork, after_death, is_lone, lines_at, lines_in, scanned_lines}
 use Rattle.lp_cert.proofs.NextLines.{lines_at_fork}
 use Rattle.lp_cert.proofs.OtherEvents.{lines_at_refused, lines_at_others}
 use Rattle.lp_cert.proofs.Behind.{and_true, behind_after, none_refused, told_switched, same_own, others, changed_own, scan_own}
-use Rattle.lp_cert.proofs.ScanTold.{told_unchanged, scan_told}
+use Rattle.lp_cert.proofs.ScanTold.{ToldOrUnchanged, TellsOrUnchanged, scan_told}
 use Rattle.lp_cert.proofs.BehindTasks.{fork_lines, die_lines}
 
 -- what a scan finds of all waiting tasks
@@ -202,13 +202,13 @@ module _ (model : Rules) (lawful : IsLawful model) (e : Engine) (sound : IsSound
       by false unused = cond-false (model.uses kind.Stop) _ (old g) unused ∙ sym (cond-false (model.uses kind.Stop) _ (old g) unused)
       by true used = absurd (some_none kind.Stop (sym (cond-true (model.uses kind.Stop) (Some kind.Stop) None used) ∙ none))
 
-  module _ (last_scan : LastScan) (calm : AreUnchangedBy model s (lines model leg n) last_scan) (on : CheckKind) (vs : List Verdict) (enough : AreEnough model on s vs) (told : TellOfChanged s (Some on) vs last_scan)
+  module _ (on : CheckKind) (vs : List Verdict) (enough : AreEnough model on s vs) (told : ToldOrUnchanged model s (lines model leg n) on vs)
       (stand : AreStanding waiters) (g : ℕ) (below : g < 65536) (not_switched : switches_by e.table (verdicts_of model on s) g ≡ false) where
     -- the group is refused
     refused_case : has waiters.groups g ≡ true → waits_in s g ≡ true → lines_in waiters.reasons g ≡ lines model leg n g → (blamed : ℕ × Blame) → first_refused s g (verdicts_of model on s) ≡ Some blamed
         → after_verdict s (suc e.number) (first_refused s g vs) waiters.reasons g ≡ after_refusal (has_frame_in s) g (suc e.number) blamed (lines_in waiters.reasons g)
     refused_case there behind same blamed first =
-        scan_told model s sound on (lines model leg n) vs enough (told_unchanged model s (lines model leg n) last_scan calm on vs told) waiters stand (suc e.number) g there same behind blamed first
+        scan_told model s sound on (lines model leg n) vs enough told waiters stand (suc e.number) g there same behind blamed first
 
     scan_noted : scanned_lines s (suc e.number) vs waiters g ≡ after_scan (has_frame_in s) g (suc e.number) (first_refused s g (verdicts_of model on s)) (old g)
     scan_noted = by (has waiters.groups g) refl (waits_in s g) refl (first_refused s g (verdicts_of model on s)) refl
@@ -234,8 +234,8 @@ module _ (model : Rules) (lawful : IsLawful model) (e : Engine) (sound : IsSound
             ∙ ap₂ (after_scan (has_frame_in s) g (suc e.number)) (sym first) (sym (cond-true (has waiters.groups g) (Some (lines_in waiters.reasons g)) None there)))
 
   -- the lines that a scan leaves by what it found of those that it looked at are those that it leaves by what it finds of all
-  module _ (last_scan : LastScan) (calm : AreUnchangedBy model s (lines model leg n) last_scan) (g : ℕ) (below : g < 65536) where
-    noted_scan : (on : CheckKind) (vs : List Verdict) → AreEnough model on s vs → TellOfChanged s (used_kind model on) vs last_scan → (IsSome (used_kind model on) → AreStanding waiters) → switches_by e.table (verdicts_of model on s) g ≡ false → (event : Event)
+  module _ (g : ℕ) (below : g < 65536) where
+    noted_scan : (on : CheckKind) (vs : List Verdict) → AreEnough model on s vs → TellsOrUnchanged model s (lines model leg n) (used_kind model on) vs → (IsSome (used_kind model on) → AreStanding waiters) → switches_by e.table (verdicts_of model on s) g ≡ false → (event : Event)
         → ((ws : List Verdict) → own_lines model e event ws old g ≡ after_scan_of model s on ws old g) → used_scan model event ≡ used_kind model on
         → noted_by model e (used_kind model on) event vs waiters g ≡ own_lines model e event (verdicts_of model on s) old g
     noted_scan on vs enough told stand not_switched event own is_used = by (model.uses on) refl
@@ -244,13 +244,13 @@ module _ (model : Rules) (lawful : IsLawful model) (e : Engine) (sound : IsSound
         by true used =
             let kind_is : used_kind model on ≡ Some on = cond-true (model.uses on) (Some on) None used in
             ap (λ o. noted_by model e o event vs waiters g) kind_is
-            ∙ (scan_noted last_scan calm on vs enough (subst (λ (o : Option CheckKind). TellOfChanged s o vs last_scan) kind_is told) (stand (subst IsSome (sym kind_is) refl)) g below not_switched
+            ∙ (scan_noted on vs enough (subst (λ (o : Option CheckKind). TellsOrUnchanged model s (lines model leg n) o vs) kind_is told) (stand (subst IsSome (sym kind_is) refl)) g below not_switched
             ∙ (sym (cond-true (model.uses on) (after_scan (has_frame_in s) g (suc e.number) (first_refused s g (verdicts_of model on s)) (old g)) (old g) used) ∙ sym (own (verdicts_of model on s))))
         by false unused =
             let kind_is : used_kind model on ≡ None = cond-false (model.uses on) (Some on) None unused in
             ap (λ o. noted_by model e o event vs waiters g) kind_is ∙ own_any event vs (verdicts_of model on s) g (is_used ∙ kind_is)
 
-    noted_is : (event : Event) (vs : List Verdict) → AreVerdictsFor model s event vs → TellOfChanged s (used_scan model event) vs last_scan → (IsSome (used_scan model event) → AreStanding waiters) → switches_at model (affected model s event) event g ≡ false
+    noted_is : (event : Event) (vs : List Verdict) → AreVerdictsFor model s event vs → TellsOrUnchanged model s (lines model leg n) (used_scan model event) vs → (IsSome (used_scan model event) → AreStanding waiters) → switches_at model (affected model s event) event g ≡ false
         → noted_lines model e event vs waiters g ≡ own_lines model e event (all_for model s event) old g
     noted_is Walk vs enough told stand stays =
         noted_scan kind.Walk vs enough told stand (sym (switches-walk model lawful 65536 s refl sound e.table (λ t x live. slot_from_live e.table t x live) g) ∙ stays) Walk (λ ws. refl) refl
@@ -270,11 +270,11 @@ module _ (model : Rules) (lawful : IsLawful model) (e : Engine) (sound : IsSound
     noted_is Reverse vs enough told stand stays = refl
 
   -- the lines that a group has after the event, if it waits then
-  pub step_lines : (step : Weighed) → IsWeighed model e step → (last_scan : LastScan) → AreUnchangedBy model s (lines model leg n) last_scan → Suffices model s step last_scan
+  pub step_lines : (step : Weighed) → IsWeighed model e step → TellsOrUnchanged model s (lines model leg n) (used_scan model step.event) step.verdicts
       → (IsSome (used_scan model step.event) → refusal_in step.reply.what ≡ None → AreStanding waiters)
       → (refusal_of model s step.event ≡ None → is_control step.event ≡ false) → (refusal_of model s step.event ≡ None → IsFew step.event) → (g : ℕ) → g < 65536
       → stepped_lines model e step waiters g ≡ (if waits_in (next model s step.event) g then Some (lines model (and_then leg step.event) (suc n) g) else None)
-  step_lines step weighed last_scan calm enough stand plain few g below = by (refusal_of model s step.event) refl
+  step_lines step weighed enough stand plain few g below = by (refusal_of model s step.event) refl
     where
       event : Event
       event = step.event
@@ -292,7 +292,7 @@ module _ (model : Rules) (lawful : IsLawful model) (e : Engine) (sound : IsSound
           ∙ sym (cond-false (waits_in (next model s event) g) (Some (new g)) None (ap (λ (st : State). waits_in st g) (next-accepted model s event ok (plain ok)) ∙ (behind_after model s event g ∙ (ap (λ b. waits_in (affected model s event) g && not b) goes ∙ and-false (waits_in (affected model s event) g)))))
       gone ok false goes told =
           cond-false (list_any (nat_eq g) (groups_of step.reply.what)) None (noted_lines model e event step.verdicts waiters g) told
-          ∙ (noted_is last_scan calm g below event step.verdicts weighed.verdicts enough (λ used. stand used (refused_is ∙ ok)) goes
+          ∙ (noted_is g below event step.verdicts weighed.verdicts enough (λ used. stand used (refused_is ∙ ok)) goes
           ∙ (own_step event g below (few ok) ok (plain ok) goes
           ∙ ap (λ b. if b then Some (new g) else None) (sym (ap (λ (st : State). waits_in st g) (next-accepted model s event ok (plain ok)) ∙ (behind_after model s event g ∙ (ap (λ b. waits_in (affected model s event) g && not b) goes ∙ and_true (waits_in (affected model s event) g)))))))
 

@@ -7,11 +7,13 @@ use Rattle.lp_transition.specs.declared.event.Event.{Event}
 use Rattle.lp_transition.specs.Leg.{Leg}
 use Rattle.lp_transition.specs.Run.{Run, first_leg, leg_of, opens, next_leg, leg_after}
 use Rattle.lp_transition.specs.Schedule.{waits, first_check}
+use Rattle.lp_transition.specs.Machine.{state_of}
+use Rattle.lp_transition.specs.Table.{LastScan}
 use Rattle.lp_cert.specs.declared.cert.Claim.TheVariants.{Waiting, Floor}
 use Rattle.lp_cert.specs.declared.cert.Cert.{Cert}
 use Rattle.lp_cert.specs.declared.leg_end.LegEnd.{LegEnd}
-use Rattle.lp_cert.specs.Certificates.{cert, completion, certs_by, waiting_groups, floor_certs, legs, opened_legs}
-use Rattle.lp_cert.specs.Ends.{Made, IsFresh, IsMadeOf, end_of, ended_legs, under_way, waiting_in, floor_in}
+use Rattle.lp_cert.specs.Certificates.{cert, completion, certs_by, lines, waiting_groups, floor_certs, legs, opened_legs}
+use Rattle.lp_cert.specs.Ends.{Made, IsFresh, IsMadeOf, IsMadeWith, end_of, ended_legs, under_way, waiting_in, floor_in}
 use Rattle.lp_cert.proofs.Asked.{find_own}
 use Rattle.lp_cert.proofs.UnchangedSteps.{none_unchanged}
 
@@ -21,7 +23,13 @@ module _ (model : Rules) where
   begins run made none fresh = record {
     ended = fresh.ended ∙ sym (ap (λ events. map (end_of model) (drop 1 (ended_legs model (first_leg model run) events))) none);
     current = fresh.current ∙ sym (ap (λ events. option_map (end_of model) (under_way model (ended_legs model (first_leg model run) events) (leg_after model (first_leg model run) events))) none);
-    unchanged = none_unchanged model _ _ made.last_scan fresh.last_scan;
+  }
+
+  -- and an engine that begins knows nothing of a scan
+  pub begun_with : (run : Run) (last_scan : LastScan) (made : Made) → run.events ≡ [] → last_scan.kind ≡ None → IsFresh made → IsMadeWith model run last_scan made
+  begun_with run last_scan made none unscanned fresh = record {
+    of_run = begins run made none fresh;
+    unchanged = none_unchanged model (state_of model (leg_of model run)) (lines model (leg_of model run) (length (leg_of model run).events)) last_scan unscanned;
   }
 
   -- the legs are those that ended, and the last

@@ -1,5 +1,5 @@
--- What a scan needn't look at again, and what a further refusal of an unchanged group makes of its lines.
-use Rattle.std.proofs.Common.{◌≡◌, ℕ, ◌<◌, Bool, true, false, List, [], ◌∷◌, ◌++◌, length, map, reverse, take, drop, is_some, nat_eq, get_or, refl, sym, ap, subst, ◌∙◌, arith}
+-- What a further refusal of an unchanged group makes of its lines.
+use Rattle.std.proofs.Common.{◌≡◌, ℕ, ◌<◌, Bool, true, List, [], ◌∷◌, ◌++◌, length, map, reverse, take, drop, Option, Some, get_or, refl, sym, ap, subst, ◌∙◌, arith}
 use Rattle.std.proofs.lemmas.Bool.{false≢true, cond-true, eq-eqb}
 use Rattle.lp_stack.specs.declared.number.GroupId.{GroupId}
 use Rattle.lp_stack.specs.declared.number.TaskId.{TaskId}
@@ -8,8 +8,7 @@ use Rattle.lp_model.specs.declared.check.Blame.{Blame}
 use Rattle.lp_model.specs.declared.check.Blame.TheVariants as blame
 use Rattle.lp_model.specs.Rules.{Rules}
 use Rattle.lp_transition.specs.Leg.{State}
-use Rattle.lp_transition.specs.Scan.{MayLeaveOut}
-use Rattle.lp_transition.specs.Sound.{IsSound}
+use Rattle.lp_transition.specs.Blames.{has_frame_in, first_blamed_in}
 use Rattle.lp_cert.specs.declared.line.Line.{Line}
 use Rattle.lp_cert.specs.declared.line.Line.TheVariants as line
 use Rattle.lp_cert.specs.declared.reason.Reason.{Reason}
@@ -20,61 +19,50 @@ use Rattle.lp_cert.specs.declared.head.Head.{Head}
 use Rattle.lp_cert.specs.declared.head.Refused.{Refused}
 use Rattle.lp_cert.specs.Certificates.{after_refusal, task_id}
 use Rattle.lp_cert.specs.Heads.{lines_of, ongoing_reasons, head_lines}
+use Rattle.lp_cert.specs.Unchanged.{IsUnchanged}
+use Rattle.lp_cert.specs.inside.LastScan.{is_held}
 use Rattle.lp_cert.specs.inside.Heads.{ContinuesIn, IsUnchecked, IsHead, IsRefusedBy, HasFrameAs, continues_after}
-use Rattle.lp_cert.specs.Unchanged.{Continues, AreUnchanged, says_busy}
-use Rattle.lp_cert.specs.inside.LastScan.{says_busy_on}
 use Rattle.lp_cert.proofs.HeadLemmas.{busy_some, refused_on}
 
--- ---- What a scan leaves out
+-- ---- A line that continues
 
-module _ (model : Rules) (s : State) (sound : IsSound s) (lines : ℕ → List Line) (kind : CheckKind) (changed_since : ℕ → Bool) (unchanged : AreUnchanged model s lines kind changed_since) where
-  -- of a group that waits and is left out a member would be refused: it waits too
-  pub may_leave_out : MayLeaveOut model kind s changed_since
-  may_leave_out t x live off out =
-      let is = unchanged t x live off out in
-      record {
-        member = is.member;
-        life = is.life;
-        live = is.live;
-        off = ap (λ level. nat_eq level s.target) (sound.one_side is.member t is.life x is.live live is.grouped) ∙ off;
-        grouped = is.grouped;
-        refused = ap is_some is.refused;
-      }
+-- the newest line continues if the group is refused again, blaming this task so: a hold of its frame, which is still there, or
+-- the task is busy
+abbrev Continues : (has_frame : (task serial : ℕ) → Bool) → (task : ℕ) → Blame → List Line → Type 0
+Continues has_frame t why (line.Hold group task serial from to ∷ older) = (task.0 ≡ t) × (has_frame t serial ≡ true)
+Continues has_frame t why (line.Busy group task at ∷ older) = (task.0 ≡ t) × (why ≡ blame.Busy)
+Continues has_frame t why _ = ⊥
 
--- ---- One line more, or a line that continues
+-- with a refusal of whom the newest line continues, and that further refusal leaves the lines that this one leaves
+record GoesOn (has_frame : (task serial : ℕ) → Bool) (group : ℕ) (blamed : ℕ × Blame) (lines : List Line) : Type 0 where
+  task : ℕ
+  why : Blame
+  continues : Continues has_frame task why lines
+  alike : (at : ℕ) → after_refusal has_frame group at blamed lines ≡ after_refusal has_frame group at (task, why) lines
 
-module _ (has_frame : (task serial : ℕ) → Bool) (group at t : ℕ) (why : Blame) where
-  -- the newest line continues once more
-  pub continues_later : (lines : List Line) → Continues has_frame t why lines → Continues has_frame t why (after_refusal has_frame group at (t, why) lines)
-  continues_later [] h = absurd h
-  continues_later (line.Hold g task serial from to ∷ older) h =
-      let frame_stands : has_frame task.0 serial ≡ true = ap (λ n. has_frame n serial) h.0 ∙ h.1 in
-      subst (Continues has_frame t why) (sym (cond-true (has_frame task.0 serial) (line.Hold g task serial from at ∷ older) _ frame_stands)) h
-  continues_later (line.Busy g task on ∷ older) h =
-      subst (λ b. Continues has_frame t why (after_refusal has_frame group at (t, b) (line.Busy g task on ∷ older))) (sym h.1) (refl, h.1)
-  continues_later (line.Born g p on ∷ older) h = absurd h
-
-  -- a hold that continues does so whoever is refused
-  pub hold_on : (blamed : ℕ × Blame) (lines : List Line) → Continues has_frame t why lines → says_busy lines ≡ false → after_refusal has_frame group at blamed lines ≡ after_refusal has_frame group at (t, why) lines
-  hold_on blamed [] h calm = absurd h
-  hold_on blamed (line.Hold g task serial from to ∷ older) h calm =
-      let frame_stands : has_frame task.0 serial ≡ true = ap (λ n. has_frame n serial) h.0 ∙ h.1 in
-      cond-true (has_frame task.0 serial) (line.Hold g task serial from at ∷ older) _ frame_stands
-      ∙ sym (cond-true (has_frame task.0 serial) (line.Hold g task serial from at ∷ older) _ frame_stands)
-  hold_on blamed (line.Busy g task on ∷ older) h calm = absurd (false≢true (sym calm))
-  hold_on blamed (line.Born g p on ∷ older) h calm = absurd h
-
-  -- a line that continues is a busy member's if it was
-  pub busy_before : (lines : List Line) → Continues has_frame t why lines → says_busy (after_refusal has_frame group at (t, why) lines) ≡ true → says_busy lines ≡ true
-  busy_before [] h busy = absurd h
-  busy_before (line.Hold g task serial from to ∷ older) h busy =
-      let frame_stands : has_frame task.0 serial ≡ true = ap (λ n. has_frame n serial) h.0 ∙ h.1 in
-      absurd (false≢true (sym (ap says_busy (cond-true (has_frame task.0 serial) (line.Hold g task serial from at ∷ older) _ frame_stands)) ∙ busy))
-  busy_before (line.Busy g task on ∷ older) h busy = refl
-  busy_before (line.Born g p on ∷ older) h busy = absurd h
+goes_on : (model : Rules) (s : State) (on : CheckKind) (g : ℕ) (blamed : ℕ × Blame) (lines : List Line) → first_blamed_in model s on g ≡ Some blamed → IsUnchanged model on s g lines → GoesOn (has_frame_in s) g blamed lines
+goes_on model s on g blamed [] first h = absurd h
+goes_on model s on g blamed (line.Hold h2 task serial from to ∷ older) first h = record {
+  task = task.0;
+  why = blame.Busy;
+  continues = (refl, h);
+  alike = λ at.
+      cond-true (has_frame_in s task.0 serial) (line.Hold h2 task serial from at ∷ older) _ h
+      ∙ sym (cond-true (has_frame_in s task.0 serial) (line.Hold h2 task serial from at ∷ older) _ h);
+}
+goes_on model s on g blamed (line.Busy h2 task on_at ∷ older) first h = record {
+  task = task.0;
+  why = blame.Busy;
+  continues = (refl, refl);
+  alike = λ at. ap (λ b. after_refusal (has_frame_in s) g at b (line.Busy h2 task on_at ∷ older)) same;
+}
+  where
+    same : blamed ≡ (task.0, blame.Busy)
+    same = let told : Some blamed ≡ Some (task.0, blame.Busy) = sym first ∙ h in cc
+goes_on model s on g blamed (line.Born h2 p on_at ∷ older) first h = absurd h
 
 -- what continues of a head continues with this refusal of the task
-abbrev pub OngoingContinues : (has_frame : (task serial : ℕ) → Bool) → (task : ℕ) → Blame → Ongoing → Type 0
+abbrev OngoingContinues : (has_frame : (task serial : ℕ) → Bool) → (task : ℕ) → Blame → Ongoing → Type 0
 OngoingContinues has_frame t why Nothing = ⊥
 OngoingContinues has_frame t why (Hold task serial from) = (task.0 ≡ t) × (has_frame t serial ≡ true)
 OngoingContinues has_frame t why (Busy task first) = (task.0 ≡ t) × (why ≡ blame.Busy)
@@ -84,10 +72,6 @@ module _ (has_frame : (task serial : ℕ) → Bool) (t : ℕ) (why : Blame) wher
   busy_first : (g : GroupId) (task : TaskId) (ys : List ℕ) (rest : List Line) → 0 < length ys → Continues has_frame t why (map (λ on. line.Busy g task on) ys ++ rest) → (task.0 ≡ t) × (why ≡ blame.Busy)
   busy_first g task [] rest some h = absurd (omega arith)
   busy_first g task (y ∷ ys) rest some h = h
-
-  first_busy : (g : GroupId) (task : TaskId) (ys : List ℕ) (rest : List Line) → 0 < length ys → (task.0 ≡ t) × (why ≡ blame.Busy) → Continues has_frame t why (map (λ on. line.Busy g task on) ys ++ rest)
-  first_busy g task [] rest some h = absurd (omega arith)
-  first_busy g task (y ∷ ys) rest some h = h
 
   unchecked_first : (scans : List ℕ) (rs : List Reason) → IsUnchecked rs → Continues has_frame t why (lines_of scans rs) → ⊥
   unfolding lines_of
@@ -106,22 +90,6 @@ module _ (has_frame : (task serial : ℕ) → Bool) (t : ℕ) (why : Blame) wher
   ongoing_of scans g (Busy task first) rs goes unchecked h =
       busy_first g task (reverse (drop first (take (length scans) scans))) (lines_of scans rs) (busy_some scans first goes) h
 
-  -- and what continues tells the newest line
-  ongoing_lines : (scans : List ℕ) (g : GroupId) (o : Ongoing) (rs : List Reason) → ContinuesIn (length scans) o
-      → OngoingContinues has_frame t why o → Continues has_frame t why (lines_of scans (ongoing_reasons scans g o ++ rs))
-  unfolding lines_of
-  ongoing_lines scans g Nothing rs goes h = absurd h
-  ongoing_lines scans g (Hold task serial from) rs goes h = h
-  ongoing_lines scans g (Busy task first) rs goes h =
-      first_busy g task (reverse (drop first (take (length scans) scans))) (lines_of scans rs) (busy_some scans first goes) h
-
-  -- where the newest line is that a member is busy, so is what continues
-  busy_of : (scans : List ℕ) (g : GroupId) (o : Ongoing) (rs : List Reason) → OngoingContinues has_frame t why o → says_busy (lines_of scans (ongoing_reasons scans g o ++ rs)) ≡ true → says_busy_on o ≡ true
-  unfolding lines_of
-  busy_of scans g Nothing rs h busy = absurd h
-  busy_of scans g (Hold task serial from) rs h busy = busy
-  busy_of scans g (Busy task first) rs h busy = refl
-
   -- a refusal of the task with the frame still there
   abbrev pub again : ℕ → Refused
   again at = record { at = at; task = task_id t; blame = why; frame_stands = true }
@@ -138,19 +106,31 @@ module _ (has_frame : (task serial : ℕ) → Bool) (t : ℕ) (why : Blame) wher
 
   module _ (lists : List (List Reason)) (scans : List ℕ) (group : GroupId) (head : Head) (is_head : IsHead lists (length scans) head) where
     -- the lines of a head continue as what continues of it does
-    pub head_ongoing : Continues has_frame t why (head_lines lists scans group head) → OngoingContinues has_frame t why head.ongoing
+    head_ongoing : Continues has_frame t why (head_lines lists scans group head) → OngoingContinues has_frame t why head.ongoing
     head_ongoing h = ongoing_of scans group head.ongoing (get_or lists head.older.0 []) is_head.continues is_head.unchecked h
-
-    pub head_continues : OngoingContinues has_frame t why head.ongoing → Continues has_frame t why (head_lines lists scans group head)
-    head_continues h = ongoing_lines scans group head.ongoing (get_or lists head.older.0 []) is_head.continues h
-
-    pub head_busy : OngoingContinues has_frame t why head.ongoing → says_busy (head_lines lists scans group head) ≡ true → says_busy_on head.ongoing ≡ true
-    head_busy h busy = busy_of scans group head.ongoing (get_or lists head.older.0 []) h busy
 
     -- a scan that refuses the task again leaves the head as it is
     refused_again : (at : ℕ) → Continues has_frame t why (head_lines lists scans group head) → IsRefusedBy (again at) group scans head head lists lists
     refused_again at h = refused_on scans group (again at) head lists is_head (ongoing_stays head.ongoing at (head_ongoing h))
 
-    pub lines_again : (at : ℕ) → Continues has_frame t why (head_lines lists scans group head)
+    lines_again : (at : ℕ) → Continues has_frame t why (head_lines lists scans group head)
         → head_lines lists (scans ++ at ∷ []) group head ≡ after_refusal has_frame group.0 at (t, why) (head_lines lists scans group head)
     lines_again at h = (refused_again at h).lines has_frame (ongoing_held head.ongoing (head_ongoing h))
+
+-- a scan that refuses an unchanged group leaves its head as it is
+pub unchanged_refused : (model : Rules) (s : State) (on : CheckKind) (blamed : ℕ × Blame) (lists : List (List Reason)) (scans : List ℕ) (group : GroupId) (head : Head) → IsHead lists (length scans) head
+    → first_blamed_in model s on group.0 ≡ Some blamed → IsUnchanged model on s group.0 (head_lines lists scans group head) → (at : ℕ)
+    → head_lines lists (scans ++ at ∷ []) group head ≡ after_refusal (has_frame_in s) group.0 at blamed (head_lines lists scans group head)
+unchanged_refused model s on blamed lists scans group head is_head first unchanged at =
+    let goes = goes_on model s on group.0 blamed (head_lines lists scans group head) first unchanged in
+    lines_again (has_frame_in s) goes.task goes.why lists scans group head is_head at goes.continues ∙ sym (goes.alike at)
+
+-- a group is unchanged whose newest reason is a hold of a frame that is still there
+pub held_unchanged : (model : Rules) (s : State) (on : CheckKind) (g : ℕ) (lists : List (List Reason)) (scans : List ℕ) (group : GroupId) (head : Head) → is_held (has_frame_in s) head.ongoing ≡ true → IsUnchanged model on s g (head_lines lists scans group head)
+unfolding lines_of
+held_unchanged model s on g lists scans group head held = by head.ongoing (get_or lists head.older.0 []) held
+  where
+    by : (o : Ongoing) (rs : List Reason) → is_held (has_frame_in s) o ≡ true → IsUnchanged model on s g (lines_of scans (ongoing_reasons scans group o ++ rs))
+    by Nothing rs h = absurd (false≢true h)
+    by (Hold task serial from) rs h = h
+    by (Busy task first) rs h = absurd (false≢true h)

@@ -7,15 +7,18 @@ use Rattle.lp_transition.specs.declared.event.Event.{Event}
 use Rattle.lp_transition.specs.Events.{is_control}
 use Rattle.lp_transition.specs.Weigh.{Weighed, refusal_in}
 use Rattle.lp_transition.specs.Leg.{Leg}
-use Rattle.lp_transition.specs.Run.{Run, first_leg, leg_of, opens, next_leg}
+use Rattle.lp_transition.specs.Run.{Run, plus, first_leg, leg_of, opens, next_leg}
 use Rattle.lp_transition.specs.Schedule.{waits, first_check}
 use Rattle.lp_transition.specs.Machine.{state_of}
+use Rattle.lp_transition.specs.Steps.{StandsIn}
+use Rattle.lp_transition.specs.Table.{Engine, LastScan, state_in}
+use Rattle.lp_transition.specs.LastScan.{IsLastScanAfter}
 use Rattle.lp_cert.specs.declared.cert.Claim.TheVariants.{Floor}
 use Rattle.lp_cert.specs.declared.cert.Cert.{Cert}
 use Rattle.lp_cert.specs.declared.cert.CertHead.{CertHead}
 use Rattle.lp_cert.specs.declared.leg_end.LegEnd.{LegEnd}
 use Rattle.lp_cert.specs.Certificates.{completion, certs_of, lines, opened_legs}
-use Rattle.lp_cert.specs.LastScan.{LastScan, AreUnchangedBy}
+use Rattle.lp_cert.specs.Unchanged.{AreUnchangedBy}
 
 -- the event opens a leg: it is a control event, and was accepted
 abbrev pub is_opening : Weighed → Bool
@@ -31,20 +34,17 @@ pub record Room : Type 0 where
 abbrev pub room_for : Weighed → Room
 room_for step = record { event = step.event; verdicts = length step.verdicts; opens = is_opening step }
 
--- the ends of the legs that ended, the end of the leg under way as it stands, the event for which there is room, and the
--- groups that a scan needn't look at
+-- the ends of the legs that ended, the end of the leg under way as it stands, and the event for which there is room
 pub record Made : Type 0 where
   pub ended : List LegEnd
   pub current : Option LegEnd
   pub ready : Option Room
-  pub last_scan : LastScan
 
 -- nothing is made yet
 pub record IsFresh (made : Made) : Type 0 where
   pub ended : made.ended ≡ []
   pub current : made.current ≡ None
   pub ready : made.ready ≡ None
-  pub last_scan : made.last_scan.kind ≡ None
 
 -- a certificate without its lines
 abbrev pub cert_head : Cert → CertHead
@@ -94,9 +94,22 @@ module _ (model : Rules) where
   pub record IsMadeOf (run : Run) (made : Made) : Type 0 where
     pub ended : made.ended ≡ map end_of (drop 1 (ended_legs (first_leg model run) run.events))
     pub current : made.current ≡ option_map end_of (under_way (ended_legs (first_leg model run) run.events) (leg_of model run))
+
+  -- and the groups are unchanged to which, as the engine knows it, nothing happened since the last scan
+  pub record IsMadeWith (run : Run) (last_scan : LastScan) (made : Made) : Type 0 where
+    pub of_run : IsMadeOf run made
+    pub open of_run use {ended, current}
     pub unchanged :
         AreUnchangedBy model (state_of model (leg_of model run)) (lines model (leg_of model run) (length (leg_of model run).events))
-        made.last_scan
+        last_scan
+
+  -- what is made follows an event: if it was that of a run that stood in one engine, it is that of the run with the event in
+  -- each engine that the event can leave
+  abbrev pub IsMadeFurther : (old : Engine) → Event → (before after : Made) → Type 0
+  IsMadeFurther old event before after =
+      (run : Run) (new : Engine) → StandsIn model run (state_in old) → IsMadeWith run old.last_scan before →
+      StandsIn model (plus run event) (state_in new) → IsLastScanAfter model old event new →
+      IsMadeWith (plus run event) new.last_scan after
 
   -- ---- The leg under way
 

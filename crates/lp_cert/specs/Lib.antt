@@ -8,5 +8,4 @@ pub mod Waiters
 pub mod Ends
 pub mod Invariant
 pub mod Unchanged
-pub mod LastScan
 pub mod inside

@@ -1,44 +1,34 @@
--- Groups that a scan needn't look at again: it refused a member, and nothing happened to that member since.
-use Rattle.std.specs.Prelude.{◌≡◌, ℕ, ◌<◌, Bool, true, false, List, ◌∷◌, Some, None, nat_eq}
+-- Groups that a scan needn't look at again: their newest line goes on once more when it refuses them.
+use Rattle.std.specs.Prelude.{◌≡◌, ℕ, Bool, true, false, List, ◌∷◌, Option, Some, None, nat_eq}
+use Rattle.lp_numbers.specs.Numbers.{has}
 use Rattle.lp_model.specs.declared.check.CheckKind.{CheckKind}
-use Rattle.lp_model.specs.declared.check.Blame.{Blame}
 use Rattle.lp_model.specs.declared.check.Blame.TheVariants as blame
 use Rattle.lp_model.specs.Rules.{Rules}
 use Rattle.lp_transition.specs.Tasks.{Live}
 use Rattle.lp_transition.specs.Leg.{Standing, State}
-use Rattle.lp_transition.specs.Machine.{view_of}
+use Rattle.lp_transition.specs.Table.{LastScan}
+use Rattle.lp_transition.specs.Blames.{has_frame_in, first_blamed_in}
 use Rattle.lp_cert.specs.declared.line.Line.{Line}
 use Rattle.lp_cert.specs.declared.line.Line.TheVariants.{Hold, Busy}
-use Rattle.lp_transition.specs.Blames.{has_frame_in}
 
--- the newest line continues if the group is refused again, blaming this task so: a hold of its frame, which is still there, or
--- the task is busy
-abbrev pub Continues : (has_frame : (task serial : ℕ) → Bool) → (task : ℕ) → Blame → List Line → Type 0
-Continues has_frame t why (Hold group task serial from to ∷ older) = (task.0 ≡ t) × (has_frame t serial ≡ true)
-Continues has_frame t why (Busy group task at ∷ older) = (task.0 ≡ t) × (why ≡ blame.Busy)
-Continues has_frame t why _ = ⊥
-
--- the newest line is that a member is busy
-abbrev pub says_busy : List Line → Bool
-says_busy (Busy group task at ∷ older) = true
-says_busy _ = false
-
--- a scan of this kind refuses the member of the group that its newest line names, and the line continues; where the line is that
--- the member is busy, the scan refuses no member of a lesser number
-pub record IsUnchanged (model : Rules) (kind : CheckKind) (s : State) (lines : List Line) (group : ℕ) : Type 0 where
-  pub member : ℕ
-  pub life : Standing
-  pub live : s.tasks member ≡ Live life
-  pub grouped : life.group ≡ group
-  pub why : Blame
-  pub refused : model.blame kind (view_of member life) s.aim ≡ Some why
-  pub continues : Continues (has_frame_in s) member why lines
-  pub first :
-      says_busy lines ≡ true → (u : ℕ) (y : Standing) → s.tasks u ≡ Live y → y.group ≡ group → u < member →
-      model.blame kind (view_of u y) s.aim ≡ None
+-- the newest line of the group goes on if a scan of this kind refuses the group: a hold whose frame is still on its task's
+-- stack, or that a member is busy, where it is the first that such a scan refuses
+abbrev pub IsUnchanged : Rules → CheckKind → State → (group : ℕ) → List Line → Type 0
+IsUnchanged model kind s group (Hold g task serial from to ∷ older) = has_frame_in s task.0 serial ≡ true
+IsUnchanged model kind s group (Busy g task at ∷ older) = first_blamed_in model s kind group ≡ Some (task.0, blame.Busy)
+IsUnchanged model kind s group _ = ⊥
 
 -- the waiting groups outside this set are unchanged
-abbrev pub AreUnchanged : Rules → State → (lines : ℕ → List Line) → CheckKind → (changed_since : ℕ → Bool) → Type 0
-AreUnchanged model s lines kind changed_since =
-    (t : ℕ) (x : Standing) → s.tasks t ≡ Live x → nat_eq x.level s.target ≡ false → changed_since x.group ≡ false →
-    IsUnchanged model kind s (lines x.group) x.group
+abbrev pub AreUnchanged : Rules → State → (lines : ℕ → List Line) → CheckKind → (changed : ℕ → Bool) → Type 0
+AreUnchanged model s lines kind changed =
+    (t : ℕ) (x : Standing) → s.tasks t ≡ Live x → nat_eq x.level s.target ≡ false → changed x.group ≡ false →
+    IsUnchanged model kind s x.group (lines x.group)
+
+-- where there was a scan
+abbrev pub AreUnchangedSince : Rules → State → (lines : ℕ → List Line) → Option CheckKind → (changed : ℕ → Bool) → Type 0
+AreUnchangedSince model s lines None changed = Unit {0}
+AreUnchangedSince model s lines (Some kind) changed = AreUnchanged model s lines kind changed
+
+-- the waiting groups are unchanged to which nothing happened since the last scan
+abbrev pub AreUnchangedBy : Rules → State → (lines : ℕ → List Line) → LastScan → Type 0
+AreUnchangedBy model s lines last_scan = AreUnchangedSince model s lines last_scan.kind (has last_scan.changed)

@@ -8,6 +8,5 @@ pub mod Invariant
 pub mod Kept
 pub mod Parts
 pub mod LastScan
-pub mod Touched
 pub mod Waiters
 pub mod WholeScans

@@ -17,7 +17,7 @@ mod ongoing;
 mod open_leg;
 mod reason;
 mod reasons;
-mod unchanged;
+mod told;
 mod waiter_steps;
 mod waiters;
 

@@ -1,15 +1,12 @@
 //! The maker of certificates.
-ghost use Rattle.std.specs.Prelude.{◌≡◌, ◌+◌, ◌-◌, ◌<◌, [], ◌∷◌, ◌++◌, true, Some, None, Err, IsTrue, ◌↔◌, ◌≤◌, length, vec_len, vec_capacity, option_to_list, is_some, IfOk, IfSome, OnOk};
+ghost use Rattle.std.specs.Prelude.{◌≡◌, ◌+◌, ◌-◌, ◌<◌, [], ◌∷◌, ◌++◌, true, Some, None, IsTrue, ◌≤◌, length, vec_len, vec_capacity, option_to_list, is_some, IfOk, IfSome, OnOk};
 ghost use Rattle.lp_transition.specs.Events.{is_control, is_scan};
 ghost use Rattle.lp_transition.specs.Plain.{is_plain};
-ghost use Rattle.lp_transition.specs.Run.{Run, new_target, plus};
-ghost use Rattle.lp_transition.specs.Steps.{StandsIn};
+ghost use Rattle.lp_transition.specs.Run.{new_target};
+ghost use Rattle.lp_transition.specs.declared.event.Event.{Event};
 ghost use Rattle.lp_transition.specs.Table.{state_in};
-ghost use Rattle.lp_transition.specs.Weigh.{IsWeighed, may_allocate};
-ghost use Rattle.lp_transition.specs.Machine.{answer};
-ghost use Rattle.lp_transition.specs.declared.engine.step.Halt.TheVariants.{NoMemory, JournalFull};
-ghost use Rattle.lp_cert.specs.Ends.{IsFresh, IsMadeOf, floor_in, is_complete_in, is_opening, room_for, waiting_in};
-ghost use Rattle.lp_cert.specs.LastScan.{Suffices};
+ghost use Rattle.lp_transition.specs.Weigh.{IsWeighed};
+ghost use Rattle.lp_cert.specs.Ends.{IsFresh, IsMadeFurther, floor_in, is_complete_in, is_opening, room_for, waiting_in};
 ghost use Rattle.lp_cert.specs.Invariant.{open_end};
 ghost use Rattle.lp_cert.specs.inside.Invariant.{HasClosing, HasFloor, HasFloors, IsClosing, IsNoted, leg_at, waiting_cert};
 ghost use Rattle.lp_cert.specs.Waiters.{WaitingGroups};
@@ -21,13 +18,12 @@ mod quiet;
 use crate::cert::{Cert, Claim};
 use crate::leg_end::{CertList, LegEnd};
 use crate::open_leg::{Completion, OpenLeg};
-use crate::unchanged::Unchanged;
 use crate::waiter_steps::untold;
 use crate::waiters::Waiters;
-use lp_model::{CheckKind, Consistency};
+use lp_model::Consistency;
 use lp_numbers::NumberSet;
 use lp_stack::GroupId;
-use lp_transition::{Core, Event, Halt, Step, What};
+use lp_transition::{Core, Event, Step, What};
 use std::alloc::{AllocError, Global};
 use std::marker::Model;
 
@@ -45,13 +41,12 @@ pub(crate) struct Ready {
 /// Makes the certificates of a run, event by event: why each group still waits, and why no leg was
 /// complete before it was.
 ///
-/// Contracts see the ends of the legs that ended, the end of the leg under way as it stands, the
-/// event for which there is room, and the groups that a scan needn't look at.
+/// Contracts see the ends of the legs that ended, the end of the leg under way as it stands, and the
+/// event for which there is room.
 pub struct Maker {
     ended: Vec<LegEnd>,
     current: Option<OpenLeg>,
     waiters: Waiters,
-    unchanged: Unchanged,
     /// Within a scan the groups of which it found anything: kept here, so that a scan needs no memory.
     told: NumberSet,
     /// The number of the last event noted.
@@ -69,7 +64,6 @@ impl Drop for Maker {
             ended: _,
             current: _,
             waiters: _,
-            unchanged: _,
             told: _,
             noted: _,
             ready: _,
@@ -87,7 +81,7 @@ impl Model for Maker {
 
     ghost Value = { Made };
 
-    ghost view = { λ m. record { ended = m.ended.items; current = option_map (open_end m.noted m.waiters) m.current; ready = option_map room_of m.ready; last_scan = m.unchanged } };
+    ghost view = { λ m. record { ended = m.ended.items; current = option_map (open_end m.noted m.waiters) m.current; ready = option_map room_of m.ready } };
 
     ghost invariant = { λ m. IsMaker m.current m.waiters (vec_capacity m.ended - vec_len m.ended) m.closing m.ready };
 }
@@ -101,39 +95,11 @@ impl Maker {
             ended: Vec::new(alloc),
             current: None,
             waiters: Waiters::new(alloc)?,
-            unchanged: Unchanged::new(alloc)?,
             told: NumberSet::new(alloc)?,
             noted: 0,
             ready: None,
             closing: None,
         })
-    }
-
-    /// An event, weighed on the engine of which all is noted here; a walk or a stop after a look at
-    /// those groups alone that a scan of its kind may judge otherwise than before, and of each at as
-    /// many members as tell the first that is refused. NoMemory where an allocation failed, JournalFull where no event is left.
-    pub fn weigh<M: Consistency>(
-        &self,
-        alloc: Global,
-        core: &Core<M>,
-        event: Event,
-    ) -> Result<Step, Halt>
-        requires made { (run : Run) × StandsIn M.rules run (state_in core.now) × IsMadeOf M.rules run self.now }
-        ensures full { (result ≡ Err JournalFull) ↔ (1000000 ≤ core.now.number) }
-        ensures memory { result ≡ Err NoMemory → IsTrue (may_allocate event (answer M.rules (state_in core.now) event).what) }
-        ensures weighed { IfOk result (λ step. IsWeighed M.rules core.now step) }
-        ensures event { IfOk result (λ step. step.event ≡ event) }
-        ensures suffices { IfOk result (λ step. Suffices M.rules (state_in core.now) step self.now.last_scan) }
-    {
-        let kind = match event {
-            Event::Walk => CheckKind::Walk,
-            Event::Stop => CheckKind::Stop,
-            _ => return core.weigh_any(alloc, event),
-        };
-        match self.unchanged.asked(kind) {
-            Some(asked) => core.weigh_first_refusals(alloc, kind, asked),
-            None => core.weigh_any(alloc, event),
-        }
     }
 
     /// Makes room for an event that was weighed on the engine, which takes all the memory that
@@ -147,7 +113,6 @@ impl Maker {
         ensures ended { self.new.ended ≡ self.old.ended }
         ensures current { self.new.current ≡ self.old.current }
         ensures ready { OnOk result (self.new.ready ≡ Some (room_for step.now)) }
-        ensures last_scan { self.new.last_scan ≡ self.old.last_scan }
     {
         self.ready = None;
         let verdicts = step.verdicts().len();
@@ -170,12 +135,12 @@ impl Maker {
     }
 
     /// Notes an event that was weighed on the engine, before the engine takes it, however it was weighed: where a scan's
-    /// verdicts leave out a group of which it isn't known here why it waits on, each task is looked at here once more.
-    /// Never allocates.
+    /// verdicts leave out a group to which something may have happened since the last one, each task is looked at here
+    /// once more. Never allocates.
     pub fn note<M: Consistency>(&mut self, core: &Core<M>, step: &Step)
         requires weighed { IsWeighed M.rules core.now step.now }
         requires ready { self.old.ready ≡ Some (room_for step.now) }
-        ensures made { (run : Run) → StandsIn M.rules run (state_in core.now) → IsMadeOf M.rules run self.old → IsMadeOf M.rules (plus run step.now.event) self.new }
+        ensures made { IsMadeFurther M.rules core.now step.now.event self.old self.new }
     {
         let number = core.events() as u32 + 1;
         let Some(ready) = self.ready.take() else {
@@ -185,24 +150,14 @@ impl Maker {
         self.noted = number;
         if !ready.opens {
             let Some(leg) = &mut self.current else {
-                self.unchanged.reset();
                 return;
             };
-            step_leg(
-                core,
-                step,
-                number,
-                leg,
-                &mut self.waiters,
-                &mut self.unchanged,
-                &mut self.told,
-            );
+            step_leg(core, step, number, leg, &mut self.waiters, &mut self.told);
             return;
         }
         let Some(closing) = self.closing.take() else {
             unreachable!()
         };
-        self.unchanged.reset();
         let next = opened(core, step, number);
         self.waiters.open(core, next.target);
         end_leg(&mut self.ended, noted, self.current, closing);
@@ -240,25 +195,15 @@ impl Maker {
         cert_of(alloc, Claim::Floor, leg, self.noted, &self.waiters, group)
     }
 
-    /// Notes a call, a return, a sleep, a wake-up or an entry into the kernel, before the engine
-    /// takes it. Such an event switches no group and is no check, so nothing has to be weighed.
+    /// Notes a call, a return, a sleep, a wake-up or an entry into the kernel, whichever it is, before the
+    /// engine takes it. Such an event switches no group and is no check, so nothing has to be weighed.
     /// Never allocates.
-    pub fn note_plain<M: Consistency>(&mut self, core: &Core<M>, event: Event)
-        requires plain { is_plain event ≡ true }
+    pub fn note_plain<M: Consistency>(&mut self, core: &Core<M>)
         requires room { core.now.number < 1000000 }
-        ensures made { (run : Run) → StandsIn M.rules run (state_in core.now) → IsMadeOf M.rules run self.old → IsMadeOf M.rules (plus run event) self.new }
+        ensures made { (event : Event) → is_plain event ≡ true → IsMadeFurther M.rules core.now event self.old self.new }
         ensures ready { self.new.ready ≡ self.old.ready }
     {
         self.noted = core.events() as u32 + 1;
-        let Some(leg) = self.current else {
-            self.unchanged.reset();
-            return;
-        };
-        if leg.completed.is_some() {
-            self.unchanged.reset();
-            return;
-        }
-        self.unchanged.touch(core, event, self.waiters.reasons());
     }
 
     /// The end of the leg under way as it stands, if there is one; AllocError where an allocation
@@ -282,7 +227,6 @@ impl Maker {
             mut ended,
             current,
             waiters,
-            unchanged: _,
             told: _,
             noted,
             ready: _,
@@ -321,7 +265,6 @@ fn step_leg<M: Consistency>(
     number: u32,
     leg: &mut OpenLeg,
     waiters: &mut Waiters,
-    unchanged: &mut Unchanged,
     told: &mut NumberSet,
 )
     requires weighed { IsWeighed M.rules core.now step.now }
@@ -331,27 +274,22 @@ fn step_leg<M: Consistency>(
     requires room { length step.now.verdicts + 1 < waiters.old.reasons.room }
     requires all_room { is_scan step.now.event ≡ true → length waiters.old.reasons.heads ≤ waiters.old.reasons.room }
     requires scan_room { 0 < waiters.old.reasons.scan_room }
-    ensures noted { IsNoted M.rules core.now step.now number leg.old leg.new waiters.old waiters.new unchanged.old unchanged.new }
+    ensures noted { IsNoted M.rules core.now step.now number leg.old leg.new waiters.old waiters.new }
     ensures floor { HasFloor waiters.new leg.new.completed }
 {
     if leg.completed.is_some() {
-        unchanged.reset();
         return;
     }
     if step.reply().completed {
-        unchanged.reset();
         leg.completed = Some(Completion {
             at: number,
             floor: waiters.least(),
         });
         return;
     }
-    match untold(core, step, waiters, unchanged, told) {
-        Some(kind) => {
-            unchanged.reset();
-            waiters.step_whole(core, step, kind);
-        }
-        None => waiters.step_waiters(core, step, unchanged, told),
+    match untold(core, step, waiters, told) {
+        Some(kind) => waiters.step_whole(core, step, kind),
+        None => waiters.step_waiters(core, step),
     }
 }
 

@@ -7,14 +7,14 @@ ghost use Rattle.lp_numbers.specs.Numbers.{has};
 ghost use Rattle.lp_transition.specs.Scan.{verdicts_of};
 ghost use Rattle.lp_transition.specs.Table.{state_in};
 ghost use Rattle.lp_transition.specs.Weigh.{IsWeighed, refusal_in};
-ghost use Rattle.lp_cert.specs.LastScan.{used_kind, used_scan};
-ghost use Rattle.lp_cert.specs.inside.LastScan.{AreToldOf, IsLastScanAfter, is_of_group};
+ghost use Rattle.lp_transition.specs.LastScan.{used_kind, used_scan};
+ghost use Rattle.lp_cert.specs.inside.LastScan.{AreToldOf, is_of_group};
 ghost use Rattle.lp_cert.specs.inside.Invariant.{with_verdicts};
 ghost use Rattle.lp_cert.specs.inside.StepLines.{stepped_lines, after_scan_kind, noted_lines};
 ghost use Rattle.lp_cert.specs.inside.Waiters.{AreStanding, HasFewGroups, HasHeadFor, HasHeads, IsUsedVerdict, after_switch, lines_at, own_lines};
 
 use crate::head::OwnFork;
-use crate::unchanged::{Unchanged, take_in_all, used_scan};
+use crate::told::{take_in_all, used_scan};
 use crate::waiters::Waiters;
 use lp_model::{CheckKind, Consistency, ForkKind, Verdict};
 use lp_numbers::NumberSet;
@@ -23,31 +23,21 @@ use lp_transition::{Core, Event, Step, What};
 
 impl Waiters {
     /// An event that was weighed and opens no leg. Never allocates.
-    pub(crate) fn step_waiters<M: Consistency>(
-        &mut self,
-        core: &Core<M>,
-        step: &Step,
-        unchanged: &mut Unchanged,
-        told: &mut NumberSet,
-    )
+    pub(crate) fn step_waiters<M: Consistency>(&mut self, core: &Core<M>, step: &Step)
         requires weighed { IsWeighed M.rules core.now step.now }
         requires wide { HasHeads self.old }
         requires child { HasHeadFor step.now.event self.old.reasons }
         requires room { length step.now.verdicts + 1 < self.old.reasons.room }
         requires scan_room { 0 < self.old.reasons.scan_room }
-        requires told { IsSome (used_scan M.rules step.now.event) → (group : ℕ) → has told.old group ≡ list_any (is_of_group core.now group) step.now.verdicts }
         ensures lines { (group : ℕ) → lines_at self.new group ≡ stepped_lines M.rules core.now step.now self.old group }
         ensures few { IsNone (refusal_in step.now.reply.what) → HasFewGroups core.now step.now.event }
         ensures stood { IsSome (used_scan M.rules step.now.event) → IsNone (refusal_in step.now.reply.what) → AreStanding self.old }
-        ensures stands { AreStanding self.new }
-        ensures unchanged { IsLastScanAfter M.rules core.now step.now.event step.now.verdicts self.new.reasons unchanged.old unchanged.new }
     {
         let what = &step.reply().what;
         if !matches!(what, What::Refused(_)) {
             self.affect(core, step);
             self.switch(what);
         }
-        unchanged.note(core, step.event(), step.verdicts(), self.reasons(), told);
     }
 
     /// A scan of this kind that was weighed and opens no leg, of which it isn't known of each group
@@ -181,23 +171,20 @@ impl Waiters {
 }
 
 /// The kind of a scan that the model uses, where a group waits of which the scan found nothing, and
-/// of which it isn't known from the last scan what it would have found. The set has the groups of
-/// which such a scan found anything then.
+/// to which something may have happened since the last scan. The set is of use within the call alone.
 pub(crate) fn untold<M: Consistency>(
     core: &Core<M>,
     step: &Step,
     waiters: &Waiters,
-    unchanged: &Unchanged,
     told: &mut NumberSet,
 ) -> Option<CheckKind>
     ensures used { IfSome result (λ kind. used_scan M.rules step.now.event ≡ Some kind) }
-    ensures enough { result ≡ None → AreToldOf M.rules core.now step.now.event waiters.now unchanged.now step.now.verdicts }
-    ensures told { IsSome (used_scan M.rules step.now.event) → (group : ℕ) → has told.new group ≡ list_any (is_of_group core.now group) step.now.verdicts }
+    ensures enough { result ≡ None → AreToldOf M.rules core.now step.now.event waiters.now step.now.verdicts }
 {
     let kind = used_scan(&core.model(), step.event())?;
     told.clear();
     take_in_all(core, step.verdicts(), told);
-    let is_told = match unchanged.asked(kind) {
+    let is_told = match core.changed_since(kind) {
         Some(asked) => waiters.are_told(asked, told),
         None => waiters.all_told(told),
     };

@@ -17,6 +17,7 @@ ghost use Rattle.lp_cert.specs.Invariant.{floor_waiters};
 ghost use Rattle.lp_cert.specs.Waiters.{head_of, waiter_in, waiters_of};
 ghost use Rattle.lp_cert.specs.inside.Waiters.{AreBare, HasHeadFor, HasHeads, IsAboveChild, AreHeads, AreStanding, StandsAt, IsJudged, AreJudged, IsUsedVerdict, is_left, after_birth, has_off, lines_at, scanned_lines, AreTakenIn, IsTakenIn};
 
+mod held;
 mod whole;
 
 use crate::cert_lines::CertLines;
@@ -255,18 +256,9 @@ impl Waiters {
         requires scan_room { 0 < self.old.reasons.scan_room }
         ensures lines { (s : State) (group : ℕ) → lines_at self.new group ≡ scanned_lines s at [] self.old group }
         ensures stood { AreStanding self.old }
-        ensures stands { AreStanding self.new }
     {
         let _ = &self.groups;
         self.reasons.scanned(at);
-    }
-
-    /// The reasons of all groups.
-    pub(crate) fn reasons(&self) -> &Reasons
-        ensures reasons { result.now ≡ self.now.reasons }
-        ensures stand { AreStanding self.now }
-    {
-        &self.reasons
     }
 }
 
@@ -357,7 +349,7 @@ fn is_left(waiting: &GroupSet, refused: &NumberSet, group: GroupId) -> bool
 }
 
 /// Of a hold that continues, whether its frame is still on its task's stack.
-pub(crate) fn has_standing_frame<M: Consistency>(core: &Core<M>, ongoing: Ongoing) -> bool
+fn has_standing_frame<M: Consistency>(core: &Core<M>, ongoing: Ongoing) -> bool
     ensures { HasFrameAs (has_frame_in (state_in core.now)) ongoing result }
 {
     let Ongoing::Hold { task, serial, .. } = ongoing else {

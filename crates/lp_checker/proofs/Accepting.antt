@@ -10,7 +10,7 @@ use Rattle.lp_transition.specs.declared.event.Event.TheVariants.{Call, Fork, Die
 use Rattle.lp_transition.specs.Tasks.{first_of, tests}
 use Rattle.lp_transition.specs.Leg.{Standing}
 use Rattle.lp_transition.specs.Machine.{outlines_of, refusal_of}
-use Rattle.lp_transition.specs.Table.{Engine, Table, slot, standings, state_in, bounds_of}
+use Rattle.lp_transition.specs.Table.{Engine, Table, slot, standings, state_in, bounds_of, no_scan}
 use Rattle.lp_transition.proofs.Accept.{IsLive, call-room, fork-live, fork-new, fork-positive, die-live}
 
 -- what an event finds is the same under every model: one that admits everybody stands for them
@@ -31,7 +31,7 @@ module _ (patches : Patches) (table : Table) where
 
   -- an engine with these tasks, of any model
   abbrev pub engine : Engine
-  engine = record { number = 0; from = 0; target = 0; patches = patches; table = table; blames = [] }
+  engine = record { number = 0; from = 0; target = 0; patches = patches; table = table; blames = []; last_scan = no_scan }
 
   call_too : (t : TaskId) (f : SymId) → Accepts (Call t f) → refusal_of any_model (state_in engine) (Call t f) ≡ None
   unfolding refusal_of

@@ -6,12 +6,13 @@ use Rattle.std.proofs.lemmas.Bool.{false≢true}
 use Rattle.std.proofs.lemmas.List.{append-nil, take_all, take_more, take-append-drop}
 use Rattle.lp_model.specs.Rules.{Rules}
 use Rattle.lp_transition.specs.declared.event.Event.{Event}
+use Rattle.lp_transition.specs.Table.{LastScan}
 use Rattle.lp_transition.specs.Leg.{Leg}
 use Rattle.lp_transition.specs.Run.{Run, and_then, first_leg, is_complete_now, leg_after, leg_of, next_leg, opened, opens, plus}
 use Rattle.lp_cert.specs.declared.leg_end.LegEnd.{LegEnd}
 use Rattle.lp_cert.specs.declared.cert.Cert.{Cert}
 use Rattle.lp_cert.specs.Certificates.{certs_by, completion, legs}
-use Rattle.lp_cert.specs.Ends.{Made, IsMadeOf, end_of, ended_legs, is_complete_in, under_way}
+use Rattle.lp_cert.specs.Ends.{Made, IsMadeOf, IsMadeWith, end_of, ended_legs, is_complete_in, under_way}
 use Rattle.lp_cert.proofs.Completions.{certs_kept, completion_below, completion_up}
 use Rattle.lp_cert.proofs.Tellings.{legs_made}
 use Rattle.lp_replay.specs.Outcome.{leg_ends}
@@ -96,13 +97,13 @@ module _ (model : Rules) where
 
   -- ---- With so many of these events
 
-  pub made_first : (run : Run) (made : Made) → IsMadeOf model run made → IsMadeOf model (longer run []) made
-  made_first run made is = subst (λ (es : List Event). IsMadeOf model (record run { events = es }) made) (sym (append-nil run.events)) is
+  pub made_first : (run : Run) (last_scan : LastScan) (made : Made) → IsMadeWith model run last_scan made → IsMadeWith model (longer run []) last_scan made
+  made_first run last_scan made is = subst (λ (es : List Event). IsMadeWith model (record run { events = es }) last_scan made) (sym (append-nil run.events)) is
 
-  pub made_more : (run : Run) (events : List Event) (i : ℕ) (d : Event) (made : Made) → i < length events → IsMadeOf model (plus (longer run (take i events)) (get_or events i d)) made → IsMadeOf model (longer run (take (i + 1) events)) made
-  made_more run events i d made below is =
+  pub made_more : (run : Run) (events : List Event) (i : ℕ) (d : Event) (last_scan : LastScan) (made : Made) → i < length events → IsMadeWith model (plus (longer run (take i events)) (get_or events i d)) last_scan made → IsMadeWith model (longer run (take (i + 1) events)) last_scan made
+  made_more run events i d last_scan made below is =
       let same : run.events ++ take (i + 1) events ≡ (run.events ++ take i events) ++ get_or events i d ∷ [] = ap (λ l. run.events ++ l) (take_more events i d below) ∙ sym (append_assoc run.events (take i events) (get_or events i d ∷ [])) in
-      subst (λ (es : List Event). IsMadeOf model (record run { events = es }) made) (sym same) is
+      subst (λ (es : List Event). IsMadeWith model (record run { events = es }) last_scan made) (sym same) is
 
   -- the leg ended by one of them
   pub ended_early : (run : Run) (events : List Event) (i : ℕ) (made : Made) → IsMadeOf model (longer run (take i events)) made → 0 < length made.ended → first_made made ≡ slice_get (leg_ends model (first_leg model run) (run.events ++ events)) 0

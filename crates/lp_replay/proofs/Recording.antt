@@ -15,8 +15,8 @@ use Rattle.lp_transition.specs.Steps.{StandsIn, IsStep}
 use Rattle.lp_transition.specs.Table.{Engine, state_in}
 use Rattle.lp_stays.specs.Invariant.{Counted}
 use Rattle.lp_stays.specs.Counts.{Counts}
-use Rattle.lp_cert.specs.Ends.{Made, IsFresh, IsMadeOf}
-use Rattle.lp_cert.proofs.Tellings.{begins}
+use Rattle.lp_cert.specs.Ends.{Made, IsFresh, IsMadeWith}
+use Rattle.lp_cert.proofs.Tellings.{begun_with}
 use Rattle.lp_replay.specs.inside.Recording.{Recorded, is_refused, is_opened, IsRecorded}
 
 -- ---- One event more
@@ -86,7 +86,7 @@ ok_weaker P Q f (Err e) h = tt
 module _ (model : Rules) where
   -- what is kept after an event is that of the longer run
   pub recorded : (run : Run) (event : Event) (kept : Recorded) (given : Reply) (core : Engine) (made : Made) (count : Counted)
-      → IsRecorded model run kept → Counts model (plus run event) count → IsStep model (state_in kept.core) event given (state_in core) → IsMadeOf model (plus run event) made
+      → IsRecorded model run kept → Counts model (plus run event) count → IsStep model (state_in kept.core) event given (state_in core) → IsMadeWith model (plus run event) core.last_scan made
       → IsRecorded model (plus run event) (record { core = core; made = made; replies = kept.replies ++ given ∷ []; stays = count })
   recorded run event kept given core made count is counts step longer =
       record {
@@ -97,12 +97,12 @@ module _ (model : Rules) where
       }
 
   -- a run before its first event
-  pub none_recorded : (run : Run) (kept : Recorded) → IsFresh kept.made → kept.replies ≡ [] → run.events ≡ [] → StandsIn model run (state_in kept.core) → Counts model run kept.stays → IsRecorded model run kept
+  pub none_recorded : (run : Run) (kept : Recorded) → IsFresh kept.made → kept.core.last_scan.kind ≡ None → kept.replies ≡ [] → run.events ≡ [] → StandsIn model run (state_in kept.core) → Counts model run kept.stays → IsRecorded model run kept
   unfolding replies
-  none_recorded run kept fresh empty none stands counts =
+  none_recorded run kept fresh unscanned empty none stands counts =
       record {
         stands = stands;
-        made = begins model run kept.made none fresh;
+        made = begun_with model run kept.core.last_scan kept.made none unscanned fresh;
         replied = empty ∙ sym (ap (replies model (first_leg model run)) none);
         counts = counts;
       }

@@ -22,7 +22,7 @@ use Rattle.lp_transition.specs.Steps.{StandsIn}
 use Rattle.lp_transition.specs.inside.Invariant.{IsEngine}
 use Rattle.lp_transition.specs.Boot.{boot_fault, boot_refusal}
 use Rattle.lp_transition.specs.declared.engine.blames.StandingBlame.{StandingBlame}
-use Rattle.lp_transition.specs.Table.{Table, Engine, state_in, bounds_of, slot, fate_at, standings, IsWide}
+use Rattle.lp_transition.specs.Table.{Table, Engine, state_in, bounds_of, slot, fate_at, standings, IsWide, LastScan}
 use Rattle.lp_transition.specs.inside.Table.{IsBlank, with_task, is_off}
 use Rattle.lp_transition.proofs.Runs.{started}
 use Rattle.lp_transition.proofs.WholeRun.{start_sound}
@@ -176,8 +176,8 @@ one_put model boots i boot table new x free h at small is made put =
 -- ---- The engine that starts
 
 -- an engine at its start
-abbrev pub at_start : Patches → Table → List (Option StandingBlame) → Engine
-at_start patches table blames = record { number = 0; from = 0; target = 0; patches = patches; table = table; blames = blames }
+abbrev pub at_start : Patches → Table → List (Option StandingBlame) → LastScan → Engine
+at_start patches table blames last = record { number = 0; from = 0; target = 0; patches = patches; table = table; blames = blames; last_scan = last }
 
 -- a run with no event so far
 abbrev pub new_run : Patches → List (TaskId × Class) → Run
@@ -194,10 +194,10 @@ unfolding leg_after
 at_start-stands model patches boots now in_range is = record { in_range = in_range; there = is ∙ sym (started model (new_run patches boots)) }
 
 -- where the tasks of the list are put, and nobody waits
-pub starts : (model : Rules) → IsLawful model → (patches : Patches) (boots : List (TaskId × Class)) (table : Table) (blames : List (Option StandingBlame)) (waiting : Numbers) → ArePut model boots table → IsEmpty waiting → length waiting ≡ 65536 → HasStarted model patches boots (at_start patches table blames) waiting
-starts model lawful patches boots table blames waiting put none long =
+pub starts : (model : Rules) → IsLawful model → (patches : Patches) (boots : List (TaskId × Class)) (table : Table) (blames : List (Option StandingBlame)) (last : LastScan) (waiting : Numbers) → ArePut model boots table → IsEmpty waiting → length waiting ≡ 65536 → HasStarted model patches boots (at_start patches table blames last) waiting
+starts model lawful patches boots table blames last waiting put none long =
     let first = start model (bounds_of patches) patches boots in
-    let state : state_in (at_start patches table blames) ≡ first.opening = ap {A = ℕ → Fate Standing} {B = State} (λ tasks. record { number = 0; bounds = bounds_of patches; from = 0; aim = record { patches = patches; target = 0 }; tasks = tasks }) put.live in
+    let state : state_in (at_start patches table blames last) ≡ first.opening = ap {A = ℕ → Fate Standing} {B = State} (λ tasks. record { number = 0; bounds = bounds_of patches; from = 0; aim = record { patches = patches; target = 0 }; tasks = tasks }) put.live in
     record {
       kept = record {
         sound = subst IsSound (sym state) (start_sound model lawful (bounds_of patches) patches boots put.in_range);
@@ -209,5 +209,5 @@ starts model lawful patches boots table blames waiting put none long =
         number_fits = omega arith;
       };
       state = state;
-      stands = at_start-stands model patches boots (state_in (at_start patches table blames)) put.in_range state;
+      stands = at_start-stands model patches boots (state_in (at_start patches table blames last)) put.in_range state;
     }

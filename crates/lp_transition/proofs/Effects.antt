@@ -11,7 +11,7 @@ use Rattle.lp_transition.specs.Tasks.{Fate, change}
 use Rattle.lp_transition.specs.Leg.{Standing, State}
 use Rattle.lp_transition.specs.Sound.{IsSound}
 use Rattle.lp_transition.specs.Machine.{refusal_of, switches_at, affected, next, own_effect}
-use Rattle.lp_transition.specs.Table.{Table, Engine, IsWide, slot, standings, state_in}
+use Rattle.lp_transition.specs.Table.{Table, Engine, LastScan, IsWide, slot, standings, state_in}
 use Rattle.lp_transition.specs.inside.Table.{changed, is_off}
 use Rattle.lp_transition.specs.inside.Invariant.{IsEngine}
 use Rattle.lp_transition.proofs.States.{next_keeps_sound}
@@ -26,6 +26,23 @@ with_table table e = record e { number = e.number + 1; table = table }
 pub record HasTaken (model : Rules) (old : Engine) (event : Event) (new : Engine) (waiting : Numbers) : Type 0 where
   pub kept : IsEngine new waiting
   pub state : state_in new ≡ next model (state_in old) event
+
+-- the same engine, where something else is known of its last scan
+pub with_scan : (model : Rules) (old new : Engine) (event : Event) (waiting : Numbers) (last : LastScan) → HasTaken model old event new waiting → HasTaken model old event (record new { last_scan = last }) waiting
+with_scan model old new event waiting last taken =
+    let kept = taken.kept in
+    record {
+      kept = record {
+        sound = kept.sound;
+        wide = kept.wide;
+        waiting_wide = kept.waiting_wide;
+        waits = kept.waits;
+        from_fits = kept.from_fits;
+        target_fits = kept.target_fits;
+        number_fits = kept.number_fits;
+      };
+      state = taken.state;
+    }
 
 -- the state of an engine whose table stands for these tasks
 pub state-with_table : (e : Engine) (table : Table) (tasks : ℕ → Fate Standing) → standings table ≡ tasks → state_in (with_table table e) ≡ (let s = state_in e in record s { number = suc s.number; tasks = tasks })

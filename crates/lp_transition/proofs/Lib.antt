@@ -55,6 +55,7 @@ pub mod ScanSwitches
 pub mod ScanTakes
 pub mod Admitted
 pub mod Unchanged
+pub mod LastScans
 pub mod BlameLists
 pub mod Blames
 pub mod BlamedScans

@@ -1,6 +1,6 @@
 -- Scans that may leave out every group that waits.
-use Rattle.std.proofs.Common.{◌≡◌, ◌↔◌, ℕ, ◌<◌, Bool, true, false, not, ◌&&◌, List, [], Option, Some, None, refl, sym, ap, ap₂, subst, inl, ◌∙◌, arith}
-use Rattle.std.proofs.lemmas.Bool.{false≢true}
+use Rattle.std.proofs.Common.{◌≡◌, ◌↔◌, ℕ, ◌<◌, Bool, true, false, not, ◌&&◌, List, [], Option, Some, None, refl, sym, ap, ap₂, subst, inl, inr, ⊎_elim, ◌∙◌, arith}
+use Rattle.std.proofs.lemmas.Bool.{false≢true, cases_Bool}
 use mathlib.Core.Path.{fun_ext}
 use Rattle.lp_numbers.specs.Numbers.{Numbers, has}
 use Rattle.lp_model.specs.Rules.{Rules, IsLawful}
@@ -14,22 +14,24 @@ use Rattle.lp_transition.specs.Events.{is_scan}
 use Rattle.lp_transition.specs.Run.{switched}
 use Rattle.lp_transition.specs.Sound.{IsSound}
 use Rattle.lp_transition.specs.Steps.{IsStep}
-use Rattle.lp_transition.specs.Blames.{or_blame, HasBlamesAfter}
+use Rattle.lp_transition.specs.Blames.{or_blame, is_open, HasBlamesAfter}
 use Rattle.lp_transition.specs.Scan.{is_scan_kind, scan_event, verdicts_of, is_asked, verdicts_among, passing, MayLeaveOut}
-use Rattle.lp_transition.specs.Table.{Table, Engine, state_in}
+use Rattle.lp_transition.specs.LastScan.{IsLastScanAfter}
+use Rattle.lp_transition.specs.Table.{Table, Engine, LastScan, state_in}
 use Rattle.lp_transition.specs.Weigh.{Weighed, IsWeighed}
 use Rattle.lp_transition.specs.inside.Blames.{blame_at}
-use Rattle.lp_transition.specs.inside.Invariant.{LastScan, IsWhole}
+use Rattle.lp_transition.specs.inside.Invariant.{KeptScan, IsNoted, IsWhole, told_scan}
 use Rattle.lp_transition.specs.inside.ScanSteps.{is_judged, AreSwitched, switches_by, all_admit, tasks_of}
 use Rattle.lp_transition.proofs.AskedScans.{asked_none, among-enough, left-out, switches-among, completes-among}
-use Rattle.lp_transition.proofs.Blames.{Leaves}
+use Rattle.lp_transition.proofs.Blames.{Leaves, blamed_out}
 use Rattle.lp_transition.proofs.BlamedScans.{leaves_scanned, blame_within}
-use Rattle.lp_transition.proofs.Effects.{HasTaken, with_table}
+use Rattle.lp_transition.proofs.Effects.{HasTaken, with_table, with_scan}
 use Rattle.lp_transition.proofs.Runs.{is_step}
 use Rattle.lp_transition.proofs.ScanAnswers.{answer-scan, born-scan, still, verdicts-scan}
-use Rattle.lp_transition.proofs.ScanTakes.{takes_scan}
+use Rattle.lp_transition.proofs.ScanTakes.{takes_scan, group_fits}
 use Rattle.lp_transition.proofs.TableLemmas.{slot_from_live}
 use Rattle.lp_transition.proofs.Unchanged.{core_scanned}
+use Rattle.lp_transition.proofs.LastScans.{last_scanned}
 
 -- the scan, answered by no verdict
 abbrev pub quiet_step : CheckKind → Weighed
@@ -86,30 +88,69 @@ or_none : (o : Option StandingBlame) → o ≡ or_blame o None
 or_none None = refl
 or_none (Some b) = refl
 
-module _ (model : Rules) (lawful : IsLawful model) (e old : Engine) (waiting : Numbers) (last : LastScan) (on : CheckKind) (was : e ≡ old) (whole : IsWhole model e waiting last) (scan : is_scan_kind on ≡ true) (room : old.number < 1000000) (quiet : MayLeaveOut model on (state_in old) (λ group. false)) where
+-- what is known after the scan where it was of the last one's kind, and so admitted nobody whom that one might refuse
+noted_none : (on : CheckKind) (waiting : Numbers) (last left : KeptScan) → last.kind ≡ Some on → left.kind ≡ last.kind → left.may_refuse ≡ last.may_refuse → IsNoted on waiting [] last left
+noted_none on waiting last left before kind may_refuse = record {
+  noted = kind ∙ before;
+  doubted = last.may_refuse;
+  begun = inl (before, refl);
+  left = λ t. ap (λ (set : Numbers). has set t) may_refuse ∙ kept_and (has last.may_refuse t);
+}
+
+module _ (model : Rules) (lawful : IsLawful model) (e old : Engine) (waiting : Numbers) (last left : KeptScan) (on : CheckKind) (was : e ≡ old) (whole : IsWhole model e waiting last) (scan : is_scan_kind on ≡ true) (room : old.number < 1000000) (quiet : MayLeaveOut model on (state_in old) (λ group. false)) where
   weighed : IsWeighed model old (quiet_step on)
   weighed = quiet_weighed model lawful on old (subst (λ (o : Engine). IsSound (state_in o)) was whole.engine.sound) scan room quiet
 
-  taken : HasTaken model old (scan_event on) (with_table e.table e) waiting
-  taken = takes_scan model lawful e old e.table waiting waiting (quiet_step on) (λ group. false) was whole.engine weighed (event_scans on) (λ group h. refl) (nobody_goes e.target e.table waiting)
+  taken : HasTaken model old (scan_event on) (record (with_table e.table e) { last_scan = told_scan left }) waiting
+  taken =
+      with_scan model old (with_table e.table e) (scan_event on) waiting (told_scan left)
+      (takes_scan model lawful e old e.table waiting waiting (quiet_step on) (λ group. false) was whole.engine weighed (event_scans on) (λ group h. refl) (nobody_goes e.target e.table waiting))
 
-  leaves_blames : Leaves model old (scan_event on) [] (with_table e.table e)
+  leaves_blames : Leaves model old (scan_event on) [] (record (with_table e.table e) { last_scan = told_scan left })
   leaves_blames =
-      leaves_scanned model lawful e old (with_table e.table e) waiting waiting (quiet_step on) was whole.engine whole.blamed taken weighed (event_scans on)
+      leaves_scanned model lawful e old (record (with_table e.table e) { last_scan = told_scan left }) waiting waiting (quiet_step on) was whole.engine whole.blamed taken weighed (event_scans on)
       (λ g h. or_none (blame_at e.blames g))
       (λ g b there. blame_within e.blames g b whole.groups there)
 
-  -- the engine keeps what it has to
-  pub quiet_whole : IsWhole model (with_table e.table e) waiting last
-  quiet_whole = record {
-    core = core_scanned model lawful e old (with_table e.table e) waiting waiting (scan_event on) last last was whole.core taken on scan refl [] weighed.verdicts (inl refl);
-    groups = whole.groups;
-    blamed = leaves_blames.blamed;
-  }
-
   -- the step is that of every run that stands here
-  pub quiet_steps : IsStep model (state_in old) (scan_event on) (record { what = Done; completed = false }) (state_in (with_table e.table e))
-  quiet_steps = is_step model lawful (state_in old) (state_in (with_table e.table e)) (scan_event on) (record { what = Done; completed = false }) weighed.reply taken.state
+  pub quiet_steps : IsStep model (state_in old) (scan_event on) (record { what = Done; completed = false }) (state_in (record (with_table e.table e) { last_scan = told_scan left }))
+  quiet_steps = is_step model lawful (state_in old) (state_in (record (with_table e.table e) { last_scan = told_scan left })) (scan_event on) (record { what = Done; completed = false }) weighed.reply taken.state
 
-  pub quiet_blames : HasBlamesAfter model old (scan_event on) (with_table e.table e)
+  pub quiet_blames : HasBlamesAfter model old (scan_event on) (record (with_table e.table e) { last_scan = told_scan left })
   quiet_blames = record { verdicts = []; enough = weighed.verdicts; blames = leaves_blames.after }
+
+  module _ (told : e.last_scan ≡ told_scan last) (same : old.last_scan.kind ≡ Some on) (kind : left.kind ≡ last.kind) (may_refuse : left.may_refuse ≡ last.may_refuse) where
+    noted : IsNoted on waiting [] last left
+    noted = noted_none on waiting last left (sym (ap (λ (l : LastScan). l.kind) told) ∙ (ap (λ (o : Engine). o.last_scan.kind) was ∙ same)) kind may_refuse
+
+    -- the engine keeps what it has to: each group that waits is refused
+    pub quiet_whole : IsWhole model (record (with_table e.table e) { last_scan = told_scan left }) waiting left
+    quiet_whole = record {
+      core = core_scanned model lawful e old (record (with_table e.table e) { last_scan = told_scan left }) waiting waiting (scan_event on) last left was whole.core taken on scan refl [] weighed.verdicts (inr noted);
+      groups = whole.groups;
+      blamed = leaves_blames.blamed;
+    }
+
+    -- and it tells of this scan
+    pub quiet_last : model.uses on ≡ true → IsLastScanAfter model old (scan_event on) (record (with_table e.table e) { last_scan = told_scan left })
+    quiet_last used =
+        last_scanned model e old (record (with_table e.table e) { last_scan = told_scan left }) waiting (scan_event on) last left was told refl taken on true scan refl (sym used)
+        (λ yes. noted.noted)
+        (λ no. absurd (false≢true (sym no)))
+
+-- ---- Whom it may leave out
+
+-- where each group to which something happened since the last scan has a standing blame
+pub blamed_quiet : (model : Rules) → IsLawful model → (e old : Engine) (waiting : Numbers) (last : KeptScan) (on : CheckKind) (changed : Numbers) → e ≡ old → IsWhole model e waiting last
+    → MayLeaveOut model on (state_in old) (has changed) → ((group : ℕ) → group < 65536 → has changed group ≡ true → is_open old group ≡ false) → MayLeaveOut model on (state_in old) (λ group. false)
+blamed_quiet model lawful e old waiting last on changed was whole others blamed t x live off out =
+    ⊎_elim
+    (λ (touched : has changed x.group ≡ true). refused t x live off (blamed x.group few touched))
+    (λ (still_out : has changed x.group ≡ false). others t x live off still_out)
+    (cases_Bool (has changed x.group))
+  where
+    few : x.group < 65536
+    few = group_fits e t x whole.engine.sound whole.engine.wide (slot_from_live e.table t x (ap (λ (o : Engine). (state_in o).tasks t) was ∙ live))
+
+    refused : MayLeaveOut model on (state_in old) (is_open old)
+    refused = subst (λ (o : Engine). MayLeaveOut model on (state_in o) (is_open o)) was (blamed_out model lawful e on whole.engine.sound whole.blamed)

@@ -22,7 +22,7 @@ use Rattle.lp_transition.proofs.Effects.{HasTaken, sound_next}
 
 -- the engine turned to another level
 abbrev pub turned_to : ℕ → Engine → Engine
-turned_to level e = record { number = e.number + 1; from = e.target; target = level; patches = e.patches; table = e.table; blames = e.blames }
+turned_to level e = record { number = e.number + 1; from = e.target; target = level; patches = e.patches; table = e.table; blames = e.blames; last_scan = e.last_scan }
 
 -- each live task is on a level
 module _ (e : Engine) (waiting : Numbers) (kept : IsEngine e waiting) (level : ℕ) where

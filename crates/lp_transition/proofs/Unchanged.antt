@@ -23,7 +23,7 @@ use Rattle.lp_transition.specs.Table.{Table, Engine, IsWide, slot, standings, st
 use Rattle.lp_transition.specs.Scan.{is_scan_kind, scan_event, verdicts_of, RefusesMember, MayLeaveOut, AreEnough}
 use Rattle.lp_transition.specs.Weigh.{child_of, born_by, born_of, AreVerdictsFor}
 use Rattle.lp_transition.specs.inside.Table.{is_off, is_in, with_task}
-use Rattle.lp_transition.specs.inside.Invariant.{IsEngine, LastScan, AreUnchanged, IsNoted, IsCore}
+use Rattle.lp_transition.specs.inside.Invariant.{IsEngine, KeptScan, AreUnchanged, IsNoted, IsCore}
 use Rattle.lp_transition.specs.inside.Points.{point_event}
 use Rattle.lp_transition.specs.inside.ScanSteps.{is_found, switches_by, admits_task}
 use Rattle.lp_transition.proofs.EngineLemmas.{next-refused, next-accepted}
@@ -56,7 +56,7 @@ live_from f Unused x e = absurd (cc)
 live_from f (Live y) x e = (y, refl, cc)
 live_from f Dead x e = absurd (cc)
 
-none_some : {A : Type 0} (a : A) → None ≡ Some a → ⊥
+pub none_some : {A : Type 0} (a : A) → None ≡ Some a → ⊥
 none_some a e = absurd (cc)
 
 module _ (model : Rules) (s : State) (event : Event) where
@@ -91,7 +91,7 @@ module _ (model : Rules) (s : State) (event : Event) where
   switched_not y stays = cond-false (switches_at model now event y.group) (record y { level = s.target }) y stays
 
   -- who waits afterwards stands as after the event's own effect, and its group didn't switch
-  left : (t : ℕ) (x : Standing) → (with_switches model s event).tasks t ≡ Live x → nat_eq x.level s.target ≡ false → (now.tasks t ≡ Live x) × (switches_at model now event x.group ≡ false)
+  pub left : (t : ℕ) (x : Standing) → (with_switches model s event).tasks t ≡ Live x → nat_eq x.level s.target ≡ false → (now.tasks t ≡ Live x) × (switches_at model now event x.group ≡ false)
   left t x live off =
       let w = live_from (switched_task model now event) (now.tasks t) x live in
       let stays = not_switched w.0 (switches_at model now event w.0.group) refl (ap (λ y. nat_eq y.level s.target) w.2 ∙ off) in
@@ -99,20 +99,30 @@ module _ (model : Rules) (s : State) (event : Event) where
       (w.1 ∙ ap Live same, ap (λ y. switches_at model now event y.group) (sym same) ∙ stays)
 
   -- to whom nothing happens, and whose group doesn't switch, stands as before
-  stands_still : (t : ℕ) (x : Standing) → touches event t ≡ false → s.tasks t ≡ Live x → switches_at model now event x.group ≡ false → (with_switches model s event).tasks t ≡ Live x
+  pub stands_still : (t : ℕ) (x : Standing) → touches event t ≡ false → s.tasks t ≡ Live x → switches_at model now event x.group ≡ false → (with_switches model s event).tasks t ≡ Live x
   stands_still t x apart live stays =
       ap (map_live (switched_task model now event)) (own_same event t apart ∙ live) ∙ ap Live (switched_not x stays)
 
   -- the groups of those to whom something happens are in the set before it and after it, and no group left the set; so too with those tasks
-  pub record TakesIn (old new : LastScan) : Type 0 where
+  pub record TakesIn (old new : KeptScan) : Type 0 where
     pub keeps : (group : ℕ) → has new.changed group ≡ false → has old.changed group ≡ false
     pub before : (t : ℕ) (x : Standing) → touches event t ≡ true → s.tasks t ≡ Live x → has new.changed x.group ≡ true
     pub after : (t : ℕ) (x : Standing) → touches event t ≡ true → (affected model s event).tasks t ≡ Live x → has new.changed x.group ≡ true
     pub spares : (t : ℕ) → has new.may_refuse t ≡ false → has old.may_refuse t ≡ false
     pub doubts : (t : ℕ) → touches event t ≡ true → has new.may_refuse t ≡ true
 
+  -- an event at which nothing happens to anybody, and nothing is noted
+  pub stays_in : (old new : KeptScan) → ((t : ℕ) → touches event t ≡ false) → new ≡ old → TakesIn old new
+  stays_in old new apart same = record {
+    keeps = λ group out. sym (ap (λ (l : KeptScan). has l.changed group) same) ∙ out;
+    before = λ t x hit live. absurd (false≢true (sym (apart t) ∙ hit));
+    after = λ t x hit live. absurd (false≢true (sym (apart t) ∙ hit));
+    spares = λ t out. sym (ap (λ (l : KeptScan). has l.may_refuse t) same) ∙ out;
+    doubts = λ t hit. absurd (false≢true (sym (apart t) ∙ hit));
+  }
+
   -- a group to which nothing happens is refused as before
-  still_out : (on : CheckKind) (old new : LastScan) → TakesIn old new → MayLeaveOut model on s (has old.changed) → MayLeaveOut model on (with_switches model s event) (has new.changed)
+  still_out : (on : CheckKind) (old new : KeptScan) → TakesIn old new → MayLeaveOut model on s (has old.changed) → MayLeaveOut model on (with_switches model s event) (has new.changed)
   still_out on old new takes was t x live off out =
       let w = left t x live off in
       let apart = false_from_ne_true (touches event t) (λ (hit : touches event t ≡ true). false≢true (sym out ∙ takes.after t x hit w.0)) in
@@ -134,7 +144,7 @@ module _ (model : Rules) (s : State) (event : Event) where
       record { member = r.member; life = r.life; live = r.live; off = r.off; grouped = r.grouped; refused = r.refused }
 
   -- what a scan told stands after an event
-  still_unchanged : (on : CheckKind) (old new : LastScan) → TakesIn old new → AreUnchanged model on s old → AreUnchanged model on (with_switches model s event) new
+  still_unchanged : (on : CheckKind) (old new : KeptScan) → TakesIn old new → AreUnchanged model on s old → AreUnchanged model on (with_switches model s event) new
   still_unchanged on old new takes was = record {
     left_out = still_out on old new takes was.left_out;
     admitted = λ t x live off out.
@@ -143,12 +153,12 @@ module _ (model : Rules) (s : State) (event : Event) where
         was.admitted t x (sym (own_same event t apart) ∙ w.0) off (takes.spares t out);
   }
 
-  counted_unchanged : (on : CheckKind) (old : LastScan) → AreUnchanged model on s old → AreUnchanged model on (counted model s) old
+  counted_unchanged : (on : CheckKind) (old : KeptScan) → AreUnchanged model on s old → AreUnchanged model on (counted model s) old
   counted_unchanged on old was = record { left_out = counted_out on (old.changed) was.left_out; admitted = was.admitted }
 
 -- ---- A scan
 
-scan_touches : (on : CheckKind) (t : ℕ) → touches (scan_event on) t ≡ false
+pub scan_touches : (on : CheckKind) (t : ℕ) → touches (scan_event on) t ≡ false
 scan_touches kind.Walk t = refl
 scan_touches kind.Stop t = refl
 scan_touches kind.KernelExit t = refl
@@ -194,7 +204,7 @@ module _ (model : Rules) (lawful : IsLawful model) (limit : ℕ) (s : State) (wi
       second false b h e = absurd (cc)
 
 -- who waits after a scan, and isn't among those that one of its kind may refuse, was admitted by it or by one before
-module _ (model : Rules) (s : State) (on : CheckKind) (verdicts : List Verdict) (enough : AreEnough model on s verdicts) (waiting : Numbers) (before after : LastScan) (noted : IsNoted on waiting verdicts before after) (was : ForSome before.kind (λ k. AreUnchanged model k s before)) where
+module _ (model : Rules) (s : State) (on : CheckKind) (verdicts : List Verdict) (enough : AreEnough model on s verdicts) (waiting : Numbers) (before after : KeptScan) (noted : IsNoted on waiting verdicts before after) (was : ForSome before.kind (λ k. AreUnchanged model k s before)) where
   scan_admits : (t : ℕ) (x : Standing) → (with_switches model s (scan_event on)).tasks t ≡ Live x → nat_eq x.level s.target ≡ false → has waiting t ≡ true → has after.may_refuse t ≡ false → model.blame on (view_of t x) s.aim ≡ None
   scan_admits t x live off waits out =
       let w = left model s (scan_event on) t x live off in
@@ -216,7 +226,7 @@ module _ (model : Rules) (s : State) (on : CheckKind) (verdicts : List Verdict) 
 
 -- ---- What code keeps
 
-module _ (model : Rules) (e old new : Engine) (waiting left_waiting : Numbers) (event : Event) (before after : LastScan) (was : e ≡ old) (core : IsCore model e waiting before) (taken : HasTaken model old event new left_waiting) where
+module _ (model : Rules) (e old new : Engine) (waiting left_waiting : Numbers) (event : Event) (before after : KeptScan) (was : e ≡ old) (core : IsCore model e waiting before) (taken : HasTaken model old event new left_waiting) where
   -- where it goes by no scan any longer
   pub core_forgets : after.kind ≡ None → IsCore model new left_waiting after
   core_forgets none = record { engine = taken.kept; unchanged = λ on some. absurd (none_some on (sym none ∙ some)) }
@@ -231,9 +241,9 @@ module _ (model : Rules) (e old new : Engine) (waiting left_waiting : Numbers) (
       record {
         engine = taken.kept;
         unchanged = λ on some.
-            subst (λ (l : LastScan). AreUnchanged model on (state_in new) l) (sym same)
+            subst (λ (l : KeptScan). AreUnchanged model on (state_in new) l) (sym same)
             (subst (λ (st : State). AreUnchanged model on st before) (sym there)
-            (counted_unchanged model (state_in e) event on before (core.unchanged on (ap (λ (l : LastScan). l.kind) (sym same) ∙ some))));
+            (counted_unchanged model (state_in e) event on before (core.unchanged on (ap (λ (l : KeptScan). l.kind) (sym same) ∙ some))));
       }
 
   module _ (accepted : refusal_of model (state_in old) event ≡ None) (plain : is_control event ≡ false) where
@@ -252,14 +262,7 @@ module _ (model : Rules) (e old new : Engine) (waiting left_waiting : Numbers) (
 
     -- a scan that the model doesn't use: nothing happens to anybody
     pub core_stays : ((t : ℕ) → touches event t ≡ false) → after ≡ before → IsCore model new left_waiting after
-    core_stays apart same =
-        core_takes (ap (λ (l : LastScan). l.kind) same) (λ some. record {
-          keeps = λ group out. sym (ap (λ (l : LastScan). has l.changed group) same) ∙ out;
-          before = λ t x hit live. absurd (false≢true (sym (apart t) ∙ hit));
-          after = λ t x hit live. absurd (false≢true (sym (apart t) ∙ hit));
-          spares = λ t out. sym (ap (λ (l : LastScan). has l.may_refuse t) same) ∙ out;
-          doubts = λ t hit. absurd (false≢true (sym (apart t) ∙ hit));
-        })
+    core_stays apart same = core_takes (ap (λ (l : KeptScan). l.kind) same) (λ some. stays_in model (state_in e) event before after apart same)
 
     -- who waits after the event is in the set of those that wait
     waits_after : (t : ℕ) (x : Standing) → (with_switches model (state_in e) event).tasks t ≡ Live x → nat_eq x.level (state_in e).target ≡ false → has left_waiting t ≡ true
@@ -286,17 +289,17 @@ module _ (model : Rules) (e old new : Engine) (waiting left_waiting : Numbers) (
         }
 
 -- nothing was forgotten, or all
-pub core_rests : (model : Rules) (new : Engine) (waiting : Numbers) (before after : LastScan) → IsCore model new waiting before → (after ≡ before) ⊎ (after.kind ≡ None) → IsCore model new waiting after
+pub core_rests : (model : Rules) (new : Engine) (waiting : Numbers) (before after : KeptScan) → IsCore model new waiting before → (after ≡ before) ⊎ (after.kind ≡ None) → IsCore model new waiting after
 core_rests model new waiting before after core done =
     ⊎_elim
-    (λ (same : after ≡ before). subst (λ (l : LastScan). IsCore model new waiting l) (sym same) core)
+    (λ (same : after ≡ before). subst (λ (l : KeptScan). IsCore model new waiting l) (sym same) core)
     (λ (none : after.kind ≡ None). record { engine = core.engine; unchanged = λ on some. absurd (none_some on (sym none ∙ some)) })
     done
 
 -- ---- What is noted of a task
 
 -- the task that stands at a place of a table, and its group
-abbrev pub Notes : Table → ℕ → LastScan → LastScan → Type 0
+abbrev pub Notes : Table → ℕ → KeptScan → KeptScan → Type 0
 Notes table a before after =
     ((group : ℕ) → has after.changed group ≡ (has before.changed group || (is_some before.kind && is_in group (slot table a))))
     × ((t : ℕ) → has after.may_refuse t ≡ (has before.may_refuse t || (is_some before.kind && nat_eq t a)))
@@ -305,7 +308,7 @@ first_out : (b c : Bool) → (b || c) ≡ false → b ≡ false
 first_out false c h = refl
 first_out true c h = h
 
-module _ (table : Table) (a : ℕ) (before after : LastScan) (noted : Notes table a before after) (some : is_some before.kind ≡ true) where
+module _ (table : Table) (a : ℕ) (before after : KeptScan) (noted : Notes table a before after) (some : is_some before.kind ≡ true) where
   kept_out : (group : ℕ) → has after.changed group ≡ false → has before.changed group ≡ false
   kept_out group out = first_out (has before.changed group) (is_some before.kind && is_in group (slot table a)) (sym (noted.0 group) ∙ out)
 
@@ -323,7 +326,7 @@ module _ (table : Table) (a : ℕ) (before after : LastScan) (noted : Notes tabl
       ∙ or_right (has before.changed x.group) (is_some before.kind && is_in x.group (slot table a))
       (and_from (is_some before.kind) (is_in x.group (slot table a)) some (ap (is_in x.group) there ∙ eq-eqb x.group x.group refl))
 
-module _ (model : Rules) (e : Engine) (event : Event) (before after : LastScan) where
+module _ (model : Rules) (e : Engine) (event : Event) (before after : KeptScan) where
   -- an event whose own effect is a change of a task, which keeps its group
   pub changes_in : (a : ℕ) (f : Standing → Standing) → Notes e.table a before after → ((t : ℕ) → touches event t ≡ nat_eq t a) → own_effect model.child_group (suc e.number) event (standings e.table) ≡ change a f (standings e.table) → ((x : Standing) → (f x).group ≡ x.group)
       → is_some before.kind ≡ true → TakesIn model (state_in e) event before after
@@ -348,7 +351,7 @@ module _ (model : Rules) (e : Engine) (event : Event) (before after : LastScan) 
       only_t t hit = cond-true (nat_eq t a) (map_live f (standings e.table t)) (standings e.table t) (at t hit)
 
 -- the end of a task
-pub dies_in : (model : Rules) (e : Engine) (a : TaskId) (before after : LastScan) → Notes e.table a.0 before after → is_some before.kind ≡ true → TakesIn model (state_in e) (Die a) before after
+pub dies_in : (model : Rules) (e : Engine) (a : TaskId) (before after : KeptScan) → Notes e.table a.0 before after → is_some before.kind ≡ true → TakesIn model (state_in e) (Die a) before after
 dies_in model e a before after noted some = record {
   keeps = kept_out e.table a.0 before after noted some;
   before = λ t x hit live. taken_in e.table a.0 before after noted some x (ap (slot e.table) (sym (eqb-true t a.0 hit)) ∙ slot_from_live e.table t x live);
@@ -361,7 +364,7 @@ dies_in model e a before after noted some = record {
     dead_live x e = absurd (cc)
 
 -- and a birth, which is noted of the table with the child
-pub bears_in : (model : Rules) (e : Engine) (p c : TaskId) (how : ForkKind) (x : Standing) (before after : LastScan) → IsWide e.table → c.0 < 65536 → refusal_of model (state_in e) (Fork p c how) ≡ None → born_of model (state_in e) (Fork p c how) ≡ Some x
+pub bears_in : (model : Rules) (e : Engine) (p c : TaskId) (how : ForkKind) (x : Standing) (before after : KeptScan) → IsWide e.table → c.0 < 65536 → refusal_of model (state_in e) (Fork p c how) ≡ None → born_of model (state_in e) (Fork p c how) ≡ Some x
     → Notes (with_task c.0 x e.table) c.0 before after → is_some before.kind ≡ true → TakesIn model (state_in e) (Fork p c how) before after
 bears_in model e p c how x before after wide h accepted born noted some = record {
   keeps = kept_out (with_task c.0 x e.table) c.0 before after noted some;
@@ -390,7 +393,7 @@ point_touches kind.Stop t u = refl
 
 -- ---- The engine with what it noted
 
-module _ (model : Rules) (e old new : Engine) (waiting left_waiting : Numbers) (event : Event) (before after : LastScan) (was : e ≡ old) (core : IsCore model e waiting before) (taken : HasTaken model old event new left_waiting) (accepted : refusal_of model (state_in old) event ≡ None) (kind : after.kind ≡ before.kind) where
+module _ (model : Rules) (e old new : Engine) (waiting left_waiting : Numbers) (event : Event) (before after : KeptScan) (was : e ≡ old) (core : IsCore model e waiting before) (taken : HasTaken model old event new left_waiting) (accepted : refusal_of model (state_in old) event ≡ None) (kind : after.kind ≡ before.kind) where
   -- after a change of a task
   pub core_changes : (a : ℕ) (f : Standing → Standing) → is_control event ≡ false → Notes e.table a before after → ((t : ℕ) → touches event t ≡ nat_eq t a) → own_effect model.child_group (suc e.number) event (standings e.table) ≡ change a f (standings e.table) → ((x : Standing) → (f x).group ≡ x.group)
       → IsCore model new left_waiting after
@@ -399,20 +402,20 @@ module _ (model : Rules) (e old new : Engine) (waiting left_waiting : Numbers) (
 
 -- ---- A scan that was taken
 
-scan_free : (model : Rules) (s : State) (on : CheckKind) → refusal_of model s (scan_event on) ≡ None
+pub scan_free : (model : Rules) (s : State) (on : CheckKind) → refusal_of model s (scan_event on) ≡ None
 unfolding refusal_of
 scan_free model s kind.Walk = refl
 scan_free model s kind.Stop = refl
 scan_free model s kind.KernelExit = refl
 scan_free model s kind.IdlePoint = refl
 
-scan_plain : (on : CheckKind) → is_control (scan_event on) ≡ false
+pub scan_plain : (on : CheckKind) → is_control (scan_event on) ≡ false
 scan_plain kind.Walk = refl
 scan_plain kind.Stop = refl
 scan_plain kind.KernelExit = refl
 scan_plain kind.IdlePoint = refl
 
-module _ (model : Rules) (lawful : IsLawful model) (e old new : Engine) (waiting left_waiting : Numbers) (event : Event) (before after : LastScan) (was : e ≡ old) (core : IsCore model e waiting before) (taken : HasTaken model old event new left_waiting) where
+module _ (model : Rules) (lawful : IsLawful model) (e old new : Engine) (waiting left_waiting : Numbers) (event : Event) (before after : KeptScan) (was : e ≡ old) (core : IsCore model e waiting before) (taken : HasTaken model old event new left_waiting) where
   -- after a scan, whether it was noted or not
   pub core_scanned : (on : CheckKind) → is_scan_kind on ≡ true → scan_event on ≡ event → (verdicts : List Verdict) → AreVerdictsFor model (state_in old) event verdicts → (after ≡ before) ⊎ IsNoted on left_waiting verdicts before after → IsCore model new left_waiting after
   core_scanned on scan is verdicts enough noted =
@@ -426,11 +429,11 @@ module _ (model : Rules) (lawful : IsLawful model) (e old new : Engine) (waiting
 
 -- ---- An engine that starts, and one that scans
 
-pub core_starts : (model : Rules) (e : Engine) (waiting : Numbers) (last : LastScan) → IsEngine e waiting → last.kind ≡ None → IsCore model e waiting last
+pub core_starts : (model : Rules) (e : Engine) (waiting : Numbers) (last : KeptScan) → IsEngine e waiting → last.kind ≡ None → IsCore model e waiting last
 core_starts model e waiting last kept none = record { engine = kept; unchanged = λ on some. absurd (none_some on (sym none ∙ some)) }
 
 -- a scan of the kind of the last one may leave out the groups that haven't changed
-pub leaves_out : (model : Rules) (e old : Engine) (waiting : Numbers) (last : LastScan) (on : CheckKind) (asked : Numbers) → e ≡ old → IsCore model e waiting last → (last.kind ≡ Some on) × (asked ≡ last.changed) → MayLeaveOut model on (state_in old) (has asked)
+pub leaves_out : (model : Rules) (e old : Engine) (waiting : Numbers) (last : KeptScan) (on : CheckKind) (asked : Numbers) → e ≡ old → IsCore model e waiting last → (last.kind ≡ Some on) × (asked ≡ last.changed) → MayLeaveOut model on (state_in old) (has asked)
 leaves_out model e old waiting last on asked was core told =
     subst (λ (o : Engine). MayLeaveOut model on (state_in o) (has asked)) was
     (subst (λ (set : Numbers). MayLeaveOut model on (state_in e) (has set)) (sym told.1) (core.unchanged on told.0).left_out)

@@ -17,4 +17,5 @@ pub mod Scan
 pub mod Boot
 pub mod Openings
 pub mod Blames
+pub mod LastScan
 pub mod inside

@@ -1,7 +1,8 @@
 -- What the engine keeps of the tasks: lists over their numbers, in place of a function.
-use Rattle.std.specs.Prelude.{◌≡◌, ℕ, Bool, true, false, List, length, Option, Some, None, slice_index_or}
+use Rattle.std.specs.Prelude.{◌≡◌, ℕ, Bool, true, false, List, [], length, Option, Some, None, slice_index_or}
 use Rattle.lp_numbers.specs.Numbers.{Numbers, has}
 use Rattle.lp_patch.specs.Patches.{Patches, symbols_of}
+use Rattle.lp_model.specs.declared.check.CheckKind.{CheckKind}
 use Rattle.lp_transition.specs.Tasks.{Fate, Unused, Live, Dead, Bounds}
 use Rattle.lp_transition.specs.Leg.{Standing, State}
 use Rattle.lp_transition.specs.declared.engine.blames.StandingBlame.{StandingBlame}
@@ -33,8 +34,17 @@ pub record IsWide (table : Table) : Type 0 where
 
 -- ---- The engine
 
+-- the kind of the leg's last scan that the model uses, if one is to be gone by, and the groups to which something happened since
+pub record LastScan : Type 0 where
+  pub kind : Option CheckKind
+  pub changed : Numbers
+
+-- nothing is known of a scan
+abbrev pub no_scan : LastScan
+no_scan = record { kind = None; changed = [] }
+
 -- what the engine keeps: the number of events so far, the levels from which and to which it goes, the patches, the tasks,
--- and for each group the frame by which it is known to be refused, if there is one
+-- for each group the frame by which it is known to be refused, if there is one, and what is known of the last scan
 pub record Engine : Type 0 where
   pub number : ℕ
   pub from : ℕ
@@ -42,6 +52,7 @@ pub record Engine : Type 0 where
   pub patches : Patches
   pub table : Table
   pub blames : List (Option StandingBlame)
+  pub last_scan : LastScan
 
 -- symbols are numbered below their count, tasks from 1 to 65,535
 abbrev pub task_numbers : ℕ → Bounds

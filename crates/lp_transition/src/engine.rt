@@ -54,7 +54,8 @@ pub const MOST_EVENTS: u32 = 1_000_000;
 /// The engine over a consistency model: it decides at each event which tasks switch.
 ///
 /// Contracts see what it keeps: the number of events so far, the levels from which and to which it
-/// goes, the patches, the tasks by their numbers, and the standing blames of the groups.
+/// goes, the patches, the tasks by their numbers, the standing blames of the groups, and what is
+/// known of the last scan.
 pub struct Core<M: Consistency> {
     model: M,
     patches: PatchStack,
@@ -87,13 +88,13 @@ impl<M: Consistency> Drop for Core<M> {
 
 impl<M: Consistency> Model for Core<M> {
     ghost use Rattle.lp_transition.specs.Table.{Engine};
-    ghost use Rattle.lp_transition.specs.inside.Invariant.{IsWhole};
+    ghost use Rattle.lp_transition.specs.inside.Invariant.{IsWhole, told_scan};
 
     ghost Value = { Engine };
 
-    ghost view = { λ c. record { number = c.events; from = c.from.0; target = c.target.0; patches = c.patches; table = c.tasks; blames = c.blames } };
+    ghost view = { λ c. record { number = c.events; from = c.from.0; target = c.target.0; patches = c.patches; table = c.tasks; blames = c.blames; last_scan = told_scan c.unchanged } };
 
-    ghost invariant = { λ c. IsWhole M.rules (record { number = c.events; from = c.from.0; target = c.target.0; patches = c.patches; table = c.tasks; blames = c.blames }) c.waiting c.unchanged };
+    ghost invariant = { λ c. IsWhole M.rules (record { number = c.events; from = c.from.0; target = c.target.0; patches = c.patches; table = c.tasks; blames = c.blames; last_scan = told_scan c.unchanged }) c.waiting c.unchanged };
 }
 
 impl<M: Consistency> Core<M> {

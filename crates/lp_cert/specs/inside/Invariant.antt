@@ -15,8 +15,8 @@ use Rattle.lp_cert.specs.declared.open_leg.Completion.{Completion}
 use Rattle.lp_cert.specs.declared.open_leg.OpenLeg.{OpenLeg}
 use Rattle.lp_cert.specs.declared.maker.Ready.{Ready}
 use Rattle.lp_cert.specs.inside.StepLines.{stepped_lines}
-use Rattle.lp_cert.specs.LastScan.{LastScan, used_scan}
-use Rattle.lp_cert.specs.inside.LastScan.{AreToldOf, IsLastScanAfter}
+use Rattle.lp_transition.specs.LastScan.{used_scan}
+use Rattle.lp_cert.specs.inside.LastScan.{AreToldOf}
 use Rattle.lp_cert.specs.Waiters.{WaitingGroups, kept_cert}
 use Rattle.lp_cert.specs.inside.Waiters.{AreHeads, AreStanding, HasFewGroups, HasHeadFor, HasHeads, lines_at}
 use Rattle.lp_cert.specs.Invariant.{claim_of, upto_of, floor_waiters, end_waiters}
@@ -92,27 +92,18 @@ pub record IsStepped (model : Rules) (e : Engine) (step : Weighed) (number : ℕ
       × (refusal_in step.reply.what ≡ None → HasFewGroups e step.event)
       × (IsSome (used_scan model step.event) → refusal_in step.reply.what ≡ None → AreStanding before)
 
--- which groups are unchanged after an event: none of a leg that is complete, and else as the event goes
-pub record IsUnchangedOn (model : Rules) (e : Engine) (step : Weighed) (old : OpenLeg) (after : WaitingGroups) (was is : LastScan) : Type 0 where
-  pub complete : (done : Completion) → old.completed ≡ Some done → is.kind ≡ None
-  pub completes : old.completed ≡ None → step.reply.completed ≡ true → is.kind ≡ None
-  pub continues :
-      old.completed ≡ None → step.reply.completed ≡ false →
-      AreStanding after × IsLastScanAfter model e step.event step.verdicts after.reasons was is
-
 -- the step with other verdicts
 abbrev pub with_verdicts : Weighed → List Verdict → Weighed
 with_verdicts step verdicts = record { event = step.event; reply = step.reply; verdicts = verdicts; born = step.born }
 
 -- an event may be noted by these verdicts: it may be answered by them, and where the leg continues they tell of each group that
 -- has changed
-pub record MayBeNotedBy (model : Rules) (e : Engine) (step : Weighed) (leg : OpenLeg) (waiters : WaitingGroups) (last_scan : LastScan) (verdicts : List Verdict) : Type 0 where
+pub record MayBeNotedBy (model : Rules) (e : Engine) (step : Weighed) (leg : OpenLeg) (waiters : WaitingGroups) (verdicts : List Verdict) : Type 0 where
   pub enough : AreVerdictsFor model (state_in e) step.event verdicts
-  pub told : leg.completed ≡ None → step.reply.completed ≡ false → AreToldOf model e step.event waiters last_scan verdicts
+  pub told : leg.completed ≡ None → step.reply.completed ≡ false → AreToldOf model e step.event waiters verdicts
 
 -- what an event that opens no leg makes of the one under way, by verdicts that tell enough: its own, or those of all who wait
-pub record IsNoted (model : Rules) (e : Engine) (step : Weighed) (number : ℕ) (old new : OpenLeg) (before after : WaitingGroups) (was is : LastScan) : Type 0 where
+pub record IsNoted (model : Rules) (e : Engine) (step : Weighed) (number : ℕ) (old new : OpenLeg) (before after : WaitingGroups) : Type 0 where
   pub verdicts : List Verdict
-  pub told : MayBeNotedBy model e step old before was verdicts
+  pub told : MayBeNotedBy model e step old before verdicts
   pub gone_on : IsStepped model e (with_verdicts step verdicts) number old new before after
-  pub unchanged : (is.kind ≡ None) ⊎ IsUnchangedOn model e (with_verdicts step verdicts) old after was is

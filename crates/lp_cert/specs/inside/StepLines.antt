@@ -9,7 +9,7 @@ use Rattle.lp_transition.specs.inside.ScanSteps.{groups_of}
 use Rattle.lp_transition.specs.Table.{Engine, state_in}
 use Rattle.lp_transition.specs.Weigh.{Weighed, refusal_in}
 use Rattle.lp_cert.specs.declared.line.Line.{Line}
-use Rattle.lp_cert.specs.LastScan.{used_scan}
+use Rattle.lp_transition.specs.LastScan.{used_scan}
 use Rattle.lp_cert.specs.Waiters.{WaitingGroups}
 use Rattle.lp_cert.specs.inside.Waiters.{after_switch, lines_at, own_lines, scanned_lines}
 

@@ -1,26 +1,28 @@
-//! Scans that find all as the last one of their kind left it.
-ghost use Rattle.std.specs.Prelude.{◌≡◌, ◌<◌, true, false, IsTrue};
-ghost use Rattle.lp_transition.specs.Run.{Run, plus};
+//! Scans that find each group kept back as it was.
+ghost use Rattle.std.specs.Prelude.{◌≡◌, ◌<◌, ℕ, true, false, Some, IsTrue};
+ghost use Rattle.lp_numbers.specs.Numbers.{has};
 ghost use Rattle.lp_transition.specs.Scan.{is_scan_kind, scan_event, MayLeaveOut};
-ghost use Rattle.lp_transition.specs.Steps.{StandsIn};
 ghost use Rattle.lp_transition.specs.Table.{state_in};
-ghost use Rattle.lp_cert.specs.Ends.{IsMadeOf};
+ghost use Rattle.lp_cert.specs.Ends.{IsMadeFurther};
+ghost use Rattle.lp_cert.specs.inside.LastScan.{IsHeld};
 
 use super::Maker;
+use crate::waiters::Waiters;
 use lp_model::{CheckKind, Consistency};
 use lp_transition::Core;
 
 impl Maker {
-    /// Notes a walk or a stop, before the engine takes it, if it may leave out every group that
-    /// waits: nothing changed since the last scan, which was of this kind. Says whether it did so; if
-    /// not, all is as it was, and the scan has to be weighed. That may be so for want of room alone.
-    /// Never allocates.
+    /// Notes a walk or a stop, before the engine takes it, if it may leave out every group that waits and
+    /// why each waits on is known: nothing happened to the group since the last scan, which was of this
+    /// kind, or a frame that holds it back is still there. Says whether it did so; if not, all is as it
+    /// was, and the scan has to be weighed. That may be so for want of room alone. Never allocates.
     pub fn note_quiet<M: Consistency>(&mut self, core: &Core<M>, kind: CheckKind) -> bool
         requires scan { is_scan_kind kind ≡ true }
         requires room { core.now.number < 1000000 }
-        requires made { (run : Run) × StandsIn M.rules run (state_in core.now) × IsMadeOf M.rules run self.old }
         ensures quiet { IsTrue result → MayLeaveOut M.rules kind (state_in core.now) (λ group. false) }
-        ensures made { IsTrue result → (run : Run) → StandsIn M.rules run (state_in core.now) → IsMadeOf M.rules run self.old → IsMadeOf M.rules (plus run (scan_event kind)) self.new }
+        ensures used { IsTrue result → IsTrue (M.rules.uses kind) }
+        ensures last { IsTrue result → core.now.last_scan.kind ≡ Some kind }
+        ensures made { IsTrue result → IsMadeFurther M.rules core.now (scan_event kind) self.old self.new }
         ensures ready { self.new.ready ≡ self.old.ready }
         ensures left { result ≡ false → self.new ≡ self.old }
     {
@@ -30,7 +32,10 @@ impl Maker {
         if leg.completed.is_some() || self.ready.is_some() {
             return false;
         }
-        if !self.unchanged.is_quiet(kind) || !core.model().uses(kind) {
+        if !core.model().uses(kind)
+            || !core.is_quiet(kind)
+            || !are_held(core, kind, &self.waiters)
+        {
             return false;
         }
         if !self.waiters.has_scan_room() {
@@ -39,5 +44,16 @@ impl Maker {
         self.noted = core.events() as u32 + 1;
         self.waiters.scan_nobody(u64::from(self.noted));
         true
+    }
+}
+
+/// Whether a frame still holds each group back to which something happened since the last scan, if that
+/// was of this kind.
+fn are_held<M: Consistency>(core: &Core<M>, kind: CheckKind, waiters: &Waiters) -> bool
+    ensures { IsTrue result → (group : ℕ) → group < 65536 → has core.now.last_scan.changed group ≡ true → IsHeld (state_in core.now) waiters.now.reasons group }
+{
+    match core.changed_since(kind) {
+        Some(changed) => waiters.are_held(core, changed),
+        None => false,
     }
 }

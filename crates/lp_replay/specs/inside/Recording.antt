@@ -12,7 +12,7 @@ use Rattle.lp_transition.specs.Table.{Engine, state_in}
 use Rattle.lp_stays.specs.Invariant.{Counted}
 use Rattle.lp_stays.specs.Counts.{Counts}
 use Rattle.lp_cert.specs.declared.leg_end.LegEnd.{LegEnd}
-use Rattle.lp_cert.specs.Ends.{Made, IsMadeOf}
+use Rattle.lp_cert.specs.Ends.{Made, IsMadeWith}
 
 -- ---- What is kept of a run
 
@@ -41,6 +41,6 @@ module _ (model : Rules) where
   -- what is kept is that of the run
   pub record IsRecorded (run : Run) (kept : Recorded) : Type 0 where
     pub stands : StandsIn model run (state_in kept.core)
-    pub made : IsMadeOf model run kept.made
+    pub made : IsMadeWith model run kept.core.last_scan kept.made
     pub replied : kept.replies ≡ replies model (first_leg model run) run.events
     pub counts : Counts model run kept.stays

@@ -3,7 +3,7 @@ ghost use Rattle.std.specs.Prelude.{◌≡◌, ◌≤◌, ◌+◌, ◌++◌, len
 ghost use Rattle.lp_transition.specs.Run.{Run, first_leg};
 ghost use Rattle.lp_transition.specs.Steps.{StandsIn};
 ghost use Rattle.lp_transition.specs.Table.{state_in};
-ghost use Rattle.lp_cert.specs.Ends.{IsMadeOf};
+ghost use Rattle.lp_cert.specs.Ends.{IsMadeWith};
 ghost use Rattle.lp_replay.specs.Outcome.{leg_ends, run_of};
 ghost use Rattle.lp_replay.specs.inside.Recording.{first_made};
 
@@ -41,8 +41,8 @@ fn take_first_leg<M: Consistency>(
     maker: &mut Maker,
     events: &[Event],
 ) -> Result<(), ReplayFault>
-    requires { (run : Run) × StandsIn M.rules run (state_in core.old) × IsMadeOf M.rules run maker.old × (length run.events + length events.now ≤ 1000000) }
-    ensures { OnOk result ((run : Run) → StandsIn M.rules run (state_in core.old) → IsMadeOf M.rules run maker.old → first_made maker.new ≡ slice_get (leg_ends M.rules (first_leg M.rules run) (run.events ++ events.now)) 0) }
+    requires { (run : Run) × StandsIn M.rules run (state_in core.old) × IsMadeWith M.rules run core.old.last_scan maker.old × (length run.events + length events.now ≤ 1000000) }
+    ensures { OnOk result ((run : Run) → StandsIn M.rules run (state_in core.old) → IsMadeWith M.rules run core.old.last_scan maker.old → first_made maker.new ≡ slice_get (leg_ends M.rules (first_leg M.rules run) (run.events ++ events.now)) 0) }
 {
     for event in events {
         take(alloc, core, maker, *event)?;

@@ -7,7 +7,7 @@ ghost use Rattle.lp_transition.specs.Scan.{is_scan_kind, scan_event};
 ghost use Rattle.lp_transition.specs.Stays.{stack};
 ghost use Rattle.lp_transition.specs.Steps.{IsStep, StandsIn};
 ghost use Rattle.lp_transition.specs.Table.{state_in};
-ghost use Rattle.lp_cert.specs.Ends.{IsMadeOf};
+ghost use Rattle.lp_cert.specs.Ends.{IsMadeWith};
 ghost use Rattle.lp_replay.specs.Outcome.{run_of, IsOutcome};
 ghost use Rattle.lp_replay.specs.inside.Recording.{IsRecorded};
 
@@ -125,14 +125,14 @@ pub(super) fn take<M: Consistency>(
     event: Event,
 ) -> Result<Reply, ReplayFault>
     requires room { core.old.number < 1000000 }
-    requires made { (run : Run) × StandsIn M.rules run (state_in core.old) × IsMadeOf M.rules run maker.old }
+    requires made { (run : Run) × StandsIn M.rules run (state_in core.old) × IsMadeWith M.rules run core.old.last_scan maker.old }
     ensures step { IfOk result (λ reply. IsStep M.rules (state_in core.old) event reply (state_in core.new)) }
-    ensures made { OnOk result ((run : Run) → StandsIn M.rules run (state_in core.old) → IsMadeOf M.rules run maker.old → IsMadeOf M.rules (plus run event) maker.new) }
+    ensures made { OnOk result ((run : Run) → StandsIn M.rules run (state_in core.old) → IsMadeWith M.rules run core.old.last_scan maker.old → IsMadeWith M.rules (plus run event) core.new.last_scan maker.new) }
 {
     if !event.is_plain() {
         return take_other(alloc, core, maker, event);
     }
-    maker.note_plain(core, event);
+    maker.note_plain(core);
     match core.step(alloc, event) {
         Ok(reply) => Ok(reply),
         Err(Halt::NoMemory) => Err(ReplayFault::NoMemory),
@@ -150,9 +150,9 @@ fn take_other<M: Consistency>(
     event: Event,
 ) -> Result<Reply, ReplayFault>
     requires room { core.old.number < 1000000 }
-    requires made { (run : Run) × StandsIn M.rules run (state_in core.old) × IsMadeOf M.rules run maker.old }
+    requires made { (run : Run) × StandsIn M.rules run (state_in core.old) × IsMadeWith M.rules run core.old.last_scan maker.old }
     ensures step { IfOk result (λ reply. IsStep M.rules (state_in core.old) event reply (state_in core.new)) }
-    ensures made { OnOk result ((run : Run) → StandsIn M.rules run (state_in core.old) → IsMadeOf M.rules run maker.old → IsMadeOf M.rules (plus run event) maker.new) }
+    ensures made { OnOk result ((run : Run) → StandsIn M.rules run (state_in core.old) → IsMadeWith M.rules run core.old.last_scan maker.old → IsMadeWith M.rules (plus run event) core.new.last_scan maker.new) }
 {
     match event {
         Event::Walk => take_scan(alloc, core, maker, CheckKind::Walk, event),
@@ -173,9 +173,9 @@ fn take_scan<M: Consistency>(
     requires scan { is_scan_kind kind ≡ true }
     requires event { event ≡ scan_event kind }
     requires room { core.old.number < 1000000 }
-    requires made { (run : Run) × StandsIn M.rules run (state_in core.old) × IsMadeOf M.rules run maker.old }
+    requires made { (run : Run) × StandsIn M.rules run (state_in core.old) × IsMadeWith M.rules run core.old.last_scan maker.old }
     ensures step { IfOk result (λ reply. IsStep M.rules (state_in core.old) (scan_event kind) reply (state_in core.new)) }
-    ensures made { OnOk result ((run : Run) → StandsIn M.rules run (state_in core.old) → IsMadeOf M.rules run maker.old → IsMadeOf M.rules (plus run (scan_event kind)) maker.new) }
+    ensures made { OnOk result ((run : Run) → StandsIn M.rules run (state_in core.old) → IsMadeWith M.rules run core.old.last_scan maker.old → IsMadeWith M.rules (plus run (scan_event kind)) core.new.last_scan maker.new) }
 {
     if maker.note_quiet(core, kind) {
         return Ok(core.step_quiet(kind));
@@ -183,8 +183,8 @@ fn take_scan<M: Consistency>(
     take_weighed(alloc, core, maker, event)
 }
 
-/// Takes an event of any kind: it is weighed, a scan by those alone that have to be asked, and noted
-/// as it was weighed.
+/// Takes an event of any kind: it is weighed, a scan by those alone to whom something happened since
+/// the last one, and noted as it was weighed.
 #[inline(never)]
 fn take_weighed<M: Consistency>(
     alloc: Global,
@@ -193,11 +193,11 @@ fn take_weighed<M: Consistency>(
     event: Event,
 ) -> Result<Reply, ReplayFault>
     requires room { core.old.number < 1000000 }
-    requires made { (run : Run) × StandsIn M.rules run (state_in core.old) × IsMadeOf M.rules run maker.old }
+    requires made { (run : Run) × StandsIn M.rules run (state_in core.old) × IsMadeWith M.rules run core.old.last_scan maker.old }
     ensures step { IfOk result (λ reply. IsStep M.rules (state_in core.old) event reply (state_in core.new)) }
-    ensures made { OnOk result ((run : Run) → StandsIn M.rules run (state_in core.old) → IsMadeOf M.rules run maker.old → IsMadeOf M.rules (plus run event) maker.new) }
+    ensures made { OnOk result ((run : Run) → StandsIn M.rules run (state_in core.old) → IsMadeWith M.rules run core.old.last_scan maker.old → IsMadeWith M.rules (plus run event) core.new.last_scan maker.new) }
 {
-    let step = match maker.weigh(alloc, core, event) {
+    let step = match core.weigh_changed(alloc, event) {
         Ok(step) => step,
         Err(Halt::NoMemory) => return Err(ReplayFault::NoMemory),
         Err(Halt::JournalFull) => unreachable!(),

@@ -22,7 +22,8 @@ pub(super) fn engine<M: Consistency>(
     model: M,
     trace: &Trace,
 ) -> Result<Box<Core<M>>, ReplayFault>
-    ensures { IfOk result (λ core. StandsIn M.rules (run_of trace.now) (state_in core.value)) }
+    ensures stands { IfOk result (λ core. StandsIn M.rules (run_of trace.now) (state_in core.value)) }
+    ensures unscanned { IfOk result (λ core. core.value.last_scan.kind ≡ None) }
 {
     let patches = stack(alloc, trace)?;
     let core = boot(alloc, model, patches, trace)?;
@@ -37,7 +38,8 @@ pub(super) fn boot<M: Consistency>(
     trace: &Trace,
 ) -> Result<Core<M>, ReplayFault>
     requires { patches ≡ (run_of trace.now).patches }
-    ensures { IfOk result (λ core. StandsIn M.rules (run_of trace.now) (state_in core)) }
+    ensures stands { IfOk result (λ core. StandsIn M.rules (run_of trace.now) (state_in core)) }
+    ensures unscanned { IfOk result (λ core. core.last_scan.kind ≡ None) }
 {
     match Core::boot(alloc, model, patches, trace.boots()) {
         Ok(core) => Ok(core),

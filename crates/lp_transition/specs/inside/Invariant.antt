@@ -9,7 +9,7 @@ use Rattle.lp_model.specs.declared.verdict.Verdict.{Verdict}
 use Rattle.lp_transition.specs.Leg.{State}
 use Rattle.lp_transition.specs.Scan.{MayLeaveOut}
 use Rattle.lp_transition.specs.Sound.{IsSound}
-use Rattle.lp_transition.specs.Table.{Engine, IsWide, state_in, slot}
+use Rattle.lp_transition.specs.Table.{Engine, LastScan, IsWide, state_in, slot}
 use Rattle.lp_transition.specs.inside.Table.{is_off}
 use Rattle.lp_transition.specs.inside.ScanSteps.{admits_task}
 use Rattle.lp_transition.specs.inside.Blames.{AreBlamed}
@@ -27,20 +27,24 @@ pub record IsEngine (engine : Engine) (waiting : Numbers) : Type 0 where
   pub number_fits : engine.number ≤ 1000000
 
 -- the kind of the leg's last scan, if one is to be gone by, the groups to which something happened since, and the tasks that a scan of this kind may refuse
-pub record LastScan : Type 0 where
+pub record KeptScan : Type 0 where
   pub kind : Option CheckKind
   pub changed : Numbers
   pub may_refuse : Numbers
 
+-- what contracts see of it
+abbrev pub told_scan : KeptScan → LastScan
+told_scan kept = record { kind = kept.kind; changed = kept.changed }
+
 -- what a scan of this kind told before stands
-pub record AreUnchanged (model : Rules) (kind : CheckKind) (s : State) (last : LastScan) : Type 0 where
+pub record AreUnchanged (model : Rules) (kind : CheckKind) (s : State) (last : KeptScan) : Type 0 where
   -- another one may leave out the groups to which nothing happened
   pub left_out : MayLeaveOut model kind s (has last.changed)
   -- and would admit each waiting task that isn't among those that it may refuse
   pub admitted : AdmitsOthers model kind s (has last.may_refuse)
 
 -- what is kept of a scan of a kind, by its verdicts and by who waits after it
-pub record IsNoted (on : CheckKind) (waiting : Numbers) (verdicts : List Verdict) (old new : LastScan) : Type 0 where
+pub record IsNoted (on : CheckKind) (waiting : Numbers) (verdicts : List Verdict) (old new : KeptScan) : Type 0 where
   pub noted : new.kind ≡ Some on
   -- whom it might refuse: if the last one was of this kind, whom that one might, else all that wait
   pub doubted : Numbers
@@ -49,12 +53,12 @@ pub record IsNoted (on : CheckKind) (waiting : Numbers) (verdicts : List Verdict
   pub left : (t : ℕ) → has new.may_refuse t ≡ (has doubted t && not (list_any (admits_task t) verdicts))
 
 -- an engine with what it keeps of its last scan
-pub record IsCore (model : Rules) (e : Engine) (waiting : Numbers) (last : LastScan) : Type 0 where
+pub record IsCore (model : Rules) (e : Engine) (waiting : Numbers) (last : KeptScan) : Type 0 where
   pub engine : IsEngine e waiting
   pub unchanged : ForSome last.kind (λ kind. AreUnchanged model kind (state_in e) last)
 
 -- the same, with the standing blames
-pub record IsWhole (model : Rules) (e : Engine) (waiting : Numbers) (last : LastScan) : Type 0 where
+pub record IsWhole (model : Rules) (e : Engine) (waiting : Numbers) (last : KeptScan) : Type 0 where
   pub core : IsCore model e waiting last
   pub open core use {engine, unchanged}
   pub groups : length e.blames ≤ 65536

@@ -65,6 +65,7 @@ impl<M: Consistency> Core<M> {
         ensures memory { boot_refusal tasks.now ≡ None → OnErr result (result ≡ Err NoMemory) }
         ensures started { IfOk result (λ core. state_in core ≡ (start M.rules (bounds_of patches) patches tasks.now).opening) }
         ensures blameless { IfOk result (λ core. (group : ℕ) → blame_of core group ≡ None) }
+        ensures unscanned { IfOk result (λ core. core.last_scan.kind ≡ None) }
         ensures stands { IfOk result (λ core. StandsIn M.rules (record { bounds = bounds_of patches; patches = patches; boots = tasks.now; events = [] }) (state_in core)) }
     {
         if let Some(fault) = first_fault(tasks) {
@@ -83,6 +84,7 @@ impl<M: Consistency> Core<M> {
         requires { boot_refusal tasks.now ≡ None }
         ensures started { IfOk result (λ core. state_in core ≡ (start M.rules (bounds_of patches) patches tasks.now).opening) }
         ensures blameless { IfOk result (λ core. (group : ℕ) → blame_of core group ≡ None) }
+        ensures unscanned { IfOk result (λ core. core.last_scan.kind ≡ None) }
         ensures stands { IfOk result (λ core. StandsIn M.rules (record { bounds = bounds_of patches; patches = patches; boots = tasks.now; events = [] }) (state_in core)) }
     {
         let mut table = TaskTable::new(alloc)?;

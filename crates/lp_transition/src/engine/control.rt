@@ -5,6 +5,7 @@ ghost use Rattle.lp_transition.specs.Events.{is_control};
 ghost use Rattle.lp_transition.specs.Tasks.{first_of};
 ghost use Rattle.lp_transition.specs.Run.{control_tests, new_target};
 ghost use Rattle.lp_transition.specs.Blames.{AreBlamesAfter};
+ghost use Rattle.lp_transition.specs.LastScan.{IsLastScanAfter};
 ghost use Rattle.lp_transition.specs.Table.{slot, state_in};
 ghost use Rattle.lp_transition.specs.inside.Table.{is_off};
 ghost use Rattle.lp_transition.specs.Machine.{complete_in, refusal_of, answer, next};
@@ -80,6 +81,7 @@ impl<M: Consistency> Core<M> {
         requires control { is_control event ≡ true }
         ensures state { state_in self.new ≡ next M.rules (state_in self.old) event }
         ensures blames { AreBlamesAfter M.rules self.old event [] self.new }
+        ensures last_scan { IsLastScanAfter M.rules self.old event self.new }
     {
         let level = self.new_level(event);
         self.events += 1;

@@ -8,6 +8,7 @@ ghost use Rattle.lp_transition.specs.Events.{is_scan};
 ghost use Rattle.lp_transition.specs.Scan.{is_scan_kind, scan_event, verdict_of, verdicts_of, verdicts_used};
 ghost use Rattle.lp_transition.specs.Steps.{IsReply, IsStep};
 ghost use Rattle.lp_transition.specs.Blames.{AreBlamesAfter, HasBlamesAfter};
+ghost use Rattle.lp_transition.specs.LastScan.{IsLastScanAfter};
 ghost use Rattle.lp_transition.specs.Table.{state_in};
 ghost use Rattle.lp_transition.specs.Weigh.{IsWeighed, born_of, is_switched, may_allocate, refusal_in, verdicts_for};
 ghost use Rattle.lp_transition.specs.Machine.{refusal_of, answer, next};
@@ -35,6 +36,7 @@ impl<M: Consistency> Core<M> {
         ensures memory { result ≡ Err NoMemory → IsTrue (may_allocate event (answer M.rules (state_in self.old) event).what) }
         ensures step { IfOk result (λ reply. IsStep M.rules (state_in self.old) event reply (state_in self.new)) }
         ensures blames { IfOk result (λ reply. HasBlamesAfter M.rules self.old event self.new) }
+        ensures last_scan { IfOk result (λ reply. IsLastScanAfter M.rules self.old event self.new) }
         ensures unchanged { OnErr result (self.new ≡ self.old) }
     {
         match event {
@@ -56,6 +58,7 @@ impl<M: Consistency> Core<M> {
         ensures memory { result ≡ Err NoMemory → IsTrue (may_allocate event (answer M.rules (state_in self.old) event).what) }
         ensures step { IfOk result (λ reply. IsStep M.rules (state_in self.old) event reply (state_in self.new)) }
         ensures blames { IfOk result (λ reply. HasBlamesAfter M.rules self.old event self.new) }
+        ensures last_scan { IfOk result (λ reply. IsLastScanAfter M.rules self.old event self.new) }
         ensures unchanged { OnErr result (self.new ≡ self.old) }
     {
         let step = self.weigh_changed(alloc, event)?;
@@ -76,6 +79,7 @@ impl<M: Consistency> Core<M> {
         ensures full { (result ≡ Err JournalFull) ↔ (1000000 ≤ self.old.number) }
         ensures step { IfOk result (λ reply. IsStep M.rules (state_in self.old) (scan_event kind) reply (state_in self.new)) }
         ensures blames { IfOk result (λ reply. AreBlamesAfter M.rules self.old (scan_event kind) verdicts.now self.new) }
+        ensures last_scan { IfOk result (λ reply. IsLastScanAfter M.rules self.old (scan_event kind) self.new) }
         ensures unchanged { OnErr result (self.new ≡ self.old) }
     {
         let scan = self.weigh_scan(alloc, kind, verdicts)?;
@@ -88,6 +92,7 @@ impl<M: Consistency> Core<M> {
         ensures reply { result ≡ step.reply }
         ensures step { IsStep M.rules (state_in self.old) step.event result (state_in self.new) }
         ensures blames { AreBlamesAfter M.rules self.old step.event step.verdicts self.new }
+        ensures last_scan { IsLastScanAfter M.rules self.old step.event self.new }
     {
         let event = step.event();
         if event.is_scan() {
@@ -154,6 +159,7 @@ impl<M: Consistency> Core<M> {
         requires refused { refusal_of M.rules (state_in self.old) event ≡ Some why }
         ensures state { state_in self.new ≡ next M.rules (state_in self.old) event }
         ensures blames { AreBlamesAfter M.rules self.old event [] self.new }
+        ensures last_scan { IsLastScanAfter M.rules self.old event self.new }
     {
         self.events += 1;
     }
@@ -167,6 +173,7 @@ impl<M: Consistency> Core<M> {
         requires born { option_map (λ (b : Box Standing Global). b.value) born ≡ born_of M.rules (state_in self.old) event }
         ensures state { state_in self.new ≡ next M.rules (state_in self.old) event }
         ensures blames { AreBlamesAfter M.rules self.old event [] self.new }
+        ensures last_scan { IsLastScanAfter M.rules self.old event self.new }
     {
         let _ = &self.tasks;
         match event {

@@ -1,6 +1,6 @@
 //! Open scans, which ask the members of some groups alone: of each of the others a member's refusal
 //! still stands.
-ghost use Rattle.std.specs.Prelude.{◌≡◌, ◌<◌, ◌≤◌, ◌↔◌, ◌&&◌, ◌||◌, ℕ, true, Err, map, nat_eq, IfOk, IsTrue};
+ghost use Rattle.std.specs.Prelude.{◌≡◌, ◌<◌, ◌≤◌, ◌↔◌, ◌&&◌, ◌||◌, ℕ, true, Err, Some, map, nat_eq, IfOk, IfSome, IsTrue};
 ghost use Rattle.std.specs.List.{filter, list_any};
 ghost use Rattle.lp_stack.specs.TaskView.{seen};
 ghost use Rattle.lp_numbers.specs.Numbers.{has};
@@ -41,6 +41,16 @@ impl<M: Consistency> Core<M> {
         }
     }
 
+    /// The groups that a walk or a stop of this kind has to ask, if it needn't ask all that wait: the leg's last
+    /// scan was of this kind, and nothing happened since to any other group that waits, so that the scan would
+    /// refuse it again.
+    pub fn changed_since(&self, kind: CheckKind) -> Option<&NumberSet>
+        ensures last { IfSome result (λ changed. (self.now.last_scan.kind ≡ Some kind) × (changed.now ≡ self.now.last_scan.changed)) }
+        ensures others { IfSome result (λ changed. MayLeaveOut M.rules kind (state_in self.now) (has changed.now)) }
+    {
+        self.unchanged.asked(kind)
+    }
+
     /// After the first scan of a leg a further one costs what changed, and not what waits.
     fn weigh_changed_scan(&self, alloc: Global, kind: CheckKind) -> Result<Step, Halt>
         requires scan { is_scan_kind kind ≡ true }
@@ -49,7 +59,7 @@ impl<M: Consistency> Core<M> {
         ensures weighed { IfOk result (λ step. IsWeighed M.rules self.now step) }
         ensures event { IfOk result (λ step. step.event ≡ scan_event kind) }
     {
-        match self.unchanged.asked(kind) {
+        match self.changed_since(kind) {
             Some(asked) => self.weigh_first_refusals(alloc, kind, asked),
             None => self.weigh_check(alloc, kind),
         }

@@ -5,7 +5,7 @@ ghost use Rattle.lp_stack.specs.TaskView.{seen};
 ghost use Rattle.lp_transition.specs.Scan.{passing};
 ghost use Rattle.lp_transition.specs.Tasks.{is_unused};
 ghost use Rattle.lp_transition.specs.Machine.{view_of};
-ghost use Rattle.lp_transition.specs.Table.{slot, standings, state_in};
+ghost use Rattle.lp_transition.specs.Table.{no_scan, slot, standings, state_in};
 ghost use Rattle.lp_transition.specs.Sound.{IsSound};
 ghost use Rattle.lp_transition.specs.Steps.{OpensLegs};
 
@@ -43,21 +43,21 @@ impl Drop for Opening {
 
 impl Model for Opening {
     ghost use Rattle.std.specs.Prelude.{[]};
-    ghost use Rattle.lp_transition.specs.Table.{Engine};
+    ghost use Rattle.lp_transition.specs.Table.{Engine, no_scan};
     ghost use Rattle.lp_transition.specs.Openings.{IsOpening};
 
     ghost Value = { Engine };
 
-    ghost view = { λ o. record { number = o.number; from = o.from.0; target = o.target.0; patches = o.patches; table = o.tasks; blames = [] } };
+    ghost view = { λ o. record { number = o.number; from = o.from.0; target = o.target.0; patches = o.patches; table = o.tasks; blames = []; last_scan = no_scan } };
 
-    ghost invariant = { λ o. IsOpening (record { number = o.number; from = o.from.0; target = o.target.0; patches = o.patches; table = o.tasks; blames = [] }) };
+    ghost invariant = { λ o. IsOpening (record { number = o.number; from = o.from.0; target = o.target.0; patches = o.patches; table = o.tasks; blames = []; last_scan = no_scan }) };
 }
 
 impl<M: Consistency> Core<M> {
     /// A copy of the engine as it stands but for the standing blames, which just after an accepted
     /// control event is the opening of that event's leg; an `Err` only where an allocation failed.
     pub fn standing(&self, alloc: Global) -> Result<Opening, AllocError>
-        ensures same { IfOk result (λ opening. opening ≡ record self.now { blames = [] }) }
+        ensures same { IfOk result (λ opening. opening ≡ record self.now { blames = []; last_scan = no_scan }) }
         ensures sound { IfOk result (λ opening. IsSound (state_in opening)) }
         ensures opens { IfOk result (λ opening. OpensLegs M.rules (state_in opening)) }
     {

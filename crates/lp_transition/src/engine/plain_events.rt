@@ -4,6 +4,7 @@ ghost use Rattle.std.specs.Prelude.{◌≡◌, [], ◌<◌, true, None};
 ghost use Rattle.lp_transition.specs.Plain.{is_plain};
 ghost use Rattle.lp_transition.specs.Steps.{IsStep};
 ghost use Rattle.lp_transition.specs.Blames.{AreBlamesAfter};
+ghost use Rattle.lp_transition.specs.LastScan.{IsLastScanAfter};
 ghost use Rattle.lp_transition.specs.Table.{state_in};
 ghost use Rattle.lp_transition.specs.Machine.{refusal_of, answer, next};
 
@@ -22,6 +23,7 @@ impl<M: Consistency> Core<M> {
         requires plain { is_plain event ≡ true }
         ensures step { IsStep M.rules (state_in self.old) event result (state_in self.new) }
         ensures blames { AreBlamesAfter M.rules self.old event [] self.new }
+        ensures last_scan { IsLastScanAfter M.rules self.old event self.new }
     {
         if let Some(why) = self.refusal(event) {
             self.take_refused(event, why);
@@ -58,6 +60,7 @@ impl<M: Consistency> Core<M> {
         requires accepted { refusal_of M.rules (state_in self.old) event ≡ None }
         ensures state { state_in self.new ≡ next M.rules (state_in self.old) event }
         ensures blames { AreBlamesAfter M.rules self.old event [] self.new }
+        ensures last_scan { IsLastScanAfter M.rules self.old event self.new }
     {
         let _ = &self.tasks;
         match event {

@@ -3,6 +3,7 @@ ghost use Rattle.std.specs.Prelude.{◌≡◌, [], ◌<◌, None, true, false, I
 ghost use Rattle.std.specs.Option.{ForSome};
 ghost use Rattle.lp_transition.specs.Weigh.{is_switched};
 ghost use Rattle.lp_transition.specs.Blames.{AreBlamesAfter};
+ghost use Rattle.lp_transition.specs.LastScan.{IsLastScanAfter};
 ghost use Rattle.lp_transition.specs.Table.{slot, state_in};
 ghost use Rattle.lp_transition.specs.Machine.{affected, switches_at, refusal_of, answer, next};
 ghost use Rattle.lp_transition.specs.inside.Points.{is_point_kind, point_event, point_mode};
@@ -77,6 +78,7 @@ impl<M: Consistency> Core<M> {
         requires switching { switching ≡ is_switched (answer M.rules (state_in self.old) (point_event kind task)).what }
         ensures state { state_in self.new ≡ next M.rules (state_in self.old) (point_event kind task) }
         ensures blames { AreBlamesAfter M.rules self.old (point_event kind task) [] self.new }
+        ensures last_scan { IsLastScanAfter M.rules self.old (point_event kind task) self.new }
     {
         self.events += 1;
         self.unchanged.touch(&self.tasks, task);

@@ -7,6 +7,7 @@ ghost use Rattle.lp_stack.specs.TaskView.{seen};
 ghost use Rattle.lp_patch.specs.Aimed.{aimed};
 ghost use Rattle.lp_numbers.specs.Numbers.{has};
 ghost use Rattle.lp_transition.specs.Blames.{AreBlamesAfter};
+ghost use Rattle.lp_transition.specs.LastScan.{IsLastScanAfter};
 ghost use Rattle.lp_transition.specs.Table.{state_in, slot};
 ghost use Rattle.lp_transition.specs.inside.Table.{is_in};
 ghost use Rattle.lp_transition.specs.Machine.{view_of, waits_in, next};
@@ -137,6 +138,7 @@ impl<M: Consistency> Core<M> {
         requires scan { is_scan step.now.event ≡ true }
         ensures state { state_in self.new ≡ next M.rules (state_in self.old) step.now.event }
         ensures blames { AreBlamesAfter M.rules self.old step.now.event step.now.verdicts self.new }
+        ensures last_scan { IsLastScanAfter M.rules self.old step.now.event self.new }
     {
         self.events += 1;
         self.blames.note(&self.tasks, step.verdicts());

@@ -2,6 +2,7 @@
 ghost use Rattle.std.specs.Prelude.{◌≡◌, [], ◌<◌, None, Some};
 ghost use Rattle.lp_transition.specs.Weigh.{born_of};
 ghost use Rattle.lp_transition.specs.Blames.{AreBlamesAfter};
+ghost use Rattle.lp_transition.specs.LastScan.{IsLastScanAfter};
 ghost use Rattle.lp_transition.specs.Table.{state_in};
 ghost use Rattle.lp_transition.specs.Machine.{refusal_of, next};
 ghost use Rattle.lp_transition.specs.inside.Moves.{move_event};
@@ -23,6 +24,7 @@ impl<M: Consistency> Core<M> {
         requires accepted { refusal_of M.rules (state_in self.old) (Event.Call task func) ≡ None }
         ensures state { state_in self.new ≡ next M.rules (state_in self.old) (Event.Call task func) }
         ensures blames { AreBlamesAfter M.rules self.old (Event.Call task func) [] self.new }
+        ensures last_scan { IsLastScanAfter M.rules self.old (Event.Call task func) self.new }
     {
         self.events += 1;
         self.unchanged.touch(&self.tasks, task);
@@ -36,6 +38,7 @@ impl<M: Consistency> Core<M> {
         requires accepted { refusal_of M.rules (state_in self.old) (Event.Ret task) ≡ None }
         ensures state { state_in self.new ≡ next M.rules (state_in self.old) (Event.Ret task) }
         ensures blames { AreBlamesAfter M.rules self.old (Event.Ret task) [] self.new }
+        ensures last_scan { IsLastScanAfter M.rules self.old (Event.Ret task) self.new }
     {
         self.events += 1;
         self.unchanged.touch(&self.tasks, task);
@@ -50,6 +53,7 @@ impl<M: Consistency> Core<M> {
         requires accepted { refusal_of M.rules (state_in self.old) (move_event kind task) ≡ None }
         ensures state { state_in self.new ≡ next M.rules (state_in self.old) (move_event kind task) }
         ensures blames { AreBlamesAfter M.rules self.old (move_event kind task) [] self.new }
+        ensures last_scan { IsLastScanAfter M.rules self.old (move_event kind task) self.new }
     {
         self.events += 1;
         self.unchanged.touch(&self.tasks, task);
@@ -69,6 +73,7 @@ impl<M: Consistency> Core<M> {
         requires born { born_of M.rules (state_in self.old) (Event.Fork parent child how) ≡ Some live.value }
         ensures state { state_in self.new ≡ next M.rules (state_in self.old) (Event.Fork parent child how) }
         ensures blames { AreBlamesAfter M.rules self.old (Event.Fork parent child how) [] self.new }
+        ensures last_scan { IsLastScanAfter M.rules self.old (Event.Fork parent child how) self.new }
     {
         let waits = live.level() != self.target;
         self.events += 1;
@@ -83,6 +88,7 @@ impl<M: Consistency> Core<M> {
         requires accepted { refusal_of M.rules (state_in self.old) (Event.Die task) ≡ None }
         ensures state { state_in self.new ≡ next M.rules (state_in self.old) (Event.Die task) }
         ensures blames { AreBlamesAfter M.rules self.old (Event.Die task) [] self.new }
+        ensures last_scan { IsLastScanAfter M.rules self.old (Event.Die task) self.new }
     {
         self.events += 1;
         self.waiting.remove(task.0);

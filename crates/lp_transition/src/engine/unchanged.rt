@@ -1,5 +1,5 @@
 //! Which waiting groups a scan needn't ask again, and which waiting tasks it would admit again.
-ghost use Rattle.std.specs.Prelude.{◌≡◌, ◌⊎◌, ◌&&◌, ◌||◌, not, ℕ, None, Some, is_some, nat_eq, IfOk, IfSome};
+ghost use Rattle.std.specs.Prelude.{◌≡◌, ◌⊎◌, ◌&&◌, ◌||◌, not, ℕ, None, Some, is_some, nat_eq, false, IfOk, IfSome, IsTrue};
 ghost use Rattle.std.specs.List.{list_any};
 ghost use Rattle.lp_numbers.specs.Numbers.{has};
 ghost use Rattle.lp_transition.specs.Table.{slot};
@@ -41,9 +41,9 @@ impl Drop for Unchanged {
 }
 
 impl Model for Unchanged {
-    ghost use Rattle.lp_transition.specs.inside.Invariant.{LastScan};
+    ghost use Rattle.lp_transition.specs.inside.Invariant.{KeptScan};
 
-    ghost Value = { LastScan };
+    ghost Value = { KeptScan };
 
     ghost view = { λ u. record { kind = u.kind; changed = u.changed; may_refuse = u.may_refuse } };
 }
@@ -105,7 +105,8 @@ impl Unchanged {
         waiting: &NumberSet,
         verdicts: &[Verdict],
     )
-        ensures { (self.new ≡ self.old) ⊎ IsNoted kind waiting.now verdicts.now self.old self.new }
+        ensures used { IsTrue is_used → IsNoted kind waiting.now verdicts.now self.old self.new }
+        ensures unused { is_used ≡ false → self.new ≡ self.old }
     {
         if is_used {
             self.begin(kind, waiting);
@@ -123,6 +124,15 @@ impl Unchanged {
             self.may_refuse.copy_from(waiting);
         }
         self.kind = Some(kind);
+        self.changed.clear();
+    }
+
+    /// A scan of the last one's kind refused each group that waits, and told nothing else.
+    #[inline(always)]
+    pub(super) fn clear_changed(&mut self)
+        ensures kind { self.new.kind ≡ self.old.kind }
+        ensures may_refuse { self.new.may_refuse ≡ self.old.may_refuse }
+    {
         self.changed.clear();
     }
 

@@ -31,7 +31,6 @@ returns-in-Some-clause-noted g c =
           λ some accepted. c.step_whole.ensures.stood (subst IsNone (sym accepted) refl),
         );
       };
-      unchanged = inl c.reset-in-Some.ensures;
     }
   where
     none_some : {A : Type 0} (a : A) → None ≡ Some a → ⊥

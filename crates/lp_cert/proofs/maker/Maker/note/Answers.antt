@@ -4,14 +4,13 @@ use Rattle.lp_transition.specs.declared.event.Event.{Event}
 use Rattle.lp_transition.specs.Events.{is_scan}
 use Rattle.lp_transition.specs.Table.{state_in}
 use Rattle.lp_cert.specs.declared.open_leg.OpenLeg.{OpenLeg}
-use Rattle.lp_cert.specs.Ends.{Made, Room, IsMadeOf, is_opening, room_for}
+use Rattle.lp_cert.specs.Ends.{Made, Room, IsMadeWith, is_opening, room_for}
 use Rattle.lp_cert.specs.Invariant.{open_end, room_of}
 use Rattle.lp_cert.specs.inside.Invariant.{HasClosing, IsClosing}
 use Rattle.lp_cert.specs.inside.Waiters.{HasHeadFor, has_off}
 use Rattle.lp_cert.proofs.Noted.{none_made, turned_made, ready_for, room_is, opens_is}
 use Rattle.lp_cert.proofs.NotedBy.{noted_made}
 use Rattle.lp_cert.proofs.Asked.{not_so, not_other}
-use Rattle.lp_cert.proofs.UnchangedSteps.{none_unchanged}
 use Rattle.lp_cert.proofs.maker.Maker.note.Goals as goal
 
 pub step_leg-requires-clause-heads : goal.step_leg-requires-clause-heads
@@ -37,36 +36,35 @@ step_leg-requires-clause-all_room g c = λ scan.
 
 pub returns-in_default-current : goal.returns-in_default-current
 returns-in_default-current g c = record {
-  made = λ run stands is.
+  made = λ run after stands is stands_after known.
       let i = c.self.inside in
       let number = c.events.result + 1 in
-      let old : Made = record { ended = i.ended.items; current = option_map (open_end i.noted i.waiters) i.current; ready = option_map room_of i.ready; last_scan = i.unchanged } in
-      let new : Made = record { ended = i.ended.items; current = option_map (open_end number i.waiters) i.current; ready = option_map room_of c.take.new.self; last_scan = c.reset.new.self } in
-      let was : IsMadeOf g.M.Consistency.rules run old = rw (← c.self.view_is) at is in
+      let old : Made = record { ended = i.ended.items; current = option_map (open_end i.noted i.waiters) i.current; ready = option_map room_of i.ready } in
+      let new : Made = record { ended = i.ended.items; current = option_map (open_end number i.waiters) i.current; ready = option_map room_of c.take.new.self } in
+      let was : IsMadeWith g.M.Consistency.rules run c.args.core.now.last_scan old = rw (← c.self.view_is) at is in
       let asked = rw (← c.self.view_is) at c.requires.ready in
       let stays : is_opening c.args.step.now ≡ false = sym (opens_is i.ready c.in-Some.ready (room_for c.args.step.now) (sym c.take.ensures.value ∙ c.in-Some.is) asked) ∙ not_so c.in-Some.ready.opens c.if-not-ready.true in
-      none_made g.M.Consistency.rules g.met.M.Consistency.lawful run c.args.core.now stands c.args.step.now c.requires.weighed old new was stays refl
-      (ap (option_map (open_end i.noted i.waiters)) c.in_default-current.is) (ap (option_map (open_end number i.waiters)) c.in_default-current.is)
-      (none_unchanged g.M.Consistency.rules _ _ c.reset.new.self c.reset.ensures);
+      none_made g.M.Consistency.rules g.met.M.Consistency.lawful run c.args.core.now stands c.args.step.now c.requires.weighed old new was after stands_after known stays refl
+      (ap (option_map (open_end i.noted i.waiters)) c.in_default-current.is) (ap (option_map (open_end number i.waiters)) c.in_default-current.is);
 }
 
 pub returns-then-not-ready : goal.returns-then-not-ready
 returns-then-not-ready g c = record {
-  made = λ run stands is.
+  made = λ run after stands is stands_after known.
       let i = c.self.inside in
       let number = c.events.result + 1 in
-      let old : Made = record { ended = i.ended.items; current = option_map (open_end i.noted i.waiters) i.current; ready = option_map room_of i.ready; last_scan = i.unchanged } in
-      let new : Made = record { ended = i.ended.items; current = Some (open_end number c.step_leg.new.waiters c.step_leg.new.leg); ready = option_map room_of c.take.new.self; last_scan = c.step_leg.new.unchanged } in
-      let was : IsMadeOf g.M.Consistency.rules run old = rw (← c.self.view_is) at is in
+      let old : Made = record { ended = i.ended.items; current = option_map (open_end i.noted i.waiters) i.current; ready = option_map room_of i.ready } in
+      let new : Made = record { ended = i.ended.items; current = Some (open_end number c.step_leg.new.waiters c.step_leg.new.leg); ready = option_map room_of c.take.new.self } in
+      let was : IsMadeWith g.M.Consistency.rules run c.args.core.now.last_scan old = rw (← c.self.view_is) at is in
       let asked = rw (← c.self.view_is) at c.requires.ready in
       let stays : is_opening c.args.step.now ≡ false = sym (opens_is i.ready c.in-Some.ready (room_for c.args.step.now) (sym c.take.ensures.value ∙ c.in-Some.is) asked) ∙ not_so c.in-Some.ready.opens c.if-not-ready.true in
-      noted_made g.M.Consistency.rules g.met.M.Consistency.lawful run c.args.core.now stands c.args.step.now c.requires.weighed old new was stays refl c.events.ensures.wide i.noted number c.in-Some-current.leg c.step_leg.new.leg i.waiters c.step_leg.new.waiters
+      noted_made g.M.Consistency.rules g.met.M.Consistency.lawful run c.args.core.now stands c.args.step.now c.requires.weighed old new was after stands_after known stays refl c.events.ensures.wide i.noted number c.in-Some-current.leg c.step_leg.new.leg i.waiters c.step_leg.new.waiters
       (ap (option_map (open_end i.noted i.waiters)) c.in-Some-current.is) (ap (λ m. m + 1) c.events.ensures.value) c.step_leg.ensures.noted refl;
 }
 
 pub returns : goal.returns
 returns g c = record {
-  made = λ run stands is.
+  made = λ run after stands is stands_after known.
       let i = c.self.inside in
       let model = g.M.Consistency.rules in
       let s = state_in c.args.core.now in
@@ -74,9 +72,9 @@ returns g c = record {
       let number = c.events.result + 1 in
       let later = c.open.new.self in
       let left = c.in-Some-take.closing in
-      let old : Made = record { ended = i.ended.items; current = option_map (open_end i.noted i.waiters) i.current; ready = option_map room_of i.ready; last_scan = i.unchanged } in
-      let new : Made = record { ended = c.end_leg.new.ended.items; current = Some (open_end number later c.opened-next.result); ready = option_map room_of c.take.new.self; last_scan = c.reset-2.new.self } in
-      let was : IsMadeOf model run old = rw (← c.self.view_is) at is in
+      let old : Made = record { ended = i.ended.items; current = option_map (open_end i.noted i.waiters) i.current; ready = option_map room_of i.ready } in
+      let new : Made = record { ended = c.end_leg.new.ended.items; current = Some (open_end number later c.opened-next.result); ready = option_map room_of c.take.new.self } in
+      let was : IsMadeWith model run c.args.core.now.last_scan old = rw (← c.self.view_is) at is in
       let asked = rw (← c.self.view_is) at c.requires.ready in
       let kept : i.ready ≡ Some c.in-Some.ready = sym c.take.ensures.value ∙ c.in-Some.is in
       let turns : is_opening step ≡ true = sym (opens_is i.ready c.in-Some.ready (room_for step) kept asked) ∙ not_other c.in-Some.ready.opens c.if-not-ready.false in
@@ -85,9 +83,9 @@ returns g c = record {
       let closing : IsClosing i.current i.waiters left =
       subst (HasClosing i.current i.waiters true) there (subst (λ (opens : Bool). HasClosing i.current i.waiters opens i.closing) (not_other c.in-Some.ready.opens c.if-not-ready.false) ready.left) in
       let target = ap (λ (l : OpenLeg). l.target.0) c.opened-next.ensures in
-      turned_made model g.met.M.Consistency.lawful run c.args.core.now stands step c.requires.weighed old new was turns
+      turned_made model g.met.M.Consistency.lawful run c.args.core.now stands step c.requires.weighed old new was after stands_after known turns
       number later (ap (λ m. m + 1) c.events.ensures.value)
       (λ sound group. c.open.ensures sound group ∙ ap (λ level. if has_off s level group then Some [] else None) target)
       (c.end_leg.ensures i.waiters closing)
-      (ap (λ (l : OpenLeg). Some (open_end number later l)) c.opened-next.ensures) c.reset-2.ensures;
+      (ap (λ (l : OpenLeg). Some (open_end number later l)) c.opened-next.ensures);
 }

@@ -3,7 +3,7 @@ use Rattle.std.specs.Prelude.{slice_get}
 use Rattle.lp_transition.specs.declared.event.Event.{Event}
 use Rattle.lp_transition.specs.Run.{first_leg}
 use Rattle.lp_cert.specs.declared.leg_end.LegEnd.{LegEnd}
-use Rattle.lp_cert.proofs.Tellings.{begins}
+use Rattle.lp_cert.proofs.Tellings.{begun_with}
 use Rattle.lp_replay.specs.Outcome.{leg_ends, run_of}
 use Rattle.lp_replay.specs.inside.Recording.{first_made}
 use Rattle.lp_replay.proofs.Recording.{ok_weaker}
@@ -12,7 +12,7 @@ use Rattle.lp_replay.proofs.replays.first.first_leg_end.Goals as goal
 pub take_first_leg-requires : goal.take_first_leg-requires
 take_first_leg-requires g c =
     let run = run_of c.args.trace.now in
-    (run, rw c.deref_mut.ensures.value c.in_ok-core.ensures, rw c.deref_mut-2.ensures.value (begins g.M.Consistency.rules run c.in_ok-maker.maker.value refl (rw c.in_ok-maker.ensures.ok c.in_ok-new.ensures)), omega (arith, ap length c.events.ensures.value, c.events.ensures.limits.events_few))
+    (run, rw c.deref_mut.ensures.value c.in_ok-core.ensures.stands, rw (c.deref_mut.ensures.value, c.deref_mut-2.ensures.value) (begun_with g.M.Consistency.rules run c.in_ok-core.core.value.last_scan c.in_ok-maker.maker.value refl c.in_ok-core.ensures.unscanned (rw c.in_ok-maker.ensures.ok c.in_ok-new.ensures)), omega (arith, ap length c.events.ensures.value, c.events.ensures.limits.events_few))
 
 pub returns : goal.returns
 returns g c =
@@ -20,7 +20,7 @@ returns g c =
     let trace = c.args.trace.now in
     let run = run_of trace in
     let maker = c.into_inner.result in
-    let made = c.in_ok-take_first_leg.ensures run (rw c.deref_mut.ensures.value c.in_ok-core.ensures) (rw c.deref_mut-2.ensures.value (begins model run c.in_ok-maker.maker.value refl (rw c.in_ok-maker.ensures.ok c.in_ok-new.ensures))) in
+    let made = c.in_ok-take_first_leg.ensures run (rw c.deref_mut.ensures.value c.in_ok-core.ensures.stands) (rw (c.deref_mut.ensures.value, c.deref_mut-2.ensures.value) (begun_with model run c.in_ok-core.core.value.last_scan c.in_ok-maker.maker.value refl c.in_ok-core.ensures.unscanned (rw c.in_ok-maker.ensures.ok c.in_ok-new.ensures))) in
     let told = subst (λ (events : List Event). first_made c.take_first_leg.new.maker ≡ slice_get (leg_ends model (first_leg model run) events) 0) c.events.ensures.value made in
     let first : first_made maker ≡ slice_get (leg_ends model (first_leg model run) trace.events) 0 = rw c.into_inner.ensures told in
     ok_weaker (λ (found : Option LegEnd). found ≡ first_made maker) (λ (found : Option LegEnd). found ≡ slice_get (leg_ends model (first_leg model run) trace.events) 0) (λ found h. h ∙ first) c.first_of.result c.first_of.ensures

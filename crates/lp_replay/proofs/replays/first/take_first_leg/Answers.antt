@@ -6,7 +6,7 @@ use Rattle.lp_replay.proofs.replays.first.take_first_leg.Goals as goal
 
 pub loop-event-init : goal.loop-event-init
 loop-event-init g c = λ run stands made.
-    (at_first g.M.Consistency.rules run c.args.events.now c.args.core.now stands, made_first g.M.Consistency.rules run c.args.maker.now made)
+    (at_first g.M.Consistency.rules run c.args.events.now c.args.core.now stands, made_first g.M.Consistency.rules run c.args.core.now.last_scan c.args.maker.now made)
 
 pub take-requires : goal.take-requires
 take-requires g c =
@@ -21,21 +21,21 @@ pub loop-event-preserved : goal.loop-event-preserved
 loop-event-preserved g c = λ run stands made.
     let here = c.loop-event.invariant run stands made in (
       at_more g.M.Consistency.rules run c.args.events.now c.loop-event.event-index _ c.take.new.core (omega arith) (c.in_ok-take.ensures.step.reaches _ here.0),
-      made_more g.M.Consistency.rules run c.args.events.now c.loop-event.event-index _ c.take.new.maker (omega arith) (c.in_ok-take.ensures.made _ here.0 here.1),
+      made_more g.M.Consistency.rules run c.args.events.now c.loop-event.event-index _ c.take.new.core.last_scan c.take.new.maker (omega arith) (c.in_ok-take.ensures.made _ here.0 here.1),
     )
 
 pub returns : goal.returns
 returns g c = λ run stands made.
-    ended_last g.M.Consistency.rules run c.args.events.now c.loop-event.event-index c.loop-event.maker (omega arith) ((c.loop-event.invariant run stands made).1)
+    ended_last g.M.Consistency.rules run c.args.events.now c.loop-event.event-index c.loop-event.maker (omega arith) ((c.loop-event.invariant run stands made).1.of_run)
 
 pub returns-then-not-is_empty : goal.returns-then-not-is_empty
 returns-then-not-is_empty g c = λ run stands made.
     let here = c.loop-event.invariant run stands made in
-    let now = made_more g.M.Consistency.rules run c.args.events.now c.loop-event.event-index _ c.take.new.maker (omega arith) (c.in_ok-take.ensures.made _ here.0 here.1) in
-    ended_early g.M.Consistency.rules run c.args.events.now (c.loop-event.event-index + 1) c.take.new.maker now (subst (λ (l : List LegEnd). 0 < length l) c.ended.ensures (some_there c.ended.result.now (sym c.if-not-is_empty.ensures)))
+    let now = made_more g.M.Consistency.rules run c.args.events.now c.loop-event.event-index _ c.take.new.core.last_scan c.take.new.maker (omega arith) (c.in_ok-take.ensures.made _ here.0 here.1) in
+    ended_early g.M.Consistency.rules run c.args.events.now (c.loop-event.event-index + 1) c.take.new.maker now.of_run (subst (λ (l : List LegEnd). 0 < length l) c.ended.ensures (some_there c.ended.result.now (sym c.if-not-is_empty.ensures)))
 
 pub returns-then-is_complete : goal.returns-then-is_complete
 returns-then-is_complete g c = λ run stands made.
     let here = c.loop-event.invariant run stands made in
-    let now = made_more g.M.Consistency.rules run c.args.events.now c.loop-event.event-index _ c.take.new.maker (omega arith) (c.in_ok-take.ensures.made _ here.0 here.1) in
-    complete_early g.M.Consistency.rules run c.args.events.now (c.loop-event.event-index + 1) c.take.new.maker now (sym c.is_complete.ensures ∙ c.if-is_complete.true)
+    let now = made_more g.M.Consistency.rules run c.args.events.now c.loop-event.event-index _ c.take.new.core.last_scan c.take.new.maker (omega arith) (c.in_ok-take.ensures.made _ here.0 here.1) in
+    complete_early g.M.Consistency.rules run c.args.events.now (c.loop-event.event-index + 1) c.take.new.maker now.of_run (sym c.is_complete.ensures ∙ c.if-is_complete.true)

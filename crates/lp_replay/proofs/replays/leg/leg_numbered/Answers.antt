@@ -16,7 +16,7 @@ returns-then-number-eq0 g c =
 pub opened_after-requires : goal.opened_after-requires
 opened_after-requires g c =
     let few : length c.events-events.result.now ≤ 1000000 = omega (arith, ap length c.events-events.ensures.value, c.events-events.ensures.limits.events_few) in
-    (run_of c.args.trace.now, rw c.deref_mut.ensures.value c.in_ok-core.ensures, omega (arith, few, c.split_at.ensures.front_len, c.split_at.ensures.back_len))
+    (run_of c.args.trace.now, rw c.deref_mut.ensures.value c.in_ok-core.ensures.stands, omega (arith, few, c.split_at.ensures.front_len, c.split_at.ensures.back_len))
 
 pub returns : goal.returns
 returns g c =
@@ -25,6 +25,6 @@ returns g c =
     let all : c.events-events.result.now ≡ trace.events = c.events-events.ensures.value in
     let first : c.split_at.result.0.now ≡ take (c.args.number - 1) trace.events = c.split_at.ensures.front ∙ ap (take (c.args.number - 1)) all in
     let last : c.split_at.result.1.now ≡ drop (c.args.number - 1) trace.events = c.split_at.ensures.back ∙ ap (drop (c.args.number - 1)) all in
-    c.in_ok-leg.ensures (run_of trace) (rw c.deref_mut.ensures.value c.in_ok-core.ensures)
+    c.in_ok-leg.ensures (run_of trace) (rw c.deref_mut.ensures.value c.in_ok-core.ensures.stands)
     ∙ (ap₂ (λ (before after : List Event). opened_by model (leg_of model (longer (run_of trace) before)) after) first last
     ∙ sym (numbered_at model trace c.args.number (c.args.number - 1) (omega arith)))

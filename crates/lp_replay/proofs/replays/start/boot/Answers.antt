@@ -17,7 +17,7 @@ unreachable-requires-in-Err-TaskDoubled g c =
     let well : boot_refusal c.boots.result.now ≡ None = ap boot_refusal c.boots.ensures.value ∙ boots_well c.args.trace.now.boots is.boots is.boots_differ in
     cc (c.in-Err-TaskDoubled.ensures.memory well)
 
-pub returns-in-Ok : goal.returns-in-Ok
-returns-in-Ok g c =
+pub returns-in-Ok-clause-stands : goal.returns-in-Ok-clause-stands
+returns-in-Ok-clause-stands g c =
     let same = starts c.args.trace.now c.args.patches c.boots.result.now c.boots.ensures.limits c.requires c.boots.ensures.value in
     subst (λ run. StandsIn g.M.Consistency.rules run (state_in c.in-Ok.core)) same c.in-Ok.ensures.stands

@@ -3,12 +3,13 @@ use Rattle.lp_numbers.specs.Numbers.{has}
 use Rattle.lp_transition.specs.Scan.{verdicts_of, verdicts_at}
 use Rattle.lp_transition.specs.Table.{Engine, state_in}
 use Rattle.lp_transition.proofs.WholeGroups.{all-listed}
+use Rattle.lp_transition.specs.inside.Invariant.{told_scan}
 use Rattle.lp_transition.proofs.engine.Core.all_verdicts.Goals as goal
 
 pub returns : goal.returns
 returns g c =
     let i = c.self.inside in
-    let e : Engine = record { number = i.events; from = i.from.0; target = i.target.0; patches = i.patches; table = i.tasks; blames = i.blames } in
+    let e : Engine = record { number = i.events; from = i.from.0; target = i.target.0; patches = i.patches; table = i.tasks; blames = i.blames; last_scan = told_scan i.unchanged } in
     let model = g.M.Consistency.rules in
     let listed =
     subst (λ (o : Engine). verdicts_at model c.args.kind (state_in o) (has i.waiting) ≡ verdicts_of model c.args.kind (state_in o)) c.self.view_is

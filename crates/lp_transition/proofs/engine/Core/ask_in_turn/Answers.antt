@@ -9,12 +9,13 @@ use Rattle.lp_transition.specs.Table.{Engine, state_in}
 use Rattle.lp_transition.specs.inside.FirstRefusals.{HasAsked, place_of}
 use Rattle.lp_transition.proofs.AscendingLemmas.{members-rest}
 use Rattle.lp_transition.proofs.InTurn.{turn-begins, turn-ends, turn-over, turn-asks}
+use Rattle.lp_transition.specs.inside.Invariant.{told_scan}
 use Rattle.lp_transition.proofs.engine.Core.ask_in_turn.Goals as goal
 
 pub loop-number-init : goal.loop-number-init
 loop-number-init g c =
     let i = c.self.inside in
-    let e : Engine = record { number = i.events; from = i.from.0; target = i.target.0; patches = i.patches; table = i.tasks; blames = i.blames } in
+    let e : Engine = record { number = i.events; from = i.from.0; target = i.target.0; patches = i.patches; table = i.tasks; blames = i.blames; last_scan = told_scan i.unchanged } in
     let left = c.into_iter-number-iterator.result in
     record {
       asked =
@@ -27,7 +28,7 @@ loop-number-init g c =
 pub returns-then-is_empty : goal.returns-then-is_empty
 returns-then-is_empty g c =
     let i = c.self.inside in
-    let e : Engine = record { number = i.events; from = i.from.0; target = i.target.0; patches = i.patches; table = i.tasks; blames = i.blames } in
+    let e : Engine = record { number = i.events; from = i.from.0; target = i.target.0; patches = i.patches; table = i.tasks; blames = i.blames; last_scan = told_scan i.unchanged } in
     let n = c.in-Some.number in
     let few : n < 65536 = omega arith in
     let groups = has c.args.unrefused.now in
@@ -39,7 +40,7 @@ returns-then-is_empty g c =
 pub loop-number-preserved-in-Continue-1 : goal.loop-number-preserved-in-Continue-1
 loop-number-preserved-in-Continue-1 g c =
     let i = c.self.inside in
-    let e : Engine = record { number = i.events; from = i.from.0; target = i.target.0; patches = i.patches; table = i.tasks; blames = i.blames } in
+    let e : Engine = record { number = i.events; from = i.from.0; target = i.target.0; patches = i.patches; table = i.tasks; blames = i.blames; last_scan = told_scan i.unchanged } in
     let n = c.in-Some.number in
     let few : n < 65536 = omega arith in
     let model = g.M.Consistency.rules in
@@ -67,7 +68,7 @@ loop-number-preserved-in-Continue-1 g c =
 pub loop-number-preserved : goal.loop-number-preserved
 loop-number-preserved g c =
     let i = c.self.inside in
-    let e : Engine = record { number = i.events; from = i.from.0; target = i.target.0; patches = i.patches; table = i.tasks; blames = i.blames } in
+    let e : Engine = record { number = i.events; from = i.from.0; target = i.target.0; patches = i.patches; table = i.tasks; blames = i.blames; last_scan = told_scan i.unchanged } in
     let n = c.in-Some.number in
     let few : n < 65536 = omega arith in
     let model = g.M.Consistency.rules in

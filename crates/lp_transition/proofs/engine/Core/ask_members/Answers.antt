@@ -5,6 +5,7 @@ use Rattle.lp_transition.specs.Leg.{Standing}
 use Rattle.lp_transition.specs.Table.{Engine, standings}
 use Rattle.lp_transition.proofs.FirstRefusals.{pass-covers}
 use Rattle.lp_transition.proofs.WholeGroups.{members-cover}
+use Rattle.lp_transition.specs.inside.Invariant.{told_scan}
 use Rattle.lp_transition.proofs.engine.Core.ask_members.Goals as goal
 
 ok_map : {A E : Type 0} {P Q : A → Type 0} (r : Result A E) → IfOk r P → ((a : A) → P a → Q a) → IfOk r Q
@@ -19,7 +20,7 @@ returns-then-not-are_small g c =
 pub returns : goal.returns
 returns g c =
     let i = c.self.inside in
-    let e : Engine = record { number = i.events; from = i.from.0; target = i.target.0; patches = i.patches; table = i.tasks; blames = i.blames } in
+    let e : Engine = record { number = i.events; from = i.from.0; target = i.target.0; patches = i.patches; table = i.tasks; blames = i.blames; last_scan = told_scan i.unchanged } in
     let covers =
     subst (λ (o : Engine). (t : ℕ) (x : Standing) → standings o.table t ≡ Live x → has c.args.unrefused.now x.group ≡ true → has c.in_ok-members.members t ≡ true) c.self.view_is
     (members-cover e i.waiting c.self.invariant.engine g.M.Consistency.rules c.args.kind c.args.unrefused.now c.in_ok-members.members c.in_ok-members.ensures) in

@@ -5,6 +5,7 @@ use Rattle.lp_transition.specs.Table.{Engine, state_in}
 use Rattle.lp_transition.specs.inside.ScanSteps.{IsOwnGroup}
 use Rattle.lp_transition.proofs.FirstRefusals.{among-told}
 use Rattle.lp_transition.proofs.WholeGroups.{own-listed}
+use Rattle.lp_transition.specs.inside.Invariant.{told_scan}
 use Rattle.lp_transition.proofs.engine.Core.first_refusals.Goals as goal
 
 ok_map : {A E : Type 0} {P Q : A → Type 0} (r : Result A E) → IfOk r P → ((a : A) → P a → Q a) → IfOk r Q
@@ -18,7 +19,7 @@ returns-in_default g c =
 pub returns-then-are_own : goal.returns-then-are_own
 returns-then-are_own g c =
     let i = c.self.inside in
-    let e : Engine = record { number = i.events; from = i.from.0; target = i.target.0; patches = i.patches; table = i.tasks; blames = i.blames } in
+    let e : Engine = record { number = i.events; from = i.from.0; target = i.target.0; patches = i.patches; table = i.tasks; blames = i.blames; last_scan = told_scan i.unchanged } in
     let model = g.M.Consistency.rules in
     let listed =
     subst (λ (o : Engine). ((group : ℕ) → group < 65536 → has c.args.groups.now group ≡ true → IsOwnGroup o.table group) → verdicts_at model c.args.kind (state_in o) (has c.args.groups.now) ≡ verdicts_at model c.args.kind (state_in o) (is_asked (state_in o) (has c.args.groups.now))) c.self.view_is

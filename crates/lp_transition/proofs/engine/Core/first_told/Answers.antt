@@ -6,12 +6,13 @@ use Rattle.lp_transition.specs.Table.{Engine, state_in}
 use Rattle.lp_transition.specs.inside.FirstRefusals.{AdmitsOthers, HasAsked, AreTold}
 use Rattle.lp_transition.specs.inside.ScanSteps.{is_judged}
 use Rattle.lp_transition.proofs.WholeGroups.{told-refused, told-whole}
+use Rattle.lp_transition.specs.inside.Invariant.{told_scan}
 use Rattle.lp_transition.proofs.engine.Core.first_told.Goals as goal
 
 pub returns-then-is_empty : goal.returns-then-is_empty
 returns-then-is_empty g c =
     let i = c.self.inside in
-    let e : Engine = record { number = i.events; from = i.from.0; target = i.target.0; patches = i.patches; table = i.tasks; blames = i.blames } in
+    let e : Engine = record { number = i.events; from = i.from.0; target = i.target.0; patches = i.patches; table = i.tasks; blames = i.blames; last_scan = told_scan i.unchanged } in
     let model = g.M.Consistency.rules in
     let asked = has c.args.groups.now in
     let left = has c.ask_members.new.unrefused in
@@ -24,7 +25,7 @@ returns-then-is_empty g c =
 pub returns : goal.returns
 returns g c =
     let i = c.self.inside in
-    let e : Engine = record { number = i.events; from = i.from.0; target = i.target.0; patches = i.patches; table = i.tasks; blames = i.blames } in
+    let e : Engine = record { number = i.events; from = i.from.0; target = i.target.0; patches = i.patches; table = i.tasks; blames = i.blames; last_scan = told_scan i.unchanged } in
     let model = g.M.Consistency.rules in
     let asked = has c.args.groups.now in
     let left = has c.ask_members.new.unrefused in

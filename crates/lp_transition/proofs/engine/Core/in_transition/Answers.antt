@@ -4,12 +4,13 @@ use Rattle.lp_transition.specs.Table.{state_in}
 use Rattle.lp_transition.specs.Machine.{complete_in}
 use Rattle.lp_transition.proofs.TableLemmas.{slot-zero}
 use Rattle.lp_transition.proofs.MemberLemmas.{on_target}
+use Rattle.lp_transition.specs.inside.Invariant.{told_scan}
 use Rattle.lp_transition.proofs.engine.Core.in_transition.Goals as goal
 
 pub returns : goal.returns
 returns g c =
     let i = c.self.inside in
     let k = c.self.invariant.engine in
-    let empty = slot-zero (record { number = i.events; from = i.from.0; target = i.target.0; patches = i.patches; table = i.tasks; blames = i.blames }) k.sound in
+    let empty = slot-zero (record { number = i.events; from = i.from.0; target = i.target.0; patches = i.patches; table = i.tasks; blames = i.blames; last_scan = told_scan i.unchanged }) k.sound in
     let on_target = on_target i.tasks i.patches k.wide empty i.waiting i.target.0 k.waits in
-    rw (← c.self.view_is) (ap not (one_answer c.is_empty.result (complete_in (state_in (record { number = i.events; from = i.from.0; target = i.target.0; patches = i.patches; table = i.tasks; blames = i.blames }))) (c.is_empty.ensures.0, c.is_empty.ensures.1) (on_target.1, on_target.0)))
+    rw (← c.self.view_is) (ap not (one_answer c.is_empty.result (complete_in (state_in (record { number = i.events; from = i.from.0; target = i.target.0; patches = i.patches; table = i.tasks; blames = i.blames; last_scan = told_scan i.unchanged }))) (c.is_empty.ensures.0, c.is_empty.ensures.1) (on_target.1, on_target.0)))

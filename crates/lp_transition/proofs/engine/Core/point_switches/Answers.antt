@@ -10,6 +10,7 @@ use Rattle.lp_transition.specs.Table.{Engine, slot}
 use Rattle.lp_transition.proofs.LoneChecks.{asks}
 use Rattle.lp_transition.specs.inside.Points.{point_event, point_mode, at_point}
 use Rattle.lp_transition.proofs.Points.{point-level, point-group, point-checks, point-own}
+use Rattle.lp_transition.specs.inside.Invariant.{told_scan}
 use Rattle.lp_transition.proofs.engine.Core.point_switches.Goals as goal
 
 pub returns-then-not-contains : goal.returns-then-not-contains
@@ -18,7 +19,7 @@ returns-then-not-contains g c = λ x there.
     let h : c.args.task.0 < 65536 = omega arith in
     let at : slot i.tasks c.args.task.0 ≡ Some x = ap (λ e. slot e.table c.args.task.0) c.self.view_is ∙ there in
     let is : c.in-Some.live ≡ x = let both = c.in-Some.ensures.value ∙ at in cc in
-    asks g.M.Consistency.rules g.met.M.Consistency.lawful (record { number = i.events; from = i.from.0; target = i.target.0; patches = i.patches; table = i.tasks; blames = i.blames }) i.waiting c.self.invariant.engine (point_event c.args.kind c.args.task) c.args.kind c.args.task.0 h (at_point c.args.kind) (point-level c.args.kind) (point-group c.args.kind) x at (point-checks _ _ c.args.kind c.args.task c.requires.point) c.args.self.now c.self.view_is (point-own _ _ c.args.kind c.args.task _) false (sym c.if-not-contains.ensures.member) true (λ waits. absurd (false≢true waits))
+    asks g.M.Consistency.rules g.met.M.Consistency.lawful (record { number = i.events; from = i.from.0; target = i.target.0; patches = i.patches; table = i.tasks; blames = i.blames; last_scan = told_scan i.unchanged }) i.waiting c.self.invariant.engine (point_event c.args.kind c.args.task) c.args.kind c.args.task.0 h (at_point c.args.kind) (point-level c.args.kind) (point-group c.args.kind) x at (point-checks _ _ c.args.kind c.args.task c.requires.point) c.args.self.now c.self.view_is (point-own _ _ c.args.kind c.args.task _) false (sym c.if-not-contains.ensures.member) true (λ waits. absurd (false≢true waits))
 
 pub returns-then-not-alone : goal.returns-then-not-alone
 returns-then-not-alone g c = λ x there.
@@ -27,7 +28,7 @@ returns-then-not-alone g c = λ x there.
     let at : slot i.tasks c.args.task.0 ≡ Some x = ap (λ e. slot e.table c.args.task.0) c.self.view_is ∙ there in
     let is : c.in-Some.live ≡ x = let both = c.in-Some.ensures.value ∙ at in cc in
     let group : c.group.result.0 ≡ x.group = c.group.ensures ∙ ap (λ (y : Standing). y.group) is in
-    asks g.M.Consistency.rules g.met.M.Consistency.lawful (record { number = i.events; from = i.from.0; target = i.target.0; patches = i.patches; table = i.tasks; blames = i.blames }) i.waiting c.self.invariant.engine (point_event c.args.kind c.args.task) c.args.kind c.args.task.0 h (at_point c.args.kind) (point-level c.args.kind) (point-group c.args.kind) x at (point-checks _ _ c.args.kind c.args.task c.requires.point) c.args.self.now c.self.view_is (point-own _ _ c.args.kind c.args.task _) true (sym c.if-not-contains.ensures.member) false (λ _. rw (group, c.if-not-alone.true) at c.is_alone-alone.ensures)
+    asks g.M.Consistency.rules g.met.M.Consistency.lawful (record { number = i.events; from = i.from.0; target = i.target.0; patches = i.patches; table = i.tasks; blames = i.blames; last_scan = told_scan i.unchanged }) i.waiting c.self.invariant.engine (point_event c.args.kind c.args.task) c.args.kind c.args.task.0 h (at_point c.args.kind) (point-level c.args.kind) (point-group c.args.kind) x at (point-checks _ _ c.args.kind c.args.task c.requires.point) c.args.self.now c.self.view_is (point-own _ _ c.args.kind c.args.task _) true (sym c.if-not-contains.ensures.member) false (λ _. rw (group, c.if-not-alone.true) at c.is_alone-alone.ensures)
 
 pub returns : goal.returns
 returns g c = λ x there.
@@ -41,4 +42,4 @@ returns g c = λ x there.
     c.admits.ensures
     ∙ ap (λ (mode : Mode). g.M.Consistency.rules.admits c.args.kind (record (seen c.view-view.result) { task = c.args.task.0; mode = mode }) (aimed c.aim-aim.result)) c.point_mode.ensures
     ∙ ap₂ (λ (s : TaskView) (aim : Goal). g.M.Consistency.rules.admits c.args.kind (record s { task = c.args.task.0; mode = point_mode c.args.kind s.mode }) aim) seen_as bound
-    ∙ asks g.M.Consistency.rules g.met.M.Consistency.lawful (record { number = i.events; from = i.from.0; target = i.target.0; patches = i.patches; table = i.tasks; blames = i.blames }) i.waiting c.self.invariant.engine (point_event c.args.kind c.args.task) c.args.kind c.args.task.0 h (at_point c.args.kind) (point-level c.args.kind) (point-group c.args.kind) x at (point-checks _ _ c.args.kind c.args.task c.requires.point) c.args.self.now c.self.view_is (point-own _ _ c.args.kind c.args.task _) true (sym c.if-not-contains.ensures.member) true (λ _. rw (group, c.if-not-alone.false) at c.is_alone-alone.ensures)
+    ∙ asks g.M.Consistency.rules g.met.M.Consistency.lawful (record { number = i.events; from = i.from.0; target = i.target.0; patches = i.patches; table = i.tasks; blames = i.blames; last_scan = told_scan i.unchanged }) i.waiting c.self.invariant.engine (point_event c.args.kind c.args.task) c.args.kind c.args.task.0 h (at_point c.args.kind) (point-level c.args.kind) (point-group c.args.kind) x at (point-checks _ _ c.args.kind c.args.task c.requires.point) c.args.self.now c.self.view_is (point-own _ _ c.args.kind c.args.task _) true (sym c.if-not-contains.ensures.member) true (λ _. rw (group, c.if-not-alone.false) at c.is_alone-alone.ensures)

@@ -1,6 +1,7 @@
 use Rattle.std.proofs.Common.{◌≡◌, false, [], sym, ap, subst, ◌∙◌}
 use Rattle.lp_transition.specs.Events.{is_scan}
 use Rattle.lp_transition.specs.Blames.{AreBlamesAfter}
+use Rattle.lp_transition.specs.LastScan.{IsLastScanAfter}
 use Rattle.lp_transition.proofs.BlamedScans.{no_verdicts}
 use Rattle.lp_transition.specs.declared.reply.Reply.{Reply}
 use Rattle.lp_transition.specs.Table.{state_in}
@@ -48,3 +49,13 @@ returns-clause-blames g c =
       | in-None w ↦ rw w.self-is (subst (λ event. AreBlamesAfter rules old event [] w.take_accepted.new.self) c.event-event.ensures w.take_accepted.ensures.blames)
     ] in
     subst (λ vs. AreBlamesAfter rules old c.args.step.event vs c.match-refusal_in.self) (sym none) went
+
+pub returns-clause-last_scan : goal.returns-clause-last_scan
+returns-clause-last_scan g c =
+    let rules = g.M.Consistency.rules in
+    let old = c.args.self.now in
+    let went : IsLastScanAfter rules old c.args.step.event c.match-refusal_in.self = elim c.match-refusal_in.branch [
+      | in-Some w ↦ rw w.self-is (subst (λ event. IsLastScanAfter rules old event w.take_refused.new.self) c.event-event.ensures w.take_refused.ensures.last_scan)
+      | in-None w ↦ rw w.self-is (subst (λ event. IsLastScanAfter rules old event w.take_accepted.new.self) c.event-event.ensures w.take_accepted.ensures.last_scan)
+    ] in
+    went

@@ -7,6 +7,9 @@ use Rattle.lp_transition.proofs.Births.{takes_birth}
 use Rattle.lp_transition.specs.Table.{Engine}
 use Rattle.lp_transition.proofs.Unchanged.{core_takes, bears_in}
 use Rattle.lp_transition.proofs.Blames.{leaves_apart, birth_apart}
+use Rattle.lp_transition.proofs.Effects.{with_scan}
+use Rattle.lp_transition.proofs.LastScans.{last_takes}
+use Rattle.lp_transition.specs.inside.Invariant.{told_scan}
 use Rattle.lp_transition.proofs.engine.Core.take_fork.Goals as goal
 
 pub invariant_of-self : goal.invariant_of-self
@@ -14,16 +17,16 @@ invariant_of-self g c =
     let i = c.self.inside in
     let h : c.args.child.0 < 65536 = omega arith in
     let off : c.ne-waits.result ≡ not (nat_eq c.args.live.value.level i.target.0) = c.ne-waits.ensures ∙ ap (λ l. not (nat_eq l i.target.0)) (c.level.ensures ∙ ap (λ (x : Standing). x.level) c.deref.ensures) in
-    let e : Engine = record { number = i.events; from = i.from.0; target = i.target.0; patches = i.patches; table = i.tasks; blames = i.blames } in
+    let e : Engine = record { number = i.events; from = i.from.0; target = i.target.0; patches = i.patches; table = i.tasks; blames = i.blames; last_scan = told_scan i.unchanged } in
     let accepted = rw (← c.self.view_is) at c.requires.accepted in
     let born = rw (← c.self.view_is) at c.requires.born in
     let noted = rw c.put.ensures at c.touch.ensures.changed in
-    let taken = takes_birth g.M.Consistency.rules g.met.M.Consistency.lawful (record { number = i.events; from = i.from.0; target = i.target.0; patches = i.patches; table = i.tasks; blames = i.blames }) c.args.self.now c.put.new.self i.waiting c.put_number.new.set c.args.parent c.args.child c.args.how c.args.live.value c.self.view_is c.put.ensures c.self.invariant.engine c.put_number.ensures.numbers h c.requires.room c.requires.accepted c.requires.born (λ n. c.put_number.ensures.after n ∙ ap (λ b. if nat_eq n c.args.child.0 then b else has i.waiting n) off) in
+    let taken = with_scan g.M.Consistency.rules c.args.self.now _ (Fork c.args.parent c.args.child c.args.how) c.put_number.new.set (told_scan c.touch.new.self) (takes_birth g.M.Consistency.rules g.met.M.Consistency.lawful (record { number = i.events; from = i.from.0; target = i.target.0; patches = i.patches; table = i.tasks; blames = i.blames; last_scan = told_scan i.unchanged }) c.args.self.now c.put.new.self i.waiting c.put_number.new.set c.args.parent c.args.child c.args.how c.args.live.value c.self.view_is c.put.ensures c.self.invariant.engine c.put_number.ensures.numbers h c.requires.room c.requires.accepted c.requires.born (λ n. c.put_number.ensures.after n ∙ ap (λ b. if nat_eq n c.args.child.0 then b else has i.waiting n) off)) in
     let left = leaves_apart g.M.Consistency.rules g.met.M.Consistency.lawful e c.args.self.now _ i.waiting c.put_number.new.set (Fork c.args.parent c.args.child c.args.how) c.self.view_is c.self.invariant.engine c.self.invariant.blamed taken c.requires.accepted refl refl (birth_apart g.M.Consistency.rules e c.args.parent c.args.child c.args.how accepted) in
     record {
       core =
           core_takes g.M.Consistency.rules e c.args.self.now _ i.waiting c.put_number.new.set (Fork c.args.parent c.args.child c.args.how) i.unchanged c.touch.new.self c.self.view_is c.self.invariant.core
-          (takes_birth g.M.Consistency.rules g.met.M.Consistency.lawful (record { number = i.events; from = i.from.0; target = i.target.0; patches = i.patches; table = i.tasks; blames = i.blames }) c.args.self.now c.put.new.self i.waiting c.put_number.new.set c.args.parent c.args.child c.args.how c.args.live.value c.self.view_is c.put.ensures c.self.invariant.engine c.put_number.ensures.numbers h c.requires.room c.requires.accepted c.requires.born (λ n. c.put_number.ensures.after n ∙ ap (λ b. if nat_eq n c.args.child.0 then b else has i.waiting n) off))
+          taken
           c.requires.accepted refl c.touch.ensures.kind (bears_in g.M.Consistency.rules e c.args.parent c.args.child c.args.how c.args.live.value i.unchanged c.touch.new.self c.self.invariant.engine.wide h accepted born (noted, c.touch.ensures.may_refuse));
       groups = c.self.invariant.groups;
       blamed = left.blamed;
@@ -34,22 +37,35 @@ returns-clause-state g c =
     let i = c.self.inside in
     let h : c.args.child.0 < 65536 = omega arith in
     let off : c.ne-waits.result ≡ not (nat_eq c.args.live.value.level i.target.0) = c.ne-waits.ensures ∙ ap (λ l. not (nat_eq l i.target.0)) (c.level.ensures ∙ ap (λ (x : Standing). x.level) c.deref.ensures) in
-    (takes_birth g.M.Consistency.rules g.met.M.Consistency.lawful (record { number = i.events; from = i.from.0; target = i.target.0; patches = i.patches; table = i.tasks; blames = i.blames }) c.args.self.now c.put.new.self i.waiting c.put_number.new.set c.args.parent c.args.child c.args.how c.args.live.value c.self.view_is c.put.ensures c.self.invariant.engine c.put_number.ensures.numbers h c.requires.room c.requires.accepted c.requires.born (λ n. c.put_number.ensures.after n ∙ ap (λ b. if nat_eq n c.args.child.0 then b else has i.waiting n) off)).state
+    (takes_birth g.M.Consistency.rules g.met.M.Consistency.lawful (record { number = i.events; from = i.from.0; target = i.target.0; patches = i.patches; table = i.tasks; blames = i.blames; last_scan = told_scan i.unchanged }) c.args.self.now c.put.new.self i.waiting c.put_number.new.set c.args.parent c.args.child c.args.how c.args.live.value c.self.view_is c.put.ensures c.self.invariant.engine c.put_number.ensures.numbers h c.requires.room c.requires.accepted c.requires.born (λ n. c.put_number.ensures.after n ∙ ap (λ b. if nat_eq n c.args.child.0 then b else has i.waiting n) off)).state
 
 pub returns-clause-blames : goal.returns-clause-blames
 returns-clause-blames g c =
     let i = c.self.inside in
-    let e : Engine = record { number = i.events; from = i.from.0; target = i.target.0; patches = i.patches; table = i.tasks; blames = i.blames } in
+    let e : Engine = record { number = i.events; from = i.from.0; target = i.target.0; patches = i.patches; table = i.tasks; blames = i.blames; last_scan = told_scan i.unchanged } in
     let h : c.args.child.0 < 65536 = omega arith in
     let off : c.ne-waits.result ≡ not (nat_eq c.args.live.value.level i.target.0) = c.ne-waits.ensures ∙ ap (λ l. not (nat_eq l i.target.0)) (c.level.ensures ∙ ap (λ (x : Standing). x.level) c.deref.ensures) in
     let accepted = rw (← c.self.view_is) at c.requires.accepted in
-    let taken = takes_birth g.M.Consistency.rules g.met.M.Consistency.lawful (record { number = i.events; from = i.from.0; target = i.target.0; patches = i.patches; table = i.tasks; blames = i.blames }) c.args.self.now c.put.new.self i.waiting c.put_number.new.set c.args.parent c.args.child c.args.how c.args.live.value c.self.view_is c.put.ensures c.self.invariant.engine c.put_number.ensures.numbers h c.requires.room c.requires.accepted c.requires.born (λ n. c.put_number.ensures.after n ∙ ap (λ b. if nat_eq n c.args.child.0 then b else has i.waiting n) off) in
+    let taken = takes_birth g.M.Consistency.rules g.met.M.Consistency.lawful (record { number = i.events; from = i.from.0; target = i.target.0; patches = i.patches; table = i.tasks; blames = i.blames; last_scan = told_scan i.unchanged }) c.args.self.now c.put.new.self i.waiting c.put_number.new.set c.args.parent c.args.child c.args.how c.args.live.value c.self.view_is c.put.ensures c.self.invariant.engine c.put_number.ensures.numbers h c.requires.room c.requires.accepted c.requires.born (λ n. c.put_number.ensures.after n ∙ ap (λ b. if nat_eq n c.args.child.0 then b else has i.waiting n) off) in
     (leaves_apart g.M.Consistency.rules g.met.M.Consistency.lawful e c.args.self.now _ i.waiting c.put_number.new.set (Fork c.args.parent c.args.child c.args.how) c.self.view_is c.self.invariant.engine c.self.invariant.blamed taken c.requires.accepted refl refl (birth_apart g.M.Consistency.rules e c.args.parent c.args.child c.args.how accepted)).after
+
+pub returns-clause-last_scan : goal.returns-clause-last_scan
+returns-clause-last_scan g c =
+    let i = c.self.inside in
+    let h : c.args.child.0 < 65536 = omega arith in
+    let off : c.ne-waits.result ≡ not (nat_eq c.args.live.value.level i.target.0) = c.ne-waits.ensures ∙ ap (λ l. not (nat_eq l i.target.0)) (c.level.ensures ∙ ap (λ (x : Standing). x.level) c.deref.ensures) in
+    let e : Engine = record { number = i.events; from = i.from.0; target = i.target.0; patches = i.patches; table = i.tasks; blames = i.blames; last_scan = told_scan i.unchanged } in
+    let accepted = rw (← c.self.view_is) at c.requires.accepted in
+    let born = rw (← c.self.view_is) at c.requires.born in
+    let noted = rw c.put.ensures at c.touch.ensures.changed in
+    let taken = with_scan g.M.Consistency.rules c.args.self.now _ (Fork c.args.parent c.args.child c.args.how) c.put_number.new.set (told_scan c.touch.new.self) (takes_birth g.M.Consistency.rules g.met.M.Consistency.lawful (record { number = i.events; from = i.from.0; target = i.target.0; patches = i.patches; table = i.tasks; blames = i.blames; last_scan = told_scan i.unchanged }) c.args.self.now c.put.new.self i.waiting c.put_number.new.set c.args.parent c.args.child c.args.how c.args.live.value c.self.view_is c.put.ensures c.self.invariant.engine c.put_number.ensures.numbers h c.requires.room c.requires.accepted c.requires.born (λ n. c.put_number.ensures.after n ∙ ap (λ b. if nat_eq n c.args.child.0 then b else has i.waiting n) off)) in
+    last_takes g.M.Consistency.rules e c.args.self.now _ c.put_number.new.set (Fork c.args.parent c.args.child c.args.how) i.unchanged c.touch.new.self c.self.view_is refl refl taken c.requires.accepted refl refl c.touch.ensures.kind
+    (bears_in g.M.Consistency.rules e c.args.parent c.args.child c.args.how c.args.live.value i.unchanged c.touch.new.self c.self.invariant.engine.wide h accepted born (noted, c.touch.ensures.may_refuse))
 
 pub put-requires : goal.put-requires
 put-requires g c =
     let i = c.self.inside in
-    let e : Engine = record { number = i.events; from = i.from.0; target = i.target.0; patches = i.patches; table = i.tasks; blames = i.blames } in
+    let e : Engine = record { number = i.events; from = i.from.0; target = i.target.0; patches = i.patches; table = i.tasks; blames = i.blames; last_scan = told_scan i.unchanged } in
     let accepted = rw (← c.self.view_is) at c.requires.accepted in
     record {
       positive = fork-positive g.M.Consistency.rules e c.args.parent c.args.child c.args.how accepted;

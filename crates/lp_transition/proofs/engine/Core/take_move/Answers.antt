@@ -4,10 +4,12 @@ use Rattle.lp_transition.specs.Table.{Engine, standings}
 use Rattle.lp_transition.specs.Tasks.{change}
 use Rattle.lp_transition.specs.inside.Moves.{move_event}
 use Rattle.lp_transition.proofs.EngineLemmas.{quiet-control}
-use Rattle.lp_transition.proofs.Effects.{takes_change}
+use Rattle.lp_transition.proofs.Effects.{takes_change, with_scan}
 use Rattle.lp_transition.proofs.Moves.{move_effect, move_quiet, move_touches}
 use Rattle.lp_transition.proofs.Unchanged.{core_changes}
 use Rattle.lp_transition.proofs.Blames.{leaves_changed}
+use Rattle.lp_transition.proofs.LastScans.{last_changes, quiet_unused}
+use Rattle.lp_transition.specs.inside.Invariant.{told_scan}
 use Rattle.lp_transition.proofs.engine.Core.take_move.Goals as goal
 
 pub invariant_of-self : goal.invariant_of-self
@@ -16,12 +18,12 @@ invariant_of-self g c =
     let i = c.self.inside in
     let rules = g.M.Consistency.rules in
     let lawful = g.met.M.Consistency.lawful in
-    let e : Engine = record { number = i.events; from = i.from.0; target = i.target.0; patches = i.patches; table = i.tasks; blames = i.blames } in
+    let e : Engine = record { number = i.events; from = i.from.0; target = i.target.0; patches = i.patches; table = i.tasks; blames = i.blames; last_scan = told_scan i.unchanged } in
     let event = move_event c.args.kind c.args.task in
     let moved = put_in c.mode.result in
     let own : own_effect rules.child_group (suc e.number) event (standings e.table) ≡ change c.args.task.0 moved (standings e.table) = rw c.mode.ensures (move_effect rules.child_group (suc e.number) c.args.kind c.args.task (standings e.table)) in
     let quiet = move_quiet c.args.kind c.args.task in
-    let taken = takes_change rules lawful e c.args.self.now c.set_mode.new.self i.waiting event c.args.task.0 moved c.self.view_is c.set_mode.ensures c.self.invariant.engine h c.requires.room quiet c.requires.accepted own (λ x. refl) (λ x. refl) in
+    let taken = with_scan rules c.args.self.now _ event i.waiting (told_scan c.touch.new.self) (takes_change rules lawful e c.args.self.now c.set_mode.new.self i.waiting event c.args.task.0 moved c.self.view_is c.set_mode.ensures c.self.invariant.engine h c.requires.room quiet c.requires.accepted own (λ x. refl) (λ x. refl)) in
     let plain = quiet-control rules event quiet in
     let left = leaves_changed rules lawful e c.args.self.now _ i.waiting i.waiting event c.self.view_is c.self.invariant.engine c.self.invariant.blamed taken c.requires.accepted plain refl c.args.task.0 moved own (λ x. refl) (λ x. refl) (λ x frame there. there) in
     record {
@@ -38,7 +40,7 @@ returns-clause-state g c =
     let i = c.self.inside in
     let rules = g.M.Consistency.rules in
     let lawful = g.met.M.Consistency.lawful in
-    let e : Engine = record { number = i.events; from = i.from.0; target = i.target.0; patches = i.patches; table = i.tasks; blames = i.blames } in
+    let e : Engine = record { number = i.events; from = i.from.0; target = i.target.0; patches = i.patches; table = i.tasks; blames = i.blames; last_scan = told_scan i.unchanged } in
     let event = move_event c.args.kind c.args.task in
     let moved = put_in c.mode.result in
     let own : own_effect rules.child_group (suc e.number) event (standings e.table) ≡ change c.args.task.0 moved (standings e.table) = rw c.mode.ensures (move_effect rules.child_group (suc e.number) c.args.kind c.args.task (standings e.table)) in
@@ -52,7 +54,7 @@ returns-clause-blames g c =
     let i = c.self.inside in
     let rules = g.M.Consistency.rules in
     let lawful = g.met.M.Consistency.lawful in
-    let e : Engine = record { number = i.events; from = i.from.0; target = i.target.0; patches = i.patches; table = i.tasks; blames = i.blames } in
+    let e : Engine = record { number = i.events; from = i.from.0; target = i.target.0; patches = i.patches; table = i.tasks; blames = i.blames; last_scan = told_scan i.unchanged } in
     let event = move_event c.args.kind c.args.task in
     let moved = put_in c.mode.result in
     let own : own_effect rules.child_group (suc e.number) event (standings e.table) ≡ change c.args.task.0 moved (standings e.table) = rw c.mode.ensures (move_effect rules.child_group (suc e.number) c.args.kind c.args.task (standings e.table)) in
@@ -61,3 +63,17 @@ returns-clause-blames g c =
     let plain = quiet-control rules event quiet in
     let left = leaves_changed rules lawful e c.args.self.now _ i.waiting i.waiting event c.self.view_is c.self.invariant.engine c.self.invariant.blamed taken c.requires.accepted plain refl c.args.task.0 moved own (λ x. refl) (λ x. refl) (λ x frame there. there) in
     left.after
+
+pub returns-clause-last_scan : goal.returns-clause-last_scan
+returns-clause-last_scan g c =
+    let h : c.args.task.0 < 65536 = omega arith in
+    let i = c.self.inside in
+    let rules = g.M.Consistency.rules in
+    let lawful = g.met.M.Consistency.lawful in
+    let e : Engine = record { number = i.events; from = i.from.0; target = i.target.0; patches = i.patches; table = i.tasks; blames = i.blames; last_scan = told_scan i.unchanged } in
+    let event = move_event c.args.kind c.args.task in
+    let moved = put_in c.mode.result in
+    let own : own_effect rules.child_group (suc e.number) event (standings e.table) ≡ change c.args.task.0 moved (standings e.table) = rw c.mode.ensures (move_effect rules.child_group (suc e.number) c.args.kind c.args.task (standings e.table)) in
+    let quiet = move_quiet c.args.kind c.args.task in
+    let taken = with_scan rules c.args.self.now _ event i.waiting (told_scan c.touch.new.self) (takes_change rules lawful e c.args.self.now c.set_mode.new.self i.waiting event c.args.task.0 moved c.self.view_is c.set_mode.ensures c.self.invariant.engine h c.requires.room quiet c.requires.accepted own (λ x. refl) (λ x. refl)) in
+    last_changes rules e c.args.self.now _ i.waiting event i.unchanged c.touch.new.self c.self.view_is refl refl taken c.args.task.0 moved c.requires.accepted (quiet-control rules event quiet) (quiet_unused rules event quiet) c.touch.ensures.kind (c.touch.ensures.changed, c.touch.ensures.may_refuse) (move_touches c.args.kind c.args.task) own (λ x. refl)

@@ -2,13 +2,15 @@ use Rattle.std.proofs.Common.{◌<◌, refl, sym, ap, ◌∙◌, arith}
 use Rattle.lp_transition.specs.Machine.{affected, switches_at}
 use Rattle.lp_transition.specs.Table.{Engine, state_in}
 use Rattle.lp_transition.specs.inside.Table.{changed}
-use Rattle.lp_transition.proofs.Effects.{takes_change_still}
+use Rattle.lp_transition.proofs.Effects.{takes_change_still, with_scan, with_table}
 use Rattle.lp_transition.proofs.LoneChecks.{none-switches_now, put_on, takes_switch}
 use Rattle.lp_transition.proofs.Weighing.{switches-reported, group-below}
 use Rattle.lp_transition.specs.inside.Points.{point_event, at_point}
 use Rattle.lp_transition.proofs.Points.{point-level, point-group, point-plain, point-checks, point-own, point-live, point-told}
 use Rattle.lp_transition.proofs.Unchanged.{core_changes, core_rests, point_touches}
 use Rattle.lp_transition.proofs.Blames.{leaves_changed}
+use Rattle.lp_transition.proofs.LastScans.{last_changes, last_rests, point_unused}
+use Rattle.lp_transition.specs.inside.Invariant.{told_scan}
 use Rattle.lp_transition.proofs.engine.Core.take_point.Goals as goal
 
 pub invariant_of-self : goal.invariant_of-self
@@ -18,16 +20,16 @@ invariant_of-self g c =
     let accepted = rw (← c.self.view_is) at c.requires.accepted in
     let switching = rw (← c.self.view_is) at c.requires.switching in
     let room = rw (← c.self.view_is) at c.requires.room in
-    let live = point-live g.M.Consistency.rules (record { number = i.events; from = i.from.0; target = i.target.0; patches = i.patches; table = i.tasks; blames = i.blames }) c.args.kind c.args.task accepted in
-    let within = group-below (record { number = i.events; from = i.from.0; target = i.target.0; patches = i.patches; table = i.tasks; blames = i.blames }) i.waiting c.args.task.0 live.task c.self.invariant.engine live.there in
-    let switches = ap (λ (o : Engine). switches_at g.M.Consistency.rules (affected g.M.Consistency.rules (state_in o) (point_event c.args.kind c.args.task)) (point_event c.args.kind c.args.task) live.task.group) (sym c.self.view_is) ∙ switches-reported g.M.Consistency.rules g.met.M.Consistency.lawful (record { number = i.events; from = i.from.0; target = i.target.0; patches = i.patches; table = i.tasks; blames = i.blames }) i.waiting c.self.invariant.engine room (point_event c.args.kind c.args.task) c.args.kind c.args.task.0 h (at_point c.args.kind) (point-level c.args.kind) (point-group c.args.kind) live.task live.there (point-checks _ _ c.args.kind c.args.task c.requires.point) (point-plain c.args.kind c.args.task) accepted (point-own _ _ c.args.kind c.args.task _) (point-told g.M.Consistency.rules _ c.args.kind c.args.task) c.args.switching within switching ∙ c.if-not-switching.true in
-    let e : Engine = record { number = i.events; from = i.from.0; target = i.target.0; patches = i.patches; table = i.tasks; blames = i.blames } in
-    let taken = takes_change_still g.M.Consistency.rules g.met.M.Consistency.lawful (record { number = i.events; from = i.from.0; target = i.target.0; patches = i.patches; table = i.tasks; blames = i.blames }) c.args.self.now c.reach_point.new.self i.waiting (point_event c.args.kind c.args.task) c.args.task.0 (at_point c.args.kind) c.self.view_is c.reach_point.ensures c.self.invariant.engine h c.requires.room (point-plain c.args.kind c.args.task) (none-switches_now g.M.Consistency.rules g.met.M.Consistency.lawful (record { number = i.events; from = i.from.0; target = i.target.0; patches = i.patches; table = i.tasks; blames = i.blames }) i.waiting c.self.invariant.engine (point_event c.args.kind c.args.task) c.args.kind c.args.task.0 h (at_point c.args.kind) (point-level c.args.kind) (point-group c.args.kind) live.task live.there (point-checks _ _ c.args.kind c.args.task c.requires.point) c.args.self.now c.self.view_is (point-own _ _ c.args.kind c.args.task _) switches) c.requires.accepted (point-own _ _ c.args.kind c.args.task _) (point-level c.args.kind) (point-group c.args.kind) in
+    let live = point-live g.M.Consistency.rules (record { number = i.events; from = i.from.0; target = i.target.0; patches = i.patches; table = i.tasks; blames = i.blames; last_scan = told_scan i.unchanged }) c.args.kind c.args.task accepted in
+    let within = group-below (record { number = i.events; from = i.from.0; target = i.target.0; patches = i.patches; table = i.tasks; blames = i.blames; last_scan = told_scan i.unchanged }) i.waiting c.args.task.0 live.task c.self.invariant.engine live.there in
+    let switches = ap (λ (o : Engine). switches_at g.M.Consistency.rules (affected g.M.Consistency.rules (state_in o) (point_event c.args.kind c.args.task)) (point_event c.args.kind c.args.task) live.task.group) (sym c.self.view_is) ∙ switches-reported g.M.Consistency.rules g.met.M.Consistency.lawful (record { number = i.events; from = i.from.0; target = i.target.0; patches = i.patches; table = i.tasks; blames = i.blames; last_scan = told_scan i.unchanged }) i.waiting c.self.invariant.engine room (point_event c.args.kind c.args.task) c.args.kind c.args.task.0 h (at_point c.args.kind) (point-level c.args.kind) (point-group c.args.kind) live.task live.there (point-checks _ _ c.args.kind c.args.task c.requires.point) (point-plain c.args.kind c.args.task) accepted (point-own _ _ c.args.kind c.args.task _) (point-told g.M.Consistency.rules _ c.args.kind c.args.task) c.args.switching within switching ∙ c.if-not-switching.true in
+    let e : Engine = record { number = i.events; from = i.from.0; target = i.target.0; patches = i.patches; table = i.tasks; blames = i.blames; last_scan = told_scan i.unchanged } in
+    let taken = with_scan g.M.Consistency.rules c.args.self.now _ (point_event c.args.kind c.args.task) i.waiting (told_scan c.touch.new.self) (takes_change_still g.M.Consistency.rules g.met.M.Consistency.lawful (record { number = i.events; from = i.from.0; target = i.target.0; patches = i.patches; table = i.tasks; blames = i.blames; last_scan = told_scan i.unchanged }) c.args.self.now c.reach_point.new.self i.waiting (point_event c.args.kind c.args.task) c.args.task.0 (at_point c.args.kind) c.self.view_is c.reach_point.ensures c.self.invariant.engine h c.requires.room (point-plain c.args.kind c.args.task) (none-switches_now g.M.Consistency.rules g.met.M.Consistency.lawful (record { number = i.events; from = i.from.0; target = i.target.0; patches = i.patches; table = i.tasks; blames = i.blames; last_scan = told_scan i.unchanged }) i.waiting c.self.invariant.engine (point_event c.args.kind c.args.task) c.args.kind c.args.task.0 h (at_point c.args.kind) (point-level c.args.kind) (point-group c.args.kind) live.task live.there (point-checks _ _ c.args.kind c.args.task c.requires.point) c.args.self.now c.self.view_is (point-own _ _ c.args.kind c.args.task _) switches) c.requires.accepted (point-own _ _ c.args.kind c.args.task _) (point-level c.args.kind) (point-group c.args.kind)) in
     let left = leaves_changed g.M.Consistency.rules g.met.M.Consistency.lawful e c.args.self.now _ i.waiting i.waiting (point_event c.args.kind c.args.task) c.self.view_is c.self.invariant.engine c.self.invariant.blamed taken c.requires.accepted (point-plain c.args.kind c.args.task) refl c.args.task.0 (at_point c.args.kind) (point-own _ _ c.args.kind c.args.task _) (point-level c.args.kind) (point-group c.args.kind) (λ x frame there. there) in
     record {
       core =
           core_changes g.M.Consistency.rules e c.args.self.now _ i.waiting i.waiting (point_event c.args.kind c.args.task) i.unchanged c.touch.new.self c.self.view_is c.self.invariant.core
-          (takes_change_still g.M.Consistency.rules g.met.M.Consistency.lawful (record { number = i.events; from = i.from.0; target = i.target.0; patches = i.patches; table = i.tasks; blames = i.blames }) c.args.self.now c.reach_point.new.self i.waiting (point_event c.args.kind c.args.task) c.args.task.0 (at_point c.args.kind) c.self.view_is c.reach_point.ensures c.self.invariant.engine h c.requires.room (point-plain c.args.kind c.args.task) (none-switches_now g.M.Consistency.rules g.met.M.Consistency.lawful (record { number = i.events; from = i.from.0; target = i.target.0; patches = i.patches; table = i.tasks; blames = i.blames }) i.waiting c.self.invariant.engine (point_event c.args.kind c.args.task) c.args.kind c.args.task.0 h (at_point c.args.kind) (point-level c.args.kind) (point-group c.args.kind) live.task live.there (point-checks _ _ c.args.kind c.args.task c.requires.point) c.args.self.now c.self.view_is (point-own _ _ c.args.kind c.args.task _) switches) c.requires.accepted (point-own _ _ c.args.kind c.args.task _) (point-level c.args.kind) (point-group c.args.kind))
+          taken
           c.requires.accepted c.touch.ensures.kind c.args.task.0 (at_point c.args.kind) (point-plain c.args.kind c.args.task) (c.touch.ensures.changed, c.touch.ensures.may_refuse) (point_touches c.args.kind c.args.task) (point-own _ _ c.args.kind c.args.task _) (point-group c.args.kind);
       groups = c.self.invariant.groups;
       blamed = left.blamed;
@@ -40,10 +42,10 @@ returns-then-not-switching-clause-state g c =
     let accepted = rw (← c.self.view_is) at c.requires.accepted in
     let switching = rw (← c.self.view_is) at c.requires.switching in
     let room = rw (← c.self.view_is) at c.requires.room in
-    let live = point-live g.M.Consistency.rules (record { number = i.events; from = i.from.0; target = i.target.0; patches = i.patches; table = i.tasks; blames = i.blames }) c.args.kind c.args.task accepted in
-    let within = group-below (record { number = i.events; from = i.from.0; target = i.target.0; patches = i.patches; table = i.tasks; blames = i.blames }) i.waiting c.args.task.0 live.task c.self.invariant.engine live.there in
-    let switches = ap (λ (o : Engine). switches_at g.M.Consistency.rules (affected g.M.Consistency.rules (state_in o) (point_event c.args.kind c.args.task)) (point_event c.args.kind c.args.task) live.task.group) (sym c.self.view_is) ∙ switches-reported g.M.Consistency.rules g.met.M.Consistency.lawful (record { number = i.events; from = i.from.0; target = i.target.0; patches = i.patches; table = i.tasks; blames = i.blames }) i.waiting c.self.invariant.engine room (point_event c.args.kind c.args.task) c.args.kind c.args.task.0 h (at_point c.args.kind) (point-level c.args.kind) (point-group c.args.kind) live.task live.there (point-checks _ _ c.args.kind c.args.task c.requires.point) (point-plain c.args.kind c.args.task) accepted (point-own _ _ c.args.kind c.args.task _) (point-told g.M.Consistency.rules _ c.args.kind c.args.task) c.args.switching within switching ∙ c.if-not-switching.true in
-    (takes_change_still g.M.Consistency.rules g.met.M.Consistency.lawful (record { number = i.events; from = i.from.0; target = i.target.0; patches = i.patches; table = i.tasks; blames = i.blames }) c.args.self.now c.reach_point.new.self i.waiting (point_event c.args.kind c.args.task) c.args.task.0 (at_point c.args.kind) c.self.view_is c.reach_point.ensures c.self.invariant.engine h c.requires.room (point-plain c.args.kind c.args.task) (none-switches_now g.M.Consistency.rules g.met.M.Consistency.lawful (record { number = i.events; from = i.from.0; target = i.target.0; patches = i.patches; table = i.tasks; blames = i.blames }) i.waiting c.self.invariant.engine (point_event c.args.kind c.args.task) c.args.kind c.args.task.0 h (at_point c.args.kind) (point-level c.args.kind) (point-group c.args.kind) live.task live.there (point-checks _ _ c.args.kind c.args.task c.requires.point) c.args.self.now c.self.view_is (point-own _ _ c.args.kind c.args.task _) switches) c.requires.accepted (point-own _ _ c.args.kind c.args.task _) (point-level c.args.kind) (point-group c.args.kind)).state
+    let live = point-live g.M.Consistency.rules (record { number = i.events; from = i.from.0; target = i.target.0; patches = i.patches; table = i.tasks; blames = i.blames; last_scan = told_scan i.unchanged }) c.args.kind c.args.task accepted in
+    let within = group-below (record { number = i.events; from = i.from.0; target = i.target.0; patches = i.patches; table = i.tasks; blames = i.blames; last_scan = told_scan i.unchanged }) i.waiting c.args.task.0 live.task c.self.invariant.engine live.there in
+    let switches = ap (λ (o : Engine). switches_at g.M.Consistency.rules (affected g.M.Consistency.rules (state_in o) (point_event c.args.kind c.args.task)) (point_event c.args.kind c.args.task) live.task.group) (sym c.self.view_is) ∙ switches-reported g.M.Consistency.rules g.met.M.Consistency.lawful (record { number = i.events; from = i.from.0; target = i.target.0; patches = i.patches; table = i.tasks; blames = i.blames; last_scan = told_scan i.unchanged }) i.waiting c.self.invariant.engine room (point_event c.args.kind c.args.task) c.args.kind c.args.task.0 h (at_point c.args.kind) (point-level c.args.kind) (point-group c.args.kind) live.task live.there (point-checks _ _ c.args.kind c.args.task c.requires.point) (point-plain c.args.kind c.args.task) accepted (point-own _ _ c.args.kind c.args.task _) (point-told g.M.Consistency.rules _ c.args.kind c.args.task) c.args.switching within switching ∙ c.if-not-switching.true in
+    (takes_change_still g.M.Consistency.rules g.met.M.Consistency.lawful (record { number = i.events; from = i.from.0; target = i.target.0; patches = i.patches; table = i.tasks; blames = i.blames; last_scan = told_scan i.unchanged }) c.args.self.now c.reach_point.new.self i.waiting (point_event c.args.kind c.args.task) c.args.task.0 (at_point c.args.kind) c.self.view_is c.reach_point.ensures c.self.invariant.engine h c.requires.room (point-plain c.args.kind c.args.task) (none-switches_now g.M.Consistency.rules g.met.M.Consistency.lawful (record { number = i.events; from = i.from.0; target = i.target.0; patches = i.patches; table = i.tasks; blames = i.blames; last_scan = told_scan i.unchanged }) i.waiting c.self.invariant.engine (point_event c.args.kind c.args.task) c.args.kind c.args.task.0 h (at_point c.args.kind) (point-level c.args.kind) (point-group c.args.kind) live.task live.there (point-checks _ _ c.args.kind c.args.task c.requires.point) c.args.self.now c.self.view_is (point-own _ _ c.args.kind c.args.task _) switches) c.requires.accepted (point-own _ _ c.args.kind c.args.task _) (point-level c.args.kind) (point-group c.args.kind)).state
 
 pub invariant_of-self-2 : goal.invariant_of-self-2
 invariant_of-self-2 g c =
@@ -52,17 +54,17 @@ invariant_of-self-2 g c =
     let accepted = rw (← c.self.view_is) at c.requires.accepted in
     let switching = rw (← c.self.view_is) at c.requires.switching in
     let room = rw (← c.self.view_is) at c.requires.room in
-    let live = point-live g.M.Consistency.rules (record { number = i.events; from = i.from.0; target = i.target.0; patches = i.patches; table = i.tasks; blames = i.blames }) c.args.kind c.args.task accepted in
-    let within = group-below (record { number = i.events; from = i.from.0; target = i.target.0; patches = i.patches; table = i.tasks; blames = i.blames }) i.waiting c.args.task.0 live.task c.self.invariant.engine live.there in
-    let switches = ap (λ (o : Engine). switches_at g.M.Consistency.rules (affected g.M.Consistency.rules (state_in o) (point_event c.args.kind c.args.task)) (point_event c.args.kind c.args.task) live.task.group) (sym c.self.view_is) ∙ switches-reported g.M.Consistency.rules g.met.M.Consistency.lawful (record { number = i.events; from = i.from.0; target = i.target.0; patches = i.patches; table = i.tasks; blames = i.blames }) i.waiting c.self.invariant.engine room (point_event c.args.kind c.args.task) c.args.kind c.args.task.0 h (at_point c.args.kind) (point-level c.args.kind) (point-group c.args.kind) live.task live.there (point-checks _ _ c.args.kind c.args.task c.requires.point) (point-plain c.args.kind c.args.task) accepted (point-own _ _ c.args.kind c.args.task _) (point-told g.M.Consistency.rules _ c.args.kind c.args.task) c.args.switching within switching ∙ c.if-not-switching.false in
-    let e : Engine = record { number = i.events; from = i.from.0; target = i.target.0; patches = i.patches; table = i.tasks; blames = i.blames } in
-    let taken = takes_switch g.M.Consistency.rules g.met.M.Consistency.lawful (record { number = i.events; from = i.from.0; target = i.target.0; patches = i.patches; table = i.tasks; blames = i.blames }) i.waiting c.self.invariant.engine (point_event c.args.kind c.args.task) c.args.kind c.args.task.0 h (at_point c.args.kind) (point-level c.args.kind) (point-group c.args.kind) live.task live.there (point-checks _ _ c.args.kind c.args.task c.requires.point) c.args.self.now c.set_level.new.self c.remove.new.self c.self.view_is (c.set_level.ensures ∙ ap (changed c.args.task.0 (put_on i.target.0)) c.reach_point.ensures) c.remove.ensures.after c.remove.ensures.numbers c.requires.room (point-plain c.args.kind c.args.task) c.requires.accepted (point-own _ _ c.args.kind c.args.task _) switches in
+    let live = point-live g.M.Consistency.rules (record { number = i.events; from = i.from.0; target = i.target.0; patches = i.patches; table = i.tasks; blames = i.blames; last_scan = told_scan i.unchanged }) c.args.kind c.args.task accepted in
+    let within = group-below (record { number = i.events; from = i.from.0; target = i.target.0; patches = i.patches; table = i.tasks; blames = i.blames; last_scan = told_scan i.unchanged }) i.waiting c.args.task.0 live.task c.self.invariant.engine live.there in
+    let switches = ap (λ (o : Engine). switches_at g.M.Consistency.rules (affected g.M.Consistency.rules (state_in o) (point_event c.args.kind c.args.task)) (point_event c.args.kind c.args.task) live.task.group) (sym c.self.view_is) ∙ switches-reported g.M.Consistency.rules g.met.M.Consistency.lawful (record { number = i.events; from = i.from.0; target = i.target.0; patches = i.patches; table = i.tasks; blames = i.blames; last_scan = told_scan i.unchanged }) i.waiting c.self.invariant.engine room (point_event c.args.kind c.args.task) c.args.kind c.args.task.0 h (at_point c.args.kind) (point-level c.args.kind) (point-group c.args.kind) live.task live.there (point-checks _ _ c.args.kind c.args.task c.requires.point) (point-plain c.args.kind c.args.task) accepted (point-own _ _ c.args.kind c.args.task _) (point-told g.M.Consistency.rules _ c.args.kind c.args.task) c.args.switching within switching ∙ c.if-not-switching.false in
+    let e : Engine = record { number = i.events; from = i.from.0; target = i.target.0; patches = i.patches; table = i.tasks; blames = i.blames; last_scan = told_scan i.unchanged } in
+    let taken = with_scan g.M.Consistency.rules c.args.self.now _ (point_event c.args.kind c.args.task) c.remove.new.self (told_scan c.reset_if_done.new.self) (takes_switch g.M.Consistency.rules g.met.M.Consistency.lawful (record { number = i.events; from = i.from.0; target = i.target.0; patches = i.patches; table = i.tasks; blames = i.blames; last_scan = told_scan i.unchanged }) i.waiting c.self.invariant.engine (point_event c.args.kind c.args.task) c.args.kind c.args.task.0 h (at_point c.args.kind) (point-level c.args.kind) (point-group c.args.kind) live.task live.there (point-checks _ _ c.args.kind c.args.task c.requires.point) c.args.self.now c.set_level.new.self c.remove.new.self c.self.view_is (c.set_level.ensures ∙ ap (changed c.args.task.0 (put_on i.target.0)) c.reach_point.ensures) c.remove.ensures.after c.remove.ensures.numbers c.requires.room (point-plain c.args.kind c.args.task) c.requires.accepted (point-own _ _ c.args.kind c.args.task _) switches) in
     let left = leaves_changed g.M.Consistency.rules g.met.M.Consistency.lawful e c.args.self.now _ i.waiting c.remove.new.self (point_event c.args.kind c.args.task) c.self.view_is c.self.invariant.engine c.self.invariant.blamed taken c.requires.accepted (point-plain c.args.kind c.args.task) refl c.args.task.0 (at_point c.args.kind) (point-own _ _ c.args.kind c.args.task _) (point-level c.args.kind) (point-group c.args.kind) (λ x frame there. there) in
     record {
       core =
           core_rests g.M.Consistency.rules _ c.remove.new.self c.touch.new.self c.reset_if_done.new.self
           (core_changes g.M.Consistency.rules e c.args.self.now _ i.waiting c.remove.new.self (point_event c.args.kind c.args.task) i.unchanged c.touch.new.self c.self.view_is c.self.invariant.core
-          (takes_switch g.M.Consistency.rules g.met.M.Consistency.lawful (record { number = i.events; from = i.from.0; target = i.target.0; patches = i.patches; table = i.tasks; blames = i.blames }) i.waiting c.self.invariant.engine (point_event c.args.kind c.args.task) c.args.kind c.args.task.0 h (at_point c.args.kind) (point-level c.args.kind) (point-group c.args.kind) live.task live.there (point-checks _ _ c.args.kind c.args.task c.requires.point) c.args.self.now c.set_level.new.self c.remove.new.self c.self.view_is (c.set_level.ensures ∙ ap (changed c.args.task.0 (put_on i.target.0)) c.reach_point.ensures) c.remove.ensures.after c.remove.ensures.numbers c.requires.room (point-plain c.args.kind c.args.task) c.requires.accepted (point-own _ _ c.args.kind c.args.task _) switches)
+          taken
           c.requires.accepted c.touch.ensures.kind c.args.task.0 (at_point c.args.kind) (point-plain c.args.kind c.args.task) (c.touch.ensures.changed, c.touch.ensures.may_refuse) (point_touches c.args.kind c.args.task) (point-own _ _ c.args.kind c.args.task _) (point-group c.args.kind))
           c.reset_if_done.ensures;
       groups = c.self.invariant.groups;
@@ -76,35 +78,65 @@ returns-clause-state g c =
     let accepted = rw (← c.self.view_is) at c.requires.accepted in
     let switching = rw (← c.self.view_is) at c.requires.switching in
     let room = rw (← c.self.view_is) at c.requires.room in
-    let live = point-live g.M.Consistency.rules (record { number = i.events; from = i.from.0; target = i.target.0; patches = i.patches; table = i.tasks; blames = i.blames }) c.args.kind c.args.task accepted in
-    let within = group-below (record { number = i.events; from = i.from.0; target = i.target.0; patches = i.patches; table = i.tasks; blames = i.blames }) i.waiting c.args.task.0 live.task c.self.invariant.engine live.there in
-    let switches = ap (λ (o : Engine). switches_at g.M.Consistency.rules (affected g.M.Consistency.rules (state_in o) (point_event c.args.kind c.args.task)) (point_event c.args.kind c.args.task) live.task.group) (sym c.self.view_is) ∙ switches-reported g.M.Consistency.rules g.met.M.Consistency.lawful (record { number = i.events; from = i.from.0; target = i.target.0; patches = i.patches; table = i.tasks; blames = i.blames }) i.waiting c.self.invariant.engine room (point_event c.args.kind c.args.task) c.args.kind c.args.task.0 h (at_point c.args.kind) (point-level c.args.kind) (point-group c.args.kind) live.task live.there (point-checks _ _ c.args.kind c.args.task c.requires.point) (point-plain c.args.kind c.args.task) accepted (point-own _ _ c.args.kind c.args.task _) (point-told g.M.Consistency.rules _ c.args.kind c.args.task) c.args.switching within switching ∙ c.if-not-switching.false in
-    (takes_switch g.M.Consistency.rules g.met.M.Consistency.lawful (record { number = i.events; from = i.from.0; target = i.target.0; patches = i.patches; table = i.tasks; blames = i.blames }) i.waiting c.self.invariant.engine (point_event c.args.kind c.args.task) c.args.kind c.args.task.0 h (at_point c.args.kind) (point-level c.args.kind) (point-group c.args.kind) live.task live.there (point-checks _ _ c.args.kind c.args.task c.requires.point) c.args.self.now c.set_level.new.self c.remove.new.self c.self.view_is (c.set_level.ensures ∙ ap (changed c.args.task.0 (put_on i.target.0)) c.reach_point.ensures) c.remove.ensures.after c.remove.ensures.numbers c.requires.room (point-plain c.args.kind c.args.task) c.requires.accepted (point-own _ _ c.args.kind c.args.task _) switches).state
+    let live = point-live g.M.Consistency.rules (record { number = i.events; from = i.from.0; target = i.target.0; patches = i.patches; table = i.tasks; blames = i.blames; last_scan = told_scan i.unchanged }) c.args.kind c.args.task accepted in
+    let within = group-below (record { number = i.events; from = i.from.0; target = i.target.0; patches = i.patches; table = i.tasks; blames = i.blames; last_scan = told_scan i.unchanged }) i.waiting c.args.task.0 live.task c.self.invariant.engine live.there in
+    let switches = ap (λ (o : Engine). switches_at g.M.Consistency.rules (affected g.M.Consistency.rules (state_in o) (point_event c.args.kind c.args.task)) (point_event c.args.kind c.args.task) live.task.group) (sym c.self.view_is) ∙ switches-reported g.M.Consistency.rules g.met.M.Consistency.lawful (record { number = i.events; from = i.from.0; target = i.target.0; patches = i.patches; table = i.tasks; blames = i.blames; last_scan = told_scan i.unchanged }) i.waiting c.self.invariant.engine room (point_event c.args.kind c.args.task) c.args.kind c.args.task.0 h (at_point c.args.kind) (point-level c.args.kind) (point-group c.args.kind) live.task live.there (point-checks _ _ c.args.kind c.args.task c.requires.point) (point-plain c.args.kind c.args.task) accepted (point-own _ _ c.args.kind c.args.task _) (point-told g.M.Consistency.rules _ c.args.kind c.args.task) c.args.switching within switching ∙ c.if-not-switching.false in
+    (takes_switch g.M.Consistency.rules g.met.M.Consistency.lawful (record { number = i.events; from = i.from.0; target = i.target.0; patches = i.patches; table = i.tasks; blames = i.blames; last_scan = told_scan i.unchanged }) i.waiting c.self.invariant.engine (point_event c.args.kind c.args.task) c.args.kind c.args.task.0 h (at_point c.args.kind) (point-level c.args.kind) (point-group c.args.kind) live.task live.there (point-checks _ _ c.args.kind c.args.task c.requires.point) c.args.self.now c.set_level.new.self c.remove.new.self c.self.view_is (c.set_level.ensures ∙ ap (changed c.args.task.0 (put_on i.target.0)) c.reach_point.ensures) c.remove.ensures.after c.remove.ensures.numbers c.requires.room (point-plain c.args.kind c.args.task) c.requires.accepted (point-own _ _ c.args.kind c.args.task _) switches).state
 
 pub returns-then-not-switching-clause-blames : goal.returns-then-not-switching-clause-blames
 returns-then-not-switching-clause-blames g c =
     let i = c.self.inside in
-    let e : Engine = record { number = i.events; from = i.from.0; target = i.target.0; patches = i.patches; table = i.tasks; blames = i.blames } in
+    let e : Engine = record { number = i.events; from = i.from.0; target = i.target.0; patches = i.patches; table = i.tasks; blames = i.blames; last_scan = told_scan i.unchanged } in
     let h : c.args.task.0 < 65536 = omega arith in
     let accepted = rw (← c.self.view_is) at c.requires.accepted in
     let switching = rw (← c.self.view_is) at c.requires.switching in
     let room = rw (← c.self.view_is) at c.requires.room in
-    let live = point-live g.M.Consistency.rules (record { number = i.events; from = i.from.0; target = i.target.0; patches = i.patches; table = i.tasks; blames = i.blames }) c.args.kind c.args.task accepted in
-    let within = group-below (record { number = i.events; from = i.from.0; target = i.target.0; patches = i.patches; table = i.tasks; blames = i.blames }) i.waiting c.args.task.0 live.task c.self.invariant.engine live.there in
-    let switches = ap (λ (o : Engine). switches_at g.M.Consistency.rules (affected g.M.Consistency.rules (state_in o) (point_event c.args.kind c.args.task)) (point_event c.args.kind c.args.task) live.task.group) (sym c.self.view_is) ∙ switches-reported g.M.Consistency.rules g.met.M.Consistency.lawful (record { number = i.events; from = i.from.0; target = i.target.0; patches = i.patches; table = i.tasks; blames = i.blames }) i.waiting c.self.invariant.engine room (point_event c.args.kind c.args.task) c.args.kind c.args.task.0 h (at_point c.args.kind) (point-level c.args.kind) (point-group c.args.kind) live.task live.there (point-checks _ _ c.args.kind c.args.task c.requires.point) (point-plain c.args.kind c.args.task) accepted (point-own _ _ c.args.kind c.args.task _) (point-told g.M.Consistency.rules _ c.args.kind c.args.task) c.args.switching within switching ∙ c.if-not-switching.true in
-    let taken = takes_change_still g.M.Consistency.rules g.met.M.Consistency.lawful (record { number = i.events; from = i.from.0; target = i.target.0; patches = i.patches; table = i.tasks; blames = i.blames }) c.args.self.now c.reach_point.new.self i.waiting (point_event c.args.kind c.args.task) c.args.task.0 (at_point c.args.kind) c.self.view_is c.reach_point.ensures c.self.invariant.engine h c.requires.room (point-plain c.args.kind c.args.task) (none-switches_now g.M.Consistency.rules g.met.M.Consistency.lawful (record { number = i.events; from = i.from.0; target = i.target.0; patches = i.patches; table = i.tasks; blames = i.blames }) i.waiting c.self.invariant.engine (point_event c.args.kind c.args.task) c.args.kind c.args.task.0 h (at_point c.args.kind) (point-level c.args.kind) (point-group c.args.kind) live.task live.there (point-checks _ _ c.args.kind c.args.task c.requires.point) c.args.self.now c.self.view_is (point-own _ _ c.args.kind c.args.task _) switches) c.requires.accepted (point-own _ _ c.args.kind c.args.task _) (point-level c.args.kind) (point-group c.args.kind) in
+    let live = point-live g.M.Consistency.rules (record { number = i.events; from = i.from.0; target = i.target.0; patches = i.patches; table = i.tasks; blames = i.blames; last_scan = told_scan i.unchanged }) c.args.kind c.args.task accepted in
+    let within = group-below (record { number = i.events; from = i.from.0; target = i.target.0; patches = i.patches; table = i.tasks; blames = i.blames; last_scan = told_scan i.unchanged }) i.waiting c.args.task.0 live.task c.self.invariant.engine live.there in
+    let switches = ap (λ (o : Engine). switches_at g.M.Consistency.rules (affected g.M.Consistency.rules (state_in o) (point_event c.args.kind c.args.task)) (point_event c.args.kind c.args.task) live.task.group) (sym c.self.view_is) ∙ switches-reported g.M.Consistency.rules g.met.M.Consistency.lawful (record { number = i.events; from = i.from.0; target = i.target.0; patches = i.patches; table = i.tasks; blames = i.blames; last_scan = told_scan i.unchanged }) i.waiting c.self.invariant.engine room (point_event c.args.kind c.args.task) c.args.kind c.args.task.0 h (at_point c.args.kind) (point-level c.args.kind) (point-group c.args.kind) live.task live.there (point-checks _ _ c.args.kind c.args.task c.requires.point) (point-plain c.args.kind c.args.task) accepted (point-own _ _ c.args.kind c.args.task _) (point-told g.M.Consistency.rules _ c.args.kind c.args.task) c.args.switching within switching ∙ c.if-not-switching.true in
+    let taken = takes_change_still g.M.Consistency.rules g.met.M.Consistency.lawful (record { number = i.events; from = i.from.0; target = i.target.0; patches = i.patches; table = i.tasks; blames = i.blames; last_scan = told_scan i.unchanged }) c.args.self.now c.reach_point.new.self i.waiting (point_event c.args.kind c.args.task) c.args.task.0 (at_point c.args.kind) c.self.view_is c.reach_point.ensures c.self.invariant.engine h c.requires.room (point-plain c.args.kind c.args.task) (none-switches_now g.M.Consistency.rules g.met.M.Consistency.lawful (record { number = i.events; from = i.from.0; target = i.target.0; patches = i.patches; table = i.tasks; blames = i.blames; last_scan = told_scan i.unchanged }) i.waiting c.self.invariant.engine (point_event c.args.kind c.args.task) c.args.kind c.args.task.0 h (at_point c.args.kind) (point-level c.args.kind) (point-group c.args.kind) live.task live.there (point-checks _ _ c.args.kind c.args.task c.requires.point) c.args.self.now c.self.view_is (point-own _ _ c.args.kind c.args.task _) switches) c.requires.accepted (point-own _ _ c.args.kind c.args.task _) (point-level c.args.kind) (point-group c.args.kind) in
     (leaves_changed g.M.Consistency.rules g.met.M.Consistency.lawful e c.args.self.now _ i.waiting i.waiting (point_event c.args.kind c.args.task) c.self.view_is c.self.invariant.engine c.self.invariant.blamed taken c.requires.accepted (point-plain c.args.kind c.args.task) refl c.args.task.0 (at_point c.args.kind) (point-own _ _ c.args.kind c.args.task _) (point-level c.args.kind) (point-group c.args.kind) (λ x frame there. there)).after
 
 pub returns-clause-blames : goal.returns-clause-blames
 returns-clause-blames g c =
     let i = c.self.inside in
-    let e : Engine = record { number = i.events; from = i.from.0; target = i.target.0; patches = i.patches; table = i.tasks; blames = i.blames } in
+    let e : Engine = record { number = i.events; from = i.from.0; target = i.target.0; patches = i.patches; table = i.tasks; blames = i.blames; last_scan = told_scan i.unchanged } in
     let h : c.args.task.0 < 65536 = omega arith in
     let accepted = rw (← c.self.view_is) at c.requires.accepted in
     let switching = rw (← c.self.view_is) at c.requires.switching in
     let room = rw (← c.self.view_is) at c.requires.room in
-    let live = point-live g.M.Consistency.rules (record { number = i.events; from = i.from.0; target = i.target.0; patches = i.patches; table = i.tasks; blames = i.blames }) c.args.kind c.args.task accepted in
-    let within = group-below (record { number = i.events; from = i.from.0; target = i.target.0; patches = i.patches; table = i.tasks; blames = i.blames }) i.waiting c.args.task.0 live.task c.self.invariant.engine live.there in
-    let switches = ap (λ (o : Engine). switches_at g.M.Consistency.rules (affected g.M.Consistency.rules (state_in o) (point_event c.args.kind c.args.task)) (point_event c.args.kind c.args.task) live.task.group) (sym c.self.view_is) ∙ switches-reported g.M.Consistency.rules g.met.M.Consistency.lawful (record { number = i.events; from = i.from.0; target = i.target.0; patches = i.patches; table = i.tasks; blames = i.blames }) i.waiting c.self.invariant.engine room (point_event c.args.kind c.args.task) c.args.kind c.args.task.0 h (at_point c.args.kind) (point-level c.args.kind) (point-group c.args.kind) live.task live.there (point-checks _ _ c.args.kind c.args.task c.requires.point) (point-plain c.args.kind c.args.task) accepted (point-own _ _ c.args.kind c.args.task _) (point-told g.M.Consistency.rules _ c.args.kind c.args.task) c.args.switching within switching ∙ c.if-not-switching.false in
-    let taken = takes_switch g.M.Consistency.rules g.met.M.Consistency.lawful (record { number = i.events; from = i.from.0; target = i.target.0; patches = i.patches; table = i.tasks; blames = i.blames }) i.waiting c.self.invariant.engine (point_event c.args.kind c.args.task) c.args.kind c.args.task.0 h (at_point c.args.kind) (point-level c.args.kind) (point-group c.args.kind) live.task live.there (point-checks _ _ c.args.kind c.args.task c.requires.point) c.args.self.now c.set_level.new.self c.remove.new.self c.self.view_is (c.set_level.ensures ∙ ap (changed c.args.task.0 (put_on i.target.0)) c.reach_point.ensures) c.remove.ensures.after c.remove.ensures.numbers c.requires.room (point-plain c.args.kind c.args.task) c.requires.accepted (point-own _ _ c.args.kind c.args.task _) switches in
+    let live = point-live g.M.Consistency.rules (record { number = i.events; from = i.from.0; target = i.target.0; patches = i.patches; table = i.tasks; blames = i.blames; last_scan = told_scan i.unchanged }) c.args.kind c.args.task accepted in
+    let within = group-below (record { number = i.events; from = i.from.0; target = i.target.0; patches = i.patches; table = i.tasks; blames = i.blames; last_scan = told_scan i.unchanged }) i.waiting c.args.task.0 live.task c.self.invariant.engine live.there in
+    let switches = ap (λ (o : Engine). switches_at g.M.Consistency.rules (affected g.M.Consistency.rules (state_in o) (point_event c.args.kind c.args.task)) (point_event c.args.kind c.args.task) live.task.group) (sym c.self.view_is) ∙ switches-reported g.M.Consistency.rules g.met.M.Consistency.lawful (record { number = i.events; from = i.from.0; target = i.target.0; patches = i.patches; table = i.tasks; blames = i.blames; last_scan = told_scan i.unchanged }) i.waiting c.self.invariant.engine room (point_event c.args.kind c.args.task) c.args.kind c.args.task.0 h (at_point c.args.kind) (point-level c.args.kind) (point-group c.args.kind) live.task live.there (point-checks _ _ c.args.kind c.args.task c.requires.point) (point-plain c.args.kind c.args.task) accepted (point-own _ _ c.args.kind c.args.task _) (point-told g.M.Consistency.rules _ c.args.kind c.args.task) c.args.switching within switching ∙ c.if-not-switching.false in
+    let taken = takes_switch g.M.Consistency.rules g.met.M.Consistency.lawful (record { number = i.events; from = i.from.0; target = i.target.0; patches = i.patches; table = i.tasks; blames = i.blames; last_scan = told_scan i.unchanged }) i.waiting c.self.invariant.engine (point_event c.args.kind c.args.task) c.args.kind c.args.task.0 h (at_point c.args.kind) (point-level c.args.kind) (point-group c.args.kind) live.task live.there (point-checks _ _ c.args.kind c.args.task c.requires.point) c.args.self.now c.set_level.new.self c.remove.new.self c.self.view_is (c.set_level.ensures ∙ ap (changed c.args.task.0 (put_on i.target.0)) c.reach_point.ensures) c.remove.ensures.after c.remove.ensures.numbers c.requires.room (point-plain c.args.kind c.args.task) c.requires.accepted (point-own _ _ c.args.kind c.args.task _) switches in
     (leaves_changed g.M.Consistency.rules g.met.M.Consistency.lawful e c.args.self.now _ i.waiting c.remove.new.self (point_event c.args.kind c.args.task) c.self.view_is c.self.invariant.engine c.self.invariant.blamed taken c.requires.accepted (point-plain c.args.kind c.args.task) refl c.args.task.0 (at_point c.args.kind) (point-own _ _ c.args.kind c.args.task _) (point-level c.args.kind) (point-group c.args.kind) (λ x frame there. there)).after
+
+pub returns-then-not-switching-clause-last_scan : goal.returns-then-not-switching-clause-last_scan
+returns-then-not-switching-clause-last_scan g c =
+    let i = c.self.inside in
+    let h : c.args.task.0 < 65536 = omega arith in
+    let accepted = rw (← c.self.view_is) at c.requires.accepted in
+    let switching = rw (← c.self.view_is) at c.requires.switching in
+    let room = rw (← c.self.view_is) at c.requires.room in
+    let live = point-live g.M.Consistency.rules (record { number = i.events; from = i.from.0; target = i.target.0; patches = i.patches; table = i.tasks; blames = i.blames; last_scan = told_scan i.unchanged }) c.args.kind c.args.task accepted in
+    let within = group-below (record { number = i.events; from = i.from.0; target = i.target.0; patches = i.patches; table = i.tasks; blames = i.blames; last_scan = told_scan i.unchanged }) i.waiting c.args.task.0 live.task c.self.invariant.engine live.there in
+    let switches = ap (λ (o : Engine). switches_at g.M.Consistency.rules (affected g.M.Consistency.rules (state_in o) (point_event c.args.kind c.args.task)) (point_event c.args.kind c.args.task) live.task.group) (sym c.self.view_is) ∙ switches-reported g.M.Consistency.rules g.met.M.Consistency.lawful (record { number = i.events; from = i.from.0; target = i.target.0; patches = i.patches; table = i.tasks; blames = i.blames; last_scan = told_scan i.unchanged }) i.waiting c.self.invariant.engine room (point_event c.args.kind c.args.task) c.args.kind c.args.task.0 h (at_point c.args.kind) (point-level c.args.kind) (point-group c.args.kind) live.task live.there (point-checks _ _ c.args.kind c.args.task c.requires.point) (point-plain c.args.kind c.args.task) accepted (point-own _ _ c.args.kind c.args.task _) (point-told g.M.Consistency.rules _ c.args.kind c.args.task) c.args.switching within switching ∙ c.if-not-switching.true in
+    let e : Engine = record { number = i.events; from = i.from.0; target = i.target.0; patches = i.patches; table = i.tasks; blames = i.blames; last_scan = told_scan i.unchanged } in
+    let taken = with_scan g.M.Consistency.rules c.args.self.now _ (point_event c.args.kind c.args.task) i.waiting (told_scan c.touch.new.self) (takes_change_still g.M.Consistency.rules g.met.M.Consistency.lawful (record { number = i.events; from = i.from.0; target = i.target.0; patches = i.patches; table = i.tasks; blames = i.blames; last_scan = told_scan i.unchanged }) c.args.self.now c.reach_point.new.self i.waiting (point_event c.args.kind c.args.task) c.args.task.0 (at_point c.args.kind) c.self.view_is c.reach_point.ensures c.self.invariant.engine h c.requires.room (point-plain c.args.kind c.args.task) (none-switches_now g.M.Consistency.rules g.met.M.Consistency.lawful (record { number = i.events; from = i.from.0; target = i.target.0; patches = i.patches; table = i.tasks; blames = i.blames; last_scan = told_scan i.unchanged }) i.waiting c.self.invariant.engine (point_event c.args.kind c.args.task) c.args.kind c.args.task.0 h (at_point c.args.kind) (point-level c.args.kind) (point-group c.args.kind) live.task live.there (point-checks _ _ c.args.kind c.args.task c.requires.point) c.args.self.now c.self.view_is (point-own _ _ c.args.kind c.args.task _) switches) c.requires.accepted (point-own _ _ c.args.kind c.args.task _) (point-level c.args.kind) (point-group c.args.kind)) in
+    last_changes g.M.Consistency.rules e c.args.self.now _ i.waiting (point_event c.args.kind c.args.task) i.unchanged c.touch.new.self c.self.view_is refl refl taken c.args.task.0 (at_point c.args.kind) c.requires.accepted (point-plain c.args.kind c.args.task) (point_unused g.M.Consistency.rules c.args.kind c.args.task) c.touch.ensures.kind (c.touch.ensures.changed, c.touch.ensures.may_refuse) (point_touches c.args.kind c.args.task) (point-own _ _ c.args.kind c.args.task _) (point-group c.args.kind)
+
+pub returns-clause-last_scan : goal.returns-clause-last_scan
+returns-clause-last_scan g c =
+    let i = c.self.inside in
+    let h : c.args.task.0 < 65536 = omega arith in
+    let accepted = rw (← c.self.view_is) at c.requires.accepted in
+    let switching = rw (← c.self.view_is) at c.requires.switching in
+    let room = rw (← c.self.view_is) at c.requires.room in
+    let live = point-live g.M.Consistency.rules (record { number = i.events; from = i.from.0; target = i.target.0; patches = i.patches; table = i.tasks; blames = i.blames; last_scan = told_scan i.unchanged }) c.args.kind c.args.task accepted in
+    let within = group-below (record { number = i.events; from = i.from.0; target = i.target.0; patches = i.patches; table = i.tasks; blames = i.blames; last_scan = told_scan i.unchanged }) i.waiting c.args.task.0 live.task c.self.invariant.engine live.there in
+    let switches = ap (λ (o : Engine). switches_at g.M.Consistency.rules (affected g.M.Consistency.rules (state_in o) (point_event c.args.kind c.args.task)) (point_event c.args.kind c.args.task) live.task.group) (sym c.self.view_is) ∙ switches-reported g.M.Consistency.rules g.met.M.Consistency.lawful (record { number = i.events; from = i.from.0; target = i.target.0; patches = i.patches; table = i.tasks; blames = i.blames; last_scan = told_scan i.unchanged }) i.waiting c.self.invariant.engine room (point_event c.args.kind c.args.task) c.args.kind c.args.task.0 h (at_point c.args.kind) (point-level c.args.kind) (point-group c.args.kind) live.task live.there (point-checks _ _ c.args.kind c.args.task c.requires.point) (point-plain c.args.kind c.args.task) accepted (point-own _ _ c.args.kind c.args.task _) (point-told g.M.Consistency.rules _ c.args.kind c.args.task) c.args.switching within switching ∙ c.if-not-switching.false in
+    let e : Engine = record { number = i.events; from = i.from.0; target = i.target.0; patches = i.patches; table = i.tasks; blames = i.blames; last_scan = told_scan i.unchanged } in
+    let taken = with_scan g.M.Consistency.rules c.args.self.now _ (point_event c.args.kind c.args.task) c.remove.new.self (told_scan c.touch.new.self) (takes_switch g.M.Consistency.rules g.met.M.Consistency.lawful (record { number = i.events; from = i.from.0; target = i.target.0; patches = i.patches; table = i.tasks; blames = i.blames; last_scan = told_scan i.unchanged }) i.waiting c.self.invariant.engine (point_event c.args.kind c.args.task) c.args.kind c.args.task.0 h (at_point c.args.kind) (point-level c.args.kind) (point-group c.args.kind) live.task live.there (point-checks _ _ c.args.kind c.args.task c.requires.point) c.args.self.now c.set_level.new.self c.remove.new.self c.self.view_is (c.set_level.ensures ∙ ap (changed c.args.task.0 (put_on i.target.0)) c.reach_point.ensures) c.remove.ensures.after c.remove.ensures.numbers c.requires.room (point-plain c.args.kind c.args.task) c.requires.accepted (point-own _ _ c.args.kind c.args.task _) switches) in
+    last_rests g.M.Consistency.rules c.args.self.now (point_event c.args.kind c.args.task) (with_table c.set_level.new.self e) c.touch.new.self c.reset_if_done.new.self
+    (last_changes g.M.Consistency.rules e c.args.self.now _ c.remove.new.self (point_event c.args.kind c.args.task) i.unchanged c.touch.new.self c.self.view_is refl refl taken c.args.task.0 (at_point c.args.kind) c.requires.accepted (point-plain c.args.kind c.args.task) (point_unused g.M.Consistency.rules c.args.kind c.args.task) c.touch.ensures.kind (c.touch.ensures.changed, c.touch.ensures.may_refuse) (point_touches c.args.kind c.args.task) (point-own _ _ c.args.kind c.args.task _) (point-group c.args.kind))
+    c.reset_if_done.ensures

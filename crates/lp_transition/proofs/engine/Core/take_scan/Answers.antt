@@ -1,4 +1,4 @@
-use Rattle.std.proofs.Common.{sym, ap, subst, ◌∙◌}
+use Rattle.std.proofs.Common.{refl, sym, ap, subst, ◌∙◌}
 use Rattle.std.specs.List.Sorted.{IsNonDecreasing}
 use Rattle.lp_transition.specs.declared.reply.Reply.{Reply}
 use Rattle.lp_transition.specs.Events.{group_numbers}
@@ -8,6 +8,9 @@ use Rattle.lp_transition.specs.Table.{Engine, state_in}
 use Rattle.lp_transition.proofs.Unchanged.{core_rests, core_scanned}
 use Rattle.lp_transition.proofs.BlamedScans.{leaves_scanned, blame_within}
 use Rattle.lp_transition.proofs.Blames.{with_blames}
+use Rattle.lp_transition.proofs.Effects.{with_scan, with_table}
+use Rattle.lp_transition.proofs.LastScans.{last_rests, last_scanned, noted_or}
+use Rattle.lp_transition.specs.inside.Invariant.{told_scan}
 use Rattle.lp_transition.proofs.engine.Core.take_scan.Goals as goal
 
 pub switch_tasks-requires : goal.switch_tasks-requires
@@ -20,11 +23,11 @@ invariant_of-self g c =
     let i = c.self.inside in
     let listed = c.groups_of.ensures ∙ ap (λ (r : Reply). groups_of r.what) c.reply.ensures in
     let are_switched = rw c.verdicts-2.ensures at c.switch_tasks.ensures in
-    let e : Engine = record { number = i.events; from = i.from.0; target = i.target.0; patches = i.patches; table = i.tasks; blames = i.blames } in
+    let e : Engine = record { number = i.events; from = i.from.0; target = i.target.0; patches = i.patches; table = i.tasks; blames = i.blames; last_scan = told_scan i.unchanged } in
     let noted = rw c.verdicts.ensures at c.note.ensures.blames in
-    let taken = with_blames g.M.Consistency.rules c.args.self.now _ c.args.step.now.event c.switch_tasks.new.waiting c.note.new.self (takes_scan g.M.Consistency.rules g.met.M.Consistency.lawful (record { number = i.events; from = i.from.0; target = i.target.0; patches = i.patches; table = i.tasks; blames = i.blames }) c.args.self.now c.switch_tasks.new.tasks i.waiting c.switch_tasks.new.waiting c.args.step.now (is_listed (group_numbers c.groups_of.result.now)) c.self.view_is c.self.invariant.engine c.requires.weighed c.requires.scan (λ group few. ap (λ groups. is_listed groups group) listed) are_switched) in
+    let taken = with_scan g.M.Consistency.rules c.args.self.now _ c.args.step.now.event c.switch_tasks.new.waiting (told_scan c.reset_if_done.new.self) (with_blames g.M.Consistency.rules c.args.self.now _ c.args.step.now.event c.switch_tasks.new.waiting c.note.new.self (takes_scan g.M.Consistency.rules g.met.M.Consistency.lawful (record { number = i.events; from = i.from.0; target = i.target.0; patches = i.patches; table = i.tasks; blames = i.blames; last_scan = told_scan i.unchanged }) c.args.self.now c.switch_tasks.new.tasks i.waiting c.switch_tasks.new.waiting c.args.step.now (is_listed (group_numbers c.groups_of.result.now)) c.self.view_is c.self.invariant.engine c.requires.weighed c.requires.scan (λ group few. ap (λ groups. is_listed groups group) listed) are_switched)) in
     let left = leaves_scanned g.M.Consistency.rules g.met.M.Consistency.lawful e c.args.self.now _ i.waiting c.switch_tasks.new.waiting c.args.step.now c.self.view_is c.self.invariant.engine c.self.invariant.blamed taken c.requires.weighed c.requires.scan noted (λ group b there. blame_within c.note.new.self group b c.note.ensures.groups there) in
-    let noted_scan = rw c.verdicts-3.ensures at c.scanned.ensures in
+    let noted_scan = noted_or c.uses-is_used.result (rw c.verdicts-3.ensures at c.scanned.ensures.used) c.scanned.ensures.unused in
     record {
       core =
           core_rests g.M.Consistency.rules _ c.switch_tasks.new.waiting c.scanned.new.self c.reset_if_done.new.self
@@ -41,14 +44,25 @@ returns-clause-state g c =
     let i = c.self.inside in
     let listed = c.groups_of.ensures ∙ ap (λ (r : Reply). groups_of r.what) c.reply.ensures in
     let are_switched = rw c.verdicts-2.ensures at c.switch_tasks.ensures in
-    (takes_scan g.M.Consistency.rules g.met.M.Consistency.lawful (record { number = i.events; from = i.from.0; target = i.target.0; patches = i.patches; table = i.tasks; blames = i.blames }) c.args.self.now c.switch_tasks.new.tasks i.waiting c.switch_tasks.new.waiting c.args.step.now (is_listed (group_numbers c.groups_of.result.now)) c.self.view_is c.self.invariant.engine c.requires.weighed c.requires.scan (λ group few. ap (λ groups. is_listed groups group) listed) are_switched).state
+    (takes_scan g.M.Consistency.rules g.met.M.Consistency.lawful (record { number = i.events; from = i.from.0; target = i.target.0; patches = i.patches; table = i.tasks; blames = i.blames; last_scan = told_scan i.unchanged }) c.args.self.now c.switch_tasks.new.tasks i.waiting c.switch_tasks.new.waiting c.args.step.now (is_listed (group_numbers c.groups_of.result.now)) c.self.view_is c.self.invariant.engine c.requires.weighed c.requires.scan (λ group few. ap (λ groups. is_listed groups group) listed) are_switched).state
 
 pub returns-clause-blames : goal.returns-clause-blames
 returns-clause-blames g c =
     let i = c.self.inside in
-    let e : Engine = record { number = i.events; from = i.from.0; target = i.target.0; patches = i.patches; table = i.tasks; blames = i.blames } in
+    let e : Engine = record { number = i.events; from = i.from.0; target = i.target.0; patches = i.patches; table = i.tasks; blames = i.blames; last_scan = told_scan i.unchanged } in
     let listed = c.groups_of.ensures ∙ ap (λ (r : Reply). groups_of r.what) c.reply.ensures in
     let are_switched = rw c.verdicts-2.ensures at c.switch_tasks.ensures in
     let noted = rw c.verdicts.ensures at c.note.ensures.blames in
-    let taken = with_blames g.M.Consistency.rules c.args.self.now _ c.args.step.now.event c.switch_tasks.new.waiting c.note.new.self (takes_scan g.M.Consistency.rules g.met.M.Consistency.lawful (record { number = i.events; from = i.from.0; target = i.target.0; patches = i.patches; table = i.tasks; blames = i.blames }) c.args.self.now c.switch_tasks.new.tasks i.waiting c.switch_tasks.new.waiting c.args.step.now (is_listed (group_numbers c.groups_of.result.now)) c.self.view_is c.self.invariant.engine c.requires.weighed c.requires.scan (λ group few. ap (λ groups. is_listed groups group) listed) are_switched) in
+    let taken = with_blames g.M.Consistency.rules c.args.self.now _ c.args.step.now.event c.switch_tasks.new.waiting c.note.new.self (takes_scan g.M.Consistency.rules g.met.M.Consistency.lawful (record { number = i.events; from = i.from.0; target = i.target.0; patches = i.patches; table = i.tasks; blames = i.blames; last_scan = told_scan i.unchanged }) c.args.self.now c.switch_tasks.new.tasks i.waiting c.switch_tasks.new.waiting c.args.step.now (is_listed (group_numbers c.groups_of.result.now)) c.self.view_is c.self.invariant.engine c.requires.weighed c.requires.scan (λ group few. ap (λ groups. is_listed groups group) listed) are_switched) in
     (leaves_scanned g.M.Consistency.rules g.met.M.Consistency.lawful e c.args.self.now _ i.waiting c.switch_tasks.new.waiting c.args.step.now c.self.view_is c.self.invariant.engine c.self.invariant.blamed taken c.requires.weighed c.requires.scan noted (λ group b there. blame_within c.note.new.self group b c.note.ensures.groups there)).after
+
+pub returns-clause-last_scan : goal.returns-clause-last_scan
+returns-clause-last_scan g c =
+    let i = c.self.inside in
+    let listed = c.groups_of.ensures ∙ ap (λ (r : Reply). groups_of r.what) c.reply.ensures in
+    let are_switched = rw c.verdicts-2.ensures at c.switch_tasks.ensures in
+    let e : Engine = record { number = i.events; from = i.from.0; target = i.target.0; patches = i.patches; table = i.tasks; blames = i.blames; last_scan = told_scan i.unchanged } in
+    let taken = with_scan g.M.Consistency.rules c.args.self.now _ c.args.step.now.event c.switch_tasks.new.waiting (told_scan c.scanned.new.self) (with_blames g.M.Consistency.rules c.args.self.now _ c.args.step.now.event c.switch_tasks.new.waiting c.note.new.self (takes_scan g.M.Consistency.rules g.met.M.Consistency.lawful (record { number = i.events; from = i.from.0; target = i.target.0; patches = i.patches; table = i.tasks; blames = i.blames; last_scan = told_scan i.unchanged }) c.args.self.now c.switch_tasks.new.tasks i.waiting c.switch_tasks.new.waiting c.args.step.now (is_listed (group_numbers c.groups_of.result.now)) c.self.view_is c.self.invariant.engine c.requires.weighed c.requires.scan (λ group few. ap (λ groups. is_listed groups group) listed) are_switched)) in
+    last_rests g.M.Consistency.rules c.args.self.now c.args.step.now.event (record (with_table c.switch_tasks.new.tasks e) { blames = c.note.new.self }) c.scanned.new.self c.reset_if_done.new.self
+    (last_scanned g.M.Consistency.rules e c.args.self.now _ c.switch_tasks.new.waiting c.args.step.now.event i.unchanged c.scanned.new.self c.self.view_is refl refl taken c.scan_kind-kind.result c.uses-is_used.result c.scan_kind-kind.ensures.scan (c.scan_kind-kind.ensures.event ∙ c.event.ensures) c.uses-is_used.ensures (λ used. (c.scanned.ensures.used used).noted) c.scanned.ensures.unused)
+    c.reset_if_done.ensures

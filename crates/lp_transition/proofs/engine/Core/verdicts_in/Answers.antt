@@ -10,12 +10,13 @@ use Rattle.lp_transition.specs.inside.ScanSteps.{waiting_slot}
 use Rattle.lp_transition.specs.Table.{Engine, state_in}
 use Rattle.lp_transition.proofs.AskedScans.{among_views}
 use Rattle.lp_transition.proofs.ScanLemmas.{views-asked}
+use Rattle.lp_transition.specs.inside.Invariant.{told_scan}
 use Rattle.lp_transition.proofs.engine.Core.verdicts_in.Goals as goal
 
 pub returns : goal.returns
 returns g c =
     let i = c.self.inside in
-    let e : Engine = record { number = i.events; from = i.from.0; target = i.target.0; patches = i.patches; table = i.tasks; blames = i.blames } in
+    let e : Engine = record { number = i.events; from = i.from.0; target = i.target.0; patches = i.patches; table = i.tasks; blames = i.blames; last_scan = told_scan i.unchanged } in
     let model = g.M.Consistency.rules in
     let looked = has c.args.tasks.now in
     let aim = c.aim-aim.ensures ∙ ap (λ (o : Engine). (state_in o).aim) (sym c.self.view_is) in

@@ -8,12 +8,13 @@ use Rattle.lp_transition.specs.Table.{Engine, state_in}
 use Rattle.lp_transition.proofs.EngineLemmas.{answer-refused}
 use Rattle.lp_transition.proofs.Weighing.{answer-fork, born-refused, refused-as, weighed-as}
 use Rattle.lp_transition.proofs.Runs.{weighed_reply, is_reply}
+use Rattle.lp_transition.specs.inside.Invariant.{told_scan}
 use Rattle.lp_transition.proofs.engine.Core.weigh.Goals as goal
 
 pub returns-in-Some-clause-weighed : goal.returns-in-Some-clause-weighed
 returns-in-Some-clause-weighed g c =
     let i = c.self.inside in
-    let e : Engine = record { number = i.events; from = i.from.0; target = i.target.0; patches = i.patches; table = i.tasks; blames = i.blames } in
+    let e : Engine = record { number = i.events; from = i.from.0; target = i.target.0; patches = i.patches; table = i.tasks; blames = i.blames; last_scan = told_scan i.unchanged } in
     let room : e.number < 1000000 = omega (arith, c.if-self-ge-MOST_EVENTS.false) in
     let refused = rw (← c.self.view_is) at (sym c.refusal.ensures ∙ c.in-Some.is) in
     rw (← c.self.view_is)
@@ -22,7 +23,7 @@ returns-in-Some-clause-weighed g c =
 pub returns-in-Fork-clause-weighed : goal.returns-in-Fork-clause-weighed
 returns-in-Fork-clause-weighed g c =
     let i = c.self.inside in
-    let e : Engine = record { number = i.events; from = i.from.0; target = i.target.0; patches = i.patches; table = i.tasks; blames = i.blames } in
+    let e : Engine = record { number = i.events; from = i.from.0; target = i.target.0; patches = i.patches; table = i.tasks; blames = i.blames; last_scan = told_scan i.unchanged } in
     let room : e.number < 1000000 = omega (arith, c.if-self-ge-MOST_EVENTS.false) in
     let accepted = rw (← c.self.view_is) at (sym (c.in_default.ensures ∙ ap (refusal_of g.M.Consistency.rules (state_in c.args.self.now)) c.in-Fork.is)) in
     let answered = c.done.ensures ∙ sym (answer-fork g.M.Consistency.rules g.met.M.Consistency.lawful e i.waiting c.self.invariant.engine room c.in-Fork.parent c.in-Fork.child c.in-Fork.how accepted) in

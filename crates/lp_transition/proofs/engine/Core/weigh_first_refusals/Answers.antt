@@ -6,12 +6,13 @@ use Rattle.lp_transition.specs.Scan.{MayLeaveOut, AreEnough}
 use Rattle.lp_transition.specs.Table.{Engine, state_in}
 use Rattle.lp_transition.specs.inside.FirstRefusals.{AreTold}
 use Rattle.lp_transition.proofs.FirstRefusals.{told-enough, told-tells}
+use Rattle.lp_transition.specs.inside.Invariant.{told_scan}
 use Rattle.lp_transition.proofs.engine.Core.weigh_first_refusals.Goals as goal
 
 pub weigh_found-requires-clause-found : goal.weigh_found-requires-clause-found
 weigh_found-requires-clause-found g c =
     let i = c.self.inside in
-    let e : Engine = record { number = i.events; from = i.from.0; target = i.target.0; patches = i.patches; table = i.tasks; blames = i.blames } in
+    let e : Engine = record { number = i.events; from = i.from.0; target = i.target.0; patches = i.patches; table = i.tasks; blames = i.blames; last_scan = told_scan i.unchanged } in
     let rules = g.M.Consistency.rules in
     let enough = subst (λ (o : Engine). (vs : List Verdict) → MayLeaveOut rules c.args.kind (state_in o) (has c.args.asked.now) → AreTold rules c.args.kind (state_in o) (has c.args.asked.now) vs → AreEnough rules c.args.kind (state_in o) vs) c.self.view_is
     (told-enough e i.waiting c.self.invariant.engine rules c.args.kind (has c.args.asked.now)) in
@@ -20,7 +21,7 @@ weigh_found-requires-clause-found g c =
 pub returns-clause-verdicts : goal.returns-clause-verdicts
 returns-clause-verdicts g c =
     let i = c.self.inside in
-    let e : Engine = record { number = i.events; from = i.from.0; target = i.target.0; patches = i.patches; table = i.tasks; blames = i.blames } in
+    let e : Engine = record { number = i.events; from = i.from.0; target = i.target.0; patches = i.patches; table = i.tasks; blames = i.blames; last_scan = told_scan i.unchanged } in
     let rules = g.M.Consistency.rules in
     let tells = subst (λ (o : Engine). (vs : List Verdict) → AreTold rules c.args.kind (state_in o) (has c.args.asked.now) vs → TellOf rules c.args.kind (state_in o) (has c.args.asked.now) vs) c.self.view_is
     (told-tells e i.waiting c.self.invariant.engine rules c.args.kind (has c.args.asked.now)) in

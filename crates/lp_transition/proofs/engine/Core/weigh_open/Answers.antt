@@ -4,12 +4,13 @@ use Rattle.lp_transition.specs.Scan.{MayLeaveOut}
 use Rattle.lp_transition.specs.Table.{Engine, state_in}
 use Rattle.lp_transition.proofs.AskedScans.{among-enough}
 use Rattle.lp_transition.proofs.Blames.{blamed_out}
+use Rattle.lp_transition.specs.inside.Invariant.{told_scan}
 use Rattle.lp_transition.proofs.engine.Core.weigh_open.Goals as goal
 
 pub weigh_found-requires-clause-found : goal.weigh_found-requires-clause-found
 weigh_found-requires-clause-found g c =
     let i = c.self.inside in
-    let e : Engine = record { number = i.events; from = i.from.0; target = i.target.0; patches = i.patches; table = i.tasks; blames = i.blames } in
+    let e : Engine = record { number = i.events; from = i.from.0; target = i.target.0; patches = i.patches; table = i.tasks; blames = i.blames; last_scan = told_scan i.unchanged } in
     among-enough g.M.Consistency.rules c.args.kind (state_in c.args.self.now) (is_open c.args.self.now) c.in_ok-copied.copied.items
     (subst (λ (o : Engine). MayLeaveOut g.M.Consistency.rules c.args.kind (state_in o) (is_open o)) c.self.view_is (blamed_out g.M.Consistency.rules g.met.M.Consistency.lawful e c.args.kind c.self.invariant.engine.sound c.self.invariant.blamed))
     (c.in_ok-copied.ensures.items ∙ c.requires.found)

@@ -6,12 +6,13 @@ use Rattle.lp_transition.specs.Scan.{verdicts_at, is_asked}
 use Rattle.lp_transition.specs.Table.{Engine, state_in}
 use Rattle.lp_transition.specs.inside.ScanSteps.{is_judged}
 use Rattle.lp_transition.proofs.WholeGroups.{members-judged}
+use Rattle.lp_transition.specs.inside.Invariant.{told_scan}
 use Rattle.lp_transition.proofs.engine.Core.with_unrefused.Goals as goal
 
 pub returns : goal.returns
 returns g c =
     let i = c.self.inside in
-    let e : Engine = record { number = i.events; from = i.from.0; target = i.target.0; patches = i.patches; table = i.tasks; blames = i.blames } in
+    let e : Engine = record { number = i.events; from = i.from.0; target = i.target.0; patches = i.patches; table = i.tasks; blames = i.blames; last_scan = told_scan i.unchanged } in
     let model = g.M.Consistency.rules in
     let same =
     subst (λ (o : Engine). verdicts_at model c.args.kind (state_in o) (has c.add_judged.new.tasks) ≡ verdicts_at model c.args.kind (state_in o) (λ t. is_asked (state_in o) (has c.args.unrefused.now) t || is_judged c.args.found.now t)) c.self.view_is

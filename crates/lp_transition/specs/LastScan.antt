@@ -1,0 +1,41 @@
+-- What the engine knows of its last scan after each event: which waiting groups nothing happened to since.
+use Rattle.std.specs.Prelude.{◌≡◌, ◌↔◌, ℕ, true, false, Option, Some, None, if◌then◌else◌, nat_eq}
+use Rattle.lp_numbers.specs.Numbers.{has}
+use Rattle.lp_model.specs.Rules.{Rules}
+use Rattle.lp_model.specs.declared.check.CheckKind.{CheckKind}
+use Rattle.lp_model.specs.declared.check.CheckKind.TheVariants as check
+use Rattle.lp_transition.specs.declared.event.Event.{Event}
+use Rattle.lp_transition.specs.declared.event.Event.TheVariants.{Walk, Stop}
+use Rattle.lp_transition.specs.Events.{is_control}
+use Rattle.lp_transition.specs.Tasks.{Live}
+use Rattle.lp_transition.specs.Leg.{Standing, State}
+use Rattle.lp_transition.specs.Machine.{refusal_of}
+use Rattle.lp_transition.specs.Table.{Engine, state_in}
+
+-- the kind of scan that the model uses, if it is one
+abbrev pub used_kind : Rules → CheckKind → Option CheckKind
+used_kind model kind = if model.uses kind then Some kind else None
+
+-- the kind of scan that an event is, if the model uses it
+abbrev pub used_scan : Rules → Event → Option CheckKind
+used_scan model Walk = used_kind model check.Walk
+used_scan model Stop = used_kind model check.Stop
+used_scan model _ = None
+
+-- the members of the group are who they were, and each stands as it stood
+abbrev pub AreSameMembers : (before after : State) → (group : ℕ) → Type 0
+AreSameMembers before after group = (t : ℕ) (x : Standing) → x.group ≡ group → (before.tasks t ≡ Live x) ↔ (after.tasks t ≡ Live x)
+
+-- what the engine knows of the last scan after an event
+pub record IsLastScanAfter (model : Rules) (old : Engine) (event : Event) (new : Engine) : Type 0 where
+  -- a scan that the model uses is the last one
+  pub scan : (on kind : CheckKind) → used_scan model event ≡ Some on → new.last_scan.kind ≡ Some kind → kind ≡ on
+  -- nothing is known where a leg opens
+  pub opening : is_control event ≡ true → refusal_of model (state_in old) event ≡ None → new.last_scan.kind ≡ None
+  -- at any other event the last scan is the one from before
+  pub kind : used_scan model event ≡ None → (on : CheckKind) → new.last_scan.kind ≡ Some on → old.last_scan.kind ≡ Some on
+  -- and a waiting group counts as unchanged where it did so, and nothing happened to it
+  pub others :
+      used_scan model event ≡ None → (on : CheckKind) → new.last_scan.kind ≡ Some on →
+      (t : ℕ) (x : Standing) → (state_in new).tasks t ≡ Live x → nat_eq x.level (state_in new).target ≡ false → has new.last_scan.changed x.group ≡ false →
+      (has old.last_scan.changed x.group ≡ false) × AreSameMembers (state_in old) (state_in new) x.group
