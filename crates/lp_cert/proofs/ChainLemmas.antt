@@ -1,5 +1,5 @@
 -- Lists of reasons that share their older parts.
-use Rattle.std.proofs.Common.{◌≡◌, ℕ, zero, suc, ◌+◌, ◌-◌, ◌<◌, ◌≤◌, List, [], ◌∷◌, ◌++◌, drop, length, get_or, refl, sym, ap, subst, ◌∙◌, arith}
+use Rattle.std.proofs.Common.{◌≡◌, ℕ, zero, suc, ◌+◌, ◌-◌, ◌<◌, List, [], ◌∷◌, ◌++◌, drop, length, get_or, refl, sym, ap, subst, ◌∙◌, arith}
 use Rattle.std.proofs.Math.ListN.{get_or-append}
 use Rattle.std.proofs.Math.Seq.{get_or-append_seam}
 use Rattle.std.proofs.lemmas.List.{length-append, drop-drop}
@@ -157,11 +157,6 @@ none_counted entries at none = ap length (sym (ap (λ k. get_or (lists_of entrie
 
 -- ---- Lists without some of their newest reasons
 
-pub same_tail : (list : List Reason) → IsTail list list
-same_tail list =
-    let none : length list - length list ≡ 0 = omega arith in
-    record { shorter = omega arith; rest = ap (λ n. drop n list) (sym none) }
-
 pub tail_of_tail : (far near list : List Reason) → IsTail far near → IsTail near list → IsTail far list
 tail_of_tail far near list first second =
     let more : length list - length near + (length near - length far) ≡ length list - length far = omega (arith, first.shorter, second.shorter) in
@@ -178,9 +173,3 @@ one_less list older reason is =
     let longer : length list ≡ suc (length older) = ap length is in
     let one : 1 ≡ length list - length older = omega arith in
     record { shorter = omega arith; rest = ap (drop 1) (sym is) ∙ ap (λ n. drop n list) one }
-
--- a list without so many is the tail of that length
-pub tail_is : (tail list : List Reason) (count : ℕ) → IsTail tail list → count ≤ length list → length tail ≡ length list - count → tail ≡ drop count list
-tail_is tail list count is enough long =
-    let e : length list - length tail ≡ count = omega arith in
-    is.rest ∙ ap (λ n. drop n list) e

@@ -15,7 +15,7 @@ use Rattle.lp_transition.proofs.First.{Agree, agree_back, level_agrees, waits_ag
 use Rattle.lp_transition.proofs.Plain.{come_from, from_later}
 use Rattle.lp_transition.proofs.Prefix.{complete_same, waits_same, past_same}
 use Rattle.lp_transition.proofs.ScanGroups.{same_bool}
-use Rattle.lp_transition.proofs.Waiting.{complete-is, complete-from, complete_later}
+use Rattle.lp_transition.proofs.Waiting.{complete-is, complete-from}
 use Rattle.lp_cert.specs.declared.cert.Claim.{Claim}
 use Rattle.lp_cert.specs.declared.cert.Claim.TheVariants.{Floor}
 use Rattle.lp_cert.specs.declared.cert.Cert.{Cert}
@@ -134,13 +134,6 @@ module _ (model : Rules) where
   certs_kept leg event (suc k) le = past_floor leg event k (omega arith)
 
   module _ (lawful : IsLawful model) (leg : Leg) (sound : IsSound leg.opening) where
-    pub incomplete_moment : is_complete_now model leg ≡ false → completion model leg ≡ None
-    unfolding is_complete_now completion
-    incomplete_moment e =
-        let n = length leg.events in
-        find_none (passes leg) 0 (suc n) (λ k low high.
-        false_from_ne_true _ (λ done. let last = complete_later model leg lawful sound (first_check model leg) k n (omega arith) done in absurd (cc)))
-
     -- a leg that is complete stays so from the same moment on
     pub completion_stays : (event : Event) (k : ℕ) → completion model leg ≡ Some k → completion model (and_then leg event) ≡ Some k
     completion_stays event k e = completion_up leg event ∙ ap (λ o. option_or o (if is_complete_now model (and_then leg event) then Some (suc (length leg.events)) else None)) e

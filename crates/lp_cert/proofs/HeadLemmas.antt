@@ -20,6 +20,7 @@ use Rattle.lp_cert.specs.declared.head.Refused.{Refused}
 use Rattle.lp_cert.specs.declared.head.OwnFork.{OwnFork}
 use Rattle.lp_cert.specs.Certificates.{refusal_line, after_refusal}
 use Rattle.lp_cert.specs.Heads.{busy_lines, reason_lines, lines_of, ongoing_reasons}
+use Rattle.lp_cert.specs.inside.ToldGroups.{is_held}
 use Rattle.lp_cert.specs.inside.Heads.{FitsIn, ContinuesIn, IsUnchecked, IsHead, Keeps, IsUsed, HasFrameAs, is_busy, continues_after, reason_begun_by, IsRefusedBy, IsBornBy}
 
 -- ---- A further scan
@@ -40,10 +41,6 @@ pub lines_more : (scans : List ℕ) (at : ℕ) (rs : List Reason) → AllByRecur
 unfolding lines_of
 lines_more scans at [] fits = refl
 lines_more scans at (r ∷ rs) fits = ap₂ (λ xs ys. xs ++ ys) (reason_more scans at r fits.0) (lines_more scans at rs fits.1)
-
-lines_of-cons : (scans : List ℕ) (r : Reason) (rs : List Reason) → lines_of scans (r ∷ rs) ≡ reason_lines scans r ++ lines_of scans rs
-unfolding lines_of
-lines_of-cons scans r rs = refl
 
 fit_further : (n : ℕ) (r : Reason) → FitsIn n r → FitsIn (n + 1) r
 fit_further n (reason.One l) h = tt
@@ -259,3 +256,9 @@ module _ (scans : List ℕ) (group : GroupId) (birth : OwnFork) (head : Head) (o
         };
         kept = subst (Keeps old) (sym is) (keeps_push old mid (reason.One (line.Born birth.child birth.parent birth.at) ∷ get_or mid before []) kept);
       }
+
+-- whether a reason is held says of a hold whether its frame stands
+pub frame_as : (has_frame : (task serial : ℕ) → Bool) (o : Ongoing) (held : Bool) → held ≡ is_held has_frame o → HasFrameAs has_frame o held
+frame_as has_frame Nothing held is = tt
+frame_as has_frame (Hold task serial from) held is = sym is
+frame_as has_frame (Busy task first) held is = tt

@@ -1,7 +1,7 @@
 -- What is made of a run with an event more that opens no leg, by verdicts that tell of each group that has changed.
-use Rattle.std.proofs.Common.{◌≡◌, ◌⊎◌, ℕ, ◌+◌, ◌<◌, true, false, List, length, Option, Some, None, IsTrue, if◌then◌else◌, nat_eq, refl, sym, ap, subst, inl, inr, ◌∙◌, ⊎_elim}
+use Rattle.std.proofs.Common.{◌≡◌, ◌⊎◌, ℕ, ◌+◌, ◌<◌, true, false, List, length, Option, Some, None, if◌then◌else◌, nat_eq, refl, sym, ap, subst, inl, inr, ◌∙◌, ⊎_elim}
 use Rattle.std.specs.List.{list_any}
-use Rattle.std.proofs.lemmas.Bool.{false≢true, cond-true, eq-eqb}
+use Rattle.std.proofs.lemmas.Bool.{eq-eqb}
 use Rattle.lp_numbers.specs.Numbers.{has}
 use Rattle.lp_model.specs.Rules.{Rules, IsLawful}
 use Rattle.lp_model.specs.declared.check.CheckKind.{CheckKind}
@@ -12,11 +12,11 @@ use Rattle.lp_transition.specs.Tasks.{Live, on_live}
 use Rattle.lp_transition.specs.Leg.{Standing, State}
 use Rattle.lp_transition.specs.Machine.{waits_in}
 use Rattle.lp_transition.specs.Run.{Run, leg_of, plus}
-use Rattle.lp_transition.specs.Scan.{is_of, is_scan_kind, scan_event, verdicts_of}
+use Rattle.lp_transition.specs.Scan.{is_of, verdicts_of}
 use Rattle.lp_transition.specs.Sound.{IsSound}
 use Rattle.lp_transition.specs.Steps.{StandsIn}
 use Rattle.lp_transition.specs.Table.{Engine, IsWide, LastScan, state_in}
-use Rattle.lp_transition.specs.Weigh.{AreVerdictsFor, IsWeighed, Weighed, verdicts_for}
+use Rattle.lp_transition.specs.Weigh.{AreVerdictsFor, IsWeighed, Weighed}
 use Rattle.lp_transition.proofs.AskedScans.{all-enough}
 use Rattle.lp_transition.proofs.ScanAnswers.{verdicts-scan}
 use Rattle.lp_transition.proofs.ScanLists.{verdict-from}
@@ -29,7 +29,7 @@ use Rattle.lp_cert.specs.Invariant.{open_end}
 use Rattle.lp_transition.specs.LastScan.{IsLastScanAfter, used_scan}
 use Rattle.lp_cert.specs.Waiters.{WaitingGroups}
 use Rattle.lp_cert.specs.inside.Invariant.{IsNoted, with_verdicts}
-use Rattle.lp_cert.specs.inside.LastScan.{AreToldOf, TellOfChanged, is_of_group}
+use Rattle.lp_cert.specs.inside.ToldGroups.{AreToldOf, TellOfChanged, is_of_group}
 use Rattle.lp_cert.proofs.Noted.{engine_sound, lines_before, present_sound, some_before, still_made, was_unchanged}
 use Rattle.lp_cert.proofs.ScanTold.{tells_unchanged}
 use Rattle.lp_cert.proofs.HeldLines.{lines_held}
@@ -47,22 +47,6 @@ told_of_all model s sound on last_scan t x live off =
       off = off;
       passed = ap (on_live false (λ (y : Standing). nat_eq y.group x.group)) live ∙ eq-eqb x.group x.group refl;
     }) bounds.0 bounds.1)
-
-all_used : (model : Rules) (s : State) (on : CheckKind) → is_scan_kind on ≡ true → IsTrue (model.uses on) → verdicts_for model s (scan_event on) ≡ verdicts_of model on s
-all_used model s kind.Walk scan used = cond-true (model.uses kind.Walk) _ _ used
-all_used model s kind.Stop scan used = cond-true (model.uses kind.Stop) _ _ used
-all_used model s kind.KernelExit scan used = absurd (false≢true scan)
-all_used model s kind.IdlePoint scan used = absurd (false≢true scan)
-
--- an event that was weighed after a look at all of them
-pub suffices_all : (model : Rules) (s : State) → IsSound s → (event : Event) (vs : List Verdict) → vs ≡ verdicts_for model s event → (last_scan : LastScan) → TellOfChanged s (used_scan model event) vs last_scan
-suffices_all model s sound event vs all last_scan = by (used_scan model event) refl
-  where
-    by : (o : Option CheckKind) → used_scan model event ≡ o → TellOfChanged s o vs last_scan
-    by None is = tt
-    by (Some on) is =
-        let scan = scan_is model event on is in
-        subst (λ ws. TellOfChanged s (Some on) ws last_scan) (sym (all ∙ (ap (verdicts_for model s) scan.is ∙ all_used model s on scan.scan scan.used))) (told_of_all model s sound on last_scan)
 
 -- it may be answered by them
 pub enough_all : (model : Rules) (s : State) (event : Event) (on : CheckKind) → used_scan model event ≡ Some on → AreVerdictsFor model s event (verdicts_of model on s)

@@ -1,5 +1,5 @@
 -- A call, a return, a sleep, a wake-up and an entry into the kernel change the lines of no group.
-use Rattle.std.proofs.Common.{◌≡◌, ◌<◌, ◌+◌, ℕ, suc, Bool, true, false, not, ◌&&◌, List, [], ◌∷◌, length, Option, Some, None, IsSome, is_none, if◌then◌else◌, nat_eq, refl, sym, ap, subst, ◌∙◌, inl}
+use Rattle.std.proofs.Common.{◌≡◌, ◌<◌, ◌+◌, ℕ, suc, Bool, true, false, not, ◌&&◌, List, [], length, Option, Some, None, IsSome, is_none, if◌then◌else◌, nat_eq, refl, sym, ap, subst, ◌∙◌}
 use mathlib.Core.Path.{fun_ext}
 use Rattle.std.specs.Option.{option_map}
 use Rattle.std.specs.List.{list_any}
@@ -14,8 +14,8 @@ use Rattle.lp_transition.specs.Events.{is_control}
 use Rattle.lp_transition.specs.Plain.{is_plain}
 use Rattle.lp_transition.specs.Tasks.{change}
 use Rattle.lp_transition.specs.Leg.{Standing, State, each_live, each_task}
-use Rattle.lp_transition.specs.Run.{Run, and_then, leg_of, opens, switched, plus}
-use Rattle.lp_transition.specs.Machine.{complete_in, affected, answer, calling, switches_at, put_in, refusal_of, returning, state_of, with_switches, told}
+use Rattle.lp_transition.specs.Run.{Run, leg_of, switched, plus}
+use Rattle.lp_transition.specs.Machine.{complete_in, affected, answer, calling, switches_at, put_in, refusal_of, returning, with_switches, told}
 use Rattle.lp_transition.specs.inside.ScanSteps.{groups_of}
 use Rattle.lp_transition.specs.Steps.{StandsIn}
 use Rattle.lp_transition.specs.Table.{Engine, state_in}
@@ -31,7 +31,7 @@ use Rattle.lp_cert.specs.Ends.{Made, IsMadeWith, is_opening}
 use Rattle.lp_cert.specs.Invariant.{open_end}
 use Rattle.lp_cert.specs.inside.Invariant.{IsStepped}
 use Rattle.lp_cert.specs.Waiters.{WaitingGroups}
-use Rattle.lp_cert.specs.inside.Waiters.{AreStanding, lines_at, HasFewGroups, own_lines}
+use Rattle.lp_cert.specs.inside.Waiters.{lines_at, HasFewGroups, own_lines}
 use Rattle.lp_cert.specs.inside.StepLines.{noted_by, noted_lines}
 use Rattle.lp_transition.specs.LastScan.{IsLastScanAfter, used_scan}
 use Rattle.lp_cert.proofs.ScanTold.{TellsOrUnchanged}

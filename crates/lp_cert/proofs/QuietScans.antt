@@ -1,5 +1,5 @@
 -- Scans that find all as the last one of their kind left it.
-use Rattle.std.proofs.Common.{◌≡◌, ℕ, ◌+◌, ◌<◌, Bool, true, false, [], length, if◌then◌else◌, nat_eq, Option, Some, None, refl, sym, ap, subst, inl, inr, ◌∙◌, add-one}
+use Rattle.std.proofs.Common.{◌≡◌, ℕ, ◌+◌, ◌<◌, Bool, true, false, [], length, if◌then◌else◌, nat_eq, Option, Some, None, refl, sym, ap, subst, inr, ◌∙◌, add-one}
 use Rattle.std.proofs.lemmas.Bool.{false≢true, cond-true}
 use Rattle.lp_numbers.specs.Numbers.{has}
 use Rattle.lp_model.specs.Rules.{Rules, IsLawful}
@@ -21,7 +21,7 @@ use Rattle.lp_cert.specs.declared.open_leg.OpenLeg.{OpenLeg}
 use Rattle.lp_cert.specs.Ends.{Made, IsMadeWith, is_opening}
 use Rattle.lp_cert.specs.Invariant.{open_end}
 use Rattle.lp_transition.specs.LastScan.{IsLastScanAfter, used_scan}
-use Rattle.lp_cert.specs.inside.LastScan.{IsHeld}
+use Rattle.lp_cert.specs.inside.ToldGroups.{IsHeld}
 use Rattle.lp_cert.specs.Certificates.{lines, group_id}
 use Rattle.lp_cert.specs.Unchanged.{IsUnchanged, AreUnchangedSince}
 use Rattle.lp_cert.specs.Waiters.{WaitingGroups, head_of}

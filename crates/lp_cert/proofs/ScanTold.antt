@@ -17,9 +17,9 @@ use Rattle.lp_transition.proofs.Quantifiers.{some_live-is}
 use Rattle.lp_cert.specs.declared.line.Line.{Line}
 use Rattle.lp_cert.specs.Certificates.{group_id, after_refusal}
 use Rattle.lp_cert.specs.Unchanged.{IsUnchanged, AreUnchangedBy, AreUnchangedSince}
-use Rattle.lp_transition.specs.Blames.{has_frame_in, first_blamed_in}
+use Rattle.lp_transition.specs.Blames.{has_frame_in}
 use Rattle.lp_transition.specs.Table.{LastScan}
-use Rattle.lp_cert.specs.inside.LastScan.{TellOfChanged}
+use Rattle.lp_cert.specs.inside.ToldGroups.{TellOfChanged}
 use Rattle.lp_cert.specs.Waiters.{WaitingGroups, head_of}
 use Rattle.lp_cert.specs.inside.Waiters.{AreStanding, after_verdict, lines_in}
 use Rattle.lp_cert.proofs.UnchangedLines.{unchanged_refused}

@@ -3,7 +3,7 @@ use Rattle.std.proofs.Common.{◌≡◌, ◌≢◌, ◌↔◌, ℕ, suc, Bool, t
 use mathlib.Core.Path.{fun_ext}
 use Rattle.std.specs.List.{list_any, range_with_len}
 use Rattle.std.specs.Option.{option_map}
-use Rattle.std.proofs.lemmas.Bool.{false≢true, cond-true, cond-false, eqb-true, eqb-false, ne_eqb, or_parts}
+use Rattle.std.proofs.lemmas.Bool.{false≢true, cond-false, eqb-true, eqb-false, ne_eqb, or_parts}
 use Rattle.lp_stack.specs.declared.number.TaskId.{TaskId}
 use Rattle.lp_stack.specs.declared.view.Class.TheVariants.{Normal}
 use Rattle.lp_stack.specs.declared.view.Mode.TheVariants.{Kernel}
@@ -29,7 +29,7 @@ use Rattle.lp_transition.proofs.EngineLemmas.{next-accepted}
 use Rattle.lp_transition.proofs.Plain.{none_first, unfit}
 use Rattle.lp_transition.proofs.States.{state_sound}
 use Rattle.lp_transition.proofs.Steps.{plain_refusal, refusal_is, does}
-use Rattle.lp_transition.specs.Blames.{has_frame_in, blame_in, first_blamed_in}
+use Rattle.lp_transition.specs.Blames.{has_frame_in, first_blamed_in}
 use Rattle.lp_cert.specs.declared.line.Line.{Line}
 use Rattle.lp_cert.specs.declared.line.Line.TheVariants as line
 use Rattle.lp_cert.specs.Certificates.{lines, birth_line}

@@ -1,5 +1,5 @@
 -- What a further refusal of an unchanged group makes of its lines.
-use Rattle.std.proofs.Common.{◌≡◌, ℕ, ◌<◌, Bool, true, List, [], ◌∷◌, ◌++◌, length, map, reverse, take, drop, Option, Some, get_or, refl, sym, ap, subst, ◌∙◌, arith}
+use Rattle.std.proofs.Common.{◌≡◌, ℕ, ◌<◌, Bool, true, List, [], ◌∷◌, ◌++◌, length, map, reverse, take, drop, Some, get_or, refl, sym, ap, subst, ◌∙◌, arith}
 use Rattle.std.proofs.lemmas.Bool.{false≢true, cond-true, eq-eqb}
 use Rattle.lp_stack.specs.declared.number.GroupId.{GroupId}
 use Rattle.lp_stack.specs.declared.number.TaskId.{TaskId}
@@ -20,7 +20,7 @@ use Rattle.lp_cert.specs.declared.head.Refused.{Refused}
 use Rattle.lp_cert.specs.Certificates.{after_refusal, task_id}
 use Rattle.lp_cert.specs.Heads.{lines_of, ongoing_reasons, head_lines}
 use Rattle.lp_cert.specs.Unchanged.{IsUnchanged}
-use Rattle.lp_cert.specs.inside.LastScan.{is_held}
+use Rattle.lp_cert.specs.inside.ToldGroups.{is_held}
 use Rattle.lp_cert.specs.inside.Heads.{ContinuesIn, IsUnchecked, IsHead, IsRefusedBy, HasFrameAs, continues_after}
 use Rattle.lp_cert.proofs.HeadLemmas.{busy_some, refused_on}
 

@@ -1,5 +1,5 @@
 -- Which groups are unchanged after an event that opens no leg, by what the engine knows of the last scan.
-use Rattle.std.proofs.Common.{◌≡◌, ℕ, suc, Bool, true, false, List, length, Option, Some, None, IsTrue, IsFalse, if◌then◌else◌, nat_eq, refl, sym, ap, subst, ◌∙◌}
+use Rattle.std.proofs.Common.{◌≡◌, ℕ, suc, Bool, true, false, List, length, Option, Some, None, IsTrue, IsFalse, nat_eq, refl, sym, ap, subst, ◌∙◌}
 use mathlib.Core.Path.{fun_ext}
 use Rattle.std.specs.List.{list_any}
 use Rattle.std.proofs.lemmas.Bool.{false≢true, cond-true, cond-false}
@@ -11,7 +11,7 @@ use Rattle.lp_model.specs.declared.verdict.Verdict.{Verdict}
 use Rattle.lp_transition.specs.declared.event.Event.{Event}
 use Rattle.lp_transition.specs.declared.event.Event.TheVariants.{Walk, Stop}
 use Rattle.lp_transition.specs.LastScan.{IsLastScanAfter, AreSameMembers, used_kind, used_scan}
-use Rattle.lp_transition.specs.Tasks.{Fate, Live, on_live}
+use Rattle.lp_transition.specs.Tasks.{on_live}
 use Rattle.lp_transition.specs.Leg.{Standing, State, Leg}
 use Rattle.lp_transition.specs.Run.{and_then, opens}
 use Rattle.lp_transition.specs.Sound.{IsSound}
@@ -22,7 +22,7 @@ use Rattle.lp_transition.specs.inside.Table.{is_in}
 use Rattle.lp_cert.specs.declared.line.Line.{Line}
 use Rattle.lp_cert.specs.Certificates.{lines}
 use Rattle.lp_cert.specs.Unchanged.{AreUnchanged, AreUnchangedBy, AreUnchangedSince}
-use Rattle.lp_cert.specs.inside.LastScan.{is_of_group}
+use Rattle.lp_cert.specs.inside.ToldGroups.{is_of_group}
 use Rattle.lp_cert.proofs.UnchangedEvents.{IsNoUsedScan, unchanged_by}
 use Rattle.lp_cert.proofs.UnchangedScans.{scan_leaves_unchanged}
 

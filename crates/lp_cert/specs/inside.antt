@@ -7,6 +7,6 @@ pub mod Heads
 pub mod Invariant
 pub mod Kept
 pub mod Parts
-pub mod LastScan
+pub mod ToldGroups
 pub mod Waiters
 pub mod WholeScans

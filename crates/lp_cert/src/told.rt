@@ -3,7 +3,7 @@ ghost use Rattle.std.specs.Prelude.{◌≡◌, ◌||◌, ℕ, nat_eq};
 ghost use Rattle.std.specs.List.{list_any};
 ghost use Rattle.lp_numbers.specs.Numbers.{has};
 ghost use Rattle.lp_transition.specs.LastScan.{used_scan};
-ghost use Rattle.lp_cert.specs.inside.LastScan.{is_of_group};
+ghost use Rattle.lp_cert.specs.inside.ToldGroups.{is_of_group};
 
 use lp_model::{CheckKind, Consistency, Verdict};
 use lp_numbers::NumberSet;

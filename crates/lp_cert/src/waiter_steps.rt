@@ -8,7 +8,7 @@ ghost use Rattle.lp_transition.specs.Scan.{verdicts_of};
 ghost use Rattle.lp_transition.specs.Table.{state_in};
 ghost use Rattle.lp_transition.specs.Weigh.{IsWeighed, refusal_in};
 ghost use Rattle.lp_transition.specs.LastScan.{used_kind, used_scan};
-ghost use Rattle.lp_cert.specs.inside.LastScan.{AreToldOf, is_of_group};
+ghost use Rattle.lp_cert.specs.inside.ToldGroups.{AreToldOf, is_of_group};
 ghost use Rattle.lp_cert.specs.inside.Invariant.{with_verdicts};
 ghost use Rattle.lp_cert.specs.inside.StepLines.{stepped_lines, after_scan_kind, noted_lines};
 ghost use Rattle.lp_cert.specs.inside.Waiters.{AreStanding, HasFewGroups, HasHeadFor, HasHeads, IsUsedVerdict, after_switch, lines_at, own_lines};

@@ -9,8 +9,6 @@ ghost use Rattle.lp_transition.specs.Leg.{State};
 ghost use Rattle.lp_transition.specs.Sound.{IsSound};
 ghost use Rattle.lp_transition.specs.Scan.{passing, first_refused};
 ghost use Rattle.lp_transition.specs.Table.{state_in};
-ghost use Rattle.lp_cert.specs.inside.Heads.{HasFrameAs};
-ghost use Rattle.lp_transition.specs.Blames.{has_frame_in};
 ghost use Rattle.lp_cert.specs.Certificates.{group_id};
 ghost use Rattle.lp_cert.specs.Heads.{head_lines};
 ghost use Rattle.lp_cert.specs.Invariant.{floor_waiters};
@@ -20,11 +18,11 @@ ghost use Rattle.lp_cert.specs.inside.Waiters.{AreBare, HasHeadFor, HasHeads, Is
 mod held;
 mod whole;
 
+use self::held::is_held;
 use crate::cert_lines::CertLines;
 use crate::chains::Chains;
 use crate::group_set::{GroupSet, greater};
 use crate::head::{OwnFork, Refused, Waiter};
-use crate::ongoing::Ongoing;
 use crate::reasons::Reasons;
 use lp_model::{Consistency, Verdict};
 use lp_numbers::NumberSet;
@@ -334,7 +332,7 @@ fn judge<M: Consistency>(
         at,
         task: verdict.task,
         blame,
-        frame_stands: has_standing_frame(core, reasons.head(group).ongoing),
+        frame_stands: is_held(core, reasons.head(group).ongoing),
     };
     reasons.refuse(group, &refusal);
     refused.insert(group.0);
@@ -346,16 +344,6 @@ fn is_left(waiting: &GroupSet, refused: &NumberSet, group: GroupId) -> bool
     ensures waits { result ≡ true → has waiting.now group.0 ≡ true }
 {
     waiting.contains(group.0) && !refused.contains(group.0)
-}
-
-/// Of a hold that continues, whether its frame is still on its task's stack.
-fn has_standing_frame<M: Consistency>(core: &Core<M>, ongoing: Ongoing) -> bool
-    ensures { HasFrameAs (has_frame_in (state_in core.now)) ongoing result }
-{
-    let Ongoing::Hold { task, serial, .. } = ongoing else {
-        return false;
-    };
-    core.has_frame(task, serial)
 }
 
 /// A number above the group of a child's own that an event may bring.

@@ -46,10 +46,6 @@ module _ (model : Rules) (e : Engine) where
       known-live e t (slot e.table t) (has e.table.used t) refl (fits-free (not (on_live false (λ x. true) (outlines_of (standings e.table) t))) UnknownTask (first_free (unknown_task (outlines_of (standings e.table)) t) tests h))
 
   -- the task of an event that an engine accepts
-  pub call-live : (t : TaskId) (f : SymId) → refusal_of model (state_in e) (Call t f) ≡ None → IsLive e t.0
-  unfolding refusal_of
-  call-live t f h = by_first t.0 (unknown_symbol (bounds_of e.patches) f.0 ∷ not_in Kernel (outlines_of (standings e.table)) t.0 ∷ stack_full (outlines_of (standings e.table)) t.0 ∷ []) h
-
   pub exit-live : (t : TaskId) → refusal_of model (state_in e) (Exit t) ≡ None → IsLive e t.0
   unfolding refusal_of
   exit-live t h = by_first t.0 (not_of Normal (outlines_of (standings e.table)) t.0 ∷ not_in Kernel (outlines_of (standings e.table)) t.0 ∷ stack_not_empty (outlines_of (standings e.table)) t.0 ∷ []) h

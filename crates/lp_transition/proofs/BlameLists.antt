@@ -37,22 +37,6 @@ module _ (table : Table) (t group : ℕ) (x : Standing) (b : StandingBlame) (bla
   outside : (g : ℕ) → (g ≡ group → ⊥) → is_in g (slot table t) ≡ false
   outside g ne = ap (is_in g) live ∙ ne_eqb x.group g (λ same. ne (sym (grouped ∙ same)))
 
-  pub looked-other : (nat_eq b.task.0 t ≡ false) → (g : ℕ) → blame_at blames g ≡ looked_at table t g (blame_at blames g)
-  looked-other other g =
-      ⊎_elim
-      (λ (same : g ≡ group).
-      let here = ap (blame_at blames) same ∙ stands in
-      here ∙ (kept (is_in g (slot table t)) ∙ ap (looked_at table t g) (sym here)))
-      (λ (ne : g ≡ group → ⊥). apart g (blame_at blames g) (outside g ne))
-      (cases_eq g group)
-    where
-      kept : (p : Bool) → Some b ≡ (if p && (nat_eq b.task.0 t && not (frame_there (slot table t) b.serial)) then None else Some b)
-      kept p = sym (ap (λ q. if p && (q && not (frame_there (slot table t) b.serial)) then None else Some b) other ∙ no p)
-        where
-          no : (q : Bool) → (if q && false then None else Some b) ≡ Some b
-          no true = refl
-          no false = refl
-
   pub looked-there : (list_any (λ (f : Frame). nat_eq f.serial b.serial) x.frames ≡ true) → (g : ℕ) → blame_at blames g ≡ looked_at table t g (blame_at blames g)
   looked-there has_it g =
       ⊎_elim

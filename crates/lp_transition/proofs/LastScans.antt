@@ -2,7 +2,7 @@
 use Rattle.std.proofs.Common.{◌≡◌, ◌⊎◌, ℕ, suc, Bool, true, false, Some, None, is_some, if◌then◌else◌, nat_eq, refl, sym, ap, subst, ◌∙◌, ⊎_elim, inl, inr}
 use Rattle.std.proofs.lemmas.Bool.{false≢true, cond-false, cond-true, cases_Bool, false_from_ne_true}
 use Rattle.lp_stack.specs.declared.number.TaskId.{TaskId}
-use Rattle.lp_numbers.specs.Numbers.{Numbers, has}
+use Rattle.lp_numbers.specs.Numbers.{Numbers, has, IsEmpty}
 use Rattle.lp_model.specs.Rules.{Rules}
 use Rattle.lp_model.specs.declared.check.CheckKind.{CheckKind}
 use Rattle.lp_model.specs.declared.check.CheckKind.TheVariants as kind
@@ -108,6 +108,7 @@ module _ (model : Rules) (s : State) (event : Event) (before after : KeptScan) (
 pub last_forgotten : (model : Rules) (old : Engine) (event : Event) (new : Engine) → new.last_scan.kind ≡ None → IsLastScanAfter model old event new
 last_forgotten model old event new none = record {
   scan = λ on other used some. absurd (none_some other (sym none ∙ some));
+  fresh = λ on other used some. absurd (none_some other (sym none ∙ some));
   opening = λ control accepted. none;
   kind = λ unused on some. absurd (none_some on (sym none ∙ some));
   others = λ unused on some t x live off out. absurd (none_some on (sym none ∙ some));
@@ -142,6 +143,7 @@ module _ (model : Rules) (e old new : Engine) (left_waiting : Numbers) (event : 
       let tasks = ap (λ (st : State). st.tasks) there in
       of_old (record {
         scan = λ on other used some. absurd (none_some why (sym (used_free model (state_in old) event on used) ∙ refused));
+        fresh = λ on other used some. absurd (none_some why (sym (used_free model (state_in old) event on used) ∙ refused));
         opening = λ control accepted. absurd (none_some why (sym accepted ∙ (ap (λ (o : Engine). refusal_of model (state_in o) event) was ∙ refused)));
         kind = λ unused. kept_kind (ap (λ (l : KeptScan). l.kind) same);
         others = λ unused on some t x live off out. (
@@ -156,6 +158,7 @@ module _ (model : Rules) (e old new : Engine) (left_waiting : Numbers) (event : 
       let switched = came ∙ next-accepted model (state_in e) event (ap (λ (o : Engine). refusal_of model (state_in o) event) was ∙ accepted) plain in
       of_old (record {
         scan = λ on other used some. absurd (none_some on (sym unused ∙ used));
+        fresh = λ on other used some. absurd (none_some on (sym unused ∙ used));
         opening = λ control free. absurd (false≢true (sym plain ∙ control));
         kind = λ none. kept_kind same;
         others = λ none on some t x live off out.
@@ -174,24 +177,25 @@ module _ (model : Rules) (e old new : Engine) (left_waiting : Numbers) (event : 
       last_takes accepted plain unused same (changes_in model e event before after a f noted only own groups)
 
   -- a scan of a kind that the model uses
-  pub last_noted : (on : CheckKind) → used_scan model event ≡ Some on → is_control event ≡ false → after.kind ≡ Some on → IsLastScanAfter model old event new
-  last_noted on used plain noted = record {
+  pub last_noted : (on : CheckKind) → used_scan model event ≡ Some on → is_control event ≡ false → after.kind ≡ Some on → IsEmpty after.changed → IsLastScanAfter model old event new
+  last_noted on used plain noted empty = record {
     scan = λ this other again some.
         let one : Some on ≡ Some this = sym used ∙ again in
         let two : Some on ≡ Some other = sym noted ∙ kind_after other some in
         cc;
+    fresh = λ this other again some group. ap (λ (l : LastScan). has l.changed group) tells ∙ empty group;
     opening = λ control free. absurd (false≢true (sym plain ∙ control));
     kind = λ unused. absurd (none_some on (sym unused ∙ used));
     others = λ unused. absurd (none_some on (sym unused ∙ used));
   }
 
   -- a scan: its kind is noted where the model uses it, else nothing is
-  pub last_scanned : (on : CheckKind) (is_used : Bool) → is_scan_kind on ≡ true → scan_event on ≡ event → is_used ≡ model.uses on → (is_used ≡ true → after.kind ≡ Some on) → (is_used ≡ false → after ≡ before) → IsLastScanAfter model old event new
+  pub last_scanned : (on : CheckKind) (is_used : Bool) → is_scan_kind on ≡ true → scan_event on ≡ event → is_used ≡ model.uses on → (is_used ≡ true → (after.kind ≡ Some on) × IsEmpty after.changed) → (is_used ≡ false → after ≡ before) → IsLastScanAfter model old event new
   last_scanned on is_used scan is uses noted kept =
       let kind_is : used_scan model event ≡ used_kind model on = ap (used_scan model) (sym is) ∙ scan_used model on scan in
       let plain : is_control event ≡ false = ap is_control (sym is) ∙ scan_plain on in
       ⊎_elim
-      (λ (yes : is_used ≡ true). last_noted on (kind_is ∙ cond-true (model.uses on) (Some on) None (sym uses ∙ yes)) plain (noted yes))
+      (λ (yes : is_used ≡ true). last_noted on (kind_is ∙ cond-true (model.uses on) (Some on) None (sym uses ∙ yes)) plain (noted yes).0 (noted yes).1)
       (λ (no : is_used ≡ false).
       let accepted : refusal_of model (state_in old) event ≡ None = ap (refusal_of model (state_in old)) (sym is) ∙ scan_free model (state_in old) on in
       last_takes accepted plain (kind_is ∙ cond-false (model.uses on) (Some on) None (sym uses ∙ no)) (ap (λ (l : KeptScan). l.kind) (kept no))

@@ -1,7 +1,7 @@
 -- The engine at a check that a task makes alone.
-use Rattle.std.proofs.Common.{◌≡◌, ◌≢◌, ◌<◌, ◌≤◌, ℕ, suc, Bool, true, false, not, ◌&&◌, List, length, set, Option, Some, None, IsTrue, ◌↔◌, nat_eq, refl, sym, ap, ◌∙◌, subst, ⊎_elim, arith}
+use Rattle.std.proofs.Common.{◌≡◌, ◌≢◌, ◌<◌, ◌≤◌, ℕ, suc, Bool, true, false, not, ◌&&◌, length, set, Some, None, IsTrue, ◌↔◌, nat_eq, refl, sym, ap, ◌∙◌, subst, ⊎_elim, arith}
 use Rattle.std.proofs.lemmas.Bool.{cases_Bool, cases_eq, eq-eqb, ne_eqb, cond-true, cond-false}
-use Rattle.std.proofs.lemmas.List.{length-set, set-get_or, get_or-set_same, get_or-set_other}
+use Rattle.std.proofs.lemmas.List.{length-set, get_or-set_same, get_or-set_other}
 use Rattle.std.specs.Option.{option_map}
 use mathlib.Core.Path.{fun_ext}
 use Rattle.lp_numbers.specs.Numbers.{Numbers, has}
@@ -197,12 +197,3 @@ same-after_nothing t now =
     (λ (e : nat_eq u t ≡ true). same-fate (now u) ∙ sym (cond-true _ _ _ e))
     (λ (e : nat_eq u t ≡ false). sym (cond-false _ _ _ e))
     (cases_Bool (nat_eq u t)))
-
-option-nothing : (o : Option Standing) → option_map (λ y. y) o ≡ o
-option-nothing None = refl
-option-nothing (Some y) = refl
-
--- a table is the same after a change that changes nothing
-pub changed-nothing : (table : Table) (t : ℕ) → changed t (λ y. y) table ≡ table
-changed-nothing table t =
-    ap {A = List (Option Standing)} {B = Table} (λ slots. record table { slots = slots }) (ap (set table.slots t) (option-nothing (slot table t)) ∙ set-get_or table.slots t None)

@@ -85,10 +85,6 @@ module _ (table : Table) (patches : Patches) (wide : IsWide table) (empty : slot
         passed = eq-eqb m.task.group group m.grouped;
       })
 
-  -- a group has a live member where its count says so
-  pub member-counted : (group : ℕ) → (0 < count_by (is_in group) table.slots) ↔ IsTrue (has_member (bounds_of patches) (outlines_of (standings table)) group)
-  member-counted group = (has_member-from group, has_member-is group)
-
   -- ---- A lone member
 
   other_slots : (t u : ℕ) → u ≢ t → (group : ℕ) → is_in group (slot (without_task t table) u) ≡ is_in group (slot table u)
@@ -144,10 +140,6 @@ module _ (table : Table) (patches : Patches) (wide : IsWide table) (empty : slot
       (λ (same : u ≡ t). or_right (not (nat_eq x.group group)) (nat_eq u t) (eq-eqb u t same))
       (λ (ne : u ≡ t → ⊥). or_left (not (nat_eq x.group group)) (nat_eq u t) (not_from_false (nat_eq x.group group) (not_beside group t m e u x (slot_from_live table u x live) ne)))
       (cases_eq u t)))
-
-  -- a member is alone where its group counts one
-  pub alone-counted : (group t : ℕ) → Member table group t → (count_by (is_in group) table.slots ≡ 1) ↔ IsTrue (is_alone (bounds_of patches) (outlines_of (standings table)) group t)
-  alone-counted group t m = (alone-from group t m, alone-is group t m)
 
   -- a member that is alone is the only one
   pub lone-is : (group t : ℕ) → Member table group t → IsTrue (is_alone (bounds_of patches) (outlines_of (standings table)) group t) → IsLone table group t

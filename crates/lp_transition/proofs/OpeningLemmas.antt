@@ -1,8 +1,6 @@
 -- A copy of the engine.
-use Rattle.std.proofs.Common.{◌≡◌, ℕ, true, ◌+◌, ◌<◌, List, [], ◌∷◌, ◌++◌, length, get_or, take, map, Option, sym, ap, ap₂, ◌∙◌, add-zero}
+use Rattle.std.proofs.Common.{◌≡◌, ℕ, true, [], sym, ap, ap₂, ◌∙◌, add-zero}
 use Rattle.std.proofs.lemmas.Bool.{cond-true}
-use Rattle.std.proofs.lemmas.List.{take_more, map-append}
-use Rattle.std.specs.Global.{Box}
 use Rattle.lp_model.specs.Rules.{Rules}
 use Rattle.lp_transition.specs.declared.event.Event.{Event}
 use Rattle.lp_transition.specs.Tasks.{Fate}
@@ -10,15 +8,8 @@ use Rattle.lp_transition.specs.Leg.{Standing, State, Leg}
 use Rattle.lp_transition.specs.Run.{plus, first_leg, leg_of, next_leg, opens, opened, and_then}
 use Rattle.lp_transition.specs.Machine.{state_of}
 use Rattle.lp_transition.specs.Steps.{OpensLegs}
-use Rattle.lp_transition.specs.inside.Slots.{slots_of}
-use Rattle.lp_transition.proofs.SlotLemmas.{boxed}
 use Rattle.lp_transition.proofs.Steps.{open_shown}
 use Rattle.lp_transition.proofs.Runs.{leg_after-plus}
-
--- one slot more is copied
-pub one_copied : (copied boxes : List (Option (Box Standing))) (i : ℕ) (new old : Option (Box Standing)) → i < length boxes → old ≡ get_or boxes i old → boxed new ≡ boxed old → slots_of copied ≡ slots_of (take i boxes) → slots_of (copied ++ new ∷ []) ≡ slots_of (take (i + 1) boxes)
-one_copied copied boxes i new old h at same so_far =
-    map-append boxed copied (new ∷ []) ∙ ap₂ (λ xs x. xs ++ x ∷ []) so_far (same ∙ ap boxed at) ∙ sym (ap (map boxed) (take_more boxes i old h) ∙ map-append boxed (take i boxes) (get_or boxes i old ∷ []))
 
 -- ---- Openings of legs
 

@@ -27,13 +27,6 @@ pub passing-skip : (first n limit : ℕ) (test : ℕ → Bool) → first ≤ n �
 unfolding passing
 passing-skip first n limit test low high h = skip_to test (n - first) (limit - n) first (limit - first) n (omega arith) (omega arith) h
 
--- a number that passes stands in front of those after it
-pub passing-cons : (n limit : ℕ) (test : ℕ → Bool) → n < limit → test n ≡ true → passing n limit test ≡ n ∷ passing (n + 1) limit test
-unfolding passing
-passing-cons n limit test h e =
-    let more : limit - n ≡ suc (limit - (n + 1)) = omega arith in
-    ap (passes test n) more ∙ keep_one test n (limit - (n + 1)) e
-
 any_below : (test : ℕ → Bool) (k a g : ℕ) → g < a → list_any (nat_eq g) (passes test a k) ≡ false
 any_below test zero a g low = refl
 any_below test (suc k) a g low =

@@ -2,7 +2,7 @@
 use Rattle.std.proofs.Common.{◌≡◌, ◌↔◌, ℕ, ◌<◌, Bool, true, false, not, ◌&&◌, List, [], Option, Some, None, refl, sym, ap, ap₂, subst, inl, inr, ⊎_elim, ◌∙◌, arith}
 use Rattle.std.proofs.lemmas.Bool.{false≢true, cases_Bool}
 use mathlib.Core.Path.{fun_ext}
-use Rattle.lp_numbers.specs.Numbers.{Numbers, has}
+use Rattle.lp_numbers.specs.Numbers.{Numbers, has, IsEmpty}
 use Rattle.lp_model.specs.Rules.{Rules, IsLawful}
 use Rattle.lp_model.specs.declared.check.CheckKind.{CheckKind}
 use Rattle.lp_model.specs.declared.check.CheckKind.TheVariants as kind
@@ -89,9 +89,10 @@ or_none None = refl
 or_none (Some b) = refl
 
 -- what is known after the scan where it was of the last one's kind, and so admitted nobody whom that one might refuse
-noted_none : (on : CheckKind) (waiting : Numbers) (last left : KeptScan) → last.kind ≡ Some on → left.kind ≡ last.kind → left.may_refuse ≡ last.may_refuse → IsNoted on waiting [] last left
-noted_none on waiting last left before kind may_refuse = record {
+noted_none : (on : CheckKind) (waiting : Numbers) (last left : KeptScan) → last.kind ≡ Some on → left.kind ≡ last.kind → left.may_refuse ≡ last.may_refuse → IsEmpty left.changed → IsNoted on waiting [] last left
+noted_none on waiting last left before kind may_refuse fresh = record {
   noted = kind ∙ before;
+  fresh = fresh;
   doubted = last.may_refuse;
   begun = inl (before, refl);
   left = λ t. ap (λ (set : Numbers). has set t) may_refuse ∙ kept_and (has last.may_refuse t);
@@ -119,9 +120,9 @@ module _ (model : Rules) (lawful : IsLawful model) (e old : Engine) (waiting : N
   pub quiet_blames : HasBlamesAfter model old (scan_event on) (record (with_table e.table e) { last_scan = told_scan left })
   quiet_blames = record { verdicts = []; enough = weighed.verdicts; blames = leaves_blames.after }
 
-  module _ (told : e.last_scan ≡ told_scan last) (same : old.last_scan.kind ≡ Some on) (kind : left.kind ≡ last.kind) (may_refuse : left.may_refuse ≡ last.may_refuse) where
+  module _ (told : e.last_scan ≡ told_scan last) (same : old.last_scan.kind ≡ Some on) (kind : left.kind ≡ last.kind) (may_refuse : left.may_refuse ≡ last.may_refuse) (fresh : IsEmpty left.changed) where
     noted : IsNoted on waiting [] last left
-    noted = noted_none on waiting last left (sym (ap (λ (l : LastScan). l.kind) told) ∙ (ap (λ (o : Engine). o.last_scan.kind) was ∙ same)) kind may_refuse
+    noted = noted_none on waiting last left (sym (ap (λ (l : LastScan). l.kind) told) ∙ (ap (λ (o : Engine). o.last_scan.kind) was ∙ same)) kind may_refuse fresh
 
     -- the engine keeps what it has to: each group that waits is refused
     pub quiet_whole : IsWhole model (record (with_table e.table e) { last_scan = told_scan left }) waiting left
@@ -135,7 +136,7 @@ module _ (model : Rules) (lawful : IsLawful model) (e old : Engine) (waiting : N
     pub quiet_last : model.uses on ≡ true → IsLastScanAfter model old (scan_event on) (record (with_table e.table e) { last_scan = told_scan left })
     quiet_last used =
         last_scanned model e old (record (with_table e.table e) { last_scan = told_scan left }) waiting (scan_event on) last left was told refl taken on true scan refl (sym used)
-        (λ yes. noted.noted)
+        (λ yes. (noted.noted, noted.fresh))
         (λ no. absurd (false≢true (sym no)))
 
 -- ---- Whom it may leave out

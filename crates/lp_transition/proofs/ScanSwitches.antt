@@ -1,14 +1,11 @@
 -- Waiting tasks switch with their groups, one after another.
-use Rattle.std.proofs.Common.{◌≡◌, ◌≢◌, ℕ, ◌<◌, Bool, true, false, not, ◌&&◌, ◌||◌, length, set, Option, Some, None, if◌then◌else◌, nat_eq, refl, sym, ap, ap₂, ◌∙◌, subst, ⊎_elim, arith}
+use Rattle.std.proofs.Common.{◌≡◌, ◌≢◌, ℕ, Bool, true, false, not, ◌&&◌, ◌||◌, Option, Some, None, if◌then◌else◌, nat_eq, refl, sym, ap, ap₂, ◌∙◌, subst, ⊎_elim}
 use Rattle.std.proofs.lemmas.Bool.{cond-true, cond-false, cases_Bool, cases_eq, eq-eqb, ne_eqb}
-use Rattle.std.proofs.lemmas.List.{length-set, get_or-set_same, get_or-set_other}
 use Rattle.std.specs.Option.{option_map}
 use Rattle.lp_numbers.specs.Numbers.{Numbers, has}
 use Rattle.lp_transition.specs.Leg.{Standing}
-use Rattle.lp_transition.specs.Table.{Table, slot, IsWide}
-use Rattle.lp_transition.specs.inside.Table.{changed}
+use Rattle.lp_transition.specs.Table.{Table, slot}
 use Rattle.lp_transition.specs.inside.ScanSteps.{switched_if, task_switches, IsTaskSwitched, AreSwitched}
-use Rattle.lp_transition.proofs.TableLemmas.{slot-changed, slot-changed_other, IsWide-changed}
 
 -- ---- One task
 
@@ -30,38 +27,6 @@ switched-group switches target x =
 pub slot_stays : (switches : ℕ → Bool) (target : ℕ) (o : Option Standing) → task_switches switches o ≡ false → o ≡ option_map (switched_if switches target) o
 slot_stays switches target None h = refl
 slot_stays switches target (Some x) h = ap Some (sym (cond-false (switches x.group) (record x { level = target }) x h))
-
--- a task that does not go
-pub task_stays : (switches : ℕ → Bool) (target t : ℕ) (table : Table) (waiting : Numbers) → task_switches switches (slot table t) ≡ false → IsTaskSwitched switches target t table table waiting waiting
-task_stays switches target t table waiting h = record {
-  task = slot_stays switches target (slot table t) h;
-  others = λ u ne. refl;
-  waits = sym (ap (λ b. has waiting t && not b) h ∙ and-true (has waiting t));
-  others_wait = λ u ne. refl;
-  numbers = refl;
-  used = refl;
-  wide = λ wide. wide;
-}
-
-slot_switches : (switches : ℕ → Bool) (target : ℕ) (o : Option Standing) → task_switches switches o ≡ true → option_map (λ (x : Standing). record x { level = target }) o ≡ option_map (switched_if switches target) o
-slot_switches switches target None h = absurd (cc)
-slot_switches switches target (Some x) h = ap Some (sym (cond-true (switches x.group) (record x { level = target }) x h))
-
--- a task that switches
-pub task_went : (switches : ℕ → Bool) (target t : ℕ) (table new : Table) (waiting left : Numbers) → IsWide table → t < 65536 → task_switches switches (slot table t) ≡ true → new ≡ changed t (λ x. record x { level = target }) table → left ≡ set waiting t false → length left ≡ 65536
-    → IsTaskSwitched switches target t table new waiting left
-task_went switches target t table new waiting left wide h went is out long =
-    let f = λ (x : Standing). record x { level = target } in
-    let within : t < length waiting = omega (arith, length-set waiting t false, ap length out, long) in
-    record {
-      task = ap (λ n. slot n t) is ∙ slot-changed table t f wide h ∙ slot_switches switches target (slot table t) went;
-      others = λ u ne. ap (λ n. slot n u) is ∙ slot-changed_other table t u f ne;
-      waits = ap (λ w. has w t) out ∙ get_or-set_same waiting t false false within ∙ sym (ap (λ b. has waiting t && not b) went ∙ and-false (has waiting t));
-      others_wait = λ u ne. ap (λ w. has w u) out ∙ get_or-set_other waiting t u false false ne;
-      numbers = ap length out ∙ length-set waiting t false;
-      used = ap (λ (n : Table). n.used) is;
-      wide = λ old. subst IsWide (sym is) (IsWide-changed table t f old);
-    }
 
 -- ---- One task after another
 
@@ -92,36 +57,6 @@ waits_again true false false = refl
 waits_again true false true = refl
 waits_again true true false = refl
 waits_again true true true = refl
-
--- where nobody is taken, nothing changes
-pub moving_none : (switches : ℕ → Bool) (target : ℕ) (table : Table) (waiting : Numbers) → AreSwitched (λ t. false) switches target table table waiting waiting
-moving_none switches target table waiting = record {
-  tasks = λ t. refl;
-  waits = λ t. sym (and-true (has waiting t));
-  numbers = refl;
-  used = refl;
-  wide = λ wide. wide;
-}
-
--- where no group switches, nothing changes
-pub moving_still : (taken : ℕ → Bool) (target : ℕ) (table : Table) (waiting : Numbers) → AreSwitched taken (λ group. false) target table table waiting waiting
-moving_still taken target table waiting = record {
-  tasks = λ t. still (taken t) (slot table t);
-  waits = λ t. sym (none_switches (has waiting t) (taken t) (slot table t));
-  numbers = refl;
-  used = refl;
-  wide = λ wide. wide;
-}
-  where
-    still : (b : Bool) (o : Option Standing) → o ≡ (if b then option_map (switched_if (λ group. false) target) o else o)
-    still true None = refl
-    still true (Some x) = refl
-    still false o = refl
-
-    none_switches : (waits b : Bool) (o : Option Standing) → (waits && not (b && task_switches (λ group. false) o)) ≡ waits
-    none_switches waits true None = and-true waits
-    none_switches waits true (Some x) = and-true waits
-    none_switches waits false o = and-true waits
 
 or_here : (b : Bool) → (b || (true || false)) ≡ true
 or_here true = refl

@@ -1,14 +1,14 @@
 -- A change of the table of tasks is a change of the tasks' fates.
-use Rattle.std.proofs.Common.{◌≡◌, ◌≢◌, ℕ, zero, suc, ◌<◌, Bool, true, false, not, is_some, IsSome, length, Option, Some, None, if◌then◌else◌, nat_eq, refl, sym, ap, ap₂, subst, ◌∙◌, ⊎_elim, arith}
+use Rattle.std.proofs.Common.{◌≡◌, ◌≢◌, ℕ, zero, suc, ◌<◌, Bool, true, false, is_some, length, Option, Some, None, if◌then◌else◌, nat_eq, refl, sym, ap, ap₂, subst, ◌∙◌, ⊎_elim, arith}
 use Rattle.std.proofs.lemmas.Bool.{false≢true, cases_eq, eq-eqb, ne_eqb, cond-true, cond-false}
 use Rattle.std.proofs.lemmas.List.{length-set, get_or-set_same, get_or-set_other}
 use Rattle.std.specs.Option.{option_map}
 use mathlib.Core.Path.{fun_ext}
 use Rattle.lp_numbers.specs.Numbers.{has}
-use Rattle.lp_transition.specs.Tasks.{Unused, Live, Dead, is_unused, map_live, change}
+use Rattle.lp_transition.specs.Tasks.{Unused, Live, Dead, map_live, change}
 use Rattle.lp_transition.specs.Leg.{Standing}
 use Rattle.lp_transition.specs.Table.{Table, slot, fate_at, standings, IsWide, Engine, state_in}
-use Rattle.lp_transition.specs.inside.Table.{IsKnown, IsBlank, changed, with_task, without_task}
+use Rattle.lp_transition.specs.inside.Table.{IsBlank, changed, with_task, without_task}
 use Rattle.lp_transition.specs.Sound.{IsSound}
 
 -- ---- Slots
@@ -128,27 +128,6 @@ slot_from_live table t x e = fate_live (slot table t) (has table.used t) x e
 -- a task in a slot lives
 pub live_from_slot : (table : Table) (t : ℕ) (x : Standing) → slot table t ≡ Some x → standings table t ≡ Live x
 live_from_slot table t x e = ap (λ o. fate_at o (has table.used t)) e
-
-fate_unused : (o : Option Standing) (used : Bool) → fate_at o used ≡ Unused → o ≡ None
-fate_unused (Some y) used e = absurd (cc)
-fate_unused None used e = refl
-
--- the slot of an unused number has no task
-pub slot_from_unused : (table : Table) (t : ℕ) → standings table t ≡ Unused → slot table t ≡ None
-slot_from_unused table t e = fate_unused (slot table t) (has table.used t) e
-
-is_unused_at : (o : Option Standing) (used : Bool) → (IsSome o → used ≡ true) → is_unused (fate_at o used) ≡ not used
-is_unused_at (Some x) used known = sym (ap not (known refl))
-is_unused_at None true known = refl
-is_unused_at None false known = refl
-
--- a number is unused where the set of used numbers says so
-pub is_unused-used : (table : Table) (t : ℕ) → IsKnown table t → is_unused (standings table t) ≡ not (has table.used t)
-is_unused-used table t known = is_unused_at (slot table t) (has table.used t) known
-
--- the number of a task that lives is used
-pub used_from_live : (table : Table) (t : ℕ) (x : Standing) → IsKnown table t → standings table t ≡ Live x → has table.used t ≡ true
-used_from_live table t x known live = known (ap is_some (slot_from_live table t x live))
 
 -- in a blank table every number is unused
 pub standings-blank : (table : Table) → IsBlank table → standings table ≡ (λ t. Unused)

@@ -431,9 +431,3 @@ module _ (model : Rules) (lawful : IsLawful model) (e old new : Engine) (waiting
 
 pub core_starts : (model : Rules) (e : Engine) (waiting : Numbers) (last : KeptScan) → IsEngine e waiting → last.kind ≡ None → IsCore model e waiting last
 core_starts model e waiting last kept none = record { engine = kept; unchanged = λ on some. absurd (none_some on (sym none ∙ some)) }
-
--- a scan of the kind of the last one may leave out the groups that haven't changed
-pub leaves_out : (model : Rules) (e old : Engine) (waiting : Numbers) (last : KeptScan) (on : CheckKind) (asked : Numbers) → e ≡ old → IsCore model e waiting last → (last.kind ≡ Some on) × (asked ≡ last.changed) → MayLeaveOut model on (state_in old) (has asked)
-leaves_out model e old waiting last on asked was core told =
-    subst (λ (o : Engine). MayLeaveOut model on (state_in o) (has asked)) was
-    (subst (λ (set : Numbers). MayLeaveOut model on (state_in e) (has set)) (sym told.1) (core.unchanged on told.0).left_out)

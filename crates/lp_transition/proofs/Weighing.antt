@@ -23,12 +23,12 @@ use Rattle.lp_transition.specs.Machine.{complete_in, switches_at, switched_group
 use Rattle.lp_transition.specs.Table.{Engine, slot, fate_at, standings, state_in, bounds_of}
 use Rattle.lp_transition.specs.inside.Table.{changed, is_off}
 use Rattle.lp_transition.specs.inside.Invariant.{IsEngine}
-use Rattle.lp_transition.specs.Weigh.{Weighed, IsWeighed, AreVerdictsFor, is_silent, silent_task, is_fork, child_of, born_by, born_of, is_switched, refusal_in}
+use Rattle.lp_transition.specs.Weigh.{Weighed, IsWeighed, AreVerdictsFor, is_silent, silent_task, child_of, born_by, born_of, is_switched, refusal_in}
 use Rattle.lp_transition.proofs.EngineLemmas.{is_quiet, quiet-control, quiet-stays, switched-still, answer-accepted}
 use Rattle.lp_transition.proofs.Quantifiers.{each_live-at, each_live-from}
 use Rattle.lp_transition.proofs.Accept.{fork-new}
 use Rattle.lp_transition.proofs.TableLemmas.{slot-zero, slot_from_live, live_from_slot}
-use Rattle.lp_transition.proofs.Effects.{with_table, takes_change_still, takes_nothing}
+use Rattle.lp_transition.proofs.Effects.{with_table, takes_change_still}
 use Rattle.lp_transition.proofs.MemberLemmas.{slot-positive, slot-below}
 use Rattle.lp_transition.proofs.SwitchedGroups.{switched-none, switched-one-group}
 use Rattle.lp_transition.proofs.Alone.{ChecksAlone}
@@ -44,15 +44,6 @@ module _ (model : Rules) (lawful : IsLawful model) (e : Engine) (waiting : Numbe
       let taken = takes_change_still model lawful e e (changed t f e.table) waiting event t f refl refl kept small room plain none accepted own levels groups in
       answer-taken model e (with_table (changed t f e.table) e) event accepted plain taken.state
       ∙ ap {A = Bool} {B = Reply} (λ b. record { what = told model (state_in e) event; completed = b }) (sym (not-completed e (with_table (changed t f e.table) e) waiting waiting kept taken.kept (λ empty. empty)))
-
-  -- nor does one that leaves the tasks alone
-  pub answer-nothing : (event : Event) → is_control event ≡ false → ((group : ℕ) → switches_at model (affected model (state_in e) event) event group ≡ false) → refusal_of model (state_in e) event ≡ None
-      → own_effect model.child_group (suc e.number) event (standings e.table) ≡ standings e.table
-      → answer model (state_in e) event ≡ record { what = told model (state_in e) event; completed = false }
-  answer-nothing event plain none accepted own =
-      let taken = takes_nothing model lawful e e waiting event refl kept room plain none accepted own in
-      answer-taken model e (with_table e.table e) event accepted plain taken.state
-      ∙ ap {A = Bool} {B = Reply} (λ b. record { what = told model (state_in e) event; completed = b }) (sym (not-completed e (with_table e.table e) waiting waiting kept taken.kept (λ empty. empty)))
 
   -- where no group switches, an event that is no call reports that it was done
   pub done-still : (event : Event) → ((group : ℕ) → switches_at model (affected model (state_in e) event) event group ≡ false) → told model (state_in e) event ≡ switched (switched_groups model (affected model (state_in e) event) event) → told model (state_in e) event ≡ Done
@@ -214,27 +205,6 @@ born-child model e p c how x accepted there =
 -- a refused event brings none
 pub born-refused : (model : Rules) (e : Engine) (event : Event) (why : Refusal) → refusal_of model (state_in e) event ≡ Some why → None ≡ born_of model (state_in e) event
 born-refused model e event why refused = sym (ap (λ r. born_by model.child_group r event (standings e.table)) refused)
-
--- nor does an event that is no fork
-pub born-none : (model : Rules) (e : Engine) (event : Event) → is_fork event ≡ false → None ≡ born_of model (state_in e) event
-born-none model e event plain = by (refusal_of model (state_in e) event) event plain
-  where
-    by : (r : Option Refusal) (event : Event) → is_fork event ≡ false → None ≡ born_by model.child_group r event (standings e.table)
-    by (Some why) event plain = refl
-    by None (Fork p c how) plain = cc
-    by None (Call t f) plain = refl
-    by None (Ret t) plain = refl
-    by None (Sleep t) plain = refl
-    by None (Wake t) plain = refl
-    by None (Enter t) plain = refl
-    by None (Exit t) plain = refl
-    by None (Idle t) plain = refl
-    by None (Die t) plain = refl
-    by None Walk plain = refl
-    by None Stop plain = refl
-    by None Enable plain = refl
-    by None Disable plain = refl
-    by None Reverse plain = refl
 
 -- an event that is no scan is answered by no verdicts
 pub verdicts-none : (model : Rules) (s : State) (event : Event) → is_scan event ≡ false → AreVerdictsFor model s event []

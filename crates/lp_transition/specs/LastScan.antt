@@ -1,6 +1,6 @@
 -- What the engine knows of its last scan after each event: which waiting groups nothing happened to since.
 use Rattle.std.specs.Prelude.{◌≡◌, ◌↔◌, ℕ, true, false, Option, Some, None, if◌then◌else◌, nat_eq}
-use Rattle.lp_numbers.specs.Numbers.{has}
+use Rattle.lp_numbers.specs.Numbers.{has, IsEmpty}
 use Rattle.lp_model.specs.Rules.{Rules}
 use Rattle.lp_model.specs.declared.check.CheckKind.{CheckKind}
 use Rattle.lp_model.specs.declared.check.CheckKind.TheVariants as check
@@ -30,6 +30,8 @@ AreSameMembers before after group = (t : ℕ) (x : Standing) → x.group ≡ gro
 pub record IsLastScanAfter (model : Rules) (old : Engine) (event : Event) (new : Engine) : Type 0 where
   -- a scan that the model uses is the last one
   pub scan : (on kind : CheckKind) → used_scan model event ≡ Some on → new.last_scan.kind ≡ Some kind → kind ≡ on
+  -- after which nothing has happened to anybody yet
+  pub fresh : (on kind : CheckKind) → used_scan model event ≡ Some on → new.last_scan.kind ≡ Some kind → IsEmpty new.last_scan.changed
   -- nothing is known where a leg opens
   pub opening : is_control event ≡ true → refusal_of model (state_in old) event ≡ None → new.last_scan.kind ≡ None
   -- at any other event the last scan is the one from before

@@ -16,7 +16,7 @@ use Rattle.lp_cert.specs.declared.open_leg.OpenLeg.{OpenLeg}
 use Rattle.lp_cert.specs.declared.maker.Ready.{Ready}
 use Rattle.lp_cert.specs.inside.StepLines.{stepped_lines}
 use Rattle.lp_transition.specs.LastScan.{used_scan}
-use Rattle.lp_cert.specs.inside.LastScan.{AreToldOf}
+use Rattle.lp_cert.specs.inside.ToldGroups.{AreToldOf}
 use Rattle.lp_cert.specs.Waiters.{WaitingGroups, kept_cert}
 use Rattle.lp_cert.specs.inside.Waiters.{AreHeads, AreStanding, HasFewGroups, HasHeadFor, HasHeads, lines_at}
 use Rattle.lp_cert.specs.Invariant.{claim_of, upto_of, floor_waiters, end_waiters}

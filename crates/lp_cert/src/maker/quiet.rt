@@ -4,7 +4,7 @@ ghost use Rattle.lp_numbers.specs.Numbers.{has};
 ghost use Rattle.lp_transition.specs.Scan.{is_scan_kind, scan_event, MayLeaveOut};
 ghost use Rattle.lp_transition.specs.Table.{state_in};
 ghost use Rattle.lp_cert.specs.Ends.{IsMadeFurther};
-ghost use Rattle.lp_cert.specs.inside.LastScan.{IsHeld};
+ghost use Rattle.lp_cert.specs.inside.ToldGroups.{IsHeld};
 
 use super::Maker;
 use crate::waiters::Waiters;
@@ -53,7 +53,7 @@ fn are_held<M: Consistency>(core: &Core<M>, kind: CheckKind, waiters: &Waiters) 
     ensures { IsTrue result → (group : ℕ) → group < 65536 → has core.now.last_scan.changed group ≡ true → IsHeld (state_in core.now) waiters.now.reasons group }
 {
     match core.changed_since(kind) {
-        Some(changed) => waiters.are_held(core, changed),
+        Some(changed) => changed.is_empty() || waiters.are_held(core, changed),
         None => false,
     }
 }

@@ -6,7 +6,7 @@ ghost use Rattle.lp_numbers.specs.Numbers.{has};
 ghost use Rattle.lp_transition.specs.Blames.{has_frame_in};
 ghost use Rattle.lp_transition.specs.Table.{state_in};
 ghost use Rattle.lp_cert.specs.Waiters.{head_of};
-ghost use Rattle.lp_cert.specs.inside.LastScan.{IsHeld, is_held};
+ghost use Rattle.lp_cert.specs.inside.ToldGroups.{IsHeld, is_held};
 
 use super::Waiters;
 use crate::ongoing::Ongoing;
@@ -27,6 +27,7 @@ impl Waiters {
     }
 }
 
+/// Whether each of these groups is so held.
 fn each_is_held<M: Consistency>(core: &Core<M>, groups: &NumberSet, reasons: &Reasons) -> bool
     ensures { IsTrue result → AllByRecursion (IsHeld (state_in core.now) reasons.now) (members_from 0 groups.now) }
 {
@@ -39,7 +40,7 @@ fn each_is_held<M: Consistency>(core: &Core<M>, groups: &NumberSet, reasons: &Re
 }
 
 /// Whether a reason is a hold whose frame is still on its task's stack.
-fn is_held<M: Consistency>(core: &Core<M>, ongoing: Ongoing) -> bool
+pub(super) fn is_held<M: Consistency>(core: &Core<M>, ongoing: Ongoing) -> bool
     ensures { result ≡ is_held (has_frame_in (state_in core.now)) ongoing }
 {
     match ongoing {

@@ -2,7 +2,7 @@
 use Rattle.std.specs.Prelude.{◌≡◌, ◌⊎◌, ℕ, ◌≤◌, not, ◌&&◌, List, length, Option, Some}
 use Rattle.std.specs.List.{list_any}
 use Rattle.std.specs.Option.{ForSome}
-use Rattle.lp_numbers.specs.Numbers.{Numbers, has}
+use Rattle.lp_numbers.specs.Numbers.{Numbers, has, IsEmpty}
 use Rattle.lp_model.specs.Rules.{Rules}
 use Rattle.lp_model.specs.declared.check.CheckKind.{CheckKind}
 use Rattle.lp_model.specs.declared.verdict.Verdict.{Verdict}
@@ -46,6 +46,7 @@ pub record AreUnchanged (model : Rules) (kind : CheckKind) (s : State) (last : K
 -- what is kept of a scan of a kind, by its verdicts and by who waits after it
 pub record IsNoted (on : CheckKind) (waiting : Numbers) (verdicts : List Verdict) (old new : KeptScan) : Type 0 where
   pub noted : new.kind ≡ Some on
+  pub fresh : IsEmpty new.changed
   -- whom it might refuse: if the last one was of this kind, whom that one might, else all that wait
   pub doubted : Numbers
   pub begun : ((old.kind ≡ Some on) × (doubted ≡ old.may_refuse)) ⊎ (doubted ≡ waiting)

@@ -1,7 +1,7 @@
 //! Which waiting groups a scan needn't ask again, and which waiting tasks it would admit again.
 ghost use Rattle.std.specs.Prelude.{◌≡◌, ◌⊎◌, ◌&&◌, ◌||◌, not, ℕ, None, Some, is_some, nat_eq, false, IfOk, IfSome, IsTrue};
 ghost use Rattle.std.specs.List.{list_any};
-ghost use Rattle.lp_numbers.specs.Numbers.{has};
+ghost use Rattle.lp_numbers.specs.Numbers.{has, IsEmpty};
 ghost use Rattle.lp_transition.specs.Table.{slot};
 ghost use Rattle.lp_transition.specs.inside.Invariant.{IsNoted};
 ghost use Rattle.lp_transition.specs.inside.ScanSteps.{admits_task};
@@ -118,19 +118,21 @@ impl Unchanged {
     /// all that wait.
     fn begin(&mut self, kind: CheckKind, waiting: &NumberSet)
         ensures kind { self.new.kind ≡ Some kind }
+        ensures changed { IsEmpty self.new.changed }
         ensures may_refuse { ((self.old.kind ≡ Some kind) × (self.new.may_refuse ≡ self.old.may_refuse)) ⊎ (self.new.may_refuse ≡ waiting.now) }
     {
         if self.kind != Some(kind) {
             self.may_refuse.copy_from(waiting);
         }
         self.kind = Some(kind);
-        self.changed.clear();
+        self.clear_changed();
     }
 
     /// A scan of the last one's kind refused each group that waits, and told nothing else.
     #[inline(always)]
     pub(super) fn clear_changed(&mut self)
         ensures kind { self.new.kind ≡ self.old.kind }
+        ensures changed { IsEmpty self.new.changed }
         ensures may_refuse { self.new.may_refuse ≡ self.old.may_refuse }
     {
         self.changed.clear();

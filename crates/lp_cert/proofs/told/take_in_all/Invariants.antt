@@ -1,7 +1,7 @@
 use Rattle.std.proofs.Common.{◌≡◌, ◌||◌, ℕ, take}
 use Rattle.std.specs.List.{list_any}
 use Rattle.lp_numbers.specs.Numbers.{has}
-use Rattle.lp_cert.specs.inside.LastScan.{is_of_group}
+use Rattle.lp_cert.specs.inside.ToldGroups.{is_of_group}
 use Rattle.lp_cert.proofs.told.take_in_all.Given as goal
 
 -- the groups of the verdicts so far are in

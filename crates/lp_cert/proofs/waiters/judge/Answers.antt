@@ -5,6 +5,7 @@ use Rattle.lp_transition.specs.Blames.{has_frame_in}
 use Rattle.lp_transition.specs.Table.{state_in}
 use Rattle.lp_cert.specs.inside.Waiters.{is_left}
 use Rattle.lp_cert.proofs.WholeScans.{count_less}
+use Rattle.lp_cert.proofs.HeadLemmas.{frame_as}
 use Rattle.lp_cert.proofs.WaiterLemmas.{grouped, judges, not_left, others_left}
 use Rattle.lp_cert.proofs.waiters.judge.Goals as goal
 
@@ -19,8 +20,8 @@ returns-clause-judged g c =
     let left : is_left c.args.waiting.now c.args.refused.now group.0 ≡ c.is_left.result = sym c.is_left.ensures.left in
     let waits = left ∙ c.if-not-is_left.false in
     let few : group.0 < 65536 = omega arith in
-    judges s c.args.at c.args.verdict.now c.in-Some.blame group c.has_standing_frame.result (is_left c.args.waiting.now c.args.refused.now) (is_left c.args.waiting.now c.insert.new.self) c.args.reasons.now c.refuse.new.self
-    mine c.in-Some.is waits (subst (λ (h : Head). HasFrameAs (has_frame_in s) h.ongoing c.has_standing_frame.result) c.head.ensures c.has_standing_frame.ensures) c.refuse.ensures.refused c.refuse.ensures.others c.refuse.ensures.scans c.refuse.ensures.room c.refuse.ensures.scan_room
+    judges s c.args.at c.args.verdict.now c.in-Some.blame group c.is_held.result (is_left c.args.waiting.now c.args.refused.now) (is_left c.args.waiting.now c.insert.new.self) c.args.reasons.now c.refuse.new.self
+    mine c.in-Some.is waits (subst (λ (h : Head). HasFrameAs (has_frame_in s) h.ongoing c.is_held.result) c.head.ensures (frame_as (has_frame_in s) _ c.is_held.result c.is_held.ensures)) c.refuse.ensures.refused c.refuse.ensures.others c.refuse.ensures.scans c.refuse.ensures.room c.refuse.ensures.scan_room
     (not_left c.args.waiting.now c.args.refused.now c.insert.new.self group.0 c.insert.ensures.after c.insert.ensures.numbers few) (others_left c.args.waiting.now c.args.refused.now c.insert.new.self group.0 c.insert.ensures.after)
 
 pub returns-clause-spent : goal.returns-clause-spent

@@ -1,5 +1,5 @@
 use Rattle.lp_transition.specs.Table.{state_in}
-use Rattle.lp_cert.specs.inside.LastScan.{IsHeld}
+use Rattle.lp_cert.specs.inside.ToldGroups.{IsHeld}
 use Rattle.lp_cert.proofs.WholeScans.{all_members}
 use Rattle.lp_cert.proofs.waiters.Waiters.are_held.Goals as goal
 

@@ -1,7 +1,7 @@
 use Rattle.std.proofs.Common.{sym, subst, ◌∙◌}
 use Rattle.std.specs.List.{AllByRecursion}
 use Rattle.lp_transition.specs.Table.{state_in}
-use Rattle.lp_cert.specs.inside.LastScan.{IsHeld}
+use Rattle.lp_cert.specs.inside.ToldGroups.{IsHeld}
 use Rattle.lp_cert.proofs.waiters.held.each_is_held.Goals as goal
 
 pub loop-number-init : goal.loop-number-init

@@ -1,5 +1,4 @@
 use Rattle.std.proofs.Common.{◌≡◌, ◌+◌, ◌-◌, ◌<◌, ◌≤◌, ℕ, suc, Bool, List, ◌∷◌, ◌++◌, length, option_to_list, is_some, refl, sym, ap, subst, ◌∙◌, arith}
-use Rattle.lp_numbers.specs.Numbers.{IsLeastFrom}
 use Rattle.lp_model.specs.declared.verdict.Verdict.{Verdict}
 use Rattle.lp_transition.specs.Scan.{passing}
 use Rattle.lp_transition.specs.Table.{slot, state_in}

@@ -64,5 +64,5 @@ returns-clause-last_scan g c =
     let e : Engine = record { number = i.events; from = i.from.0; target = i.target.0; patches = i.patches; table = i.tasks; blames = i.blames; last_scan = told_scan i.unchanged } in
     let taken = with_scan g.M.Consistency.rules c.args.self.now _ c.args.step.now.event c.switch_tasks.new.waiting (told_scan c.scanned.new.self) (with_blames g.M.Consistency.rules c.args.self.now _ c.args.step.now.event c.switch_tasks.new.waiting c.note.new.self (takes_scan g.M.Consistency.rules g.met.M.Consistency.lawful (record { number = i.events; from = i.from.0; target = i.target.0; patches = i.patches; table = i.tasks; blames = i.blames; last_scan = told_scan i.unchanged }) c.args.self.now c.switch_tasks.new.tasks i.waiting c.switch_tasks.new.waiting c.args.step.now (is_listed (group_numbers c.groups_of.result.now)) c.self.view_is c.self.invariant.engine c.requires.weighed c.requires.scan (λ group few. ap (λ groups. is_listed groups group) listed) are_switched)) in
     last_rests g.M.Consistency.rules c.args.self.now c.args.step.now.event (record (with_table c.switch_tasks.new.tasks e) { blames = c.note.new.self }) c.scanned.new.self c.reset_if_done.new.self
-    (last_scanned g.M.Consistency.rules e c.args.self.now _ c.switch_tasks.new.waiting c.args.step.now.event i.unchanged c.scanned.new.self c.self.view_is refl refl taken c.scan_kind-kind.result c.uses-is_used.result c.scan_kind-kind.ensures.scan (c.scan_kind-kind.ensures.event ∙ c.event.ensures) c.uses-is_used.ensures (λ used. (c.scanned.ensures.used used).noted) c.scanned.ensures.unused)
+    (last_scanned g.M.Consistency.rules e c.args.self.now _ c.switch_tasks.new.waiting c.args.step.now.event i.unchanged c.scanned.new.self c.self.view_is refl refl taken c.scan_kind-kind.result c.uses-is_used.result c.scan_kind-kind.ensures.scan (c.scan_kind-kind.ensures.event ∙ c.event.ensures) c.uses-is_used.ensures (λ used. ((c.scanned.ensures.used used).noted, (c.scanned.ensures.used used).fresh)) c.scanned.ensures.unused)
     c.reset_if_done.ensures
