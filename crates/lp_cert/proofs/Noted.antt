@@ -240,7 +240,6 @@ module _ (model : Rules) (lawful : IsLawful model) (e : Engine) (sound : IsSound
   -- ---- A leg opens
 
   module _ (turns : opens model leg event ≡ true) where
-
     accepted : refusal_of model (state_in e) event ≡ None
     accepted = sym refused_is ∙ (why_is ∙ none_is (why_refused model leg event) (and_parts (is_control event) (is_none (why_refused model leg event)) turns).1)
 
