@@ -49,11 +49,15 @@ placed_at old new later bytes at end moved before written =
 pub numbers_at : (numbers : List ℕ) (i d : ℕ) → i < length numbers → line_rest (map decimal (drop i numbers)) ≡ (32 ∷ decimal (get_or numbers i d)) ++ line_rest (map decimal (drop (i + 1) numbers))
 numbers_at numbers i d below = rw (drop-cons numbers i d below, add-one) refl
 
--- one more number was put behind its space
-pub number_put : (before spaced after number rest next whole : List ℕ) → spaced ≡ before ++ 32 ∷ [] → after ≡ spaced ++ number → rest ≡ (32 ∷ number) ++ next → before ++ rest ≡ whole → after ++ next ≡ whole
-number_put before spaced after number rest next whole first second is so_far =
-    ap (λ l. l ++ next) (second ∙ ap (λ l. l ++ number) first ∙ append_assoc before (32 ∷ []) number)
-    ∙ append_assoc before (32 ∷ number) next
+-- a number was put behind its space
+pub spaced_put : (before spaced after number : List ℕ) → spaced ≡ before ++ 32 ∷ [] → after ≡ spaced ++ number → after ≡ before ++ 32 ∷ number
+spaced_put before spaced after number first second = second ∙ ap (λ l. l ++ number) first ∙ append_assoc before (32 ∷ []) number
+
+-- one more number was put
+pub number_put : (before after spaced rest next whole : List ℕ) → after ≡ before ++ spaced → rest ≡ spaced ++ next → before ++ rest ≡ whole → after ++ next ≡ whole
+number_put before after spaced rest next whole put is so_far =
+    ap (λ l. l ++ next) put
+    ∙ append_assoc before spaced next
     ∙ ap (λ l. before ++ l) (sym is)
     ∙ so_far
 

@@ -15,3 +15,4 @@ pub mod RunStays
 pub mod RunReplies
 pub mod RunLegs
 pub mod RunsFit
+pub mod Births

@@ -1,5 +1,5 @@
 -- The parts of a report, one after the other.
-use Rattle.std.proofs.Common.{◌≡◌, ◌<◌, ◌≤◌, ◌+◌, ℕ, suc, List, [], ◌∷◌, ◌++◌, length, drop, map, get_or, add-one, refl, sym, ap, ap₂, ◌∙◌, append_assoc, codes, decimal, Some, zero, arith}
+use Rattle.std.proofs.Common.{◌≡◌, ◌<◌, ◌≤◌, ◌+◌, ℕ, suc, List, [], ◌∷◌, ◌++◌, length, drop, map, get_or, add-one, refl, sym, ap, ◌∙◌, append_assoc, codes, decimal, Some, zero, arith}
 use Rattle.std.specs.Prelude.{slice_get}
 use Rattle.std.specs.List.{concat, flat_map}
 use Rattle.std.proofs.lemmas.List.{append-nil}
@@ -10,8 +10,6 @@ use Rattle.lp_stack.specs.declared.number.GroupId.{GroupId}
 use Rattle.lp_transition.specs.Events.{group_numbers}
 use Rattle.lp_transition.specs.declared.reply.Reply.{Reply}
 use Rattle.lp_cert.specs.declared.leg_end.LegEnd.{LegEnd}
-use Rattle.lp_cert.specs.declared.line.Line.{Line}
-use Rattle.lp_cert.specs.Text.{reason_words}
 use Rattle.lp_text.specs.declared.form.TraceForm.{TraceForm}
 use Rattle.lp_replay.specs.declared.outcome.Outcome.{Outcome}
 use Rattle.lp_text.specs.Words.{line_of}
@@ -81,13 +79,6 @@ module _ {X : Type 0} (f : X → List (List (List ℕ))) where
   block_of (x ∷ xs) (suc i) below =
       let found = block_of xs i (omega arith) in
       (found.0, found.1, rw add-one (rw add-one at found.2))
-
--- the first reason that is left, and those after it
-pub reasons_next : (reasons later : List Line) (reason : Line) → slice_get reasons 0 ≡ Some reason → later ≡ drop 1 reasons → flat_map line_of (map reason_words reasons) ≡ line_of (reason_words reason) ++ flat_map line_of (map reason_words later)
-reasons_next [] later reason found left = absurd (cc found)
-reasons_next (first ∷ rest) later reason found left =
-    let is : first ≡ reason = cc found in
-    ap₂ (λ (l : Line) ls. line_of (reason_words l) ++ flat_map line_of (map reason_words ls)) is (sym left)
 
 -- ---- The text
 

@@ -5,7 +5,7 @@ ghost use Rattle.lp_text.specs.Words.{line_of};
 ghost use Rattle.lp_text.specs.inside.Writing.{Puts, line_rest, seen_of, Wrote};
 
 use crate::counter::Counter;
-use crate::place::{SHORT_END, place_end, place_joined, place_rest};
+use crate::place::{SHORT_END, place_end, place_joined, place_rest, place_spaced};
 use lp_text::{Counted, WriteFault, put};
 use std::alloc::{AllocError, Global};
 use std::io::Write;
@@ -18,6 +18,9 @@ const ROOM: usize = 128;
 
 /// So much room.
 static BLANK: [u8; ROOM] = [b'\n'; ROOM];
+
+/// Room for a number behind a space.
+static SHORT_BLANK: [u8; 32] = [b'\n'; 32];
 
 /// Text that waits to be written. No call but `new` allocates.
 #[derive(Drop)]
@@ -32,6 +35,27 @@ impl Page {
     {
         let held = Vec::with_capacity(alloc, PAGE)?;
         Ok(Page { held })
+    }
+
+    /// The bytes that are held.
+    pub(crate) fn as_slice(&self) -> &[u8]
+        ensures { result.now ≡ self.now.held.items }
+    {
+        self.held.as_slice()
+    }
+
+    /// How many bytes are held.
+    pub(crate) fn len(&self) -> usize
+        ensures { result ≡ length self.now.held.items }
+    {
+        self.held.len()
+    }
+
+    /// Holds the first bytes alone, so many.
+    pub(crate) fn truncate(&mut self, len: usize)
+        ensures { self.new.held.items ≡ take len self.old.held.items }
+    {
+        self.held.truncate(len);
     }
 
     /// Takes the bytes if there is room for them, and says whether it did.
@@ -138,6 +162,22 @@ impl Page {
             self.put_all(writer, &[b" ", word])?;
         }
         self.put(writer, b"\n")
+    }
+
+    /// Takes a number behind a space, if there is room for the longest, and says whether it did. It is written where it
+    /// stays, as in `hold_rest`.
+    #[inline(always)]
+    pub(crate) fn hold_number(&mut self, number: u64) -> bool
+        ensures taken { IsTrue result → self.new.held.items ≡ self.old.held.items ++ 32 ∷ decimal number }
+        ensures kept { IsFalse result → self.new.held.items ≡ self.old.held.items }
+    {
+        let start = self.held.len();
+        if !self.hold(&SHORT_BLANK) {
+            return false;
+        }
+        let end = place_spaced(self.held.as_mut_slice(), start, number);
+        self.held.truncate(end);
+        true
     }
 
     /// Takes a line of a word and at most six numbers, if there is room for the longest, and says whether it did.

@@ -59,6 +59,18 @@ pub(crate) fn place_number(text: &mut [u8], at: usize, number: u64) -> usize
     end
 }
 
+/// Puts a number behind a space behind the first `at` bytes, and gives where it ends.
+#[inline(always)]
+pub(crate) fn place_spaced(text: &mut [u8], at: usize, number: u64) -> usize
+    requires { at + 21 ≤ length text.old }
+    ensures placed { take result text.new ≡ take at text.old ++ 32 ∷ decimal number }
+    ensures near { result ≤ at + 21 }
+    ensures size { length text.new ≡ length text.old }
+{
+    text[at] = b' ';
+    place_number(text, at + 1, number)
+}
+
 /// Puts the end of a line behind the first `at` bytes: numbers, each behind a space. Gives where it
 /// ends.
 #[inline(always)]
@@ -69,8 +81,7 @@ pub(crate) fn place_rest(text: &mut [u8], at: usize, numbers: &[u64]) -> usize
 {
     let mut end = at;
     for number in numbers {
-        text[end] = b' ';
-        end = place_number(text, end + 1, *number);
+        end = place_spaced(text, end, *number);
     }
     text[end] = b'\n';
     end + 1

@@ -9,11 +9,14 @@ ghost use Rattle.lp_text.specs.inside.Writing.{Puts, line_rest, seen_of};
 ghost use Rattle.lp_text.specs.Writing.{Writes};
 ghost use Rattle.lp_text.specs.Counts.{next};
 
+mod births;
 mod legs;
+mod reasons;
 
 use crate::counter::Counter;
 use crate::page::Page;
 use crate::place::SHORT_END;
+pub(crate) use births::KeptBirths;
 use itoa::Buffer;
 use legs::put_legs;
 use lp_replay::{GroupLists, Outcome, ReplyList, ShortReply, ShortWhat};
@@ -27,6 +30,7 @@ use std::io::Write;
 pub(crate) fn write_report<W: Write>(
     page: &mut Page,
     writer: &mut Counted<W>,
+    kept: &mut KeptBirths,
     form: TraceForm,
     name: &str,
     outcome: &Outcome,
@@ -35,7 +39,7 @@ pub(crate) fn write_report<W: Write>(
     ensures write_failed { OnErr result (writer.new.failures ≡ next writer.old.failures) }
     ensures unfailed { OnOk result (writer.new.failures ≡ writer.old.failures) }
 {
-    put_report(page, writer, form, name, outcome)?;
+    put_report(page, writer, kept, form, name, outcome)?;
     page.flush(writer)
 }
 
@@ -43,6 +47,7 @@ pub(crate) fn write_report<W: Write>(
 fn put_report<W: Write>(
     page: &mut Page,
     writer: &mut Counted<W>,
+    kept: &mut KeptBirths,
     form: TraceForm,
     name: &str,
     outcome: &Outcome,
@@ -53,7 +58,7 @@ fn put_report<W: Write>(
     put_header(page, writer, form)?;
     put_model(page, writer, name)?;
     put_events(page, writer, form, &outcome.replies)?;
-    put_legs(page, writer, form, legs)?;
+    put_legs(page, writer, kept, form, legs)?;
     put_stays(page, writer, outcome)
 }
 
@@ -232,7 +237,23 @@ fn put_switched<W: Write>(
 }
 
 /// Puts a group behind a space.
+#[inline(always)]
 fn put_group<W: Write>(
+    page: &mut Page,
+    writer: &mut Counted<W>,
+    group: GroupId,
+) -> Result<(), WriteFault>
+    ensures { Puts (seen_of W.contents writer.old) (seen_of W.contents writer.new) page.old.held.items page.new.held.items result (32 ∷ decimal group.0) }
+{
+    if page.hold_number(u64::from(group.0)) {
+        return Ok(());
+    }
+    put_group_flushed(page, writer, group)
+}
+
+/// The same, where there is no room.
+#[inline(never)]
+fn put_group_flushed<W: Write>(
     page: &mut Page,
     writer: &mut Counted<W>,
     group: GroupId,

@@ -14,7 +14,7 @@ ghost use Rattle.lp_text.specs.Writing.{AppendsPrefix};
 
 use crate::for_run::ForRun;
 use crate::page::Page;
-use crate::report::write_report;
+use crate::report::{KeptBirths, write_report};
 use lp_model::Consistency;
 use lp_replay::{Outcome, ReplayFault, replay};
 use lp_text::{Counted, StreamFault, Trace, TraceFault, WriteFault};
@@ -132,8 +132,9 @@ fn report_on<M: Consistency, W: Write>(
     ensures behind { IfErr result (λ fault. AtReading fault ⊥) }
 {
     let mut page = Page::new(alloc)?;
+    let mut kept = KeptBirths::new(alloc)?;
     let outcome = outcome_of(alloc, model, trace)?;
-    match write_report(&mut page, writer, trace.form(), name, &outcome) {
+    match write_report(&mut page, writer, &mut kept, trace.form(), name, &outcome) {
         Ok(()) => Ok(()),
         Err(fault) => Err(RunFault::Write(fault)),
     }

@@ -1,5 +1,5 @@
 //! Writing how the legs of a run ended, with their certificates.
-ghost use Rattle.std.specs.Prelude.{◌≡◌, ◌≤◌, ◌<◌, ◌∷◌, ◌++◌, [], decimal, length, map, slice_get, take, IfSome, IsFalse, IsTrue, Some};
+ghost use Rattle.std.specs.Prelude.{◌≡◌, ◌≤◌, ◌<◌, ◌∷◌, ◌++◌, [], decimal, length, map, option_to_list, slice_get, take, IfNone, IfSome, IsFalse, IsTrue, Some};
 ghost use Rattle.std.specs.List.{flat_map};
 ghost use Rattle.lp_cert.specs.declared.cert.Cert.{Cert};
 ghost use Rattle.lp_cert.specs.Ends.{cert_head};
@@ -8,6 +8,8 @@ ghost use Rattle.lp_text.specs.Words.{line_of};
 ghost use Rattle.lp_trace.specs.Report.{end_words, leg_line, leg_lines, target_words};
 ghost use Rattle.lp_text.specs.inside.Writing.{Puts, line_rest, seen_of};
 
+use super::births::KeptBirths;
+use super::reasons::put_each;
 use super::{level_word, number};
 use crate::page::Page;
 use crate::place::SHORT_END;
@@ -20,13 +22,14 @@ use std::io::Write;
 pub(super) fn put_legs<W: Write>(
     page: &mut Page,
     writer: &mut Counted<W>,
+    kept: &mut KeptBirths,
     form: TraceForm,
     legs: &[LegEnd],
 ) -> Result<(), WriteFault>
     ensures { Puts (seen_of W.contents writer.old) (seen_of W.contents writer.new) page.old.held.items page.new.held.items result (flat_map line_of (flat_map (leg_lines form) legs.now)) }
 {
     for leg in legs {
-        put_leg(page, writer, form, leg)?;
+        put_leg(page, writer, kept, form, leg)?;
     }
     Ok(())
 }
@@ -35,13 +38,14 @@ pub(super) fn put_legs<W: Write>(
 fn put_leg<W: Write>(
     page: &mut Page,
     writer: &mut Counted<W>,
+    kept: &mut KeptBirths,
     form: TraceForm,
     leg: &LegEnd,
 ) -> Result<(), WriteFault>
     ensures { Puts (seen_of W.contents writer.old) (seen_of W.contents writer.new) page.old.held.items page.new.held.items result (flat_map line_of (leg_lines form leg.now)) }
 {
     put_end(page, writer, form, leg)?;
-    put_certs(page, writer, &leg.certs)
+    put_certs(page, writer, kept, &leg.certs)
 }
 
 /// How a leg ended: by which word, and the number that follows it.
@@ -127,12 +131,13 @@ fn put_end_line<W: Write>(
 fn put_certs<W: Write>(
     page: &mut Page,
     writer: &mut Counted<W>,
+    kept: &mut KeptBirths,
     certs: &CertList,
 ) -> Result<(), WriteFault>
     ensures { Puts (seen_of W.contents writer.old) (seen_of W.contents writer.new) page.old.held.items page.new.held.items result (flat_map line_of (flat_map cert_lines certs.now)) }
 {
     for place in 0..certs.len() {
-        put_cert(page, writer, certs, place)?;
+        put_cert(page, writer, kept, certs, place)?;
     }
     Ok(())
 }
@@ -141,6 +146,7 @@ fn put_certs<W: Write>(
 fn put_cert<W: Write>(
     page: &mut Page,
     writer: &mut Counted<W>,
+    kept: &mut KeptBirths,
     certs: &CertList,
     place: usize,
 ) -> Result<(), WriteFault>
@@ -151,7 +157,7 @@ fn put_cert<W: Write>(
     if !hold_claim(page, head) {
         put_claim(page, writer, head)?;
     }
-    put_reasons(page, writer, &mut certs.lines(place))
+    put_reasons(page, writer, kept, &mut certs.lines(place))
 }
 
 /// The first word of a certificate.
@@ -193,69 +199,36 @@ fn put_claim<W: Write>(
     page.put_numbers(writer, claim_word(head.claim), &claim_numbers(head))
 }
 
-/// Puts the reasons of a certificate that are left, a line each.
+/// Puts the reasons of a certificate, a line each.
 fn put_reasons<W: Write>(
     page: &mut Page,
     writer: &mut Counted<W>,
+    kept: &mut KeptBirths,
     reasons: &mut CertLines<'_>,
 ) -> Result<(), WriteFault>
     ensures { Puts (seen_of W.contents writer.old) (seen_of W.contents writer.new) page.old.held.items page.new.held.items result (flat_map line_of (map reason_words reasons.old)) }
 {
-    while let Some(reason) = reasons.next() {
-        if !hold_reason(page, reason) {
-            put_reason(page, writer, reason)?;
-        }
+    let Some(first) = reasons.next() else {
+        return Ok(());
+    };
+    if let Line::Born { .. } = first {
+        return put_births(page, writer, kept, first, reasons);
     }
-    Ok(())
+    put_each(page, writer, Some(first), reasons)
 }
 
-/// The first word of a reason's line, and the numbers that follow it: so many of these.
-#[inline(always)]
-fn reason_parts(reason: Line) -> (&'static [u8], [u64; 5], usize)
-    ensures words { result.0.now ∷ map decimal (take result.2 result.1) ≡ reason_words reason }
-    ensures few { result.2 ≤ 5 }
-{
-    match reason {
-        Line::Hold {
-            group,
-            task,
-            serial,
-            from,
-            to,
-        } => {
-            let (group, task) = (u64::from(group.0), u64::from(task.0));
-            (b"hold", [group, task, serial, from, to], 5)
-        }
-        Line::Busy { group, task, at } => {
-            let (group, task) = (u64::from(group.0), u64::from(task.0));
-            (b"busy", [group, task, at, 0, 0], 3)
-        }
-        Line::Born { group, parent, at } => {
-            let (group, parent) = (u64::from(group.0), u64::from(parent.0));
-            (b"born", [group, parent, at, 0, 0], 3)
-        }
-    }
-}
-
-/// Holds the line of a reason where there is room, and says whether it did.
-#[inline(always)]
-fn hold_reason(page: &mut Page, reason: Line) -> bool
-    ensures taken { IsTrue result → page.new.held.items ≡ page.old.held.items ++ line_of (reason_words reason) }
-    ensures kept { IsFalse result → page.new.held.items ≡ page.old.held.items }
-{
-    let (first, numbers, count) = reason_parts(reason);
-    page.hold_numbers(first, &numbers[..count])
-}
-
-/// Puts the line of a reason.
+/// The same, where the first reason, which is no longer left, is a birth: what is kept then is put in one piece.
 #[inline(never)]
-fn put_reason<W: Write>(
+fn put_births<W: Write>(
     page: &mut Page,
     writer: &mut Counted<W>,
-    reason: Line,
+    kept: &mut KeptBirths,
+    first: Line,
+    reasons: &mut CertLines<'_>,
 ) -> Result<(), WriteFault>
-    ensures { Puts (seen_of W.contents writer.old) (seen_of W.contents writer.new) page.old.held.items page.new.held.items result (line_of (reason_words reason)) }
+    ensures { Puts (seen_of W.contents writer.old) (seen_of W.contents writer.new) page.old.held.items page.new.held.items result (flat_map line_of (map reason_words (first ∷ reasons.old))) }
 {
-    let (first, numbers, count) = reason_parts(reason);
-    page.put_numbers(writer, first, &numbers[..count])
+    let next = kept.follow(first, reasons);
+    page.put(writer, kept.text())?;
+    put_each(page, writer, next, reasons)
 }

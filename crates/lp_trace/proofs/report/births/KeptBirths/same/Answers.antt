@@ -1,0 +1,12 @@
+use Rattle.std.proofs.Common.{◌++◌, ◌∙◌, ap, option_to_list, take}
+use Rattle.lp_trace.proofs.Births.{begin_so}
+use Rattle.lp_trace.proofs.report.births.KeptBirths.same.Goals as goal
+
+pub returns-in_default-clause-lines : goal.returns-in_default-clause-lines
+returns-in_default-clause-lines c =
+    begin_so _ (option_to_list c.loop-place.next ++ c.loop-place.lines) c.args.self.now c.self.inside.births.items c.loop-place.place c.loop-place.invariant.0 c.self.view_is
+    ∙ ap (λ next. take c.loop-place.place c.args.self.now ++ (option_to_list next ++ c.loop-place.lines)) c.in-Some.is
+
+pub returns-in_default-2-clause-lines : goal.returns-in_default-2-clause-lines
+returns-in_default-2-clause-lines c =
+    begin_so _ (option_to_list c.loop-place.next ++ c.loop-place.lines) c.args.self.now c.self.inside.births.items c.loop-place.place c.loop-place.invariant.0 c.self.view_is
