@@ -1,5 +1,5 @@
 //! Certificates of one leg without lines.
-ghost use Rattle.std.specs.Prelude.{◌≡◌, ◌<◌, Some, length, map, slice_get};
+ghost use Rattle.std.specs.Prelude.{◌≡◌, ◌<◌, [], Some, length, map, slice_get, IsTrue};
 ghost use Rattle.std.specs.Option.{option_map};
 ghost use Rattle.lp_cert.specs.Ends.{cert_head};
 ghost use Rattle.lp_cert.specs.inside.Bare.{bare_cert};
@@ -69,6 +69,15 @@ impl BareCerts {
             group: self.groups[place],
             upto: u64::from(self.upto),
         }
+    }
+
+    /// Whether the certificate at a place, from 0, has no line: it has none.
+    pub(crate) fn is_bare(&self, _place: usize) -> bool
+        requires { _place < length self.now }
+        ensures { IsTrue result → option_map (λ cert. cert.lines) (slice_get self.now _place) ≡ Some [] }
+    {
+        let _ = &self.groups;
+        true
     }
 
     /// The lines of the certificate at a place, from 0: there is none.

@@ -210,6 +210,19 @@ impl CertList {
         }
     }
 
+    /// Whether the certificate at a place, from 0, has no line. It costs much less than to ask for the first.
+    #[inline(always)]
+    pub fn is_bare(&self, place: usize) -> bool
+        requires { place < length self.now }
+        ensures { IsTrue result → option_map (λ cert. cert.lines) (slice_get self.now place) ≡ Some [] }
+    {
+        match &self.kept {
+            Kept::Nothing | Kept::Bare(_) => true,
+            Kept::Bares(bares) => bares.is_bare(place),
+            Kept::Many(many) => many.is_bare(place),
+        }
+    }
+
     /// The lines of the certificate at a place, from 0, one at a time. Never allocates.
     pub fn lines(&self, place: usize) -> CertLines<'_>
         requires { place < length self.now }

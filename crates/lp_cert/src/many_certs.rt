@@ -1,5 +1,5 @@
 //! Certificates of one leg that share what they have in common.
-ghost use Rattle.std.specs.Prelude.{◌≡◌, ◌<◌, Some, length, map, slice_get};
+ghost use Rattle.std.specs.Prelude.{◌≡◌, ◌<◌, [], Some, length, map, slice_get, IsTrue};
 ghost use Rattle.std.specs.Option.{option_map};
 ghost use Rattle.lp_cert.specs.Ends.{cert_head};
 ghost use Rattle.lp_cert.specs.Waiters.{kept_cert};
@@ -100,6 +100,14 @@ impl ManyCerts {
             group: self.waiters[place].group,
             upto: u64::from(self.upto),
         }
+    }
+
+    /// Whether the certificate at a place, from 0, has no line.
+    pub(crate) fn is_bare(&self, place: usize) -> bool
+        requires { place < length self.now }
+        ensures { IsTrue result → option_map (λ cert. cert.lines) (slice_get self.now place) ≡ Some [] }
+    {
+        self.waiters[place].head.is_bare(&self.chains)
     }
 
     /// The lines of the certificate at a place, from 0, one at a time. Never allocates.

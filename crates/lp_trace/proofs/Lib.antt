@@ -16,3 +16,4 @@ pub mod RunReplies
 pub mod RunLegs
 pub mod RunsFit
 pub mod Births
+pub mod Claims

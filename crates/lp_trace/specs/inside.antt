@@ -1,3 +1,4 @@
 -- What code and proofs share and no public contract names.
 pub mod Counting
 pub mod Births
+pub mod Claims

@@ -6,6 +6,7 @@ mod counter;
 mod for_run;
 pub mod laws;
 mod page;
+mod part;
 mod place;
 mod report;
 mod runs;

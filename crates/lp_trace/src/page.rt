@@ -5,6 +5,7 @@ ghost use Rattle.lp_text.specs.Words.{line_of};
 ghost use Rattle.lp_text.specs.inside.Writing.{Puts, line_rest, seen_of, Wrote};
 
 use crate::counter::Counter;
+use crate::part::{Part, place_around};
 use crate::place::{SHORT_END, place_end, place_joined, place_rest, place_spaced};
 use lp_text::{Counted, WriteFault, put};
 use std::alloc::{AllocError, Global};
@@ -245,6 +246,21 @@ impl Page {
             return false;
         }
         let end = place_joined(self.held.as_mut_slice(), start, number, between, len, last);
+        self.held.truncate(end);
+        true
+    }
+
+    /// Takes a number between two pieces, if there is room for the longest, and says whether it did.
+    #[inline(always)]
+    pub(crate) fn hold_around(&mut self, front: &Part, number: u64, back: &Part) -> bool
+        ensures taken { IsTrue result → self.new.held.items ≡ self.old.held.items ++ (front.now ++ (decimal number ++ back.now)) }
+        ensures kept { IsFalse result → self.new.held.items ≡ self.old.held.items }
+    {
+        let start = self.held.len();
+        if !self.hold(&BLANK) {
+            return false;
+        }
+        let end = place_around(self.held.as_mut_slice(), start, front, number, back);
         self.held.truncate(end);
         true
     }

@@ -87,14 +87,14 @@ pub(crate) fn place_rest(text: &mut [u8], at: usize, numbers: &[u64]) -> usize
     end + 1
 }
 
-/// Puts a short end of a line behind the first `at` bytes, with what stands in its room behind it.
+/// Puts a short text behind the first `at` bytes, with what stands in its room behind it.
 #[inline(always)]
-pub(crate) fn place_end(text: &mut [u8], at: usize, end: &[u8; SHORT_END])
-    requires { at + 16 ≤ length text.old }
-    ensures placed { (n : ℕ) → n ≤ 16 → take (at + n) text.new ≡ take at text.old ++ take n end.now }
+pub(crate) fn place_end<const N: usize>(text: &mut [u8], at: usize, end: &[u8; N])
+    requires { at + N ≤ length text.old }
+    ensures placed { (n : ℕ) → n ≤ N → take (at + n) text.new ≡ take at text.old ++ take n end.now }
     ensures size { length text.new ≡ length text.old }
 {
-    text[at..at + SHORT_END].copy_from_slice(end);
+    text[at..at + N].copy_from_slice(end);
 }
 
 /// Puts two numbers behind the first `at` bytes, with so many bytes between them, and a line's end. Gives where it ends.

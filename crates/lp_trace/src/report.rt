@@ -10,6 +10,7 @@ ghost use Rattle.lp_text.specs.Writing.{Writes};
 ghost use Rattle.lp_text.specs.Counts.{next};
 
 mod births;
+mod claims;
 mod legs;
 mod reasons;
 

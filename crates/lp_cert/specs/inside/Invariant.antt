@@ -1,5 +1,5 @@
 -- What holds of a maker between events, and what an event makes of the leg under way.
-use Rattle.std.specs.Prelude.{◌≡◌, ◌⊎◌, ℕ, ◌+◌, ◌<◌, ◌≤◌, Bool, true, false, List, length, map, reverse, Option, Some, None, IfSome, IsSome, if◌then◌else◌}
+use Rattle.std.specs.Prelude.{◌≡◌, ℕ, ◌+◌, ◌<◌, ◌≤◌, Bool, true, false, List, length, map, reverse, Option, Some, None, IfSome, IsSome, if◌then◌else◌}
 use Rattle.std.specs.Option.{option_map}
 use Rattle.lp_stack.specs.declared.number.GroupId.{GroupId}
 use Rattle.lp_numbers.specs.Numbers.{has, IsNextFrom}

@@ -1,9 +1,6 @@
 //! The births that certificates begin with, and their text.
 ghost use Rattle.std.specs.Prelude.{◌≡◌, ◌≤◌, ◌∷◌, ◌++◌, [], length, map, option_to_list, take, IfNone, IfOk, IsFalse, IsTrue};
-ghost use Rattle.std.specs.List.{flat_map};
-ghost use Rattle.lp_cert.specs.Text.{reason_words};
-ghost use Rattle.lp_text.specs.Words.{line_of};
-ghost use Rattle.lp_trace.specs.inside.Births.{birth_line};
+ghost use Rattle.lp_trace.specs.inside.Births.{birth_line, text_of};
 
 use super::reasons::hold_reason;
 use crate::page::Page;
@@ -83,7 +80,7 @@ impl KeptBirths {
 
     /// The lines that are kept, as a text.
     pub(super) fn text(&self) -> &[u8]
-        ensures { result.now ≡ flat_map line_of (map reason_words self.now) }
+        ensures { result.now ≡ text_of self.now }
     {
         self.text.as_slice()
     }

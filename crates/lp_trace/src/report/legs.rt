@@ -1,20 +1,23 @@
 //! Writing how the legs of a run ended, with their certificates.
-ghost use Rattle.std.specs.Prelude.{◌≡◌, ◌≤◌, ◌<◌, ◌∷◌, ◌++◌, [], decimal, length, map, option_to_list, slice_get, take, IfNone, IfSome, IsFalse, IsTrue, Some};
+ghost use Rattle.std.specs.Prelude.{◌≡◌, ◌≤◌, ◌<◌, List, ◌∷◌, ◌++◌, [], decimal, length, map, slice_get, take, IfSome, IsFalse, IsTrue, Some};
 ghost use Rattle.std.specs.List.{flat_map};
+ghost use Rattle.std.specs.Option.{option_map};
 ghost use Rattle.lp_cert.specs.declared.cert.Cert.{Cert};
-ghost use Rattle.lp_cert.specs.Ends.{cert_head};
-ghost use Rattle.lp_cert.specs.Text.{cert_lines, claim_word, claim_words, reason_words};
+ghost use Rattle.lp_cert.specs.declared.line.Line.{Line};
+ghost use Rattle.lp_cert.specs.Text.{cert_lines};
 ghost use Rattle.lp_text.specs.Words.{line_of};
 ghost use Rattle.lp_trace.specs.Report.{end_words, leg_line, leg_lines, target_words};
 ghost use Rattle.lp_text.specs.inside.Writing.{Puts, line_rest, seen_of};
+ghost use Rattle.lp_trace.specs.inside.Births.{text_of};
 
 use super::births::KeptBirths;
+use super::claims::{ClaimText, hold_claim, put_claim, shared_claim};
 use super::reasons::put_each;
 use super::{level_word, number};
 use crate::page::Page;
 use crate::place::SHORT_END;
 use itoa::Buffer;
-use lp_cert::{CertHead, CertLines, CertList, Claim, LegEnd, Line};
+use lp_cert::{CertLines, CertList, LegEnd, Line};
 use lp_text::{Counted, TraceForm, WriteFault};
 use std::io::Write;
 
@@ -136,8 +139,9 @@ fn put_certs<W: Write>(
 ) -> Result<(), WriteFault>
     ensures { Puts (seen_of W.contents writer.old) (seen_of W.contents writer.new) page.old.held.items page.new.held.items result (flat_map line_of (flat_map cert_lines certs.now)) }
 {
+    let mut shared = shared_claim(certs);
     for place in 0..certs.len() {
-        put_cert(page, writer, kept, certs, place)?;
+        put_cert(page, writer, kept, &mut shared, certs, place)?;
     }
     Ok(())
 }
@@ -147,6 +151,7 @@ fn put_cert<W: Write>(
     page: &mut Page,
     writer: &mut Counted<W>,
     kept: &mut KeptBirths,
+    shared: &mut Option<ClaimText>,
     certs: &CertList,
     place: usize,
 ) -> Result<(), WriteFault>
@@ -154,59 +159,39 @@ fn put_cert<W: Write>(
     ensures { (cert : Cert) → slice_get certs.now place ≡ Some cert → Puts (seen_of W.contents writer.old) (seen_of W.contents writer.new) page.old.held.items page.new.held.items result (flat_map line_of (cert_lines cert)) }
 {
     let head = certs.head(place);
-    if !hold_claim(page, head) {
+    if !hold_claim(page, shared, head) {
         put_claim(page, writer, head)?;
     }
+    if certs.is_bare(place) {
+        return Ok(());
+    }
+    put_lines(page, writer, kept, certs, place)
+}
+
+/// Puts the reasons of the certificate at a place, a line each. Out of line: the iterator over them is large, and would be
+/// cleared and moved for certificates without a line too.
+#[inline(never)]
+fn put_lines<W: Write>(
+    page: &mut Page,
+    writer: &mut Counted<W>,
+    kept: &mut KeptBirths,
+    certs: &CertList,
+    place: usize,
+) -> Result<(), WriteFault>
+    requires { place < length certs.now }
+    ensures { (lines : List Line) → option_map (λ (cert : Cert). cert.lines) (slice_get certs.now place) ≡ Some lines → Puts (seen_of W.contents writer.old) (seen_of W.contents writer.new) page.old.held.items page.new.held.items result (text_of lines) }
+{
     put_reasons(page, writer, kept, &mut certs.lines(place))
 }
 
-/// The first word of a certificate.
-fn claim_word(claim: Claim) -> &'static [u8]
-    ensures { result.now ≡ claim_word claim }
-{
-    match claim {
-        Claim::Waiting => b"waiting",
-        Claim::Floor => b"floor",
-    }
-}
-
-/// What follows the first word of a certificate that begins so.
-#[inline(always)]
-fn claim_numbers(head: CertHead) -> [u64; 3]
-    ensures { result ≡ head.leg ∷ head.group.0 ∷ head.upto ∷ [] }
-{
-    [head.leg, u64::from(head.group.0), head.upto]
-}
-
-/// Holds the first line of a certificate, the one that begins so, where there is room, and says whether it did.
-#[inline(always)]
-fn hold_claim(page: &mut Page, head: CertHead) -> bool
-    ensures taken { IsTrue result → (cert : Cert) → cert_head cert ≡ head → page.new.held.items ≡ page.old.held.items ++ line_of (claim_words cert) }
-    ensures kept { IsFalse result → page.new.held.items ≡ page.old.held.items }
-{
-    page.hold_numbers(claim_word(head.claim), &claim_numbers(head))
-}
-
-/// Puts the first line of a certificate, the one that begins so.
-#[inline(never)]
-fn put_claim<W: Write>(
-    page: &mut Page,
-    writer: &mut Counted<W>,
-    head: CertHead,
-) -> Result<(), WriteFault>
-    ensures { (cert : Cert) → cert_head cert ≡ head → Puts (seen_of W.contents writer.old) (seen_of W.contents writer.new) page.old.held.items page.new.held.items result (line_of (claim_words cert)) }
-{
-    page.put_numbers(writer, claim_word(head.claim), &claim_numbers(head))
-}
-
-/// Puts the reasons of a certificate, a line each.
+/// Puts these reasons, a line each.
 fn put_reasons<W: Write>(
     page: &mut Page,
     writer: &mut Counted<W>,
     kept: &mut KeptBirths,
     reasons: &mut CertLines<'_>,
 ) -> Result<(), WriteFault>
-    ensures { Puts (seen_of W.contents writer.old) (seen_of W.contents writer.new) page.old.held.items page.new.held.items result (flat_map line_of (map reason_words reasons.old)) }
+    ensures { Puts (seen_of W.contents writer.old) (seen_of W.contents writer.new) page.old.held.items page.new.held.items result (text_of reasons.old) }
 {
     let Some(first) = reasons.next() else {
         return Ok(());
@@ -226,7 +211,7 @@ fn put_births<W: Write>(
     first: Line,
     reasons: &mut CertLines<'_>,
 ) -> Result<(), WriteFault>
-    ensures { Puts (seen_of W.contents writer.old) (seen_of W.contents writer.new) page.old.held.items page.new.held.items result (flat_map line_of (map reason_words (first ∷ reasons.old))) }
+    ensures { Puts (seen_of W.contents writer.old) (seen_of W.contents writer.new) page.old.held.items page.new.held.items result (text_of (first ∷ reasons.old)) }
 {
     let next = kept.follow(first, reasons);
     page.put(writer, kept.text())?;

@@ -1,9 +1,9 @@
 //! Writing the reasons of certificates, a line each.
 ghost use Rattle.std.specs.Prelude.{◌≡◌, ◌≤◌, ◌∷◌, ◌++◌, [], decimal, map, option_to_list, take, IfNone, IsFalse, IsTrue};
-ghost use Rattle.std.specs.List.{flat_map};
 ghost use Rattle.lp_cert.specs.Text.{reason_words};
 ghost use Rattle.lp_text.specs.Words.{line_of};
 ghost use Rattle.lp_text.specs.inside.Writing.{Puts, seen_of};
+ghost use Rattle.lp_trace.specs.inside.Births.{text_of};
 
 use crate::page::Page;
 use lp_cert::{CertLines, Line};
@@ -19,7 +19,7 @@ pub(super) fn put_each<W: Write>(
     reasons: &mut CertLines<'_>,
 ) -> Result<(), WriteFault>
     requires { IfNone first (reasons.old ≡ []) }
-    ensures { Puts (seen_of W.contents writer.old) (seen_of W.contents writer.new) page.old.held.items page.new.held.items result (flat_map line_of (map reason_words (option_to_list first ++ reasons.old))) }
+    ensures { Puts (seen_of W.contents writer.old) (seen_of W.contents writer.new) page.old.held.items page.new.held.items result (text_of (option_to_list first ++ reasons.old)) }
 {
     let mut next = first;
     while let Some(reason) = next {

@@ -1,8 +1,8 @@
-use Rattle.std.proofs.Common.{◌++◌, List, None, ℕ, map, option_to_list, refl, subst, sym}
-use Rattle.std.specs.List.{flat_map}
+use Rattle.std.proofs.Common.{◌++◌, List, None, ℕ, option_to_list, refl, subst, sym}
 use Rattle.lp_cert.specs.Text.{reason_words}
 use Rattle.lp_text.specs.Words.{line_of}
 use Rattle.lp_text.specs.inside.Writing.{Left, seen_of}
+use Rattle.lp_trace.specs.inside.Births.{text_of}
 use Rattle.lp_trace.proofs.Births.{at_hand, next_left, no_text, none_left}
 use Rattle.lp_trace.proofs.Pages.{puts_err, held_end, held_err, held_next, only_held}
 use Rattle.lp_trace.proofs.report.reasons.put_each.Goals as goal
@@ -21,8 +21,8 @@ loop-next-preserved g c =
 
 pub returns-in_err-put_reason : goal.returns-in_err-put_reason
 returns-in_err-put_reason g c =
-    let P : List ℕ → Type 0 = λ h. Left (seen_of g.W.Write.contents c.args.writer.now) (seen_of g.W.Write.contents c.loop-next.writer) (c.args.page.now.held.items ++ flat_map line_of (map reason_words (option_to_list c.args.first ++ c.args.reasons.now))) (h ++ flat_map line_of (map reason_words (option_to_list c.loop-next.next ++ c.loop-next.reasons))) in
-    puts_err _ _ c.args.page.now.held.items _ _ c.from_residual.result c.from_residual.ensures.0 (held_err _ (seen_of g.W.Write.contents c.loop-next.writer) _ _ c.hold_reason.new.page.held.items _ _ _ (at_hand c.loop-next.next None c.loop-next.reasons c.loop-next.reasons c.in-Some.reason c.in-Some.is refl) (subst P (sym (c.if-not-hold_reason.ensures.kept refl)) c.loop-next.invariant.0) c.in_err-put_reason.ensures)
+    let P : List ℕ → Type 0 = λ h. Left (seen_of g.W.Write.contents c.args.writer.now) (seen_of g.W.Write.contents c.loop-next.writer) (c.args.page.now.held.items ++ text_of (option_to_list c.args.first ++ c.args.reasons.now)) (h ++ text_of (option_to_list c.loop-next.next ++ c.loop-next.reasons)) in
+    puts_err _ _ c.args.page.now.held.items _ _ c.from_residual.result c.from_residual.ensures.0 (held_err _ (seen_of g.W.Write.contents c.loop-next.writer) _ _ c.hold_reason.new.page.held.items _ _ _ (at_hand c.loop-next.next None c.loop-next.reasons c.loop-next.reasons c.in-Some.reason c.in-Some.is refl) (subst P (sym {A = List ℕ} (c.if-not-hold_reason.ensures.kept refl)) c.loop-next.invariant.0) c.in_err-put_reason.ensures)
 
 pub returns : goal.returns
 returns g c =

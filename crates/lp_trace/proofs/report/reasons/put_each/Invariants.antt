@@ -1,13 +1,11 @@
-use Rattle.std.proofs.Common.{◌≡◌, ◌++◌, [], length, map, option_to_list, IfNone}
-use Rattle.std.specs.List.{flat_map}
-use Rattle.lp_cert.specs.Text.{reason_words}
-use Rattle.lp_text.specs.Words.{line_of}
+use Rattle.std.proofs.Common.{◌≡◌, ◌++◌, [], length, option_to_list, IfNone}
 use Rattle.lp_text.specs.inside.Writing.{Left, seen_of}
+use Rattle.lp_trace.specs.inside.Births.{text_of}
 use Rattle.lp_trace.proofs.report.reasons.put_each.Given as goal
 
 abbrev pub invariant-loop-next : goal.invariant-loop-next
 invariant-loop-next g l =
-    Left (seen_of g.W.Write.contents l.fn.writer) (seen_of g.W.Write.contents l.writer) (l.fn.page.held.items ++ flat_map line_of (map reason_words (option_to_list l.fn.first ++ l.fn.reasons))) (l.page.held.items ++ flat_map line_of (map reason_words (option_to_list l.next ++ l.reasons)))
+    Left (seen_of g.W.Write.contents l.fn.writer) (seen_of g.W.Write.contents l.writer) (l.fn.page.held.items ++ text_of (option_to_list l.fn.first ++ l.fn.reasons)) (l.page.held.items ++ text_of (option_to_list l.next ++ l.reasons))
     × IfNone l.next (l.reasons ≡ [])
 
 abbrev pub decreases-loop-next : goal.decreases-loop-next

@@ -1,0 +1,28 @@
+-- The first lines of certificates, from what they have in common and the group.
+use Rattle.std.proofs.Common.{◌≡◌, ℕ, List, [], ◌∷◌, ◌++◌, Some, decimal, sym, ap, ap₂, ◌∙◌, append_assoc}
+use Rattle.std.specs.List.{flat_map}
+use Rattle.lp_cert.specs.declared.cert.Cert.{Cert}
+use Rattle.lp_cert.specs.declared.cert.CertHead.{CertHead}
+use Rattle.lp_cert.specs.declared.line.Line.{Line}
+use Rattle.lp_cert.specs.Ends.{cert_head}
+use Rattle.lp_cert.specs.Text.{cert_lines, claim_word}
+use Rattle.lp_text.specs.Words.{line_of}
+use Rattle.lp_text.specs.inside.Writing.{line_rest}
+use Rattle.lp_text.proofs.Writing.{line_split}
+use Rattle.lp_trace.specs.inside.Births.{text_of}
+use Rattle.lp_trace.specs.inside.Claims.{IsAround, head_words}
+
+-- the group between the two is the line
+pub line_around : (head : CertHead) (front back : List ℕ) → IsAround head front back → front ++ (decimal head.group.0 ++ back) ≡ line_of (head_words head)
+line_around head front back around =
+    let rest : List ℕ = decimal head.group.0 ++ line_rest (decimal head.upto ∷ []) in
+    let word : List ℕ = claim_word head.claim in
+    let leg : List ℕ = decimal head.leg in
+    rw (around.before, around.behind)
+    (append_assoc word (32 ∷ (leg ++ 32 ∷ [])) rest
+    ∙ ap (λ l. word ++ 32 ∷ l) (append_assoc leg (32 ∷ []) rest)
+    ∙ sym (line_split word (leg ∷ decimal head.group.0 ∷ decimal head.upto ∷ [])))
+
+-- the lines of a certificate that begins so and has these lines
+pub cert_text : (cert : Cert) (head : CertHead) (lines : List Line) → Some (cert_head cert) ≡ Some head → Some cert.lines ≡ Some lines → flat_map line_of (cert_lines cert) ≡ line_of (head_words head) ++ text_of lines
+cert_text cert head lines begins are = ap₂ (λ h ls. line_of (head_words h) ++ text_of ls) (cc begins) (cc are)

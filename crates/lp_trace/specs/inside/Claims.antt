@@ -1,0 +1,14 @@
+-- The first lines of certificates, and what certificates of one leg have in common of them.
+use Rattle.std.specs.Prelude.{◌≡◌, ℕ, List, [], ◌∷◌, ◌++◌, map, decimal}
+use Rattle.lp_cert.specs.declared.cert.CertHead.{CertHead}
+use Rattle.lp_cert.specs.Text.{claim_word}
+use Rattle.lp_text.specs.inside.Writing.{line_rest}
+
+-- the first line of a certificate that begins so
+abbrev pub head_words : CertHead → List (List ℕ)
+head_words head = claim_word head.claim ∷ map decimal (head.leg ∷ head.group.0 ∷ head.upto ∷ [])
+
+-- what stands in front of the group, and what behind it
+pub record IsAround (head : CertHead) (front back : List ℕ) : Type 0 where
+  pub before : front ≡ claim_word head.claim ++ (32 ∷ (decimal head.leg ++ 32 ∷ []))
+  pub behind : back ≡ line_rest (decimal head.upto ∷ [])
