@@ -133,11 +133,7 @@ pub(super) fn take<M: Consistency>(
         return take_other(alloc, core, maker, event);
     }
     maker.note_plain(core);
-    match core.step(alloc, event) {
-        Ok(reply) => Ok(reply),
-        Err(Halt::NoMemory) => Err(ReplayFault::NoMemory),
-        Err(Halt::JournalFull) => unreachable!(),
-    }
+    Ok(core.step_plain(event))
 }
 
 /// Takes an event of any kind. Out of line, so that a plain event pays nothing for what the others

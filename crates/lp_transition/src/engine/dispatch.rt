@@ -39,16 +39,10 @@ impl<M: Consistency> Core<M> {
         ensures last_scan { IfOk result (λ reply. IsLastScanAfter M.rules self.old event self.new) }
         ensures unchanged { OnErr result (self.new ≡ self.old) }
     {
-        match event {
-            Event::Call(task, func) if self.has_room() => {
-                Ok(self.step_plain(Event::Call(task, func)))
-            }
-            Event::Ret(task) if self.has_room() => Ok(self.step_plain(Event::Ret(task))),
-            Event::Sleep(task) if self.has_room() => Ok(self.step_plain(Event::Sleep(task))),
-            Event::Wake(task) if self.has_room() => Ok(self.step_plain(Event::Wake(task))),
-            Event::Enter(task) if self.has_room() => Ok(self.step_plain(Event::Enter(task))),
-            _ => self.step_weighed(alloc, event),
+        if event.is_plain() && self.has_room() {
+            return Ok(self.step_plain(event));
         }
+        self.step_weighed(alloc, event)
     }
 
     /// Out of line, so that a plain event pays nothing for what scans, forks and legs need.

@@ -15,10 +15,31 @@ use crate::{Event, Reply};
 use lp_model::Consistency;
 
 impl<M: Consistency> Core<M> {
-    /// A call, a return, a sleep, a wake-up or an entry into the kernel. It is compiled once for each
-    /// of them, so that none pays for telling them apart again.
+    /// A call, a return, a sleep, a wake-up or an entry into the kernel: answers and takes it. There has to be an event
+    /// left, so nothing can fail. Never allocates.
     #[inline(always)]
-    pub(super) fn step_plain(&mut self, event: Event) -> Reply
+    pub fn step_plain(&mut self, event: Event) -> Reply
+        requires room { self.old.number < 1000000 }
+        requires plain { is_plain event ≡ true }
+        ensures step { IsStep M.rules (state_in self.old) event result (state_in self.new) }
+        ensures blames { AreBlamesAfter M.rules self.old event [] self.new }
+        ensures last_scan { IsLastScanAfter M.rules self.old event self.new }
+    {
+        let _ = &self.tasks;
+        match event {
+            Event::Call(task, func) => self.step_alike(Event::Call(task, func)),
+            Event::Ret(task) => self.step_alike(Event::Ret(task)),
+            Event::Sleep(task) => self.step_alike(Event::Sleep(task)),
+            Event::Wake(task) => self.step_alike(Event::Wake(task)),
+            Event::Enter(task) => self.step_alike(Event::Enter(task)),
+            _ => unreachable!(),
+        }
+    }
+
+    /// What all of these have in common. It is compiled once for each of them, so that none pays for telling them apart
+    /// again.
+    #[inline(always)]
+    fn step_alike(&mut self, event: Event) -> Reply
         requires room { self.old.number < 1000000 }
         requires plain { is_plain event ≡ true }
         ensures step { IsStep M.rules (state_in self.old) event result (state_in self.new) }
