@@ -1,9 +1,7 @@
 //! Writing how the legs of a run ended, with their certificates.
-ghost use Rattle.std.specs.Prelude.{◌≡◌, ◌≤◌, ◌<◌, List, ◌∷◌, ◌++◌, [], decimal, length, map, slice_get, take, IfSome, IsFalse, IsTrue, Some};
+ghost use Rattle.std.specs.Prelude.{◌≡◌, ◌≤◌, ◌<◌, ◌∷◌, ◌++◌, [], decimal, length, map, slice_get, take, IfSome, IsFalse, IsTrue, Some};
 ghost use Rattle.std.specs.List.{flat_map};
-ghost use Rattle.std.specs.Option.{option_map};
 ghost use Rattle.lp_cert.specs.declared.cert.Cert.{Cert};
-ghost use Rattle.lp_cert.specs.declared.line.Line.{Line};
 ghost use Rattle.lp_cert.specs.Text.{cert_lines};
 ghost use Rattle.lp_text.specs.Words.{line_of};
 ghost use Rattle.lp_trace.specs.Report.{end_words, leg_line, leg_lines, target_words};
@@ -141,12 +139,31 @@ fn put_certs<W: Write>(
 {
     let mut shared = shared_claim(certs);
     for place in 0..certs.len() {
-        put_cert(page, writer, kept, &mut shared, certs, place)?;
+        if !hold_cert(page, &mut shared, certs, place) {
+            put_cert(page, writer, kept, &mut shared, certs, place)?;
+        }
     }
     Ok(())
 }
 
+/// Holds the line of the certificate at a place where it has no other and there is room, and says whether it did: a bit,
+/// as for `Page::hold_numbers`.
+#[inline(always)]
+fn hold_cert(
+    page: &mut Page,
+    shared: &mut Option<ClaimText>,
+    certs: &CertList,
+    place: usize,
+) -> bool
+    requires { place < length certs.now }
+    ensures taken { IsTrue result → (cert : Cert) → slice_get certs.now place ≡ Some cert → page.new.held.items ≡ page.old.held.items ++ flat_map line_of (cert_lines cert) }
+    ensures kept { IsFalse result → page.new.held.items ≡ page.old.held.items }
+{
+    certs.is_bare(place) && hold_claim(page, shared, certs.head(place))
+}
+
 /// Puts the lines of the certificate at a place.
+#[inline(never)]
 fn put_cert<W: Write>(
     page: &mut Page,
     writer: &mut Counted<W>,
@@ -162,25 +179,6 @@ fn put_cert<W: Write>(
     if !hold_claim(page, shared, head) {
         put_claim(page, writer, head)?;
     }
-    if certs.is_bare(place) {
-        return Ok(());
-    }
-    put_lines(page, writer, kept, certs, place)
-}
-
-/// Puts the reasons of the certificate at a place, a line each. Out of line: the iterator over them is large, and would be
-/// cleared and moved for certificates without a line too.
-#[inline(never)]
-fn put_lines<W: Write>(
-    page: &mut Page,
-    writer: &mut Counted<W>,
-    kept: &mut KeptBirths,
-    certs: &CertList,
-    place: usize,
-) -> Result<(), WriteFault>
-    requires { place < length certs.now }
-    ensures { (lines : List Line) → option_map (λ (cert : Cert). cert.lines) (slice_get certs.now place) ≡ Some lines → Puts (seen_of W.contents writer.old) (seen_of W.contents writer.new) page.old.held.items page.new.held.items result (text_of lines) }
-{
     put_reasons(page, writer, kept, &mut certs.lines(place))
 }
 

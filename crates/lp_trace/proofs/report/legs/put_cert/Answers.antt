@@ -1,4 +1,4 @@
-use Rattle.std.proofs.Common.{◌≡◌, ◌++◌, List, ℕ, Some, ap, slice_get, sym, subst, refl, ◌∙◌}
+use Rattle.std.proofs.Common.{◌≡◌, ◌++◌, List, ℕ, Some, ap, sym, subst, refl, ◌∙◌}
 use Rattle.std.specs.List.{flat_map}
 use Rattle.std.specs.Option.{option_map}
 use Rattle.lp_cert.specs.declared.cert.Cert.{Cert}
@@ -24,11 +24,11 @@ returns-in_err-put_claim g c = λ cert found.
 pub returns : goal.returns
 returns g c = λ cert found.
     let claim : List ℕ = line_of (head_words c.head-head.result) in
-    let reasons : List ℕ = text_of cert.lines in
+    let reasons : List ℕ = text_of c.lines.result in
     let head : Some (cert_head cert) ≡ Some c.head-head.result = sym (ap (option_map cert_head) found) ∙ c.head-head.ensures in
-    let lines : option_map (λ (cert : Cert). cert.lines) (slice_get c.args.certs.now c.args.place) ≡ Some cert.lines = ap (option_map (λ (cert : Cert). cert.lines)) found in
+    let lines : Some cert.lines ≡ Some c.lines.result = sym (ap (option_map (λ (cert : Cert). cert.lines)) found) ∙ c.lines.ensures in
     let first : Left (seen_of g.W.Write.contents c.args.writer.now) (seen_of g.W.Write.contents c.if-not-hold_claim.writer) (c.args.page.now.held.items ++ claim) c.if-not-hold_claim.page.held.items = elim c.if-not-hold_claim.branch [
       | then-not-hold_claim+in_ok-put_claim w ↦ rw (w.page-is, w.writer-is, ← w.if-not-hold_claim.ensures.kept refl) w.in_ok-put_claim.ensures
       | else-not-hold_claim w ↦ rw (w.page-is, w.writer-is) (only_held _ _ _ claim (w.if-not-hold_claim.ensures.taken refl))
     ] in
-    puts_along (seen_of g.W.Write.contents c.args.writer.now) (seen_of g.W.Write.contents c.put_lines.new.writer) c.args.page.now.held.items _ _ _ c.put_lines.result (sym (cert_text cert c.head-head.result cert.lines head refl)) (puts_both (seen_of g.W.Write.contents c.args.writer.now) (seen_of g.W.Write.contents c.if-not-hold_claim.writer) (seen_of g.W.Write.contents c.put_lines.new.writer) c.args.page.now.held.items c.if-not-hold_claim.page.held.items c.put_lines.new.page.held.items claim reasons c.put_lines.result first (c.put_lines.ensures cert.lines lines))
+    puts_along (seen_of g.W.Write.contents c.args.writer.now) (seen_of g.W.Write.contents c.put_reasons.new.writer) c.args.page.now.held.items _ _ _ c.put_reasons.result (sym (cert_text cert c.head-head.result c.lines.result head lines)) (puts_both (seen_of g.W.Write.contents c.args.writer.now) (seen_of g.W.Write.contents c.if-not-hold_claim.writer) (seen_of g.W.Write.contents c.put_reasons.new.writer) c.args.page.now.held.items c.if-not-hold_claim.page.held.items c.put_reasons.new.page.held.items claim reasons c.put_reasons.result first c.put_reasons.ensures)

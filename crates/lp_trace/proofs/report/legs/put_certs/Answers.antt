@@ -1,18 +1,27 @@
+use Rattle.std.specs.List.{flat_map}
 use Rattle.lp_cert.specs.Text.{cert_lines}
-use Rattle.lp_trace.proofs.Pages.{puts_err, held_err, held_next}
+use Rattle.lp_text.specs.Words.{line_of}
+use Rattle.lp_trace.proofs.Pages.{puts_err, held_err, held_next, only_held}
 use Rattle.lp_trace.proofs.Reports.{block_of}
-use Rattle.std.proofs.Common.{◌<◌, length, arith}
-use Rattle.lp_text.specs.inside.Writing.{seen_of}
+use Rattle.std.proofs.Common.{◌<◌, ◌++◌, ℕ, List, drop, length, refl, subst, sym, arith}
+use Rattle.lp_text.specs.inside.Writing.{Left, seen_of}
 use Rattle.lp_trace.proofs.report.legs.put_certs.Goals as goal
+use Rattle.lp_trace.proofs.report.legs.put_certs.Goals.{then-not-hold_cert+in_ok-put_cert, else-not-hold_cert}
 
 pub returns-in_err-put_cert : goal.returns-in_err-put_cert
 returns-in_err-put_cert g c =
     let below : c.loop-place.place < length c.args.certs.now = omega arith in
     let found = block_of cert_lines c.args.certs.now c.loop-place.place below in
-    puts_err _ _ c.args.page.now.held.items _ _ c.from_residual.result c.from_residual.ensures.0 (held_err _ (seen_of g.W.Write.contents c.loop-place.writer) _ _ c.loop-place.page.held.items _ _ _ found.2 c.loop-place.invariant (c.in_err-put_cert.ensures found.0 found.1))
+    let P : List ℕ → Type 0 = λ h. Left (seen_of g.W.Write.contents c.args.writer.now) (seen_of g.W.Write.contents c.loop-place.writer) (c.args.page.now.held.items ++ flat_map line_of (flat_map cert_lines c.args.certs.now)) (h ++ flat_map line_of (flat_map cert_lines (drop c.loop-place.place c.args.certs.now))) in
+    puts_err _ _ c.args.page.now.held.items _ _ c.from_residual.result c.from_residual.ensures.0 (held_err _ (seen_of g.W.Write.contents c.loop-place.writer) _ _ c.hold_cert.new.page.held.items _ _ _ found.2 (subst P (sym {A = List ℕ} (c.if-not-hold_cert.ensures.kept refl)) c.loop-place.invariant) (c.in_err-put_cert.ensures found.0 found.1))
 
 pub loop-place-preserved : goal.loop-place-preserved
 loop-place-preserved g c =
     let below : c.loop-place.place < length c.args.certs.now = omega arith in
     let found = block_of cert_lines c.args.certs.now c.loop-place.place below in
-    held_next _ (seen_of g.W.Write.contents c.loop-place.writer) _ _ c.loop-place.page.held.items _ _ _ c.put_cert.new.page.held.items found.2 c.loop-place.invariant (c.in_ok-put_cert.ensures found.0 found.1)
+    let lines : List ℕ = flat_map line_of (cert_lines found.0) in
+    let first : Left (seen_of g.W.Write.contents c.loop-place.writer) (seen_of g.W.Write.contents c.if-not-hold_cert.writer) (c.loop-place.page.held.items ++ lines) c.if-not-hold_cert.page.held.items = elim c.if-not-hold_cert.branch [
+      | then-not-hold_cert+in_ok-put_cert w ↦ rw (w.page-is, w.writer-is, ← w.if-not-hold_cert.ensures.kept refl) (w.in_ok-put_cert.ensures found.0 found.1)
+      | else-not-hold_cert w ↦ rw (w.page-is, w.writer-is) (only_held _ _ _ lines (w.if-not-hold_cert.ensures.taken refl found.0 found.1))
+    ] in
+    held_next _ (seen_of g.W.Write.contents c.loop-place.writer) _ _ c.loop-place.page.held.items lines _ _ c.if-not-hold_cert.page.held.items found.2 c.loop-place.invariant first
