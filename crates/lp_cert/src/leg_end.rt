@@ -210,7 +210,8 @@ impl CertList {
         }
     }
 
-    /// Whether the certificate at a place, from 0, has no line. It costs much less than to ask for the first.
+    /// Whether it is known of the certificate at a place, from 0, that it has no line: then none has to be asked for, which
+    /// costs much more. It may have none where this says false.
     #[inline(always)]
     pub fn is_bare(&self, place: usize) -> bool
         requires { place < length self.now }

@@ -102,7 +102,7 @@ impl ManyCerts {
         }
     }
 
-    /// Whether the certificate at a place, from 0, has no line.
+    /// Whether the certificate at a place, from 0, has no reason, and so no line.
     pub(crate) fn is_bare(&self, place: usize) -> bool
         requires { place < length self.now }
         ensures { IsTrue result → option_map (λ cert. cert.lines) (slice_get self.now place) ≡ Some [] }
