@@ -15,6 +15,7 @@ pub mod MoreWaiters
 pub mod Behind
 pub mod BehindTasks
 pub mod ScanTold
+pub mod Settled
 pub mod UnchangedSteps
 pub mod StepLines
 pub mod HoldNames

@@ -13,6 +13,7 @@ ghost use Rattle.lp_cert.specs.Waiters.{WaitingGroups};
 ghost use Rattle.lp_cert.specs.inside.Waiters.{HasHeadFor, HasHeads, lines_at};
 ghost use Rattle.std.specs.Option.{option_map};
 
+mod point;
 mod quiet;
 
 use crate::cert::{Cert, Claim};

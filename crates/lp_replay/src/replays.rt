@@ -9,6 +9,7 @@ ghost use Rattle.lp_replay.specs.Outcome.{leg_ends, run_of, IsOutcome};
 mod fault;
 mod first;
 mod leg;
+mod own_code;
 mod recorder;
 mod start;
 
@@ -18,6 +19,7 @@ pub use first::first_leg_end;
 pub use leg::{TraceLeg, leg_numbered};
 use lp_model::Consistency;
 use lp_text::Trace;
+use own_code::{OwnCode, WholeTrace};
 use recorder::Recorder;
 pub use start::stack;
 use std::alloc::Global;
@@ -35,7 +37,7 @@ pub fn replay<M: Consistency>(
     ensures unmixed { IfOk result (λ found. IsTrue M.rules.whole_call → found.mixed ≡ 0) }
     ensures headline { IfOk result (λ found. Headline M.rules (whole_run trace.now) found) }
 {
-    outcome_of(alloc, model, trace)
+    outcome_of(alloc, OwnCode::<M, WholeTrace>::new(model), trace)
 }
 
 /// The same, by the events one after the other.

@@ -3,7 +3,6 @@
 
 mod checks;
 mod counter;
-mod for_run;
 pub mod laws;
 mod page;
 mod part;

@@ -12,7 +12,6 @@ ghost use Rattle.lp_trace.specs.Runs.{ReadsTrace, AtReading, AtTrace, AtWrite, B
 ghost use Rattle.lp_text.specs.Traces.{IsTrace, text_of};
 ghost use Rattle.lp_text.specs.Writing.{AppendsPrefix};
 
-use crate::for_run::ForRun;
 use crate::page::Page;
 use crate::report::{KeptBirths, write_report};
 use lp_model::Consistency;
@@ -167,5 +166,5 @@ fn outcome_of<M: Consistency>(
 ) -> Result<Outcome, ReplayFault>
     ensures { IfOk result (λ found. found ≡ outcome M.rules trace.now) }
 {
-    replay(alloc, ForRun { model }, trace)
+    replay(alloc, model, trace)
 }

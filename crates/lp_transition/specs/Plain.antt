@@ -1,7 +1,7 @@
--- Events of one task that no model checks.
+-- Events of one task that is there: those that no model checks, and the checks that it makes alone.
 use Rattle.std.specs.Prelude.{Bool, true, false}
 use Rattle.lp_transition.specs.declared.event.Event.{Event}
-use Rattle.lp_transition.specs.declared.event.Event.TheVariants.{Call, Ret, Sleep, Wake, Enter}
+use Rattle.lp_transition.specs.declared.event.Event.TheVariants.{Call, Ret, Sleep, Wake, Enter, Exit, Idle}
 
 -- the task calls, returns, sleeps, wakes up or enters the kernel
 abbrev pub is_plain : Event → Bool
@@ -11,3 +11,9 @@ is_plain (Sleep t) = true
 is_plain (Wake t) = true
 is_plain (Enter t) = true
 is_plain _ = false
+
+-- the task returns to user space, or is at its idle point
+abbrev pub is_point : Event → Bool
+is_point (Exit t) = true
+is_point (Idle t) = true
+is_point _ = false

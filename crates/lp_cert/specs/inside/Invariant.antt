@@ -1,5 +1,5 @@
 -- What holds of a maker between events, and what an event makes of the leg under way.
-use Rattle.std.specs.Prelude.{◌≡◌, ℕ, ◌+◌, ◌<◌, ◌≤◌, Bool, true, false, List, length, map, reverse, Option, Some, None, IfSome, IsSome, if◌then◌else◌}
+use Rattle.std.specs.Prelude.{◌≡◌, ℕ, ◌+◌, ◌<◌, ◌≤◌, Bool, true, false, List, length, map, reverse, Option, Some, None, IfSome, IsSome, is_some, if◌then◌else◌}
 use Rattle.std.specs.Option.{option_map}
 use Rattle.lp_stack.specs.declared.number.GroupId.{GroupId}
 use Rattle.lp_numbers.specs.Numbers.{has, IsNextFrom}
@@ -69,6 +69,11 @@ IfReady current waiters ended_room closing (Some ready) = IsReady current waiter
 pub record IsMaker (current : Option OpenLeg) (waiters : WaitingGroups) (ended_room : ℕ) (closing : Option (List Cert)) (ready : Option Ready) : Type 0 where
   pub floors : HasFloors waiters current
   pub for_event : IfReady current waiters ended_room closing ready
+
+-- the certificates of the leg under way stay as they are: it is complete, or there is none
+abbrev pub is_settled : Option OpenLeg → Bool
+is_settled None = true
+is_settled (Some leg) = is_some leg.completed
 
 -- the leg that opens with this event, with the level to which it goes
 abbrev pub leg_at : (number level : ℕ) → Bool → OpenLeg

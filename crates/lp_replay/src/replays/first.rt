@@ -8,6 +8,7 @@ ghost use Rattle.lp_replay.specs.Outcome.{leg_ends, run_of};
 ghost use Rattle.lp_replay.specs.inside.Recording.{first_made};
 
 use super::fault::ReplayFault;
+use super::own_code::{FirstLeg, OwnCode};
 use super::recorder::take;
 use super::start;
 use lp_cert::{LegEnd, Maker};
@@ -29,6 +30,7 @@ pub fn first_leg_end<M: Consistency>(
     ensures { IfOk result (λ found. found ≡ slice_get (leg_ends M.rules (first_leg M.rules (run_of trace.now)) trace.now.events) 0) }
 {
     let mut maker = Box::new(alloc, Maker::new(alloc)?)?;
+    let model = OwnCode::<M, FirstLeg>::new(model);
     let mut core = start::engine(alloc, model, trace)?;
     take_first_leg(alloc, &mut core, &mut maker, trace.events())?;
     first_of(alloc, Box::into_inner(maker))

@@ -2,6 +2,7 @@
 ghost use Rattle.std.specs.Prelude.{◌≡◌, ◌≤◌, ◌<◌, ◌+◌, ◌++◌, true, length, IfOk, OnOk};
 ghost use Rattle.lp_transition.specs.Run.{Run, leg_of, plus};
 ghost use Rattle.lp_stack.specs.declared.number.TaskId.{TaskId};
+ghost use Rattle.lp_transition.specs.Plain.{is_point};
 ghost use Rattle.lp_stays.specs.Counts.{top_of};
 ghost use Rattle.lp_transition.specs.Scan.{is_scan_kind, scan_event};
 ghost use Rattle.lp_transition.specs.Stays.{stack};
@@ -153,6 +154,7 @@ fn take_other<M: Consistency>(
     match event {
         Event::Walk => take_scan(alloc, core, maker, CheckKind::Walk, event),
         Event::Stop => take_scan(alloc, core, maker, CheckKind::Stop, event),
+        Event::Exit(_) | Event::Idle(_) => take_point(alloc, core, maker, event),
         _ => take_weighed(alloc, core, maker, event),
     }
 }
@@ -175,6 +177,26 @@ fn take_scan<M: Consistency>(
 {
     if maker.note_quiet(core, kind) {
         return Ok(core.step_quiet(kind));
+    }
+    take_weighed(alloc, core, maker, event)
+}
+
+/// Takes an exit or an idle point: at once where no transition is under way, as most do, since then it switches nobody and
+/// no group waits.
+fn take_point<M: Consistency>(
+    alloc: Global,
+    core: &mut Core<M>,
+    maker: &mut Maker,
+    event: Event,
+) -> Result<Reply, ReplayFault>
+    requires point { is_point event ≡ true }
+    requires room { core.old.number < 1000000 }
+    requires made { (run : Run) × StandsIn M.rules run (state_in core.old) × IsMadeWith M.rules run core.old.last_scan maker.old }
+    ensures step { IfOk result (λ reply. IsStep M.rules (state_in core.old) event reply (state_in core.new)) }
+    ensures made { OnOk result ((run : Run) → StandsIn M.rules run (state_in core.old) → IsMadeWith M.rules run core.old.last_scan maker.old → IsMadeWith M.rules (plus run event) core.new.last_scan maker.new) }
+{
+    if maker.note_point(core) {
+        return Ok(core.step_point(alloc, event)?);
     }
     take_weighed(alloc, core, maker, event)
 }

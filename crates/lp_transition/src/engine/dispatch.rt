@@ -205,7 +205,7 @@ pub fn verdicts<M: Consistency>(
 }
 
 /// The reply alone tells: it was weighed on this very engine.
-fn is_switched(what: &What) -> bool
+pub(super) fn is_switched(what: &What) -> bool
     ensures { result ≡ is_switched what.now }
 {
     matches!(what, What::Switched(_))

@@ -1,20 +1,39 @@
-//! A model whose runs have code of their own.
+//! A model whose replays have code of their own.
 
 use lp_model::{Blame, CheckKind, Consistency, ForkKind};
 use lp_patch::Aim;
 use lp_stack::{GroupId, TaskId, View};
+use std::marker::PhantomData;
 
-/// A model that answers as the one inside.
-///
-/// An engine is compiled once for each model, and checks, comparisons and plays by threads step engines too. Under a model
-/// of its own a run's loop over the events is the only caller of what steps its engine, which is then compiled into that
-/// loop: without it a run of calls and returns takes a tenth longer.
+/// The replay of a whole trace.
 #[derive(Clone, Copy)]
-pub(crate) struct ForRun<M: Consistency> {
-    pub(crate) model: M,
+pub(super) struct WholeTrace;
+
+/// The replay of a trace's first leg.
+#[derive(Clone, Copy)]
+pub(super) struct FirstLeg;
+
+/// A model that answers as the one inside, for one of these replays.
+///
+/// An engine is compiled once for each model, and checks and plays by threads step engines too. Under a model of its own a
+/// replay's loop over the events is the only caller of what steps its engine, which is then compiled into that loop:
+/// without it a run of calls and returns takes a tenth longer, and a comparison an eighth.
+#[derive(Clone, Copy)]
+pub(super) struct OwnCode<M: Consistency, R: Copy> {
+    model: M,
+    replay: PhantomData<R>,
 }
 
-impl<M: Consistency> Consistency for ForRun<M> {
+impl<M: Consistency, R: Copy> OwnCode<M, R> {
+    pub(super) fn new(model: M) -> OwnCode<M, R> {
+        OwnCode {
+            model,
+            replay: PhantomData,
+        }
+    }
+}
+
+impl<M: Consistency, R: Copy> Consistency for OwnCode<M, R> {
     ghost rules = { M.rules };
 
     ghost lawful = { M.lawful };

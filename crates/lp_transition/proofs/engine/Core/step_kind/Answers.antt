@@ -1,0 +1,15 @@
+use Rattle.std.proofs.Common.{sym, ◌∙◌}
+use Rattle.lp_transition.specs.Table.{state_in}
+use Rattle.lp_transition.specs.inside.Points.{point_event}
+use Rattle.lp_transition.proofs.Runs.{is_step}
+use Rattle.lp_transition.proofs.EngineLemmas.{answer-refused}
+use Rattle.lp_transition.proofs.engine.Core.step_kind.Goals as goal
+
+pub returns-in-Some-clause-step : goal.returns-in-Some-clause-step
+returns-in-Some-clause-step g c =
+    let s = state_in c.args.self.now in
+    is_step g.M.Consistency.rules g.met.M.Consistency.lawful s (state_in c.take_refused.new.self) c.args.event c.refused.result (c.refused.ensures ∙ sym (answer-refused g.M.Consistency.rules s c.args.event c.in-Some.why (sym c.refusal.ensures ∙ c.in-Some.is))) c.take_refused.ensures.state
+
+pub returns-clause-step : goal.returns-clause-step
+returns-clause-step g c =
+    rw c.requires.event (is_step g.M.Consistency.rules g.met.M.Consistency.lawful (state_in c.args.self.now) (state_in c.take_point.new.self) (point_event c.args.kind c.args.task) c.in_ok-reply.reply c.in_ok-reply.ensures.answer c.take_point.ensures.state)
