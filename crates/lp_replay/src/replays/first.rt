@@ -48,6 +48,10 @@ fn take_first_leg<M: Consistency>(
 {
     for event in events {
         take(alloc, core, maker, *event)?;
+        // No plain event completes or ends a leg: nearly all events are plain.
+        if event.is_plain() {
+            continue;
+        }
         if maker.is_complete() {
             return Ok(());
         }

@@ -24,6 +24,13 @@ loop-event-preserved g c = λ run stands made.
       made_more g.M.Consistency.rules run c.args.events.now c.loop-event.event-index _ c.take.new.core.last_scan c.take.new.maker (omega arith) (c.in_ok-take.ensures.made _ here.0 here.1),
     )
 
+pub loop-event-preserved-then-is_plain : goal.loop-event-preserved-then-is_plain
+loop-event-preserved-then-is_plain g c = λ run stands made.
+    let here = c.loop-event.invariant run stands made in (
+      at_more g.M.Consistency.rules run c.args.events.now c.loop-event.event-index _ c.take.new.core (omega arith) (c.in_ok-take.ensures.step.reaches _ here.0),
+      made_more g.M.Consistency.rules run c.args.events.now c.loop-event.event-index _ c.take.new.core.last_scan c.take.new.maker (omega arith) (c.in_ok-take.ensures.made _ here.0 here.1),
+    )
+
 pub returns : goal.returns
 returns g c = λ run stands made.
     ended_last g.M.Consistency.rules run c.args.events.now c.loop-event.event-index c.loop-event.maker (omega arith) ((c.loop-event.invariant run stands made).1.of_run)
