@@ -3,7 +3,7 @@
 use crate::difference::compare;
 use crate::play::checked;
 use crate::trouble::Trouble;
-use lp_model::Consistency;
+use lp_models::ModelName;
 use std::alloc::Global;
 
 /// Whether a line of a report begins a certificate.
@@ -27,9 +27,9 @@ fn input_of(alloc: Global, trace: &[u8], certificate: &str) -> Result<Vec<u8>, T
 
 /// Checks a certificate of a trace, which has to be accepted, and says how many that were: one, or
 /// none where there is no line.
-fn accept<M: Consistency>(
+fn accept(
     alloc: Global,
-    model: M,
+    model: ModelName,
     trace: &[u8],
     certificate: &str,
 ) -> Result<usize, Trouble> {
@@ -47,9 +47,9 @@ const fn certificate_part() -> &'static str {
 }
 
 /// Checks each certificate of a trace's report, and counts them.
-pub fn accept_all<M: Consistency + Copy>(
+pub fn accept_all(
     alloc: Global,
-    model: M,
+    model: ModelName,
     trace: &[u8],
     report: &str,
 ) -> Result<usize, Trouble> {

@@ -8,15 +8,15 @@ use std::str;
 /// A line that was wanted, and the one that was given in its place.
 #[derive(Debug, Drop)]
 pub struct Difference {
-    part: &'static str,
+    part: String,
     wanted: String,
     given: String,
 }
 
 impl Difference {
     /// What it is a part of.
-    pub fn part(&self) -> &'static str {
-        self.part
+    pub fn part(&self) -> &str {
+        self.part.as_str()
     }
 
     pub fn wanted(&self) -> &str {
@@ -51,12 +51,7 @@ fn line_at(alloc: Global, text: &[u8], place: usize) -> Result<String, AllocErro
 }
 
 /// Says in which line a part of what a row gives differs from what the row wants.
-pub fn compare(
-    alloc: Global,
-    part: &'static str,
-    wanted: &[u8],
-    given: &[u8],
-) -> Result<(), Trouble>
+pub fn compare(alloc: Global, part: &str, wanted: &[u8], given: &[u8]) -> Result<(), Trouble>
     ensures { OnOk result (wanted.now ≡ given.now) }
 {
     if wanted == given {
@@ -64,7 +59,7 @@ pub fn compare(
     }
     let place = common(wanted, given);
     let difference = Difference {
-        part,
+        part: String::from_str(alloc, part)?,
         wanted: line_at(alloc, wanted, place)?,
         given: line_at(alloc, given, place)?,
     };

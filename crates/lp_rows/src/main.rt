@@ -6,6 +6,7 @@ mod certificates;
 mod difference;
 mod engine;
 mod play;
+mod program;
 mod rows;
 mod rows_through_desk;
 mod streams;
@@ -22,7 +23,7 @@ use std::thread::Threads;
 use std::{fs, io};
 use trouble::Trouble;
 
-const FILES: [&str; 15] = [
+const FILES: [&str; 17] = [
     "models.rows",
     "legs.rows",
     "tasks.rows",
@@ -38,6 +39,8 @@ const FILES: [&str; 15] = [
     "floors.rows",
     "numbers.rows",
     "refusals.rows",
+    "words.rows",
+    "program.rows",
 ];
 
 /// What was played.

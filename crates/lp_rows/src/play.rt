@@ -3,6 +3,7 @@
 use crate::certificates::accept_all;
 use crate::difference::compare;
 use crate::engine::{event_lines, lines_of, lists_of};
+use crate::program::{play_fault, play_program};
 use crate::rows::{Row, Task};
 use crate::rows_through_desk::play_through_desk;
 use crate::streams::{Sink, Source};
@@ -10,16 +11,15 @@ use crate::trouble::Trouble;
 use lp_model::Consistency;
 use lp_models::{AllAtOnce, Hybrid, Immediate, LeaveKernel, ModelName};
 use lp_process::ProcessGroup;
-use lp_trace::{
-    CheckInput, Counted, ReadFault, RunFault, Trace, TraceFault, TraceForm, check, run,
-};
+use lp_program::{check, run};
+use lp_trace::{CheckInput, Counted, ReadFault, RunFault, Trace, TraceFault, TraceForm};
 use std::alloc::{AllocError, Global};
 use std::str;
 use std::sync::Wait;
 use std::thread::Threads;
 
 /// How many bytes are read and written at a time.
-const SIZES: [usize; 3] = [1, 5, 1_000_000];
+pub const SIZES: [usize; 3] = [1, 5, 1_000_000];
 
 /// What came of a row that was played.
 #[derive(Clone, Copy)]
@@ -30,7 +30,7 @@ pub struct Played {
     pub through_desk: bool,
 }
 
-/// What comes of a row whose input is no trace.
+/// What comes of a row that has no report.
 const fn no_trace() -> Played {
     Played {
         certificates: 0,
@@ -54,16 +54,10 @@ fn add_fault(alloc: Global, given: &mut Vec<u8>, fault: RunFault) -> Result<(), 
 }
 
 /// What the run of a text writes, by so many bytes at a time, and the line of its fault behind it.
-fn reported<M: Consistency>(
-    alloc: Global,
-    name: &str,
-    model: M,
-    text: &[u8],
-    most: usize,
-) -> Result<Vec<u8>, Trouble> {
+fn reported(alloc: Global, model: ModelName, text: &[u8], most: usize) -> Result<Vec<u8>, Trouble> {
     let mut sink = Counted::new(Sink::new(alloc, most));
     let mut source = Counted::new(Source::new(text, most));
-    let ended = run(alloc, name, model, &mut source, &mut sink);
+    let ended = run(alloc, model, &mut source, &mut sink);
     let mut given = sink.into_stream().into_taken();
     if let Err(fault) = ended {
         add_fault(alloc, &mut given, fault)?;
@@ -73,9 +67,9 @@ fn reported<M: Consistency>(
 
 /// What the check of a text writes, by so many bytes at a time, and behind it the line of its fault,
 /// or a line where it says other than it writes.
-pub fn checked<M: Consistency>(
+pub fn checked(
     alloc: Global,
-    model: M,
+    model: ModelName,
     text: &[u8],
     most: usize,
 ) -> Result<Vec<u8>, Trouble> {
@@ -112,15 +106,15 @@ fn written_again(alloc: Global, trace: &Trace) -> Result<Vec<u8>, Trouble> {
     }
 }
 
-/// Plays a trace of a row: its events one by one and through a desk, its text made again, and its certificates.
-fn play_trace<T: Threads + Wait + Sync, M: Consistency + Copy + Sync>(
+/// Plays a trace's events under a model, one by one and through a desk, where the replies have to be the report's.
+/// Says whether they went through a desk.
+fn play_events<T: Threads + Wait + Sync, M: Consistency + Sync>(
     rt: &T,
     alloc: Global,
     model: M,
-    row: &Row,
     trace: &Trace,
-) -> Result<Played, Trouble> {
-    let report = str::from_utf8(row.wanted()).unwrap_or("");
+    report: &str,
+) -> Result<bool, Trouble> {
     let wanted = lines_of(alloc, report, true)?;
     let given = event_lines(alloc, model, trace)?;
     compare(
@@ -129,6 +123,35 @@ fn play_trace<T: Threads + Wait + Sync, M: Consistency + Copy + Sync>(
         wanted.as_bytes(),
         given.as_bytes(),
     )?;
+    play_through_desk(rt, alloc, model, trace, report)
+}
+
+/// The same under the model of a name.
+fn play_events_under<T: Threads + Wait + Sync>(
+    rt: &T,
+    alloc: Global,
+    model: ModelName,
+    trace: &Trace,
+    report: &str,
+) -> Result<bool, Trouble> {
+    match model {
+        ModelName::Hybrid => play_events(rt, alloc, Hybrid, trace, report),
+        ModelName::LeaveKernel => play_events(rt, alloc, LeaveKernel, trace, report),
+        ModelName::AllAtOnce => play_events(rt, alloc, AllAtOnce, trace, report),
+        ModelName::Immediate => play_events(rt, alloc, Immediate, trace, report),
+        ModelName::ProcessGroup => play_events(rt, alloc, ProcessGroup, trace, report),
+    }
+}
+
+/// Plays a trace of a row: its text made again, its events, and its certificates.
+fn play_trace<T: Threads + Wait + Sync>(
+    rt: &T,
+    alloc: Global,
+    model: ModelName,
+    row: &Row,
+    trace: &Trace,
+) -> Result<Played, Trouble> {
+    let report = str::from_utf8(row.wanted()).unwrap_or("");
     let again = written_again(alloc, trace)?;
     compare(
         alloc,
@@ -137,7 +160,7 @@ fn play_trace<T: Threads + Wait + Sync, M: Consistency + Copy + Sync>(
         again.as_slice(),
     )?;
     Ok(Played {
-        through_desk: play_through_desk(rt, alloc, model, trace, report)?,
+        through_desk: play_events_under(rt, alloc, model, trace, report)?,
         certificates: accept_all(alloc, model, row.input(), report)?,
     })
 }
@@ -152,15 +175,14 @@ fn read(alloc: Global, text: &[u8]) -> Result<Result<Box<Trace>, String>, Troubl
 }
 
 /// Plays a row whose input is a trace.
-fn play_run<T: Threads + Wait + Sync, M: Consistency + Copy + Sync>(
+fn play_run<T: Threads + Wait + Sync>(
     rt: &T,
     alloc: Global,
-    name: &str,
-    model: M,
+    model: ModelName,
     row: &Row,
 ) -> Result<Played, Trouble> {
     for most in SIZES {
-        let given = reported(alloc, name, model, row.input(), most)?;
+        let given = reported(alloc, model, row.input(), most)?;
         compare(alloc, "its report", row.wanted(), given.as_slice())?;
     }
     match read(alloc, row.input())? {
@@ -185,47 +207,22 @@ fn read_input(alloc: Global, row: &Row) -> Result<(), Trouble> {
 }
 
 /// Plays a row whose input is a trace with a certificate behind it.
-fn play_check<M: Consistency + Copy>(
-    alloc: Global,
-    model: M,
-    row: &Row,
-) -> Result<Played, Trouble> {
+fn play_check(alloc: Global, model: ModelName, row: &Row) -> Result<(), Trouble> {
     for most in SIZES {
         let given = checked(alloc, model, row.input(), most)?;
         compare(alloc, "its answer", row.wanted(), given.as_slice())?;
     }
-    read_input(alloc, row)?;
-    Ok(no_trace())
-}
-
-/// Plays a row under its model.
-fn play_under<T: Threads + Wait + Sync, M: Consistency + Copy + Sync>(
-    rt: &T,
-    alloc: Global,
-    name: ModelName,
-    model: M,
-    is_run: bool,
-    row: &Row,
-) -> Result<Played, Trouble> {
-    if is_run {
-        play_run(rt, alloc, name.name(), model, row)
-    } else {
-        play_check(alloc, model, row)
-    }
+    read_input(alloc, row)
 }
 
 /// Plays a row.
 pub fn play<T: Threads + Wait + Sync>(rt: &T, alloc: Global, row: &Row) -> Result<Played, Trouble> {
-    let (name, is_run) = match row.task() {
-        Some(Task::Run(name)) => (name, true),
-        Some(Task::Check(name)) => (name, false),
+    match row.task() {
+        Some(Task::Run(model)) => return play_run(rt, alloc, model, row),
+        Some(Task::Check(model)) => play_check(alloc, model, row)?,
+        Some(Task::Program) => play_program(rt, alloc, row)?,
+        Some(Task::Fault(fault)) => play_fault(alloc, row, fault)?,
         None => return Err(Trouble::NoRow),
-    };
-    match name {
-        ModelName::Hybrid => play_under(rt, alloc, name, Hybrid, is_run, row),
-        ModelName::LeaveKernel => play_under(rt, alloc, name, LeaveKernel, is_run, row),
-        ModelName::AllAtOnce => play_under(rt, alloc, name, AllAtOnce, is_run, row),
-        ModelName::Immediate => play_under(rt, alloc, name, Immediate, is_run, row),
-        ModelName::ProcessGroup => play_under(rt, alloc, name, ProcessGroup, is_run, row),
     }
+    Ok(no_trace())
 }

@@ -1,14 +1,23 @@
 //! The rows of a data file. The head of data/models.rows says how they are written.
 
+use crate::streams::{Sink, Source};
 use crate::trouble::Trouble;
 use lp_models::ModelName;
+use lp_program::Fault;
+use lp_trace::{Cause, TraceFault};
 use std::alloc::Global;
 
-/// What is done with the input, under a model.
-#[derive(Clone, Copy, Debug, PartialEq, Eq)]
+/// What a row looks at.
+#[derive(Clone, Copy)]
 pub enum Task {
+    /// The run of its input under a model.
     Run(ModelName),
+    /// The check of its input under a model.
     Check(ModelName),
+    /// The whole program, at each of its lines of words.
+    Program,
+    /// How the program ends at a fault.
+    Fault(Fault),
 }
 
 impl Task {
@@ -22,6 +31,26 @@ impl Task {
             _ => None,
         }
     }
+
+    /// A fault of the program by its name in a row. No input comes to the last four.
+    fn fault(name: &str) -> Option<Task> {
+        let fault = match name {
+            "read" => Fault::Read,
+            "write" => Fault::Write,
+            "usage" => Fault::Usage,
+            "unknown model" => Fault::UnknownModel,
+            "refused" => Fault::Refused,
+            "line 1234567: L12" => Fault::Trace(TraceFault {
+                line: 1_234_567,
+                cause: Cause::Cert,
+            }),
+            "no memory" => Fault::NoMemory,
+            "desk D3" => Fault::Desk("D3"),
+            "desk D5" => Fault::Desk("D5"),
+            _ => return None,
+        };
+        Some(Task::Fault(fault))
+    }
 }
 
 /// A row.
@@ -29,8 +58,11 @@ impl Task {
 pub struct Row {
     name: String,
     task: Option<Task>,
+    lines: Vec<u8>,
     input: Vec<u8>,
+    is_broken: bool,
     wanted: Vec<u8>,
+    room: usize,
 }
 
 impl Row {
@@ -41,8 +73,11 @@ impl Row {
         Ok(Row {
             name: String::from_str(alloc, name)?,
             task: None,
+            lines: Vec::new(alloc),
             input,
+            is_broken: false,
             wanted: Vec::new(alloc),
+            room: usize::MAX,
         })
     }
 
@@ -50,37 +85,75 @@ impl Row {
         self.name.as_str()
     }
 
-    /// What is done with the input.
+    /// What it looks at.
     pub fn task(&self) -> Option<Task> {
         self.task
+    }
+
+    /// The program's words, a line for each time that it is tried.
+    pub fn lines(&self) -> &[u8] {
+        self.lines.as_slice()
     }
 
     pub fn input(&self) -> &[u8] {
         self.input.as_slice()
     }
 
-    /// The output that is wanted, or a line of the fault as the data file has it.
+    /// The output that is wanted, and the lines of the fault as the data file has them.
     pub fn wanted(&self) -> &[u8] {
         self.wanted.as_slice()
+    }
+
+    /// What gives its input, so many bytes at a time.
+    pub fn source(&self, most: usize) -> Source<'_> {
+        if self.is_broken {
+            Source::broken(self.input(), most)
+        } else {
+            Source::new(self.input(), most)
+        }
+    }
+
+    /// What takes its output, so many bytes at a time.
+    pub fn sink(&self, alloc: Global, most: usize) -> Sink {
+        Sink::with_room(alloc, most, self.room)
     }
 
     /// Takes in a line of the row: its first word, and what stands behind it.
     fn add(&mut self, word: &str, rest: &str) -> Result<(), Trouble> {
         match word {
             "words" => self.task = Task::read(rest),
+            "program" => {
+                self.task = Some(Task::Program);
+                add_lines(&mut self.lines, rest)?;
+            }
+            "at" => self.task = Task::fault(rest),
             "in" => add_lines(&mut self.input, rest)?,
             "out" => add_lines(&mut self.wanted, rest)?,
-            "fault" => {
-                self.wanted.extend_from_slice(b"fault ")?;
-                add_lines(&mut self.wanted, rest)?;
-            }
+            "fault" => add_end(&mut self.wanted, b"fault ", rest)?,
+            "ends" => add_end(&mut self.wanted, b"ends ", rest)?,
             "unended" => {
                 self.input.pop();
             }
+            _ => self.add_failure(word)?,
+        }
+        Ok(())
+    }
+
+    /// Takes in a line that says where the program's reader or writer fails.
+    fn add_failure(&mut self, word: &str) -> Result<(), Trouble> {
+        match (self.task, word) {
+            (Some(Task::Program), "broken") => self.is_broken = true,
+            (Some(Task::Program), "full") => self.room = self.wanted.len(),
             _ => return Err(Trouble::NoRow),
         }
         Ok(())
     }
+}
+
+/// Adds how something ends: a word, and lines.
+fn add_end(text: &mut Vec<u8>, word: &[u8], lines: &str) -> Result<(), Trouble> {
+    text.extend_from_slice(word)?;
+    add_lines(text, lines)
 }
 
 /// Adds lines between which ` / ` stands, each with its end.

@@ -1,9 +1,6 @@
 //! `lpt`: the livepatch transition engine over traces.
 #![tactic(auto)]
 
-#[cfg(test)]
-mod tests;
-
 use std::process::ExitCode;
 
 fn main(rt: HostRuntime) -> ExitCode {
