@@ -60,8 +60,10 @@ pub struct Row {
     task: Option<Task>,
     lines: Vec<u8>,
     input: Vec<u8>,
+    /// Whether the reader fails behind the input.
     is_broken: bool,
     wanted: Vec<u8>,
+    /// How many bytes the writer takes.
     room: usize,
 }
 
@@ -121,12 +123,12 @@ impl Row {
     /// Takes in a line of the row: its first word, and what stands behind it.
     fn add(&mut self, word: &str, rest: &str) -> Result<(), Trouble> {
         match word {
-            "words" => self.task = Task::read(rest),
-            "program" => {
+            "words" if self.task.is_none() => self.task = Task::read(rest),
+            "at" if self.task.is_none() => self.task = Task::fault(rest),
+            "program" if matches!(self.task, None | Some(Task::Program)) => {
                 self.task = Some(Task::Program);
                 add_lines(&mut self.lines, rest)?;
             }
-            "at" => self.task = Task::fault(rest),
             "in" => add_lines(&mut self.input, rest)?,
             "out" => add_lines(&mut self.wanted, rest)?,
             "fault" => add_end(&mut self.wanted, b"fault ", rest)?,
@@ -139,7 +141,7 @@ impl Row {
         Ok(())
     }
 
-    /// Takes in a line that says where the program's reader or writer fails.
+    /// Takes in a line that says where the program's reader or writer fails. No other is left.
     fn add_failure(&mut self, word: &str) -> Result<(), Trouble> {
         match (self.task, word) {
             (Some(Task::Program), "broken") => self.is_broken = true,
