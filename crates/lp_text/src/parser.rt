@@ -69,6 +69,7 @@ impl Parser {
     pub(crate) fn new(alloc: Global, form: TraceForm) -> Result<Parser, LineFault>
         ensures { GivesLine (λ parser. parser) result (Ok (empty form)) }
     {
+        let booted = all_false(alloc, NUMBERS)?;
         let Ok(symbols) = Symbols::new(alloc) else {
             return Err(LineFault::NoMemory);
         };
@@ -78,7 +79,7 @@ impl Parser {
             cache: SymbolCache::new(),
             patches: Vec::new(alloc),
             boots: Vec::new(alloc),
-            booted: all_false(alloc, NUMBERS)?,
+            booted,
             events: Vec::new(alloc),
         })
     }

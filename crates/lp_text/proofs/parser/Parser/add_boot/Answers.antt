@@ -1,5 +1,6 @@
 use Rattle.lp_text.specs.Traces.{TraceValue, functions}
-use Rattle.std.proofs.Common.{rules}
+use Rattle.std.proofs.Common.{arith, rules}
+use Rattle.std.proofs.lemmas.Grind.{common_steps}
 use Rattle.lp_text.proofs.Parsers.{boot_taken, boot_free}
 use Rattle.lp_text.proofs.parser.Parser.add_boot.Goals as goal
 
@@ -17,3 +18,6 @@ returns-in_default c =
     let so_far : TraceValue = record { form = d.form; symbols = d.symbols; patches = functions d.patches.items; boots = d.boots.items; events = d.events.items } in
     let free = boot_free so_far d.booted.items c.args.number c.args.class c.in-Ok.task c.from-place.result c.index.result.now c.self.invariant.1 c.in-Ok.ensures c.from-place.ensures c.index.ensures c.if-index.false in
     rw (← c.self.view_is, free) (search rules)
+
+pub invariant_of-self-2 : goal.invariant_of-self-2
+invariant_of-self-2 c = grind (arith, common_steps)
