@@ -1,10 +1,13 @@
 -- Events that are dealt out to tasks and to the control, one by one.
-use Rattle.std.proofs.Common.{◌≡◌, ◌≢◌, ◌∙◌, ℕ, zero, suc, ◌<◌, ◌++◌, ◌∷◌, [], List, Vec, Bool, true, cond, Option, Some, None, All, ap, arith, get_or, length, not, is_some, refl, set, sym, subst, ⊎_elim}
+use Rattle.std.proofs.Common.{◌≡◌, ◌+◌, take, ◌≢◌, ◌∙◌, ℕ, zero, suc, ◌<◌, ◌++◌, ◌∷◌, [], List, Vec, Bool, true, cond, Option, Some, None, All, ap, arith, get_or, length, not, is_some, refl, set, sym, subst, ⊎_elim}
 use Rattle.std.proofs.lemmas.Bool.{eq-eqb, eqb-true, ne_eqb}
 use Rattle.std.proofs.lemmas.Bool.Decides.{eqb_tells}
-use Rattle.std.proofs.lemmas.List.{append-nil, get_or-set_same, get_or-set_other}
+use Rattle.std.proofs.lemmas.List.{append-nil, get_or-set_same, get_or-set_other, map-append, take_more}
+use Rattle.std.proofs.Math.Seq.{take-append_seam}
 use Rattle.std.proofs.lemmas.List.Elements.{All-weaker, filter-append, filter_passes}
 use Rattle.lp_transition.specs.declared.event.Event.{Event}
+use Rattle.lp_log.specs.Entries.{Entry}
+use Rattle.lp_log.specs.Journals.{events_in}
 use Rattle.lp_log.specs.Seats.{owner}
 use Rattle.lp_log.specs.Audits.{is_number}
 use Rattle.lp_threads.specs.Plays.{events_of, events_of_control}
@@ -95,3 +98,16 @@ dealt_more events event tasks after control rest wide dealt more =
           ∙ sym (filter-append (λ (e : Event). is_number task (owner e)) events (event ∷ []));
       rest = more.others ∙ ap (λ (es : List Event). es ++ events_of_control (event ∷ [])) dealt.rest ∙ sym (filter-append (λ (e : Event). not (is_some (owner e))) events (event ∷ []));
     }
+
+-- what a list is written back as, of which each place was given
+pub written : {A : Type 0} (n : ℕ) (xs ys : List A) → n ≡ length xs → take n (xs ++ ys) ≡ xs
+written n xs ys all = rw all (take-append_seam xs ys)
+
+-- one event more of a script was sent
+pub sent_more : (script : List Event) (i : ℕ) (d : Event) (before : List Entry) (entry : Entry) → i < length script
+    → events_in before ≡ take i script → entry.event ≡ get_or script i d → events_in (before ++ entry ∷ []) ≡ take (i + 1) script
+sent_more script i d before entry within sent its =
+    map-append (λ (e : Entry). e.event) before (entry ∷ [])
+    ∙ ap (λ (es : List Event). es ++ entry.event ∷ []) sent
+    ∙ ap (λ (event : Event). take i script ++ event ∷ []) its
+    ∙ sym (take_more script i d within)
