@@ -1,4 +1,4 @@
-use Rattle.std.proofs.Common.{subst}
+use Rattle.std.proofs.Common.{subst, rules}
 use Rattle.lp_transition.specs.Blames.{HasBlamesAfter}
 use Rattle.lp_transition.specs.LastScan.{IsLastScanAfter}
 use Rattle.lp_transition.proofs.engine.Core.step_weighed.Goals as goal
@@ -10,3 +10,6 @@ returns-clause-blames g c =
 
 pub returns-clause-last_scan : goal.returns-clause-last_scan
 returns-clause-last_scan g c = subst (λ event. IsLastScanAfter g.M.Consistency.rules c.args.self.now event c.take.new.self) c.in_ok-step.ensures.event c.take.ensures.last_scan
+
+pub returns-clause-step : goal.returns-clause-step
+returns-clause-step g c = search rules

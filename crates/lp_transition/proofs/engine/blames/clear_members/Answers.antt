@@ -1,4 +1,4 @@
-use Rattle.std.proofs.Common.{◌≤◌, inl, inr, None, length, sym, ◌∙◌, arith}
+use Rattle.std.proofs.Common.{◌≤◌, inl, inr, None, length, sym, ◌∙◌, arith, rules}
 use Rattle.std.proofs.lemmas.Bool.{cases_lt}
 use Rattle.std.proofs.lemmas.List.{get_or_past}
 use Rattle.lp_transition.proofs.AscendingLemmas.{members-any}
@@ -13,3 +13,6 @@ loop-number-init c = record {
         | inr past ↦ let short : length c.args.of_group.now ≤ group = omega arith in get_or_past c.args.of_group.now group None short
       ];
 }
+
+pub loop-number-preserved : goal.loop-number-preserved
+loop-number-preserved c = search rules

@@ -1,0 +1,19 @@
+use Rattle.std.proofs.Common.{[], sym, subst}
+use Rattle.lp_transition.specs.declared.event.Event.{Event}
+use Rattle.lp_transition.specs.Blames.{AreBlamesAfter}
+use Rattle.lp_transition.specs.LastScan.{IsLastScanAfter}
+use Rattle.lp_transition.specs.Steps.{IsStep}
+use Rattle.lp_transition.specs.Table.{state_in}
+use Rattle.lp_transition.proofs.engine.Core.step_plain.Goals as goal
+
+pub returns-in-Ret-clause-step : goal.returns-in-Ret-clause-step
+returns-in-Ret-clause-step g c =
+    subst (λ (event : Event). IsStep g.M.Consistency.rules (state_in c.args.self.now) event c.step_alike-in-Ret.result (state_in c.step_alike-in-Ret.new.self)) (sym c.in-Ret.is) c.step_alike-in-Ret.ensures.step
+
+pub returns-in-Ret-clause-blames : goal.returns-in-Ret-clause-blames
+returns-in-Ret-clause-blames g c =
+    subst (λ (event : Event). AreBlamesAfter g.M.Consistency.rules c.args.self.now event [] c.step_alike-in-Ret.new.self) (sym c.in-Ret.is) c.step_alike-in-Ret.ensures.blames
+
+pub returns-in-Ret-clause-last_scan : goal.returns-in-Ret-clause-last_scan
+returns-in-Ret-clause-last_scan g c =
+    subst (λ (event : Event). IsLastScanAfter g.M.Consistency.rules c.args.self.now event c.step_alike-in-Ret.new.self) (sym c.in-Ret.is) c.step_alike-in-Ret.ensures.last_scan
