@@ -1,3 +1,4 @@
+use Rattle.std.proofs.Common.{rules}
 use Rattle.lp_trace.proofs.RunFaults.{at_write, headline_of_text, no_read, no_text, still_unread}
 use Rattle.lp_trace.proofs.runs.run.Goals as goal
 
@@ -19,3 +20,20 @@ returns-clause-read_failed g c = no_read _ c.in-Err.fault c.in-Err.ensures.behin
 
 pub returns-clause-unfailed : goal.returns-clause-unfailed
 returns-clause-unfailed g c = still_unread _ c.in-Err.fault c.in_ok-trace.ensures.unfailed
+
+pub returns-in_err-trace-clause-untouched : goal.returns-in_err-trace-clause-untouched
+returns-in_err-trace-clause-untouched g c = search rules
+
+pub returns-in-Ok-clause-report : goal.returns-in-Ok-clause-report
+returns-in-Ok-clause-report g c =
+    let read = c.in_ok-trace.ensures.found in
+    (c.in_ok-trace.trace, read.0, read.1, c.in-Ok.ensures.report)
+
+pub returns-in-Ok-clause-written : goal.returns-in-Ok-clause-written
+returns-in-Ok-clause-written g c = c.in-Ok.ensures.written
+
+pub returns-clause-untouched : goal.returns-clause-untouched
+returns-clause-untouched g c = c.in-Err.ensures.untouched
+
+pub returns-clause-write_failed : goal.returns-clause-write_failed
+returns-clause-write_failed g c = c.in-Err.ensures.write_failed

@@ -1,9 +1,11 @@
 use Rattle.std.specs.List.{flat_map}
+use Rattle.std.proofs.lemmas.List.{at_drop_all}
+use Rattle.lp_cert.specs.declared.cert.Cert.{Cert}
 use Rattle.lp_cert.specs.Text.{cert_lines}
 use Rattle.lp_text.specs.Words.{line_of}
-use Rattle.lp_trace.proofs.Pages.{puts_err, held_err, held_next, only_held}
+use Rattle.lp_trace.proofs.Pages.{puts_err, held_err, held_end, held_next, only_held}
 use Rattle.lp_trace.proofs.Reports.{block_of}
-use Rattle.std.proofs.Common.{◌<◌, ◌++◌, ℕ, List, drop, length, refl, subst, sym, arith}
+use Rattle.std.proofs.Common.{◌<◌, ◌≤◌, ◌++◌, ℕ, List, drop, length, refl, subst, sym, arith}
 use Rattle.lp_text.specs.inside.Writing.{Left, seen_of}
 use Rattle.lp_trace.proofs.report.legs.put_certs.Goals as goal
 use Rattle.lp_trace.proofs.report.legs.put_certs.Goals.{then-not-hold_cert+in_ok-put_cert, else-not-hold_cert}
@@ -25,3 +27,9 @@ loop-place-preserved g c =
       | else-not-hold_cert w ↦ rw (w.page-is, w.writer-is) (only_held _ _ _ lines (w.if-not-hold_cert.ensures.taken refl found.0 found.1))
     ] in
     held_next _ (seen_of g.W.Write.contents c.loop-place.writer) _ _ c.loop-place.page.held.items lines _ _ c.if-not-hold_cert.page.held.items found.2 c.loop-place.invariant first
+
+pub returns : goal.returns
+returns g c =
+    let over : length c.args.certs.now ≤ c.loop-place.place = omega arith in
+    let none = at_drop_all (λ (certs : List Cert). flat_map line_of (flat_map cert_lines certs)) c.args.certs.now c.loop-place.place over in
+    held_end (seen_of g.W.Write.contents c.args.writer.now) (seen_of g.W.Write.contents c.loop-place.writer) _ c.loop-place.page.held.items _ none c.loop-place.invariant
