@@ -3,7 +3,7 @@ use Rattle.std.specs.String.{string_bytes}
 use Rattle.std.proofs.lemmas.List.{length-map}
 use Rattle.std.proofs.lemmas.List.Elements.{All-push}
 use Rattle.lp_symbols.specs.Names.{is_name, AreNames}
-use Rattle.lp_symbols.proofs.Maps.{bytes-insert_key}
+use Rattle.lp_symbols.proofs.Maps.{bytes-insert_key, maps}
 use Rattle.lp_symbols.proofs.symbols.Symbols.add.Goals as goal
 
 AreNames-push : (names : List (List ℕ)) (name : List ℕ) → AreNames names → length names < 4096 → IsTrue (is_name name) → AreNames (names ++ name ∷ [])
@@ -24,3 +24,12 @@ pub returns-clause-added : goal.returns-clause-added
 returns-clause-added c =
     rw (c.in_ok-insert.ensures.keys, ← c.self.view_is)
     (bytes-insert_key c.self.inside.names.keys c.in_ok-owned.owned c.args.name.now (cc c.in_ok-owned.ensures.ok) (sym c.if-contains.ensures))
+
+pub returns-then-contains-clause-refused : goal.returns-then-contains-clause-refused
+returns-then-contains-clause-refused c = grind (arith, maps)
+
+pub returns-then-contains-clause-number : goal.returns-then-contains-clause-number
+returns-then-contains-clause-number c = tt
+
+pub returns-then-contains-clause-added : goal.returns-then-contains-clause-added
+returns-then-contains-clause-added c = tt
