@@ -1,8 +1,14 @@
 use Rattle.std.proofs.Common.{sym, subst, ◌∙◌}
 use Rattle.lp_transition.specs.declared.event.Event.{Event}
 use Rattle.lp_transition.specs.Run.{plus}
+use Rattle.lp_transition.specs.Steps.{IsStep}
+use Rattle.lp_transition.specs.Table.{state_in}
 use Rattle.lp_cert.specs.Ends.{IsMadeWith}
 use Rattle.lp_replay.proofs.replays.recorder.take_weighed.Goals as goal
+
+pub returns-clause-step : goal.returns-clause-step
+returns-clause-step g c =
+    subst (λ (event : Event). IsStep g.M.Consistency.rules (state_in c.args.core.now) event c.take.result (state_in c.take.new.self)) c.in-Ok.ensures.event c.take.ensures.step
 
 pub returns-clause-made : goal.returns-clause-made
 returns-clause-made g c = λ run stands is.
