@@ -16,41 +16,44 @@ use lp_model::Consistency;
 use lp_models::Hybrid;
 use lp_stack::{Class, GroupId, Level, TaskId};
 use lp_symbols::{SymId, Symbols};
-use lp_trace::{Counted, RunFault, Trace, check, run, stack};
+use lp_trace::{Counted, Outcome, RunFault, Trace, check, replay, run, stack};
 use lp_transition::{Core, Event};
 use std::alloc::Global;
-use std::test::Fail;
 use streams::{Sink, Source};
 
-/// A child that goes on waiting: the boot and event lines of its trace.
+/// A child that goes on waiting.
 const CHILD: &str =
-    "boot 1 normal / enter 1 / enable / walk / fork 1 2 own / exit 1 / call 2 a / sleep 2 / walk";
+    "lptrace 1\nsym a\nsym b\nsym c\npatch a\nboot 1 normal\nenter 1\nenable\nwalk\nfork 1 2 own\nexit 1\ncall 2 a\nsleep 2\nwalk\n";
 
-/// The text of a trace of the functions `a`, `b` and `c` and a patch of `a`, with these lines.
-fn text_of(alloc: Global, lines: &str) -> Result<String, Fail> {
-    let mut text = String::from_str(alloc, "lptrace 1\nsym a\nsym b\nsym c\npatch a\n")?;
-    for line in lines.split(" / ") {
-        text.push_str(line)?;
-        text.push('\n')?;
-    }
-    Ok(text)
-}
+/// Its report.
+const CHILD_REPORT: &str =
+    "lpreport 1\nmodel hybrid\n1 done\n2 done\n3 done\n4 done\n5 over 1\n6 ran old\n7 done\n8 done\nleg 2 new waiting 1\nwaiting 2 2 8\nbusy 1 1 3\nborn 2 1 4\nhold 2 2 6 8 8\nstays 1 mixed 0\n";
 
 /// The trace of a text, in a box: docs/GATE.md says why.
-fn read(alloc: Global, text: &str) -> Result<Box<Trace>, Fail> {
-    Ok(Box::new(alloc, Trace::read(alloc, text.as_bytes())?)?)
-}
-
-/// The trace of these lines.
-fn trace_of(alloc: Global, lines: &str) -> Result<Box<Trace>, Fail> {
-    let text = text_of(alloc, lines)?;
-    read(alloc, text.as_str())
+fn read(alloc: Global, text: &str) -> Option<Box<Trace>> {
+    match Trace::read(alloc, text.as_bytes()) {
+        Ok(trace) => Box::new(alloc, trace).ok(),
+        Err(_) => None,
+    }
 }
 
 /// The engine of a trace before its first event.
-fn boot<M: Consistency>(alloc: Global, model: M, trace: &Trace) -> Result<Box<Core<M>>, Fail> {
-    let core = Core::boot(alloc, model, stack(alloc, trace)?, trace.boots())?;
-    Ok(Box::new(alloc, core)?)
+fn boot<M: Consistency>(alloc: Global, model: M, trace: &Trace) -> Option<Box<Core<M>>> {
+    let Ok(patches) = stack(alloc, trace) else {
+        return None;
+    };
+    match Core::boot(alloc, model, patches, trace.boots()) {
+        Ok(core) => Box::new(alloc, core).ok(),
+        Err(_) => None,
+    }
+}
+
+/// What comes of a trace, in a box.
+fn outcome_of<M: Consistency>(alloc: Global, model: M, trace: &Trace) -> Option<Box<Outcome>> {
+    match replay(alloc, model, trace) {
+        Ok(outcome) => Box::new(alloc, outcome).ok(),
+        Err(_) => None,
+    }
 }
 
 /// The frame of this serial is on a task's stack.

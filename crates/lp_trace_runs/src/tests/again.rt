@@ -1,20 +1,20 @@
 //! An engine for calls after a failed allocation, each call made again where an allocation fails.
 use super::*;
 use lp_patch::{PatchFault, PatchSet, PatchStack};
-use lp_symbols::SymFault;
 use lp_transition::BootFault;
 
-/// The name `a`.
-fn name_a(alloc: Global) -> Result<Symbols, SymFault> {
-    let mut symbols = Symbols::new(alloc)?;
-    symbols.add("a")?;
-    Ok(symbols)
+/// A patch of the function `a` alone.
+fn patch_over(alloc: Global, symbols: &mut Symbols) -> Result<PatchSet, PatchFault> {
+    match symbols.add("a") {
+        Ok(a) => PatchSet::build(alloc, symbols, &[a]),
+        Err(_) => Err(PatchFault::NoMemory),
+    }
 }
 
 /// A patch of function `a`. The fault is NoMemory also where the name gets no memory.
 fn patch_of_a(alloc: Global) -> Result<PatchSet, PatchFault> {
-    match name_a(alloc) {
-        Ok(symbols) => PatchSet::build(alloc, &symbols, &[SymId(0)]),
+    match Symbols::new(alloc) {
+        Ok(mut symbols) => patch_over(alloc, &mut symbols),
         Err(_) => Err(PatchFault::NoMemory),
     }
 }
@@ -37,10 +37,10 @@ fn booted_over_a(alloc: Global) -> Result<Box<Core<Hybrid>>, BootFault> {
 }
 
 /// The same. Where an allocation fails, nothing was made, and the same call makes it.
-pub(super) fn booted_again(alloc: Global) -> Result<Box<Core<Hybrid>>, Fail> {
+pub(super) fn booted_again(alloc: Global) -> Option<Box<Core<Hybrid>>> {
     match booted_over_a(alloc) {
-        Ok(core) => Ok(core),
-        Err(BootFault::NoMemory) => Ok(booted_over_a(alloc)?),
-        Err(fault) => Err(fault.into()),
+        Ok(core) => Some(core),
+        Err(BootFault::NoMemory) => booted_over_a(alloc).ok(),
+        Err(_) => None,
     }
 }

@@ -6,7 +6,7 @@ use super::*;
 use lp_cert::{Cert, LineList};
 use lp_checker::{CertFault, check_floor, check_waiting, laws};
 use lp_process::ProcessGroup;
-use lp_transition::Opening;
+use lp_transition::{Halt, Opening};
 use std::alloc::AllocError;
 use std::test::*;
 
@@ -56,18 +56,34 @@ impl Judged {
     }
 }
 
-/// The engine of a trace after its first events, up to the one that opens a leg.
+/// The opening of an engine's leg, in a box.
+fn standing<M: Consistency>(alloc: Global, core: &Core<M>) -> Result<Box<Opening>, AllocError> {
+    Ok(Box::new(alloc, core.standing(alloc)?)?)
+}
+
+/// The opening of the leg that the last of these events opens.
+fn opening_after<M: Consistency>(
+    alloc: Global,
+    core: &mut Core<M>,
+    before: &[Event],
+) -> Result<Box<Opening>, Halt> {
+    for event in before {
+        core.step(alloc, *event)?;
+    }
+    Ok(standing(alloc, core)?)
+}
+
+/// The same, of the engine of a trace.
 fn opened<M: Consistency>(
     alloc: Global,
     model: M,
     trace: &Trace,
     before: &[Event],
-) -> Result<Box<Opening>, Fail> {
-    let mut core = boot(alloc, model, trace)?;
-    for event in before {
-        core.step(alloc, *event)?;
+) -> Option<Box<Opening>> {
+    match boot(alloc, model, trace) {
+        Some(mut core) => opening_after(alloc, &mut core, before).ok(),
+        None => None,
     }
-    Ok(Box::new(alloc, core.standing(alloc)?)?)
 }
 
 /// What the check of its claim answers to a certificate of a leg with these events.
@@ -85,9 +101,9 @@ fn answer_to<M: Consistency>(
 }
 
 /// A task sleeps in a changed function during a walk, and switches when it leaves the kernel. The
-/// fourth event opens the leg.
+/// fourth of the eight events opens the leg.
 const SLEEPS: &str =
-    "boot 1 normal / enter 1 / call 1 a / sleep 1 / enable / walk / wake 1 / ret 1 / exit 1";
+    "lptrace 1\nsym a\nsym b\nsym c\npatch a\nboot 1 normal\nenter 1\ncall 1 a\nsleep 1\nenable\nwalk\nwake 1\nret 1\nexit 1\n";
 
 const HELD: Reason = Reason::Hold(1, 1, 2, 5, 5);
 
@@ -134,82 +150,146 @@ const PAST_LIMITS: [Judged; 9] = [
     ),
 ];
 
-/// The first of these certificates that has another answer with a claim, by its place.
-fn wrong_answer(
+/// Whether a certificate of a leg with these events has its answer, with this claim.
+fn is_judged(
     alloc: Global,
     opening: &Opening,
     after: &[Event],
     claim: Claim,
-) -> Result<Option<usize>, Fail> {
-    for (place, judged) in PAST_LIMITS.iter().enumerate() {
-        let cert = judged.cert(alloc, claim)?;
-        if answer_to(alloc, Hybrid, opening, after, &cert) != judged.answer() {
-            return Ok(Some(place));
+    judged: &Judged,
+) -> bool {
+    match judged.cert(alloc, claim) {
+        Ok(cert) => answer_to(alloc, Hybrid, opening, after, &cert) == judged.answer(),
+        Err(_) => false,
+    }
+}
+
+/// Whether each of them has, with either claim.
+fn are_judged(alloc: Global, opening: &Opening, after: &[Event]) -> bool {
+    for judged in &PAST_LIMITS {
+        if !is_judged(alloc, opening, after, Claim::Waiting, judged)
+            || !is_judged(alloc, opening, after, Claim::Floor, judged)
+        {
+            return false;
         }
     }
-    Ok(None)
+    true
+}
+
+/// Whether they have in the leg that the fourth event of a trace opens.
+fn are_judged_in(alloc: Global, trace: &Trace) -> bool {
+    let events = trace.events();
+    if events.len() != 8 {
+        return false;
+    }
+    match opened(alloc, Hybrid, trace, &events[..4]) {
+        Some(opening) => are_judged(alloc, &opening, &events[4..]),
+        None => false,
+    }
+}
+
+/// Whether they have where the task sleeps.
+fn are_judged_asleep(alloc: Global) -> bool {
+    match read(alloc, SLEEPS) {
+        Some(trace) => are_judged_in(alloc, &trace),
+        None => false,
+    }
 }
 
 #[test]
-fn numbers_past_every_text_are_judged(rt: HostRuntime) -> Result<(), Fail> {
-    let trace = trace_of(rt.alloc(), SLEEPS)?;
-    let (before, after) = trace.events().split_at_checked(4).ok_or("it has 8 events")?;
-    let opening = opened(rt.alloc(), Hybrid, &trace, before)?;
-    for claim in [Claim::Waiting, Claim::Floor] {
-        assert!(rt; wrong_answer(rt.alloc(), &opening, after, claim)? == None);
-    }
-    Ok(())
+fn numbers_past_every_text_are_judged(rt: HostRuntime) {
+    assert!(rt; are_judged_asleep(rt.alloc()));
 }
 
-/// What the check of each claim answers to a certificate of the other, after so many events.
-fn answers_to_the_other<M: Consistency + Copy>(
+/// Whether a certificate that a group waits is refused as a floor.
+fn is_no_floor<M: Consistency>(
+    alloc: Global,
+    model: M,
+    opening: &Opening,
+    after: &[Event],
+    judged: &Judged,
+) -> bool {
+    match judged.cert(alloc, Claim::Waiting) {
+        Ok(cert) => check_floor(alloc, model, opening, after, &cert) == Err(CertFault::NoLeg),
+        Err(_) => false,
+    }
+}
+
+/// Whether a floor is refused as a certificate that a group waits.
+fn is_nobody_waiting<M: Consistency>(
+    alloc: Global,
+    model: M,
+    opening: &Opening,
+    after: &[Event],
+    judged: &Judged,
+) -> bool {
+    match judged.cert(alloc, Claim::Floor) {
+        Ok(cert) => check_waiting(alloc, model, opening, after, &cert) == Err(CertFault::NoLeg),
+        Err(_) => false,
+    }
+}
+
+/// Whether each check refuses a certificate of the other claim, after so many events of a trace.
+fn is_refused_after<M: Consistency + Copy>(
     alloc: Global,
     model: M,
     trace: &Trace,
-    before: usize,
+    count: usize,
     judged: &Judged,
-) -> Result<[Result<(), CertFault>; 2], Fail> {
-    let (before, after) = trace.events().split_at_checked(before).ok_or("events")?;
-    let opening = opened(alloc, model, trace, before)?;
-    let waiting = judged.cert(alloc, Claim::Waiting)?;
-    let floor = judged.cert(alloc, Claim::Floor)?;
-    Ok([
-        check_floor(alloc, model, &opening, after, &waiting),
-        check_waiting(alloc, model, &opening, after, &floor),
-    ])
+) -> bool {
+    let events = trace.events();
+    if count > events.len() {
+        return false;
+    }
+    match opened(alloc, model, trace, &events[..count]) {
+        Some(opening) => {
+            is_no_floor(alloc, model, &opening, &events[count..], judged)
+                && is_nobody_waiting(alloc, model, &opening, &events[count..], judged)
+        }
+        None => false,
+    }
 }
 
-/// Whether each check refuses a certificate of the other claim.
+/// The same of the trace of a text.
 fn other_is_refused<M: Consistency + Copy>(
     alloc: Global,
     model: M,
-    events: &str,
-    before: usize,
+    text: &str,
+    count: usize,
     judged: &Judged,
-) -> Result<bool, Fail> {
-    let trace = trace_of(alloc, events)?;
-    let answers = answers_to_the_other(alloc, model, &trace, before, judged)?;
-    Ok(answers == [Err(CertFault::NoLeg); 2])
+) -> bool {
+    match read(alloc, text) {
+        Some(trace) => is_refused_after(alloc, model, &trace, count, judged),
+        None => false,
+    }
 }
+
+const ASLEEP: Judged = Judged(4, 1, 7, &[HELD], Ok(()));
 
 /// Each check is of its own claim, also where the lines would do.
 #[test]
-fn another_claim_is_refused(rt: HostRuntime) -> Result<(), Fail> {
-    let judged = Judged(4, 1, 7, &[HELD], Ok(()));
-    assert!(rt; other_is_refused(rt.alloc(), Hybrid, SLEEPS, 4, &judged)?);
-    Ok(())
+fn another_claim_is_refused(rt: HostRuntime) {
+    assert!(rt; other_is_refused(rt.alloc(), Hybrid, SLEEPS, 4, &ASLEEP));
 }
 
 /// One thread of a process sleeps in a changed function while the other leaves the kernel. The sixth
 /// event opens the leg.
 const A_THREAD_SLEEPS: &str =
-    "boot 1 normal / enter 1 / fork 1 2 share / exit 1 / call 2 a / sleep 2 / enable / walk / enter 1 / exit 1";
+    "lptrace 1\nsym a\nsym b\nsym c\npatch a\nboot 1 normal\nenter 1\nfork 1 2 share\nexit 1\ncall 2 a\nsleep 2\nenable\nwalk\nenter 1\nexit 1\n";
+
+const A_THREAD_ASLEEP: Judged = Judged(6, 1, 9, &[Reason::Hold(1, 2, 4, 7, 7)], Ok(()));
 
 #[test]
-fn another_claim_of_a_process_is_refused(rt: HostRuntime) -> Result<(), Fail> {
-    let judged = Judged(6, 1, 9, &[Reason::Hold(1, 2, 4, 7, 7)], Ok(()));
-    assert!(rt; other_is_refused(rt.alloc(), ProcessGroup, A_THREAD_SLEEPS, 6, &judged)?);
-    Ok(())
+fn another_claim_of_a_process_is_refused(rt: HostRuntime) {
+    assert!(rt;
+        other_is_refused(
+            rt.alloc(),
+            ProcessGroup,
+            A_THREAD_SLEEPS,
+            6,
+            &A_THREAD_ASLEEP
+        )
+    );
 }
 
 #[test]

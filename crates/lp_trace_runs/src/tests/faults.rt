@@ -1,8 +1,8 @@
 //! Texts that are cut, and streams that fail.
-use super::streams::{Broken, End, Full, Zeros};
+use super::streams::{End, Zeros};
 use super::*;
 use lp_trace::{TraceFault, WriteFault};
-use std::io::{ErrorKind, Read, Write};
+use std::io::{ErrorKind, Read};
 use std::test::*;
 
 /// How a run or a check under `hybrid` ended.
@@ -30,7 +30,7 @@ impl Ended {
 }
 
 /// How the run between these two ended.
-fn ending_of<R: Read, W: Write>(alloc: Global, source: &mut R, sink: &mut W) -> Ended {
+fn ending_of<R: Read>(alloc: Global, source: &mut R, sink: &mut Sink) -> Ended {
     let (mut source, mut sink) = (Counted::new(source), Counted::new(sink));
     match run(alloc, "hybrid", Hybrid, &mut source, &mut sink) {
         Ok(()) => Ended::Whole,
@@ -39,7 +39,7 @@ fn ending_of<R: Read, W: Write>(alloc: Global, source: &mut R, sink: &mut W) -> 
 }
 
 /// How the check between these two ended.
-fn check_ending_of<R: Read, W: Write>(alloc: Global, source: &mut R, sink: &mut W) -> Ended {
+fn check_ending_of<R: Read>(alloc: Global, source: &mut R, sink: &mut Sink) -> Ended {
     let (mut source, mut sink) = (Counted::new(source), Counted::new(sink));
     match check(alloc, Hybrid, &mut source, &mut sink) {
         Ok(_) => Ended::Whole,
@@ -47,38 +47,46 @@ fn check_ending_of<R: Read, W: Write>(alloc: Global, source: &mut R, sink: &mut 
     }
 }
 
-/// How the run of a text ends that was cut, by where the cut is.
-fn wanted(front: &str, patched: bool) -> Ended {
-    let lines = front.bytes().filter(|byte| *byte == b'\n').count() as u64;
-    if front.is_empty() {
-        Ended::Trace(1, 1)
-    } else if !front.ends_with('\n') {
-        Ended::Trace(lines.saturating_add(1), 2)
-    } else if !patched {
-        Ended::Trace(lines.saturating_add(1), 8)
-    } else {
-        Ended::Whole
+/// How many lines of a text end.
+fn lines_of(front: &[u8]) -> u64 {
+    let mut lines = 0_u64;
+    for byte in front {
+        if *byte == b'\n' {
+            lines = lines.saturating_add(1);
+        }
+    }
+    lines
+}
+
+/// How many bytes of the child's trace stand before its boot task.
+const PATCH_END: usize = 36;
+
+/// How the run of a front of the child's trace ends, by where the cut is.
+fn wanted(front: &[u8]) -> Ended {
+    let line = lines_of(front).saturating_add(1);
+    match front {
+        [] => Ended::Trace(1, 1),
+        [.., b'\n'] if front.len() >= PATCH_END => Ended::Whole,
+        [.., b'\n'] => Ended::Trace(line, 8),
+        _ => Ended::Trace(line, 2),
     }
 }
 
-/// Whether the run of the first so many bytes of a text ends in this way, with nothing written
-/// where that is a fault.
-fn cut_ends(alloc: Global, front: &str, wanted: Ended) -> bool {
-    let mut source = Source::new(front.as_bytes(), 3);
+/// Whether the run of a front of the child's trace ends in this way, with nothing written where that
+/// is a fault.
+fn cut_ends(alloc: Global, front: &[u8]) -> bool {
+    let mut source = Source::new(front, 3);
     let mut sink = Sink::new(alloc, 1_000);
     let end = ending_of(alloc, &mut source, &mut sink);
-    end == wanted && (matches!(end, Ended::Whole) || sink.taken().is_empty())
+    end == wanted(front) && (matches!(end, Ended::Whole) || sink.taken().is_empty())
 }
 
 #[test]
-fn a_cut_text_has_its_fault(rt: HostRuntime) -> Result<(), Fail> {
-    let text = text_of(rt.alloc(), CHILD)?;
-    let patch_end = text.find("boot").ok_or("there is a boot task")?;
+fn a_cut_text_has_its_fault(rt: HostRuntime) {
+    let text = CHILD.as_bytes();
     for cut in 0..=text.len() {
-        let front = text.get(..cut).ok_or("all bytes are letters")?;
-        assert!(rt; cut_ends(rt.alloc(), front, wanted(front, cut >= patch_end)));
+        assert!(rt; cut_ends(rt.alloc(), &text[..cut]));
     }
-    Ok(())
 }
 
 /// The kind of error by which a stream ends that fails or is interrupted.
@@ -89,45 +97,46 @@ fn kind_of(end: End) -> ErrorKind {
     }
 }
 
-/// Whether a run and a check fail as their reader does after so many reads, with nothing written.
-fn fail_with(alloc: Global, text: &str, most: usize, reads: usize, end: End) -> bool {
+/// The child's trace, with a certificate behind it.
+const CHILD_WITH_CERT: &str =
+    "lptrace 1\nsym a\nsym b\nsym c\npatch a\nboot 1 normal\nenter 1\nenable\nwalk\nfork 1 2 own\nexit 1\ncall 2 a\nsleep 2\nwalk\nlpcert 1\nwaiting 2 2 8\n";
+
+/// Whether a run and a check of it fail as their reader does after so many reads, with nothing written.
+fn fail_with(alloc: Global, most: usize, reads: usize, end: End) -> bool {
     let failed = Ended::Read(kind_of(end));
     let mut sink = Sink::new(alloc, 1_000);
-    let mut source = Broken::new(text.as_bytes(), most, reads, end);
+    let mut source = Source::broken(CHILD_WITH_CERT.as_bytes(), most, reads, end);
     let run_end = ending_of(alloc, &mut source, &mut sink);
-    let mut source = Broken::new(text.as_bytes(), most, reads, end);
+    let mut source = Source::broken(CHILD_WITH_CERT.as_bytes(), most, reads, end);
     let check_end = check_ending_of(alloc, &mut source, &mut sink);
-    (run_end, check_end) == (failed, failed) && sink.taken().is_empty()
+    run_end == failed && check_end == failed && sink.taken().is_empty()
 }
 
 #[test]
-fn a_read_that_fails_leaves_nothing_written(rt: HostRuntime) -> Result<(), Fail> {
-    let mut text = text_of(rt.alloc(), CHILD)?;
-    text.push_str("lpcert 1\nwaiting 2 2 8\n")?;
-    for reads in 0..=text.len() {
-        for end in [End::Fails, End::FailsOnce, End::Interrupted] {
-            assert!(rt; fail_with(rt.alloc(), text.as_str(), 1, reads, end));
-        }
+fn a_read_that_fails_leaves_nothing_written(rt: HostRuntime) {
+    let alloc = rt.alloc();
+    for reads in 0..=CHILD_WITH_CERT.len() {
+        assert!(rt; fail_with(alloc, 1, reads, End::Fails));
+        assert!(rt; fail_with(alloc, 1, reads, End::FailsOnce));
+        assert!(rt; fail_with(alloc, 1, reads, End::Interrupted));
     }
-    assert!(rt; fail_with(rt.alloc(), text.as_str(), 7, 9, End::Fails));
-    Ok(())
+    assert!(rt; fail_with(alloc, 7, 9, End::Fails));
 }
 
-/// Whether a run fails as its reader does, once, after so many reads of a byte, and leaves it then.
-fn is_left(alloc: Global, text: &str, reads: usize) -> bool {
-    let mut source = Broken::new(text.as_bytes(), 1, reads, End::FailsOnce);
+/// Whether a run of the child's trace fails as its reader does, once, after so many reads of a byte,
+/// and leaves it then.
+fn is_left(alloc: Global, reads: usize) -> bool {
+    let mut source = Source::broken(CHILD.as_bytes(), 1, reads, End::FailsOnce);
     let mut sink = Sink::new(alloc, 1_000);
     let ended = ending_of(alloc, &mut source, &mut sink);
     ended == Ended::Read(ErrorKind::BrokenPipe) && source.is_left()
 }
 
 #[test]
-fn a_reader_that_failed_is_not_read_again(rt: HostRuntime) -> Result<(), Fail> {
-    let text = text_of(rt.alloc(), CHILD)?;
-    for reads in 0..=text.len() {
-        assert!(rt; is_left(rt.alloc(), text.as_str(), reads), "{reads}");
+fn a_reader_that_failed_is_not_read_again(rt: HostRuntime) {
+    for reads in 0..=CHILD.len() {
+        assert!(rt; is_left(rt.alloc(), reads));
     }
-    Ok(())
 }
 
 /// A trace of no task.
@@ -144,14 +153,14 @@ const READS: [(usize, usize, usize); 4] = [(1, 32, 55), (2, 17, 28), (7, 6, 9), 
 
 /// Whether a run of it by reads of so many bytes, of which there are so many, has its report.
 fn is_run_by(alloc: Global, most: usize, reads: usize) -> bool {
-    let mut source = Broken::new(OF_NOBODY.as_bytes(), most, reads, End::Fails);
+    let mut source = Source::broken(OF_NOBODY.as_bytes(), most, reads, End::Fails);
     let mut sink = Sink::new(alloc, 1_000);
     ending_of(alloc, &mut source, &mut sink) == Ended::Whole && sink.taken() == REPORT.as_bytes()
 }
 
 /// Whether a check of it by reads of so many bytes, of which there are so many, has its answer.
 fn is_checked_by(alloc: Global, most: usize, reads: usize) -> bool {
-    let mut source = Broken::new(WITH_CERT.as_bytes(), most, reads, End::Fails);
+    let mut source = Source::broken(WITH_CERT.as_bytes(), most, reads, End::Fails);
     let mut sink = Sink::new(alloc, 1_000);
     check_ending_of(alloc, &mut source, &mut sink) == Ended::Whole
         && sink.taken() == b"refused C1\n".as_slice()
@@ -159,19 +168,25 @@ fn is_checked_by(alloc: Global, most: usize, reads: usize) -> bool {
 
 #[test]
 fn an_input_is_read_to_its_end_and_no_further(rt: HostRuntime) {
-    for (most, run_reads, check_reads) in READS {
-        assert!(rt; is_run_by(rt.alloc(), most, run_reads), "{most}");
-        assert!(rt; is_checked_by(rt.alloc(), most, check_reads), "{most}");
+    for (most, run_reads, check_reads) in &READS {
+        assert!(rt; is_run_by(rt.alloc(), *most, *run_reads));
+        assert!(rt; is_checked_by(rt.alloc(), *most, *check_reads));
     }
+}
+
+/// Whether a run and a check read slices whole.
+fn are_read_whole(alloc: Global) -> bool {
+    let (mut trace, mut all) = (OF_NOBODY.as_bytes(), WITH_CERT.as_bytes());
+    let mut sink = Sink::new(alloc, 1_000);
+    ending_of(alloc, &mut trace, &mut sink) == Ended::Whole
+        && check_ending_of(alloc, &mut all, &mut sink) == Ended::Whole
+        && trace.is_empty()
+        && all.is_empty()
 }
 
 #[test]
 fn a_slice_is_read_whole(rt: HostRuntime) {
-    let (mut trace, mut all) = (OF_NOBODY.as_bytes(), WITH_CERT.as_bytes());
-    let mut sink = Sink::new(rt.alloc(), 1_000);
-    assert!(rt; ending_of(rt.alloc(), &mut trace, &mut sink) == Ended::Whole);
-    assert!(rt; check_ending_of(rt.alloc(), &mut all, &mut sink) == Ended::Whole);
-    assert!(rt; trace.is_empty() && all.is_empty());
+    assert!(rt; are_read_whole(rt.alloc()));
 }
 
 /// How the check of so many zeros ended, and how many are left then.
@@ -201,7 +216,7 @@ fn a_reader_without_end_is_given_up(rt: HostRuntime) {
 /// byte, and how much is written.
 fn end_of_no_trace(alloc: Global, reads: usize) -> (Ended, usize) {
     let mut sink = Sink::new(alloc, 1_000);
-    let mut source = Broken::new(b"no trace\nat all\n", 1, reads, End::Fails);
+    let mut source = Source::broken(b"no trace\nat all\n", 1, reads, End::Fails);
     let ended = ending_of(alloc, &mut source, &mut sink);
     (ended, sink.taken().len())
 }
@@ -221,90 +236,76 @@ const ENDS: [(End, Ended); 4] = [
     (End::Nothing, Ended::Stopped),
 ];
 
-/// Whether a report stops after so many bytes where its writer ends in this way.
-fn has_a_front(
-    alloc: Global,
-    text: &str,
-    report: &[u8],
-    writes: usize,
-    ends: (End, Ended),
-) -> bool {
-    let mut source = Source::new(text.as_bytes(), 1_000);
-    let mut sink = Full::new(alloc, writes, ends.0);
+/// Whether the child's report stops after so many bytes where its writer ends in this way.
+fn has_a_front(alloc: Global, writes: usize, ends: (End, Ended)) -> bool {
+    let mut source = Source::new(CHILD.as_bytes(), 1_000);
+    let mut sink = Sink::full(alloc, 1, writes, ends.0);
     let ended = ending_of(alloc, &mut source, &mut sink);
-    ended == ends.1 && sink.taken().len() == writes && report.starts_with(sink.taken())
+    let taken = sink.taken();
+    ended == ends.1 && Some(taken) == CHILD_REPORT.as_bytes().get(..writes)
+}
+
+#[test]
+fn a_writer_that_ends_has_a_front(rt: HostRuntime) {
+    for writes in 0..CHILD_REPORT.len() {
+        assert!(rt; has_a_front(rt.alloc(), writes, ENDS[writes % 4]));
+    }
+}
+
+/// Whether a run of the trace of no task has its report, by writes of at most so many bytes.
+fn is_written_by(alloc: Global, most: usize) -> bool {
+    let mut source = OF_NOBODY.as_bytes();
+    let mut sink = Sink::new(alloc, most);
+    ending_of(alloc, &mut source, &mut sink) == Ended::Whole && sink.taken() == REPORT.as_bytes()
 }
 
 #[test]
 fn a_short_write_is_no_fault(rt: HostRuntime) {
-    for most in [1, 2, 7] {
-        let mut source = OF_NOBODY.as_bytes();
-        let mut sink = Sink::new(rt.alloc(), most);
-        assert!(rt;
-            ending_of(rt.alloc(), &mut source, &mut sink) == Ended::Whole,
-            "{most}"
-        );
-        assert!(rt; sink.taken() == REPORT.as_bytes(), "{most}");
-    }
-}
-
-/// The report of a text.
-fn report_of(alloc: Global, text: &str) -> Result<Vec<u8>, Fail> {
-    let mut sink = Sink::new(alloc, 1_000);
-    run(
-        alloc,
-        "hybrid",
-        Hybrid,
-        &mut Counted::new(Source::new(text.as_bytes(), 1)),
-        &mut Counted::new(&mut sink),
-    )?;
-    Ok(sink.into_taken())
-}
-
-#[test]
-fn a_writer_that_ends_has_a_front(rt: HostRuntime) -> Result<(), Fail> {
-    let text = text_of(rt.alloc(), CHILD)?;
-    let report = report_of(rt.alloc(), text.as_str())?;
-    assert!(rt; !report.is_empty());
-    for writes in 0..report.len() {
-        let ends = ENDS[writes % 4];
-        assert!(rt; has_a_front(rt.alloc(), text.as_str(), report.as_slice(), writes, ends));
-    }
-    Ok(())
+    assert!(rt; is_written_by(rt.alloc(), 1));
+    assert!(rt; is_written_by(rt.alloc(), 2));
+    assert!(rt; is_written_by(rt.alloc(), 7));
 }
 
 /// Two frames of the patch, one after the other, and a certificate of one.
 const TWICE: &str =
-    "boot 1 normal / enter 1 / call 1 a / sleep 1 / enable / walk / wake 1 / ret 1 / call 1 a / sleep 1 / walk / lpcert 1 / waiting 4 1 10 / hold 1 1 2 5 10";
+    "lptrace 1\nsym a\nsym b\nsym c\npatch a\nboot 1 normal\nenter 1\ncall 1 a\nsleep 1\nenable\nwalk\nwake 1\nret 1\ncall 1 a\nsleep 1\nwalk\nlpcert 1\nwaiting 4 1 10\nhold 1 1 2 5 10\n";
 
 /// Whether the answer stops after so many bytes, where the writer ends in this way.
-fn answer_has_a_front(alloc: Global, text: &str, writes: usize, ends: (End, Ended)) -> bool {
-    let mut source = Source::new(text.as_bytes(), 1_000);
-    let mut sink = Full::new(alloc, writes, ends.0);
+fn answer_has_a_front(alloc: Global, writes: usize, ends: (End, Ended)) -> bool {
+    let mut source = Source::new(TWICE.as_bytes(), 1_000);
+    let mut sink = Sink::full(alloc, 1, writes, ends.0);
     let ended = check_ending_of(alloc, &mut source, &mut sink);
     ended == ends.1 && Some(sink.taken()) == b"refused C2 7\n".get(..writes)
 }
 
 #[test]
-fn an_answers_writer_that_ends_has_a_front(rt: HostRuntime) -> Result<(), Fail> {
-    let text = text_of(rt.alloc(), TWICE)?;
+fn an_answers_writer_that_ends_has_a_front(rt: HostRuntime) {
     for writes in 0..13 {
-        for ends in ENDS {
-            assert!(rt; answer_has_a_front(rt.alloc(), text.as_str(), writes, ends));
+        for ends in &ENDS {
+            assert!(rt; answer_has_a_front(rt.alloc(), writes, *ends));
         }
     }
-    Ok(())
+}
+
+/// Whether a fault has this text.
+fn is_told_as(alloc: Global, fault: &RunFault, text: &str) -> bool {
+    match format!(in alloc; "{fault}") {
+        Ok(told) => told.as_str() == text,
+        Err(_) => false,
+    }
+}
+
+/// Whether the fault of a text that is no trace has its own.
+fn has_a_text(alloc: Global) -> bool {
+    let mut source = Counted::new(Source::new(b"lptrace 1\nfoo\n", 1_000));
+    let mut sink = Counted::new(Sink::new(alloc, 1_000));
+    match run(alloc, "hybrid", Hybrid, &mut source, &mut sink) {
+        Ok(()) => false,
+        Err(fault) => is_told_as(alloc, &fault, "line 2: L3"),
+    }
 }
 
 #[test]
-fn a_fault_has_a_text(rt: HostRuntime) -> Result<(), Fail> {
-    let sink = Sink::new(rt.alloc(), 1_000);
-    let source = Source::new(b"lptrace 1\nfoo\n", 1_000);
-    let (mut source, mut sink) = (Counted::new(source), Counted::new(sink));
-    let fault = run(rt.alloc(), "hybrid", Hybrid, &mut source, &mut sink)
-        .err()
-        .ok_or("that is no trace")?;
-    let text = format!(in rt.alloc(); "{fault}")?;
-    assert!(rt; text.as_str() == "line 2: L3");
-    Ok(())
+fn a_fault_has_a_text(rt: HostRuntime) {
+    assert!(rt; has_a_text(rt.alloc()));
 }

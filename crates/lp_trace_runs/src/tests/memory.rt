@@ -2,7 +2,7 @@
 //!
 //! `scripts/refuse-memory` runs these tests with each allocation refused in turn.
 use super::*;
-use lp_replay::{Outcome, ReplayFault, replay};
+use lp_replay::ReplayFault;
 use lp_text::ReadFault;
 use std::test::*;
 
@@ -27,34 +27,27 @@ fn checked(alloc: Global, text: &str, room: &mut [u8]) -> (Result<bool, RunFault
     (answer, rest.len())
 }
 
+/// Whether the check of a text has this answer and writes this line, with so many bytes of the room
+/// left. Where an allocation fails, nothing is written, and the same call has it.
+fn is_checked_again(alloc: Global, text: &str, accepted: bool, line: &str, left: usize) -> bool {
+    let mut room = [0; 20];
+    let (answer, rest) = match checked(alloc, text, &mut room) {
+        (Err(RunFault::NoMemory), 20) => checked(alloc, text, &mut room),
+        given => given,
+    };
+    let as_wanted = matches!(answer, Ok(given) if given == accepted);
+    as_wanted && rest == left && room.starts_with(line.as_bytes())
+}
+
 #[test]
-fn a_certificate_is_checked_after_a_failed_allocation(rt: HostRuntime) -> Result<(), Fail> {
-    let alloc = rt.alloc();
-    for (text, accepted, line, left) in [
-        (ACCEPTED, true, "accepted\n", 11),
-        (REFUSED, false, "refused C4 3\n", 7),
-    ] {
-        let mut room = [0; 20];
-        let (answer, rest) = match checked(alloc, text, &mut room) {
-            (Err(RunFault::NoMemory), rest) => {
-                assert!(rt; rest == 20);
-                checked(alloc, text, &mut room)
-            }
-            given => given,
-        };
-        assert!(rt; (answer?, rest) == (accepted, left));
-        assert!(rt; room.starts_with(line.as_bytes()));
-    }
-    Ok(())
+fn a_certificate_is_checked_after_a_failed_allocation(rt: HostRuntime) {
+    assert!(rt; is_checked_again(rt.alloc(), ACCEPTED, true, "accepted\n", 11));
+    assert!(rt; is_checked_again(rt.alloc(), REFUSED, false, "refused C4 3\n", 7));
 }
 
 /// The child's trace.
 const TRACE: &str =
     "lptrace 1\nsym a\npatch a\nboot 1 normal\nenter 1\nenable\nwalk\nfork 1 2 own\nexit 1\ncall 2 a\nsleep 2\nwalk\n";
-
-/// Its report.
-const REPORT: &str =
-    "lpreport 1\nmodel hybrid\n1 done\n2 done\n3 done\n4 done\n5 over 1\n6 ran old\n7 done\n8 done\nleg 2 new waiting 1\nwaiting 2 2 8\nbusy 1 1 3\nborn 2 1 4\nhold 2 2 6 8 8\nstays 1 mixed 0\n";
 
 /// The end of a run of the trace, and how many bytes of the room it has left.
 fn ran(alloc: Global, room: &mut [u8]) -> (Result<(), RunFault>, usize) {
@@ -70,46 +63,79 @@ fn ran(alloc: Global, room: &mut [u8]) -> (Result<(), RunFault>, usize) {
     (answer, rest.len())
 }
 
-#[test]
-fn a_trace_is_run_after_a_failed_allocation(rt: HostRuntime) -> Result<(), Fail> {
-    let alloc = rt.alloc();
+/// Whether the trace's report is written. Where an allocation fails, nothing is, and the same call
+/// writes it.
+fn is_run_again(alloc: Global) -> bool {
     let mut room = [0; 200];
     let (answer, rest) = match ran(alloc, &mut room) {
-        (Err(RunFault::NoMemory), rest) => {
-            assert!(rt; rest == 200);
-            ran(alloc, &mut room)
-        }
+        (Err(RunFault::NoMemory), 200) => ran(alloc, &mut room),
         given => given,
     };
-    answer?;
-    assert!(rt; rest == 200 - REPORT.len());
-    assert!(rt; room.starts_with(REPORT.as_bytes()));
-    Ok(())
+    let report = CHILD_REPORT.as_bytes();
+    answer.is_ok() && rest == 200 - CHILD_REPORT.len() && room.starts_with(report)
+}
+
+#[test]
+fn a_trace_is_run_after_a_failed_allocation(rt: HostRuntime) {
+    assert!(rt; is_run_again(rt.alloc()));
 }
 
 /// The trace, read; in a box, as what comes of it.
 fn read_trace(alloc: Global) -> Result<Box<Trace>, ReadFault> {
     let trace = Trace::read(alloc, TRACE.as_bytes())?;
-    Box::new(alloc, trace).map_err(|_| ReadFault::NoMemory)
+    match Box::new(alloc, trace) {
+        Ok(trace) => Ok(trace),
+        Err(_) => Err(ReadFault::NoMemory),
+    }
+}
+
+/// The same, read again where an allocation fails.
+fn read_again(alloc: Global) -> Result<Box<Trace>, ReadFault> {
+    match read_trace(alloc) {
+        Err(ReadFault::NoMemory) => read_trace(alloc),
+        given => given,
+    }
 }
 
 fn replayed(alloc: Global, trace: &Trace) -> Result<Box<Outcome>, ReplayFault> {
     let outcome = replay(alloc, Hybrid, trace)?;
-    Box::new(alloc, outcome).map_err(|_| ReplayFault::NoMemory)
+    match Box::new(alloc, outcome) {
+        Ok(outcome) => Ok(outcome),
+        Err(_) => Err(ReplayFault::NoMemory),
+    }
+}
+
+/// What comes of it, replayed again where an allocation fails.
+fn replayed_again(alloc: Global, trace: &Trace) -> Result<Box<Outcome>, ReplayFault> {
+    match replayed(alloc, trace) {
+        Err(ReplayFault::NoMemory) => replayed(alloc, trace),
+        given => given,
+    }
+}
+
+/// Whether that is what comes of the child's trace.
+fn is_the_childs(outcome: &Outcome) -> bool {
+    let legs = outcome.legs.as_slice().len();
+    (outcome.replies.len(), legs, outcome.stays, outcome.mixed) == (8, 1, 1, 0)
+}
+
+/// Whether a trace comes to it.
+fn comes_to_the_childs(alloc: Global, trace: &Trace) -> bool {
+    match replayed_again(alloc, trace) {
+        Ok(outcome) => is_the_childs(&outcome),
+        Err(_) => false,
+    }
+}
+
+/// Whether the child's does, each call made again where an allocation fails.
+fn is_replayed_again(alloc: Global) -> bool {
+    match read_again(alloc) {
+        Ok(trace) => comes_to_the_childs(alloc, &trace),
+        Err(_) => false,
+    }
 }
 
 #[test]
-fn a_trace_is_replayed_after_a_failed_allocation(rt: HostRuntime) -> Result<(), Fail> {
-    let alloc = rt.alloc();
-    let trace = match read_trace(alloc) {
-        Err(ReadFault::NoMemory) => read_trace(alloc)?,
-        given => given?,
-    };
-    let outcome = match replayed(alloc, &trace) {
-        Err(ReplayFault::NoMemory) => replayed(alloc, &trace)?,
-        given => given?,
-    };
-    let legs = outcome.legs.as_slice().len();
-    assert!(rt; (outcome.replies.len(), legs, outcome.stays, outcome.mixed) == (8, 1, 1, 0));
-    Ok(())
+fn a_trace_is_replayed_after_a_failed_allocation(rt: HostRuntime) {
+    assert!(rt; is_replayed_again(rt.alloc()));
 }

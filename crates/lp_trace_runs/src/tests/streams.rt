@@ -1,68 +1,8 @@
-//! Readers and writers in memory: such as give and take so many bytes at a time, and such as fail or have no end.
+//! A reader and a writer in memory: such as give and take so many bytes at a time, and such as fail or have no end.
 ghost use Rattle.std.specs.Prelude.{◌≡◌, IfOk};
 
 use super::*;
 use std::io::{self, ErrorKind, Read, Write};
-
-/// Gives its bytes, at most so many a read.
-#[derive(Drop)]
-pub(super) struct Source<'a> {
-    rest: &'a [u8],
-    most: usize,
-}
-
-impl<'a> Source<'a> {
-    pub(super) fn new(bytes: &'a [u8], most: usize) -> Source<'a> {
-        Source { rest: bytes, most }
-    }
-}
-
-impl<'a> Read for Source<'a> {
-    fn read(&mut self, buf: &mut [u8]) -> io::Result<usize> {
-        let count = self.rest.len().min(buf.len()).min(self.most);
-        buf[..count].copy_from_slice(&self.rest[..count]);
-        self.rest = &self.rest[count..];
-        Ok(count)
-    }
-}
-
-/// Keeps what it takes, at most so much a write.
-#[derive(Drop)]
-pub(super) struct Sink {
-    taken: Vec<u8>,
-    most: usize,
-}
-
-impl Sink {
-    pub(super) fn new(alloc: Global, most: usize) -> Sink {
-        Sink {
-            taken: Vec::new(alloc),
-            most,
-        }
-    }
-
-    pub(super) fn taken(&self) -> &[u8] {
-        self.taken.as_slice()
-    }
-
-    /// What it took.
-    pub(super) fn into_taken(self) -> Vec<u8> {
-        let Sink { taken, .. } = self;
-        taken
-    }
-}
-
-impl Write for Sink {
-    fn write(&mut self, buf: &[u8]) -> io::Result<usize> {
-        let count = buf.len().min(self.most);
-        self.taken.extend_from_slice(&buf[..count])?;
-        Ok(count)
-    }
-
-    fn flush(&mut self) -> io::Result<()> {
-        Ok(())
-    }
-}
 
 /// How a stream ends.
 #[derive(Clone, Copy)]
@@ -99,16 +39,24 @@ impl End {
 
 /// Gives its bytes, at most so many a read, for some reads, and then ends.
 #[derive(Drop)]
-pub(super) struct Broken<'a> {
-    source: Source<'a>,
+pub(super) struct Source<'a> {
+    rest: &'a [u8],
+    most: usize,
     reads: usize,
     end: End,
 }
 
-impl<'a> Broken<'a> {
-    pub(super) fn new(bytes: &'a [u8], most: usize, reads: usize, end: End) -> Broken<'a> {
-        Broken {
-            source: Source::new(bytes, most),
+impl<'a> Source<'a> {
+    /// One that gives all its bytes.
+    pub(super) fn new(bytes: &'a [u8], most: usize) -> Source<'a> {
+        Source::broken(bytes, most, usize::MAX, End::Nothing)
+    }
+
+    /// One that ends after so many reads.
+    pub(super) fn broken(bytes: &'a [u8], most: usize, reads: usize, end: End) -> Source<'a> {
+        Source {
+            rest: bytes,
+            most,
             reads,
             end,
         }
@@ -120,14 +68,17 @@ impl<'a> Broken<'a> {
     }
 }
 
-impl<'a> Read for Broken<'a> {
+impl<'a> Read for Source<'a> {
     fn read(&mut self, buf: &mut [u8]) -> io::Result<usize> {
         if self.reads == 0 {
             self.reads = self.end.further();
             return self.end.answer();
         }
         self.reads -= 1;
-        self.source.read(buf)
+        let count = self.rest.len().min(buf.len()).min(self.most);
+        buf[..count].copy_from_slice(&self.rest[..count]);
+        self.rest = &self.rest[count..];
+        Ok(count)
     }
 }
 
@@ -150,18 +101,26 @@ impl Read for Zeros {
     }
 }
 
-/// Keeps what it takes, a byte a write, for some writes, and then ends.
+/// Keeps what it takes, at most so much a write, for some writes, and then ends.
 #[derive(Drop)]
-pub(super) struct Full {
-    sink: Sink,
+pub(super) struct Sink {
+    taken: Vec<u8>,
+    most: usize,
     writes: usize,
     end: End,
 }
 
-impl Full {
-    pub(super) fn new(alloc: Global, writes: usize, end: End) -> Full {
-        Full {
-            sink: Sink::new(alloc, 1),
+impl Sink {
+    /// One that takes everything.
+    pub(super) fn new(alloc: Global, most: usize) -> Sink {
+        Sink::full(alloc, most, usize::MAX, End::Nothing)
+    }
+
+    /// One that ends after so many writes.
+    pub(super) fn full(alloc: Global, most: usize, writes: usize, end: End) -> Sink {
+        Sink {
+            taken: Vec::new(alloc),
+            most,
             writes,
             end,
         }
@@ -169,18 +128,20 @@ impl Full {
 
     /// What it took.
     pub(super) fn taken(&self) -> &[u8] {
-        self.sink.taken()
+        self.taken.as_slice()
     }
 }
 
-impl Write for Full {
+impl Write for Sink {
     fn write(&mut self, buf: &[u8]) -> io::Result<usize> {
         if self.writes == 0 {
             self.writes = self.end.further();
             return self.end.answer();
         }
         self.writes -= 1;
-        self.sink.write(buf)
+        let count = buf.len().min(self.most);
+        self.taken.extend_from_slice(&buf[..count])?;
+        Ok(count)
     }
 
     fn flush(&mut self) -> io::Result<()> {

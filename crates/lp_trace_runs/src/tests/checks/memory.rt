@@ -4,7 +4,6 @@
 use super::*;
 use crate::tests::again::booted_again;
 use lp_model::ForkKind;
-use lp_transition::Halt;
 
 /// The events up to the opening of a leg, and those of the leg, in which a task that waits forks and
 /// switches; its child doesn't.
@@ -20,7 +19,7 @@ const AFTER: [Event; 6] = [
 ];
 
 /// Gives these events to an engine, each again where an allocation fails.
-fn give_again(alloc: Global, core: &mut Core<Hybrid>, events: &[Event]) -> Result<(), Fail> {
+fn give_again(alloc: Global, core: &mut Core<Hybrid>, events: &[Event]) -> Result<(), Halt> {
     for event in events {
         match core.step(alloc, *event) {
             Err(Halt::NoMemory) => core.step(alloc, *event)?,
@@ -30,18 +29,20 @@ fn give_again(alloc: Global, core: &mut Core<Hybrid>, events: &[Event]) -> Resul
     Ok(())
 }
 
-/// The opening of an engine's leg.
-fn standing(alloc: Global, core: &Core<Hybrid>) -> Result<Box<Opening>, AllocError> {
-    Ok(Box::new(alloc, core.standing(alloc)?)?)
+/// The opening of the leg that `BEFORE` opens, each call made again where an allocation fails.
+fn opening_again(alloc: Global, core: &mut Core<Hybrid>) -> Result<Box<Opening>, Halt> {
+    give_again(alloc, core, &BEFORE)?;
+    match standing(alloc, core) {
+        Ok(opening) => Ok(opening),
+        Err(_) => Ok(standing(alloc, core)?),
+    }
 }
 
-/// The opening of the leg of a child that waits, each call made again where an allocation fails.
-fn opened_again(alloc: Global) -> Result<Box<Opening>, Fail> {
-    let mut core = booted_again(alloc)?;
-    give_again(alloc, &mut core, &BEFORE)?;
-    match standing(alloc, &core) {
-        Ok(opening) => Ok(opening),
-        Err(_) => Ok(standing(alloc, &core)?),
+/// The same, of an engine of one task.
+fn opened_again(alloc: Global) -> Option<Box<Opening>> {
+    match booted_again(alloc) {
+        Some(mut core) => opening_again(alloc, &mut core).ok(),
+        None => None,
     }
 }
 
@@ -72,43 +73,46 @@ const WRONG: Judged = Judged(
 );
 
 /// A certificate, made again where an allocation fails.
-fn cert_again(alloc: Global, claim: Claim, judged: &Judged) -> Result<Cert, Fail> {
+fn cert_again(alloc: Global, claim: Claim, judged: &Judged) -> Result<Cert, AllocError> {
     match judged.cert(alloc, claim) {
-        Ok(cert) => Ok(cert),
-        Err(_) => Ok(judged.cert(alloc, claim)?),
+        Err(_) => judged.cert(alloc, claim),
+        made => made,
+    }
+}
+
+/// What the check answers to a certificate, asked again where an allocation fails.
+fn answer_again(alloc: Global, opening: &Opening, cert: &Cert) -> Result<(), CertFault> {
+    match answer_to(alloc, Hybrid, opening, &AFTER, cert) {
+        Err(CertFault::NoMemory) => answer_to(alloc, Hybrid, opening, &AFTER, cert),
+        answer => answer,
     }
 }
 
 /// Whether a certificate of the child has its answer, each call made again where an allocation fails.
-fn is_answered(
-    alloc: Global,
-    opening: &Opening,
-    claim: Claim,
-    judged: &Judged,
-) -> Result<bool, Fail> {
-    let cert = cert_again(alloc, claim, judged)?;
-    let answer = match answer_to(alloc, Hybrid, opening, &AFTER, &cert) {
-        Err(CertFault::NoMemory) => answer_to(alloc, Hybrid, opening, &AFTER, &cert),
-        answer => answer,
-    };
-    Ok(answer == judged.answer())
+fn is_answered(alloc: Global, opening: &Opening, claim: Claim, judged: &Judged) -> bool {
+    match cert_again(alloc, claim, judged) {
+        Ok(cert) => answer_again(alloc, opening, &cert) == judged.answer(),
+        Err(_) => false,
+    }
 }
 
 /// Whether both have it with each claim.
-fn are_answered(alloc: Global) -> Result<bool, Fail> {
-    let opening = opened_again(alloc)?;
-    for claim in [Claim::Waiting, Claim::Floor] {
-        if !is_answered(alloc, &opening, claim, &WHOLE)?
-            || !is_answered(alloc, &opening, claim, &WRONG)?
-        {
-            return Ok(false);
-        }
+fn are_answered(alloc: Global, opening: &Opening) -> bool {
+    is_answered(alloc, opening, Claim::Waiting, &WHOLE)
+        && is_answered(alloc, opening, Claim::Waiting, &WRONG)
+        && is_answered(alloc, opening, Claim::Floor, &WHOLE)
+        && is_answered(alloc, opening, Claim::Floor, &WRONG)
+}
+
+/// Whether they have in the child's leg.
+fn are_answered_again(alloc: Global) -> bool {
+    match opened_again(alloc) {
+        Some(opening) => are_answered(alloc, &opening),
+        None => false,
     }
-    Ok(true)
 }
 
 #[test]
-fn certificates_are_judged_after_a_failed_allocation(rt: HostRuntime) -> Result<(), Fail> {
-    assert!(rt; are_answered(rt.alloc())?);
-    Ok(())
+fn certificates_are_judged_after_a_failed_allocation(rt: HostRuntime) {
+    assert!(rt; are_answered_again(rt.alloc()));
 }

@@ -1,13 +1,11 @@
 //! The certificates of three legs, as a maker gives them, and as an outcome has them.
 use super::*;
-use lp_cert::{CertList, LegEnd, Maker};
-use std::alloc::AllocError;
 
-/// Of each leg when it opened, its target, and when it was complete.
-const LEGS: [(u64, Level, Option<u64>); 3] = [
-    (2, Level(1), None),
-    (9, Level(0), Some(12)),
-    (13, Level(1), None),
+/// Each leg.
+const LEGS: [Seen; 3] = [
+    (2, Level(1), None, 1),
+    (9, Level(0), Some(12), 1),
+    (13, Level(1), None, 2),
 ];
 
 /// The certificates of these legs, each with how many lines it has.
@@ -36,36 +34,55 @@ pub(super) fn lines() -> [Line; 7] {
 /// What a maker gives of its legs.
 #[derive(PartialEq, Eq, Drop)]
 pub(super) struct Given {
-    legs: Vec<(u64, Level, Option<u64>)>,
+    legs: Vec<Seen>,
     heads: Vec<(CertHead, usize)>,
     lines: Vec<Line>,
 }
 
 impl Given {
-    /// Nothing yet.
-    fn new(alloc: Global) -> Given {
-        Given {
+    /// Nothing yet, in a box.
+    fn new(alloc: Global) -> Result<Box<Given>, AllocError> {
+        let given = Given {
             legs: Vec::new(alloc),
             heads: Vec::new(alloc),
             lines: Vec::new(alloc),
-        }
+        };
+        Ok(Box::new(alloc, given)?)
     }
 
     /// One leg more.
     fn add(&mut self, alloc: Global, end: &LegEnd) -> Result<(), AllocError> {
-        self.legs.push((end.opened, end.target, end.completed))?;
-        self.add_certs(alloc, &end.certs)
-    }
-
-    /// The certificates of a leg.
-    fn add_certs(&mut self, alloc: Global, certs: &CertList) -> Result<(), AllocError> {
-        for place in 0..certs.len() {
-            if let Some(cert) = certs.cert(alloc, place)? {
-                self.heads.push((certs.head(place), cert.lines.len()))?;
-                self.lines.extend_from_slice(cert.lines.as_slice())?;
+        self.legs.push(seen_of(end))?;
+        for place in 0..end.certs.len() {
+            let head = end.certs.head(place);
+            if let Some(cert) = end.certs.cert(alloc, place)? {
+                self.add_cert(head, &cert)?;
             }
         }
         Ok(())
+    }
+
+    /// One certificate more.
+    fn add_cert(&mut self, head: CertHead, cert: &Cert) -> Result<(), AllocError> {
+        self.heads.push((head, cert.lines.len()))?;
+        self.lines.extend_from_slice(cert.lines.as_slice())?;
+        Ok(())
+    }
+
+    /// The legs that ended.
+    fn add_all(&mut self, alloc: Global, ends: &[LegEnd]) -> Result<(), AllocError> {
+        for end in ends {
+            self.add(alloc, end)?;
+        }
+        Ok(())
+    }
+
+    /// The leg under way.
+    fn add_current(&mut self, alloc: Global, maker: &Maker) -> Result<(), AllocError> {
+        match maker.current(alloc)? {
+            Some(end) => self.add(alloc, &end),
+            None => Ok(()),
+        }
     }
 
     /// Whether it is what the definitions give.
@@ -77,22 +94,16 @@ impl Given {
 }
 
 /// What a maker gives of the legs that ended, and of the one under way.
-pub(super) fn given_by(alloc: Global, maker: &Maker) -> Result<Given, AllocError> {
-    let mut given = Given::new(alloc);
-    for end in maker.ended() {
-        given.add(alloc, end)?;
-    }
-    if let Some(end) = maker.current(alloc)? {
-        given.add(alloc, &end)?;
-    }
+pub(super) fn given_by(alloc: Global, maker: &Maker) -> Result<Box<Given>, AllocError> {
+    let mut given = Given::new(alloc)?;
+    given.add_all(alloc, maker.ended())?;
+    given.add_current(alloc, maker)?;
     Ok(given)
 }
 
 /// The same of legs that were given up.
-pub(super) fn given_in(alloc: Global, ends: &[LegEnd]) -> Result<Given, AllocError> {
-    let mut given = Given::new(alloc);
-    for end in ends {
-        given.add(alloc, end)?;
-    }
+pub(super) fn given_in(alloc: Global, ends: &[LegEnd]) -> Result<Box<Given>, AllocError> {
+    let mut given = Given::new(alloc)?;
+    given.add_all(alloc, ends)?;
     Ok(given)
 }

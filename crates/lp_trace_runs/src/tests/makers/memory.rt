@@ -1,10 +1,15 @@
 //! An allocation that fails: the certificates stay the same, and the same call succeeds after it.
 //!
 //! `scripts/refuse-memory` runs these tests with each allocation refused in turn.
+ghost use Rattle.std.specs.Prelude.{IfOk};
+ghost use Rattle.lp_model.specs.Row.{rules_of};
+ghost use Rattle.lp_models.specs.Models.{hybrid};
+ghost use Rattle.lp_transition.specs.Weigh.{IsWeighed};
+
+use super::given::Given;
 use super::*;
 use crate::tests::again::booted_again;
 use lp_model::ForkKind;
-use lp_transition::Halt;
 use std::process::Abort;
 use std::test::*;
 
@@ -32,6 +37,32 @@ const EVENTS: [Event; 15] = [
     Event::Walk,
 ];
 
+/// What a maker gives, asked again where an allocation fails.
+fn given_again(alloc: Global, maker: &Maker) -> Result<Box<Given>, AllocError> {
+    match given_by(alloc, maker) {
+        Err(_) => given_by(alloc, maker),
+        given => given,
+    }
+}
+
+/// Whether a maker still gives this.
+fn still_gives(alloc: Global, maker: &Maker, before: &Given) -> bool {
+    match given_by(alloc, maker) {
+        Ok(given) => *given == *before,
+        Err(_) => false,
+    }
+}
+
+/// An event, weighed again where an allocation fails.
+fn weighed_again(alloc: Global, core: &Core<Hybrid>, event: Event) -> Result<Step, Halt>
+    ensures { IfOk result (λ step. IsWeighed (rules_of hybrid) core.now step) }
+{
+    match core.weigh_any(alloc, event) {
+        Err(Halt::NoMemory) => core.weigh_any(alloc, event),
+        answer => answer,
+    }
+}
+
 /// Engine and maker for one event. Where the maker gets no memory, the certificates are as they
 /// were, and the same call makes room.
 fn feed_again(
@@ -40,14 +71,11 @@ fn feed_again(
     core: &mut Core<Hybrid>,
     maker: &mut Maker,
     event: Event,
-) -> Result<(), Fail> {
-    let before = given_by(alloc, maker).or_else(|_| given_by(alloc, maker))?;
-    let step = match core.weigh_any(alloc, event) {
-        Err(Halt::NoMemory) => core.weigh_any(alloc, event)?,
-        answer => answer?,
-    };
+) -> Result<(), Halt> {
+    let before = given_again(alloc, maker)?;
+    let step = weighed_again(alloc, core, event)?;
     if let Err(_) = maker.ready(alloc, core, &step) {
-        assert!(rt; given_by(alloc, maker)? == before);
+        assert!(rt; still_gives(alloc, maker, &before));
         maker.ready(alloc, core, &step)?;
     }
     maker.note(core, &step);
@@ -55,94 +83,171 @@ fn feed_again(
     Ok(())
 }
 
-/// A maker that has seen no event.
-fn new_maker(alloc: Global) -> Result<Box<Maker>, AllocError> {
-    Ok(Box::new(alloc, Maker::new(alloc)?)?)
+/// Engine and maker for all events.
+fn feed_all_again(
+    rt: &impl Abort,
+    alloc: Global,
+    core: &mut Core<Hybrid>,
+    maker: &mut Maker,
+) -> Result<(), Halt> {
+    for event in &EVENTS {
+        feed_again(rt, alloc, core, maker, *event)?;
+    }
+    Ok(())
 }
 
-/// The maker after all events, each call made again where an allocation fails.
-fn made_again(rt: &impl Abort, alloc: Global) -> Result<Box<Maker>, Fail> {
-    let mut core = booted_again(alloc)?;
-    let mut maker = new_maker(alloc).or_else(|_| new_maker(alloc))?;
-    for event in EVENTS {
-        feed_again(rt, alloc, &mut core, &mut maker, event)?;
+/// A maker that has seen no event, made again where an allocation fails.
+fn new_maker_again(alloc: Global) -> Result<Box<Maker>, AllocError> {
+    match new_maker(alloc) {
+        Err(_) => new_maker(alloc),
+        made => made,
     }
+}
+
+/// The maker after all events of an engine, each call made again where an allocation fails.
+fn fed_again(rt: &impl Abort, alloc: Global, core: &mut Core<Hybrid>) -> Result<Box<Maker>, Halt> {
+    let mut maker = new_maker_again(alloc)?;
+    feed_all_again(rt, alloc, core, &mut maker)?;
     Ok(maker)
 }
 
+/// The same, of an engine of one task.
+fn made_again(rt: &impl Abort, alloc: Global) -> Option<Box<Maker>> {
+    match booted_again(alloc) {
+        Some(mut core) => fed_again(rt, alloc, &mut core).ok(),
+        None => None,
+    }
+}
+
 /// Whether a maker gives what the definitions give, asked again where an allocation fails.
-fn gives_worked(alloc: Global, maker: &Maker) -> Result<bool, Fail> {
-    let given = given_by(alloc, maker).or_else(|_| given_by(alloc, maker))?;
-    Ok(given.is_worked())
+fn gives_worked(alloc: Global, maker: &Maker) -> bool {
+    match given_again(alloc, maker) {
+        Ok(given) => given.is_worked(),
+        Err(_) => false,
+    }
 }
 
-#[test]
-fn certificates_are_made_after_a_failed_allocation(rt: HostRuntime) -> Result<(), Fail> {
-    let alloc = rt.alloc();
-    let maker = made_again(&rt, alloc)?;
-    assert!(rt; gives_worked(alloc, &maker)?);
-    Ok(())
+/// What a maker is asked, again where an allocation fails.
+#[derive(Clone, Copy)]
+enum Question {
+    /// All that it gives.
+    All,
+    /// The certificates of the groups that wait.
+    Waiting,
+    /// The floor.
+    Floor,
+    /// A copy of a certificate of a leg that ended.
+    Copied,
 }
 
-/// Whether a group waits with these reasons, asked again where an allocation fails.
-fn waits_with(alloc: Global, maker: &Maker, group: u16, lines: &[Line]) -> Result<bool, Fail> {
-    let group = GroupId(group);
-    let found = maker
-        .waiting(alloc, group)
-        .or_else(|_| maker.waiting(alloc, group))?;
-    Ok(is_cert(found, head(Claim::Waiting, 13, group.0, 15), lines))
+/// Whether a group waits with these reasons.
+fn waits_with(alloc: Global, maker: &Maker, group: u16, lines: &[Line]) -> bool {
+    let asked = match maker.waiting(alloc, GroupId(group)) {
+        Err(_) => maker.waiting(alloc, GroupId(group)),
+        asked => asked,
+    };
+    is_cert(asked, head(Claim::Waiting, 13, group, 15), lines)
 }
 
-#[test]
-fn certificates_are_asked_for_after_a_failed_allocation(rt: HostRuntime) -> Result<(), Fail> {
-    let alloc = rt.alloc();
-    let maker = made_again(&rt, alloc)?;
-    assert!(rt; waits_with(alloc, &maker, 1, &lines()[4..6])?);
-    assert!(rt; waits_with(alloc, &maker, 2, &lines()[6..])?);
-    assert!(rt; gives_worked(alloc, &maker)?);
-    Ok(())
+/// Whether the floor has these reasons.
+fn is_floor(alloc: Global, maker: &Maker, lines: &[Line]) -> bool {
+    let asked = match maker.floor(alloc) {
+        Err(_) => maker.floor(alloc),
+        asked => asked,
+    };
+    is_cert(asked, head(Claim::Floor, 13, 1, 15), lines)
 }
 
-#[test]
-fn a_floor_is_asked_for_after_a_failed_allocation(rt: HostRuntime) -> Result<(), Fail> {
-    let alloc = rt.alloc();
-    let maker = made_again(&rt, alloc)?;
-    let floor = maker.floor(alloc).or_else(|_| maker.floor(alloc))?;
-    assert!(rt; is_cert(floor, head(Claim::Floor, 13, 1, 15), &lines()[4..6]));
-    assert!(rt; gives_worked(alloc, &maker)?);
-    Ok(())
+/// Whether the first certificate of the first of two legs that ended is copied.
+fn is_copied(alloc: Global, ended: &[LegEnd]) -> bool {
+    match ended {
+        [end, _] => {
+            let asked = match end.certs.cert(alloc, 0) {
+                Err(_) => end.certs.cert(alloc, 0),
+                asked => asked,
+            };
+            is_cert(asked, heads()[0].0, &lines()[..3])
+        }
+        _ => false,
+    }
 }
 
-/// The legs' ends that a maker gives up.
-fn ends_of(rt: &impl Abort, alloc: Global) -> Result<Result<Vec<LegEnd>, AllocError>, Fail> {
-    let maker = made_again(rt, alloc)?;
-    Ok(Box::into_inner(maker).into_ends(alloc))
+/// Whether a maker has the right answer.
+fn has_answer(alloc: Global, maker: &Maker, question: Question) -> bool {
+    match question {
+        Question::All => true,
+        Question::Waiting => {
+            waits_with(alloc, maker, 1, &lines()[4..6])
+                && waits_with(alloc, maker, 2, &lines()[6..])
+        }
+        Question::Floor => is_floor(alloc, maker, &lines()[4..6]),
+        Question::Copied => is_copied(alloc, maker.ended()),
+    }
 }
 
-/// The same. The call that is refused has taken the maker, so it is made anew.
-fn ends_again(rt: &impl Abort, alloc: Global) -> Result<Vec<LegEnd>, Fail> {
-    match ends_of(rt, alloc)? {
-        Ok(ends) => Ok(ends),
-        Err(_) => Ok(ends_of(rt, alloc)??),
+/// Whether the maker after all events has, and then gives what the definitions give.
+fn answers_again(rt: &impl Abort, alloc: Global, question: Question) -> bool {
+    match made_again(rt, alloc) {
+        Some(maker) => has_answer(alloc, &maker, question) && gives_worked(alloc, &maker),
+        None => false,
     }
 }
 
 #[test]
-fn ends_are_given_up_after_a_failed_allocation(rt: HostRuntime) -> Result<(), Fail> {
-    let alloc = rt.alloc();
-    let ends = ends_again(&rt, alloc)?;
-    let given = given_in(alloc, ends.as_slice()).or_else(|_| given_in(alloc, ends.as_slice()))?;
-    assert!(rt; given.is_worked());
-    Ok(())
+fn certificates_are_made_after_a_failed_allocation(rt: HostRuntime) {
+    assert!(rt; answers_again(&rt, rt.alloc(), Question::All));
 }
 
 #[test]
-fn a_certificate_is_copied_after_a_failed_allocation(rt: HostRuntime) -> Result<(), Fail> {
-    let alloc = rt.alloc();
-    let maker = made_again(&rt, alloc)?;
-    assert!(rt; maker.ended().len() == 2);
-    let certs = &maker.ended()[0].certs;
-    let cert = certs.cert(alloc, 0).or_else(|_| certs.cert(alloc, 0))?;
-    assert!(rt; is_cert(cert, heads()[0].0, &lines()[..3]));
-    Ok(())
+fn certificates_are_asked_for_after_a_failed_allocation(rt: HostRuntime) {
+    assert!(rt; answers_again(&rt, rt.alloc(), Question::Waiting));
+}
+
+#[test]
+fn a_floor_is_asked_for_after_a_failed_allocation(rt: HostRuntime) {
+    assert!(rt; answers_again(&rt, rt.alloc(), Question::Floor));
+}
+
+#[test]
+fn a_certificate_is_copied_after_a_failed_allocation(rt: HostRuntime) {
+    assert!(rt; answers_again(&rt, rt.alloc(), Question::Copied));
+}
+
+/// The legs' ends that a maker gives up.
+fn ends_of(rt: &impl Abort, alloc: Global) -> Option<Result<Vec<LegEnd>, AllocError>> {
+    let maker = made_again(rt, alloc)?;
+    Some(Box::into_inner(maker).into_ends(alloc))
+}
+
+/// The same. The call that is refused has taken the maker, so it is made anew.
+fn ends_again(rt: &impl Abort, alloc: Global) -> Option<Vec<LegEnd>> {
+    match ends_of(rt, alloc)? {
+        Ok(ends) => Some(ends),
+        Err(_) => ends_of(rt, alloc)?.ok(),
+    }
+}
+
+/// Whether legs' ends are what the definitions give, asked again where an allocation fails.
+fn are_worked(alloc: Global, ends: &[LegEnd]) -> bool {
+    let given = match given_in(alloc, ends) {
+        Err(_) => given_in(alloc, ends),
+        given => given,
+    };
+    match given {
+        Ok(given) => given.is_worked(),
+        Err(_) => false,
+    }
+}
+
+/// Whether those are that a maker gives up.
+fn are_given_up(rt: &impl Abort, alloc: Global) -> bool {
+    match ends_again(rt, alloc) {
+        Some(ends) => are_worked(alloc, ends.as_slice()),
+        None => false,
+    }
+}
+
+#[test]
+fn ends_are_given_up_after_a_failed_allocation(rt: HostRuntime) {
+    assert!(rt; are_given_up(&rt, rt.alloc()));
 }
