@@ -12,19 +12,19 @@ mod threads;
 mod walks;
 
 use lp_board::{Blank, BoardReader, DeskName, Told};
-use lp_desk::{Commanded, Desk, Launched, Submitted};
-use lp_log::{Cause, Control, Seat, Turned};
+use lp_desk::{Commanded, Desk, Launched, Submitted, Unclosed};
+use lp_log::{Cause, Control, Journal, Seat, Turned};
 use lp_model::Consistency;
 use lp_models::Hybrid;
 use lp_patch::{PatchFault, PatchSet, PatchStack};
 use lp_scan::ScanGate;
 use lp_stack::{Class, TaskId};
-use lp_symbols::{SymFault, SymId, Symbols};
+use lp_symbols::{SymId, Symbols};
 use lp_transition::{Event, GroupList, Reply, What};
 use std::alloc::Global;
 use std::marker::Brand;
+use std::mem::replace;
 use std::sync::Wait;
-use std::test::Fail;
 use std::thread::Threads;
 
 const A: SymId = SymId(0);
@@ -49,6 +49,8 @@ enum Said {
     /// One group switches, and the transition is complete.
     SwitchedLast(u16),
     Refused(u8),
+    /// The event is turned back.
+    Turned(Cause),
     /// Anything else.
     Other,
 }
@@ -79,17 +81,18 @@ impl ScanGate for Open {
     fn pass(&self, _piece: usize) {}
 }
 
-/// The name `a`.
-fn name_a(alloc: Global) -> Result<Symbols, SymFault> {
-    let mut symbols = Symbols::new(alloc)?;
-    symbols.add("a")?;
-    Ok(symbols)
+/// A patch of the name `a` alone.
+fn patch_over(alloc: Global, symbols: &mut Symbols) -> Result<PatchSet, PatchFault> {
+    match symbols.add("a") {
+        Ok(a) => PatchSet::build(alloc, symbols, &[a]),
+        Err(_) => Err(PatchFault::NoMemory),
+    }
 }
 
 /// A patch of `a`. The fault is NoMemory also where the name gets no memory.
 fn patch_of_a(alloc: Global) -> Result<PatchSet, PatchFault> {
-    match name_a(alloc) {
-        Ok(symbols) => PatchSet::build(alloc, &symbols, &[A]),
+    match Symbols::new(alloc) {
+        Ok(mut symbols) => patch_over(alloc, &mut symbols),
         Err(_) => Err(PatchFault::NoMemory),
     }
 }
@@ -102,140 +105,195 @@ fn patched(alloc: Global) -> Result<PatchStack, PatchFault> {
     PatchStack::new(alloc, sets)
 }
 
-/// How a desk with these tasks starts, which has so many readers.
+/// How a desk with these tasks starts, which has so many readers; in a box: docs/GATE.md says why.
 fn blank<M: Consistency>(
     alloc: Global,
     model: M,
     boots: &[(TaskId, Class)],
     readers: usize,
-) -> Result<Box<Blank<M>>, Fail> {
-    Ok(Box::new(
-        alloc,
-        Blank::new(alloc, model, patched(alloc)?, boots, readers)?,
-    )?)
+) -> Option<Box<Blank<M>>> {
+    let Ok(patches) = patched(alloc) else {
+        return None;
+    };
+    match Blank::new(alloc, model, patches, boots, readers) {
+        Ok(blank) => Box::new(alloc, blank).ok(),
+        Err(_) => None,
+    }
 }
 
-/// A desk whose gate holds nobody, and all that may send to it and read its board.
-type Started<'a, M, N, R> = Box<Launched<M, N, Open, &'a R>>;
+/// All that may send to a desk and read its board, and what was told last.
+#[derive(Drop)]
+struct Hands<N: DeskName> {
+    seats: Vec<Seat>,
+    /// None while an event of the control is under way.
+    control: Option<Control>,
+    readers: Vec<BoardReader<N>>,
+    told: Option<Told<N>>,
+}
 
-/// The desk that starts so.
-fn started<'a, M: Consistency, N: DeskName, R: Wait>(
+impl<N: DeskName> Hands<N> {
+    /// The seat at a place, handed out.
+    fn seat(&mut self, place: usize) -> Option<Seat> {
+        if place < self.seats.len() {
+            Some(self.seats.remove(place))
+        } else {
+            None
+        }
+    }
+
+    /// The seats by themselves.
+    fn seated(&mut self, alloc: Global) -> Hands<N> {
+        Hands {
+            seats: replace(&mut self.seats, Vec::new(alloc)),
+            control: None,
+            readers: Vec::new(alloc),
+            told: None,
+        }
+    }
+
+    /// Takes a seat back at its place.
+    fn take_seat(&mut self, place: usize, seat: Seat) -> bool {
+        place <= self.seats.len() && self.seats.insert(place, seat).is_ok()
+    }
+
+    /// Takes the seat of a child, which comes last.
+    fn take_child(&mut self, child: Option<Seat>) -> bool {
+        match child {
+            Some(child) => self.seats.push(child).is_ok(),
+            None => true,
+        }
+    }
+
+    /// Takes the answer to the seat at a place, and says what it says.
+    fn take_answer(&mut self, place: usize, done: Submitted<N>) -> Said {
+        let Submitted {
+            seat,
+            reply,
+            told,
+            child,
+        } = done;
+        self.told = Some(told);
+        if self.take_seat(place, seat) && self.take_child(child) {
+            in_short(&reply)
+        } else {
+            Said::Other
+        }
+    }
+
+    /// Takes back the seat at a place whose event was turned back.
+    fn take_turned(&mut self, place: usize, turned: Turned<Seat>) -> Said {
+        let Turned { part, cause } = turned;
+        if self.take_seat(place, part) {
+            Said::Turned(cause)
+        } else {
+            Said::Other
+        }
+    }
+
+    /// Takes the answer to the control, and says what it says.
+    fn take_commanded(&mut self, done: Commanded<N>) -> Said {
+        let Commanded {
+            control,
+            reply,
+            told,
+        } = done;
+        self.control = Some(control);
+        self.told = Some(told);
+        in_short(&reply)
+    }
+
+    /// Takes back the control whose event was turned back.
+    fn take_control(&mut self, turned: Turned<Control>) -> Said {
+        let Turned { part, cause } = turned;
+        self.control = Some(part);
+        Said::Turned(cause)
+    }
+}
+
+/// The desk of a launch by itself, and in a box who may send to it and read its board.
+fn parted<M: Consistency, N: DeskName, G: ScanGate + Drop, R: Wait + Drop>(
+    alloc: Global,
+    launched: Launched<M, N, G, R>,
+) -> Option<(Desk<M, N, G, R>, Box<Hands<N>>)> {
+    let Launched {
+        desk,
+        seats,
+        control,
+        readers,
+    } = launched;
+    let hands = Hands {
+        seats,
+        control: Some(control),
+        readers,
+        told: None,
+    };
+    match Box::new(alloc, hands) {
+        Ok(hands) => Some((desk, hands)),
+        Err(_) => None,
+    }
+}
+
+/// The desk that starts so, with two workers that pass a gate.
+fn started<'a, M: Consistency, N: DeskName, G: ScanGate + Drop, R: Wait>(
     rt: &'a R,
     alloc: Global,
     blank: Box<Blank<M>>,
-) -> Result<Started<'a, M, N, R>, Fail>
+    gate: G,
+) -> Option<(Desk<M, N, G, &'a R>, Box<Hands<N>>)>
     requires { name_of M.rules blank.value ≡ N.desk }
 {
-    let blank = Box::into_inner(blank);
-    Ok(Box::new(alloc, Desk::launch(rt, alloc, blank, 2, Open)?)?)
-}
-
-/// What a desk says to an event of the seat at a place, which is handed back there. The child's seat comes last.
-fn submit<M: Consistency, N: DeskName, R: Wait>(
-    rt: &R,
-    alloc: Global,
-    started: &mut Launched<M, N, Open, &R>,
-    place: usize,
-    event: Event,
-) -> Result<Result<Said, Cause>, Fail> {
-    let Launched { desk, seats, .. } = started;
-    if place >= seats.len() {
-        return Err("no such seat".into());
-    }
-    let seat = seats.remove(place);
-    match desk.submit(rt, alloc, seat, event) {
-        Ok(done) => Ok(Ok(put_back(seats, place, done)?)),
-        Err(Turned { part, cause }) => {
-            seats.insert(place, part)?;
-            Ok(Err(cause))
-        }
+    match Desk::launch(rt, alloc, Box::into_inner(blank), 2, gate) {
+        Ok(launched) => parted(alloc, launched),
+        Err(_) => None,
     }
 }
 
-/// What is said in an answer, whose seat goes back to its place. The child's seat comes last.
-fn put_back<N: DeskName>(
-    seats: &mut Vec<Seat>,
-    place: usize,
-    done: Submitted<N>,
-) -> Result<Said, Fail> {
-    if place > seats.len() {
-        return Err("no such place".into());
-    }
-    let Submitted {
-        seat,
-        reply,
-        told,
-        child,
-    } = done;
-    drop(told);
-    let said = in_short(&reply);
-    drop(reply);
-    seats.insert(place, seat)?;
-    if let Some(child) = child {
-        seats.push(child)?;
-    }
-    Ok(said)
-}
-
-/// The seat after an event that was sent from it, and what was said and told.
-fn sent_from<M: Consistency, N: DeskName, G: ScanGate + Drop, R: Wait>(
+/// What a desk says to an event of the seat at a place.
+fn submit<M: Consistency, N: DeskName, G: ScanGate + Drop, R: Wait>(
     rt: &R,
     alloc: Global,
     desk: &Desk<M, N, G, &R>,
-    seat: Seat,
+    hands: &mut Hands<N>,
+    place: usize,
     event: Event,
-) -> Option<(Seat, Said, Told<N>)> {
+) -> Said {
+    let Some(seat) = hands.seat(place) else {
+        return Said::Other;
+    };
     match desk.submit(rt, alloc, seat, event) {
-        Ok(
-            Submitted {
-                seat,
-                reply,
-                told,
-                ..
-            },
-        ) => Some((seat, in_short(&reply), told)),
-        Err(_) => None,
+        Ok(done) => hands.take_answer(place, done),
+        Err(turned) => hands.take_turned(place, turned),
     }
 }
 
-/// What a desk says to an event that is sent from a seat; None where it is turned back.
-fn said_to_seat<M: Consistency, N: DeskName, G: ScanGate + Drop, R: Wait>(
-    rt: &R,
-    alloc: Global,
-    desk: &Desk<M, N, G, &R>,
-    seat: Seat,
-    event: Event,
-) -> Option<Said> {
-    match desk.submit(rt, alloc, seat, event) {
-        Ok(done) => Some(in_short(&done.reply)),
-        Err(_) => None,
-    }
-}
-
-/// What a desk says to an event that is sent from the control; None where it is turned back.
-fn said_to_control<
-    M: Consistency + Sync,
-    N: DeskName,
-    G: ScanGate + Sync + Drop,
-    R: Threads + Wait + Sync,
->(rt: &R, alloc: Global, desk: &Desk<M, N, G, &R>, control: Control, event: Event) -> Option<Said> {
-    match desk.command(rt, alloc, control, event) {
-        Ok(done) => Some(in_short(&done.reply)),
-        Err(_) => None,
-    }
-}
-
-/// The control after an event that was sent from it, and what was told.
+/// What a desk says to an event of the control.
 fn command<M: Consistency + Sync, N: DeskName, G: ScanGate + Sync + Drop, R: Threads + Wait + Sync>(
     rt: &R,
     alloc: Global,
     desk: &Desk<M, N, G, &R>,
-    control: Control,
+    hands: &mut Hands<N>,
     event: Event,
-) -> Result<(Control, Told<N>), Fail> {
+) -> Said {
+    let Some(control) = hands.control.take() else {
+        return Said::Other;
+    };
     match desk.command(rt, alloc, control, event) {
-        Ok(Commanded { control, told, .. }) => Ok((control, told)),
-        Err(_) => Err("turned back".into()),
+        Ok(done) => hands.take_commanded(done),
+        Err(turned) => hands.take_control(turned),
+    }
+}
+
+/// What comes of a close with all seats and the control.
+fn closed<M: Consistency, N: DeskName, R: Wait>(
+    rt: &R,
+    alloc: Global,
+    desk: Desk<M, N, Open, &R>,
+    hands: Box<Hands<N>>,
+) -> Option<Result<Journal, Unclosed>> {
+    let Hands { seats, control, .. } = Box::into_inner(hands);
+    match control {
+        Some(control) => Some(desk.close(rt, alloc, seats, control)),
+        None => None,
     }
 }
 
@@ -244,19 +302,10 @@ fn entries_at_close<M: Consistency, N: DeskName, R: Wait>(
     rt: &R,
     alloc: Global,
     desk: Desk<M, N, Open, &R>,
-    seats: Vec<Seat>,
-    control: Control,
+    hands: Box<Hands<N>>,
 ) -> Option<usize> {
-    match desk.close(rt, alloc, seats, control) {
-        Ok(journal) => Some(journal.entries().len()),
-        Err(_) => None,
+    match closed(rt, alloc, desk, hands) {
+        Some(Ok(journal)) => Some(journal.entries().len()),
+        _ => None,
     }
-}
-
-/// The first seat; an error where there is none.
-fn first(seats: &mut Vec<Seat>) -> Result<Seat, Fail> {
-    if seats.is_empty() {
-        return Err("no seat".into());
-    }
-    Ok(seats.remove(0))
 }

@@ -3,11 +3,10 @@ ghost use Rattle.std.specs.Prelude.{◌≡◌};
 ghost use Rattle.lp_board.specs.Blanks.{name_of};
 
 use super::*;
-use lp_desk::Unclosed;
-use lp_log::{CloseCause, Journal};
+use lp_log::CloseCause;
 
 /// The seats of A, the first of which has sent `enter 1`.
-fn seats_of_a<R: Wait>(rt: &R, alloc: Global) -> Result<Vec<Seat>, Fail> {
+fn seats_of_a<R: Wait>(rt: &R, alloc: Global) -> Option<Vec<Seat>> {
     let blank = blank(alloc, Hybrid, &BOTH, 1)?;
     seats_entered::<Hybrid, Brand, R>(rt, alloc, blank)
 }
@@ -16,19 +15,19 @@ fn seats_entered<M: Consistency, N: DeskName, R: Wait>(
     rt: &R,
     alloc: Global,
     blank: Box<Blank<M>>,
-) -> Result<Vec<Seat>, Fail>
+) -> Option<Vec<Seat>>
     requires { name_of M.rules blank.value ≡ N.desk }
 {
-    let mut a = started::<M, N, R>(rt, alloc, blank)?;
-    let said = submit(rt, alloc, &mut a, 0, Event::Enter(ONE))?;
-    if said == Ok(Said::Done) {
-        return Ok(Box::into_inner(a).seats);
+    let (desk, mut hands) = started::<M, N, Open, R>(rt, alloc, blank, Open)?;
+    if submit(rt, alloc, &desk, &mut hands, 0, Event::Enter(ONE)) == Said::Done {
+        Some(Box::into_inner(hands).seats)
+    } else {
+        None
     }
-    Err("enter".into())
 }
 
-/// What is handed back as B is closed with no seat.
-fn unclosed_b<R: Wait>(rt: &R, alloc: Global) -> Result<(Journal, Seat, Control), Fail> {
+/// What is handed back as B is closed with no seat, and its seat.
+fn unclosed_b<R: Wait>(rt: &R, alloc: Global) -> Option<(Unclosed, Seat)> {
     let blank = blank(alloc, Hybrid, &FIRST, 1)?;
     unclosed::<Hybrid, Brand, R>(rt, alloc, blank)
 }
@@ -37,82 +36,54 @@ fn unclosed<M: Consistency, N: DeskName, R: Wait>(
     rt: &R,
     alloc: Global,
     blank: Box<Blank<M>>,
-) -> Result<(Journal, Seat, Control), Fail>
+) -> Option<(Unclosed, Seat)>
     requires { name_of M.rules blank.value ≡ N.desk }
 {
-    let mut b = started::<M, N, R>(rt, alloc, blank)?;
-    let own = first(&mut b.seats)?;
-    let Launched {
-        desk,
-        seats,
-        control,
-        ..
-    } = Box::into_inner(b);
-    match missed(desk.close(rt, alloc, seats, control)) {
-        Some((journal, control)) => Ok((journal, own, control)),
-        None => Err("a seat is missing".into()),
+    let (desk, mut hands) = started::<M, N, Open, R>(rt, alloc, blank, Open)?;
+    let own = hands.seat(0)?;
+    match closed(rt, alloc, desk, hands) {
+        Some(Err(unclosed)) => Some((unclosed, own)),
+        _ => None,
     }
 }
 
-/// What is handed back where the one seat of a desk is missing.
-fn missed(closed: Result<Journal, Unclosed>) -> Option<(Journal, Control)> {
-    let Unclosed {
-        journal,
-        seats: _,
-        control,
-        cause,
-    } = closed.err()?;
-    if cause == (CloseCause::Missing { have: 0, want: 1 }) {
-        Some((journal, control))
-    } else {
-        None
-    }
+const MISSING: CloseCause = CloseCause::Missing { have: 0, want: 1 };
+
+const DIFFERS: CloseCause = CloseCause::Differs {
+    task: ONE,
+    place: 0,
+};
+
+/// Whether the audit of B's journal tells A's first seat, B's own and A's second apart, which are these.
+fn audits_tell(alloc: Global, b: &Unclosed, seats: &[Seat]) -> bool {
+    let (journal, control) = (&b.journal, &b.control);
+    b.cause == MISSING
+        && seats.len() == 3
+        && journal.audit(alloc, &seats[..1], control) == Err(DIFFERS)
+        && journal.audit(alloc, &seats[..2], control) == Err(CloseCause::Stranger { task: ONE })
+        && journal.audit(alloc, &seats[1..2], control) == Ok(())
+        && journal.audit(alloc, &seats[1..], control) == Err(CloseCause::Stranger { task: TWO })
 }
 
-/// Why a desk isn't closed with these; None where it is.
-fn cause_of<M: Consistency, N: DeskName, R: Wait>(
-    rt: &R,
-    alloc: Global,
-    desk: Desk<M, N, Open, &R>,
-    seats: Vec<Seat>,
-    control: Control,
-) -> Option<CloseCause> {
-    match desk.close(rt, alloc, seats, control) {
-        Ok(_) => None,
-        Err(unclosed) => Some(unclosed.cause),
+/// Whether it does where B's seat is put between the two of A.
+fn audits_tell_apart(alloc: Global, b: &Unclosed, own: Seat, seats: &mut Vec<Seat>) -> bool {
+    seats.len() == 2 && seats.insert(1, own).is_ok() && audits_tell(alloc, b, seats.as_slice())
+}
+
+fn seats_are_told_apart<R: Wait>(rt: &R, alloc: Global) -> bool {
+    match (unclosed_b(rt, alloc), seats_of_a(rt, alloc)) {
+        (Some((b, own)), Some(mut seats)) => audits_tell_apart(alloc, &b, own, &mut seats),
+        _ => false,
     }
 }
 
 #[test]
-fn a_seat_of_another_desk_differs_or_is_a_stranger(rt: HostRuntime) -> Result<(), Fail> {
-    let alloc = rt.alloc();
-    let (journal, own, control) = unclosed_b(&rt, alloc)?;
-    let mut seats = seats_of_a(&rt, alloc)?;
-    let Some(two) = seats.pop() else {
-        return Err("two seats".into());
-    };
-    let others = journal.audit(alloc, seats.as_slice(), &control);
-    assert!(rt;
-        others
-            == Err(CloseCause::Differs {
-                task: ONE,
-                place: 0
-            })
-    );
-    seats.push(own)?;
-    let twice = journal.audit(alloc, seats.as_slice(), &control);
-    assert!(rt; twice == Err(CloseCause::Stranger { task: ONE }));
-    let mut rest = Vec::new(alloc);
-    rest.extend(seats.pop())?;
-    assert!(rt; journal.audit(alloc, rest.as_slice(), &control) == Ok(()));
-    rest.push(two)?;
-    let stranger = journal.audit(alloc, rest.as_slice(), &control);
-    assert!(rt; stranger == Err(CloseCause::Stranger { task: TWO }));
-    Ok(())
+fn a_seat_of_another_desk_differs_or_is_a_stranger(rt: HostRuntime) {
+    assert!(rt; seats_are_told_apart(&rt, rt.alloc()));
 }
 
 /// The second seat of a desk that has taken nothing, and its control.
-fn second_seat<R: Wait>(rt: &R, alloc: Global) -> Result<(Seat, Control), Fail> {
+fn second_seat<R: Wait>(rt: &R, alloc: Global) -> Option<(Seat, Control)> {
     let blank = blank(alloc, Hybrid, &BOTH, 1)?;
     second::<Hybrid, Brand, R>(rt, alloc, blank)
 }
@@ -121,33 +92,23 @@ fn second<M: Consistency, N: DeskName, R: Wait>(
     rt: &R,
     alloc: Global,
     blank: Box<Blank<M>>,
-) -> Result<(Seat, Control), Fail>
+) -> Option<(Seat, Control)>
     requires { name_of M.rules blank.value ≡ N.desk }
 {
-    let started = started::<M, N, R>(rt, alloc, blank)?;
-    let Launched {
-        mut seats,
-        control,
-        ..
-    } = Box::into_inner(started);
-    match seats.pop() {
-        Some(seat) => Ok((seat, control)),
-        None => Err("two seats".into()),
+    let (_, mut hands) = started::<M, N, Open, R>(rt, alloc, blank, Open)?;
+    match (hands.seat(1), hands.control.take()) {
+        (Some(seat), Some(control)) => Some((seat, control)),
+        _ => None,
     }
 }
 
 /// A's second seat sends an event to B, which is refused and journalled; and B is closed with A's control, which hasn't
 /// sent what B's has. The control comes last, as task 0.
 #[test]
-fn another_desks_parts_close_no_desk(rt: HostRuntime) -> Result<(), Fail> {
-    let alloc = rt.alloc();
-    let (seat, _) = second_seat(&rt, alloc)?;
-    let refused = blank(alloc, Hybrid, &FIRST, 1)?;
-    let stranger = closed_after_a_stranger::<Hybrid, Brand, _>(&rt, alloc, refused, seat)?;
+fn another_desks_parts_close_no_desk(rt: HostRuntime) {
+    let stranger = cause_of_a_stranger(&rt, rt.alloc());
     assert!(rt; stranger == Some(CloseCause::Stranger { task: TWO }));
-    let (_, control) = second_seat(&rt, alloc)?;
-    let enabled = blank(alloc, Hybrid, &FIRST, 1)?;
-    let differs = closed_by_another::<Hybrid, Brand, _>(&rt, alloc, enabled, control)?;
+    let differs = cause_of_another(&rt, rt.alloc());
     assert!(rt;
         differs
             == Some(CloseCause::Differs {
@@ -155,7 +116,20 @@ fn another_desks_parts_close_no_desk(rt: HostRuntime) -> Result<(), Fail> {
                 place: 0
             })
     );
-    Ok(())
+}
+
+/// Why B isn't closed where A's second seat sent an event to it.
+fn cause_of_a_stranger<R: Wait>(rt: &R, alloc: Global) -> Option<CloseCause> {
+    let (seat, _) = second_seat(rt, alloc)?;
+    let blank = blank(alloc, Hybrid, &FIRST, 1)?;
+    closed_after_a_stranger::<Hybrid, Brand, R>(rt, alloc, blank, seat)
+}
+
+/// Why B isn't closed with A's control.
+fn cause_of_another<R: Threads + Wait + Sync>(rt: &R, alloc: Global) -> Option<CloseCause> {
+    let (_, control) = second_seat(rt, alloc)?;
+    let blank = blank(alloc, Hybrid, &FIRST, 1)?;
+    closed_by_another::<Hybrid, Brand, R>(rt, alloc, blank, control)
 }
 
 fn closed_after_a_stranger<M: Consistency, N: DeskName, R: Wait>(
@@ -163,21 +137,28 @@ fn closed_after_a_stranger<M: Consistency, N: DeskName, R: Wait>(
     alloc: Global,
     blank: Box<Blank<M>>,
     seat: Seat,
-) -> Result<Option<CloseCause>, Fail>
+) -> Option<CloseCause>
     requires { name_of M.rules blank.value ≡ N.desk }
 {
-    let b = started::<M, N, R>(rt, alloc, blank)?;
-    let said = said_to_seat(rt, alloc, &b.desk, seat, Event::Enter(TWO));
-    if said != Some(Said::Refused(1)) {
-        return Err("it isn't refused".into());
+    let (desk, mut hands) = started::<M, N, Open, R>(rt, alloc, blank, Open)?;
+    if is_refused_to_a_stranger(rt, alloc, &desk, &mut hands, seat) {
+        cause_at_close(rt, alloc, desk, hands)
+    } else {
+        None
     }
-    let Launched {
-        desk,
-        seats,
-        control,
-        ..
-    } = Box::into_inner(b);
-    Ok(cause_of(rt, alloc, desk, seats, control))
+}
+
+/// Whether an event that is sent from another desk's seat is refused. The seat is let go.
+fn is_refused_to_a_stranger<M: Consistency, N: DeskName, R: Wait>(
+    rt: &R,
+    alloc: Global,
+    desk: &Desk<M, N, Open, &R>,
+    hands: &mut Hands<N>,
+    seat: Seat,
+) -> bool {
+    hands.take_seat(1, seat)
+        && submit(rt, alloc, desk, hands, 1, Event::Enter(TWO)) == Said::Refused(1)
+        && hands.seat(1).is_some()
 }
 
 fn closed_by_another<M: Consistency + Sync, N: DeskName, R: Threads + Wait + Sync>(
@@ -185,16 +166,26 @@ fn closed_by_another<M: Consistency + Sync, N: DeskName, R: Threads + Wait + Syn
     alloc: Global,
     blank: Box<Blank<M>>,
     other: Control,
-) -> Result<Option<CloseCause>, Fail>
+) -> Option<CloseCause>
     requires { name_of M.rules blank.value ≡ N.desk }
 {
-    let b = started::<M, N, R>(rt, alloc, blank)?;
-    let Launched {
-        desk,
-        seats,
-        control,
-        ..
-    } = Box::into_inner(b);
-    drop(command(rt, alloc, &desk, control, Event::Enable)?);
-    Ok(cause_of(rt, alloc, desk, seats, other))
+    let (desk, mut hands) = started::<M, N, Open, R>(rt, alloc, blank, Open)?;
+    if command(rt, alloc, &desk, &mut hands, Event::Enable) != Said::Done {
+        return None;
+    }
+    hands.control = Some(other);
+    cause_at_close(rt, alloc, desk, hands)
+}
+
+/// Why a desk isn't closed; None where it is.
+fn cause_at_close<M: Consistency, N: DeskName, R: Wait>(
+    rt: &R,
+    alloc: Global,
+    desk: Desk<M, N, Open, &R>,
+    hands: Box<Hands<N>>,
+) -> Option<CloseCause> {
+    match closed(rt, alloc, desk, hands) {
+        Some(Err(unclosed)) => Some(unclosed.cause),
+        _ => None,
+    }
 }

@@ -2,139 +2,111 @@
 ghost use Rattle.std.specs.Prelude.{◌≡◌};
 ghost use Rattle.lp_board.specs.Blanks.{name_of};
 
+use super::boards::blank_fault;
 use super::*;
 use lp_board::LaunchFault;
 use lp_log::Entry;
 use lp_transition::BootFault;
 use std::mem::size_of;
-use std::process::Abort;
 
 /// Events of another task and of the control are turned back at a seat, and leave the journal as it was.
 #[test]
-fn a_seat_sends_its_tasks_events_alone(rt: HostRuntime) -> Result<(), Fail> {
-    let alloc = rt.alloc();
-    let blank = blank(alloc, Hybrid, &BOTH, 1)?;
-    turned_back::<Hybrid, Brand, _>(&rt, alloc, blank)
+fn a_seat_sends_its_tasks_events_alone(rt: HostRuntime) {
+    assert!(rt; sends_its_tasks_events_alone(&rt, rt.alloc()));
 }
 
-fn turned_back<M: Consistency + Sync, N: DeskName, R: Threads + Wait + Abort + Sync>(
+fn sends_its_tasks_events_alone<R: Threads + Wait + Sync>(rt: &R, alloc: Global) -> bool {
+    match blank(alloc, Hybrid, &BOTH, 1) {
+        Some(blank) => turned_back::<Hybrid, Brand, R>(rt, alloc, blank),
+        None => false,
+    }
+}
+
+fn turned_back<M: Consistency + Sync, N: DeskName, R: Threads + Wait + Sync>(
     rt: &R,
     alloc: Global,
     blank: Box<Blank<M>>,
-) -> Result<(), Fail>
+) -> bool
     requires { name_of M.rules blank.value ≡ N.desk }
 {
-    let mut started = started::<M, N, R>(rt, alloc, blank)?;
-    for event in [Event::Enter(TWO), Event::Walk, Event::Stop, Event::Enable] {
-        let said = submit(rt, alloc, &mut started, 0, event)?;
-        assert!(rt; said == Err(Cause::NotYours));
+    match started::<M, N, Open, R>(rt, alloc, blank, Open) {
+        Some((desk, mut hands)) => {
+            are_turned_back(rt, alloc, &desk, &mut hands)
+                && entries_at_close(rt, alloc, desk, hands) == Some(0)
+        }
+        None => false,
     }
-    let entries = closed_after_enter(rt, alloc, Box::into_inner(started))?;
-    assert!(rt; entries == Some(0));
-    Ok(())
 }
 
-/// How many entries the journal has where the control sent `enter 1` before the close; None where it isn't closed.
-fn closed_after_enter<M: Consistency + Sync, N: DeskName, R: Threads + Wait + Abort + Sync>(
-    rt: &R,
-    alloc: Global,
-    started: Launched<M, N, Open, &R>,
-) -> Result<Option<usize>, Fail> {
-    let Launched {
-        desk,
-        seats,
-        control,
-        ..
-    } = started;
-    let control = not_the_controls(rt, alloc, &desk, control)?;
-    Ok(entries_at_close(rt, alloc, desk, seats, control))
-}
+const NOT_OF_ONE: [Event; 4] = [Event::Enter(TWO), Event::Walk, Event::Stop, Event::Enable];
 
-/// The control, from which `enter 1` is turned back.
-fn not_the_controls<M: Consistency + Sync, N: DeskName, R: Threads + Wait + Abort + Sync>(
+/// Whether they are at the first seat, and a task's event is at the control.
+fn are_turned_back<M: Consistency + Sync, N: DeskName, R: Threads + Wait + Sync>(
     rt: &R,
     alloc: Global,
     desk: &Desk<M, N, Open, &R>,
-    control: Control,
-) -> Result<Control, Fail> {
-    match desk.command(rt, alloc, control, Event::Enter(ONE)) {
-        Ok(_) => Err("not turned back".into()),
-        Err(Turned { part, cause }) => {
-            assert!(rt; cause == Cause::NotYours);
-            Ok(part)
+    hands: &mut Hands<N>,
+) -> bool {
+    for event in &NOT_OF_ONE {
+        if submit(rt, alloc, desk, hands, 0, *event) != Said::Turned(Cause::NotYours) {
+            return false;
         }
     }
+    command(rt, alloc, desk, hands, Event::Enter(ONE)) == Said::Turned(Cause::NotYours)
 }
 
 /// After 1,000,000 events every event is turned back, also one that would be another task's first.
 #[test]
-fn a_full_journal_turns_back(rt: HostRuntime) -> Result<(), Fail> {
-    let alloc = rt.alloc();
-    let blank = blank(alloc, Hybrid, &FIRST, 1)?;
-    filled::<Hybrid, Brand, _>(&rt, alloc, blank)
+fn a_full_journal_turns_back(rt: HostRuntime) {
+    assert!(rt; turns_back(&rt, rt.alloc()));
 }
 
-fn filled<M: Consistency + Sync, N: DeskName, R: Threads + Wait + Abort + Sync>(
+fn turns_back<R: Threads + Wait + Sync>(rt: &R, alloc: Global) -> bool {
+    match blank(alloc, Hybrid, &FIRST, 1) {
+        Some(blank) => filled::<Hybrid, Brand, R>(rt, alloc, blank),
+        None => false,
+    }
+}
+
+fn filled<M: Consistency + Sync, N: DeskName, R: Threads + Wait + Sync>(
     rt: &R,
     alloc: Global,
     blank: Box<Blank<M>>,
-) -> Result<(), Fail>
+) -> bool
     requires { name_of M.rules blank.value ≡ N.desk }
 {
-    let mut started = started::<M, N, R>(rt, alloc, blank)?;
-    let seat = first(&mut started.seats)?;
-    let seat = woken(rt, alloc, &started.desk, seat)?;
-    let full = seat_turned(rt, alloc, &started.desk, seat, Event::Enter(ONE));
-    assert!(rt; full == Some(Cause::JournalFull));
-    let Launched { desk, control, .. } = Box::into_inner(started);
-    let walk = control_turned(rt, alloc, &desk, control, Event::Walk);
-    assert!(rt; walk == Some(Cause::JournalFull));
-    Ok(())
+    match started::<M, N, Open, R>(rt, alloc, blank, Open) {
+        Some((desk, mut hands)) => is_full_in_the_end(rt, alloc, &desk, &mut hands),
+        None => false,
+    }
 }
 
-/// The seat after 1,000,000 events.
-fn woken<M: Consistency, N: DeskName, R: Wait>(
+/// Whether a desk is full after 1,000,000 events.
+fn is_full_in_the_end<M: Consistency + Sync, N: DeskName, R: Threads + Wait + Sync>(
     rt: &R,
     alloc: Global,
     desk: &Desk<M, N, Open, &R>,
-    seat: Seat,
-) -> Result<Seat, Fail> {
-    let mut seat = seat;
+    hands: &mut Hands<N>,
+) -> bool {
+    wakes_a_million(rt, alloc, desk, hands)
+        && submit(rt, alloc, desk, hands, 0, Event::Enter(ONE)) == Said::Turned(Cause::JournalFull)
+        && command(rt, alloc, desk, hands, Event::Walk) == Said::Turned(Cause::JournalFull)
+}
+
+/// Whether 1,000,000 events are answered, each of which the engine refuses.
+fn wakes_a_million<M: Consistency, N: DeskName, R: Wait>(
+    rt: &R,
+    alloc: Global,
+    desk: &Desk<M, N, Open, &R>,
+    hands: &mut Hands<N>,
+) -> bool {
     for _turn in 0..1_000_000u32 {
-        match desk.submit(rt, alloc, seat, Event::Wake(ONE)) {
-            Ok(done) => seat = done.seat,
-            Err(_) => return Err("turned back".into()),
+        match submit(rt, alloc, desk, hands, 0, Event::Wake(ONE)) {
+            Said::Refused(_) => (),
+            _ => return false,
         }
     }
-    Ok(seat)
-}
-
-/// Why an event is turned back at a seat; None where it isn't.
-fn seat_turned<M: Consistency, N: DeskName, R: Wait>(
-    rt: &R,
-    alloc: Global,
-    desk: &Desk<M, N, Open, &R>,
-    seat: Seat,
-    event: Event,
-) -> Option<Cause> {
-    match desk.submit(rt, alloc, seat, event) {
-        Ok(_) => None,
-        Err(turned) => Some(turned.cause),
-    }
-}
-
-/// Why an event is turned back at the control; None where it isn't.
-fn control_turned<M: Consistency + Sync, N: DeskName, R: Threads + Wait + Sync>(
-    rt: &R,
-    alloc: Global,
-    desk: &Desk<M, N, Open, &R>,
-    control: Control,
-    event: Event,
-) -> Option<Cause> {
-    match desk.command(rt, alloc, control, event) {
-        Ok(_) => None,
-        Err(turned) => Some(turned.cause),
-    }
+    true
 }
 
 #[test]
@@ -142,25 +114,25 @@ fn an_entry_takes_48_bytes_at_most(rt: HostRuntime) {
     assert!(rt; size_of::<Entry>() <= 48, "{} bytes", size_of::<Entry>());
 }
 
+const TWICE: [(TaskId, Class); 2] = [(ONE, Class::Normal), (ONE, Class::Idle)];
+
 /// The tasks come before the desk's workers: the engine is made first.
 #[test]
-fn a_launch_names_the_first_fault(rt: HostRuntime) -> Result<(), Fail> {
-    let alloc = rt.alloc();
-    let twice = boot_fault(alloc, &[(ONE, Class::Normal), (ONE, Class::Idle)])?;
+fn a_launch_names_the_first_fault(rt: HostRuntime) {
+    let twice = blank_fault(rt.alloc(), &TWICE, 1);
     assert!(rt; twice == Some(LaunchFault::Boot(BootFault::TaskDoubled)));
-    let none = boot_fault(alloc, &[(TaskId(0), Class::Normal)])?;
+    let none = blank_fault(rt.alloc(), &[(TaskId(0), Class::Normal)], 1);
     assert!(rt; none == Some(LaunchFault::Boot(BootFault::TaskRange)));
-    for workers in [0, 65] {
-        let blank = blank(alloc, Hybrid, &FIRST, 1)?;
-        let fault = launch_fault::<Hybrid, Brand, _>(&rt, alloc, blank, workers);
-        assert!(rt; fault == Some(LaunchFault::BadCrew));
-    }
-    Ok(())
+    assert!(rt; crew_fault(&rt, rt.alloc(), 0) == Some(LaunchFault::BadCrew));
+    assert!(rt; crew_fault(&rt, rt.alloc(), 65) == Some(LaunchFault::BadCrew));
 }
 
-/// Why no desk starts with these tasks; None where one does.
-fn boot_fault(alloc: Global, boots: &[(TaskId, Class)]) -> Result<Option<LaunchFault>, Fail> {
-    Ok(Blank::new(alloc, Hybrid, patched(alloc)?, boots, 1).err())
+/// Why no desk starts with so many workers; None where one does.
+fn crew_fault<R: Wait>(rt: &R, alloc: Global, workers: usize) -> Option<LaunchFault> {
+    match blank(alloc, Hybrid, &FIRST, 1) {
+        Some(blank) => launch_fault::<Hybrid, Brand, R>(rt, alloc, blank, workers),
+        None => None,
+    }
 }
 
 fn launch_fault<M: Consistency, N: DeskName, R: Wait>(

@@ -81,13 +81,13 @@ fn scanned<M: Consistency + Sync, N: DeskName, R: Threads + Wait + Sync>(
     blank: Box<Blank<M>>,
     marks: &Marks,
     scan: Event,
-) -> Result<Said, Fail>
+) -> Said
     requires { name_of M.rules blank.value ≡ N.desk }
 {
-    let gate = Meeting(marks);
-    let launched = Desk::launch(rt, alloc, Box::into_inner(blank), 2, gate)?;
-    let Launched::<M, N, Meeting<'_>, &R> { desk, control, .. } = launched;
-    said_after_enable(rt, alloc, &desk, control, scan)
+    match started::<M, N, Meeting<'_>, R>(rt, alloc, blank, Meeting(marks)) {
+        Some((desk, mut hands)) => said_after_enable(rt, alloc, &desk, &mut hands, scan),
+        None => Said::Other,
+    }
 }
 
 fn said_after_enable<
@@ -95,45 +95,38 @@ fn said_after_enable<
     N: DeskName,
     G: ScanGate + Sync + Drop,
     R: Threads + Wait + Sync,
->(
-    rt: &R,
-    alloc: Global,
-    desk: &Desk<M, N, G, &R>,
-    control: Control,
-    scan: Event,
-) -> Result<Said, Fail> {
-    let (control, _) = command(rt, alloc, desk, control, Event::Enable)?;
-    match said_to_control(rt, alloc, desk, control, scan) {
-        Some(said) => Ok(said),
-        None => Err("turned back".into()),
+>(rt: &R, alloc: Global, desk: &Desk<M, N, G, &R>, hands: &mut Hands<N>, scan: Event) -> Said {
+    match command(rt, alloc, desk, hands, Event::Enable) {
+        Said::Done => command(rt, alloc, desk, hands, scan),
+        _ => Said::Other,
     }
 }
 
 /// The pieces of a walk are judged by threads of their own, and so are those of a stop.
 #[test]
-fn desk_pieces_meet(rt: HostRuntime) -> Result<(), Fail> {
-    let alloc = rt.alloc();
-    let walk = met_in_a_walk(&rt, alloc)?;
-    assert!(rt; walk == (Said::Done, false));
-    let stop = met_in_a_stop(&rt, alloc)?;
-    assert!(rt; stop == (Said::SwitchedLast(0), false));
-    Ok(())
+fn desk_pieces_meet(rt: HostRuntime) {
+    assert!(rt; met_in_a_walk(&rt, rt.alloc()) == (Said::Done, false));
+    assert!(rt; met_in_a_stop(&rt, rt.alloc()) == (Said::SwitchedLast(0), false));
 }
 
 /// What a desk says to a walk, and whether a piece waited for another in vain.
-fn met_in_a_walk<R: Threads + Wait + Sync>(rt: &R, alloc: Global) -> Result<(Said, bool), Fail> {
+fn met_in_a_walk<R: Threads + Wait + Sync>(rt: &R, alloc: Global) -> (Said, bool) {
     let marks = Marks::new();
-    let blank = blank(alloc, Hybrid, &BOTH, 1)?;
-    let said = scanned::<Hybrid, Brand, R>(rt, alloc, blank, &marks, Event::Walk)?;
-    Ok((said, marks.gave_up()))
+    let said = match blank(alloc, Hybrid, &BOTH, 1) {
+        Some(blank) => scanned::<Hybrid, Brand, R>(rt, alloc, blank, &marks, Event::Walk),
+        None => Said::Other,
+    };
+    (said, marks.gave_up())
 }
 
 /// The same for a stop.
-fn met_in_a_stop<R: Threads + Wait + Sync>(rt: &R, alloc: Global) -> Result<(Said, bool), Fail> {
+fn met_in_a_stop<R: Threads + Wait + Sync>(rt: &R, alloc: Global) -> (Said, bool) {
     let marks = Marks::new();
-    let blank = blank(alloc, AllAtOnce, &BOTH, 1)?;
-    let said = scanned::<AllAtOnce, Brand, R>(rt, alloc, blank, &marks, Event::Stop)?;
-    Ok((said, marks.gave_up()))
+    let said = match blank(alloc, AllAtOnce, &BOTH, 1) {
+        Some(blank) => scanned::<AllAtOnce, Brand, R>(rt, alloc, blank, &marks, Event::Stop),
+        None => Said::Other,
+    };
+    (said, marks.gave_up())
 }
 
 /// Holds piece 0 until a seat was answered.
@@ -148,33 +141,35 @@ impl<'a> ScanGate for Holding<'a> {
     }
 }
 
-/// Sends an event once piece 0 has come to the gate, and tells the gate when it was answered.
+/// What is said to an event that is sent once piece 0 has come to the gate, which is told when it was answered.
 fn submit_meanwhile<M: Consistency, N: DeskName, G: ScanGate + Drop, R: Wait>(
     rt: &R,
     alloc: Global,
     desk: &Desk<M, N, G, &R>,
     marks: &Marks,
-    seat: Seat,
-) -> Option<Said> {
+    hands: &mut Hands<N>,
+) -> Said {
     if !is_set_in_time(&marks.first) {
-        return None;
+        return Said::Other;
     }
-    let said = said_to_seat(rt, alloc, desk, seat, Event::Enter(ONE))?;
+    let said = submit(rt, alloc, desk, hands, 0, Event::Enter(ONE));
     marks.second.store(true, Ordering::SeqCst);
-    Some(said)
+    said
 }
 
 /// A walk that is judged under the lock would hold the seat back until the gate gives up.
 #[test]
-fn tasks_run_during_walk(rt: HostRuntime) -> Result<(), Fail> {
-    let alloc = rt.alloc();
+fn tasks_run_during_walk(rt: HostRuntime) {
     let marks = Marks::new();
-    let blank = blank(alloc, Hybrid, &BOTH, 1)?;
-    let (walk, entered) = walked_meanwhile::<Hybrid, Brand, _>(&rt, alloc, blank, &marks)?;
-    assert!(rt; walk == Some(Said::Done));
-    assert!(rt; entered == Some(Said::Done));
+    assert!(rt; run_during_walk(&rt, rt.alloc(), &marks) == (Said::Done, Said::Done));
     assert!(rt; !marks.gave_up());
-    Ok(())
+}
+
+fn run_during_walk<R: Threads + Wait + Sync>(rt: &R, alloc: Global, marks: &Marks) -> (Said, Said) {
+    match blank(alloc, Hybrid, &BOTH, 1) {
+        Some(blank) => walked_meanwhile::<Hybrid, Brand, R>(rt, alloc, blank, marks),
+        None => (Said::Other, Said::Other),
+    }
 }
 
 /// What a desk says to a walk, and to an event that is sent while its first piece is judged.
@@ -182,26 +177,16 @@ fn walked_meanwhile<
     M: Consistency + Send + Sync,
     N: DeskName + Send + Sync,
     R: Threads + Wait + Sync,
->(
-    rt: &R,
-    alloc: Global,
-    blank: Box<Blank<M>>,
-    marks: &Marks,
-) -> Result<(Option<Said>, Option<Said>), Fail>
+>(rt: &R, alloc: Global, blank: Box<Blank<M>>, marks: &Marks) -> (Said, Said)
     requires { name_of M.rules blank.value ≡ N.desk }
 {
-    let gate = Holding(marks);
-    let launched = Desk::launch(rt, alloc, Box::into_inner(blank), 2, gate)?;
-    let Launched::<M, N, Holding<'_>, &R> {
-        desk,
-        seats,
-        control,
-        ..
-    } = launched;
-    walk_and_submit(rt, alloc, &desk, marks, seats, control)
+    match started::<M, N, Holding<'_>, R>(rt, alloc, blank, Holding(marks)) {
+        Some((desk, mut hands)) => walk_and_submit(rt, alloc, &desk, marks, &mut hands),
+        None => (Said::Other, Said::Other),
+    }
 }
 
-/// The same, from the parts of a desk at its start; the desk itself stays with who launched it.
+/// The same, of a desk at its start.
 fn walk_and_submit<
     M: Consistency + Send + Sync,
     N: DeskName + Send + Sync,
@@ -212,14 +197,15 @@ fn walk_and_submit<
     alloc: Global,
     desk: &Desk<M, N, G, &R>,
     marks: &Marks,
-    mut seats: Vec<Seat>,
-    control: Control,
-) -> Result<(Option<Said>, Option<Said>), Fail> {
-    let (control, _) = command(rt, alloc, desk, control, Event::Enable)?;
-    let seat = first(&mut seats)?;
-    Ok(join(
+    hands: &mut Hands<N>,
+) -> (Said, Said) {
+    if command(rt, alloc, desk, hands, Event::Enable) != Said::Done {
+        return (Said::Other, Said::Other);
+    }
+    let mut seated = hands.seated(alloc);
+    join(
         rt,
-        || said_to_control(rt, alloc, desk, control, Event::Walk),
-        || submit_meanwhile(rt, alloc, desk, marks, seat),
-    ))
+        || command(rt, alloc, desk, hands, Event::Walk),
+        || submit_meanwhile(rt, alloc, desk, marks, &mut seated),
+    )
 }

@@ -6,12 +6,10 @@ ghost use Rattle.lp_board.specs.Blanks.{name_of};
 
 use super::*;
 use lp_board::LaunchFault;
-use lp_desk::Unclosed;
-use lp_log::{CloseCause, Journal};
+use lp_log::CloseCause;
 use lp_model::ForkKind;
 use lp_models::AllAtOnce;
 use lp_transition::BootFault;
-use std::process::Abort;
 
 const THREE: TaskId = TaskId(3);
 
@@ -45,257 +43,249 @@ const STOPPED: [Row; 7] = [
 ];
 
 #[test]
-fn walks_lose_nothing_after_a_failed_allocation(rt: HostRuntime) -> Result<(), Fail> {
-    let alloc = rt.alloc();
-    assert!(rt; walked(&rt, alloc)? || walked(&rt, alloc)?);
-    Ok(())
+fn walks_lose_nothing_after_a_failed_allocation(rt: HostRuntime) {
+    let first = walked(&rt, rt.alloc());
+    assert!(rt; first != Ending::Wrong);
+    assert!(rt; first == Ending::Right || walked(&rt, rt.alloc()) == Ending::Right);
 }
 
 #[test]
-fn stops_lose_nothing_after_a_failed_allocation(rt: HostRuntime) -> Result<(), Fail> {
-    let alloc = rt.alloc();
-    assert!(rt; stopped(&rt, alloc)? || stopped(&rt, alloc)?);
-    Ok(())
+fn stops_lose_nothing_after_a_failed_allocation(rt: HostRuntime) {
+    let first = stopped(&rt, rt.alloc());
+    assert!(rt; first != Ending::Wrong);
+    assert!(rt; first == Ending::Right || stopped(&rt, rt.alloc()) == Ending::Right);
 }
 
-/// Whether a desk was launched; then it has answered as it should.
-fn walked<R: Threads + Wait + Abort + Sync>(rt: &R, alloc: Global) -> Result<bool, Fail> {
-    match blank_of_both(alloc, Hybrid)? {
-        Some(blank) => played::<Hybrid, Brand, R>(rt, alloc, blank, &WALKED),
-        None => Ok(false),
+/// How the play of rows ended.
+#[derive(Clone, Copy, PartialEq, Eq)]
+enum Ending {
+    /// No desk was launched for want of memory.
+    NoDesk,
+    /// A desk has answered as it should.
+    Right,
+    Wrong,
+}
+
+impl Ending {
+    fn by(is_right: bool) -> Ending {
+        if is_right {
+            Ending::Right
+        } else {
+            Ending::Wrong
+        }
     }
-}
 
-fn stopped<R: Threads + Wait + Abort + Sync>(rt: &R, alloc: Global) -> Result<bool, Fail> {
-    match blank_of_both(alloc, AllAtOnce)? {
-        Some(blank) => played::<AllAtOnce, Brand, R>(rt, alloc, blank, &STOPPED),
-        None => Ok(false),
-    }
-}
-
-/// How a desk of tasks 1 and 2 starts; None where an allocation failed.
-fn blank_of_both<M: Consistency>(alloc: Global, model: M) -> Result<Option<Box<Blank<M>>>, Fail> {
-    let Ok(patches) = patched(alloc) else {
-        return Ok(None);
-    };
-    match Blank::new(alloc, model, patches, &BOTH, 1) {
-        Ok(blank) => Ok(Box::new(alloc, blank).ok()),
-        Err(LaunchFault::Boot(BootFault::NoMemory)) => Ok(None),
-        Err(fault) => Err(fault.into()),
-    }
-}
-
-/// Plays the rows through a desk, and closes it; false where it wasn't launched for want of memory.
-fn played<M: Consistency + Sync, N: DeskName, R: Threads + Wait + Abort + Sync>(
-    rt: &R,
-    alloc: Global,
-    blank: Box<Blank<M>>,
-    rows: &[Row],
-) -> Result<bool, Fail>
-    requires { name_of M.rules blank.value ≡ N.desk }
-{
-    match Desk::<M, N, Open, &R>::launch(rt, alloc, Box::into_inner(blank), 2, Open) {
-        Ok(launched) => played_through(rt, alloc, launched, rows),
-        Err(LaunchFault::Boot(BootFault::NoMemory) | LaunchFault::NoBoard) => Ok(false),
-        Err(fault) => Err(fault.into()),
-    }
-}
-
-fn played_through<M: Consistency + Sync, N: DeskName, R: Threads + Wait + Abort + Sync>(
-    rt: &R,
-    alloc: Global,
-    launched: Launched<M, N, Open, &R>,
-    rows: &[Row],
-) -> Result<bool, Fail> {
-    let Launched {
-        desk,
-        mut seats,
-        control,
-        readers,
-    } = launched;
-    let control = rows_played(rt, alloc, &desk, &mut seats, control, rows)?;
-    rows_seen(rt, readers, rows)?;
-    let journal = closed(rt, alloc, desk, seats, control)?;
-    assert!(rt; journal.entries().len() == rows.len());
-    assert!(rt; are_numbered(&journal));
-    Ok(true)
-}
-
-/// The control after the rows.
-fn rows_played<M: Consistency + Sync, N: DeskName, R: Threads + Wait + Abort + Sync>(
-    rt: &R,
-    alloc: Global,
-    desk: &Desk<M, N, Open, &R>,
-    seats: &mut Vec<Seat>,
-    control: Control,
-    rows: &[Row],
-) -> Result<Control, Fail> {
-    let mut control = control;
-    for row in rows {
-        control = row_played(rt, alloc, desk, seats, control, *row)?;
-    }
-    Ok(control)
-}
-
-/// The control after a row, which is answered as it should be.
-fn row_played<M: Consistency + Sync, N: DeskName, R: Threads + Wait + Abort + Sync>(
-    rt: &R,
-    alloc: Global,
-    desk: &Desk<M, N, Open, &R>,
-    seats: &mut Vec<Seat>,
-    control: Control,
-    row: Row,
-) -> Result<Control, Fail> {
-    let (place, event, said) = row;
-    let (control, answer) = match place {
-        Some(place) => (control, submitted(rt, alloc, desk, seats, place, event)?),
-        None => commanded(rt, alloc, desk, control, event)?,
-    };
-    assert!(rt; answer == said);
-    Ok(control)
-}
-
-/// The one reader has seen the rows.
-fn rows_seen<N: DeskName, R: Abort>(
-    rt: &R,
-    mut readers: Vec<BoardReader<N>>,
-    rows: &[Row],
-) -> Result<(), Fail> {
-    let Some(mut reader) = readers.pop() else {
-        return Err("one reader".into());
-    };
-    assert!(rt; reader.state_of(ONE).is_some());
-    assert!(rt; reader.seen() == rows.len() as u64);
-    Ok(())
-}
-
-/// The answer to an event that is sent from the seat at a place: once more where an allocation failed, after which the
-/// seat is as it was.
-fn submitted<M: Consistency, N: DeskName, R: Wait + Abort>(
-    rt: &R,
-    alloc: Global,
-    desk: &Desk<M, N, Open, &R>,
-    seats: &mut Vec<Seat>,
-    place: usize,
-    event: Event,
-) -> Result<Said, Fail> {
-    seats.reserve(1).or_else(|_| seats.reserve(1))?;
-    if place >= seats.len() {
-        return Err("no such seat".into());
-    }
-    let seat = seats.remove(place);
-    let done = sent_at_last(rt, alloc, desk, seat, event)?;
-    put_back(seats, place, done)
-}
-
-/// What a desk gives for an event: after a failed allocation for the same call, made again.
-fn sent_at_last<M: Consistency, N: DeskName, R: Wait + Abort>(
-    rt: &R,
-    alloc: Global,
-    desk: &Desk<M, N, Open, &R>,
-    seat: Seat,
-    event: Event,
-) -> Result<Submitted<N>, Fail> {
-    let sent = seat.entries().len();
-    let taken = match desk.submit(rt, alloc, seat, event) {
-        Ok(done) => Ok(done),
-        Err(turned) => sent_again(rt, alloc, desk, turned, sent, event),
-    };
-    if let Ok(done) = &taken {
-        assert!(rt; done.seat.entries().len() == sent + 1);
-    }
-    taken
-}
-
-/// What a desk gives for an event that was turned back as an allocation failed, with the seat as it was.
-fn sent_again<M: Consistency, N: DeskName, R: Wait + Abort>(
-    rt: &R,
-    alloc: Global,
-    desk: &Desk<M, N, Open, &R>,
-    turned: Turned<Seat>,
-    sent: usize,
-    event: Event,
-) -> Result<Submitted<N>, Fail> {
-    let Turned { part, cause } = turned;
-    assert!(rt; cause == Cause::NoMemory);
-    assert!(rt; part.entries().len() == sent);
-    match desk.submit(rt, alloc, part, event) {
-        Ok(done) => Ok(done),
-        Err(_) => Err("turned back twice".into()),
-    }
-}
-
-/// The control after an event, and the answer to it, in the same way.
-fn commanded<M: Consistency + Sync, N: DeskName, R: Threads + Wait + Abort + Sync>(
-    rt: &R,
-    alloc: Global,
-    desk: &Desk<M, N, Open, &R>,
-    control: Control,
-    event: Event,
-) -> Result<(Control, Said), Fail> {
-    let sent = control.entries().len();
-    let taken = match desk.command(rt, alloc, control, event) {
-        Ok(done) => Ok(answered(done)),
-        Err(turned) => commanded_again(rt, alloc, desk, turned, sent, event),
-    };
-    if let Ok((control, _)) = &taken {
-        assert!(rt; control.entries().len() == sent + 1);
-    }
-    taken
-}
-
-/// The same for an event that was turned back as an allocation failed, with the control as it was.
-fn commanded_again<M: Consistency + Sync, N: DeskName, R: Threads + Wait + Abort + Sync>(
-    rt: &R,
-    alloc: Global,
-    desk: &Desk<M, N, Open, &R>,
-    turned: Turned<Control>,
-    sent: usize,
-    event: Event,
-) -> Result<(Control, Said), Fail> {
-    let Turned { part, cause } = turned;
-    assert!(rt; cause == Cause::NoMemory);
-    assert!(rt; part.entries().len() == sent);
-    match desk.command(rt, alloc, part, event) {
-        Ok(done) => Ok(answered(done)),
-        Err(_) => Err("turned back twice".into()),
-    }
-}
-
-/// The control and what is said, of an answer.
-fn answered<N: DeskName>(done: Commanded<N>) -> (Control, Said) {
-    let said = in_short(&done.reply);
-    (done.control, said)
-}
-
-/// The journal of a desk that is closed with all its seats: the audit is made once more where an allocation failed, with
-/// what was handed back.
-fn closed<M: Consistency, N: DeskName, R: Wait + Abort>(
-    rt: &R,
-    alloc: Global,
-    desk: Desk<M, N, Open, &R>,
-    seats: Vec<Seat>,
-    control: Control,
-) -> Result<Journal, Fail> {
-    match desk.close(rt, alloc, seats, control) {
-        Ok(journal) => Ok(journal),
-        Err(
-            Unclosed {
-                journal,
-                seats,
-                control,
-                cause,
-            },
-        ) => {
-            assert!(rt; cause == CloseCause::NoMemory);
-            assert!(rt; journal.audit(alloc, seats.as_slice(), &control) == Ok(()));
-            Ok(journal)
+    /// Where there is no desk, because of this.
+    fn without(fault: &LaunchFault) -> Ending {
+        match fault {
+            LaunchFault::Boot(BootFault::NoMemory) | LaunchFault::NoBoard => Ending::NoDesk,
+            _ => Ending::Wrong,
         }
     }
 }
 
-/// Whether the entries have the numbers from 1, without a gap.
-fn are_numbered(journal: &Journal) -> bool {
-    let mut numbers = journal.entries().iter().zip(1u32..);
-    numbers.all(|(entry, number)| entry.number() == number)
+fn walked<R: Threads + Wait + Sync>(rt: &R, alloc: Global) -> Ending {
+    match blank_of_both(alloc, Hybrid) {
+        Ok(blank) => played::<Hybrid, Brand, R>(rt, alloc, blank, &WALKED),
+        Err(fault) => Ending::without(&fault),
+    }
+}
+
+fn stopped<R: Threads + Wait + Sync>(rt: &R, alloc: Global) -> Ending {
+    match blank_of_both(alloc, AllAtOnce) {
+        Ok(blank) => played::<AllAtOnce, Brand, R>(rt, alloc, blank, &STOPPED),
+        Err(fault) => Ending::without(&fault),
+    }
+}
+
+const NO_MEMORY: LaunchFault = LaunchFault::Boot(BootFault::NoMemory);
+
+/// How a desk of tasks 1 and 2 starts.
+fn blank_of_both<M: Consistency>(alloc: Global, model: M) -> Result<Box<Blank<M>>, LaunchFault> {
+    let Ok(patches) = patched(alloc) else {
+        return Err(NO_MEMORY);
+    };
+    match Blank::new(alloc, model, patches, &BOTH, 1) {
+        Ok(blank) => boxed(alloc, blank),
+        Err(fault) => Err(fault),
+    }
+}
+
+fn boxed<M: Consistency>(alloc: Global, blank: Blank<M>) -> Result<Box<Blank<M>>, LaunchFault> {
+    match Box::new(alloc, blank) {
+        Ok(blank) => Ok(blank),
+        Err(_) => Err(NO_MEMORY),
+    }
+}
+
+/// Plays the rows through a desk, and closes it.
+fn played<M: Consistency + Sync, N: DeskName, R: Threads + Wait + Sync>(
+    rt: &R,
+    alloc: Global,
+    blank: Box<Blank<M>>,
+    rows: &[Row],
+) -> Ending
+    requires { name_of M.rules blank.value ≡ N.desk }
+{
+    match Desk::<M, N, Open, &R>::launch(rt, alloc, Box::into_inner(blank), 2, Open) {
+        Ok(launched) => played_by(rt, alloc, launched, rows),
+        Err(fault) => Ending::without(&fault),
+    }
+}
+
+fn played_by<M: Consistency + Sync, N: DeskName, R: Threads + Wait + Sync>(
+    rt: &R,
+    alloc: Global,
+    launched: Launched<M, N, Open, &R>,
+    rows: &[Row],
+) -> Ending {
+    match parted(alloc, launched) {
+        Some((desk, mut hands)) => {
+            let is_played = are_played(rt, alloc, &desk, &mut hands, rows);
+            Ending::by(is_played && is_closed(rt, alloc, desk, hands, rows.len()))
+        }
+        None => Ending::NoDesk,
+    }
+}
+
+/// Whether each row is answered as it should be, and the one reader has seen them.
+fn are_played<M: Consistency + Sync, N: DeskName, R: Threads + Wait + Sync>(
+    rt: &R,
+    alloc: Global,
+    desk: &Desk<M, N, Open, &R>,
+    hands: &mut Hands<N>,
+    rows: &[Row],
+) -> bool {
+    for (place, event, said) in rows {
+        if answer(rt, alloc, desk, hands, *place, *event) != *said {
+            return false;
+        }
+    }
+    match hands.readers.as_mut_slice() {
+        [reader] => has_seen(reader, rows.len() as u64),
+        _ => false,
+    }
+}
+
+/// The answer to an event of a row.
+fn answer<M: Consistency + Sync, N: DeskName, R: Threads + Wait + Sync>(
+    rt: &R,
+    alloc: Global,
+    desk: &Desk<M, N, Open, &R>,
+    hands: &mut Hands<N>,
+    place: Option<usize>,
+    event: Event,
+) -> Said {
+    match place {
+        Some(place) => submitted(rt, alloc, desk, hands, place, event),
+        None => commanded(rt, alloc, desk, hands, event),
+    }
+}
+
+/// Whether a reader has seen so many events, and task 1.
+fn has_seen<N: DeskName>(reader: &mut BoardReader<N>, count: u64) -> bool {
+    reader.state_of(ONE).is_some() && reader.seen() == count
+}
+
+/// Whether there is room for a child's seat, made again where an allocation fails.
+fn has_room(seats: &mut Vec<Seat>) -> bool {
+    seats.reserve(1).is_ok() || seats.reserve(1).is_ok()
+}
+
+/// How many events were sent from the seat at a place.
+fn sent_from(seats: &[Seat], place: usize) -> usize {
+    match seats.get(place) {
+        Some(seat) => seat.entries().len(),
+        None => 0,
+    }
+}
+
+/// The answer to an event that is sent from the seat at a place: once more where an allocation failed, after which the
+/// seat is as it was.
+fn submitted<M: Consistency, N: DeskName, R: Wait>(
+    rt: &R,
+    alloc: Global,
+    desk: &Desk<M, N, Open, &R>,
+    hands: &mut Hands<N>,
+    place: usize,
+    event: Event,
+) -> Said {
+    if !has_room(&mut hands.seats) {
+        return Said::Other;
+    }
+    let sent = sent_from(hands.seats.as_slice(), place);
+    let mut said = submit(rt, alloc, desk, hands, place, event);
+    if said == Said::Turned(Cause::NoMemory) && sent_from(hands.seats.as_slice(), place) == sent {
+        said = submit(rt, alloc, desk, hands, place, event);
+    }
+    match sent_from(hands.seats.as_slice(), place).checked_sub(sent) {
+        Some(1) => said,
+        _ => Said::Other,
+    }
+}
+
+/// How many events were sent from the control.
+fn sent_by(control: Option<&Control>) -> usize {
+    match control {
+        Some(control) => control.entries().len(),
+        None => 0,
+    }
+}
+
+/// The answer to an event that is sent from the control, in the same way.
+fn commanded<M: Consistency + Sync, N: DeskName, R: Threads + Wait + Sync>(
+    rt: &R,
+    alloc: Global,
+    desk: &Desk<M, N, Open, &R>,
+    hands: &mut Hands<N>,
+    event: Event,
+) -> Said {
+    let sent = sent_by(hands.control.as_ref());
+    let mut said = command(rt, alloc, desk, hands, event);
+    if said == Said::Turned(Cause::NoMemory) && sent_by(hands.control.as_ref()) == sent {
+        said = command(rt, alloc, desk, hands, event);
+    }
+    match sent_by(hands.control.as_ref()).checked_sub(sent) {
+        Some(1) => said,
+        _ => Said::Other,
+    }
+}
+
+/// Whether a desk is closed with all its seats, and its journal has so many entries: the audit is made once more where an
+/// allocation failed, with what was handed back.
+fn is_closed<M: Consistency, N: DeskName, R: Wait>(
+    rt: &R,
+    alloc: Global,
+    desk: Desk<M, N, Open, &R>,
+    hands: Box<Hands<N>>,
+    count: usize,
+) -> bool {
+    match closed(rt, alloc, desk, hands) {
+        Some(Ok(journal)) => is_numbered(&journal, count),
+        Some(Err(unclosed)) => {
+            is_audited_again(alloc, &unclosed) && is_numbered(&unclosed.journal, count)
+        }
+        None => false,
+    }
+}
+
+/// Whether the audit failed for want of memory, and succeeds.
+fn is_audited_again(alloc: Global, unclosed: &Unclosed) -> bool {
+    let Unclosed {
+        journal,
+        seats,
+        control,
+        cause,
+    } = unclosed;
+    *cause == CloseCause::NoMemory && journal.audit(alloc, seats.as_slice(), control) == Ok(())
+}
+
+/// Whether the entries have the numbers from 1 to this, without a gap.
+fn is_numbered(journal: &Journal, count: usize) -> bool {
+    for (entry, number) in journal.entries().iter().zip(1u32..) {
+        if entry.number() != number {
+            return false;
+        }
+    }
+    journal.entries().len() == count
 }

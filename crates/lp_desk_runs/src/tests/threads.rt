@@ -3,123 +3,81 @@ ghost use Rattle.std.specs.Prelude.{◌≡◌};
 ghost use Rattle.lp_board.specs.Blanks.{name_of};
 
 use super::*;
-use lp_desk::Unclosed;
 use lp_log::CloseCause;
-use std::process::Abort;
 use std::thread::join;
 
-/// Sends `enter 1` and `exit 1`, and gives the seat with what was said and told of the second.
-fn enter_and_exit<M: Consistency, N: DeskName, R: Wait>(
+/// Whether `enter 1` and `exit 1` are taken from the first seat, and task 1 switches.
+fn enters_and_exits<M: Consistency, N: DeskName, R: Wait>(
     rt: &R,
     alloc: Global,
     desk: &Desk<M, N, Open, &R>,
-    seat: Seat,
-) -> Option<(Seat, Said, Told<N>)> {
-    let (seat, _, _) = sent_from(rt, alloc, desk, seat, Event::Enter(ONE))?;
-    sent_from(rt, alloc, desk, seat, Event::Exit(ONE))
+    hands: &mut Hands<N>,
+) -> bool {
+    submit(rt, alloc, desk, hands, 0, Event::Enter(ONE)) == Said::Done
+        && submit(rt, alloc, desk, hands, 0, Event::Exit(ONE)) == Said::Switched(1)
 }
 
-/// What is told where `enable` is sent from here, and `enter 1` and `exit 1` from another thread.
-/// The first seat comes last, and the control comes back.
-pub(super) fn after_an_exit<
+/// Whether task 1 switches where `enable` is sent from here, and `enter 1` and `exit 1` from another thread.
+pub(super) fn exits<
     M: Consistency + Send + Sync,
     N: DeskName + Send + Sync,
     R: Threads + Wait + Sync,
->(
-    rt: &R,
-    alloc: Global,
-    desk: &Desk<M, N, Open, &R>,
-    seats: &mut Vec<Seat>,
-    control: Control,
-) -> Result<(Control, Told<N>), Fail> {
-    let (control, _) = command(rt, alloc, desk, control, Event::Enable)?;
-    let told = exited(rt, alloc, desk, seats)?;
-    Ok((control, told))
-}
-
-/// What is told where the first seat sends `enter 1` and `exit 1` from another thread, and comes last then.
-fn exited<M: Consistency + Send + Sync, N: DeskName + Send + Sync, R: Threads + Wait + Sync>(
-    rt: &R,
-    alloc: Global,
-    desk: &Desk<M, N, Open, &R>,
-    seats: &mut Vec<Seat>,
-) -> Result<Told<N>, Fail> {
-    let one = first(seats)?;
-    let (sent, _) = join(rt, || enter_and_exit(rt, alloc, desk, one), || ());
-    match sent {
-        Some((one, Said::Switched(1), told)) => {
-            seats.push(one)?;
-            Ok(told)
-        }
-        _ => Err("task 1 switches".into()),
+>(rt: &R, alloc: Global, desk: &Desk<M, N, Open, &R>, hands: &mut Hands<N>) -> bool {
+    if command(rt, alloc, desk, hands, Event::Enable) != Said::Done {
+        return false;
     }
+    let (switches, _) = join(rt, || enters_and_exits(rt, alloc, desk, hands), || ());
+    switches
 }
 
 /// Seat 2 is kept back, and the audit is made again with it.
 #[test]
-fn a_seat_that_is_kept_back_is_missed(rt: HostRuntime) -> Result<(), Fail> {
-    let alloc = rt.alloc();
-    let blank = blank(alloc, Hybrid, &BOTH, 1)?;
-    kept_back::<Hybrid, Brand, _>(&rt, alloc, blank)
+fn a_seat_that_is_kept_back_is_missed(rt: HostRuntime) {
+    assert!(rt; is_missed(&rt, rt.alloc()));
 }
 
-fn kept_back<
-    M: Consistency + Send + Sync,
-    N: DeskName + Send + Sync,
-    R: Threads + Wait + Abort + Sync,
->(rt: &R, alloc: Global, blank: Box<Blank<M>>) -> Result<(), Fail>
-    requires { name_of M.rules blank.value ≡ N.desk }
-{
-    let started = started::<M, N, R>(rt, alloc, blank)?;
-    let Launched {
-        desk,
-        mut seats,
-        control,
-        ..
-    } = Box::into_inner(started);
-    let (control, two) = first_kept_back(rt, alloc, &desk, &mut seats, control)?;
-    match desk.close(rt, alloc, seats, control) {
-        Ok(_) => Err("closed".into()),
-        Err(unclosed) => audited_again(rt, alloc, unclosed, two),
+fn is_missed<R: Threads + Wait + Sync>(rt: &R, alloc: Global) -> bool {
+    match blank(alloc, Hybrid, &BOTH, 1) {
+        Some(blank) => kept_back::<Hybrid, Brand, R>(rt, alloc, blank),
+        None => false,
     }
 }
 
-/// The control, and the seat that comes first after the exit.
-fn first_kept_back<
+fn kept_back<M: Consistency + Send + Sync, N: DeskName + Send + Sync, R: Threads + Wait + Sync>(
+    rt: &R,
+    alloc: Global,
+    blank: Box<Blank<M>>,
+) -> bool
+    requires { name_of M.rules blank.value ≡ N.desk }
+{
+    match started::<M, N, Open, R>(rt, alloc, blank, Open) {
+        Some((desk, hands)) => is_missed_after_an_exit(rt, alloc, desk, hands),
+        None => false,
+    }
+}
+
+/// Whether the second seat is missed where the first has sent its events.
+fn is_missed_after_an_exit<
     M: Consistency + Send + Sync,
     N: DeskName + Send + Sync,
     R: Threads + Wait + Sync,
->(
-    rt: &R,
-    alloc: Global,
-    desk: &Desk<M, N, Open, &R>,
-    seats: &mut Vec<Seat>,
-    control: Control,
-) -> Result<(Control, Seat), Fail> {
-    let (control, _) = after_an_exit(rt, alloc, desk, seats, control)?;
-    let two = first(seats)?;
-    Ok((control, two))
+>(rt: &R, alloc: Global, desk: Desk<M, N, Open, &R>, mut hands: Box<Hands<N>>) -> bool {
+    let switches = exits(rt, alloc, &desk, &mut hands);
+    let Some(two) = hands.seat(1) else {
+        return false;
+    };
+    match closed(rt, alloc, desk, hands) {
+        Some(Err(mut unclosed)) => switches && is_found_again(alloc, &mut unclosed, two),
+        _ => false,
+    }
 }
 
-/// One of two seats is missed, and with it the audit finds nothing.
-fn audited_again<R: Abort>(
-    rt: &R,
-    alloc: Global,
-    unclosed: Unclosed,
-    kept_back: Seat,
-) -> Result<(), Fail> {
-    let Unclosed {
-        journal,
-        mut seats,
-        control,
-        cause,
-    } = unclosed;
-    seats.push(kept_back)?;
-    let audited = journal.audit(alloc, seats.as_slice(), &control);
-    drop(journal);
-    drop(seats);
-    drop(control);
-    assert!(rt; cause == (CloseCause::Missing { have: 1, want: 2 }));
-    assert!(rt; audited == Ok(()));
-    Ok(())
+/// Whether one of two seats is missed, and with it the audit finds nothing.
+fn is_found_again(alloc: Global, unclosed: &mut Unclosed, kept_back: Seat) -> bool {
+    unclosed.cause == (CloseCause::Missing { have: 1, want: 2 })
+        && unclosed.seats.push(kept_back).is_ok()
+        && unclosed
+            .journal
+            .audit(alloc, unclosed.seats.as_slice(), &unclosed.control)
+            == Ok(())
 }

@@ -1,66 +1,24 @@
 //! A walk that is judged over copies of the tasks.
+use super::scans::{ASLEEP, RETURNS, apply_all, opened};
 use super::*;
-use lp_log::{Log, Opened};
+use lp_log::Log;
 use lp_model::{Blame, Verdict};
 use lp_scan::{Judged, judge};
+use lp_transition::Halt;
 
-/// A log in a box.
-type Boxed = Box<Log<Hybrid>>;
-
-/// A log of task 1, asleep in a call of `a` as the transition begins.
-fn asleep_in_a(alloc: Global) -> Result<Boxed, Fail> {
-    let Opened { log, .. } = Log::open(alloc, Hybrid, patched(alloc)?, &FIRST)?;
-    let mut log = Box::new(alloc, log)?;
-    apply_all(
-        alloc,
-        &mut log,
-        &[
-            Event::Enter(ONE),
-            Event::Call(ONE, A),
-            Event::Sleep(ONE),
-            Event::Enable,
-        ],
-    )?;
-    Ok(log)
-}
-
-/// Applies these events to a log.
-fn apply_all(alloc: Global, log: &mut Log<Hybrid>, events: &[Event]) -> Result<(), Fail> {
-    for event in events {
-        log.apply(alloc, *event)?;
-    }
-    Ok(())
-}
+/// The walk that finds task 1 held by its call.
+const REFUSED: Verdict = Verdict {
+    task: ONE,
+    blame: Some(Blame::Frame(2)),
+};
 
 /// What a walk finds of copies of the tasks.
 fn judged_now<R: Threads + Sync>(
     rt: &R,
     alloc: Global,
     log: &Log<Hybrid>,
-) -> Result<Judged<Hybrid>, Fail> {
+) -> Result<Judged<Hybrid>, Halt> {
     Ok(judge(rt, alloc, 2, &Open, Hybrid, log.batch(alloc)?)?)
-}
-
-/// The task returns and sleeps again before the walk is taken, and so it is looked at anew and switches.
-#[test]
-fn a_copy_that_has_changed_is_not_used(rt: HostRuntime) -> Result<(), Fail> {
-    let alloc = rt.alloc();
-    let mut log = asleep_in_a(alloc)?;
-    let judged = judged_now(&rt, alloc, &log)?;
-    let refused = Verdict {
-        task: ONE,
-        blame: Some(Blame::Frame(2)),
-    };
-    assert!(rt; judged.verdicts() == [refused].as_slice());
-    apply_all(
-        alloc,
-        &mut log,
-        &[Event::Wake(ONE), Event::Ret(ONE), Event::Sleep(ONE)],
-    )?;
-    let said = said_to_judged(alloc, &mut log, &judged)?;
-    assert!(rt; said == Said::SwitchedLast(1));
-    assert!(rt; log.entries().last().map(|entry| entry.number()) == Some(8));
-    Ok(())
 }
 
 /// What a log says to what was judged.
@@ -68,7 +26,46 @@ fn said_to_judged(
     alloc: Global,
     log: &mut Log<Hybrid>,
     judged: &Judged<Hybrid>,
-) -> Result<Said, Fail> {
+) -> Result<Said, Halt> {
     let reply = log.apply_judged(alloc, judged)?;
     Ok(in_short(&reply))
+}
+
+/// Whether what was judged of a log's tasks refuses task 1, which then returns and switches.
+fn switches_after(
+    alloc: Global,
+    log: &mut Log<Hybrid>,
+    judged: &Judged<Hybrid>,
+) -> Result<bool, Halt> {
+    apply_all(alloc, log, &RETURNS)?;
+    let said = said_to_judged(alloc, log, judged)?;
+    Ok(judged.verdicts() == [REFUSED].as_slice() && said == Said::SwitchedLast(1))
+}
+
+/// Whether task 1 switches at a walk that was judged while it slept in its call.
+fn switches<R: Threads + Sync>(rt: &R, alloc: Global, log: &mut Log<Hybrid>) -> Result<bool, Halt> {
+    apply_all(alloc, log, &ASLEEP)?;
+    let judged = judged_now(rt, alloc, log)?;
+    switches_after(alloc, log, &judged)
+}
+
+/// Whether the last entry of a log has this number.
+fn ends_at(log: &Log<Hybrid>, number: u32) -> bool {
+    match log.entries() {
+        [.., last] => last.number() == number,
+        [] => false,
+    }
+}
+
+fn switches_at_first<R: Threads + Sync>(rt: &R, alloc: Global) -> bool {
+    match opened(alloc) {
+        Some((mut log, _)) => switches(rt, alloc, &mut log) == Ok(true) && ends_at(&log, 8),
+        None => false,
+    }
+}
+
+/// The task returns and sleeps again before the walk is taken, and so it is looked at anew and switches.
+#[test]
+fn a_copy_that_has_changed_is_not_used(rt: HostRuntime) {
+    assert!(rt; switches_at_first(&rt, rt.alloc()));
 }
