@@ -141,10 +141,15 @@ impl<N: DeskName> Hands<N> {
         }
     }
 
+    /// All seats, handed out.
+    fn all_seats(&mut self, alloc: Global) -> Vec<Seat> {
+        replace(&mut self.seats, Vec::new(alloc))
+    }
+
     /// The seats by themselves.
     fn seated(&mut self, alloc: Global) -> Hands<N> {
         Hands {
-            seats: replace(&mut self.seats, Vec::new(alloc)),
+            seats: self.all_seats(alloc),
             control: None,
             readers: Vec::new(alloc),
             told: None,
@@ -288,11 +293,10 @@ fn closed<M: Consistency, N: DeskName, R: Wait>(
     rt: &R,
     alloc: Global,
     desk: Desk<M, N, Open, &R>,
-    hands: Box<Hands<N>>,
+    hands: &mut Hands<N>,
 ) -> Option<Result<Journal, Unclosed>> {
-    let Hands { seats, control, .. } = Box::into_inner(hands);
-    match control {
-        Some(control) => Some(desk.close(rt, alloc, seats, control)),
+    match hands.control.take() {
+        Some(control) => Some(desk.close(rt, alloc, hands.all_seats(alloc), control)),
         None => None,
     }
 }
@@ -302,7 +306,7 @@ fn entries_at_close<M: Consistency, N: DeskName, R: Wait>(
     rt: &R,
     alloc: Global,
     desk: Desk<M, N, Open, &R>,
-    hands: Box<Hands<N>>,
+    hands: &mut Hands<N>,
 ) -> Option<usize> {
     match closed(rt, alloc, desk, hands) {
         Some(Ok(journal)) => Some(journal.entries().len()),

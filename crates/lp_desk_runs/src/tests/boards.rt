@@ -30,7 +30,7 @@ fn shown_after_an_exit<
     requires { name_of M.rules blank.value ≡ N.desk }
 {
     match started::<M, N, Open, R>(rt, alloc, blank, Open) {
-        Some((desk, hands)) => shown_up_to_the_close(rt, alloc, desk, hands),
+        Some((desk, mut hands)) => shown_up_to_the_close(rt, alloc, desk, &mut hands),
         None => false,
     }
 }
@@ -39,13 +39,13 @@ fn shown_up_to_the_close<
     M: Consistency + Send + Sync,
     N: DeskName + Send + Sync,
     R: Threads + Wait + Sync,
->(rt: &R, alloc: Global, desk: Desk<M, N, Open, &R>, mut hands: Box<Hands<N>>) -> bool {
+>(rt: &R, alloc: Global, desk: Desk<M, N, Open, &R>, hands: &mut Hands<N>) -> bool {
     let Some(mut reader) = hands.readers.pop() else {
         return false;
     };
-    let is_shown = is_shown_while_open(rt, alloc, &desk, &mut hands, &mut reader);
-    let entries = entries_at_close(rt, alloc, desk, hands);
-    is_shown && entries == Some(4) && is_nothing_shown(alloc, &mut reader)
+    is_shown_while_open(rt, alloc, &desk, hands, &mut reader)
+        && entries_at_close(rt, alloc, desk, hands) == Some(4)
+        && is_nothing_shown(alloc, &mut reader)
 }
 
 /// Whether the right thing is shown while the desk is open.
@@ -118,10 +118,19 @@ fn watched_stop<M: Consistency + Send + Sync, N: DeskName + Send + Sync, R: Thre
     requires { name_of M.rules blank.value ≡ N.desk }
 {
     match started::<M, N, Open, R>(rt, alloc, blank, Open) {
-        Some((desk, mut hands)) => match hands.readers.pop() {
-            Some(mut reader) => watched(rt, alloc, &desk, &mut hands, &mut reader),
-            None => false,
-        },
+        Some((desk, mut hands)) => watched_by_one(rt, alloc, &desk, &mut hands),
+        None => false,
+    }
+}
+
+/// Whether the one reader saw what it should.
+fn watched_by_one<
+    M: Consistency + Send + Sync,
+    N: DeskName + Send + Sync,
+    R: Threads + Wait + Sync,
+>(rt: &R, alloc: Global, desk: &Desk<M, N, Open, &R>, hands: &mut Hands<N>) -> bool {
+    match hands.readers.pop() {
+        Some(mut reader) => watched(rt, alloc, desk, hands, &mut reader),
         None => false,
     }
 }
@@ -209,12 +218,20 @@ fn seen_by_all<M: Consistency, N: DeskName, R: Wait>(
     requires { name_of M.rules blank.value ≡ N.desk }
 {
     match started::<M, N, Open, R>(rt, alloc, blank, Open) {
-        Some((desk, mut hands)) => {
-            submit(rt, alloc, &desk, &mut hands, 0, Event::Enter(ONE)) == Said::Done
-                && all_see_one_settled(hands.readers.as_mut_slice())
-        }
+        Some((desk, mut hands)) => sees_an_entry(rt, alloc, &desk, &mut hands),
         None => false,
     }
+}
+
+/// Whether all readers see it.
+fn sees_an_entry<M: Consistency, N: DeskName, R: Wait>(
+    rt: &R,
+    alloc: Global,
+    desk: &Desk<M, N, Open, &R>,
+    hands: &mut Hands<N>,
+) -> bool {
+    submit(rt, alloc, desk, hands, 0, Event::Enter(ONE)) == Said::Done
+        && all_see_one_settled(hands.readers.as_mut_slice())
 }
 
 /// Whether there are 64, and each of them sees it.

@@ -18,11 +18,22 @@ fn seats_entered<M: Consistency, N: DeskName, R: Wait>(
 ) -> Option<Vec<Seat>>
     requires { name_of M.rules blank.value ≡ N.desk }
 {
-    let (desk, mut hands) = started::<M, N, Open, R>(rt, alloc, blank, Open)?;
-    if submit(rt, alloc, &desk, &mut hands, 0, Event::Enter(ONE)) == Said::Done {
-        Some(Box::into_inner(hands).seats)
-    } else {
-        None
+    match started::<M, N, Open, R>(rt, alloc, blank, Open) {
+        Some((desk, mut hands)) => entered(rt, alloc, &desk, &mut hands),
+        None => None,
+    }
+}
+
+/// The seats of a desk, the first of which has sent `enter 1`.
+fn entered<M: Consistency, N: DeskName, R: Wait>(
+    rt: &R,
+    alloc: Global,
+    desk: &Desk<M, N, Open, &R>,
+    hands: &mut Hands<N>,
+) -> Option<Vec<Seat>> {
+    match submit(rt, alloc, desk, hands, 0, Event::Enter(ONE)) {
+        Said::Done => Some(hands.all_seats(alloc)),
+        _ => None,
     }
 }
 
@@ -39,7 +50,19 @@ fn unclosed<M: Consistency, N: DeskName, R: Wait>(
 ) -> Option<(Unclosed, Seat)>
     requires { name_of M.rules blank.value ≡ N.desk }
 {
-    let (desk, mut hands) = started::<M, N, Open, R>(rt, alloc, blank, Open)?;
+    match started::<M, N, Open, R>(rt, alloc, blank, Open) {
+        Some((desk, mut hands)) => closed_without_one(rt, alloc, desk, &mut hands),
+        None => None,
+    }
+}
+
+/// What is handed back as a desk is closed without its first seat, and that seat.
+fn closed_without_one<M: Consistency, N: DeskName, R: Wait>(
+    rt: &R,
+    alloc: Global,
+    desk: Desk<M, N, Open, &R>,
+    hands: &mut Hands<N>,
+) -> Option<(Unclosed, Seat)> {
     let own = hands.seat(0)?;
     match closed(rt, alloc, desk, hands) {
         Some(Err(unclosed)) => Some((unclosed, own)),
@@ -95,7 +118,14 @@ fn second<M: Consistency, N: DeskName, R: Wait>(
 ) -> Option<(Seat, Control)>
     requires { name_of M.rules blank.value ≡ N.desk }
 {
-    let (_, mut hands) = started::<M, N, Open, R>(rt, alloc, blank, Open)?;
+    match started::<M, N, Open, R>(rt, alloc, blank, Open) {
+        Some((_, mut hands)) => second_of(&mut hands),
+        None => None,
+    }
+}
+
+/// The second seat, and the control.
+fn second_of<N: DeskName>(hands: &mut Hands<N>) -> Option<(Seat, Control)> {
     match (hands.seat(1), hands.control.take()) {
         (Some(seat), Some(control)) => Some((seat, control)),
         _ => None,
@@ -140,8 +170,21 @@ fn closed_after_a_stranger<M: Consistency, N: DeskName, R: Wait>(
 ) -> Option<CloseCause>
     requires { name_of M.rules blank.value ≡ N.desk }
 {
-    let (desk, mut hands) = started::<M, N, Open, R>(rt, alloc, blank, Open)?;
-    if is_refused_to_a_stranger(rt, alloc, &desk, &mut hands, seat) {
+    match started::<M, N, Open, R>(rt, alloc, blank, Open) {
+        Some((desk, mut hands)) => cause_after_a_stranger(rt, alloc, desk, &mut hands, seat),
+        None => None,
+    }
+}
+
+/// The cause after an event from another desk's seat, which is refused.
+fn cause_after_a_stranger<M: Consistency, N: DeskName, R: Wait>(
+    rt: &R,
+    alloc: Global,
+    desk: Desk<M, N, Open, &R>,
+    hands: &mut Hands<N>,
+    seat: Seat,
+) -> Option<CloseCause> {
+    if is_refused_to_a_stranger(rt, alloc, &desk, hands, seat) {
         cause_at_close(rt, alloc, desk, hands)
     } else {
         None
@@ -169,12 +212,26 @@ fn closed_by_another<M: Consistency + Sync, N: DeskName, R: Threads + Wait + Syn
 ) -> Option<CloseCause>
     requires { name_of M.rules blank.value ≡ N.desk }
 {
-    let (desk, mut hands) = started::<M, N, Open, R>(rt, alloc, blank, Open)?;
-    if command(rt, alloc, &desk, &mut hands, Event::Enable) != Said::Done {
-        return None;
+    match started::<M, N, Open, R>(rt, alloc, blank, Open) {
+        Some((desk, mut hands)) => cause_by_another(rt, alloc, desk, &mut hands, other),
+        None => None,
     }
+}
+
+/// The cause with another control, where the desk's own has sent an event.
+fn cause_by_another<M: Consistency + Sync, N: DeskName, R: Threads + Wait + Sync>(
+    rt: &R,
+    alloc: Global,
+    desk: Desk<M, N, Open, &R>,
+    hands: &mut Hands<N>,
+    other: Control,
+) -> Option<CloseCause> {
+    let said = command(rt, alloc, &desk, hands, Event::Enable);
     hands.control = Some(other);
-    cause_at_close(rt, alloc, desk, hands)
+    match said {
+        Said::Done => cause_at_close(rt, alloc, desk, hands),
+        _ => None,
+    }
 }
 
 /// Why a desk isn't closed; None where it is.
@@ -182,7 +239,7 @@ fn cause_at_close<M: Consistency, N: DeskName, R: Wait>(
     rt: &R,
     alloc: Global,
     desk: Desk<M, N, Open, &R>,
-    hands: Box<Hands<N>>,
+    hands: &mut Hands<N>,
 ) -> Option<CloseCause> {
     match closed(rt, alloc, desk, hands) {
         Some(Err(unclosed)) => Some(unclosed.cause),

@@ -32,7 +32,7 @@ fn turned_back<M: Consistency + Sync, N: DeskName, R: Threads + Wait + Sync>(
     match started::<M, N, Open, R>(rt, alloc, blank, Open) {
         Some((desk, mut hands)) => {
             are_turned_back(rt, alloc, &desk, &mut hands)
-                && entries_at_close(rt, alloc, desk, hands) == Some(0)
+                && entries_at_close(rt, alloc, desk, &mut hands) == Some(0)
         }
         None => false,
     }

@@ -142,7 +142,7 @@ fn played_by<M: Consistency + Sync, N: DeskName, R: Threads + Wait + Sync>(
     match parted(alloc, launched) {
         Some((desk, mut hands)) => {
             let is_played = are_played(rt, alloc, &desk, &mut hands, rows);
-            Ending::by(is_played && is_closed(rt, alloc, desk, hands, rows.len()))
+            Ending::by(is_played && is_closed(rt, alloc, desk, &mut hands, rows.len()))
         }
         None => Ending::NoDesk,
     }
@@ -257,7 +257,7 @@ fn is_closed<M: Consistency, N: DeskName, R: Wait>(
     rt: &R,
     alloc: Global,
     desk: Desk<M, N, Open, &R>,
-    hands: Box<Hands<N>>,
+    hands: &mut Hands<N>,
     count: usize,
 ) -> bool {
     match closed(rt, alloc, desk, hands) {

@@ -51,7 +51,7 @@ fn kept_back<M: Consistency + Send + Sync, N: DeskName + Send + Sync, R: Threads
     requires { name_of M.rules blank.value ≡ N.desk }
 {
     match started::<M, N, Open, R>(rt, alloc, blank, Open) {
-        Some((desk, hands)) => is_missed_after_an_exit(rt, alloc, desk, hands),
+        Some((desk, mut hands)) => is_missed_after_an_exit(rt, alloc, desk, &mut hands),
         None => false,
     }
 }
@@ -61,13 +61,26 @@ fn is_missed_after_an_exit<
     M: Consistency + Send + Sync,
     N: DeskName + Send + Sync,
     R: Threads + Wait + Sync,
->(rt: &R, alloc: Global, desk: Desk<M, N, Open, &R>, mut hands: Box<Hands<N>>) -> bool {
-    let switches = exits(rt, alloc, &desk, &mut hands);
-    let Some(two) = hands.seat(1) else {
+>(rt: &R, alloc: Global, desk: Desk<M, N, Open, &R>, hands: &mut Hands<N>) -> bool {
+    if !exits(rt, alloc, &desk, hands) {
         return false;
-    };
+    }
+    match hands.seat(1) {
+        Some(two) => is_missed_at_close(rt, alloc, desk, hands, two),
+        None => false,
+    }
+}
+
+/// Whether a seat that is kept back is missed.
+fn is_missed_at_close<M: Consistency, N: DeskName, R: Wait>(
+    rt: &R,
+    alloc: Global,
+    desk: Desk<M, N, Open, &R>,
+    hands: &mut Hands<N>,
+    kept_back: Seat,
+) -> bool {
     match closed(rt, alloc, desk, hands) {
-        Some(Err(mut unclosed)) => switches && is_found_again(alloc, &mut unclosed, two),
+        Some(Err(mut unclosed)) => is_found_again(alloc, &mut unclosed, kept_back),
         _ => false,
     }
 }
