@@ -8,7 +8,6 @@ use lp_checker::{CertFault, check_floor, check_waiting, laws};
 use lp_process::ProcessGroup;
 use lp_transition::{Halt, Opening};
 use std::alloc::AllocError;
-use std::test::*;
 
 /// A line: its group, its task, a frame's serial and the events.
 #[derive(Clone, Copy)]

@@ -3,7 +3,6 @@ use super::streams::{End, Zeros};
 use super::*;
 use lp_trace::{TraceFault, WriteFault};
 use std::io::{ErrorKind, Read};
-use std::test::*;
 
 /// How a run or a check under `hybrid` ended.
 #[derive(Clone, Copy, PartialEq, Eq)]

@@ -3,7 +3,6 @@ use super::*;
 use lp_models::Immediate;
 use lp_trace::ReadFault;
 use std::alloc::AllocError;
-use std::test::*;
 
 /// Whether a line of a text is one more than its part may have.
 fn is_too_many(alloc: Global, text: &str, line: u64) -> bool {

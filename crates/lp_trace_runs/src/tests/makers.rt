@@ -16,7 +16,6 @@ use lp_model::CheckKind;
 use lp_trace::ReplyList;
 use lp_transition::{Halt, Reply, Step, What, verdicts};
 use std::alloc::AllocError;
-use std::test::*;
 
 /// A scan of this kind, weighed by the verdicts on all who wait.
 fn scan(alloc: Global, core: &Core<Hybrid>, kind: CheckKind) -> Result<Step, Halt>
@@ -78,7 +77,7 @@ fn fed(alloc: Global, core: &mut Core<Hybrid>, events: &[Event]) -> Result<Box<M
     Ok(maker)
 }
 
-/// A maker after the events of a trace, and its engine.
+/// A maker after the events of a trace.
 fn made_of(alloc: Global, trace: &Trace) -> Option<Box<Maker>> {
     match boot(alloc, Hybrid, trace) {
         Some(mut core) => fed(alloc, &mut core, trace.events()).ok(),

@@ -4,7 +4,6 @@
 use super::*;
 use lp_replay::ReplayFault;
 use lp_text::ReadFault;
-use std::test::*;
 
 /// The child's trace with its certificate.
 const ACCEPTED: &str =

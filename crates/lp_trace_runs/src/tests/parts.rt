@@ -4,7 +4,6 @@ use lp_model::ForkKind;
 use lp_symbols::SymFault;
 use lp_trace::OfFault;
 use std::alloc::AllocError;
-use std::test::*;
 
 const A: SymId = SymId(0);
 

@@ -4,7 +4,6 @@ use lp_models::Immediate;
 use lp_trace::ReplyList;
 use std::alloc::AllocError;
 use std::str;
-use std::test::*;
 
 /// A trace whose events have replies of each kind, and what a report says of them.
 const TRACE: &str =

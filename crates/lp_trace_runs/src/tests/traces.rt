@@ -2,7 +2,6 @@
 use super::*;
 use lp_model::ForkKind;
 use lp_trace::{TraceForm, WriteFault};
-use std::test::*;
 
 /// A trace of two patches.
 const OF_TWO_PATCHES: &str =

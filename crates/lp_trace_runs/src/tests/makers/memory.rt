@@ -11,7 +11,6 @@ use super::*;
 use crate::tests::again::booted_again;
 use lp_model::ForkKind;
 use std::process::Abort;
-use std::test::*;
 
 const ONE: TaskId = TaskId(1);
 
