@@ -75,13 +75,23 @@ fn said_switched(groups: &[GroupId], completed: bool) -> Said {
 
 const NAMES: [&str; 3] = ["a", "b", "c"];
 
-/// The names `a`, `b` and `c`, in a box: docs/GATE.md says why.
-fn names(alloc: Global) -> Result<Box<Symbols>, SymFault> {
-    let mut symbols = Box::new(alloc, Symbols::new(alloc)?)?;
+/// Adds the names `a`, `b` and `c`.
+fn add_names(symbols: &mut Symbols) -> Result<(), SymFault> {
     for name in &NAMES {
         symbols.add(*name)?;
     }
-    Ok(symbols)
+    Ok(())
+}
+
+/// These names, in a box: docs/GATE.md says why.
+fn names(alloc: Global) -> Option<Box<Symbols>> {
+    match Symbols::new(alloc) {
+        Ok(mut symbols) => match add_names(&mut symbols) {
+            Ok(()) => Box::new(alloc, symbols).ok(),
+            Err(_) => None,
+        },
+        Err(_) => None,
+    }
 }
 
 /// A patch of each of these lists of symbols.
@@ -98,7 +108,7 @@ fn sets(alloc: Global, symbols: &Symbols, lists: &[&[SymId]]) -> Result<Vec<Patc
 /// A stack of patches over `a`, `b` and `c`, one of each of these lists. The fault is NoMemory also where
 /// the names get no memory.
 fn patches(alloc: Global, lists: &[&[SymId]]) -> Result<PatchStack, PatchFault> {
-    let Ok(symbols) = names(alloc) else {
+    let Some(symbols) = names(alloc) else {
         return Err(PatchFault::NoMemory);
     };
     let sets = sets(alloc, &symbols, lists)?;
@@ -129,11 +139,21 @@ fn boot_over_a<M: Consistency>(
     let Ok(patches) = patches(alloc, &[&[A]]) else {
         return Err(BootFault::NoMemory);
     };
-    let core = Core::boot(alloc, model, patches, boots)?;
-    Ok(Box::new(alloc, core)?)
+    match Core::boot(alloc, model, patches, boots) {
+        Ok(core) => boxed(alloc, core),
+        Err(fault) => Err(fault),
+    }
 }
 
-/// The same. The fault is NoMemory wherever no engine starts, so that a helper has one type of fault.
+/// An engine, in a box.
+fn boxed<M: Consistency>(alloc: Global, core: Core<M>) -> Result<Box<Core<M>>, BootFault> {
+    match Box::new(alloc, core) {
+        Ok(core) => Ok(core),
+        Err(_) => Err(BootFault::NoMemory),
+    }
+}
+
+/// An engine that starts so. The fault is NoMemory wherever none does, so that a helper has one type of fault.
 fn start<M: Consistency>(
     alloc: Global,
     model: M,
