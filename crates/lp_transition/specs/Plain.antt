@@ -1,4 +1,4 @@
--- Events of one task that is there: those that no model checks, and the checks that it makes alone.
+-- Events of a single task: those that no model checks, and the checks that it makes alone.
 use Rattle.std.specs.Prelude.{Bool, true, false}
 use Rattle.lp_transition.specs.declared.event.Event.{Event}
 use Rattle.lp_transition.specs.declared.event.Event.TheVariants.{Call, Ret, Sleep, Wake, Enter, Exit, Idle}
