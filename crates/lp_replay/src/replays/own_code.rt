@@ -17,7 +17,7 @@ pub(super) struct FirstLeg;
 ///
 /// An engine is compiled once for each model, and checks and plays by threads step engines too. Under a model of its own a
 /// replay's loop over the events is the only caller of what steps its engine, which is then compiled into that loop:
-/// without it a run of calls and returns takes a tenth longer, and a comparison an eighth.
+/// without it a run of calls and returns takes a tenth longer, and a comparison a seventh.
 #[derive(Clone, Copy)]
 pub(super) struct OwnCode<M: Consistency, R: Copy> {
     model: M,
