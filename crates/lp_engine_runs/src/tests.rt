@@ -4,6 +4,7 @@ ghost use Rattle.std.specs.Prelude.{IfOk};
 ghost use Rattle.lp_patch.specs.Patches.{ShareSymbols};
 
 mod asked;
+mod base;
 mod boots;
 mod calls;
 mod counts;

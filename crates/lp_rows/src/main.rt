@@ -1,5 +1,5 @@
 //! Plays the worked rows of its data files, each under its model, and counts them, their certificates, and those whose
-//! events went through a desk too.
+//! events went through a desk too; then the recordings of a kernel that lie beside them.
 #![tactic(auto)]
 
 mod certificates;
@@ -7,6 +7,7 @@ mod difference;
 mod engine;
 mod play;
 mod program;
+mod recordings;
 mod rows;
 mod rows_through_desk;
 mod streams;
@@ -14,6 +15,7 @@ mod trouble;
 
 use difference::Difference;
 use play::play;
+use recordings::{RECORDINGS, play_recording};
 use rows::{Row, rows_of};
 use std::alloc::Global;
 use std::process::ExitCode;
@@ -49,6 +51,7 @@ struct Tally {
     rows: usize,
     certificates: usize,
     through_desk: usize,
+    recordings: usize,
     differing: usize,
 }
 
@@ -101,7 +104,25 @@ fn play_file<R: Files + AllocGlobal + Print + Threads + Wait + Sync>(
     Ok(())
 }
 
-/// Plays all rows.
+/// Plays the recordings of a kernel, and says where one differs from what the kernel did.
+fn play_recordings<R: Files + AllocGlobal + Print>(
+    rt: &R,
+    tally: &mut Tally,
+) -> Result<(), Trouble> {
+    for (trace, over) in RECORDINGS {
+        match play_recording(rt, trace, over) {
+            Ok(()) => tally.recordings = tally.recordings.saturating_add(1),
+            Err(Trouble::Differs(difference)) => {
+                tally.differing = tally.differing.saturating_add(1);
+                tell(rt, trace, &difference)?;
+            }
+            Err(trouble) => return Err(trouble),
+        }
+    }
+    Ok(())
+}
+
+/// Plays all rows and recordings.
 fn play_all<R: Files + AllocGlobal + Print + Threads + Wait + Sync>(
     rt: &R,
 ) -> Result<ExitCode, Trouble> {
@@ -109,17 +130,19 @@ fn play_all<R: Files + AllocGlobal + Print + Threads + Wait + Sync>(
         rows: 0,
         certificates: 0,
         through_desk: 0,
+        recordings: 0,
         differing: 0,
     };
     for file in FILES {
         play_file(rt, file, &mut tally)?;
     }
+    play_recordings(rt, &mut tally)?;
     if tally.differing > 0 {
         return Ok(ExitCode::FAILURE);
     }
     println!(rt;
-        "{} rows, {} certificates, {} through a desk",
-        tally.rows, tally.certificates, tally.through_desk
+        "{} rows, {} certificates, {} through a desk, {} recordings",
+        tally.rows, tally.certificates, tally.through_desk, tally.recordings
     )?;
     Ok(ExitCode::SUCCESS)
 }

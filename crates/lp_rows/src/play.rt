@@ -54,7 +54,12 @@ fn add_fault(alloc: Global, given: &mut Vec<u8>, fault: RunFault) -> Result<(), 
 }
 
 /// What the run of a text writes, by so many bytes at a time, and the line of its fault behind it.
-fn reported(alloc: Global, model: ModelName, text: &[u8], most: usize) -> Result<Vec<u8>, Trouble> {
+pub fn reported(
+    alloc: Global,
+    model: ModelName,
+    text: &[u8],
+    most: usize,
+) -> Result<Vec<u8>, Trouble> {
     let mut sink = Counted::new(Sink::new(alloc, most));
     let mut source = Counted::new(Source::new(text, most));
     let ended = run(alloc, model, &mut source, &mut sink);

@@ -1,5 +1,5 @@
-//! What no proof shows: that the calls succeed where memory suffices, that the limits are those of the
-//! formats, and calls after a failed allocation.
+//! Calls of the crates below the engine: that they succeed where memory suffices, that the limits are those of the
+//! formats, what they answer to cases that were worked by hand, and calls after a failed allocation.
 ghost use Rattle.std.specs.Prelude.{IfOk};
 ghost use Rattle.lp_patch.specs.Patches.{ShareSymbols};
 
@@ -11,16 +11,11 @@ mod scans;
 mod stacks;
 mod symbols;
 
+use super::{A, B, C};
 use lp_patch::{PatchFault, PatchSet, PatchStack};
 use lp_stack::{Class, Frame, Level, Mode, TaskId, TaskStack};
 use lp_symbols::{SymFault, SymId, Symbols};
 use std::alloc::Global;
-
-const A: SymId = SymId(0);
-
-const B: SymId = SymId(1);
-
-const C: SymId = SymId(2);
 
 /// No names, in a box: docs/GATE.md says why.
 fn none(alloc: Global) -> Result<Box<Symbols>, SymFault> {
