@@ -9,7 +9,7 @@ ghost use Rattle.lp_replay.specs.inside.Recording.{first_made};
 
 use super::fault::ReplayFault;
 use super::own_code::{FirstLeg, OwnCode};
-use super::recorder::take;
+use super::recorder::{take_other, take_plain};
 use super::start;
 use lp_cert::{LegEnd, Maker};
 use lp_model::Consistency;
@@ -47,11 +47,12 @@ fn take_first_leg<M: Consistency>(
     ensures { OnOk result ((run : Run) → StandsIn M.rules run (state_in core.old) → IsMadeWith M.rules run core.old.last_scan maker.old → first_made maker.new ≡ slice_get (leg_ends M.rules (first_leg M.rules run) (run.events ++ events.now)) 0) }
 {
     for event in events {
-        take(alloc, core, maker, *event)?;
         // No plain event completes or ends a leg: nearly all events are plain.
         if event.is_plain() {
+            take_plain(core, maker, *event);
             continue;
         }
+        take_other(alloc, core, maker, *event)?;
         if maker.is_complete() {
             return Ok(());
         }

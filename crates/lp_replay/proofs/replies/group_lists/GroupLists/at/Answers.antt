@@ -1,6 +1,4 @@
-use Rattle.std.proofs.Common.{◌≡◌, ◌<◌, ◌≤◌, List, ℕ, [], length, drop, slice_index, slice_range, sym, ap, ◌∙◌, arith, rules}
-use Rattle.lp_stack.specs.declared.number.GroupId.{GroupId}
-use Rattle.lp_transition.specs.Events.{group_numbers}
+use Rattle.std.proofs.Common.{◌<◌, ◌≤◌, List, ℕ, length, slice_index, sym, ap, ◌∙◌, arith, rules}
 use Rattle.lp_replay.specs.Replies.{first_groups}
 use Rattle.lp_replay.specs.inside.GroupLists.{start_of}
 use Rattle.lp_replay.proofs.ListsOfGroups.{list_at, none_at, place_fits}
