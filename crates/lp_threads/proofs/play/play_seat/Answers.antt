@@ -1,4 +1,5 @@
-use Rattle.std.proofs.Common.{◌≡◌, ◌∙◌, Some, ap, refl, sym}
+use Rattle.std.proofs.Common.{◌≡◌, ◌∙◌, Some, ap, refl, sym, arith}
+use Rattle.std.proofs.lemmas.Grind.{common_steps}
 use Rattle.std.proofs.lemmas.List.Elements.{All-same}
 use Rattle.lp_transition.specs.declared.event.Event.{Event}
 use Rattle.lp_log.specs.Journals.{events_in}
@@ -19,3 +20,6 @@ loop-event-preserved g c =
     let seat = c.in-Ok.ensures.sent.2 in
     let script = c.of-script.result.now in
     (c.loop-event.invariant.0 ∙ ap (λ (seat : Seated). events_of seat.task g.S.TraceName.events) (sym seat), ap (λ (seat : Seated). events_in seat.entries) seat ∙ sent_more script c.loop-event.event-index _ c.loop-event.seat.entries _ c.loop-event-test.true c.loop-event.invariant.1 refl)
+
+pub new-requires-2 : goal.new-requires-2
+new-requires-2 g c = grind (arith, common_steps)

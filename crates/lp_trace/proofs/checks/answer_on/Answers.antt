@@ -1,4 +1,5 @@
-use Rattle.std.proofs.Common.{◌≡◌, ◌++◌, ap, subst, List, ℕ, Option, None}
+use Rattle.std.proofs.Common.{◌≡◌, ◌++◌, ap, subst, List, ℕ, Option, None, arith}
+use Rattle.std.proofs.lemmas.Grind.{common_steps}
 use Rattle.lp_checker.specs.declared.fault.CertFault.{CertFault}
 use Rattle.lp_text.specs.Words.{line_of}
 use Rattle.lp_text.specs.Writing.{AppendsPrefix}
@@ -20,3 +21,6 @@ returns-clause-prefix g c =
     let Answered : Option CertFault → Type 0 = λ answer. Prefix (line_of (answer_words answer)) in
     let held : Answered c.in_ok-answer.answer = subst Prefix (ap (λ l. l ++ line_of (answer_words c.in_ok-answer.answer)) c.in_ok-page.ensures) c.in-Err.ensures.written in
     subst Answered c.in_ok-answer.ensures.answer held
+
+pub returns-in-Ok-clause-answer : goal.returns-in-Ok-clause-answer
+returns-in-Ok-clause-answer g c = grind (arith, common_steps)

@@ -1,4 +1,5 @@
-use Rattle.std.proofs.Common.{Option, ap}
+use Rattle.std.proofs.Common.{Option, ap, arith}
+use Rattle.std.proofs.lemmas.Grind.{common_steps}
 use Rattle.lp_transition.specs.Leg.{Leg}
 use Rattle.lp_trace.specs.Answer.{verdict_in}
 use Rattle.lp_trace.proofs.checks.answer_to.Goals as goal
@@ -9,3 +10,6 @@ returns-in-None-clause-answer g c =
 
 pub returns-in-None-clause-sound : goal.returns-in-None-clause-sound
 returns-in-None-clause-sound g c = λ none. absurd (cc)
+
+pub returns-in-Some-clause-answer : goal.returns-in-Some-clause-answer
+returns-in-Some-clause-answer g c = grind (arith, common_steps)

@@ -1,4 +1,5 @@
-use Rattle.std.proofs.Common.{◌≡◌, ◌++◌, ◌∷◌, [], ◌∙◌, ap, sym, subst, codes, decimal, List, ℕ}
+use Rattle.std.proofs.Common.{◌≡◌, ◌++◌, ◌∷◌, [], ◌∙◌, ap, sym, subst, codes, decimal, List, ℕ, arith}
+use Rattle.std.proofs.lemmas.Grind.{common_steps}
 use Rattle.std.specs.List.{flat_map}
 use Rattle.lp_transition.specs.Events.{group_numbers}
 use Rattle.lp_replay.specs.declared.replies.ShortWhat.{ShortWhat}
@@ -20,3 +21,12 @@ returns-in-Switched g c =
     ∙ ap (λ (what : ShortWhat). line_of (decimal c.args.event ∷ (what_words c.args.form (what_of what (groups ∷ [])) ++ complete_words c.args.reply.now.completed))) (sym c.in-Switched.is) in
     let P : List ℕ → Type 0 = λ l. Puts (seen_of g.W.Write.contents c.args.writer.now) (seen_of g.W.Write.contents c.put_switched.new.writer) c.args.page.now.held.items c.put_switched.new.page.held.items c.put_switched.result l in
     subst P same c.put_switched.ensures
+
+pub returns-in-Refused : goal.returns-in-Refused
+returns-in-Refused g c = grind (arith, common_steps)
+
+pub returns-in-Ran : goal.returns-in-Ran
+returns-in-Ran g c = grind (arith, common_steps)
+
+pub returns-in-Done : goal.returns-in-Done
+returns-in-Done g c = grind (arith, common_steps)

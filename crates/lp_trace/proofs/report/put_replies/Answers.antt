@@ -1,4 +1,5 @@
 use Rattle.std.proofs.Common.{◌≡◌, ◌+◌, ◌∙◌, ap, List, ℕ, [], ◌∷◌, ◌++◌, drop, refl, sym, subst, arith}
+use Rattle.std.proofs.lemmas.Grind.{common_steps}
 use Rattle.std.specs.List.{flat_map}
 use Rattle.lp_text.specs.Words.{line_of}
 use Rattle.lp_replay.specs.Replies.{first_groups, replies_of}
@@ -29,3 +30,6 @@ loop-i-preserved g c =
 pub returns : goal.returns
 returns g c =
     held_end _ _ _ c.loop-i.page.held.items _ (events_end c.args.form c.args.replies.now _ c.loop-i.i _ c.loop-i-test.false) c.loop-i.invariant.2
+
+pub loop-i-init : goal.loop-i-init
+loop-i-init g c = grind (arith, common_steps)

@@ -1,4 +1,5 @@
-use Rattle.std.proofs.Common.{rules}
+use Rattle.std.proofs.Common.{rules, arith}
+use Rattle.std.proofs.lemmas.Grind.{common_steps}
 use Rattle.lp_trace.proofs.RunFaults.{at_write, headline_of_text, no_read, no_text, still_unread}
 use Rattle.lp_trace.proofs.runs.run.Goals as goal
 
@@ -37,3 +38,6 @@ returns-clause-untouched g c = c.in-Err.ensures.untouched
 
 pub returns-clause-write_failed : goal.returns-clause-write_failed
 returns-clause-write_failed g c = c.in-Err.ensures.write_failed
+
+pub returns-in_err-trace-clause-prefix : goal.returns-in_err-trace-clause-prefix
+returns-in_err-trace-clause-prefix g c = grind (arith, common_steps)

@@ -1,4 +1,5 @@
-use Rattle.std.proofs.Common.{◌≡◌, [], ap, ◌∙◌, subst}
+use Rattle.std.proofs.Common.{◌≡◌, [], ap, ◌∙◌, subst, arith}
+use Rattle.std.proofs.lemmas.Grind.{common_steps}
 use Rattle.lp_transition.specs.Table.{state_in}
 use Rattle.lp_transition.specs.Steps.{StandsIn}
 use Rattle.lp_board.specs.Names.{Name, run_of, state_after}
@@ -22,3 +23,9 @@ returns-in-Ok-clause-stands g c =
     let was : Name = name_of g.M.Consistency.rules (record { patches = c.self.inside.patches; boots = c.self.inside.boots.items; book = c.self.inside.seen.book; readers = c.self.inside.readers }) in
     let named : was ≡ name = ap (name_of g.M.Consistency.rules) c.self.view_is ∙ c.requires in
     subst (λ (n : Name). StandsIn g.M.Consistency.rules (run_of n []) (state_in core)) named c.self.invariant.stands
+
+pub returns-in-Ok-clause-start : goal.returns-in-Ok-clause-start
+returns-in-Ok-clause-start g c = grind (arith, common_steps)
+
+pub returns-in-Ok-clause-count : goal.returns-in-Ok-clause-count
+returns-in-Ok-clause-count g c = grind (arith, common_steps)

@@ -1,4 +1,5 @@
-use Rattle.std.proofs.Common.{sym, ◌∙◌, ap}
+use Rattle.std.proofs.Common.{sym, ◌∙◌, ap, arith}
+use Rattle.std.proofs.lemmas.Grind.{common_steps}
 use Rattle.lp_board.proofs.Adding.{adds_moves}
 use Rattle.lp_board.proofs.history.Prefix.extend.Goals as goal
 
@@ -13,3 +14,6 @@ compare_exchange-found-requires g c =
       offer.0,
       rw (ap (λ w. w.key) h, pen.1, offer.1, offer.3) (adds_moves c.self.inside.seen.log c.args.event c.self.inside.count (sym c.self.invariant.0)),
     )
+
+pub invariant_of-self : goal.invariant_of-self
+invariant_of-self g c = grind (arith, common_steps)

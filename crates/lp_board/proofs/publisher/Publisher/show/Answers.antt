@@ -1,4 +1,5 @@
-use Rattle.std.proofs.Common.{rules, ◌≡◌, ◌∷◌, ◌++◌, [], drop, subst, fold, ap, sym, ◌∙◌}
+use Rattle.std.proofs.Common.{rules, ◌≡◌, ◌∷◌, ◌++◌, [], drop, subst, fold, ap, sym, ◌∙◌, arith}
+use Rattle.std.proofs.lemmas.Grind.{common_steps}
 use Rattle.lp_board.specs.Names.{state_after}
 use Rattle.lp_board.specs.Pages.{IsPage, Leads, page_after}
 use Rattle.lp_board.specs.Publishers.{page_of}
@@ -37,3 +38,6 @@ invariant_of-self-2 g c =
       page_is = subst (IsPage name) (sym new) is;
       none_pending = search rules;
     }
+
+pub invariant_of-self : goal.invariant_of-self
+invariant_of-self g c = grind (arith, common_steps)

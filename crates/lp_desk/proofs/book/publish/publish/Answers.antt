@@ -1,4 +1,5 @@
 use Rattle.std.proofs.Common.{◌≡◌, ◌∷◌, ◌++◌, [], List, arith, subst, sym, length}
+use Rattle.std.proofs.lemmas.Grind.{common_steps}
 use Rattle.lp_transition.specs.declared.event.Event.{Event}
 use Rattle.lp_transition.specs.Leg.{State}
 use Rattle.lp_transition.specs.Machine.{next}
@@ -36,3 +37,9 @@ show-requires-clause-leads g c =
     let leads : Leads s update (next model s c.args.step.now.event) = c.in_ok-update.ensures in
     subst (λ (event : Event). Leads (state_after name shown) update (state_after name (shown ++ event ∷ []))) (sym c.event.ensures)
     (leads_shown name model journal shown c.requires.shown g.met.M.Consistency.lawful s stands c.args.step.now.event update leads)
+
+pub of-requires-clause-weighed : goal.of-requires-clause-weighed
+of-requires-clause-weighed g c = grind (arith, common_steps)
+
+pub returns-clause-published : goal.returns-clause-published
+returns-clause-published g c = grind (arith, common_steps)

@@ -1,4 +1,5 @@
 use Rattle.std.proofs.Common.{◌≡◌, ◌∙◌, ◌<◌, ap, arith, length, sym}
+use Rattle.std.proofs.lemmas.Grind.{common_steps}
 use Rattle.std.proofs.lemmas.List.{get_or_default}
 use Rattle.lp_log.specs.Seats.{Seated, new_seat, owner}
 use Rattle.lp_log.specs.inside.Cursors.{seat_at}
@@ -31,3 +32,6 @@ returns-in-Some c = λ before all.
     let seat : c.index-seats-place.result ≡ seat_at seats place = c.index-seats-place.is ∙ get_or_default seats place c.index-seats-place.result (new_seat 0) within in
     let sent : c.entries.result.now ≡ (seat_at seats place).entries = c.entries.ensures ∙ ap (λ (s : Seated). s.entries) seat in
     all_follow_at before c.args.entry.now seats c.args.places.now c.args.cursors.now place c.entries.result.now _ c.after.result c.requires.places (sym c.in-Some.ensures) sent (get_or_default c.args.cursors.now place _ _ (omega (arith, within, c.requires.count))) c.after.ensures all
+
+pub returns-in_default : goal.returns-in_default
+returns-in_default c = grind (arith, common_steps)

@@ -1,4 +1,5 @@
 use Rattle.std.proofs.Common.{◌≡◌, ◌∙◌, ◌++◌, ◌+◌, ◌∷◌, [], List, ap, arith, length, subst, sym, take, drop}
+use Rattle.std.proofs.lemmas.Grind.{common_steps}
 use Rattle.std.proofs.lemmas.List.{take_more}
 use Rattle.lp_log.specs.Entries.{Entry}
 use Rattle.lp_log.specs.declared.cursor.Cursor.{Cursor}
@@ -19,3 +20,9 @@ loop-entry-preserved c =
     let now = subst (λ (cs : List Cursor). AllFollow (take i entries) c.args.seats.now cs) (sym c.as_mut_slice.ensures.value) c.loop-entry.invariant in
     subst (λ (cs : List Cursor). AllFollow (take (i + 1) entries) c.args.seats.now cs) (sym wrote)
     (subst (λ (es : List Entry). AllFollow es c.args.seats.now c.follow.new.cursors) (sym more) (c.follow.ensures (take i entries) now))
+
+pub follow-requires-clause-count : goal.follow-requires-clause-count
+follow-requires-clause-count c = grind (arith, common_steps)
+
+pub returns : goal.returns
+returns c = grind (arith, common_steps)

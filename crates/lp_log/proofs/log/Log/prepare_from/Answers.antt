@@ -1,4 +1,5 @@
-use Rattle.std.proofs.Common.{rules}
+use Rattle.std.proofs.Common.{rules, arith}
+use Rattle.std.proofs.lemmas.Grind.{common_steps}
 use Rattle.lp_log.proofs.log.Log.prepare_from.Goals as goal
 
 pub returns-in-Ok-clause-yours : goal.returns-in-Ok-clause-yours
@@ -9,3 +10,18 @@ returns-in-Err-clause-not_yours g c = search rules
 
 pub returns-in-Err-clause-full : goal.returns-in-Err-clause-full
 returns-in-Err-clause-full g c = search rules
+
+pub returns-in-Ok-clause-answer : goal.returns-in-Ok-clause-answer
+returns-in-Ok-clause-answer g c = grind (arith, common_steps)
+
+pub returns-in-Ok-clause-left : goal.returns-in-Ok-clause-left
+returns-in-Ok-clause-left g c = grind (arith, common_steps)
+
+pub returns-in-Ok-clause-not_yours : goal.returns-in-Ok-clause-not_yours
+returns-in-Ok-clause-not_yours g c = grind (arith, common_steps)
+
+pub returns-in-Ok-clause-full : goal.returns-in-Ok-clause-full
+returns-in-Ok-clause-full g c = grind (arith, common_steps)
+
+pub returns-in-Ok-clause-event : goal.returns-in-Ok-clause-event
+returns-in-Ok-clause-event g c = grind (arith, common_steps)

@@ -1,4 +1,5 @@
 use Rattle.std.proofs.Common.{◌≡◌, ◌<◌, ◌∙◌, Err, ◌∷◌, ◌++◌, [], List, true, ap, arith, subst, sym}
+use Rattle.std.proofs.lemmas.Grind.{common_steps}
 use Rattle.lp_log.specs.Entries.{Entry}
 use Rattle.lp_log.specs.Journals.{Written, next_entry, reply_to, run_of}
 use Rattle.lp_log.specs.Logs.{IsLogged, Logged}
@@ -62,3 +63,6 @@ unreachable-requires g c =
     (calm_allocates model (state_in c.self.inside.core) c.args.event calm)
     (λ same. c.step.ensures.full.0 (c.in_default.is ∙ ap (λ (h : Halt). Err h) same))
     (λ same. c.step.ensures.memory (c.in_default.is ∙ ap (λ (h : Halt). Err h) same))
+
+pub push_reserved-requires : goal.push_reserved-requires
+push_reserved-requires g c = grind (arith, common_steps)

@@ -1,4 +1,5 @@
-use Rattle.std.proofs.Common.{◌≡◌, ◌∙◌, map, subst}
+use Rattle.std.proofs.Common.{◌≡◌, ◌∙◌, map, subst, arith}
+use Rattle.std.proofs.lemmas.Grind.{common_steps}
 use Rattle.lp_model.specs.declared.check.CheckKind.TheVariants.{Walk}
 use Rattle.lp_stack.specs.TaskView.{seen}
 use Rattle.lp_transition.specs.Blames.{is_open}
@@ -15,3 +16,6 @@ weigh_open-requires-clause-found g c =
     let found = rw (c.aim-aim.ensures, c.as_slice.ensures.value) at c.in_ok-found.ensures in
     let among = asked-among rules Walk (state_in e) (is_open e) (map seen c.in_ok-views.views.items) c.in_ok-found.found.items c.in_ok-views.ensures found in
     c.as_slice-2.ensures.value ∙ subst (λ (l : Logged). c.in_ok-found.found.items ≡ verdicts_among rules Walk (state_in l.core) (is_open l.core)) c.self.view_is among
+
+pub returns-clause-full : goal.returns-clause-full
+returns-clause-full g c = grind (arith, common_steps)

@@ -1,3 +1,5 @@
+use Rattle.std.proofs.Common.{arith}
+use Rattle.std.proofs.lemmas.Grind.{common_steps}
 use Rattle.std.proofs.lemmas.List.{map_more}
 use Rattle.lp_stack.specs.TaskView.{seen}
 use Rattle.lp_log.proofs.log.judged.copies_of.Goals as goal
@@ -6,3 +8,6 @@ pub loop-view-preserved : goal.loop-view-preserved
 loop-view-preserved c =
     let more = map_more seen c.args.views.now c.loop-view.view-index c.view-item.result c.loop-view-test.true in
     cc (more, c.in_ok-push.ensures.items, c.of.ensures, c.view-item.is)
+
+pub returns : goal.returns
+returns c = grind (arith, common_steps)

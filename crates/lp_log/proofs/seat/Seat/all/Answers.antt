@@ -1,4 +1,5 @@
-use Rattle.std.proofs.Common.{◌∙◌, ◌++◌, ◌∷◌, [], List, ap, map, sym, take}
+use Rattle.std.proofs.Common.{◌∙◌, ◌++◌, ◌∷◌, [], List, ap, map, sym, take, arith}
+use Rattle.std.proofs.lemmas.Grind.{common_steps}
 use Rattle.std.proofs.lemmas.List.{map_more}
 use Rattle.lp_stack.specs.declared.number.TaskId.{TaskId}
 use Rattle.lp_stack.specs.declared.view.Class.{Class}
@@ -14,3 +15,6 @@ loop-task-preserved c =
     ∙ ap (λ (seats : List Seated). seats ++ c.new.result ∷ []) c.loop-task.invariant
     ∙ ap (λ (seat : Seated). map seat_of (take i boots) ++ seat ∷ []) c.new.ensures
     ∙ sym (map_more seat_of boots i _ c.loop-task-test.true)
+
+pub returns : goal.returns
+returns c = grind (arith, common_steps)

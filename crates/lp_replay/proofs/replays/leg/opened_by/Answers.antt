@@ -1,4 +1,5 @@
 use Rattle.std.proofs.Common.{arith, ◌≡◌, ◌∷◌, ◌∙◌, sym, ap, length, length-append, subst, []}
+use Rattle.std.proofs.lemmas.Grind.{common_steps}
 use Rattle.lp_transition.specs.Run.{leg_of, plus}
 use Rattle.lp_transition.specs.Steps.{StandsIn}
 use Rattle.lp_transition.specs.Table.{Engine, state_in}
@@ -36,3 +37,6 @@ returns g c = λ run stands.
     let there : StandsIn model (plus run c.in-Some.event.now) (state_in c.in_ok-opening.opening) = subst (λ (e : Engine). StandsIn model (plus run c.in-Some.event.now) (state_in e)) (sym same) said.1 in
     opened_at model run c.in-Some.event.now c.in-Some.rest.now c.in_ok-opening.opening c.in_ok-count.count (sym said.0 ∙ c.if-not-branch.false) there c.in_ok-opening.ensures.opens (c.in_ok-count.ensures.leg (plus run c.in-Some.event.now) said.1)
     ∙ ap (opened_by model (leg_of model run)) (sym whole)
+
+pub slice_bounds-result-end : goal.slice_bounds-result-end
+slice_bounds-result-end g c = grind (arith, common_steps)

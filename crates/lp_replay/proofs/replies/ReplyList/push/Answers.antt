@@ -1,4 +1,5 @@
-use Rattle.std.proofs.Common.{ℕ, List, [], ◌∷◌, ◌++◌, refl, sym, ap, ◌∙◌}
+use Rattle.std.proofs.Common.{ℕ, List, [], ◌∷◌, ◌++◌, refl, sym, ap, ◌∙◌, arith}
+use Rattle.std.proofs.lemmas.Grind.{common_steps}
 use Rattle.lp_transition.specs.declared.reply.What.{What}
 use Rattle.lp_transition.specs.declared.reply.Reply.{Reply}
 use Rattle.lp_replay.specs.declared.replies.ShortReply.{ShortReply}
@@ -34,3 +35,9 @@ returns-clause-ok c =
       | in-Switched+in_ok-push-in-Switched w ↦ (pushed-over i.short.items c.push_reserved.new.self.items i.groups c.match-what-2.self-inside.groups c.match-what-2.what w.in-Switched.groups c.args.reply.completed c.self.invariant (c.push_reserved.ensures.items ∙ ap (λ s. one s.short.items) w.self-inside-is ∙ ap one c.reserve.ensures.items) (ap (λ s. s.groups) w.self-inside-is ∙ w.in_ok-push-in-Switched.ensures.ok ∙ ap (λ (gs : List ℕ). i.groups ++ gs ∷ []) w.as_slice.ensures) w.what-is).1
           ∙ ap (λ l. l ++ record { what = what.Switched w.in-Switched.groups; completed = c.args.reply.completed } ∷ []) c.self.view_is ∙ ap whole (sym w.in-Switched.is)
     ]
+
+pub invariant_of-self-in_err-push-in-Switched : goal.invariant_of-self-in_err-push-in-Switched
+invariant_of-self-in_err-push-in-Switched c = grind (arith, common_steps)
+
+pub push_reserved-requires : goal.push_reserved-requires
+push_reserved-requires c = grind (arith, common_steps)

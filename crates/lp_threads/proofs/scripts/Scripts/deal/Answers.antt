@@ -1,4 +1,5 @@
 use Rattle.std.proofs.Common.{◌≡◌, ◌∙◌, ◌++◌, ◌+◌, List, Vec, Global, ap, arith, length, subst, sym, take, drop}
+use Rattle.std.proofs.lemmas.Grind.{common_steps}
 use Rattle.std.proofs.lemmas.List.{take_more}
 use Rattle.lp_transition.specs.declared.event.Event.{Event}
 use Rattle.lp_threads.specs.inside.Dealt.{IsDealt}
@@ -19,3 +20,6 @@ loop-event-preserved g c =
       subst (λ (tasks : List (Vec Event Global)). IsDealt (take (i + 1) events) tasks rest) (sym wrote)
           (subst (λ (sent : List Event). IsDealt sent after rest) (sym (take_more events i _ c.loop-event-test.true)) more),
     )
+
+pub invariant_of-result : goal.invariant_of-result
+invariant_of-result g c = grind (arith, common_steps)

@@ -1,3 +1,5 @@
+use Rattle.std.proofs.Common.{arith}
+use Rattle.std.proofs.lemmas.Grind.{common_steps}
 use Rattle.lp_trace.proofs.Pages.{puts_err, held_err, held_next, pieces_at}
 use Rattle.lp_text.specs.inside.Writing.{seen_of}
 use Rattle.lp_trace.proofs.page.Page.put_all.Goals as goal
@@ -9,3 +11,6 @@ returns-in_err-put g c =
 pub loop-piece-preserved : goal.loop-piece-preserved
 loop-piece-preserved g c =
     held_next _ (seen_of g.W.Write.contents c.loop-piece.writer) _ _ c.loop-piece.self.held.items _ _ _ c.put.new.self.held.items (pieces_at c.args.pieces.now c.loop-piece.piece-index _ c.loop-piece-test.true) c.loop-piece.invariant c.in_ok-put.ensures
+
+pub returns : goal.returns
+returns g c = grind (arith, common_steps)

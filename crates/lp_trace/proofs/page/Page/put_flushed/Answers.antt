@@ -1,4 +1,5 @@
-use Rattle.std.proofs.Common.{◌++◌, ◌∙◌, refl}
+use Rattle.std.proofs.Common.{◌++◌, ◌∙◌, refl, arith}
+use Rattle.std.proofs.lemmas.Grind.{common_steps}
 use Rattle.lp_text.proofs.Writing.{prefix_more, wrote}
 use Rattle.lp_trace.proofs.Pages.{puts_err, written_past}
 use Rattle.lp_text.specs.inside.Writing.{seen_of}
@@ -11,3 +12,6 @@ returns-in_err-flush g c =
 pub returns : goal.returns
 returns g c =
     written_past (seen_of g.W.Write.contents c.args.writer.now) (seen_of g.W.Write.contents c.flush.new.writer) _ c.args.self.now.held.items c.hold.new.self.held.items c.args.bytes.now c.put.result (c.hold.ensures.kept c.if-hold.false ∙ c.in_ok-flush.ensures.empty) c.in_ok-flush.ensures.written (wrote (seen_of g.W.Write.contents c.flush.new.writer) (seen_of g.W.Write.contents c.put.new.writer) c.args.bytes.now c.put.result c.put.ensures.written c.put.ensures.write_failed c.put.ensures.unfailed)
+
+pub returns-then-hold : goal.returns-then-hold
+returns-then-hold g c = grind (arith, common_steps)

@@ -1,4 +1,5 @@
-use Rattle.std.proofs.Common.{List, subst, sym}
+use Rattle.std.proofs.Common.{List, subst, sym, arith}
+use Rattle.std.proofs.lemmas.Grind.{common_steps}
 use Rattle.lp_stays.specs.Counts.{Counts, IsNext}
 use Rattle.lp_transition.specs.Run.{plus}
 use Rattle.lp_transition.specs.Table.{Engine}
@@ -24,3 +25,9 @@ returns g c = λ run is.
     let after : List Reply → Recorded = λ replies. record { core = core; made = made; replies = replies; stays = c.step.new.self } in
     subst (λ replies. IsRecorded model (plus run c.args.event) (after replies)) (sym c.in_ok-push.ensures.ok)
     (recorded model run c.args.event before given core made c.step.new.self is_kept counts stepped (more_made run is_kept.stands is_kept.made))
+
+pub step-requires : goal.step-requires
+step-requires g c = grind (arith, common_steps)
+
+pub take-requires-clause-made : goal.take-requires-clause-made
+take-requires-clause-made g c = grind (arith, common_steps)

@@ -1,4 +1,5 @@
 use Rattle.std.proofs.Common.{◌≡◌, ◌+◌, ◌≤◌, [], ◌∷◌, ◌++◌, length, ap, ap₂, ◌∙◌, arith}
+use Rattle.std.proofs.lemmas.Grind.{common_steps}
 use Rattle.std.proofs.lemmas.List.{length-append}
 use Rattle.lp_transition.specs.Events.{group_numbers}
 use Rattle.lp_replay.specs.inside.GroupLists.{lists_from}
@@ -22,3 +23,6 @@ returns-clause-ok c =
     ap₂ (lists_from 0) ends c.in_ok-extend_from_slice.ensures.items
     ∙ lists_added 0 i.ends.items i.groups.items c.args.list.now c.len.result c.self.invariant end
     ∙ ap (λ l. l ++ group_numbers c.args.list.now ∷ []) c.self.view_is
+
+pub invariant_of-self-in_err-extend_from_slice : goal.invariant_of-self-in_err-extend_from_slice
+invariant_of-self-in_err-extend_from_slice c = grind (arith, common_steps)

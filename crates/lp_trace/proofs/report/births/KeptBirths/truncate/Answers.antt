@@ -1,4 +1,5 @@
-use Rattle.std.proofs.Common.{◌∙◌, ap, map, sym, take}
+use Rattle.std.proofs.Common.{◌∙◌, ap, map, sym, take, arith}
+use Rattle.std.proofs.lemmas.Grind.{common_steps}
 use Rattle.std.proofs.lemmas.List.{take-map}
 use Rattle.lp_trace.specs.inside.Births.{birth_line}
 use Rattle.lp_trace.proofs.Births.{first_kept}
@@ -14,3 +15,6 @@ returns-in-Some c =
     ap (map birth_line) c.truncate-in-Some.ensures.items
     ∙ sym (take-map birth_line c.args.count c.self.inside.births.items)
     ∙ ap (take c.args.count) c.self.view_is
+
+pub returns-in_default : goal.returns-in_default
+returns-in_default c = grind (arith, common_steps)
