@@ -1,3 +1,5 @@
+use Rattle.std.proofs.Common.{arith}
+use Rattle.std.proofs.lemmas.Grind.{common_steps}
 use Rattle.lp_numbers.specs.Words.{word_has}
 use Rattle.lp_numbers.proofs.ThreeLevels.{above-in_word, above-none, above-later}
 use Rattle.lp_numbers.proofs.levels.later_word.Goals as goal
@@ -10,3 +12,6 @@ returns-in_err-later c = rw c.from_residual.ensures (above-none (word_has c.args
 
 pub returns : goal.returns
 returns c = above-later (word_has c.args.top) c.args.summary.now c.requires.high c.args.place c.in_ok-later.later c.lowest_bit.result c.in_default.ensures.next c.in_ok-later.ensures.next c.lowest_bit.ensures.below c.lowest_bit.ensures.lowest
+
+pub bounds-summary-later : goal.bounds-summary-later
+bounds-summary-later c = grind (arith, common_steps)

@@ -1,4 +1,5 @@
-use Rattle.std.proofs.Common.{◌≡◌, suc, length, get_or}
+use Rattle.std.proofs.Common.{◌≡◌, suc, length, get_or, arith}
+use Rattle.std.proofs.lemmas.Grind.{common_steps}
 use Rattle.std.proofs.Common.{refl, ap, ◌∙◌, arith}
 use Rattle.lp_numbers.specs.Links.{list_from}
 use Rattle.lp_numbers.proofs.Links.{walk-on, none_walked}
@@ -32,3 +33,6 @@ returns c =
     let none : length (list_from next c.loop-at.at) ≡ 0 = ap (λ a. length (list_from next a)) c.loop-at-test.false ∙ ap length (none_walked next 65536) in
     let all = rw c.get-at.ensures.link at c.loop-at.invariant.all in
     ((λ no. absurd (cc)), (λ h. absurd (omega (arith, h, all, none))))
+
+pub returns-then-left-eq0 : goal.returns-then-left-eq0
+returns-then-left-eq0 c = grind (arith, common_steps)

@@ -22,3 +22,12 @@ loop-id-preserved c =
       count = grind (arith, common_steps, c.loop-id.invariant.count);
       members = λ q. rw c.index.ensures.value (has-more c.loop-id.members.items c.args.ids.now c.loop-id.id-index d q (omega arith) within (c.loop-id.invariant.members q));
     }
+
+pub loop-id-init : goal.loop-id-init
+loop-id-init c = grind (arith, common_steps)
+
+pub returns-clause-members : goal.returns-clause-members
+returns-clause-members c = grind (arith, common_steps)
+
+pub returns-clause-refused : goal.returns-clause-refused
+returns-clause-refused c = grind (arith, common_steps)

@@ -1,4 +1,5 @@
 use Rattle.std.proofs.Common.{◌≡◌, ◌+◌, ◌<◌, Option, sym, ap, ap₂, subst, ◌∙◌, arith}
+use Rattle.std.proofs.lemmas.Grind.{common_steps}
 use Rattle.lp_stack.specs.declared.number.TaskId.{TaskId}
 use Rattle.lp_numbers.specs.Numbers.{has}
 use Rattle.lp_model.specs.declared.check.Blame.{Blame}
@@ -87,3 +88,6 @@ loop-number-preserved g c =
       from = n + 1;
       rest = rest;
     }
+
+pub returns : goal.returns
+returns g c = grind (arith, common_steps)

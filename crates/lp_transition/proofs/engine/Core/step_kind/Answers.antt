@@ -1,4 +1,5 @@
-use Rattle.std.proofs.Common.{sym, ◌∙◌}
+use Rattle.std.proofs.Common.{sym, ◌∙◌, arith}
+use Rattle.std.proofs.lemmas.Grind.{common_steps}
 use Rattle.lp_transition.specs.Table.{state_in}
 use Rattle.lp_transition.specs.inside.Points.{point_event}
 use Rattle.lp_transition.proofs.Runs.{is_step}
@@ -13,3 +14,6 @@ returns-in-Some-clause-step g c =
 pub returns-clause-step : goal.returns-clause-step
 returns-clause-step g c =
     rw c.requires.event (is_step g.M.Consistency.rules g.met.M.Consistency.lawful (state_in c.args.self.now) (state_in c.take_point.new.self) (point_event c.args.kind c.args.task) c.in_ok-reply.reply c.in_ok-reply.ensures.answer c.take_point.ensures.state)
+
+pub returns-clause-last_scan : goal.returns-clause-last_scan
+returns-clause-last_scan g c = grind (arith, common_steps)

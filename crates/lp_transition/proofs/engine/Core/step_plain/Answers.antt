@@ -1,4 +1,5 @@
-use Rattle.std.proofs.Common.{[], sym, subst}
+use Rattle.std.proofs.Common.{[], sym, subst, arith}
+use Rattle.std.proofs.lemmas.Grind.{common_steps}
 use Rattle.lp_transition.specs.declared.event.Event.{Event}
 use Rattle.lp_transition.specs.Blames.{AreBlamesAfter}
 use Rattle.lp_transition.specs.LastScan.{IsLastScanAfter}
@@ -17,3 +18,15 @@ returns-in-Ret-clause-blames g c =
 pub returns-in-Ret-clause-last_scan : goal.returns-in-Ret-clause-last_scan
 returns-in-Ret-clause-last_scan g c =
     subst (λ (event : Event). IsLastScanAfter g.M.Consistency.rules c.args.self.now event c.step_alike-in-Ret.new.self) (sym c.in-Ret.is) c.step_alike-in-Ret.ensures.last_scan
+
+pub returns-in-Call-clause-last_scan : goal.returns-in-Call-clause-last_scan
+returns-in-Call-clause-last_scan g c = grind (arith, common_steps)
+
+pub returns-in-Enter-clause-last_scan : goal.returns-in-Enter-clause-last_scan
+returns-in-Enter-clause-last_scan g c = grind (arith, common_steps)
+
+pub returns-in-Wake-clause-last_scan : goal.returns-in-Wake-clause-last_scan
+returns-in-Wake-clause-last_scan g c = grind (arith, common_steps)
+
+pub returns-in-Sleep-clause-last_scan : goal.returns-in-Sleep-clause-last_scan
+returns-in-Sleep-clause-last_scan g c = grind (arith, common_steps)

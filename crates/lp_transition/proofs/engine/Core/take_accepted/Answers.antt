@@ -1,4 +1,5 @@
-use Rattle.std.proofs.Common.{◌≡◌, None, Some, sym, ◌∙◌}
+use Rattle.std.proofs.Common.{◌≡◌, None, Some, sym, ◌∙◌, arith}
+use Rattle.std.proofs.lemmas.Grind.{common_steps}
 use Rattle.lp_transition.specs.Table.{Engine}
 use Rattle.lp_transition.proofs.Accept.{fork-live}
 use Rattle.lp_transition.proofs.Weighing.{born-child}
@@ -15,3 +16,15 @@ unreachable-requires g c =
     let some = born-child g.M.Consistency.rules e c.in-Fork.parent c.in-Fork.child c.in-Fork.how live.task accepted live.there in
     let none : None ≡ Some _ = born ∙ sym some in
     cc
+
+pub returns-in-Some-clause-last_scan : goal.returns-in-Some-clause-last_scan
+returns-in-Some-clause-last_scan g c = grind (arith, common_steps)
+
+pub returns-in-Idle-clause-last_scan : goal.returns-in-Idle-clause-last_scan
+returns-in-Idle-clause-last_scan g c = grind (arith, common_steps)
+
+pub returns-in-Exit-clause-last_scan : goal.returns-in-Exit-clause-last_scan
+returns-in-Exit-clause-last_scan g c = grind (arith, common_steps)
+
+pub returns-in-Die-clause-last_scan : goal.returns-in-Die-clause-last_scan
+returns-in-Die-clause-last_scan g c = grind (arith, common_steps)

@@ -1,4 +1,5 @@
 use Rattle.std.proofs.Common.{◌<◌, Option, None, Some, is_none, refl, sym, ap, ◌∙◌, arith}
+use Rattle.std.proofs.lemmas.Grind.{common_steps}
 use Rattle.lp_transition.specs.declared.event.Event.{Event}
 use Rattle.lp_transition.specs.declared.event.Event.TheVariants.{Fork}
 use Rattle.lp_transition.specs.Leg.{Standing}
@@ -46,3 +47,6 @@ returns-in_err-born-clause-memory g c =
 
 pub returns-clause-reply : goal.returns-clause-reply
 returns-clause-reply g c = is_reply g.M.Consistency.rules g.met.M.Consistency.lawful (state_in c.args.self.now) c.args.event c.plain-2.result.reply (ap (λ (w : Weighed). w.reply) c.plain-2.ensures ∙ c.in_ok-reply.ensures.answer)
+
+pub returns-clause-weighed : goal.returns-clause-weighed
+returns-clause-weighed g c = grind (arith, common_steps)

@@ -1,4 +1,5 @@
-use Rattle.std.proofs.Common.{◌≡◌, List, [], ◌∷◌, ◌++◌, map, take, get_or, Option, sym, ap, ap₂, ◌∙◌}
+use Rattle.std.proofs.Common.{◌≡◌, List, [], ◌∷◌, ◌++◌, map, take, get_or, Option, sym, ap, ap₂, ◌∙◌, arith}
+use Rattle.std.proofs.lemmas.Grind.{common_steps}
 use Rattle.std.proofs.lemmas.List.{map-append, map_more}
 use Rattle.lp_stack.specs.declared.number.TaskId.{TaskId}
 use Rattle.lp_stack.specs.TaskView.{seen}
@@ -18,3 +19,6 @@ loop-view-preserved g c =
     c.in_ok-push.ensures.items
     ∙ ap₂ (λ (xs : List Verdict) (v : Verdict). xs ++ v ∷ []) c.loop-view.invariant (made ∙ ap (λ v. told (seen v)) c.view-item.is)
     ∙ sym (ap (map told) (map_more seen views i view c.loop-view-test.true) ∙ map-append told (map seen (take i views)) (seen (get_or views i view) ∷ []))
+
+pub returns : goal.returns
+returns g c = grind (arith, common_steps)

@@ -1,4 +1,5 @@
-use Rattle.std.proofs.Common.{◌++◌, sym, ap, take, ◌∙◌}
+use Rattle.std.proofs.Common.{◌++◌, sym, ap, take, ◌∙◌, arith}
+use Rattle.std.proofs.lemmas.Grind.{common_steps}
 use Rattle.std.proofs.lemmas.Bool.{not-true}
 use Rattle.std.proofs.lemmas.List.{take_all}
 use Rattle.lp_transition.specs.inside.ScanSteps.{tasks_of}
@@ -20,3 +21,6 @@ pub returns : goal.returns
 returns c =
     let whole = ap tasks_of (take_all c.loop-verdict.verdict-index c.args.verdicts.now c.loop-verdict-test.false) in
     none_left c.loop-verdict.tasks c.next-2.result c.next-2.new.self c.next-2.ensures.steps (tasks_of c.args.verdicts.now) _ c.is_none.result c.is_none.ensures (ap (λ ts. ts ++ c.loop-verdict.tasks) (sym whole) ∙ c.loop-verdict.invariant)
+
+pub loop-verdict-preserved : goal.loop-verdict-preserved
+loop-verdict-preserved c = grind (arith, common_steps)

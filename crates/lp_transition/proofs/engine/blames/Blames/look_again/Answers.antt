@@ -1,4 +1,5 @@
-use Rattle.std.proofs.Common.{◌≡◌, List, Option, Some, sym, ap, ◌∙◌}
+use Rattle.std.proofs.Common.{◌≡◌, List, Option, Some, sym, ap, ◌∙◌, arith}
+use Rattle.std.proofs.lemmas.Grind.{common_steps}
 use Rattle.lp_transition.specs.declared.engine.blames.StandingBlame.{StandingBlame}
 use Rattle.lp_transition.specs.inside.Blames.{blame_at, looked_at}
 use Rattle.lp_transition.proofs.BlameLists.{looked-there, looked-gone}
@@ -20,3 +21,9 @@ returns-clause-blames c =
     λ group.
     looked-gone c.args.tasks.now c.args.task.0 c.group-group.result.0 x b old (sym c.in-Some.ensures.value) c.group-group.ensures stands c.if-blame-task.false gone c.put.new.self c.put.ensures.blames group
     ∙ ap (λ (bs : List (Option StandingBlame)). looked_at c.args.tasks.now c.args.task.0 group (blame_at bs group)) c.self.view_is
+
+pub returns-then-has_frame-clause-groups : goal.returns-then-has_frame-clause-groups
+returns-then-has_frame-clause-groups c = grind (arith, common_steps)
+
+pub returns-then-blame-task-clause-groups : goal.returns-then-blame-task-clause-groups
+returns-then-blame-task-clause-groups c = grind (arith, common_steps)

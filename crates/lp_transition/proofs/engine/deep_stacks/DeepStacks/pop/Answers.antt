@@ -1,4 +1,5 @@
-use Rattle.std.proofs.Common.{◌≡◌, None, Some, nat_eq, sym, ap, ◌∙◌}
+use Rattle.std.proofs.Common.{◌≡◌, None, Some, nat_eq, sym, ap, ◌∙◌, arith}
+use Rattle.std.proofs.lemmas.Grind.{common_steps}
 use Rattle.lp_transition.specs.inside.Deep.{place_at, deep_at, deep_of, popped}
 use Rattle.lp_transition.proofs.DeepLemmas.{deep-write, deep-here, not_deep, still_deep, changed_twice}
 use Rattle.lp_transition.proofs.engine.deep_stacks.DeepStacks.pop.Goals as goal
@@ -20,3 +21,15 @@ returns-else-left-le-OWN_FRAMES-clause-popped c = λ t.
     let here = deep-here i.places.items i.stacks.items c.args.task.0 c.from.result c.index_mut.result.now owned within c.index_mut.ensures.value in
     let some : popped (deep_at (deep_of i.places.items i.stacks.items) c.args.task.0) ≡ Some c.pop-left.new.self = ap popped here ∙ rw (← c.pop-left.ensures.rest) (still_deep c.pop-left.new.self c.pop-left.result c.pop-left.ensures.left c.if-left-le-OWN_FRAMES.false) in
     rw (← c.self.view_is, some) (deep-write i.places.items i.stacks.items i.free _ _ c.self.invariant c.args.task.0 c.from.result c.pop-left.new.self owned t)
+
+pub returns-then-left-le-OWN_FRAMES-clause-deep : goal.returns-then-left-le-OWN_FRAMES-clause-deep
+returns-then-left-le-OWN_FRAMES-clause-deep c = grind (arith, common_steps)
+
+pub returns-else-left-le-OWN_FRAMES-clause-deep : goal.returns-else-left-le-OWN_FRAMES-clause-deep
+returns-else-left-le-OWN_FRAMES-clause-deep c = grind (arith, common_steps)
+
+pub returns-in_default-clause-deep : goal.returns-in_default-clause-deep
+returns-in_default-clause-deep c = grind (arith, common_steps)
+
+pub returns-in_default-clause-popped : goal.returns-in_default-clause-popped
+returns-in_default-clause-popped c = grind (arith, common_steps)

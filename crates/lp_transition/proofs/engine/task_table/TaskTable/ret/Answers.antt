@@ -1,4 +1,5 @@
 use Rattle.std.proofs.Common.{◌≡◌, ◌<◌, ◌≤◌, length, vec_capacity, List, Option, Some, refl, sym, ap, subst, ◌∙◌, arith}
+use Rattle.std.proofs.lemmas.Grind.{common_steps}
 use Rattle.std.specs.Option.{option_map}
 use Rattle.lp_transition.specs.Machine.{returning}
 use Rattle.lp_transition.specs.Leg.{Standing}
@@ -48,3 +49,6 @@ returns-then-at-len c =
     let i = c.self.inside in
     let past : length i.slots.items ≤ c.args.task.0 = omega arith in
     rw (← c.self.view_is) (ap (λ (slots : List (Option Standing)). record { slots = slots; used = i.used }) (unchanged-past i.slots.items (deep_at i.deep) c.args.task.0 past returning))
+
+pub invariant_of-self-in_default : goal.invariant_of-self-in_default
+invariant_of-self-in_default c = grind (arith, common_steps)
