@@ -1,4 +1,5 @@
-use Rattle.std.proofs.Common.{ap, ◌∙◌, refl, sym, ◌∷◌}
+use Rattle.std.proofs.Common.{ap, ◌∙◌, refl, sym, ◌∷◌, arith}
+use Rattle.std.proofs.lemmas.Grind.{common_steps}
 use Rattle.std.specs.Prelude.{option_copied}
 use Rattle.lp_text.specs.inside.Cut.{IsCut, parts_left}
 use Rattle.lp_text.proofs.Choices.{at_some}
@@ -35,3 +36,6 @@ returns-then-is-clause-cert c =
 pub loop-more-preserved : goal.loop-more-preserved
 loop-more-preserved c =
     at_next _ _ _ c.loop-more.invariant c.cut.result.0.now c.in-Some.more.now (at_some (λ more. IsCut 10 c.loop-more.rest.now c.cut.result.0.now more.now) c.cut.result.1 c.in-Some.more c.cut.ensures.cut c.in-Some.is) (sym c.is.ensures ∙ c.if-is.false)
+
+pub slice_bounds-result-length : goal.slice_bounds-result-length
+slice_bounds-result-length c = grind (arith, common_steps)

@@ -1,6 +1,7 @@
 use Rattle.lp_text.specs.Words.{lines}
 use Rattle.lp_text.specs.CheckReading.{reasons_from}
 use Rattle.std.proofs.Common.{◌+◌, arith, ap, length, sym, ◌∙◌, ◌<◌}
+use Rattle.std.proofs.lemmas.Grind.{common_steps}
 use Rattle.std.specs.Prelude.{option_copied}
 use Rattle.lp_text.proofs.Choices.{at_some}
 use Rattle.lp_text.proofs.CertLines.{end_ok, end_err, line_ok, line_err}
@@ -24,3 +25,6 @@ loop-more-preserved c =
       line_ok _ c.loop-more.number c.loop-more.reasons.items c.loop-more.rest.now c.cut.result.0.now (option_copied c.cut.result.1) c.loop-more.invariant.0 c.cut.ensures.parts c.in-Some.more.now c.in-Ok.reason (ap option_copied c.in-Some.is) c.in-Ok.ensures ∙ ap (λ items. reasons_from (c.loop-more.number + 1) items (lines c.in-Some.more.now)) (sym c.in-Ok-push.ensures.items),
       omega (arith, c.loop-more.invariant.1),
     )
+
+pub loop-more-smaller : goal.loop-more-smaller
+loop-more-smaller c = grind (arith, common_steps)

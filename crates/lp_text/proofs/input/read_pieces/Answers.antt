@@ -1,4 +1,5 @@
 use Rattle.std.proofs.Common.{List, ℕ, take, vec_len, refl, subst, sym, arith, rules}
+use Rattle.std.proofs.lemmas.Grind.{common_steps}
 use Rattle.std.proofs.lemmas.List.{length-take-le}
 use Rattle.std.specs.Io.KnownBytes.{Consumes}
 use Rattle.lp_text.proofs.Counts.{going_on, none_called, one_more_called}
@@ -46,3 +47,21 @@ returns-in_default-clause-calls g c =
 pub returns-in-Err-clause-fault : goal.returns-in-Err-clause-fault
 returns-in-Err-clause-fault g c =
     behind 0 c.len.result (g.R.Read.remaining c.args.reader.now.stream) (g.R.Read.remaining c.loop-text.reader.stream) (g.R.Read.remaining c.read_piece.new.reader.stream) c.loop-text.text.items c.in-Err.fault c.loop-text.invariant.0 (omega (arith, c.loop-text.invariant.2, c.len.ensures)) c.in-Err.ensures.fault
+
+pub returns-in_default-clause-counted : goal.returns-in_default-clause-counted
+returns-in_default-clause-counted g c = grind (arith, common_steps)
+
+pub loop-text-smaller : goal.loop-text-smaller
+loop-text-smaller g c = grind (arith, common_steps)
+
+pub returns-in-Ok-eq0-clause-counted : goal.returns-in-Ok-eq0-clause-counted
+returns-in-Ok-eq0-clause-counted g c = grind (arith, common_steps)
+
+pub slice_bounds-extend_from_slice-end-in-loop-text : goal.slice_bounds-extend_from_slice-end-in-loop-text
+slice_bounds-extend_from_slice-end-in-loop-text g c = grind (arith, common_steps)
+
+pub returns-in-Ok-eq0-clause-whole : goal.returns-in-Ok-eq0-clause-whole
+returns-in-Ok-eq0-clause-whole g c = grind (arith, common_steps)
+
+pub returns-in-Err-clause-counted : goal.returns-in-Err-clause-counted
+returns-in-Err-clause-counted g c = grind (arith, common_steps)

@@ -1,4 +1,5 @@
 use Rattle.std.proofs.Common.{◌++◌, ◌-◌, [], take, ◌∙◌, refl, arith}
+use Rattle.std.proofs.lemmas.Grind.{common_steps}
 use Rattle.std.proofs.lemmas.List.{length-append, length-take-le}
 use Rattle.lp_text.proofs.Counts.{going_on, none_called, one_more_called}
 use Rattle.lp_text.proofs.Inputs.{consumes_more, consumes_none}
@@ -32,3 +33,9 @@ returns-in-Err-clause-calls g c =
 pub returns-in-Err-clause-fault : goal.returns-in-Err-clause-fault
 returns-in-Err-clause-fault g c =
     behind c.args.before c.loop-count.total (g.R.Read.remaining c.args.reader.now.stream) (g.R.Read.remaining c.loop-count.reader.stream) (g.R.Read.remaining c.read_piece.new.reader.stream) c.loop-count.invariant.0.0 c.in-Err.fault c.loop-count.invariant.0.1 c.loop-count.invariant.0.2 c.in-Err.ensures.fault
+
+pub returns-in-Ok-eq0-clause-end : goal.returns-in-Ok-eq0-clause-end
+returns-in-Ok-eq0-clause-end g c = grind (arith, common_steps)
+
+pub returns-in-Ok-eq0-clause-counted : goal.returns-in-Ok-eq0-clause-counted
+returns-in-Ok-eq0-clause-counted g c = grind (arith, common_steps)

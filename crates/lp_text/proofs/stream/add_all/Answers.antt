@@ -1,4 +1,5 @@
 use Rattle.std.proofs.Common.{refl, ◌-◌, ◌≡◌, ◌≤◌, ◌+◌, ℕ, List, [], ◌++◌, length, take, Option, sym, ap, ◌∙◌, arith}
+use Rattle.std.proofs.lemmas.Grind.{common_steps}
 use Rattle.std.proofs.lemmas.List.{length-append, length-take-le}
 use Rattle.lp_text.specs.inside.Streams.{Stream, reading_after}
 use Rattle.lp_text.proofs.Counts.{called_more, going_on, going_to_end, going_to_fault, input_told, none_called, one_more_called, text_told}
@@ -109,3 +110,9 @@ loop-count-preserved g c =
       going_on c.args.reader.now c.loop-count.reader c.read_piece.new.reader c.in-Ok.count c.loop-count.invariant.5 c.in-Ok.ensures.counted (omega (arith, c.if-count-eq0.false)),
       one_more_called _ c.loop-count.reader.calls _ c.loop-count.total _ c.loop-count.invariant.6 c.read_piece.ensures.calls (omega (arith, c.if-count-eq0.false)),
     )
+
+pub add-requires-clause-few : goal.add-requires-clause-few
+add-requires-clause-few g c = grind (arith, common_steps)
+
+pub slice_bounds-add-end-in-loop-count : goal.slice_bounds-add-end-in-loop-count
+slice_bounds-add-end-in-loop-count g c = grind (arith, common_steps)

@@ -1,4 +1,5 @@
 use Rattle.std.proofs.Common.{◌+◌, arith, refl, sym}
+use Rattle.std.proofs.lemmas.Grind.{common_steps}
 use Rattle.lp_text.proofs.Goes.{passed_on, asked_each, no_patch_asked, patches_first, patches_count, patches_few, patches_on, patches_err, patches_end}
 use Rattle.lp_text.proofs.builder.Builder.add_patches.Goals as goal
 
@@ -24,3 +25,9 @@ loop-i-preserved c =
 
 pub returns-clause-gives : goal.returns-clause-gives
 returns-clause-gives c = rw (asked_each _ c.args.patches.now (sym c.if-is_empty.ensures)) (patches_end c.args.symbols.now c.args.self.now.place c.args.self.now.parser c.args.patches.now c.loop-i.self.place c.loop-i.self.size c.loop-i.self.parser c.loop-i.i c.loop-i.invariant c.loop-i-test.false)
+
+pub add_patch-requires-clause-next : goal.add_patch-requires-clause-next
+add_patch-requires-clause-next c = grind (arith, common_steps)
+
+pub returns-clause-added : goal.returns-clause-added
+returns-clause-added c = grind (arith, common_steps)

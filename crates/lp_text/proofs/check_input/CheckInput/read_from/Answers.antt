@@ -1,4 +1,5 @@
-use Rattle.std.proofs.Common.{refl}
+use Rattle.std.proofs.Common.{refl, arith}
+use Rattle.std.proofs.lemmas.Grind.{common_steps}
 use Rattle.lp_text.specs.CheckReading.{check_reading}
 use Rattle.lp_text.specs.Input.{of_read}
 use Rattle.lp_text.specs.inside.Streams.{of_input}
@@ -26,3 +27,9 @@ returns-in_err-input-clause-read_failed g c =
 pub returns-in_err-input-clause-unfailed : goal.returns-in_err-input-clause-unfailed
 returns-in_err-input-clause-unfailed g c =
     but_for_reads_of c.args.reader.now c.read_input.new.reader (of_read c.in_err-input.field-0.0) c.from_residual-in_err-input.result (text_told c.args.reader.now c.read_input.new.reader c.in_err-input.field-0.0 _ c.in_ok-text.ensures.counted.0 refl) c.from_residual-in_err-input.ensures.1
+
+pub returns-in_err-input-clause-trace : goal.returns-in_err-input-clause-trace
+returns-in_err-input-clause-trace g c = grind (arith, common_steps)
+
+pub returns-clause-found : goal.returns-clause-found
+returns-clause-found g c = grind (arith, common_steps)

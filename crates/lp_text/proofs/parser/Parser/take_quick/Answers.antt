@@ -1,4 +1,5 @@
 use Rattle.std.proofs.Common.{◌≡◌, ◌<◌, false, length, vec_len, sym, ◌∙◌, refl, arith}
+use Rattle.std.proofs.lemmas.Grind.{common_steps}
 use Rattle.std.specs.Prelude.{◌==◌}
 use Rattle.std.proofs.lemmas.List.{length-map}
 use Rattle.lp_text.specs.Traces.{functions}
@@ -16,3 +17,9 @@ returns-clause-taken c =
     let patched : 0 < length (functions c.self.inside.patches.items) = omega (arith, long, patches) in
     let room : length c.self.inside.events.items < 1000000 = omega (arith, events, c.len-count.ensures, c.if-count.false) in
     rw (← c.self.view_is, c.push_reserved.ensures.items) (taken _ _ c.in_ok-event.event c.args.text.now c.in_ok-event.rest.now c.self.invariant.0 c.len.ensures.distinct patched room c.in_ok-event.ensures refl)
+
+pub returns-in_err-event-clause-taken : goal.returns-in_err-event-clause-taken
+returns-in_err-event-clause-taken c = grind (arith, common_steps)
+
+pub returns-in_err-event-clause-none : goal.returns-in_err-event-clause-none
+returns-in_err-event-clause-none c = grind (arith, common_steps)
