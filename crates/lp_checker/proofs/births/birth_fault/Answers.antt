@@ -1,4 +1,5 @@
 use Rattle.std.proofs.Common.{◌≡◌, ℕ, suc, pred, ◌+◌, ◌-◌, ◌&&◌, true, false, ◌∷◌, drop, Some, nat_lt, nat_le, sym, ap, ◌∙◌, subst, arith}
+use Rattle.std.proofs.lemmas.Grind.{common_steps}
 use Rattle.std.proofs.Math.Seq.{drop-cons}
 use Rattle.std.proofs.lemmas.List.{drop_all}
 use Rattle.lp_cert.specs.declared.line.Line.{Line}
@@ -64,3 +65,9 @@ is_birth-requires-clause-within g c =
     let range = c.args.cursor.now.range in
     let between = moment_between c.loop-line.begin range.end (c.in-Born.at - range.opening.number) c.in-Some.moment (rw (c.loop-line.invariant.range, c.end-last.ensures.value) at c.in-Some.ensures) in
     rw c.loop-line.invariant.range between.1
+
+pub loop-line-preserved-in_default : goal.loop-line-preserved-in_default
+loop-line-preserved-in_default g c = grind (arith, common_steps)
+
+pub returns-then-not-branch-clause-range : goal.returns-then-not-branch-clause-range
+returns-then-not-branch-clause-range g c = grind (arith, common_steps)

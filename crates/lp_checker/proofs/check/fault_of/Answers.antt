@@ -1,4 +1,5 @@
 use Rattle.std.proofs.Common.{◌≡◌, Option, sym, ◌∙◌, arith}
+use Rattle.std.proofs.lemmas.Grind.{common_steps}
 use Rattle.std.proofs.lemmas.Result.{IfOk-weaker}
 use Rattle.lp_transition.specs.Tasks.{first_of}
 use Rattle.lp_checker.specs.declared.fault.CertFault.{CertFault}
@@ -18,3 +19,9 @@ returns-clause-verdict g c =
     let lines = c.as_slice.result.now in
     let same = past_no_leg model c.args.opening.now c.args.events.now c.args.claim c.args.cert.now _ range lines (sym c.if-is_no_leg.ensures) (omega (arith, c.saturating_sub-last.ensures, c.number.ensures.value)) c.in_ok-cursor.ensures c.as_slice.ensures in
     IfOk-weaker c.later_fault.result (λ (fault : Option CertFault). fault ≡ first_of (later_tests model range c.args.cert.now.group.0 lines)) (λ fault. fault ≡ verdict_on model (leg_with c.args.opening.now c.args.events.now) c.args.claim c.args.cert.now) (λ fault e. e ∙ same) c.later_fault.ensures
+
+pub open-requires-clause-room : goal.open-requires-clause-room
+open-requires-clause-room g c = grind (arith, common_steps)
+
+pub open-requires-clause-within : goal.open-requires-clause-within
+open-requires-clause-within g c = grind (arith, common_steps)

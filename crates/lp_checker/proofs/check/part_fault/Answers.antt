@@ -1,4 +1,5 @@
-use Rattle.std.proofs.Common.{◌≡◌, ◌++◌, map, Option, sym, ◌∙◌}
+use Rattle.std.proofs.Common.{◌≡◌, ◌++◌, map, Option, sym, ◌∙◌, arith}
+use Rattle.std.proofs.lemmas.Grind.{common_steps}
 use Rattle.std.specs.List.{flat_map}
 use Rattle.std.proofs.lemmas.Result.{IfOk-weaker}
 use Rattle.lp_transition.specs.Tasks.{first_of}
@@ -27,3 +28,6 @@ returns g c =
     let gapped = map (gap_test model leg) parts in
     let none = sym c.in_ok-fault.ensures.fault ∙ none_is c.in_ok-fault.fault c.if-is_some.ensures in
     IfOk-weaker c.gap_fault.result (λ (fault : Option CertFault). fault ≡ first_of gapped) (λ fault. fault ≡ first_of (lined ++ gapped)) (λ fault e. e ∙ sym (first_of_append lined gapped none)) (rw c.line_fault.ensures.range at c.gap_fault.ensures.fault)
+
+pub gap_fault-requires : goal.gap_fault-requires
+gap_fault-requires g c = grind (arith, common_steps)

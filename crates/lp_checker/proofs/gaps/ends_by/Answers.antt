@@ -1,4 +1,5 @@
 use Rattle.std.proofs.Common.{◌≡◌, ℕ, suc, ◌-◌, ◌<◌, ◌++◌, List, length, take, drop, nat_le, nat_lt, slice_index, take_all, sym, ap, ◌∙◌, arith}
+use Rattle.std.proofs.lemmas.Grind.{common_steps}
 use Rattle.std.proofs.lemmas.List.{take-append-le}
 use Rattle.std.specs.List.{list_any}
 use Rattle.lp_checker.specs.inside.Spans.{some_spans_to}
@@ -24,3 +25,6 @@ returns-clause-covers c = λ model leg moment its low high.
     ∙ ends_so_far c.args.number begin last c.args.lines.now own all c.in_ok-ends.ensures.ends moment positive (suc place) (omega (arith, low, high))
     ∙ ap (λ n. some_spans_to n begin (λ at. nat_lt at (suc (moment - begin))) moment c.args.lines.now) (sym its)
     ∙ lines_cover model leg begin moment low c.args.lines.now
+
+pub returns-clause-all : goal.returns-clause-all
+returns-clause-all c = grind (arith, common_steps)

@@ -1,4 +1,5 @@
 use Rattle.std.proofs.Common.{◌≡◌, ℕ, suc, ◌+◌, ◌-◌, ◌<◌, ◌≤◌, ◌||◌, true, is_none, is_some, nat_le, slice_index, add-one, sym, ap, ◌∙◌, subst, arith}
+use Rattle.std.proofs.lemmas.Grind.{common_steps}
 use Rattle.lp_transition.specs.Leg.{check}
 use Rattle.lp_checker.specs.inside.Cursors.{Range, leg_in}
 use Rattle.lp_checker.proofs.FirstBad.{none_bad, bad_here, good_here}
@@ -48,3 +49,6 @@ returns-clause-gap g c =
     let leg = leg_in c.args.cursor.now.range in
     let passes = λ (place : ℕ). is_none (check g.M.Consistency.rules leg place c.args.section.group.0) || nat_le (suc place) (slice_index c.args.ends.now (suc place - c.args.section.begin)) in
     sym (c.loop-place.invariant.rest ∙ none_bad (c.args.section.until - c.loop-place.place) c.loop-place.place passes (omega (arith, c.loop-place-test.false)))
+
+pub overflow_add-place-then-is_some : goal.overflow_add-place-then-is_some
+overflow_add-place-then-is_some g c = grind (arith, common_steps)

@@ -1,4 +1,5 @@
 use Rattle.std.proofs.Common.{◌≡◌, ℕ, suc, pred, ◌-◌, ◌∷◌, drop, sym, ap, ◌∙◌, subst, arith}
+use Rattle.std.proofs.lemmas.Grind.{common_steps}
 use Rattle.std.proofs.lemmas.Result.{IfOk-weaker}
 use Rattle.lp_stack.specs.declared.number.GroupId.{GroupId}
 use Rattle.lp_transition.specs.Leg.{after}
@@ -35,3 +36,9 @@ returns-in-Born-clause-group g c =
     let before = λ (m : ℕ). group_or_0 (after model leg (pred m) c.in-Born.parent.0) in
     let moment = rw c.loop-line.invariant.range at c.moment_of-moment.ensures.value in
     IfOk-weaker c.group_before.result (λ (group : GroupId). group.0 ≡ before c.moment_of-moment.result) (λ group. group.0 ≡ first_group model leg c.args.claimed.0 (births lines)) (λ group e. e ∙ ap before moment ∙ sym (ap (first_group model leg c.args.claimed.0) here)) (rw c.loop-line.invariant.range at c.group_before.ensures.group)
+
+pub loop-line-preserved : goal.loop-line-preserved
+loop-line-preserved g c = grind (arith, common_steps)
+
+pub returns-clause-group : goal.returns-clause-group
+returns-clause-group g c = grind (arith, common_steps)

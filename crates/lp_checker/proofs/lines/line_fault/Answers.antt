@@ -1,4 +1,5 @@
 use Rattle.std.proofs.Common.{add-one, sym, ap, ◌∙◌, arith}
+use Rattle.std.proofs.lemmas.Grind.{common_steps}
 use Rattle.std.proofs.lemmas.List.{drop_all}
 use Rattle.std.proofs.Math.Seq.{drop-cons}
 use Rattle.lp_checker.specs.inside.Cursors.{leg_in}
@@ -47,3 +48,6 @@ section_fault-requires g c =
 
 pub returns-clause-fault : goal.returns-clause-fault
 returns-clause-fault g c = sym (c.loop-section.invariant.rest ∙ ap (faults_from g.M.Consistency.rules (leg_in c.args.cursor.now.range) c.args.lines.now) (drop_all c.loop-section.section-index c.args.sections.now (omega (arith, c.loop-section-test.false))))
+
+pub offset_bounds-lines-section : goal.offset_bounds-lines-section
+offset_bounds-lines-section g c = grind (arith, common_steps)

@@ -1,4 +1,5 @@
-use Rattle.std.proofs.Common.{◌∙◌}
+use Rattle.std.proofs.Common.{◌∙◌, arith}
+use Rattle.std.proofs.lemmas.Grind.{common_steps}
 use Rattle.lp_checker.specs.inside.Cursors.{leg_in}
 use Rattle.lp_checker.specs.inside.Sections.{timed}
 use Rattle.lp_checker.proofs.MarkLines.{marks_with}
@@ -17,3 +18,6 @@ loop-look-preserved g c =
 
 pub mark_at-requires-clause-within : goal.mark_at-requires-clause-within
 mark_at-requires-clause-within g c = rw c.loop-look.invariant.range c.requires.within
+
+pub bounds-marks-i : goal.bounds-marks-i
+bounds-marks-i g c = grind (arith, common_steps)

@@ -1,4 +1,5 @@
 use Rattle.std.proofs.Common.{◌≡◌, ℕ, suc, ◌+◌, ◌-◌, ◌∷◌, ◌++◌, [], drop, length, refl, sym, ap, ◌∙◌, subst, arith}
+use Rattle.std.proofs.lemmas.Grind.{common_steps}
 use Rattle.std.proofs.lemmas.List.{drop_all}
 use Rattle.std.proofs.Math.Seq.{drop-cons}
 use Rattle.lp_cert.specs.declared.line.Line.{Line}
@@ -49,3 +50,6 @@ returns-clause-times g c =
     let lines = c.args.lines.now in
     let all : c.loop-i.i ≡ length lines = omega (arith, c.loop-i-test.false, c.loop-i.auto.i-end) in
     rw c.in_ok-push-2.ensures.items (all_follow leg lines c.args.cursor.now.range.end c.args.first.0 c.loop-i.i c.loop-i.parts.items c.loop-i.part.group.0 c.loop-i.part.begin c.loop-i.part.start c.loop-i.part (drop_all c.loop-i.i lines (omega (arith, all))) all c.loop-i.invariant.made refl refl c.loop-i.invariant.until refl (c.loop-i.invariant.end ∙ sym all))
+
+pub loop-i-init : goal.loop-i-init
+loop-i-init g c = grind (arith, common_steps)

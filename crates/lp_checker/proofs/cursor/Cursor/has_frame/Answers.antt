@@ -1,4 +1,5 @@
-use Rattle.std.proofs.Common.{false, nat_eq, ap, ◌∙◌}
+use Rattle.std.proofs.Common.{false, nat_eq, ap, ◌∙◌, arith}
+use Rattle.std.proofs.lemmas.Grind.{common_steps}
 use Rattle.std.specs.List.{list_any}
 use Rattle.lp_transition.specs.Tasks.{on_live}
 use Rattle.lp_transition.specs.Machine.{Standings}
@@ -14,3 +15,6 @@ returns-clause-value g c =
     ((rw c.deref.ensures at c.has_frame.ensures)
     ∙ ap (λ (s : Standings). on_live false (λ x. list_any (λ frame. nat_eq frame.serial c.args.serial) x.frames) (s c.args.task.0)) at.tasks
     ∙ frame_is g.M.Consistency.rules (leg_with own.opening.now own.events.now) g.met.M.Consistency.lawful at.sound.sound own.moment c.args.task.0 c.args.serial)
+
+pub returns-clause-sound : goal.returns-clause-sound
+returns-clause-sound g c = grind (arith, common_steps)

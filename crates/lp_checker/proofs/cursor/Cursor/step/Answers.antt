@@ -1,4 +1,5 @@
 use Rattle.std.proofs.Common.{◌<◌, add-one, sym, subst, arith}
+use Rattle.std.proofs.lemmas.Grind.{common_steps}
 use Rattle.std.proofs.lemmas.Option.{slice_get-get_or}
 use Rattle.lp_checker.specs.declared.fold.Fold.{Fold}
 use Rattle.lp_checker.specs.inside.Folds.{IsAt}
@@ -37,3 +38,6 @@ invariant_of-self-2 g c =
       within = c.self.invariant.within;
       room = c.self.invariant.room;
     })
+
+pub returns-clause-moment : goal.returns-clause-moment
+returns-clause-moment g c = grind (arith, common_steps)

@@ -1,4 +1,5 @@
-use Rattle.std.proofs.Common.{◌≡◌, ℕ, [], if◌then◌else◌, nat_eq, sym, ap, ap₂, ◌∙◌}
+use Rattle.std.proofs.Common.{◌≡◌, ℕ, [], if◌then◌else◌, nat_eq, sym, ap, ap₂, ◌∙◌, arith}
+use Rattle.std.proofs.lemmas.Grind.{common_steps}
 use Rattle.std.proofs.lemmas.Result.{on_ok_weaker}
 use Rattle.lp_stack.specs.declared.view.Class.TheVariants.{Normal}
 use Rattle.lp_stack.specs.declared.view.Mode.TheVariants.{Kernel}
@@ -22,3 +23,6 @@ returns-clause-tasks g c =
     on_ok_weaker c.put.result
     (λ (e : standings c.put.new.self ≡ (λ t. if nat_eq t c.args.child.0 then Live c.new-born.result else standings old t)). e ∙ ap (λ (f : Fate Standing). λ (t : ℕ). if nat_eq t c.args.child.0 then f else standings old t) fate)
     c.put.ensures.put
+
+pub put-requires-clause-positive : goal.put-requires-clause-positive
+put-requires-clause-positive g c = grind (arith, common_steps)

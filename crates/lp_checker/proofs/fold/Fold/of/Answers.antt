@@ -1,4 +1,5 @@
 use Rattle.std.proofs.Common.{◌≡◌, subst, arith}
+use Rattle.std.proofs.lemmas.Grind.{common_steps}
 use Rattle.lp_transition.specs.Table.{standings}
 use Rattle.lp_checker.proofs.OpeningTasks.{IsPutBelow, put_more, put_all}
 use Rattle.lp_checker.proofs.fold.Fold.of.Goals as goal
@@ -13,3 +14,6 @@ pub returns-clause-tasks : goal.returns-clause-tasks
 returns-clause-tasks c =
     let done : c.loop-number.number ≡ 65536 = omega (arith, c.loop-number-test.false, c.loop-number.auto.number-end) in
     put_all c.args.opening.now.table (standings c.loop-number.tasks) c.loop-number.invariant.opening.wide (subst (λ n. IsPutBelow n (standings c.loop-number.tasks) (standings c.args.opening.now.table)) done c.loop-number.invariant.below)
+
+pub loop-number-init : goal.loop-number-init
+loop-number-init c = grind (arith, common_steps)
