@@ -22,7 +22,8 @@ use Rattle.lp_cert.specs.Invariant.{claim_of, end_waiters, upto_of}
 use Rattle.lp_cert.specs.Waiters.{LegReasons, WaitingGroups, head_of, kept_cert, waiter_in, waiters_of}
 use Rattle.lp_cert.specs.inside.Heads.{ContinuesIn, IsHead}
 use Rattle.lp_cert.specs.inside.Invariant.{certs_at}
-use Rattle.lp_cert.specs.inside.Bare.{bare_cert}
+use Rattle.lp_cert.specs.declared.cert_list.BareHead.{BareHead}
+use Rattle.lp_cert.specs.inside.Bare.{bare_cert, bare_certs as certs_of}
 use Rattle.lp_cert.specs.inside.Kept.{up_to}
 use Rattle.lp_cert.specs.inside.Waiters.{AreBare, AreStanding, lines_in}
 use Rattle.lp_cert.proofs.Ending.{bare_lines}
@@ -82,6 +83,12 @@ pub no_lines : (claim : Claim) (leg upto : ℕ) (groups : List GroupId) (k : ℕ
 no_lines claim leg upto [] k within = absurd (omega arith)
 no_lines claim leg upto (group ∷ groups) zero within = refl
 no_lines claim leg upto (group ∷ groups) (suc k) within = no_lines claim leg upto groups k (omega arith)
+
+-- of these certificates none has
+pub none_has_lines : (certs : List Cert) (head : BareHead) (groups : List GroupId) (k : ℕ) → certs ≡ certs_of head groups → k < length certs → option_map (λ (cert : Cert). cert.lines) (slice_get certs k) ≡ Some []
+none_has_lines certs head groups k is within =
+    ap (λ (cs : List Cert). option_map (λ (cert : Cert). cert.lines) (slice_get cs k)) is
+    ∙ no_lines head.claim head.leg head.upto groups k (subst (λ (cs : List Cert). k < length cs) is within)
 
 -- those of a leg that isn't complete
 pub open_bare : (leg : OpenLeg) (noted : ℕ) (w : WaitingGroups) (claim : Claim) (upto : ℕ) (groups : List GroupId)

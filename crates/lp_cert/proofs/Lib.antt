@@ -1,6 +1,7 @@
 pub mod ChainLemmas
 pub mod GroupSets
 pub mod PartLemmas
+pub mod LegRows
 pub mod LineLemmas
 pub mod HeadLemmas
 pub mod UnchangedLines

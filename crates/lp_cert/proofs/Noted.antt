@@ -37,6 +37,7 @@ use Rattle.lp_cert.specs.Ends.{Made, IsMadeWith, Room, end_of, ended_legs, is_op
 use Rattle.lp_cert.specs.Invariant.{open_end, floor_waiters, room_of}
 use Rattle.lp_cert.specs.inside.Invariant.{IfReady, IsReady, leg_at, IsStepped}
 use Rattle.lp_cert.specs.Waiters.{WaitingGroups, kept_cert, waiters_of}
+use Rattle.lp_cert.specs.inside.LegRows.{KeptEnds}
 use Rattle.lp_cert.specs.inside.Waiters.{HasFewGroups, has_off, lines_at}
 use Rattle.lp_cert.proofs.Completions.{past_floor, completion_opened, completion_below, certs_kept, completion_stays, completion_now, incomplete_if}
 use Rattle.lp_cert.proofs.Making.{none_is, cert_for, certs_from, certs_tell, floor_from}
@@ -457,7 +458,7 @@ module _ (model : Rules) (lawful : IsLawful model) (run : Run) (e : Engine) (sta
 -- ---- What the maker needs of what it keeps
 
 -- there is room for the event
-pub ready_for : (current : Option OpenLeg) (w : WaitingGroups) (room : ℕ) (closing : Option (List Cert)) (o : Option Ready) (ready : Ready) → IfReady current w room closing o → o ≡ Some ready → IsReady current w room closing ready
+pub ready_for : (current : Option OpenLeg) (w : WaitingGroups) (room : KeptEnds) (closing : Option (List Cert)) (o : Option Ready) (ready : Ready) → IfReady current w room closing o → o ≡ Some ready → IsReady current w room closing ready
 ready_for current w room closing o ready h is = subst (IfReady current w room closing) is h
 
 -- it is what was asked for, and opens a leg or doesn't

@@ -17,6 +17,8 @@ use Rattle.lp_cert.specs.declared.cert.Claim.TheVariants.{Floor}
 use Rattle.lp_cert.specs.declared.cert.Cert.{Cert}
 use Rattle.lp_cert.specs.declared.cert.CertHead.{CertHead}
 use Rattle.lp_cert.specs.declared.leg_end.LegEnd.{LegEnd}
+use Rattle.lp_cert.specs.declared.leg_end.LegEndRef.{LegEndRef}
+use Rattle.lp_cert.specs.declared.leg_list.LegEnds.{LegEnds}
 use Rattle.lp_cert.specs.Certificates.{completion, certs_of, lines, opened_legs}
 use Rattle.lp_cert.specs.Unchanged.{AreUnchangedBy}
 
@@ -45,6 +47,14 @@ pub record IsFresh (made : Made) : Type 0 where
   pub ended : made.ended ≡ []
   pub current : made.current ≡ None
   pub ready : made.ready ≡ None
+
+-- the end that is borrowed
+abbrev pub end_in : LegEndRef → LegEnd
+end_in end = record { opened = end.opened; target = end.target; completed = end.completed; certs = end.certs }
+
+-- the ends that are left to be looked at
+abbrev pub ends_left : LegEnds → List LegEnd
+ends_left ends = drop ends.passed ends.rows.now.ends
 
 -- a certificate without its lines
 abbrev pub cert_head : Cert → CertHead

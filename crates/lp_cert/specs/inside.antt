@@ -6,6 +6,7 @@ pub mod StepLines
 pub mod Heads
 pub mod Invariant
 pub mod Kept
+pub mod LegRows
 pub mod Parts
 pub mod ToldGroups
 pub mod Waiters

@@ -1,14 +1,16 @@
 //! Certificates: why a group still waits.
 #![tactic(auto)]
 
-mod bare_certs;
 mod cert;
 mod cert_lines;
+mod cert_list;
 mod chains;
 mod group_set;
 mod head;
 pub mod laws;
 mod leg_end;
+mod leg_list;
+mod leg_rows;
 mod line;
 mod maker;
 mod many_certs;
@@ -23,7 +25,9 @@ mod waiters;
 
 pub use cert::{Cert, CertHead, Claim};
 pub use cert_lines::CertLines;
-pub use leg_end::{CertList, LegEnd};
+pub use cert_list::{CertList, CertListRef};
+pub use leg_end::{LegEnd, LegEndRef};
+pub use leg_list::{LegEnds, LegList};
 pub use line::{Line, LineList};
 pub use lp_model::Consistency;
 pub use lp_stack::{GroupId, Level, TaskId};

@@ -1,15 +1,16 @@
 //! The maker of certificates.
-ghost use Rattle.std.specs.Prelude.{◌≡◌, ◌+◌, ◌-◌, ◌<◌, [], ◌∷◌, ◌++◌, true, Some, None, IsTrue, ◌≤◌, length, vec_len, vec_capacity, option_to_list, is_some, IfOk, IfSome, OnOk};
+ghost use Rattle.std.specs.Prelude.{◌≡◌, ◌+◌, ◌<◌, [], ◌∷◌, ◌++◌, true, Some, None, IsTrue, ◌≤◌, length, option_to_list, is_some, IfOk, IfSome, OnOk};
 ghost use Rattle.lp_transition.specs.Events.{is_control, is_scan};
 ghost use Rattle.lp_transition.specs.Plain.{is_plain};
 ghost use Rattle.lp_transition.specs.Run.{new_target};
 ghost use Rattle.lp_transition.specs.declared.event.Event.{Event};
 ghost use Rattle.lp_transition.specs.Table.{state_in};
 ghost use Rattle.lp_transition.specs.Weigh.{IsWeighed};
-ghost use Rattle.lp_cert.specs.Ends.{IsFresh, IsMadeFurther, floor_in, is_complete_in, is_opening, room_for, waiting_in};
+ghost use Rattle.lp_cert.specs.Ends.{IsFresh, IsMadeFurther, ends_left, floor_in, is_complete_in, is_opening, room_for, waiting_in};
 ghost use Rattle.lp_cert.specs.Invariant.{open_end};
-ghost use Rattle.lp_cert.specs.inside.Invariant.{HasClosing, HasFloor, HasFloors, IsClosing, IsNoted, leg_at, waiting_cert};
+ghost use Rattle.lp_cert.specs.inside.Invariant.{HasClosing, HasEndRoom, HasFloor, HasFloors, IsClosing, IsNoted, leg_at, waiting_cert};
 ghost use Rattle.lp_cert.specs.Waiters.{WaitingGroups};
+ghost use Rattle.lp_cert.specs.inside.LegRows.{HasRoomFor};
 ghost use Rattle.lp_cert.specs.inside.Waiters.{HasHeadFor, HasHeads, lines_at};
 ghost use Rattle.std.specs.Option.{option_map};
 
@@ -17,7 +18,10 @@ mod point;
 mod quiet;
 
 use crate::cert::{Cert, Claim};
-use crate::leg_end::{CertList, LegEnd};
+use crate::cert_list::CertList;
+use crate::leg_end::LegEnd;
+use crate::leg_list::{LegEnds, LegList};
+use crate::leg_rows::LegRows;
 use crate::open_leg::{Completion, OpenLeg};
 use crate::waiter_steps::untold;
 use crate::waiters::Waiters;
@@ -45,7 +49,7 @@ pub(crate) struct Ready {
 /// Contracts see the ends of the legs that ended, the end of the leg under way as it stands, and the
 /// event for which there is room.
 pub struct Maker {
-    ended: Vec<LegEnd>,
+    ended: LegRows,
     current: Option<OpenLeg>,
     waiters: Waiters,
     /// Within a scan the groups of which it found anything: kept here, so that a scan needs no memory.
@@ -74,7 +78,6 @@ impl Drop for Maker {
 }
 
 impl Model for Maker {
-    ghost use Rattle.std.specs.Prelude.{◌-◌, vec_len, vec_capacity};
     ghost use Rattle.std.specs.Option.{option_map};
     ghost use Rattle.lp_cert.specs.Ends.{Made};
     ghost use Rattle.lp_cert.specs.Invariant.{open_end, room_of};
@@ -82,9 +85,9 @@ impl Model for Maker {
 
     ghost Value = { Made };
 
-    ghost view = { λ m. record { ended = m.ended.items; current = option_map (open_end m.noted m.waiters) m.current; ready = option_map room_of m.ready } };
+    ghost view = { λ m. record { ended = m.ended.ends; current = option_map (open_end m.noted m.waiters) m.current; ready = option_map room_of m.ready } };
 
-    ghost invariant = { λ m. IsMaker m.current m.waiters (vec_capacity m.ended - vec_len m.ended) m.closing m.ready };
+    ghost invariant = { λ m. IsMaker m.current m.waiters m.ended m.closing m.ready };
 }
 
 impl Maker {
@@ -93,7 +96,7 @@ impl Maker {
         ensures { IfOk result IsFresh }
     {
         Ok(Maker {
-            ended: Vec::new(alloc),
+            ended: LegRows::new(alloc),
             current: None,
             waiters: Waiters::new(alloc)?,
             told: NumberSet::new(alloc)?,
@@ -221,8 +224,8 @@ impl Maker {
 
     /// The ends of all legs, given up, the last one as it stands; AllocError where an allocation
     /// failed. What is kept of the legs is moved.
-    pub fn into_ends(self, alloc: Global) -> Result<Vec<LegEnd>, AllocError>
-        ensures { IfOk result (λ ends. ends.items ≡ self.ended ++ option_to_list self.current) }
+    pub fn into_ends(self, alloc: Global) -> Result<LegList, AllocError>
+        ensures { IfOk result (λ ends. ends ≡ self.ended ++ option_to_list self.current) }
     {
         let Self {
             mut ended,
@@ -235,9 +238,10 @@ impl Maker {
         } = self;
         if let Some(leg) = current {
             let certs = leg.into_certs(alloc, noted, waiters)?;
-            ended.push(leg.end(certs))?;
+            ended.reserve(&certs)?;
+            ended.push_reserved(leg.end(certs));
         }
-        Ok(ended)
+        Ok(LegList::from_rows(ended))
     }
 
     /// Whether the leg under way is complete; false where there is none. Its end stays the same from
@@ -252,10 +256,10 @@ impl Maker {
     }
 
     /// The ends of the legs that ended, borrowed.
-    pub fn ended(&self) -> &[LegEnd]
-        ensures { result.now ≡ self.now.ended }
+    pub fn ended(&self) -> LegEnds<'_>
+        ensures { ends_left result ≡ self.now.ended }
     {
-        self.ended.as_slice()
+        LegEnds::of(&self.ended)
     }
 }
 
@@ -295,9 +299,9 @@ fn step_leg<M: Consistency>(
 }
 
 /// Ends the leg under way after so many events, if there is one. Never allocates.
-fn end_leg(ended: &mut Vec<LegEnd>, noted: u32, current: Option<OpenLeg>, closing: CertList)
-    requires room { 0 < vec_capacity ended.old - vec_len ended.old }
-    ensures { (waiters : WaitingGroups) → IsClosing current waiters closing → ended.new.items ≡ ended.old.items ++ option_to_list (option_map (open_end noted waiters) current) }
+fn end_leg(ended: &mut LegRows, noted: u32, current: Option<OpenLeg>, closing: CertList)
+    requires room { HasRoomFor ended.old closing }
+    ensures { (waiters : WaitingGroups) → IsClosing current waiters closing → ended.new.ends ≡ ended.old.ends ++ option_to_list (option_map (open_end noted waiters) current) }
 {
     let Some(leg) = current else {
         return;
@@ -345,20 +349,21 @@ fn close(
     current: Option<OpenLeg>,
     noted: u32,
     waiters: &Waiters,
-    ended: &mut Vec<LegEnd>,
+    ended: &mut LegRows,
     closing: &mut Option<CertList>,
 ) -> Result<bool, AllocError>
     requires { HasFloors waiters.now current }
     ensures opens { IfOk result (λ opens. opens ≡ is_opening step.now) }
-    ensures room { IfOk result (λ opens. opens ≡ true → 0 < vec_capacity ended.new - vec_len ended.new) }
+    ensures room { IfOk result (λ opens. HasEndRoom ended.new opens closing.new) }
     ensures closing { IfOk result (λ opens. HasClosing current waiters.now opens closing.new) }
-    ensures ended { ended.new.items ≡ ended.old.items }
+    ensures ended { ended.new.ends ≡ ended.old.ends }
 {
     if !opens(step) {
         return Ok(false);
     }
-    ended.reserve(1)?;
-    *closing = Some(closing_of(alloc, current, noted, waiters)?);
+    let certs = closing_of(alloc, current, noted, waiters)?;
+    ended.reserve(&certs)?;
+    *closing = Some(certs);
     Ok(true)
 }
 
@@ -375,7 +380,7 @@ fn closing_of(
 {
     match current {
         Some(leg) => leg.certs(alloc, noted, waiters),
-        None => Ok(CertList::none()),
+        None => Ok(CertList::none(Claim::Waiting, 0, noted)),
     }
 }
 

@@ -7,8 +7,9 @@ ghost use Rattle.lp_cert.specs.inside.Invariant.{HasFloor, certs_at};
 ghost use Rattle.lp_cert.specs.inside.Waiters.{AreHeads};
 
 use crate::cert::Claim;
+use crate::cert_list::CertList;
 use crate::head::Waiter;
-use crate::leg_end::{CertList, LegEnd};
+use crate::leg_end::LegEnd;
 use crate::waiters::Waiters;
 use lp_stack::{GroupId, Level};
 use std::alloc::{AllocError, Global};
@@ -72,11 +73,11 @@ impl OpenLeg {
         let (claim, upto) = (self.claim(), self.upto(noted));
         if self.completed.is_none() && waiters.are_bare() {
             let groups = waiters.groups(alloc)?;
-            return CertList::bares(alloc, claim, self.opened, upto, groups);
+            return Ok(CertList::bares(claim, self.opened, upto, groups));
         }
         let list = self.waiters(alloc, waiters)?;
         if list.is_empty() {
-            return Ok(CertList::none());
+            return Ok(CertList::none(claim, self.opened, upto));
         }
         let (chains, scans) = waiters.copy_past(alloc)?;
         CertList::many(alloc, claim, self.opened, upto, list, chains, scans)

@@ -1,5 +1,5 @@
 -- The first leg of a trace, and the rows of the models.
-use Rattle.std.proofs.Common.{◌≡◌, ◌<◌, ◌≤◌, ℕ, List, [], ◌∷◌, map, All, Option, Some, None, refl, sym, ap, ap₂, ◌∙◌, subst, arith}
+use Rattle.std.proofs.Common.{◌≡◌, ◌<◌, ◌≤◌, ℕ, List, [], ◌∷◌, map, All, Option, Some, None, option_to_list, refl, sym, ap, ap₂, ◌∙◌, subst, arith}
 use Rattle.std.specs.Prelude.{slice_get}
 use Rattle.std.specs.List.{AllByRecursion}
 use Rattle.std.specs.Option.{option_map}
@@ -85,3 +85,9 @@ compared trace leg rows a b c d e k l m n o leg_is rows_are a_is k_is b_is l_is 
     (ap₂ (λ x xs. x ∷ xs) (row_is AllAtOnce (rules_named AllAtOnce) trace c m c_is m_is)
     (ap₂ (λ x xs. x ∷ xs) (row_is Immediate (rules_named Immediate) trace d n d_is n_is)
     (ap (λ x. x ∷ []) (row_is ProcessGroup (rules_named ProcessGroup) trace e o e_is o_is)))))))
+
+-- ---- A list of at most one
+
+pub only_one : (end : Option LegEnd) (first : LegEnd) (rest : List LegEnd) → option_to_list end ≡ first ∷ rest → end ≡ Some first
+only_one None first rest is = absurd (cc)
+only_one (Some end) first rest is = cc

@@ -1,11 +1,12 @@
 //! How the first leg of a trace ended under a model.
 ghost use Rattle.std.specs.Prelude.{◌≡◌, ◌<◌, ◌^◌, All, count_by, map, max, IfOk};
 ghost use Rattle.std.specs.Option.{option_map};
+ghost use Rattle.lp_cert.specs.Ends.{end_in};
 ghost use Rattle.lp_text.specs.Traces.{IsTrace};
 ghost use Rattle.lp_compare.specs.Comparison.{births_in, first_end, greatest, is_born};
 ghost use Rattle.lp_compare.specs.inside.FirstEnds.{FewBirths, kept_end};
 
-use lp_cert::{CertLines, CertList, LegEnd, Line};
+use lp_cert::{CertLines, CertListRef, LegEndRef, Line};
 use lp_model::Consistency;
 use lp_replay::{ReplayFault, first_leg_end};
 use lp_text::Trace;
@@ -34,20 +35,20 @@ pub(crate) fn first_end<M: Consistency>(
     requires { IsTrace trace.now }
     ensures { IfOk result (λ found. found ≡ option_map kept_end (first_end M.rules trace.now)) }
 {
-    let end = match first_leg_end(alloc, model, trace) {
-        Ok(end) => end,
+    let ends = match first_leg_end(alloc, model, trace) {
+        Ok(ends) => ends,
         Err(ReplayFault::NoMemory) => return Err(AllocError),
     };
-    match &end {
-        Some(end) => Ok(Some(kept_end(end))),
+    match ends.iter().next() {
+        Some(end) => Ok(Some(kept_end(&end))),
         None => Ok(None),
     }
 }
 
 /// What is kept of an end.
-fn kept_end(end: &LegEnd) -> FirstEnd
-    requires { FewBirths end.now }
-    ensures { result ≡ kept_end end.now }
+fn kept_end(end: &LegEndRef<'_>) -> FirstEnd
+    requires { FewBirths (end_in end.now) }
+    ensures { result ≡ kept_end (end_in end.now) }
 {
     let waiting = match end.completed {
         Some(_) => 0,
@@ -62,7 +63,7 @@ fn kept_end(end: &LegEnd) -> FirstEnd
 }
 
 /// The greatest number of births in one of the certificates; 0 where there is none.
-fn most_births(certs: &CertList) -> u64
+fn most_births(certs: &CertListRef<'_>) -> u64
     requires { All (λ cert. births_in cert < 2 ^ 64) certs.now }
     ensures { result ≡ greatest (map births_in certs.now) }
 {

@@ -1,5 +1,5 @@
 -- The end of the first leg stays the same once the leg is complete, or has ended.
-use Rattle.std.proofs.Common.{◌≡◌, ◌<◌, ◌≤◌, ◌+◌, ℕ, suc, Bool, true, false, List, [], ◌∷◌, ◌++◌, length, map, take, drop, get_or, Option, Some, None, option_to_list, is_some, if◌then◌else◌, refl, sym, ap, ap₂, ◌∙◌, append_assoc, subst, arith, ◌==◌}
+use Rattle.std.proofs.Common.{◌≡◌, ◌<◌, ◌≤◌, ◌+◌, ◌↔◌, IsTrue, ℕ, suc, Bool, true, false, List, [], ◌∷◌, ◌++◌, length, map, take, drop, get_or, Option, Some, None, option_to_list, is_some, if◌then◌else◌, refl, sym, ap, ap₂, ◌∙◌, append_assoc, subst, arith, ◌==◌}
 use Rattle.std.specs.Prelude.{slice_get}
 use Rattle.std.specs.Option.{option_map, option_or}
 use Rattle.std.proofs.lemmas.Bool.{false≢true}
@@ -19,9 +19,9 @@ use Rattle.lp_replay.specs.Outcome.{leg_ends}
 use Rattle.lp_replay.specs.inside.Recording.{first_made}
 use Rattle.lp_replay.proofs.Legs.{longer}
 
-pub some_there : {X : Type 0} (xs : List X) → (length xs == 0) ≡ false → 0 < length xs
-some_there [] h = absurd (cc h)
-some_there (x ∷ xs) h = omega arith
+pub some_there : {X : Type 0} (xs : List X) (is_empty : Bool) → IsTrue is_empty ↔ (xs ≡ []) → is_empty ≡ false → 0 < length xs
+some_there [] is_empty decides some = absurd (false≢true (sym some ∙ decides.1 refl))
+some_there (x ∷ xs) is_empty decides some = omega arith
 
 module _ (model : Rules) where
   -- the legs that ended by some events are the first of the legs of more events

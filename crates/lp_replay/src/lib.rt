@@ -2,13 +2,11 @@
 #![tactic(auto)]
 
 pub mod laws;
-mod leg_end;
 mod outcome;
 mod replays;
 mod replies;
 
-pub use leg_end::LegList;
-pub use lp_cert::LegEnd;
+pub use lp_cert::{LegEndRef, LegEnds, LegList};
 pub use lp_model::Consistency;
 pub use lp_patch::PatchStack;
 pub use lp_stack::{GroupId, Level};

@@ -1,7 +1,7 @@
 //! What a run came to.
 
-use crate::leg_end::LegList;
 use crate::replies::ReplyList;
+use lp_cert::LegList;
 
 /// What the run of a trace under a model came to.
 #[derive(Drop)]

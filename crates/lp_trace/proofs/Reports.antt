@@ -66,11 +66,9 @@ module _ (form : TraceForm) where
 -- ---- The lines of legs and of certificates
 
 module _ {X : Type 0} (f : X → List (List (List ℕ))) where
-  -- the lines of what is at a place, and those after it
-  pub blocks_at : (xs : List X) (i : ℕ) (x d : X) → x ≡ get_or xs i d → i < length xs → flat_map line_of (flat_map f (drop i xs)) ≡ flat_map line_of (f x) ++ flat_map line_of (flat_map f (drop (i + 1) xs))
-  blocks_at xs i x d is below =
-      rw (drop-cons xs i d below, add-one) (flat_map-append line_of (f (get_or xs i d)) (flat_map f (drop (suc i) xs)))
-      ∙ ap (λ y. flat_map line_of (f y) ++ flat_map line_of (flat_map f (drop (i + 1) xs))) (sym is)
+  -- the lines of the first, and those after it
+  pub block_first : (all rest : List X) (x : X) → all ≡ x ∷ rest → flat_map line_of (flat_map f all) ≡ flat_map line_of (f x) ++ flat_map line_of (flat_map f rest)
+  block_first all rest x is = ap (λ l. flat_map line_of (flat_map f l)) is ∙ flat_map-append line_of (f x) (flat_map f rest)
 
   -- what is at a place, and its lines and those after it
   pub block_of : (xs : List X) (i : ℕ) → i < length xs → (x : X) × (slice_get xs i ≡ Some x) × (flat_map line_of (flat_map f (drop i xs)) ≡ flat_map line_of (f x) ++ flat_map line_of (flat_map f (drop (i + 1) xs)))
@@ -110,15 +108,6 @@ module _ (form : TraceForm) (name : List ℕ) (outcome : Outcome) where
       ∙ append_assoc events_part legs_part (flat_map line_of last)
       ∙ ap (λ l. events_part ++ (legs_part ++ l)) (append-nil stays_part) in
       ap (λ l. header_part ++ (model_part ++ l)) lines
-
--- an outcome with other lists
-abbrev pub with_lists : Outcome → List Reply → List LegEnd → Outcome
-with_lists outcome replies legs = record { replies = replies; legs = legs; stays = outcome.stays; mixed = outcome.mixed }
-
--- the same where the lists are the outcome's, borrowed
-pub borrowed : (outcome : Outcome) (replies : List Reply) (legs : List LegEnd) → replies ≡ outcome.replies → legs ≡ outcome.legs → with_lists outcome replies legs ≡ outcome
-borrowed outcome replies legs e h =
-    ap (λ r. with_lists outcome r legs) e ∙ ap (λ l. with_lists outcome outcome.replies l) h
 
 -- ---- Where a page and a writer stand after each part
 

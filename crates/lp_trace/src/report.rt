@@ -55,11 +55,10 @@ fn put_report<W: Write>(
 ) -> Result<(), WriteFault>
     ensures { Puts (seen_of W.contents writer.old) (seen_of W.contents writer.new) page.old.held.items page.new.held.items result (report form name.now outcome.now) }
 {
-    let legs = outcome.legs.as_slice();
     put_header(page, writer, form)?;
     put_model(page, writer, name)?;
     put_events(page, writer, form, &outcome.replies)?;
-    put_legs(page, writer, kept, form, legs)?;
+    put_legs(page, writer, kept, form, &outcome.legs)?;
     put_stays(page, writer, outcome)
 }
 

@@ -14,6 +14,7 @@ use Rattle.lp_cert.specs.declared.line.Line.{Line}
 use Rattle.lp_cert.specs.declared.open_leg.Completion.{Completion}
 use Rattle.lp_cert.specs.declared.open_leg.OpenLeg.{OpenLeg}
 use Rattle.lp_cert.specs.declared.maker.Ready.{Ready}
+use Rattle.lp_cert.specs.inside.LegRows.{HasRoomFor, KeptEnds}
 use Rattle.lp_cert.specs.inside.StepLines.{stepped_lines}
 use Rattle.lp_transition.specs.LastScan.{used_scan}
 use Rattle.lp_cert.specs.inside.ToldGroups.{AreToldOf}
@@ -51,24 +52,30 @@ HasClosing current waiters false closing = Unit {0}
 HasClosing current waiters true None = ⊥
 HasClosing current waiters true (Some certs) = IsClosing current waiters certs
 
+-- where an event opens a leg, there is room for the end of the one under way with these certificates
+abbrev pub HasEndRoom : KeptEnds → Bool → Option (List Cert) → Type 0
+HasEndRoom ended false closing = Unit {0}
+HasEndRoom ended true None = ⊥
+HasEndRoom ended true (Some certs) = HasRoomFor ended certs
+
 -- there is room for the event: for its reasons and its scan and, if it opens a leg, for the end of the one under way
-pub record IsReady (current : Option OpenLeg) (waiters : WaitingGroups) (ended_room : ℕ) (closing : Option (List Cert)) (ready : Ready) : Type 0 where
+pub record IsReady (current : Option OpenLeg) (waiters : WaitingGroups) (ended : KeptEnds) (closing : Option (List Cert)) (ready : Ready) : Type 0 where
   pub room : ready.verdicts + 1 < waiters.reasons.room
   pub scan_room : 0 < waiters.reasons.scan_room
   pub heads : HasHeads waiters
   pub child : HasHeadFor ready.event waiters.reasons
-  pub end_room : ready.opens ≡ true → 0 < ended_room
+  pub end_room : HasEndRoom ended ready.opens closing
   -- and for a look at all tasks, at a scan
   pub all_room : is_scan ready.event ≡ true → length waiters.reasons.heads ≤ waiters.reasons.room
   pub left : HasClosing current waiters ready.opens closing
 
-abbrev pub IfReady : Option OpenLeg → WaitingGroups → ℕ → Option (List Cert) → Option Ready → Type 0
-IfReady current waiters ended_room closing None = Unit {0}
-IfReady current waiters ended_room closing (Some ready) = IsReady current waiters ended_room closing ready
+abbrev pub IfReady : Option OpenLeg → WaitingGroups → KeptEnds → Option (List Cert) → Option Ready → Type 0
+IfReady current waiters ended closing None = Unit {0}
+IfReady current waiters ended closing (Some ready) = IsReady current waiters ended closing ready
 
-pub record IsMaker (current : Option OpenLeg) (waiters : WaitingGroups) (ended_room : ℕ) (closing : Option (List Cert)) (ready : Option Ready) : Type 0 where
+pub record IsMaker (current : Option OpenLeg) (waiters : WaitingGroups) (ended : KeptEnds) (closing : Option (List Cert)) (ready : Option Ready) : Type 0 where
   pub floors : HasFloors waiters current
-  pub for_event : IfReady current waiters ended_room closing ready
+  pub for_event : IfReady current waiters ended closing ready
 
 -- the certificates of the leg under way stay as they are: it is complete, or there is none
 abbrev pub is_settled : Option OpenLeg → Bool

@@ -1,5 +1,5 @@
 //! The first leg of a trace alone.
-ghost use Rattle.std.specs.Prelude.{◌≡◌, ◌≤◌, ◌+◌, ◌++◌, length, slice_get, IfOk, OnOk};
+ghost use Rattle.std.specs.Prelude.{◌≡◌, ◌≤◌, ◌+◌, ◌++◌, length, option_to_list, slice_get, IfOk, OnOk};
 ghost use Rattle.lp_transition.specs.Run.{Run, first_leg};
 ghost use Rattle.lp_transition.specs.Steps.{StandsIn};
 ghost use Rattle.lp_transition.specs.Table.{state_in};
@@ -11,14 +11,14 @@ use super::fault::ReplayFault;
 use super::own_code::{FirstLeg, OwnCode};
 use super::recorder::{take_other, take_plain};
 use super::start;
-use lp_cert::{LegEnd, Maker};
+use lp_cert::{LegList, Maker};
 use lp_model::Consistency;
 use lp_text::Trace;
 use lp_transition::{Core, Event};
 use std::alloc::Global;
 
-/// How the first leg of a trace ended under a model, as `replay` tells it; None where no event
-/// opened one, NoMemory where an allocation failed.
+/// How the first leg of a trace ended under a model, as `replay` tells it: a list of that end alone,
+/// empty where no event opened one; NoMemory where an allocation failed.
 ///
 /// The events behind the leg's end aren't taken, nor are those behind its completion, from which on
 /// its end stays the same. Neither replies nor stays are kept.
@@ -26,8 +26,8 @@ pub fn first_leg_end<M: Consistency>(
     alloc: Global,
     model: M,
     trace: &Trace,
-) -> Result<Option<LegEnd>, ReplayFault>
-    ensures { IfOk result (λ found. found ≡ slice_get (leg_ends M.rules (first_leg M.rules (run_of trace.now)) trace.now.events) 0) }
+) -> Result<LegList, ReplayFault>
+    ensures { IfOk result (λ found. found ≡ option_to_list (slice_get (leg_ends M.rules (first_leg M.rules (run_of trace.now)) trace.now.events) 0)) }
 {
     let mut maker = Box::new(alloc, Maker::new(alloc)?)?;
     let model = OwnCode::<M, FirstLeg>::new(model);
@@ -63,10 +63,9 @@ fn take_first_leg<M: Consistency>(
     Ok(())
 }
 
-/// The first end that was made.
-fn first_of(alloc: Global, maker: Maker) -> Result<Option<LegEnd>, ReplayFault>
-    ensures { IfOk result (λ found. found ≡ first_made maker) }
+/// The first end that was made, alone.
+fn first_of(alloc: Global, maker: Maker) -> Result<LegList, ReplayFault>
+    ensures { IfOk result (λ found. found ≡ option_to_list (first_made maker)) }
 {
-    let ends = maker.into_ends(alloc)?;
-    Ok(ends.into_iter().next())
+    Ok(maker.into_ends(alloc)?.into_first())
 }

@@ -14,7 +14,6 @@ ghost use Rattle.lp_replay.specs.inside.Recording.{IsRecorded};
 
 use super::fault::ReplayFault;
 use super::start;
-use crate::leg_end::LegList;
 use crate::outcome::Outcome;
 use crate::replies::ReplyList;
 use lp_cert::Maker;
@@ -110,7 +109,7 @@ impl<M: Consistency> Recorder<M> {
         } = self;
         Ok(Outcome {
             replies,
-            legs: LegList::from_vec(Box::into_inner(maker).into_ends(alloc)?),
+            legs: Box::into_inner(maker).into_ends(alloc)?,
             stays: stays.stays(),
             mixed: stays.mixed(),
         })

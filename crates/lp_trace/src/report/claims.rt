@@ -7,7 +7,7 @@ ghost use Rattle.lp_trace.specs.inside.Claims.{head_words};
 
 use crate::page::Page;
 use crate::part::Part;
-use lp_cert::{CertHead, CertList, Claim};
+use lp_cert::{CertHead, CertListRef, Claim};
 use lp_text::{Counted, WriteFault};
 use std::io::Write;
 use std::marker::Model;
@@ -85,7 +85,7 @@ impl ClaimText {
 
 /// What the first lines of these certificates may have in common, if there are several: for a single one it costs more
 /// than it spares.
-pub(super) fn shared_claim(certs: &CertList) -> Option<ClaimText> {
+pub(super) fn shared_claim(certs: &CertListRef<'_>) -> Option<ClaimText> {
     if certs.len() < 2 {
         return None;
     }

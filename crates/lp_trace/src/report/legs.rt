@@ -2,6 +2,7 @@
 ghost use Rattle.std.specs.Prelude.{◌≡◌, ◌≤◌, ◌<◌, ◌∷◌, ◌++◌, [], decimal, length, map, slice_get, take, IfSome, IsFalse, IsTrue, Some};
 ghost use Rattle.std.specs.List.{flat_map};
 ghost use Rattle.lp_cert.specs.declared.cert.Cert.{Cert};
+ghost use Rattle.lp_cert.specs.Ends.{end_in};
 ghost use Rattle.lp_cert.specs.Text.{cert_lines};
 ghost use Rattle.lp_text.specs.Words.{line_of};
 ghost use Rattle.lp_trace.specs.Report.{end_words, leg_line, leg_lines, target_words};
@@ -15,7 +16,7 @@ use super::{level_word, number};
 use crate::page::Page;
 use crate::place::SHORT_END;
 use itoa::Buffer;
-use lp_cert::{CertLines, CertList, LegEnd, Line};
+use lp_cert::{CertLines, CertListRef, LegEndRef, LegList, Line};
 use lp_text::{Counted, TraceForm, WriteFault};
 use std::io::Write;
 
@@ -25,12 +26,12 @@ pub(super) fn put_legs<W: Write>(
     writer: &mut Counted<W>,
     kept: &mut KeptBirths,
     form: TraceForm,
-    legs: &[LegEnd],
+    legs: &LegList,
 ) -> Result<(), WriteFault>
     ensures { Puts (seen_of W.contents writer.old) (seen_of W.contents writer.new) page.old.held.items page.new.held.items result (flat_map line_of (flat_map (leg_lines form) legs.now)) }
 {
     for leg in legs {
-        put_leg(page, writer, kept, form, leg)?;
+        put_leg(page, writer, kept, form, &leg)?;
     }
     Ok(())
 }
@@ -41,16 +42,16 @@ fn put_leg<W: Write>(
     writer: &mut Counted<W>,
     kept: &mut KeptBirths,
     form: TraceForm,
-    leg: &LegEnd,
+    leg: &LegEndRef<'_>,
 ) -> Result<(), WriteFault>
-    ensures { Puts (seen_of W.contents writer.old) (seen_of W.contents writer.new) page.old.held.items page.new.held.items result (flat_map line_of (leg_lines form leg.now)) }
+    ensures { Puts (seen_of W.contents writer.old) (seen_of W.contents writer.new) page.old.held.items page.new.held.items result (flat_map line_of (leg_lines form (end_in leg.now))) }
 {
     put_end(page, writer, form, leg)?;
     put_certs(page, writer, kept, &leg.certs)
 }
 
 /// How a leg ended: by which word, and the number that follows it.
-fn end_words<'a>(buffer: &'a mut Buffer, leg: &LegEnd) -> (&'static [u8], &'a [u8])
+fn end_words<'a>(buffer: &'a mut Buffer, leg: &LegEndRef<'_>) -> (&'static [u8], &'a [u8])
     ensures { result.0.now ∷ result.1.now ∷ [] ≡ end_words leg.now.completed (length leg.now.certs) }
 {
     match leg.completed {
@@ -62,7 +63,7 @@ fn end_words<'a>(buffer: &'a mut Buffer, leg: &LegEnd) -> (&'static [u8], &'a [u
 /// What stands between the two numbers of the line of a leg's end, where a trace has one patch: so many of the bytes; and
 /// the second number.
 #[inline(always)]
-fn end_parts(form: TraceForm, leg: &LegEnd) -> Option<(&'static [u8; SHORT_END], usize, u64)>
+fn end_parts(form: TraceForm, leg: &LegEndRef<'_>) -> Option<(&'static [u8; SHORT_END], usize, u64)>
     ensures size { IfSome result (λ end. end.1 ≤ 16) }
     ensures words { IfSome result (λ end. line_rest (target_words form leg.now.target ++ end_words leg.now.completed (length leg.now.certs)) ≡ take end.1 end.0.now ++ (decimal end.2 ++ 10 ∷ [])) }
 {
@@ -80,8 +81,8 @@ fn end_parts(form: TraceForm, leg: &LegEnd) -> Option<(&'static [u8; SHORT_END],
 
 /// Holds the line of the end of a leg where it is short and there is room, and says whether it did.
 #[inline(always)]
-fn hold_end(page: &mut Page, form: TraceForm, leg: &LegEnd) -> bool
-    ensures taken { IsTrue result → page.new.held.items ≡ page.old.held.items ++ line_of (leg_line form leg.now) }
+fn hold_end(page: &mut Page, form: TraceForm, leg: &LegEndRef<'_>) -> bool
+    ensures taken { IsTrue result → page.new.held.items ≡ page.old.held.items ++ line_of (leg_line form (end_in leg.now)) }
     ensures kept { IsFalse result → page.new.held.items ≡ page.old.held.items }
 {
     let Some((between, len, last)) = end_parts(form, leg) else {
@@ -96,9 +97,9 @@ fn put_end<W: Write>(
     page: &mut Page,
     writer: &mut Counted<W>,
     form: TraceForm,
-    leg: &LegEnd,
+    leg: &LegEndRef<'_>,
 ) -> Result<(), WriteFault>
-    ensures { Puts (seen_of W.contents writer.old) (seen_of W.contents writer.new) page.old.held.items page.new.held.items result (line_of (leg_line form leg.now)) }
+    ensures { Puts (seen_of W.contents writer.old) (seen_of W.contents writer.new) page.old.held.items page.new.held.items result (line_of (leg_line form (end_in leg.now))) }
 {
     if hold_end(page, form, leg) {
         return Ok(());
@@ -112,9 +113,9 @@ fn put_end_line<W: Write>(
     page: &mut Page,
     writer: &mut Counted<W>,
     form: TraceForm,
-    leg: &LegEnd,
+    leg: &LegEndRef<'_>,
 ) -> Result<(), WriteFault>
-    ensures { Puts (seen_of W.contents writer.old) (seen_of W.contents writer.new) page.old.held.items page.new.held.items result (line_of (leg_line form leg.now)) }
+    ensures { Puts (seen_of W.contents writer.old) (seen_of W.contents writer.new) page.old.held.items page.new.held.items result (line_of (leg_line form (end_in leg.now))) }
 {
     let mut first = Buffer::new();
     let mut second = Buffer::new();
@@ -133,7 +134,7 @@ fn put_certs<W: Write>(
     page: &mut Page,
     writer: &mut Counted<W>,
     kept: &mut KeptBirths,
-    certs: &CertList,
+    certs: &CertListRef<'_>,
 ) -> Result<(), WriteFault>
     ensures { Puts (seen_of W.contents writer.old) (seen_of W.contents writer.new) page.old.held.items page.new.held.items result (flat_map line_of (flat_map cert_lines certs.now)) }
 {
@@ -152,7 +153,7 @@ fn put_certs<W: Write>(
 fn hold_cert(
     page: &mut Page,
     shared: &mut Option<ClaimText>,
-    certs: &CertList,
+    certs: &CertListRef<'_>,
     place: usize,
 ) -> bool
     requires { place < length certs.now }
@@ -169,7 +170,7 @@ fn put_cert<W: Write>(
     writer: &mut Counted<W>,
     kept: &mut KeptBirths,
     shared: &mut Option<ClaimText>,
-    certs: &CertList,
+    certs: &CertListRef<'_>,
     place: usize,
 ) -> Result<(), WriteFault>
     requires { place < length certs.now }

@@ -11,7 +11,7 @@ mod memory;
 
 use super::*;
 use given::{given_by, given_in, heads, lines};
-use lp_cert::{Cert, CertLines, CertList, LegEnd, LineList, Maker};
+use lp_cert::{Cert, CertLines, CertListRef, LegEndRef, LegEnds, LegList, LineList, Maker};
 use lp_model::CheckKind;
 use lp_trace::ReplyList;
 use lp_transition::{Halt, Reply, Step, What, verdicts};
@@ -116,14 +116,14 @@ fn is_none(asked: Asked) -> bool {
 /// When a leg opened, its target, when it was complete, and how many certificates it has.
 type Seen = (u64, Level, Option<u64>, usize);
 
-fn seen_of(end: &LegEnd) -> Seen {
+fn seen_of(end: &LegEndRef<'_>) -> Seen {
     (end.opened, end.target, end.completed, end.certs.len())
 }
 
 /// Whether this is so of the leg under way.
 fn is_now(alloc: Global, maker: &Maker, seen: Seen) -> bool {
     match maker.current(alloc) {
-        Ok(Some(end)) => seen_of(&end) == seen,
+        Ok(Some(end)) => seen_of(&end.borrowed()) == seen,
         _ => false,
     }
 }
@@ -157,10 +157,10 @@ const TURNED: &str =
     "lptrace 1\nsym a\nsym b\nsym c\npatch a\nboot 1 normal\nboot 2 normal\nenable\nenter 1\nexit 1\nenter 1\ncall 1 a\nsleep 1\nreverse\nwalk\n";
 
 /// Whether the leg that ended is the one that the reversal ended, with the certificate of who waited.
-fn is_turned(alloc: Global, ended: &[LegEnd]) -> bool {
-    match ended {
-        [end] => {
-            seen_of(end) == (1, Level(1), None, 1)
+fn is_turned(alloc: Global, mut ended: LegEnds<'_>) -> bool {
+    match (ended.next(), ended.next()) {
+        (Some(end), None) => {
+            seen_of(&end) == (1, Level(1), None, 1)
                 && is_cert(end.certs.cert(alloc, 0), head(Claim::Waiting, 1, 2, 6), &[])
                 && is_none(end.certs.cert(alloc, 1))
         }
@@ -190,7 +190,7 @@ const IS_WALKED: &str =
 /// The first certificate of the leg under way.
 fn first_cert_now(alloc: Global, maker: &Maker) -> Asked {
     match maker.current(alloc)? {
-        Some(end) => end.certs.cert(alloc, 0),
+        Some(end) => end.certs.borrowed().cert(alloc, 0),
         None => Ok(None),
     }
 }
@@ -266,7 +266,7 @@ fn are_reasons(mut lines: CertLines<'_>) -> bool {
 }
 
 /// Whether a list's first and only certificate is the child's, whole and line by line.
-fn is_each_reason(alloc: Global, certs: &CertList) -> bool {
+fn is_each_reason(alloc: Global, certs: &CertListRef<'_>) -> bool {
     if certs.len() != 1 || certs.is_empty() {
         return false;
     }
@@ -279,7 +279,7 @@ fn is_each_reason(alloc: Global, certs: &CertList) -> bool {
 /// Whether that of the leg under way is.
 fn tells_each_reason(alloc: Global, maker: &Maker) -> bool {
     match maker.current(alloc) {
-        Ok(Some(end)) => is_each_reason(alloc, &end.certs),
+        Ok(Some(end)) => is_each_reason(alloc, &end.certs.borrowed()),
         _ => false,
     }
 }
@@ -347,7 +347,7 @@ fn has_replies(alloc: Global, list: &ReplyList) -> bool {
 }
 
 /// Whether these are its legs.
-fn are_legs(alloc: Global, ends: &[LegEnd]) -> bool {
+fn are_legs(alloc: Global, ends: LegEnds<'_>) -> bool {
     match given_in(alloc, ends) {
         Ok(given) => given.is_worked(),
         Err(_) => false,
@@ -358,7 +358,7 @@ fn are_legs(alloc: Global, ends: &[LegEnd]) -> bool {
 fn comes_to_three_legs(alloc: Global, trace: &Trace) -> bool {
     match outcome_of(alloc, Hybrid, trace) {
         Some(outcome) => {
-            are_legs(alloc, outcome.legs.as_slice())
+            are_legs(alloc, outcome.legs.iter())
                 && (outcome.stays, outcome.mixed) == (1, 0)
                 && has_replies(alloc, &outcome.replies)
         }

@@ -114,7 +114,7 @@ fn replayed_again(alloc: Global, trace: &Trace) -> Result<Box<Outcome>, ReplayFa
 
 /// Whether that is what comes of the child's trace.
 fn is_the_childs(outcome: &Outcome) -> bool {
-    let legs = outcome.legs.as_slice().len();
+    let legs = outcome.legs.len();
     (outcome.replies.len(), legs, outcome.stays, outcome.mixed) == (8, 1, 1, 0)
 }
 

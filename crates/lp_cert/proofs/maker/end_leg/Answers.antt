@@ -1,4 +1,5 @@
-use Rattle.std.proofs.Common.{◌≡◌, [], ◌∷◌, ◌++◌, Option, not, option_to_list, sym, ap, subst, ◌∙◌}
+use Rattle.std.proofs.Common.{◌≡◌, [], ◌∷◌, ◌++◌, Option, not, option_to_list, sym, ap, subst, ◌∙◌, arith}
+use Rattle.std.proofs.lemmas.Grind.{common_steps}
 use Rattle.std.specs.Option.{option_map}
 use Rattle.lp_cert.specs.declared.leg_end.LegEnd.{LegEnd}
 use Rattle.lp_cert.specs.declared.open_leg.OpenLeg.{OpenLeg}
@@ -21,6 +22,9 @@ returns c = λ w is.
       | else-is_none b ↦ b.certs-is ∙ stayed leg w left.0 noted closing (c.is_none.ensures ∙ ap not b.if-is_none.false) left.1
     ] in
     let end = ended_so leg w noted c.if-is_none.certs c.end.result c.end.ensures certs in
-    c.push_reserved.ensures.items
-    ∙ (ap (λ (e : LegEnd). c.args.ended.now.items ++ e ∷ []) end
-    ∙ ap (λ (o : Option OpenLeg). c.args.ended.now.items ++ option_to_list (option_map (open_end noted w) o)) (sym c.in-Some.is))
+    c.push_reserved.ensures
+    ∙ (ap (λ (e : LegEnd). c.args.ended.now.ends ++ e ∷ []) end
+    ∙ ap (λ (o : Option OpenLeg). c.args.ended.now.ends ++ option_to_list (option_map (open_end noted w) o)) (sym c.in-Some.is))
+
+pub push_reserved-requires : goal.push_reserved-requires
+push_reserved-requires c = grind (arith, common_steps)

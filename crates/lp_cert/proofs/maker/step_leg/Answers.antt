@@ -1,4 +1,5 @@
-use Rattle.std.proofs.Common.{◌≡◌, Some, None, IsNone, false, refl, sym, ap, subst, inl, ◌∙◌}
+use Rattle.std.proofs.Common.{◌≡◌, Some, None, IsNone, false, refl, sym, ap, subst, inl, ◌∙◌, arith}
+use Rattle.std.proofs.lemmas.Grind.{common_steps}
 use Rattle.std.proofs.lemmas.Bool.{false≢true}
 use Rattle.lp_model.specs.declared.check.CheckKind.{CheckKind}
 use Rattle.lp_transition.specs.declared.reply.Reply.{Reply}
@@ -41,3 +42,21 @@ returns-in-Some-clause-noted g c =
 
     incomplete : c.args.step.now.reply.completed ≡ false
     incomplete = ap (λ (r : Reply). r.completed) (sym c.reply.ensures) ∙ c.if-reply.false
+
+pub step_whole-requires-clause-room : goal.step_whole-requires-clause-room
+step_whole-requires-clause-room g c = grind (arith, common_steps)
+
+pub returns-in-Some-clause-floor : goal.returns-in-Some-clause-floor
+returns-in-Some-clause-floor g c = grind (arith, common_steps)
+
+pub step_whole-requires-clause-wide : goal.step_whole-requires-clause-wide
+step_whole-requires-clause-wide g c = grind (arith, common_steps)
+
+pub returns-in-None-clause-floor : goal.returns-in-None-clause-floor
+returns-in-None-clause-floor g c = grind (arith, common_steps)
+
+pub step_waiters-requires-clause-wide : goal.step_waiters-requires-clause-wide
+step_waiters-requires-clause-wide g c = grind (arith, common_steps)
+
+pub returns-then-reply-clause-noted : goal.returns-then-reply-clause-noted
+returns-then-reply-clause-noted g c = grind (arith, common_steps)

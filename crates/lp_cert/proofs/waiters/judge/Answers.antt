@@ -1,4 +1,5 @@
 use Rattle.std.proofs.Common.{◌≡◌, ◌<◌, length, subst, sym, ◌∙◌, arith}
+use Rattle.std.proofs.lemmas.Grind.{common_steps}
 use Rattle.lp_cert.specs.declared.head.Head.{Head}
 use Rattle.lp_cert.specs.inside.Heads.{HasFrameAs}
 use Rattle.lp_transition.specs.Blames.{has_frame_in}
@@ -34,3 +35,12 @@ returns-clause-spent g c =
     (not_left c.args.waiting.now c.args.refused.now c.insert.new.self group.0 c.insert.ensures.after c.insert.ensures.numbers few)
     (others_left c.args.waiting.now c.args.refused.now c.insert.new.self group.0 c.insert.ensures.after) (length c.args.reasons.now.heads) below in
     omega (arith, less, c.refuse.ensures.room)
+
+pub refuse-requires-clause-head : goal.refuse-requires-clause-head
+refuse-requires-clause-head g c = grind (arith, common_steps)
+
+pub refuse-requires-clause-room : goal.refuse-requires-clause-room
+refuse-requires-clause-room g c = grind (arith, common_steps)
+
+pub refuse-requires-clause-used : goal.refuse-requires-clause-used
+refuse-requires-clause-used g c = grind (arith, common_steps)

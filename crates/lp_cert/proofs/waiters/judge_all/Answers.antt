@@ -1,4 +1,5 @@
 use Rattle.std.proofs.Common.{◌≡◌, ◌+◌, ◌<◌, List, [], ◌∷◌, ◌++◌, length, take, get_or, None, sym, subst, ◌∙◌, add-one, arith}
+use Rattle.std.proofs.lemmas.Grind.{common_steps}
 use Rattle.std.proofs.Math.Seq.{take-suc}
 use Rattle.lp_model.specs.declared.verdict.Verdict.{Verdict}
 use Rattle.lp_transition.specs.Table.{state_in}
@@ -23,3 +24,15 @@ loop-verdict-preserved g c =
       width = c.judge.ensures.width ∙ c.loop-verdict.invariant.width;
       stand = still_standing s c.args.at (take i vs) (get_or vs i none) (is_left c.args.waiting.now c.args.refused.now) (is_left c.args.waiting.now c.loop-verdict.refused) (is_left c.args.waiting.now c.judge.new.refused) c.args.reasons.now c.loop-verdict.reasons c.judge.new.reasons c.requires.stand c.loop-verdict.invariant.judged c.judge.ensures.judged;
     }
+
+pub returns : goal.returns
+returns g c = grind (arith, common_steps)
+
+pub judge-requires-clause-used : goal.judge-requires-clause-used
+judge-requires-clause-used g c = grind (arith, common_steps)
+
+pub judge-requires-clause-room : goal.judge-requires-clause-room
+judge-requires-clause-room g c = grind (arith, common_steps)
+
+pub loop-verdict-init : goal.loop-verdict-init
+loop-verdict-init g c = grind (arith, common_steps)

@@ -1,4 +1,5 @@
-use Rattle.std.proofs.Common.{length, sym, ◌∙◌}
+use Rattle.std.proofs.Common.{length, sym, ◌∙◌, arith}
+use Rattle.std.proofs.lemmas.Grind.{common_steps}
 use Rattle.std.proofs.lemmas.Bool.{eqb-true}
 use Rattle.std.proofs.lemmas.List.{nil_from_length}
 use Rattle.lp_numbers.specs.Numbers.{has}
@@ -21,3 +22,6 @@ returns g c =
     let all = all_left c.args.waiting.now c.clear.new.self c.clear.ensures.empty in
     let left = is_left c.args.waiting.now c.judge_all.new.refused in
     (left, judged_as (state_in c.args.core.now) c.args.at c.args.verdicts.now (has c.args.waiting.now) (is_left c.args.waiting.now c.clear.new.self) left c.args.reasons.now c.judge_all.new.reasons all c.judge_all.ensures)
+
+pub judge_all-requires-clause-wide : goal.judge_all-requires-clause-wide
+judge_all-requires-clause-wide g c = grind (arith, common_steps)

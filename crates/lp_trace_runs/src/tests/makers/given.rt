@@ -51,7 +51,7 @@ impl Given {
     }
 
     /// One leg more.
-    fn add(&mut self, alloc: Global, end: &LegEnd) -> Result<(), AllocError> {
+    fn add(&mut self, alloc: Global, end: &LegEndRef<'_>) -> Result<(), AllocError> {
         self.legs.push(seen_of(end))?;
         for place in 0..end.certs.len() {
             let head = end.certs.head(place);
@@ -70,9 +70,9 @@ impl Given {
     }
 
     /// The legs that ended.
-    fn add_all(&mut self, alloc: Global, ends: &[LegEnd]) -> Result<(), AllocError> {
+    fn add_all(&mut self, alloc: Global, ends: LegEnds<'_>) -> Result<(), AllocError> {
         for end in ends {
-            self.add(alloc, end)?;
+            self.add(alloc, &end)?;
         }
         Ok(())
     }
@@ -80,7 +80,7 @@ impl Given {
     /// The leg under way.
     fn add_current(&mut self, alloc: Global, maker: &Maker) -> Result<(), AllocError> {
         match maker.current(alloc)? {
-            Some(end) => self.add(alloc, &end),
+            Some(end) => self.add(alloc, &end.borrowed()),
             None => Ok(()),
         }
     }
@@ -102,7 +102,7 @@ pub(super) fn given_by(alloc: Global, maker: &Maker) -> Result<Box<Given>, Alloc
 }
 
 /// The same of legs that were given up.
-pub(super) fn given_in(alloc: Global, ends: &[LegEnd]) -> Result<Box<Given>, AllocError> {
+pub(super) fn given_in(alloc: Global, ends: LegEnds<'_>) -> Result<Box<Given>, AllocError> {
     let mut given = Given::new(alloc)?;
     given.add_all(alloc, ends)?;
     Ok(given)

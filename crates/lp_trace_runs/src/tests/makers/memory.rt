@@ -158,9 +158,9 @@ fn is_floor(alloc: Global, maker: &Maker, lines: &[Line]) -> bool {
 }
 
 /// Whether the first certificate of the first of two legs that ended is copied.
-fn is_copied(alloc: Global, ended: &[LegEnd]) -> bool {
-    match ended {
-        [end, _] => {
+fn is_copied(alloc: Global, mut ended: LegEnds<'_>) -> bool {
+    match (ended.next(), ended.next(), ended.next()) {
+        (Some(end), Some(_), None) => {
             let asked = match end.certs.cert(alloc, 0) {
                 Err(_) => end.certs.cert(alloc, 0),
                 asked => asked,
@@ -213,13 +213,13 @@ fn a_certificate_is_copied_after_a_failed_allocation(rt: HostRuntime) {
 }
 
 /// The legs' ends that a maker gives up.
-fn ends_of(rt: &impl Abort, alloc: Global) -> Option<Result<Vec<LegEnd>, AllocError>> {
+fn ends_of(rt: &impl Abort, alloc: Global) -> Option<Result<LegList, AllocError>> {
     let maker = made_again(rt, alloc)?;
     Some(Box::into_inner(maker).into_ends(alloc))
 }
 
 /// The same. The call that is refused has taken the maker, so it is made anew.
-fn ends_again(rt: &impl Abort, alloc: Global) -> Option<Vec<LegEnd>> {
+fn ends_again(rt: &impl Abort, alloc: Global) -> Option<LegList> {
     match ends_of(rt, alloc)? {
         Ok(ends) => Some(ends),
         Err(_) => ends_of(rt, alloc)?.ok(),
@@ -227,9 +227,9 @@ fn ends_again(rt: &impl Abort, alloc: Global) -> Option<Vec<LegEnd>> {
 }
 
 /// Whether legs' ends are what the definitions give, asked again where an allocation fails.
-fn are_worked(alloc: Global, ends: &[LegEnd]) -> bool {
-    let given = match given_in(alloc, ends) {
-        Err(_) => given_in(alloc, ends),
+fn are_worked(alloc: Global, ends: &LegList) -> bool {
+    let given = match given_in(alloc, ends.iter()) {
+        Err(_) => given_in(alloc, ends.iter()),
         given => given,
     };
     match given {
@@ -241,7 +241,7 @@ fn are_worked(alloc: Global, ends: &[LegEnd]) -> bool {
 /// Whether those are that a maker gives up.
 fn are_given_up(rt: &impl Abort, alloc: Global) -> bool {
     match ends_again(rt, alloc) {
-        Some(ends) => are_worked(alloc, ends.as_slice()),
+        Some(ends) => are_worked(alloc, &ends),
         None => false,
     }
 }

@@ -1,4 +1,5 @@
-use Rattle.std.proofs.Common.{Bool, ◌≡◌, ◌+◌, [], Some, None, true, false, if◌then◌else◌, refl, sym, ap, subst, ◌∙◌}
+use Rattle.std.proofs.Common.{Bool, ◌≡◌, ◌+◌, [], Some, None, true, false, if◌then◌else◌, refl, sym, ap, subst, ◌∙◌, arith}
+use Rattle.std.proofs.lemmas.Grind.{common_steps}
 use Rattle.std.specs.Option.{option_map}
 use Rattle.lp_transition.specs.declared.event.Event.{Event}
 use Rattle.lp_transition.specs.Events.{is_scan}
@@ -39,8 +40,8 @@ returns-in_default-current g c = record {
   made = λ run after stands is stands_after known.
       let i = c.self.inside in
       let number = c.events.result + 1 in
-      let old : Made = record { ended = i.ended.items; current = option_map (open_end i.noted i.waiters) i.current; ready = option_map room_of i.ready } in
-      let new : Made = record { ended = i.ended.items; current = option_map (open_end number i.waiters) i.current; ready = option_map room_of c.take.new.self } in
+      let old : Made = record { ended = i.ended.ends; current = option_map (open_end i.noted i.waiters) i.current; ready = option_map room_of i.ready } in
+      let new : Made = record { ended = i.ended.ends; current = option_map (open_end number i.waiters) i.current; ready = option_map room_of c.take.new.self } in
       let was : IsMadeWith g.M.Consistency.rules run c.args.core.now.last_scan old = rw (← c.self.view_is) at is in
       let asked = rw (← c.self.view_is) at c.requires.ready in
       let stays : is_opening c.args.step.now ≡ false = sym (opens_is i.ready c.in-Some.ready (room_for c.args.step.now) (sym c.take.ensures.value ∙ c.in-Some.is) asked) ∙ not_so c.in-Some.ready.opens c.if-not-ready.true in
@@ -53,8 +54,8 @@ returns-then-not-ready g c = record {
   made = λ run after stands is stands_after known.
       let i = c.self.inside in
       let number = c.events.result + 1 in
-      let old : Made = record { ended = i.ended.items; current = option_map (open_end i.noted i.waiters) i.current; ready = option_map room_of i.ready } in
-      let new : Made = record { ended = i.ended.items; current = Some (open_end number c.step_leg.new.waiters c.step_leg.new.leg); ready = option_map room_of c.take.new.self } in
+      let old : Made = record { ended = i.ended.ends; current = option_map (open_end i.noted i.waiters) i.current; ready = option_map room_of i.ready } in
+      let new : Made = record { ended = i.ended.ends; current = Some (open_end number c.step_leg.new.waiters c.step_leg.new.leg); ready = option_map room_of c.take.new.self } in
       let was : IsMadeWith g.M.Consistency.rules run c.args.core.now.last_scan old = rw (← c.self.view_is) at is in
       let asked = rw (← c.self.view_is) at c.requires.ready in
       let stays : is_opening c.args.step.now ≡ false = sym (opens_is i.ready c.in-Some.ready (room_for c.args.step.now) (sym c.take.ensures.value ∙ c.in-Some.is) asked) ∙ not_so c.in-Some.ready.opens c.if-not-ready.true in
@@ -72,8 +73,8 @@ returns g c = record {
       let number = c.events.result + 1 in
       let later = c.open.new.self in
       let left = c.in-Some-take.closing in
-      let old : Made = record { ended = i.ended.items; current = option_map (open_end i.noted i.waiters) i.current; ready = option_map room_of i.ready } in
-      let new : Made = record { ended = c.end_leg.new.ended.items; current = Some (open_end number later c.opened-next.result); ready = option_map room_of c.take.new.self } in
+      let old : Made = record { ended = i.ended.ends; current = option_map (open_end i.noted i.waiters) i.current; ready = option_map room_of i.ready } in
+      let new : Made = record { ended = c.end_leg.new.ended.ends; current = Some (open_end number later c.opened-next.result); ready = option_map room_of c.take.new.self } in
       let was : IsMadeWith model run c.args.core.now.last_scan old = rw (← c.self.view_is) at is in
       let asked = rw (← c.self.view_is) at c.requires.ready in
       let kept : i.ready ≡ Some c.in-Some.ready = sym c.take.ensures.value ∙ c.in-Some.is in
@@ -89,3 +90,21 @@ returns g c = record {
       (c.end_leg.ensures i.waiters closing)
       (ap (λ (l : OpenLeg). Some (open_end number later l)) c.opened-next.ensures);
 }
+
+pub invariant_of-self-2 : goal.invariant_of-self-2
+invariant_of-self-2 g c = grind (arith, common_steps)
+
+pub invariant_of-self-then-not-ready : goal.invariant_of-self-then-not-ready
+invariant_of-self-then-not-ready g c = grind (arith, common_steps)
+
+pub end_leg-requires : goal.end_leg-requires
+end_leg-requires g c = grind (arith, common_steps)
+
+pub step_leg-requires-clause-room : goal.step_leg-requires-clause-room
+step_leg-requires-clause-room g c = grind (arith, common_steps)
+
+pub step_leg-requires-clause-scan_room : goal.step_leg-requires-clause-scan_room
+step_leg-requires-clause-scan_room g c = grind (arith, common_steps)
+
+pub step_leg-requires-clause-floor : goal.step_leg-requires-clause-floor
+step_leg-requires-clause-floor g c = grind (arith, common_steps)

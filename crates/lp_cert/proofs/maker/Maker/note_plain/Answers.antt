@@ -9,7 +9,7 @@ pub returns-clause-made : goal.returns-clause-made
 returns-clause-made g c = λ event plain run after stands is stands_after known.
     let i = c.self.inside in
     let number = c.events.result + 1 in
-    let old : Made = record { ended = i.ended.items; current = option_map (open_end i.noted i.waiters) i.current; ready = option_map room_of i.ready } in
-    let new : Made = record { ended = i.ended.items; current = option_map (open_end number i.waiters) i.current; ready = option_map room_of i.ready } in
+    let old : Made = record { ended = i.ended.ends; current = option_map (open_end i.noted i.waiters) i.current; ready = option_map room_of i.ready } in
+    let new : Made = record { ended = i.ended.ends; current = option_map (open_end number i.waiters) i.current; ready = option_map room_of i.ready } in
     let was : IsMadeWith g.M.Consistency.rules run c.args.core.now.last_scan old = rw (← c.self.view_is) at is in
     passed g.M.Consistency.rules g.met.M.Consistency.lawful run c.args.core.now stands event plain c.requires.room old new was after stands_after known refl i.noted number i.waiters (ap (λ m. m + 1) c.events.ensures.value) i.current refl refl

@@ -1,3 +1,5 @@
+use Rattle.std.proofs.Common.{arith}
+use Rattle.std.proofs.lemmas.Grind.{common_steps}
 use Rattle.lp_cert.proofs.Making.{open_end_same}
 use Rattle.lp_cert.proofs.maker.Maker.ready.Goals as goal
 
@@ -15,3 +17,12 @@ pub returns-clause-current : goal.returns-clause-current
 returns-clause-current g c =
     let i = c.self.inside in
     rw (← c.self.view_is) (open_end_same c.reserve.new.self i.waiters c.reserve.ensures.groups c.reserve.ensures.heads i.noted c.reserve.ensures.lists c.reserve.ensures.scans i.current)
+
+pub invariant_of-self-in_err-opens : goal.invariant_of-self-in_err-opens
+invariant_of-self-in_err-opens g c = grind (arith, common_steps)
+
+pub invariant_of-self : goal.invariant_of-self
+invariant_of-self g c = grind (arith, common_steps)
+
+pub returns-clause-ended : goal.returns-clause-ended
+returns-clause-ended g c = grind (arith, common_steps)

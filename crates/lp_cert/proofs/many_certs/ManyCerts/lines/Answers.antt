@@ -1,4 +1,5 @@
-use Rattle.std.proofs.Common.{Some, sym, ap, ◌∙◌}
+use Rattle.std.proofs.Common.{Some, sym, ap, ◌∙◌, arith}
+use Rattle.std.proofs.lemmas.Grind.{common_steps}
 use Rattle.std.specs.Option.{option_map}
 use Rattle.lp_cert.specs.declared.cert.Cert.{Cert}
 use Rattle.lp_cert.specs.Waiters.{kept_cert}
@@ -13,3 +14,6 @@ returns c =
     let is = mapped_at of_waiter i.waiters.items c.args.place c.index.result.now within c.index.ensures in
     let lines = rw c.as_slice.ensures.value at c.lines.ensures in
     rw (← c.self.view_is) (ap (option_map (λ (cert : Cert). cert.lines)) is ∙ ap Some (sym lines))
+
+pub lines-requires : goal.lines-requires
+lines-requires c = grind (arith, common_steps)

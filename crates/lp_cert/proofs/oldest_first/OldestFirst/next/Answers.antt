@@ -1,4 +1,5 @@
 use Rattle.std.proofs.Common.{◌<◌, ◌-◌, [], get_or, option_to_list, arith}
+use Rattle.std.proofs.lemmas.Grind.{common_steps}
 use Rattle.lp_cert.proofs.PartLemmas.{taken_off, oldest_found, place_below}
 use Rattle.lp_cert.proofs.oldest_first.OldestFirst.next.Goals as goal
 
@@ -17,3 +18,9 @@ offset_bounds-self-inside-self-inside c =
     let i = c.self.inside in
     let found = c.find.new.found in
     omega (arith, place_below i.chains.now.lists i.list.0 found.first i.left found.places c.find.ensures.found c.find.ensures.some)
+
+pub newest-requires-clause-some : goal.newest-requires-clause-some
+newest-requires-clause-some c = grind (arith, common_steps)
+
+pub newest-requires-clause-known : goal.newest-requires-clause-known
+newest-requires-clause-known c = grind (arith, common_steps)

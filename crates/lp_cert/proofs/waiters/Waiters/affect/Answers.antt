@@ -1,4 +1,5 @@
-use Rattle.std.proofs.Common.{List, sym, subst, ◌∙◌}
+use Rattle.std.proofs.Common.{List, sym, subst, ◌∙◌, arith}
+use Rattle.std.proofs.lemmas.Grind.{common_steps}
 use Rattle.std.specs.List.{AllByRecursion}
 use Rattle.lp_model.specs.declared.verdict.Verdict.{Verdict}
 use Rattle.lp_model.specs.declared.check.CheckKind.TheVariants as kind
@@ -25,3 +26,6 @@ scan_of-requires-in-Stop-clause-used g c = λ used.
     let s = state_in c.args.core.now in
     let enough = subst (λ (event : Event). AreVerdictsFor model s event c.args.step.now.verdicts) (sym c.event.ensures ∙ c.in-Stop.is) c.requires.weighed.verdicts in
     subst (λ (vs : List Verdict). AllByRecursion IsUsedVerdict vs) (sym c.verdicts-in-Stop.ensures) (used_enough model g.met.M.Consistency.lawful kind.Stop s c.args.step.now.verdicts enough used)
+
+pub returns-clause-stood : goal.returns-clause-stood
+returns-clause-stood g c = grind (arith, common_steps)

@@ -1,4 +1,5 @@
-use Rattle.std.proofs.Common.{◌≡◌, ◌∙◌, ℕ, List, Some, true, ap, reverse, subst, sym}
+use Rattle.std.proofs.Common.{◌≡◌, ◌∙◌, ℕ, List, Some, true, ap, reverse, subst, sym, arith}
+use Rattle.std.proofs.lemmas.Grind.{common_steps}
 use Rattle.std.specs.Option.{option_map}
 use Rattle.lp_numbers.specs.Numbers.{has}
 use Rattle.lp_cert.specs.declared.line.Line.{Line}
@@ -13,3 +14,6 @@ pub returns : goal.returns
 returns c =
     let lines = subst (λ (w : WaitingGroups). c.lines.result ≡ reverse (lines_in w.reasons c.args.group.0)) c.self.view_is c.lines.ensures in
     lines-of_waiter c.args.self.now c.args.group.0 c.lines.result (sym c.waits.ensures ∙ c.if-not-waits.false) lines
+
+pub lines-requires : goal.lines-requires
+lines-requires c = grind (arith, common_steps)

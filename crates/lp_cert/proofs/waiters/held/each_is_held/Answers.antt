@@ -1,4 +1,5 @@
-use Rattle.std.proofs.Common.{sym, subst, ◌∙◌}
+use Rattle.std.proofs.Common.{sym, subst, ◌∙◌, arith}
+use Rattle.std.proofs.lemmas.Grind.{common_steps}
 use Rattle.std.specs.List.{AllByRecursion}
 use Rattle.lp_transition.specs.Table.{state_in}
 use Rattle.lp_cert.specs.inside.ToldGroups.{IsHeld}
@@ -13,3 +14,6 @@ loop-number-preserved g c = λ rest.
 
 pub returns : goal.returns
 returns g c = λ done. c.loop-number.invariant (subst (AllByRecursion (IsHeld (state_in c.args.core.now) c.args.reasons.now)) (sym c.in-None.ensures.steps.0) tt)
+
+pub returns-then-not-is_held : goal.returns-then-not-is_held
+returns-then-not-is_held g c = grind (arith, common_steps)

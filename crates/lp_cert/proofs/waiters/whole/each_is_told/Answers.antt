@@ -1,4 +1,5 @@
-use Rattle.std.proofs.Common.{sym, subst}
+use Rattle.std.proofs.Common.{sym, subst, arith}
+use Rattle.std.proofs.lemmas.Grind.{common_steps}
 use Rattle.std.specs.List.{AllByRecursion}
 use Rattle.lp_cert.specs.inside.WholeScans.{IsTold}
 use Rattle.lp_cert.proofs.waiters.whole.each_is_told.Goals as goal
@@ -12,3 +13,6 @@ loop-number-preserved c = λ rest.
 
 pub returns : goal.returns
 returns c = λ done. c.loop-number.invariant (subst (AllByRecursion (IsTold c.args.waiting.now c.args.told.now)) (sym c.in-None.ensures.steps.0) tt)
+
+pub returns-then-not-is_told : goal.returns-then-not-is_told
+returns-then-not-is_told c = grind (arith, common_steps)

@@ -1,4 +1,5 @@
 use Rattle.std.proofs.Common.{not, length, arith}
+use Rattle.std.proofs.lemmas.Grind.{common_steps}
 use Rattle.std.proofs.lemmas.Bool.{and_parts}
 use Rattle.lp_numbers.specs.Numbers.{has}
 use Rattle.lp_cert.specs.inside.Waiters.{is_left}
@@ -10,3 +11,18 @@ judge-requires-clause-room g c = λ group left.
     let waits = (and_parts (has c.args.waiting.now group) (not (has c.args.refused.now group)) left).0 in
     let some = count_some (is_left c.args.waiting.now c.args.refused.now) (length c.args.reasons.now.heads) group (c.requires.wide group waits) left in
     omega (arith, some, c.requires.room)
+
+pub returns-clause-looked : goal.returns-clause-looked
+returns-clause-looked g c = grind (arith, common_steps)
+
+pub returns-clause-room : goal.returns-clause-room
+returns-clause-room g c = grind (arith, common_steps)
+
+pub judge-requires-clause-wide : goal.judge-requires-clause-wide
+judge-requires-clause-wide g c = grind (arith, common_steps)
+
+pub judge-requires-clause-used : goal.judge-requires-clause-used
+judge-requires-clause-used g c = grind (arith, common_steps)
+
+pub returns-then-eq-clause-looked : goal.returns-then-eq-clause-looked
+returns-then-eq-clause-looked g c = grind (arith, common_steps)

@@ -1,5 +1,5 @@
-use Rattle.std.proofs.Common.{◌≡◌, arith, ap, length, subst, List, Option, refl, ◌∙◌}
-use Rattle.std.specs.Prelude.{slice_get}
+use Rattle.std.proofs.Common.{◌≡◌, arith, ap, length, subst, List, refl, ◌∙◌}
+use Rattle.std.specs.Prelude.{option_to_list, slice_get}
 use Rattle.lp_transition.specs.declared.event.Event.{Event}
 use Rattle.lp_transition.specs.Run.{first_leg}
 use Rattle.lp_cert.specs.declared.leg_end.LegEnd.{LegEnd}
@@ -23,4 +23,4 @@ returns g c =
     let made = c.in_ok-take_first_leg.ensures run (rw c.deref_mut.ensures.value c.in_ok-core.ensures.stands) (rw (c.deref_mut.ensures.value, c.deref_mut-2.ensures.value) (begun_with model run c.in_ok-core.core.value.last_scan c.in_ok-maker.maker.value refl c.in_ok-core.ensures.unscanned (rw c.in_ok-maker.ensures.ok c.in_ok-new.ensures))) in
     let told = subst (λ (events : List Event). first_made c.take_first_leg.new.maker ≡ slice_get (leg_ends model (first_leg model run) events) 0) c.events.ensures.value made in
     let first : first_made maker ≡ slice_get (leg_ends model (first_leg model run) trace.events) 0 = rw c.into_inner.ensures told in
-    ok_weaker (λ (found : Option LegEnd). found ≡ first_made maker) (λ (found : Option LegEnd). found ≡ slice_get (leg_ends model (first_leg model run) trace.events) 0) (λ found h. h ∙ first) c.first_of.result c.first_of.ensures
+    ok_weaker (λ (found : List LegEnd). found ≡ option_to_list (first_made maker)) (λ (found : List LegEnd). found ≡ option_to_list (slice_get (leg_ends model (first_leg model run) trace.events) 0)) (λ found h. h ∙ ap option_to_list first) c.first_of.result c.first_of.ensures

@@ -1,5 +1,6 @@
 use Rattle.std.proofs.Common.{arith, take, subst, sym, length, List, ◌+◌, ◌<◌, ◌∙◌}
 use Rattle.lp_cert.specs.declared.leg_end.LegEnd.{LegEnd}
+use Rattle.lp_cert.specs.Ends.{ends_left}
 use Rattle.lp_replay.proofs.FirstEnd.{made_first, made_more, complete_early, ended_early, ended_last, some_there}
 use Rattle.lp_replay.proofs.Legs.{longer, at_first, at_more, numbered}
 use Rattle.lp_replay.proofs.replays.first.take_first_leg.Goals as goal
@@ -49,7 +50,7 @@ pub returns-then-not-is_empty : goal.returns-then-not-is_empty
 returns-then-not-is_empty g c = λ run stands made.
     let here = c.loop-event.invariant run stands made in
     let now = made_more g.M.Consistency.rules run c.args.events.now c.loop-event.event-index _ c.take_other.new.core.last_scan c.take_other.new.maker (omega arith) (c.in_ok-take_other.ensures.made _ here.0 here.1) in
-    ended_early g.M.Consistency.rules run c.args.events.now (c.loop-event.event-index + 1) c.take_other.new.maker now.of_run (subst (λ (l : List LegEnd). 0 < length l) c.ended.ensures (some_there c.ended.result.now (sym c.if-not-is_empty.ensures)))
+    ended_early g.M.Consistency.rules run c.args.events.now (c.loop-event.event-index + 1) c.take_other.new.maker now.of_run (subst (λ (l : List LegEnd). 0 < length l) c.ended.ensures (some_there (ends_left c.ended.result) c.is_empty.result c.is_empty.ensures c.if-not-is_empty.true))
 
 pub returns-then-is_complete : goal.returns-then-is_complete
 returns-then-is_complete g c = λ run stands made.

@@ -10,7 +10,7 @@ returns g c = λ run is.
     let is_kept : IsRecorded model run kept = subst (IsRecorded model run) (sym c.self.view_is) is in
     record {
       replied = is_kept.replied;
-      legs = c.from_vec.ensures ∙ (c.in_ok-into_ends.ensures ∙ rw c.into_inner.ensures (legs_made model run kept.made is_kept.made.of_run));
+      legs = c.in_ok-into_ends.ensures ∙ rw c.into_inner.ensures (legs_made model run kept.made is_kept.made.of_run);
       stays = c.stays.ensures ∙ is_kept.counts.stays;
       mixed = c.mixed.ensures ∙ is_kept.counts.mixed;
     }

@@ -1,0 +1,12 @@
+use Rattle.std.proofs.Common.{arith}
+use Rattle.std.proofs.lemmas.Grind.{common_steps}
+use Rattle.lp_cert.proofs.reasons.Reasons.bear.Goals as goal
+
+pub returns-clause-born : goal.returns-clause-born
+returns-clause-born c = grind (arith, common_steps)
+
+pub bear-next-requires-clause-head : goal.bear-next-requires-clause-head
+bear-next-requires-clause-head c = grind (arith, common_steps)
+
+pub returns-clause-others : goal.returns-clause-others
+returns-clause-others c = grind (arith, common_steps)

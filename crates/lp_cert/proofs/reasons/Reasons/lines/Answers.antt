@@ -1,0 +1,6 @@
+use Rattle.std.proofs.Common.{arith}
+use Rattle.std.proofs.lemmas.Grind.{common_steps}
+use Rattle.lp_cert.proofs.reasons.Reasons.lines.Goals as goal
+
+pub lines-requires : goal.lines-requires
+lines-requires c = grind (arith, common_steps)

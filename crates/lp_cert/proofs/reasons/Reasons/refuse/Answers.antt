@@ -1,0 +1,15 @@
+use Rattle.std.proofs.Common.{arith}
+use Rattle.std.proofs.lemmas.Grind.{common_steps}
+use Rattle.lp_cert.proofs.reasons.Reasons.refuse.Goals as goal
+
+pub returns-clause-refused : goal.returns-clause-refused
+returns-clause-refused c = grind (arith, common_steps)
+
+pub refuse-next-requires-clause-head : goal.refuse-next-requires-clause-head
+refuse-next-requires-clause-head c = grind (arith, common_steps)
+
+pub returns-clause-width : goal.returns-clause-width
+returns-clause-width c = grind (arith, common_steps)
+
+pub returns-clause-others : goal.returns-clause-others
+returns-clause-others c = grind (arith, common_steps)

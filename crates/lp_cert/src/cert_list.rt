@@ -1,0 +1,282 @@
+//! The certificates of one leg.
+ghost use Rattle.std.specs.Prelude.{◌≡◌, ◌<◌, ◌↔◌, [], ◌∷◌, Some, length, map, slice_get, IfOk, IfSome, IsTrue};
+ghost use Rattle.std.specs.Option.{option_map};
+ghost use Rattle.lp_cert.specs.Ends.{cert_head};
+ghost use Rattle.lp_cert.specs.Waiters.{kept_cert};
+ghost use Rattle.lp_cert.specs.inside.Bare.{bare_cert, bare_certs};
+ghost use Rattle.lp_cert.specs.inside.Kept.{up_to};
+ghost use Rattle.lp_cert.specs.inside.Waiters.{AreHeads};
+
+use crate::cert::{Cert, CertHead, Claim};
+use crate::cert_lines::CertLines;
+use crate::chains::Chains;
+use crate::head::Waiter;
+use crate::many_certs::ManyCerts;
+use lp_stack::GroupId;
+use std::alloc::{AllocError, Global};
+use std::marker::Model;
+
+/// A list of certificates of one leg, of which each is written out when it is asked for. They
+/// share the memory of what they have in common.
+///
+/// Contracts see the list.
+pub struct CertList {
+    kept: Kept,
+}
+
+/// In one step for who owns one: docs/GATE.md says why.
+impl Drop for CertList {
+    fn drop(self) {
+        let CertList { kept: _ } = self;
+    }
+}
+
+/// What certificates of groups of which the leg has no reason have in common.
+#[derive(Clone, Copy)]
+pub(crate) struct BareHead {
+    pub(crate) claim: Claim,
+    /// The event that opened the leg.
+    pub(crate) leg: u32,
+    /// The event up to which they go.
+    pub(crate) upto: u32,
+}
+
+/// What is kept of the certificates of a leg. Most short legs have no certificate or one without a
+/// line, which take no memory beside the leg's, or several without a line, of which the groups are
+/// enough.
+#[derive(Drop)]
+pub(crate) enum Kept {
+    Nothing(BareHead),
+    Bare(BareHead, [GroupId; 1]),
+    Bares(BareHead, Vec<GroupId>),
+    Many(Box<ManyCerts>),
+}
+
+impl Model for CertList {
+    ghost use Rattle.std.specs.Prelude.{List};
+    ghost use Rattle.lp_cert.specs.declared.cert.Cert.{Cert};
+    ghost use Rattle.lp_cert.specs.inside.Kept.{certs_in};
+
+    ghost Value = { List Cert };
+
+    ghost view = { λ c. certs_in c.kept };
+}
+
+impl CertList {
+    /// No certificate. Never allocates.
+    pub(crate) fn none(claim: Claim, leg: u32, upto: u32) -> CertList
+        ensures { result ≡ [] }
+    {
+        CertList {
+            kept: Kept::Nothing(BareHead { claim, leg, upto }),
+        }
+    }
+
+    /// The certificate of a group without any reason. Never allocates.
+    pub(crate) fn bare(claim: Claim, leg: u32, upto: u32, group: GroupId) -> CertList
+        ensures { result ≡ bare_cert claim leg upto group ∷ [] }
+    {
+        CertList {
+            kept: Kept::Bare(BareHead { claim, leg, upto }, [group]),
+        }
+    }
+
+    /// The certificates of groups without any reason. Never allocates.
+    pub(crate) fn bares(claim: Claim, leg: u32, upto: u32, groups: Vec<GroupId>) -> CertList
+        ensures { result ≡ map (bare_cert claim leg upto) groups.items }
+    {
+        CertList {
+            kept: Kept::Bares(BareHead { claim, leg, upto }, groups),
+        }
+    }
+
+    /// The certificates of these groups, over their older reasons and the scans of the leg;
+    /// AllocError where an allocation failed.
+    pub(crate) fn many(
+        alloc: Global,
+        claim: Claim,
+        leg: u32,
+        upto: u32,
+        waiters: Vec<Waiter>,
+        chains: Chains,
+        scans: Vec<u64>,
+    ) -> Result<CertList, AllocError>
+        requires { AreHeads chains.lists (length scans.items) waiters.items }
+        ensures { IfOk result (λ certs. certs ≡ map (kept_cert claim leg upto chains.lists scans.items) waiters.items) }
+    {
+        let many = ManyCerts::new(claim, leg, upto, waiters, chains, scans);
+        Ok(CertList {
+            kept: Kept::Many(Box::new(alloc, many)?),
+        })
+    }
+
+    /// Lets the certificates go up to another event. Never allocates.
+    pub(crate) fn go_up_to(&mut self, upto: u32)
+        ensures { self.new ≡ up_to upto self.old }
+    {
+        match &mut self.kept {
+            Kept::Nothing(head) => head.upto = upto,
+            Kept::Bare(head, _) => head.upto = upto,
+            Kept::Bares(head, _) => head.upto = upto,
+            Kept::Many(many) => many.go_up_to(upto),
+        }
+    }
+
+    /// The certificates, borrowed.
+    pub fn borrowed(&self) -> CertListRef<'_>
+        ensures { result ≡ self.now }
+    {
+        match &self.kept {
+            Kept::Nothing(head) => CertListRef::bare(*head, &[]),
+            Kept::Bare(head, group) => CertListRef::bare(*head, group),
+            Kept::Bares(head, groups) => CertListRef::bare(*head, groups.as_slice()),
+            Kept::Many(many) => CertListRef::many(many),
+        }
+    }
+}
+
+/// The certificates of one leg, borrowed from a list of them or of ends of legs.
+///
+/// Contracts see the list.
+#[derive(Drop)]
+pub struct CertListRef<'a> {
+    kept: KeptRef<'a>,
+}
+
+/// What is borrowed: groups without any reason, or groups with their reasons.
+#[derive(Clone, Copy)]
+pub(crate) enum KeptRef<'a> {
+    Bare(BareHead, &'a [GroupId]),
+    Many(&'a ManyCerts),
+}
+
+impl<'a> Model for CertListRef<'a> {
+    ghost use Rattle.std.specs.Prelude.{List};
+    ghost use Rattle.lp_cert.specs.declared.cert.Cert.{Cert};
+    ghost use Rattle.lp_cert.specs.inside.Kept.{certs_borrowed};
+
+    ghost Value = { List Cert };
+
+    ghost view = { λ c. certs_borrowed c.kept };
+}
+
+impl<'a> CertListRef<'a> {
+    /// Those of groups without any reason.
+    pub(crate) fn bare(head: BareHead, groups: &'a [GroupId]) -> CertListRef<'a>
+        ensures { result ≡ bare_certs head groups.now }
+    {
+        CertListRef {
+            kept: KeptRef::Bare(head, groups),
+        }
+    }
+
+    /// Those of groups with reasons.
+    fn many(certs: &'a ManyCerts) -> CertListRef<'a>
+        ensures { result ≡ certs.now }
+    {
+        CertListRef {
+            kept: KeptRef::Many(certs),
+        }
+    }
+
+    /// What they have in common and their groups, where it is known that none has a line.
+    pub(crate) fn bare_parts(&self) -> Option<(BareHead, &'a [GroupId])>
+        ensures { IfSome result (λ parts. self.now ≡ bare_certs parts.0 parts.1.now) }
+    {
+        match self.kept {
+            KeptRef::Bare(head, groups) => Some((head, groups)),
+            KeptRef::Many(_) => None,
+        }
+    }
+
+    /// How many certificates there are.
+    pub fn len(&self) -> usize
+        ensures { result ≡ length self.now }
+    {
+        match self.kept {
+            KeptRef::Bare(_, groups) => groups.len(),
+            KeptRef::Many(many) => many.len(),
+        }
+    }
+
+    /// Whether there is no certificate.
+    pub fn is_empty(&self) -> bool
+        ensures { IsTrue result ↔ (self.now ≡ []) }
+    {
+        self.len() == 0
+    }
+
+    /// The certificate at a place, from 0, if there are so many; AllocError where an allocation
+    /// failed.
+    pub fn cert(&self, alloc: Global, place: usize) -> Result<Option<Cert>, AllocError>
+        ensures { IfOk result (λ found. found ≡ slice_get self.now place) }
+    {
+        if place >= self.len() {
+            return Ok(None);
+        }
+        let CertHead {
+            claim,
+            leg,
+            group,
+            upto,
+        } = self.head(place);
+        Ok(Some(Cert {
+            claim,
+            leg,
+            group,
+            upto,
+            lines: self.lines(place).collect(alloc)?,
+        }))
+    }
+
+    /// The certificate at a place, from 0, without its lines.
+    #[inline(always)]
+    pub fn head(&self, place: usize) -> CertHead
+        requires { place < length self.now }
+        ensures { option_map cert_head (slice_get self.now place) ≡ Some result }
+    {
+        match self.kept {
+            KeptRef::Bare(head, groups) => head.of_group(groups, place),
+            KeptRef::Many(many) => many.head(place),
+        }
+    }
+
+    /// Whether it is known of the certificate at a place, from 0, that it has no line: then none has to be asked for, which
+    /// costs much more. It may have none where this says false.
+    #[inline(always)]
+    pub fn is_bare(&self, place: usize) -> bool
+        requires { place < length self.now }
+        ensures { IsTrue result → option_map (λ cert. cert.lines) (slice_get self.now place) ≡ Some [] }
+    {
+        match self.kept {
+            KeptRef::Bare(_, _) => true,
+            KeptRef::Many(many) => many.is_bare(place),
+        }
+    }
+
+    /// The lines of the certificate at a place, from 0, one at a time. Never allocates.
+    pub fn lines(&self, place: usize) -> CertLines<'a>
+        requires { place < length self.now }
+        ensures { option_map (λ cert. cert.lines) (slice_get self.now place) ≡ Some result }
+    {
+        match self.kept {
+            KeptRef::Bare(_, _) => CertLines::none(),
+            KeptRef::Many(many) => many.lines(place),
+        }
+    }
+}
+
+impl BareHead {
+    /// The certificate of the group at a place, without its lines, of which there is none.
+    fn of_group(self, groups: &[GroupId], place: usize) -> CertHead
+        requires { place < length groups.now }
+        ensures { option_map cert_head (slice_get (bare_certs self groups.now) place) ≡ Some result }
+    {
+        CertHead {
+            claim: self.claim,
+            leg: u64::from(self.leg),
+            group: groups[place],
+            upto: u64::from(self.upto),
+        }
+    }
+}
