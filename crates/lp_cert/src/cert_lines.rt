@@ -18,7 +18,7 @@ use std::marker::Model;
 pub(crate) struct BusyScans<'a> {
     pub(crate) group: GroupId,
     pub(crate) task: TaskId,
-    pub(crate) scans: &'a [u64],
+    pub(crate) scans: &'a [u32],
 }
 
 impl BusyScans<'_> {
@@ -32,7 +32,7 @@ impl BusyScans<'_> {
         Some(Line::Busy {
             group: self.group,
             task: self.task,
-            at: *at,
+            at: u64::from(*at),
         })
     }
 }
@@ -42,7 +42,7 @@ impl BusyScans<'_> {
 /// Contracts see the list of these lines.
 #[derive(Drop)]
 pub struct CertLines<'a> {
-    scans: &'a [u64],
+    scans: &'a [u32],
     run: BusyScans<'a>,
     /// None where there is none: a search needs much more room than this.
     reasons: Option<OldestFirst<'a>>,
@@ -66,7 +66,7 @@ impl<'a> Model for CertLines<'a> {
 
 impl<'a> CertLines<'a> {
     /// The lines of a group's reasons over the scans of the leg.
-    pub(crate) fn new(group: GroupId, scans: &'a [u64], reasons: OldestFirst<'a>) -> CertLines<'a>
+    pub(crate) fn new(group: GroupId, scans: &'a [u32], reasons: OldestFirst<'a>) -> CertLines<'a>
         requires { AllByRecursion (FitsIn (length scans.now)) reasons }
         ensures { result ≡ reverse (lines_of scans.now reasons.entry) }
     {
@@ -145,7 +145,7 @@ fn next_reason(reasons: &mut Option<OldestFirst<'_>>) -> Option<Reason>
 }
 
 /// The scans from one place on and before another.
-fn part_of(scans: &[u64], first: usize, end: usize) -> &[u64]
+fn part_of(scans: &[u32], first: usize, end: usize) -> &[u32]
     requires order { first ≤ end }
     requires within { end ≤ length scans.now }
     ensures { result.now ≡ drop first (take end scans.now) }

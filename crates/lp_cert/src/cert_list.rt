@@ -99,7 +99,7 @@ impl CertList {
         upto: u32,
         waiters: Vec<Waiter>,
         chains: Chains,
-        scans: Vec<u64>,
+        scans: Vec<u32>,
     ) -> Result<CertList, AllocError>
         requires { AreHeads chains.lists (length scans.items) waiters.items }
         ensures { IfOk result (λ certs. certs ≡ map (kept_cert claim leg upto chains.lists scans.items) waiters.items) }

@@ -23,7 +23,7 @@ pub(crate) struct Head {
 #[derive(Clone, Copy)]
 pub(crate) struct Refused {
     /// The event of the scan.
-    pub(crate) at: u64,
+    pub(crate) at: u32,
     /// The refused member of the least number.
     pub(crate) task: TaskId,
     /// Why it isn't admitted.
@@ -58,7 +58,7 @@ impl Head {
     pub(crate) fn lines<'a>(
         self,
         chains: &'a Chains,
-        scans: &'a [u64],
+        scans: &'a [u32],
         group: GroupId,
     ) -> CertLines<'a>
         requires { IsHead chains.now.lists (length scans.now) self }
@@ -84,7 +84,7 @@ impl Head {
     }
 
     /// The reasons as they stand, as a list. Never allocates.
-    pub(crate) fn close(self, chains: &mut Chains, scans: &[u64], group: GroupId) -> ChainId
+    pub(crate) fn close(self, chains: &mut Chains, scans: &[u32], group: GroupId) -> ChainId
         requires known { self.older.0 < length chains.old.lists }
         requires room { 0 < chains.old.room }
         ensures list { slice_index_or chains.new.lists result.0 [] ≡ ongoing_reasons scans.now group self.ongoing ++ slice_index_or chains.old.lists self.older.0 [] }
@@ -103,7 +103,7 @@ impl Head {
     pub(crate) fn bear(
         self,
         chains: &mut Chains,
-        scans: &[u64],
+        scans: &[u32],
         group: GroupId,
         birth: &OwnFork,
     ) -> Head
@@ -128,7 +128,7 @@ impl Head {
     pub(crate) fn refuse(
         self,
         chains: &mut Chains,
-        scans: &[u64],
+        scans: &[u32],
         group: GroupId,
         refused: &Refused,
     ) -> Head
@@ -160,7 +160,7 @@ fn continues(ongoing: Ongoing, refused: &Refused) -> bool
 }
 
 /// The reason that begins with a refusal.
-fn reason_begun(scans: &[u64], refused: &Refused) -> Ongoing
+fn reason_begun(scans: &[u32], refused: &Refused) -> Ongoing
     ensures { result ≡ reason_begun_by (length scans.now) refused.now.task refused.now.at refused.now.blame }
 {
     match refused.blame {
@@ -178,7 +178,7 @@ fn reason_begun(scans: &[u64], refused: &Refused) -> Ongoing
 }
 
 /// The reason that continues, as it stands.
-fn ongoing_reason(scans: &[u64], group: GroupId, ongoing: Ongoing) -> Option<Reason>
+fn ongoing_reason(scans: &[u32], group: GroupId, ongoing: Ongoing) -> Option<Reason>
     ensures { option_to_list result ≡ ongoing_reasons scans.now group ongoing }
 {
     match ongoing {
@@ -189,8 +189,8 @@ fn ongoing_reason(scans: &[u64], group: GroupId, ongoing: Ongoing) -> Option<Rea
                 group,
                 task,
                 serial,
-                from,
-                to,
+                from: u64::from(from),
+                to: u64::from(to),
             }))
         }
         Ongoing::Busy { task, first } => Some(Reason::Busy {

@@ -21,7 +21,7 @@ pub(crate) struct ManyCerts {
     upto: u32,
     waiters: Vec<Waiter>,
     chains: Chains,
-    scans: Vec<u64>,
+    scans: Vec<u32>,
 }
 
 /// In one step for who owns one: docs/GATE.md says why.
@@ -60,7 +60,7 @@ impl ManyCerts {
         upto: u32,
         waiters: Vec<Waiter>,
         chains: Chains,
-        scans: Vec<u64>,
+        scans: Vec<u32>,
     ) -> ManyCerts
         requires { AreHeads chains.lists (length scans.items) waiters.items }
         ensures { result ≡ map (kept_cert claim leg upto chains.lists scans.items) waiters.items }

@@ -14,7 +14,7 @@ pub(crate) enum Ongoing {
         /// The serial of its frame.
         serial: u64,
         /// The event of the scan.
-        from: u64,
+        from: u32,
     },
     /// The member is busy at each scan from a place on among those of the leg.
     Busy {

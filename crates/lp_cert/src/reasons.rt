@@ -28,7 +28,7 @@ const NO_REASON: Head = Head {
 pub(crate) struct Reasons {
     heads: Vec<Head>,
     chains: Chains,
-    scans: Vec<u64>,
+    scans: Vec<u32>,
 }
 
 /// In one step for who owns one: docs/GATE.md says why.
@@ -186,7 +186,7 @@ impl Reasons {
     }
 
     /// A copy of the older reasons, and of the scans; AllocError where an allocation failed.
-    pub(crate) fn copy_past(&self, alloc: Global) -> Result<(Chains, Vec<u64>), AllocError>
+    pub(crate) fn copy_past(&self, alloc: Global) -> Result<(Chains, Vec<u32>), AllocError>
         ensures lists { IfOk result (λ past. past.0.lists ≡ self.now.lists) }
         ensures scans { IfOk result (λ past. past.1.items ≡ self.now.scans) }
     {
@@ -196,7 +196,7 @@ impl Reasons {
     }
 
     /// The older reasons, and the scans. Never allocates.
-    pub(crate) fn into_past(self) -> (Chains, Vec<u64>)
+    pub(crate) fn into_past(self) -> (Chains, Vec<u32>)
         ensures lists { result.0.lists ≡ self.lists }
         ensures scans { result.1.items ≡ self.scans }
     {
@@ -226,7 +226,7 @@ impl Reasons {
     }
 
     /// A scan has refused the groups that were noted. Never allocates.
-    pub(crate) fn scanned(&mut self, at: u64)
+    pub(crate) fn scanned(&mut self, at: u32)
         requires { 0 < self.old.scan_room }
         ensures heads { self.new.heads ≡ self.old.heads }
         ensures lists { self.new.lists ≡ self.old.lists }

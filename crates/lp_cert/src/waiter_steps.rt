@@ -59,7 +59,7 @@ impl Waiters {
     {
         let what = &step.reply().what;
         if !matches!(what, What::Refused(_)) {
-            self.scan_all(core, kind, core.events() + 1);
+            self.scan_all(core, kind, core.events() as u32 + 1);
             self.switch(what);
         }
     }
@@ -76,11 +76,11 @@ impl Waiters {
         ensures stood { IsSome (used_scan M.rules step.now.event) → AreStanding self.old }
     {
         let _ = &self;
-        let at = core.events() + 1;
+        let at = core.events() as u32 + 1;
         match step.event() {
             Event::Walk => self.scan_of(core, CheckKind::Walk, at, step.verdicts()),
             Event::Stop => self.scan_of(core, CheckKind::Stop, at, step.verdicts()),
-            Event::Fork(parent, child, how) => self.fork(core, parent, child, how, at),
+            Event::Fork(parent, child, how) => self.fork(core, parent, child, how, u64::from(at)),
             Event::Die(task) => self.die(core, task),
             _ => {}
         }
@@ -91,7 +91,7 @@ impl Waiters {
         &mut self,
         core: &Core<M>,
         kind: CheckKind,
-        at: u64,
+        at: u32,
         verdicts: &[Verdict],
     )
         requires used { IsTrue (M.rules.uses kind) → AllByRecursion IsUsedVerdict verdicts.now }

@@ -170,7 +170,7 @@ impl Waiters {
     }
 
     /// A copy of the older reasons, and of the scans; AllocError where an allocation failed.
-    pub(crate) fn copy_past(&self, alloc: Global) -> Result<(Chains, Vec<u64>), AllocError>
+    pub(crate) fn copy_past(&self, alloc: Global) -> Result<(Chains, Vec<u32>), AllocError>
         ensures lists { IfOk result (λ past. past.0.lists ≡ self.now.reasons.lists) }
         ensures scans { IfOk result (λ past. past.1.items ≡ self.now.reasons.scans) }
     {
@@ -178,7 +178,7 @@ impl Waiters {
     }
 
     /// The older reasons, and the scans. Never allocates.
-    pub(crate) fn into_past(self) -> (Chains, Vec<u64>)
+    pub(crate) fn into_past(self) -> (Chains, Vec<u32>)
         ensures lists { result.0.lists ≡ self.reasons.lists }
         ensures scans { result.1.items ≡ self.reasons.scans }
     {
@@ -229,7 +229,7 @@ impl Waiters {
     /// A scan, with what it found of the tasks that it looked at, by increasing number: the reasons
     /// of the groups that it refuses continue, and so do those that continue by themselves. Never
     /// allocates.
-    pub(crate) fn scan<M: Consistency>(&mut self, core: &Core<M>, at: u64, verdicts: &[Verdict])
+    pub(crate) fn scan<M: Consistency>(&mut self, core: &Core<M>, at: u32, verdicts: &[Verdict])
         requires used { AllByRecursion IsUsedVerdict verdicts.now }
         requires wide { HasHeads self.old }
         requires room { length verdicts.now ≤ self.old.reasons.room }
@@ -250,7 +250,7 @@ impl Waiters {
     }
 
     /// A scan that looked at nobody: the reasons that continue by themselves do. Never allocates.
-    pub(crate) fn scan_nobody(&mut self, at: u64)
+    pub(crate) fn scan_nobody(&mut self, at: u32)
         requires scan_room { 0 < self.old.reasons.scan_room }
         ensures lines { (s : State) (group : ℕ) → lines_at self.new group ≡ scanned_lines s at [] self.old group }
         ensures stood { AreStanding self.old }
@@ -263,7 +263,7 @@ impl Waiters {
 /// Notes what a scan found of the groups that wait, at no cost where nothing was found.
 fn judge_waiting<M: Consistency>(
     core: &Core<M>,
-    at: u64,
+    at: u32,
     verdicts: &[Verdict],
     waiting: &GroupSet,
     refused: &mut NumberSet,
@@ -285,7 +285,7 @@ fn judge_waiting<M: Consistency>(
 /// Notes what a scan found, and takes the groups that it refuses in among those that it has refused.
 fn judge_all<M: Consistency>(
     core: &Core<M>,
-    at: u64,
+    at: u32,
     verdicts: &[Verdict],
     waiting: &GroupSet,
     refused: &mut NumberSet,
@@ -305,7 +305,7 @@ fn judge_all<M: Consistency>(
 /// Of the members that a scan refuses, the first has the least number: it alone is a group's reason.
 fn judge<M: Consistency>(
     core: &Core<M>,
-    at: u64,
+    at: u32,
     verdict: &Verdict,
     waiting: &GroupSet,
     refused: &mut NumberSet,

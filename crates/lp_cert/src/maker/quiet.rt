@@ -42,7 +42,7 @@ impl Maker {
             return false;
         }
         self.noted = core.events() as u32 + 1;
-        self.waiters.scan_nobody(u64::from(self.noted));
+        self.waiters.scan_nobody(self.noted);
         true
     }
 }

@@ -32,7 +32,7 @@ impl Waiters {
     }
 
     /// A scan of this kind, with what it finds of each task that waits. Never allocates.
-    pub(crate) fn scan_all<M: Consistency>(&mut self, core: &Core<M>, kind: CheckKind, at: u64)
+    pub(crate) fn scan_all<M: Consistency>(&mut self, core: &Core<M>, kind: CheckKind, at: u32)
         requires used { IsTrue (M.rules.uses kind) }
         requires wide { HasHeads self.old }
         requires room { length self.old.reasons.heads ≤ self.old.reasons.room }
@@ -70,7 +70,7 @@ fn is_told(waiting: &GroupSet, told: &NumberSet, group: u16) -> bool
 fn judge_tasks<M: Consistency>(
     core: &Core<M>,
     kind: CheckKind,
-    at: u64,
+    at: u32,
     waiting: &GroupSet,
     refused: &mut NumberSet,
     reasons: &mut Reasons,
@@ -90,7 +90,7 @@ fn judge_tasks<M: Consistency>(
 fn judge_task<M: Consistency>(
     core: &Core<M>,
     kind: CheckKind,
-    at: u64,
+    at: u32,
     task: TaskId,
     waiting: &GroupSet,
     refused: &mut NumberSet,

@@ -20,7 +20,7 @@ returns-clause-made g c = λ yes run after stands is stands_after known.
     let used : model.uses c.args.kind ≡ true = sym c.uses.ensures ∙ c.if-not-uses.false in
     quiet_made model g.met.M.Consistency.lawful run c.args.core.now stands c.args.kind old was after stands_after known (c.is_quiet.ensures.last quiet) c.events.ensures.wide (c.is_quiet.ensures.quiet quiet)
     c.requires.scan c.requires.room used new refl i.noted number c.in-Some.leg i.waiters c.scan_nobody.new.self (ap (option_map (open_end i.noted i.waiters)) c.in-Some.is) (c.are_held.ensures c.if-not-are_held.false) (ap (λ m. m + 1) c.events.ensures.value) unended
-    c.scan_nobody.ensures.stood (rw c.from.ensures at c.scan_nobody.ensures.lines)
+    c.scan_nobody.ensures.stood c.scan_nobody.ensures.lines
     (ap (option_map (open_end number c.scan_nobody.new.self)) c.in-Some.is)
 
 pub scan_nobody-requires : goal.scan_nobody-requires
