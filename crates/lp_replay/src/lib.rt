@@ -14,4 +14,4 @@ pub use lp_text::Trace;
 pub use lp_transition::{Event, GroupList, Opening, Refusal, Reply};
 pub use outcome::Outcome;
 pub use replays::{ReplayFault, TraceLeg, first_leg_end, leg_numbered, replay, stack};
-pub use replies::{GroupLists, KeptReply, Replies, ReplyList, ShortReply, ShortWhat};
+pub use replies::{GroupLists, KeptReply, PackedReply, Replies, ReplyList, ShortReply, ShortWhat};

@@ -10,9 +10,11 @@ use std::marker::Model;
 
 mod group_lists;
 mod kept;
+mod packed;
 
 pub use group_lists::GroupLists;
 pub use kept::{KeptReply, Replies};
+pub use packed::PackedReply;
 
 /// What an event did, without the groups that it switched.
 #[derive(Clone, Copy, Debug, PartialEq, Eq)]
@@ -46,10 +48,10 @@ impl ShortReply {
 
 /// A list of replies. Contracts see the list.
 ///
-/// A run has up to a million replies, of which few switched a group. So a reply takes three bytes, and
+/// A run has up to a million replies, of which few switched a group. So a reply takes two bytes, and
 /// the lists of groups stand apart from them, for those that switched any.
 pub struct ReplyList {
-    short: Vec<ShortReply>,
+    short: Vec<PackedReply>,
     /// The groups of each event that switched some, in the order of the events.
     groups: GroupLists,
 }
@@ -104,7 +106,8 @@ impl ReplyList {
                 ShortWhat::Switched
             }
         };
-        self.short.push_reserved(ShortReply { what, completed });
+        let short = ShortReply { what, completed };
+        self.short.push_reserved(PackedReply::of(short));
         Ok(())
     }
 
@@ -114,7 +117,8 @@ impl ReplyList {
     {
         let mut replies = Vec::with_capacity(alloc, self.short.len())?;
         let mut next = 0;
-        for reply in self.short.as_slice() {
+        for packed in self.short.as_slice() {
+            let reply = packed.get();
             let what = what_of(alloc, reply.what, self.groups.at(next))?;
             replies.push(Reply {
                 what,
@@ -140,7 +144,7 @@ impl ReplyList {
     }
 
     /// The replies in short, and the groups of those events that switched some.
-    pub fn parts(&self) -> (&[ShortReply], &GroupLists)
+    pub fn parts(&self) -> (&[PackedReply], &GroupLists)
         ensures { replies_of result.0.now result.1.now ≡ self.now }
     {
         (self.short.as_slice(), &self.groups)

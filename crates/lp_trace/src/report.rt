@@ -20,7 +20,7 @@ use crate::place::SHORT_END;
 pub(crate) use births::KeptBirths;
 use itoa::Buffer;
 use legs::put_legs;
-use lp_replay::{GroupLists, Outcome, ReplyList, ShortReply, ShortWhat};
+use lp_replay::{GroupLists, Outcome, PackedReply, ReplyList, ShortReply, ShortWhat};
 use lp_stack::{GroupId, Level};
 use lp_text::{Counted, TraceForm, WriteFault};
 use std::io::Write;
@@ -122,9 +122,9 @@ fn line_end(completed: bool) -> &'static [u8]
 /// What follows the event's number, where it is one of the few commonest ends of a line: so many of
 /// the bytes.
 #[inline(always)]
-fn short_rest(form: TraceForm, reply: &ShortReply) -> Option<(&'static [u8; SHORT_END], usize)>
+fn short_rest(form: TraceForm, reply: ShortReply) -> Option<(&'static [u8; SHORT_END], usize)>
     ensures size { IfSome result (λ rest. rest.1 ≤ 16) }
-    ensures words { IfSome result (λ rest. (lists : List (List ℕ)) → take rest.1 rest.0.now ≡ line_rest (what_words form (what_of reply.now.what lists) ++ complete_words reply.now.completed)) }
+    ensures words { IfSome result (λ rest. (lists : List (List ℕ)) → take rest.1 rest.0.now ≡ line_rest (what_words form (what_of reply.what lists) ++ complete_words reply.completed)) }
 {
     if reply.completed {
         return None;
@@ -143,8 +143,8 @@ fn short_rest(form: TraceForm, reply: &ShortReply) -> Option<(&'static [u8; SHOR
 /// Holds the line of the reply to the event of a number, where it is short and there is room, and
 /// says whether it did.
 #[inline(always)]
-fn hold_event(page: &mut Page, form: TraceForm, event: &Counter, reply: &ShortReply) -> bool
-    ensures taken { IsTrue result → (number : ℕ) → event.now ≡ number → (lists : List (List ℕ)) → page.new.held.items ≡ page.old.held.items ++ line_of (reply_line form number (reply_of reply.now lists)) }
+fn hold_event(page: &mut Page, form: TraceForm, event: &Counter, reply: ShortReply) -> bool
+    ensures taken { IsTrue result → (number : ℕ) → event.now ≡ number → (lists : List (List ℕ)) → page.new.held.items ≡ page.old.held.items ++ line_of (reply_line form number (reply_of reply lists)) }
     ensures kept { IsFalse result → page.new.held.items ≡ page.old.held.items }
 {
     let Some((rest, len)) = short_rest(form, reply) else {
@@ -171,15 +171,16 @@ fn put_replies<W: Write>(
     page: &mut Page,
     writer: &mut Counted<W>,
     form: TraceForm,
-    replies: &[ShortReply],
+    replies: &[PackedReply],
     lists: &GroupLists,
 ) -> Result<(), WriteFault>
     ensures { Puts (seen_of W.contents writer.old) (seen_of W.contents writer.new) page.old.held.items page.new.held.items result (flat_map line_of (reply_lines form 1 (replies_of replies.now lists.now))) }
 {
     let mut next = 0;
     let mut event = Counter::new();
-    for (i, reply) in replies.iter().enumerate() {
+    for (i, packed) in replies.iter().enumerate() {
         event.increment();
+        let reply = packed.get();
         if !hold_event(page, form, &event, reply) {
             let groups = lists.at(next);
             put_event(page, writer, form, i as u64 + 1, reply, groups)?;
@@ -196,10 +197,10 @@ fn put_event<W: Write>(
     writer: &mut Counted<W>,
     form: TraceForm,
     event: u64,
-    reply: &ShortReply,
+    reply: ShortReply,
     groups: &[GroupId],
 ) -> Result<(), WriteFault>
-    ensures { Puts (seen_of W.contents writer.old) (seen_of W.contents writer.new) page.old.held.items page.new.held.items result (line_of (reply_line form event (reply_of reply.now (group_numbers groups.now ∷ [])))) }
+    ensures { Puts (seen_of W.contents writer.old) (seen_of W.contents writer.new) page.old.held.items page.new.held.items result (line_of (reply_line form event (reply_of reply (group_numbers groups.now ∷ [])))) }
 {
     let mut first = Buffer::new();
     let mut second = Buffer::new();

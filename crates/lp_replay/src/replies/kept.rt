@@ -2,7 +2,7 @@
 ghost use Rattle.std.specs.Prelude.{◌≡◌, drop};
 ghost use Rattle.lp_replay.specs.Replies.{replies_of};
 
-use super::{GroupLists, ReplyList, ShortReply, ShortWhat};
+use super::{GroupLists, PackedReply, ReplyList, ShortReply, ShortWhat};
 use lp_stack::GroupId;
 use std::fmt;
 
@@ -46,7 +46,7 @@ fn fmt_over<W: fmt::Write>(groups: &[GroupId], f: &mut fmt::Formatter<W>) -> fmt
 /// The replies of a list that are left to be looked at.
 #[derive(Clone, Copy)]
 pub struct Replies<'a> {
-    short: &'a [ShortReply],
+    short: &'a [PackedReply],
     /// The groups of all that switched some.
     groups: &'a GroupLists,
     /// The place of the next list.
@@ -65,16 +65,14 @@ impl<'a> Iterator for Replies<'a> {
     ghost remaining = { item_count (λ s. replies_of s.short.now (drop s.next s.groups.now)) };
 
     fn next(&mut self) -> Option<KeptReply<'a>> {
-        let (short, others) = self.short.split_first()?;
+        let (packed, others) = self.short.split_first()?;
+        let short = packed.get();
         let groups = self.groups.at(self.next);
         self.short = others;
         if short.lists() == 1 {
             self.next = self.groups.place_after(self.next);
         }
-        Some(KeptReply {
-            short: *short,
-            groups,
-        })
+        Some(KeptReply { short, groups })
     }
 }
 

@@ -14,11 +14,11 @@ pub returns-in-Switched : goal.returns-in-Switched
 returns-in-Switched g c =
     let groups : List ℕ = group_numbers c.args.groups.now in
     let line : List ℕ = c.number-event.result.now ++ (codes " over" ++ (flat_map (λ group. 32 ∷ decimal group) groups ++ c.line_end-end.result.now)) in
-    let same : line ≡ line_of (decimal c.args.event ∷ (what_words c.args.form (what_of c.args.reply.now.what (groups ∷ [])) ++ complete_words c.args.reply.now.completed)) =
+    let same : line ≡ line_of (decimal c.args.event ∷ (what_words c.args.form (what_of c.args.reply.what (groups ∷ [])) ++ complete_words c.args.reply.completed)) =
     ap (λ l. l ++ (codes " over" ++ (flat_map (λ group. 32 ∷ decimal group) groups ++ c.line_end-end.result.now))) c.number-event.ensures
     ∙ ap (λ l. decimal c.args.event ++ (codes " over" ++ (flat_map (λ group. 32 ∷ decimal group) groups ++ l))) c.line_end-end.ensures
-    ∙ sym (switched_line (decimal c.args.event) groups (complete_words c.args.reply.now.completed))
-    ∙ ap (λ (what : ShortWhat). line_of (decimal c.args.event ∷ (what_words c.args.form (what_of what (groups ∷ [])) ++ complete_words c.args.reply.now.completed))) (sym c.in-Switched.is) in
+    ∙ sym (switched_line (decimal c.args.event) groups (complete_words c.args.reply.completed))
+    ∙ ap (λ (what : ShortWhat). line_of (decimal c.args.event ∷ (what_words c.args.form (what_of what (groups ∷ [])) ++ complete_words c.args.reply.completed))) (sym c.in-Switched.is) in
     let P : List ℕ → Type 0 = λ l. Puts (seen_of g.W.Write.contents c.args.writer.now) (seen_of g.W.Write.contents c.put_switched.new.writer) c.args.page.now.held.items c.put_switched.new.page.held.items c.put_switched.result l in
     subst P same c.put_switched.ensures
 

@@ -1,23 +1,24 @@
 use Rattle.std.proofs.Common.{◌≡◌, drop, ℕ, length, List, ◌∷◌, arith, rules, ap, sym, ◌∙◌}
 use Rattle.lp_transition.specs.declared.reply.Reply.{Reply}
+use Rattle.lp_replay.specs.declared.replies.ShortReply.{ShortReply}
 use Rattle.lp_replay.specs.declared.replies.kept.Replies.{Replies}
 use Rattle.lp_replay.specs.Replies.{replies_of, kept_reply, lists_in}
 use Rattle.lp_replay.proofs.ReplyLists.{kept-next, none-left}
 use Rattle.lp_replay.proofs.replies.kept.RepliesIterator.next.Goals as goal
 use Rattle.lp_replay.proofs.replies.kept.RepliesIterator.next.Goals.{then-lists-eq1, else-lists-eq1}
 
-pub returns-in_err-short-clause-steps : goal.returns-in_err-short-clause-steps
-returns-in_err-short-clause-steps c =
-    let none = none-left c.args.self.now.short.now (drop c.args.self.now.next c.args.self.now.groups.now) c.in_err-short.ensures.cases in
+pub returns-in_err-packed-clause-steps : goal.returns-in_err-packed-clause-steps
+returns-in_err-packed-clause-steps c =
+    let none = none-left c.args.self.now.short.now (drop c.args.self.now.next c.args.self.now.groups.now) c.in_err-packed.ensures.cases in
     rw c.from_residual.ensures (none, none)
 
-first_reply : (c : goal.After-result-1) → replies_of c.args.self.now.short.now (drop c.args.self.now.next c.args.self.now.groups.now) ≡ kept_reply (record { short = c.in_ok-short.short.now; groups = c.at-groups.result }) ∷ replies_of c.if-lists-eq1.self.short.now (drop c.if-lists-eq1.self.next c.if-lists-eq1.self.groups.now)
-first_reply c =
-    let short = c.in_ok-short.short.now in
-    let others = c.in_ok-short.others.now in
+pub returns-clause-steps : goal.returns-clause-steps
+returns-clause-steps c =
+    let short : ShortReply = c.get-short.result in
+    let others : List ShortReply = c.in_ok-packed.others.now in
     let lists : List (List ℕ) = drop c.args.self.now.next c.args.self.now.groups.now in
     let kept : Reply = kept_reply (record { short = short; groups = c.at-groups.result }) in
-    let first = ap (λ l. replies_of l lists) c.in_ok-short.ensures.cases.0 in
+    let first = ap (λ l. replies_of l lists) c.in_ok-packed.ensures.cases.0 ∙ ap {A = ShortReply} {B = List Reply} (λ r. replies_of (r ∷ others) lists) (sym c.get-short.ensures) in
     elim c.if-lists-eq1.branch [
       | then-lists-eq1 w ↦
           let one : 1 ≡ lists_in short.what = omega (arith, c.lists.ensures.value, w.if-lists-eq1) in
@@ -31,10 +32,7 @@ first_reply c =
           ∙ ap {A = Replies} {B = List Reply} (λ s. kept ∷ replies_of s.short.now (drop s.next s.groups.now)) (sym w.self-is)
     ]
 
-pub returns-clause-steps : goal.returns-clause-steps
-returns-clause-steps c = first_reply c
-
 pub returns-clause-goes : goal.returns-clause-goes
 returns-clause-goes c =
-    let shorter = ap length (first_reply c) in
+    let shorter = ap length (returns-clause-steps c) in
     search rules
