@@ -32,6 +32,7 @@ pub mod Ending
 pub mod Noted
 pub mod NotedBy
 pub mod Passed
+pub mod Upto
 pub mod QuietScans
 pub mod Asked
 pub mod Tellings

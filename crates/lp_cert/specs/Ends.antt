@@ -56,6 +56,14 @@ end_in end = record { opened = end.opened; target = end.target; completed = end.
 abbrev pub ends_left : LegEnds → List LegEnd
 ends_left ends = drop ends.passed ends.rows.now.ends
 
+-- the end of a leg under way as it stands after so many events, where only their number has changed
+abbrev pub end_upto : ℕ → LegEnd → LegEnd
+end_upto upto end = if is_none end.completed then record end { certs = map (λ (cert : Cert). record cert { upto = upto }) end.certs } else end
+
+-- and what is made
+abbrev pub made_upto : ℕ → Made → Made
+made_upto upto made = record made { current = option_map (end_upto upto) made.current }
+
 -- a certificate without its lines
 abbrev pub cert_head : Cert → CertHead
 cert_head cert = record { claim = cert.claim; leg = cert.leg; group = cert.group; upto = cert.upto }

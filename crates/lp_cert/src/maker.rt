@@ -14,6 +14,7 @@ ghost use Rattle.lp_cert.specs.inside.LegRows.{HasRoomFor};
 ghost use Rattle.lp_cert.specs.inside.Waiters.{HasHeadFor, HasHeads, lines_at};
 ghost use Rattle.std.specs.Option.{option_map};
 
+mod passed;
 mod point;
 mod quiet;
 

@@ -2,7 +2,7 @@
 use Rattle.std.proofs.Common.{◌≡◌, ◌⊎◌, ℕ, suc, Bool, true, false, not, ◌&&◌, ◌||◌, List, Option, Some, None, is_some, is_none, if◌then◌else◌, nat_eq, refl, sym, ap, subst, ◌∙◌, ◌<◌, ⊎_elim, arith}
 use Rattle.std.proofs.lemmas.Bool.{false≢true, cond-false, cond-true, cases_Bool, eq-eqb, eqb-true, and_from, or_right, not_from_false, false_from_ne_true}
 use Rattle.std.specs.List.{list_any}
-use Rattle.std.specs.Option.{ForSome}
+use Rattle.std.specs.Option.{ForSome, option_map}
 use Rattle.lp_stack.specs.declared.number.TaskId.{TaskId}
 use Rattle.lp_stack.specs.declared.view.Mode.TheVariants.{User, Kernel, Asleep}
 use Rattle.lp_numbers.specs.Numbers.{Numbers, has}
@@ -22,13 +22,13 @@ use Rattle.lp_transition.specs.Machine.{view_of, put_in, calling, returning, bea
 use Rattle.lp_transition.specs.Table.{Table, Engine, IsWide, slot, standings, state_in}
 use Rattle.lp_transition.specs.Scan.{is_scan_kind, scan_event, verdicts_of, RefusesMember, MayLeaveOut, AreEnough}
 use Rattle.lp_transition.specs.Weigh.{child_of, born_by, born_of, AreVerdictsFor}
-use Rattle.lp_transition.specs.inside.Table.{is_off, is_in, with_task}
+use Rattle.lp_transition.specs.inside.Table.{changed, is_off, is_in, with_task}
 use Rattle.lp_transition.specs.inside.Invariant.{IsEngine, KeptScan, AreUnchanged, IsNoted, IsCore}
 use Rattle.lp_transition.specs.inside.Points.{point_event}
 use Rattle.lp_transition.specs.inside.ScanSteps.{is_found, switches_by, admits_task}
 use Rattle.lp_transition.proofs.EngineLemmas.{next-refused, next-accepted}
 use Rattle.lp_transition.proofs.Effects.{HasTaken}
-use Rattle.lp_transition.proofs.TableLemmas.{slot_from_live, slot-with_task}
+use Rattle.lp_transition.proofs.TableLemmas.{slot_from_live, slot-changed, slot-with_task}
 use Rattle.lp_transition.proofs.Accept.{fork-new}
 use Rattle.lp_transition.proofs.ScanAnswers.{switches-walk, switches-stop}
 use Rattle.lp_transition.proofs.ScanGroups.{found-from, found-is}
@@ -303,6 +303,20 @@ abbrev pub Notes : Table → ℕ → KeptScan → KeptScan → Type 0
 Notes table a before after =
     ((group : ℕ) → has after.changed group ≡ (has before.changed group || (is_some before.kind && is_in group (slot table a))))
     × ((t : ℕ) → has after.may_refuse t ≡ (has before.may_refuse t || (is_some before.kind && nat_eq t a)))
+
+in_same : (group : ℕ) (f : Standing → Standing) → ((x : Standing) → (f x).group ≡ x.group) → (slot : Option Standing) → is_in group (option_map f slot) ≡ is_in group slot
+in_same group f groups None = refl
+in_same group f groups (Some x) = ap (λ n. nat_eq n group) (groups x)
+
+-- what is noted of a task behind a change that leaves it in its group is what is noted of it before the change
+pub notes_before : (table new : Table) (a : ℕ) (f : Standing → Standing) (before after : KeptScan) → IsWide table → a < 65536 → new ≡ changed a f table → ((x : Standing) → (f x).group ≡ x.group) → Notes new a before after → Notes table a before after
+notes_before table new a f before after wide h is groups noted = (
+  λ group.
+      let same : is_in group (slot new a) ≡ is_in group (slot table a) =
+      ap (λ (t : Table). is_in group (slot t a)) is ∙ (ap (is_in group) (slot-changed table a f wide h) ∙ in_same group f groups (slot table a)) in
+      noted.0 group ∙ ap (λ b. has before.changed group || (is_some before.kind && b)) same,
+  noted.1,
+)
 
 first_out : (b c : Bool) → (b || c) ≡ false → b ≡ false
 first_out false c h = refl

@@ -7,7 +7,7 @@ use Rattle.lp_cert.specs.declared.cert.Cert.{Cert}
 use Rattle.lp_cert.specs.declared.leg_end.LegEnd.{LegEnd}
 use Rattle.lp_cert.specs.declared.leg_rows.LegRow.{LegRow}
 use Rattle.lp_cert.specs.declared.leg_rows.RowKind.{RowKind}
-use Rattle.lp_cert.specs.declared.leg_rows.RowKind.TheVariants.{Waiting, Complete, Other}
+use Rattle.lp_cert.specs.declared.leg_rows.RowKind.TheVariants.{Complete, Other}
 use Rattle.lp_cert.specs.inside.Bare.{bare_certs}
 
 abbrev pub claim_in : RowKind → Claim

@@ -9,7 +9,7 @@ ghost use Rattle.lp_replay.specs.inside.Recording.{first_made};
 
 use super::fault::ReplayFault;
 use super::own_code::{FirstLeg, OwnCode};
-use super::recorder::{take_other, take_plain};
+use super::recorder::take_other;
 use super::start;
 use lp_cert::{LegList, Maker};
 use lp_model::Consistency;
@@ -47,11 +47,13 @@ fn take_first_leg<M: Consistency>(
     ensures { OnOk result ((run : Run) → StandsIn M.rules run (state_in core.old) → IsMadeWith M.rules run core.old.last_scan maker.old → first_made maker.new ≡ slice_get (leg_ends M.rules (first_leg M.rules run) (run.events ++ events.now)) 0) }
 {
     for event in events {
-        // No plain event completes or ends a leg: nearly all events are plain.
+        // No plain event completes or ends a leg. Nearly all events are plain, so they are noted together.
         if event.is_plain() {
-            take_plain(core, maker, *event);
+            maker.let_pass(core);
+            core.step_plain(*event);
             continue;
         }
+        maker.note_passed(core);
         take_other(alloc, core, maker, *event)?;
         if maker.is_complete() {
             return Ok(());
@@ -60,6 +62,7 @@ fn take_first_leg<M: Consistency>(
             return Ok(());
         }
     }
+    maker.note_passed(core);
     Ok(())
 }
 

@@ -2,7 +2,7 @@
 ghost use Rattle.std.specs.Prelude.{◌≡◌, ◌≤◌, ◌<◌, ◌+◌, ◌++◌, true, length, IfOk, OnOk};
 ghost use Rattle.lp_transition.specs.Run.{Run, leg_of, plus};
 ghost use Rattle.lp_stack.specs.declared.number.TaskId.{TaskId};
-ghost use Rattle.lp_transition.specs.Plain.{is_plain, is_point};
+ghost use Rattle.lp_transition.specs.Plain.{is_point};
 ghost use Rattle.lp_stays.specs.Counts.{top_of};
 ghost use Rattle.lp_transition.specs.Scan.{is_scan_kind, scan_event};
 ghost use Rattle.lp_transition.specs.Stays.{stack};
@@ -118,7 +118,7 @@ impl<M: Consistency> Recorder<M> {
 
 /// Takes an event, which the maker of certificates notes before the engine takes it.
 #[inline(always)]
-pub(super) fn take<M: Consistency>(
+fn take<M: Consistency>(
     alloc: Global,
     core: &mut Core<M>,
     maker: &mut Maker,
@@ -132,25 +132,8 @@ pub(super) fn take<M: Consistency>(
     if !event.is_plain() {
         return take_other(alloc, core, maker, event);
     }
-    Ok(take_plain(core, maker, event))
-}
-
-/// Takes a plain event. Never fails, so that who knows that an event is plain keeps no place for a fault, which would be
-/// cleared at each event.
-#[inline(always)]
-pub(super) fn take_plain<M: Consistency>(
-    core: &mut Core<M>,
-    maker: &mut Maker,
-    event: Event,
-) -> Reply
-    requires plain { is_plain event ≡ true }
-    requires room { core.old.number < 1000000 }
-    requires made { (run : Run) × StandsIn M.rules run (state_in core.old) × IsMadeWith M.rules run core.old.last_scan maker.old }
-    ensures step { IsStep M.rules (state_in core.old) event result (state_in core.new) }
-    ensures made { (run : Run) → StandsIn M.rules run (state_in core.old) → IsMadeWith M.rules run core.old.last_scan maker.old → IsMadeWith M.rules (plus run event) core.new.last_scan maker.new }
-{
     maker.note_plain(core);
-    core.step_plain(event)
+    Ok(core.step_plain(event))
 }
 
 /// Takes an event of any kind. Out of line, so that a plain event pays nothing for what the others

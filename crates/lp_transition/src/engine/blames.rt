@@ -85,15 +85,15 @@ impl Blames {
         self.noted.clear();
     }
 
-    /// After a return of a task. Of one that doesn't wait no blame stands, and a look at its bit is all
-    /// that it costs.
+    /// After a return of a task. Of one that doesn't wait no blame stands. Mostly nobody waits, which a look at one word
+    /// tells.
     #[inline(always)]
     pub(super) fn popped(&mut self, waiting: &NumberSet, tasks: &TaskTable, task: TaskId)
         ensures blames { (group : ℕ) → blame_at self.new group ≡ (if has waiting.now task.0 then looked_at tasks.now task.0 group (blame_at self.old group) else blame_at self.old group) }
         ensures groups { length self.new ≤ 65536 }
     {
         let _ = &self.of_group;
-        if waiting.contains(task.0) {
+        if !waiting.is_empty() && waiting.contains(task.0) {
             self.look_again(tasks, task);
         }
     }

@@ -1,4 +1,7 @@
 //! What an accepted event does to the engine. Nothing here allocates.
+//!
+//! A plain event changes its task before anything else is written: so the record by which it was found acceptable is still
+//! known and isn't looked up once more, which took an eighth of a comparison's instructions.
 ghost use Rattle.std.specs.Prelude.{◌≡◌, [], ◌<◌, None, Some};
 ghost use Rattle.lp_transition.specs.Weigh.{born_of};
 ghost use Rattle.lp_transition.specs.Blames.{AreBlamesAfter};
@@ -26,9 +29,9 @@ impl<M: Consistency> Core<M> {
         ensures blames { AreBlamesAfter M.rules self.old (Event.Call task func) [] self.new }
         ensures last_scan { IsLastScanAfter M.rules self.old (Event.Call task func) self.new }
     {
+        self.tasks.call(task, func, self.events + 1);
         self.events += 1;
         self.unchanged.touch(&self.tasks, task);
-        self.tasks.call(task, func, self.events);
     }
 
     /// An accepted return.
@@ -40,9 +43,9 @@ impl<M: Consistency> Core<M> {
         ensures blames { AreBlamesAfter M.rules self.old (Event.Ret task) [] self.new }
         ensures last_scan { IsLastScanAfter M.rules self.old (Event.Ret task) self.new }
     {
+        self.tasks.ret(task);
         self.events += 1;
         self.unchanged.touch(&self.tasks, task);
-        self.tasks.ret(task);
         self.blames.popped(&self.waiting, &self.tasks, task);
     }
 
@@ -55,9 +58,9 @@ impl<M: Consistency> Core<M> {
         ensures blames { AreBlamesAfter M.rules self.old (move_event kind task) [] self.new }
         ensures last_scan { IsLastScanAfter M.rules self.old (move_event kind task) self.new }
     {
+        self.tasks.set_mode(task, kind.mode());
         self.events += 1;
         self.unchanged.touch(&self.tasks, task);
-        self.tasks.set_mode(task, kind.mode());
     }
 
     /// A child of a parent that switched is on the target already, and waits for nothing.

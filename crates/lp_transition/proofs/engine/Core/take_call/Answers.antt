@@ -5,7 +5,7 @@ use Rattle.lp_transition.specs.Table.{Engine, standings}
 use Rattle.lp_transition.specs.Machine.{calling}
 use Rattle.lp_transition.proofs.Accept.{call-room}
 use Rattle.lp_transition.proofs.Effects.{takes_change, with_scan}
-use Rattle.lp_transition.proofs.Unchanged.{core_changes}
+use Rattle.lp_transition.proofs.Unchanged.{core_changes, notes_before}
 use Rattle.std.proofs.lemmas.List.Elements.{Contains-append_left}
 use Rattle.lp_transition.proofs.Blames.{leaves_changed}
 use Rattle.lp_transition.proofs.LastScans.{last_changes}
@@ -28,7 +28,7 @@ invariant_of-self g c =
       core =
           core_changes g.M.Consistency.rules e c.args.self.now _ i.waiting i.waiting (Call c.args.task c.args.func) i.unchanged c.touch.new.self c.self.view_is c.self.invariant.core
           taken
-          c.requires.accepted c.touch.ensures.kind c.args.task.0 (calling (i.events + 1) c.args.func) refl (c.touch.ensures.changed, c.touch.ensures.may_refuse) (λ t. refl) (ap (λ n. change c.args.task.0 (calling n c.args.func) (standings i.tasks)) (sym (add-one i.events))) (λ x. refl);
+          c.requires.accepted c.touch.ensures.kind c.args.task.0 (calling (i.events + 1) c.args.func) refl (notes_before i.tasks c.call.new.self c.args.task.0 (calling (i.events + 1) c.args.func) i.unchanged c.touch.new.self c.self.invariant.engine.wide h c.call.ensures (λ x. refl) (c.touch.ensures.changed, c.touch.ensures.may_refuse)) (λ t. refl) (ap (λ n. change c.args.task.0 (calling n c.args.func) (standings i.tasks)) (sym (add-one i.events))) (λ x. refl);
       groups = c.self.invariant.groups;
       blamed = left.blamed;
     }
@@ -53,4 +53,4 @@ returns-clause-last_scan g c =
     let i = c.self.inside in
     let e : Engine = record { number = i.events; from = i.from.0; target = i.target.0; patches = i.patches; table = i.tasks; blames = i.blames; last_scan = told_scan i.unchanged } in
     let taken = with_scan g.M.Consistency.rules c.args.self.now _ (Call c.args.task c.args.func) i.waiting (told_scan c.touch.new.self) (takes_change g.M.Consistency.rules g.met.M.Consistency.lawful (record { number = i.events; from = i.from.0; target = i.target.0; patches = i.patches; table = i.tasks; blames = i.blames; last_scan = told_scan i.unchanged }) c.args.self.now c.call.new.self i.waiting (Call c.args.task c.args.func) c.args.task.0 (calling (i.events + 1) c.args.func) c.self.view_is c.call.ensures c.self.invariant.engine h c.requires.room refl c.requires.accepted (ap (λ n. change c.args.task.0 (calling n c.args.func) (standings i.tasks)) (sym (add-one i.events))) (λ x. refl) (λ x. refl)) in
-    last_changes g.M.Consistency.rules e c.args.self.now _ i.waiting (Call c.args.task c.args.func) i.unchanged c.touch.new.self c.self.view_is refl refl taken c.args.task.0 (calling (i.events + 1) c.args.func) c.requires.accepted refl refl c.touch.ensures.kind (c.touch.ensures.changed, c.touch.ensures.may_refuse) (λ t. refl) (ap (λ n. change c.args.task.0 (calling n c.args.func) (standings i.tasks)) (sym (add-one i.events))) (λ x. refl)
+    last_changes g.M.Consistency.rules e c.args.self.now _ i.waiting (Call c.args.task c.args.func) i.unchanged c.touch.new.self c.self.view_is refl refl taken c.args.task.0 (calling (i.events + 1) c.args.func) c.requires.accepted refl refl c.touch.ensures.kind (notes_before i.tasks c.call.new.self c.args.task.0 (calling (i.events + 1) c.args.func) i.unchanged c.touch.new.self c.self.invariant.engine.wide h c.call.ensures (λ x. refl) (c.touch.ensures.changed, c.touch.ensures.may_refuse)) (λ t. refl) (ap (λ n. change c.args.task.0 (calling n c.args.func) (standings i.tasks)) (sym (add-one i.events))) (λ x. refl)

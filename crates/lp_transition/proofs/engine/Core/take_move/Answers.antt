@@ -6,7 +6,7 @@ use Rattle.lp_transition.specs.inside.Moves.{move_event}
 use Rattle.lp_transition.proofs.EngineLemmas.{quiet-control}
 use Rattle.lp_transition.proofs.Effects.{takes_change, with_scan}
 use Rattle.lp_transition.proofs.Moves.{move_effect, move_quiet, move_touches}
-use Rattle.lp_transition.proofs.Unchanged.{core_changes}
+use Rattle.lp_transition.proofs.Unchanged.{core_changes, notes_before}
 use Rattle.lp_transition.proofs.Blames.{leaves_changed}
 use Rattle.lp_transition.proofs.LastScans.{last_changes, quiet_unused}
 use Rattle.lp_transition.specs.inside.Invariant.{told_scan}
@@ -29,7 +29,7 @@ invariant_of-self g c =
     record {
       core =
           core_changes rules e c.args.self.now _ i.waiting i.waiting event i.unchanged c.touch.new.self c.self.view_is c.self.invariant.core taken c.requires.accepted
-          c.touch.ensures.kind c.args.task.0 moved plain (c.touch.ensures.changed, c.touch.ensures.may_refuse) (move_touches c.args.kind c.args.task) own (λ x. refl);
+          c.touch.ensures.kind c.args.task.0 moved plain (notes_before i.tasks c.set_mode.new.self c.args.task.0 moved i.unchanged c.touch.new.self c.self.invariant.engine.wide h c.set_mode.ensures (λ x. refl) (c.touch.ensures.changed, c.touch.ensures.may_refuse)) (move_touches c.args.kind c.args.task) own (λ x. refl);
       groups = c.self.invariant.groups;
       blamed = left.blamed;
     }
@@ -76,4 +76,4 @@ returns-clause-last_scan g c =
     let own : own_effect rules.child_group (suc e.number) event (standings e.table) ≡ change c.args.task.0 moved (standings e.table) = rw c.mode.ensures (move_effect rules.child_group (suc e.number) c.args.kind c.args.task (standings e.table)) in
     let quiet = move_quiet c.args.kind c.args.task in
     let taken = with_scan rules c.args.self.now _ event i.waiting (told_scan c.touch.new.self) (takes_change rules lawful e c.args.self.now c.set_mode.new.self i.waiting event c.args.task.0 moved c.self.view_is c.set_mode.ensures c.self.invariant.engine h c.requires.room quiet c.requires.accepted own (λ x. refl) (λ x. refl)) in
-    last_changes rules e c.args.self.now _ i.waiting event i.unchanged c.touch.new.self c.self.view_is refl refl taken c.args.task.0 moved c.requires.accepted (quiet-control rules event quiet) (quiet_unused rules event quiet) c.touch.ensures.kind (c.touch.ensures.changed, c.touch.ensures.may_refuse) (move_touches c.args.kind c.args.task) own (λ x. refl)
+    last_changes rules e c.args.self.now _ i.waiting event i.unchanged c.touch.new.self c.self.view_is refl refl taken c.args.task.0 moved c.requires.accepted (quiet-control rules event quiet) (quiet_unused rules event quiet) c.touch.ensures.kind (notes_before i.tasks c.set_mode.new.self c.args.task.0 moved i.unchanged c.touch.new.self c.self.invariant.engine.wide h c.set_mode.ensures (λ x. refl) (c.touch.ensures.changed, c.touch.ensures.may_refuse)) (move_touches c.args.kind c.args.task) own (λ x. refl)

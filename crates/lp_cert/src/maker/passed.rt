@@ -1,0 +1,30 @@
+//! Plain events that are noted together, once they are over.
+ghost use Rattle.std.specs.Prelude.{◌≡◌, ◌+◌, ◌<◌, true};
+ghost use Rattle.lp_transition.specs.Plain.{is_plain};
+ghost use Rattle.lp_transition.specs.declared.event.Event.{Event};
+ghost use Rattle.lp_cert.specs.Ends.{IsMadeFurther, made_upto};
+
+use super::Maker;
+use lp_model::Consistency;
+use lp_transition::Core;
+
+impl Maker {
+    /// Lets a call, a return, a sleep, a wake-up or an entry into the kernel pass, whichever it is, before the engine takes
+    /// it: `note_passed` notes all such events that passed. A call of this does nothing, as its contract is all that is
+    /// wanted of it.
+    #[inline(always)]
+    pub fn let_pass<M: Consistency>(&self, core: &Core<M>)
+        requires room { core.now.number < 1000000 }
+        ensures made { (event : Event) → is_plain event ≡ true → IsMadeFurther M.rules core.now event (made_upto core.now.number self.now) (made_upto (core.now.number + 1) self.now) }
+    {
+        let _ = &self.waiters;
+        let _ = core;
+    }
+
+    /// Notes the events that passed since the last one noted, which the engine has taken. Never allocates.
+    pub fn note_passed<M: Consistency>(&mut self, core: &Core<M>)
+        ensures { self.new ≡ made_upto core.now.number self.old }
+    {
+        self.noted = core.events() as u32;
+    }
+}
