@@ -233,6 +233,7 @@ impl TaskTable {
     }
 
     /// The task is checked alone, if it is live.
+    #[inline(always)]
     pub(crate) fn reach_point(&mut self, kind: CheckKind, task: TaskId)
         ensures { self.new ≡ changed task.0 (at_point kind) self.old }
     {
