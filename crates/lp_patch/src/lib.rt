@@ -9,6 +9,6 @@ mod stack;
 pub use aim::Aim;
 pub use fault::PatchFault;
 pub use lp_stack::{Frame, Level};
-pub use lp_symbols::{SymId, Symbols};
+pub use lp_symbols::{Numbering, SymId};
 pub use set::{MOST_FUNCTIONS, PatchSet};
 pub use stack::{MOST_PATCHES, PatchStack};

@@ -4,7 +4,7 @@ ghost use Rattle.std.specs.List.{list_any};
 ghost use Rattle.lp_patch.specs.Patches.{has, patch_refusal, first_fault};
 
 use crate::PatchFault;
-use lp_symbols::{SymId, Symbols};
+use lp_symbols::{Numbering, SymId};
 use std::alloc::{AllocError, Global};
 use std::marker::Model;
 
@@ -32,11 +32,15 @@ impl PatchSet {
     ///
     /// Refused as P1 for none and P4 for more than 256, then P2 or P3 at the first symbol that is
     /// unknown or there twice, else P5 where an allocation failed.
-    pub fn build(alloc: Global, symbols: &Symbols, ids: &[SymId]) -> Result<PatchSet, PatchFault>
-        ensures refused { IfSome (patch_refusal (length symbols.now) ids.now) (λ e. result ≡ Err e) }
-        ensures memory { patch_refusal (length symbols.now) ids.now ≡ None → OnErr result (result ≡ Err PatchFault.NoMemory) }
+    pub fn build<S: Numbering>(
+        alloc: Global,
+        symbols: &S,
+        ids: &[SymId],
+    ) -> Result<PatchSet, PatchFault>
+        ensures refused { IfSome (patch_refusal (S.count symbols.now) ids.now) (λ e. result ≡ Err e) }
+        ensures memory { patch_refusal (S.count symbols.now) ids.now ≡ None → OnErr result (result ≡ Err PatchFault.NoMemory) }
         ensures members { IfOk result (λ s. (func : ℕ) → has s func ≡ list_any (λ id. id.0 == func) ids.now) }
-        ensures symbols { IfOk result (λ s. length s ≡ length symbols.now) }
+        ensures symbols { IfOk result (λ s. length s ≡ S.count symbols.now) }
     {
         if ids.is_empty() {
             return Err(PatchFault::Empty);
@@ -44,10 +48,11 @@ impl PatchSet {
         if ids.len() > MOST_FUNCTIONS {
             return Err(PatchFault::TooMany);
         }
-        if let Some(fault) = first_fault(symbols.len(), ids) {
+        let count = symbols.count();
+        if let Some(fault) = first_fault(count, ids) {
             return Err(fault);
         }
-        let mut members = vec![in alloc; false; symbols.len()]?;
+        let mut members = vec![in alloc; false; count]?;
         for id in ids {
             members[id.index()] = true;
         }

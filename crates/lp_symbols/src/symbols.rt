@@ -7,7 +7,7 @@ ghost use Rattle.std.specs.Str.{bytes_eq};
 ghost use Rattle.lp_symbols.specs.declared.symbols.SymFault.TheVariants.{NoMemory};
 ghost use Rattle.lp_symbols.specs.Names.{is_name, refusal_of};
 
-use crate::SymId;
+use crate::{Numbering, SymId};
 use indexmap::IndexSet;
 use std::alloc::{AllocError, AllocFailed, Global};
 use std::marker::Model;
@@ -71,6 +71,16 @@ impl Model for Symbols {
     ghost view = { λ s. map string_bytes s.names.keys };
 
     ghost invariant = { λ s. AreNames (map string_bytes s.names.keys) };
+}
+
+impl Numbering for Symbols {
+    ghost use Rattle.std.specs.Prelude.{length};
+
+    ghost count = { λ names. length names };
+
+    fn count(&self) -> usize {
+        self.len()
+    }
 }
 
 impl Symbols {
