@@ -16,16 +16,13 @@ use std::marker::Model;
 pub(crate) const OWN_FRAMES: usize = 6;
 
 /// A live task with its level and its group, and at most 6 frames. No call allocates.
-///
-/// The frames come first, as how many there are stands behind them: so that, and the mode, which nearly each event looks at,
-/// mostly lie in one line of the cache.
 #[derive(Drop)]
 pub(crate) struct LiveTask {
-    frames: ArrayVec<Frame, OWN_FRAMES>,
     class: Class,
     mode: Mode,
     level: Level,
     group: GroupId,
+    frames: ArrayVec<Frame, OWN_FRAMES>,
 }
 
 impl Model for LiveTask {
@@ -165,7 +162,6 @@ impl LiveTask {
     }
 
     /// The task is checked alone.
-    #[inline(always)]
     pub(crate) fn reach_point(&mut self, kind: CheckKind)
         ensures { self.new ≡ at_point kind self.old }
     {

@@ -66,7 +66,6 @@ impl<M: Consistency> Core<M> {
 
     /// The answer to an accepted exit or idle point; AllocError where an allocation failed, which
     /// there is only where the task's group switches.
-    #[inline(always)]
     pub(super) fn answer_point(
         &self,
         alloc: Global,
@@ -120,7 +119,6 @@ impl<M: Consistency> Core<M> {
 
     /// The answer says whether the group switches, so the model isn't asked twice: its second
     /// answer could only be the same, at the cost of the task's frames.
-    #[inline(always)]
     pub(super) fn take_point(&mut self, kind: CheckKind, task: TaskId, switching: bool)
         requires point { is_point_kind kind ≡ true }
         requires room { self.old.number < 1000000 }
@@ -130,9 +128,9 @@ impl<M: Consistency> Core<M> {
         ensures blames { AreBlamesAfter M.rules self.old (point_event kind task) [] self.new }
         ensures last_scan { IsLastScanAfter M.rules self.old (point_event kind task) self.new }
     {
-        self.tasks.reach_point(kind, task);
         self.events += 1;
         self.unchanged.touch(&self.tasks, task);
+        self.tasks.reach_point(kind, task);
         if !switching {
             return;
         }
@@ -143,7 +141,6 @@ impl<M: Consistency> Core<M> {
 }
 
 /// The mode in which a check that a task makes alone finds it.
-#[inline(always)]
 pub(super) fn point_mode(kind: CheckKind, mode: Mode) -> Mode
     ensures { result ≡ point_mode kind mode }
 {

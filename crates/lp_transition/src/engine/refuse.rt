@@ -109,7 +109,6 @@ fn enter_refusal(tasks: &TaskTable, symbols: usize, task: TaskId) -> Option<Refu
 
 /// Why an event is refused at which a task of this class leaves the kernel or is done with it: an
 /// exit, an idle point, an end. A frame left there would be a call that never returns.
-#[inline(always)]
 fn empty_refusal(tasks: &TaskTable, task: TaskId, class: Class) -> Option<Refusal>
     ensures { let now = outlines_of (standings tasks.now) in result ≡ first_of (unknown_task now task.0 ∷ not_of class now task.0 ∷ not_in Mode.Kernel now task.0 ∷ stack_not_empty now task.0 ∷ []) }
 {

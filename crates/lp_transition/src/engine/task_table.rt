@@ -233,7 +233,6 @@ impl TaskTable {
     }
 
     /// The task is checked alone, if it is live.
-    #[inline(always)]
     pub(crate) fn reach_point(&mut self, kind: CheckKind, task: TaskId)
         ensures { self.new ≡ changed task.0 (at_point kind) self.old }
     {

@@ -7,7 +7,7 @@ use Rattle.lp_transition.proofs.LoneChecks.{none-switches_now, put_on, takes_swi
 use Rattle.lp_transition.proofs.Weighing.{switches-reported, group-below}
 use Rattle.lp_transition.specs.inside.Points.{point_event, at_point}
 use Rattle.lp_transition.proofs.Points.{point-level, point-group, point-plain, point-checks, point-own, point-live, point-told}
-use Rattle.lp_transition.proofs.Unchanged.{core_changes, core_rests, notes_before, point_touches}
+use Rattle.lp_transition.proofs.Unchanged.{core_changes, core_rests, point_touches}
 use Rattle.lp_transition.proofs.Blames.{leaves_changed}
 use Rattle.lp_transition.proofs.LastScans.{last_changes, last_rests, point_unused}
 use Rattle.lp_transition.specs.inside.Invariant.{told_scan}
@@ -30,7 +30,7 @@ invariant_of-self g c =
       core =
           core_changes g.M.Consistency.rules e c.args.self.now _ i.waiting i.waiting (point_event c.args.kind c.args.task) i.unchanged c.touch.new.self c.self.view_is c.self.invariant.core
           taken
-          c.requires.accepted c.touch.ensures.kind c.args.task.0 (at_point c.args.kind) (point-plain c.args.kind c.args.task) (notes_before i.tasks c.reach_point.new.self c.args.task.0 (at_point c.args.kind) i.unchanged c.touch.new.self c.self.invariant.engine.wide h c.reach_point.ensures (point-group c.args.kind) (c.touch.ensures.changed, c.touch.ensures.may_refuse)) (point_touches c.args.kind c.args.task) (point-own _ _ c.args.kind c.args.task _) (point-group c.args.kind);
+          c.requires.accepted c.touch.ensures.kind c.args.task.0 (at_point c.args.kind) (point-plain c.args.kind c.args.task) (c.touch.ensures.changed, c.touch.ensures.may_refuse) (point_touches c.args.kind c.args.task) (point-own _ _ c.args.kind c.args.task _) (point-group c.args.kind);
       groups = c.self.invariant.groups;
       blamed = left.blamed;
     }
@@ -65,7 +65,7 @@ invariant_of-self-2 g c =
           core_rests g.M.Consistency.rules _ c.remove.new.self c.touch.new.self c.reset_if_done.new.self
           (core_changes g.M.Consistency.rules e c.args.self.now _ i.waiting c.remove.new.self (point_event c.args.kind c.args.task) i.unchanged c.touch.new.self c.self.view_is c.self.invariant.core
           taken
-          c.requires.accepted c.touch.ensures.kind c.args.task.0 (at_point c.args.kind) (point-plain c.args.kind c.args.task) (notes_before i.tasks c.reach_point.new.self c.args.task.0 (at_point c.args.kind) i.unchanged c.touch.new.self c.self.invariant.engine.wide h c.reach_point.ensures (point-group c.args.kind) (c.touch.ensures.changed, c.touch.ensures.may_refuse)) (point_touches c.args.kind c.args.task) (point-own _ _ c.args.kind c.args.task _) (point-group c.args.kind))
+          c.requires.accepted c.touch.ensures.kind c.args.task.0 (at_point c.args.kind) (point-plain c.args.kind c.args.task) (c.touch.ensures.changed, c.touch.ensures.may_refuse) (point_touches c.args.kind c.args.task) (point-own _ _ c.args.kind c.args.task _) (point-group c.args.kind))
           c.reset_if_done.ensures;
       groups = c.self.invariant.groups;
       blamed = left.blamed;
@@ -123,7 +123,7 @@ returns-then-not-switching-clause-last_scan g c =
     let switches = ap (λ (o : Engine). switches_at g.M.Consistency.rules (affected g.M.Consistency.rules (state_in o) (point_event c.args.kind c.args.task)) (point_event c.args.kind c.args.task) live.task.group) (sym c.self.view_is) ∙ switches-reported g.M.Consistency.rules g.met.M.Consistency.lawful (record { number = i.events; from = i.from.0; target = i.target.0; patches = i.patches; table = i.tasks; blames = i.blames; last_scan = told_scan i.unchanged }) i.waiting c.self.invariant.engine room (point_event c.args.kind c.args.task) c.args.kind c.args.task.0 h (at_point c.args.kind) (point-level c.args.kind) (point-group c.args.kind) live.task live.there (point-checks _ _ c.args.kind c.args.task c.requires.point) (point-plain c.args.kind c.args.task) accepted (point-own _ _ c.args.kind c.args.task _) (point-told g.M.Consistency.rules _ c.args.kind c.args.task) c.args.switching within switching ∙ c.if-not-switching.true in
     let e : Engine = record { number = i.events; from = i.from.0; target = i.target.0; patches = i.patches; table = i.tasks; blames = i.blames; last_scan = told_scan i.unchanged } in
     let taken = with_scan g.M.Consistency.rules c.args.self.now _ (point_event c.args.kind c.args.task) i.waiting (told_scan c.touch.new.self) (takes_change_still g.M.Consistency.rules g.met.M.Consistency.lawful (record { number = i.events; from = i.from.0; target = i.target.0; patches = i.patches; table = i.tasks; blames = i.blames; last_scan = told_scan i.unchanged }) c.args.self.now c.reach_point.new.self i.waiting (point_event c.args.kind c.args.task) c.args.task.0 (at_point c.args.kind) c.self.view_is c.reach_point.ensures c.self.invariant.engine h c.requires.room (point-plain c.args.kind c.args.task) (none-switches_now g.M.Consistency.rules g.met.M.Consistency.lawful (record { number = i.events; from = i.from.0; target = i.target.0; patches = i.patches; table = i.tasks; blames = i.blames; last_scan = told_scan i.unchanged }) i.waiting c.self.invariant.engine (point_event c.args.kind c.args.task) c.args.kind c.args.task.0 h (at_point c.args.kind) (point-level c.args.kind) (point-group c.args.kind) live.task live.there (point-checks _ _ c.args.kind c.args.task c.requires.point) c.args.self.now c.self.view_is (point-own _ _ c.args.kind c.args.task _) switches) c.requires.accepted (point-own _ _ c.args.kind c.args.task _) (point-level c.args.kind) (point-group c.args.kind)) in
-    last_changes g.M.Consistency.rules e c.args.self.now _ i.waiting (point_event c.args.kind c.args.task) i.unchanged c.touch.new.self c.self.view_is refl refl taken c.args.task.0 (at_point c.args.kind) c.requires.accepted (point-plain c.args.kind c.args.task) (point_unused g.M.Consistency.rules c.args.kind c.args.task) c.touch.ensures.kind (notes_before i.tasks c.reach_point.new.self c.args.task.0 (at_point c.args.kind) i.unchanged c.touch.new.self c.self.invariant.engine.wide h c.reach_point.ensures (point-group c.args.kind) (c.touch.ensures.changed, c.touch.ensures.may_refuse)) (point_touches c.args.kind c.args.task) (point-own _ _ c.args.kind c.args.task _) (point-group c.args.kind)
+    last_changes g.M.Consistency.rules e c.args.self.now _ i.waiting (point_event c.args.kind c.args.task) i.unchanged c.touch.new.self c.self.view_is refl refl taken c.args.task.0 (at_point c.args.kind) c.requires.accepted (point-plain c.args.kind c.args.task) (point_unused g.M.Consistency.rules c.args.kind c.args.task) c.touch.ensures.kind (c.touch.ensures.changed, c.touch.ensures.may_refuse) (point_touches c.args.kind c.args.task) (point-own _ _ c.args.kind c.args.task _) (point-group c.args.kind)
 
 pub returns-clause-last_scan : goal.returns-clause-last_scan
 returns-clause-last_scan g c =
@@ -138,5 +138,5 @@ returns-clause-last_scan g c =
     let e : Engine = record { number = i.events; from = i.from.0; target = i.target.0; patches = i.patches; table = i.tasks; blames = i.blames; last_scan = told_scan i.unchanged } in
     let taken = with_scan g.M.Consistency.rules c.args.self.now _ (point_event c.args.kind c.args.task) c.remove.new.self (told_scan c.touch.new.self) (takes_switch g.M.Consistency.rules g.met.M.Consistency.lawful (record { number = i.events; from = i.from.0; target = i.target.0; patches = i.patches; table = i.tasks; blames = i.blames; last_scan = told_scan i.unchanged }) i.waiting c.self.invariant.engine (point_event c.args.kind c.args.task) c.args.kind c.args.task.0 h (at_point c.args.kind) (point-level c.args.kind) (point-group c.args.kind) live.task live.there (point-checks _ _ c.args.kind c.args.task c.requires.point) c.args.self.now c.set_level.new.self c.remove.new.self c.self.view_is (c.set_level.ensures ∙ ap (changed c.args.task.0 (put_on i.target.0)) c.reach_point.ensures) c.remove.ensures.after c.remove.ensures.numbers c.requires.room (point-plain c.args.kind c.args.task) c.requires.accepted (point-own _ _ c.args.kind c.args.task _) switches) in
     last_rests g.M.Consistency.rules c.args.self.now (point_event c.args.kind c.args.task) (with_table c.set_level.new.self e) c.touch.new.self c.reset_if_done.new.self
-    (last_changes g.M.Consistency.rules e c.args.self.now _ c.remove.new.self (point_event c.args.kind c.args.task) i.unchanged c.touch.new.self c.self.view_is refl refl taken c.args.task.0 (at_point c.args.kind) c.requires.accepted (point-plain c.args.kind c.args.task) (point_unused g.M.Consistency.rules c.args.kind c.args.task) c.touch.ensures.kind (notes_before i.tasks c.reach_point.new.self c.args.task.0 (at_point c.args.kind) i.unchanged c.touch.new.self c.self.invariant.engine.wide h c.reach_point.ensures (point-group c.args.kind) (c.touch.ensures.changed, c.touch.ensures.may_refuse)) (point_touches c.args.kind c.args.task) (point-own _ _ c.args.kind c.args.task _) (point-group c.args.kind))
+    (last_changes g.M.Consistency.rules e c.args.self.now _ c.remove.new.self (point_event c.args.kind c.args.task) i.unchanged c.touch.new.self c.self.view_is refl refl taken c.args.task.0 (at_point c.args.kind) c.requires.accepted (point-plain c.args.kind c.args.task) (point_unused g.M.Consistency.rules c.args.kind c.args.task) c.touch.ensures.kind (c.touch.ensures.changed, c.touch.ensures.may_refuse) (point_touches c.args.kind c.args.task) (point-own _ _ c.args.kind c.args.task _) (point-group c.args.kind))
     c.reset_if_done.ensures
