@@ -1,8 +1,10 @@
 //! Plays the worked rows of its data files, each under its model, and counts them, their certificates, and those whose
-//! events went through a desk too; then the recordings of a kernel that lie beside them.
+//! events went through a desk too; then the recordings of a kernel that lie beside them; and sends a million events
+//! through a log. Where a line on the standard input asks for a way of events, it sends these alone, to be timed.
 #![tactic(auto)]
 
 mod certificates;
+mod cost;
 mod difference;
 mod engine;
 mod play;
@@ -122,7 +124,7 @@ fn play_recordings<R: Files + AllocGlobal + Print>(
     Ok(())
 }
 
-/// Plays all rows and recordings.
+/// Plays all rows and recordings, and sends events through a log.
 fn play_all<R: Files + AllocGlobal + Print + Threads + Wait + Sync>(
     rt: &R,
 ) -> Result<ExitCode, Trouble> {
@@ -144,9 +146,26 @@ fn play_all<R: Files + AllocGlobal + Print + Threads + Wait + Sync>(
         "{} rows, {} certificates, {} through a desk, {} recordings",
         tally.rows, tally.certificates, tally.through_desk, tally.recordings
     )?;
+    send_through_log(rt)
+}
+
+/// Sends events through a log.
+fn send_through_log<R: AllocGlobal + Print>(rt: &R) -> Result<ExitCode, Trouble> {
+    if cost::log(rt.alloc()).is_none() {
+        return Ok(ExitCode::FAILURE);
+    }
+    println!(rt; "{} events through a log", cost::COUNT)?;
     Ok(ExitCode::SUCCESS)
 }
 
 fn main(rt: HostRuntime) -> Result<ExitCode, Trouble> {
-    play_all(&rt)
+    let mut line = String::new(rt.alloc());
+    rt.read_line(&mut line)?;
+    match line.trim_end() {
+        "" => play_all(&rt),
+        way => {
+            cost::measure(&rt, rt.alloc(), way)?;
+            Ok(ExitCode::SUCCESS)
+        }
+    }
 }

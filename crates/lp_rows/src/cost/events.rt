@@ -7,24 +7,24 @@ use lp_transition::Event;
 use std::alloc::Global;
 
 /// How many events are sent.
-pub(crate) const COUNT: u32 = 1_000_000;
+pub const COUNT: u32 = 1_000_000;
 
 /// How many are sent while so many readers read. Each event waits for the readers that are inside a read, and of many more readers
 /// than processors some stand still there until they have their turn again: beside 64 an event took a tenth of a second on four
 /// processors.
-pub(crate) fn count_beside(readers: usize) -> u32 {
+pub fn count_beside(readers: usize) -> u32 {
     match readers {
         0..=8 => COUNT,
         _ => COUNT / 10_000,
     }
 }
 
-pub(crate) const TASK: TaskId = TaskId(1);
+pub const TASK: TaskId = TaskId(1);
 
-pub(crate) const BOOTS: [(TaskId, Class); 1] = [(TASK, Class::Normal)];
+pub const BOOTS: [(TaskId, Class); 1] = [(TASK, Class::Normal)];
 
 /// The event at a place.
-pub(crate) fn event(place: u32) -> Event {
+pub fn event(place: u32) -> Event {
     if place % 2 == 0 {
         Event::Enter(TASK)
     } else {
@@ -33,7 +33,7 @@ pub(crate) fn event(place: u32) -> Event {
 }
 
 /// A stack of one patch of one function.
-pub(crate) fn patches(alloc: Global) -> Option<PatchStack> {
+pub fn patches(alloc: Global) -> Option<PatchStack> {
     let mut symbols = Symbols::new(alloc).ok()?;
     symbols.add("a").ok()?;
     let set = PatchSet::build(alloc, &symbols, &[SymId(0)]).ok()?;

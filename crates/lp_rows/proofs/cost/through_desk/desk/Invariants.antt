@@ -1,7 +1,7 @@
 use Rattle.lp_model.specs.Row.{rules_of}
 use Rattle.lp_models.specs.Models.{hybrid}
 use Rattle.lp_board.specs.Blanks.{name_of}
-use Rattle.lp_desk_cost.proofs.through_desk.desk.Given as goal
+use Rattle.lp_rows.proofs.cost.through_desk.desk.Given as goal
 
 -- the desk that starts as the blank which was just made
 abbrev pub ghosts-through : goal.ghosts-through

@@ -2,7 +2,7 @@
 ghost use Rattle.std.specs.Prelude.{◌≡◌};
 ghost use Rattle.lp_board.specs.Blanks.{name_of};
 
-use crate::events::{BOOTS, TASK, count_beside, event, patches};
+use crate::cost::events::{BOOTS, TASK, count_beside, event, patches};
 use lp_board::{Blank, BoardReader, DeskName};
 use lp_desk::{Desk, Launched};
 use lp_log::Seat;
@@ -28,7 +28,7 @@ impl ScanGate for Open {
 
 /// How many reads so many readers had while the events were sent, each in a thread of its own; None where an event wasn't
 /// taken. A board has one reader at least, which with 0 doesn't read.
-pub(crate) fn desk<T: Threads + Wait + Sync>(rt: &T, alloc: Global, readers: usize) -> Option<u64> {
+pub fn desk<T: Threads + Wait + Sync>(rt: &T, alloc: Global, readers: usize) -> Option<u64> {
     let blank = Blank::new(alloc, Hybrid, patches(alloc)?, &BOOTS, readers.max(1)).ok()?;
     let blank = Box::new(alloc, blank).ok()?;
     through::<T, Hybrid, Brand>(rt, alloc, blank, readers)

@@ -1,0 +1,68 @@
+//! What an event costs by an engine alone, through a log, and through a desk with readers that read all along.
+
+mod events;
+mod through_desk;
+mod through_log;
+
+pub use events::COUNT;
+use events::count_beside;
+use std::alloc::Global;
+use std::io;
+use std::sync::Wait;
+use std::thread::Threads;
+pub use through_log::log;
+
+/// The way of the events, with the number of readers that read.
+#[derive(Clone, Copy)]
+enum Way {
+    Core,
+    Log,
+    Desk(usize),
+}
+
+impl Way {
+    /// The way of some words.
+    fn read(words: &str) -> Option<Way> {
+        match words {
+            "core" => Some(Way::Core),
+            "log" => Some(Way::Log),
+            "desk 0" => Some(Way::Desk(0)),
+            "desk 1" => Some(Way::Desk(1)),
+            "desk 4" => Some(Way::Desk(4)),
+            "desk 64" => Some(Way::Desk(64)),
+            _ => None,
+        }
+    }
+}
+
+/// Says whether the events were taken.
+fn tell(rt: &impl Print, taken: Option<()>) -> io::Result<()> {
+    match taken {
+        Some(()) => println!(rt; "{COUNT} events"),
+        None => println!(rt; "not taken"),
+    }
+}
+
+/// Sends the events in one way, and prints how many were taken, and of a desk also how many reads its readers had.
+fn send<R: Print + Threads + Wait + Sync>(rt: &R, alloc: Global, way: Way) -> io::Result<()> {
+    match way {
+        Way::Core => tell(rt, through_log::core(alloc)),
+        Way::Log => tell(rt, log(alloc)),
+        Way::Desk(readers) => match through_desk::desk(rt, alloc, readers) {
+            Some(reads) => println!(rt; "{} events, {reads} reads", count_beside(readers)),
+            None => println!(rt; "not taken"),
+        },
+    }
+}
+
+/// Sends the events in the way that a line asks for.
+pub fn measure<R: Print + Threads + Wait + Sync>(
+    rt: &R,
+    alloc: Global,
+    line: &str,
+) -> io::Result<()> {
+    match Way::read(line) {
+        Some(way) => send(rt, alloc, way),
+        None => println!(rt; "usage: core, log, desk 0, desk 1, desk 4 or desk 64"),
+    }
+}
