@@ -1,14 +1,11 @@
 //! A trace's engine, given one event after the other, with its stays counted beside it.
-ghost use Rattle.std.specs.Prelude.{IfOk};
-ghost use Rattle.lp_patch.specs.Patches.{ShareSymbols};
 
 use crate::trouble::Trouble;
 use lp_model::Consistency;
-use lp_patch::{PatchSet, PatchStack};
 use lp_stack::Level;
 use lp_stays::StayCount;
-use lp_symbols::{SymId, Symbols};
-use lp_trace::{Trace, TraceForm};
+use lp_symbols::SymId;
+use lp_trace::{Trace, TraceForm, stack};
 use lp_transition::{Core, Event, Reply, What};
 use std::alloc::{AllocError, Global};
 
@@ -19,40 +16,6 @@ pub fn lists_of<'a>(alloc: Global, trace: &'a Trace) -> Result<Vec<&'a [SymId]>,
         lists.push(trace.patch(number))?;
     }
     Ok(lists)
-}
-
-/// A patch of each of these lists of symbols.
-fn sets(alloc: Global, symbols: &Symbols, lists: &[&[SymId]]) -> Result<Vec<PatchSet>, Trouble>
-    ensures { IfOk result (λ sets. ShareSymbols sets.items) }
-{
-    let mut sets = Vec::new(alloc);
-    for ids in lists {
-        sets.push(PatchSet::build(alloc, symbols, ids)?)?;
-    }
-    Ok(sets)
-}
-
-/// The patches of a trace, on one another.
-pub fn stack(alloc: Global, trace: &Trace) -> Result<PatchStack, Trouble> {
-    let lists = lists_of(alloc, trace)?;
-    let sets = sets(alloc, trace.symbols(), lists.as_slice())?;
-    Ok(PatchStack::new(alloc, sets)?)
-}
-
-/// The engine of a trace before its first event.
-pub fn boot<M: Consistency>(
-    alloc: Global,
-    model: M,
-    patches: PatchStack,
-    trace: &Trace,
-) -> Result<Box<Core<M>>, Trouble> {
-    let core = Core::boot(alloc, model, patches, trace.boots())?;
-    Ok(Box::new(alloc, core)?)
-}
-
-/// The count of stays before the first event.
-fn count(alloc: Global, patches: &PatchStack) -> Result<Box<StayCount>, Trouble> {
-    Ok(Box::new(alloc, StayCount::new(alloc, patches)?)?)
 }
 
 /// The function of the last frame of the task that returns at an event; None at any other event.
@@ -117,19 +80,20 @@ pub fn add_reply(
     text.push_str(if reply.completed { " complete\n" } else { "\n" })
 }
 
-/// Adds the lines of the replies to a trace's events.
-fn add_replies<M: Consistency>(
+/// The lines of the replies to a trace's events, and of its stays.
+fn lines<M: Consistency>(
     alloc: Global,
     core: &mut Core<M>,
     stays: &mut StayCount,
     trace: &Trace,
-    text: &mut String,
-) -> Result<(), Trouble> {
+) -> Result<String, Trouble> {
+    let mut text = String::new(alloc);
     for (index, event) in trace.events().iter().enumerate() {
         let reply = step(alloc, core, stays, *event)?;
-        add_reply(text, trace.form(), index.saturating_add(1), &reply)?;
+        add_reply(&mut text, trace.form(), index.saturating_add(1), &reply)?;
     }
-    Ok(())
+    writeln!(text, "stays {} mixed {}", stays.stays(), stays.mixed())?;
+    Ok(text)
 }
 
 /// The lines of a trace's events and of its stays, as its report has them.
@@ -139,12 +103,9 @@ pub fn event_lines<M: Consistency>(
     trace: &Trace,
 ) -> Result<String, Trouble> {
     let patches = stack(alloc, trace)?;
-    let mut stays = count(alloc, &patches)?;
-    let mut core = boot(alloc, model, patches, trace)?;
-    let mut text = String::new(alloc);
-    add_replies(alloc, &mut core, &mut stays, trace, &mut text)?;
-    writeln!(text, "stays {} mixed {}", stays.stays(), stays.mixed())?;
-    Ok(text)
+    let mut stays = StayCount::new(alloc, &patches)?;
+    let mut core = Core::boot(alloc, model, patches, trace.boots())?;
+    lines(alloc, &mut core, &mut stays, trace)
 }
 
 /// The lines of a report's events, and with them those of its stays where they are wanted.

@@ -1,9 +1,8 @@
 //! Why a row was not played to its end.
 
 use crate::difference::Difference;
-use lp_patch::PatchFault;
 use lp_threads::ThreadsFault;
-use lp_trace::{OfFault, RunFault, TraceFault};
+use lp_trace::{OfFault, ReplayFault};
 use lp_transition::{BootFault, Halt};
 use std::alloc::{AllocError, AllocFailed};
 use std::io;
@@ -46,8 +45,8 @@ impl From<ThreadsFault> for Trouble {
     }
 }
 
-impl From<PatchFault> for Trouble {
-    fn from(_fault: PatchFault) -> Trouble {
+impl From<ReplayFault> for Trouble {
+    fn from(_fault: ReplayFault) -> Trouble {
         Trouble::NoMemory
     }
 }

@@ -1,8 +1,8 @@
 //! The events that are timed: a task enters the kernel and leaves it, again and again.
 
-use lp_patch::{PatchSet, PatchStack};
+use lp_patch::PatchStack;
 use lp_stack::{Class, TaskId};
-use lp_symbols::{SymId, Symbols};
+use lp_trace::{Trace, stack};
 use lp_transition::Event;
 use std::alloc::Global;
 
@@ -34,10 +34,6 @@ pub fn event(place: u32) -> Event {
 
 /// A stack of one patch of one function.
 pub fn patches(alloc: Global) -> Option<PatchStack> {
-    let mut symbols = Symbols::new(alloc).ok()?;
-    symbols.add("a").ok()?;
-    let set = PatchSet::build(alloc, &symbols, &[SymId(0)]).ok()?;
-    let mut sets = Vec::new(alloc);
-    sets.push(set).ok()?;
-    PatchStack::new(alloc, sets).ok()
+    let trace = Trace::read(alloc, b"lptrace 1\nsym a\npatch a\n").ok()?;
+    stack(alloc, &trace).ok()
 }

@@ -30,31 +30,29 @@ impl ScanGate for Open {
 /// taken. A board has one reader at least, which with 0 doesn't read.
 pub fn desk<T: Threads + Wait + Sync>(rt: &T, alloc: Global, readers: usize) -> Option<u64> {
     let blank = Blank::new(alloc, Hybrid, patches(alloc)?, &BOOTS, readers.max(1)).ok()?;
-    let blank = Box::new(alloc, blank).ok()?;
     through::<T, Hybrid, Brand>(rt, alloc, blank, readers)
 }
 
 fn through<T: Threads + Wait + Sync, M: Consistency + Send + Sync, N: DeskName + Send + Sync>(
     rt: &T,
     alloc: Global,
-    blank: Box<Blank<M>>,
+    blank: Blank<M>,
     reading: usize,
 ) -> Option<u64>
-    requires { name_of M.rules blank.value ≡ N.desk }
+    requires { name_of M.rules blank ≡ N.desk }
 {
-    let blank = Box::into_inner(blank);
     let launched = Desk::<M, N, Open, &T>::launch(rt, alloc, blank, 1, Open).ok()?;
-    let launched = Box::new(alloc, launched).ok()?;
     let Launched {
         desk,
         mut seats,
-        readers,
+        mut readers,
         ..
-    } = Box::into_inner(launched);
-    read_while_fed(rt, alloc, &desk, seats.pop()?, readers, reading)
+    } = launched;
+    readers.truncate(reading);
+    read_while_fed(rt, alloc, &desk, &mut seats, readers, count_beside(reading))
 }
 
-/// Sends the events from a seat, while so many of the readers read.
+/// Sends so many events from a seat, while the readers read.
 fn read_while_fed<
     T: Threads + Wait + Sync,
     M: Consistency + Send + Sync,
@@ -63,15 +61,14 @@ fn read_while_fed<
     rt: &T,
     alloc: Global,
     desk: &Desk<M, N, Open, &T>,
-    seat: Seat,
+    seats: &mut Vec<Seat>,
     readers: Vec<BoardReader<N>>,
-    reading: usize,
+    count: u32,
 ) -> Option<u64> {
-    let count = count_beside(reading);
     let reads = AtomicU64::new(0);
     let counted = &reads;
     let fed = thread::scope(thread::scope_env(), rt, |scope| {
-        for mut reader in readers.into_iter().take(reading) {
+        for mut reader in readers {
             let looking = move || {
                 counted.fetch_add(looks(&mut reader, count), Ordering::Relaxed);
             };
@@ -79,7 +76,7 @@ fn read_while_fed<
                 return None;
             }
         }
-        fed(rt, alloc, desk, seat, count)
+        fed(rt, alloc, desk, seats, count)
     });
     fed?;
     Some(reads.load(Ordering::Relaxed))
@@ -95,15 +92,15 @@ fn looks<N: DeskName>(reader: &mut BoardReader<N>, count: u32) -> u64 {
     MOST_READS
 }
 
-/// Sends the events.
+/// Sends so many events.
 fn fed<T: Wait, M: Consistency, N: DeskName>(
     rt: &T,
     alloc: Global,
     desk: &Desk<M, N, Open, &T>,
-    seat: Seat,
+    seats: &mut Vec<Seat>,
     count: u32,
 ) -> Option<()> {
-    let mut seat = seat;
+    let mut seat = seats.pop()?;
     for place in 0..count {
         seat = desk.submit(rt, alloc, seat, event(place)).ok()?.seat;
     }

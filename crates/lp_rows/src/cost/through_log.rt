@@ -8,8 +8,11 @@ use std::alloc::Global;
 
 /// By an engine alone; None where one wasn't taken.
 pub fn core(alloc: Global) -> Option<()> {
-    let core = Core::boot(alloc, Hybrid, patches(alloc)?, &BOOTS).ok()?;
-    let mut core = Box::new(alloc, core).ok()?;
+    let mut core = Core::boot(alloc, Hybrid, patches(alloc)?, &BOOTS).ok()?;
+    stepped(alloc, &mut core)
+}
+
+fn stepped(alloc: Global, core: &mut Core<Hybrid>) -> Option<()> {
     for place in 0..COUNT {
         core.step(alloc, event(place)).ok()?;
     }
@@ -18,13 +21,17 @@ pub fn core(alloc: Global) -> Option<()> {
 
 /// Through a log, from a seat; None where one wasn't taken.
 pub fn log(alloc: Global) -> Option<()> {
-    let Opened { log, mut seats, .. } = Log::open(alloc, Hybrid, patches(alloc)?, &BOOTS).ok()?;
-    let mut log = Box::new(alloc, log).ok()?;
-    fed(alloc, &mut log, seats.pop()?)
+    let opened = Log::open(alloc, Hybrid, patches(alloc)?, &BOOTS).ok()?;
+    let Opened {
+        mut log,
+        mut seats,
+        ..
+    } = opened;
+    fed(alloc, &mut log, &mut seats)
 }
 
-fn fed(alloc: Global, log: &mut Log<Hybrid>, seat: Seat) -> Option<()> {
-    let mut seat = seat;
+fn fed(alloc: Global, log: &mut Log<Hybrid>, seats: &mut Vec<Seat>) -> Option<()> {
+    let mut seat = seats.pop()?;
     for place in 0..COUNT {
         seat = log.submit(alloc, seat, event(place)).ok()?.seat;
     }

@@ -5,4 +5,4 @@ use Rattle.lp_rows.proofs.cost.through_desk.desk.Given as goal
 
 -- the desk that starts as the blank which was just made
 abbrev pub ghosts-through : goal.ghosts-through
-ghosts-through g a = record { desk = name_of (rules_of hybrid) a.blank.value }
+ghosts-through g a = record { desk = name_of (rules_of hybrid) a.blank }
