@@ -18,6 +18,7 @@ use crate::name::DeskName;
 use crate::publisher::{Publisher, RawWriter, publish};
 use crate::reader::BoardReader;
 use crate::sheet::{Change, Heading, Sheet, Update};
+use core::mem::replace_with;
 use logbook::{Seen, Start, Word};
 use lp_model::Consistency;
 use lp_patch::PatchStack;
@@ -272,65 +273,68 @@ fn opened<N: DeskName, R: Wait>(
     ensures refused { IfErr result (λ fault. (fault ≡ Boot boot_fault.NoMemory) ⊎ (fault ≡ NoBoard)) }
 {
     let heading = first.heading;
-    let mut readers = Vec::with_capacity(alloc, count)?;
-    let writer = RawWriter::<N>::new(alloc, first, second, count)?;
-    let (writer, made) = crewed(rt, alloc, writer, &prefix, heading, &mut readers, count);
-    match made {
-        Ok(()) => Ok((Publisher::new(head, prefix, writer), readers)),
+    let mut writer = RawWriter::<N>::new(alloc, first, second, count)?;
+    let mut readers = Vec::new(alloc);
+    let crewed = crew(
+        rt,
+        alloc,
+        &mut writer,
+        &prefix,
+        heading,
+        &mut readers,
+        count,
+    );
+    let board = Publisher::new(head, prefix, writer);
+    match crewed {
+        Ok(()) => Ok((board, readers)),
         Err(fault) => {
-            drop(writer.take(rt));
+            drop(readers);
+            board.shut(rt);
             Err(fault)
         }
     }
 }
 
-/// The writer with room for one event, and the readers.
-fn crewed<N: DeskName, R: Wait>(
+/// Makes room for one event in both copies, and so many readers.
+fn crew<N: DeskName, R: Wait>(
     rt: &R,
     alloc: Global,
-    writer: RawWriter<N>,
+    writer: &mut RawWriter<N>,
     prefix: &Prefix<N>,
     heading: Heading,
     all: &mut Vec<BoardReader<N>>,
     readers: usize,
-) -> (RawWriter<N>, Result<(), LaunchFault>)
+) -> Result<(), LaunchFault>
     requires empty { (prefix.now ≡ []) × (all.old.items ≡ []) }
-    requires page { IsPage N.desk (page_of writer.desk.shown.value) }
-    requires same { (page_of writer.desk.shown.value).events ≡ prefix.now }
-    requires heading { (page_of writer.desk.shown.value).heading ≡ heading }
-    requires pending { drop writer.behind writer.log.items ≡ [] }
-    ensures page { page_of result.0.desk.shown.value ≡ page_of writer.desk.shown.value }
-    ensures pending { drop result.0.behind result.0.log.items ≡ [] }
+    requires page { IsPage N.desk (page_of writer.old.desk.shown.value) }
+    requires same { (page_of writer.old.desk.shown.value).events ≡ prefix.now }
+    requires heading { (page_of writer.old.desk.shown.value).heading ≡ heading }
+    requires pending { drop writer.old.behind writer.old.log.items ≡ [] }
+    ensures page { page_of writer.new.desk.shown.value ≡ page_of writer.old.desk.shown.value }
+    ensures pending { drop writer.new.behind writer.new.log.items ≡ [] }
     ensures readers { All (λ b. b ≡ record { seen = []; known = [] }) all.new.items }
-    ensures count { OnOk result.1 (length all.new.items ≡ readers) }
-    ensures refused { IfErr result.1 (λ fault. (fault ≡ Boot boot_fault.NoMemory) ⊎ (fault ≡ NoBoard)) }
+    ensures count { OnOk result (length all.new.items ≡ readers) }
+    ensures refused { IfErr result (λ fault. (fault ≡ Boot boot_fault.NoMemory) ⊎ (fault ≡ NoBoard)) }
 {
-    let (writer, roomy) = with_room(rt, alloc, writer, prefix, heading);
-    if roomy.is_err() {
-        return (writer, Err(LaunchFault::Boot(BootFault::NoMemory)));
-    }
-    let (writer, roomy) = with_room(rt, alloc, writer, prefix, heading);
-    if roomy.is_err() {
-        return (writer, Err(LaunchFault::Boot(BootFault::NoMemory)));
-    }
-    let made = seat_all(&writer, prefix, all, readers);
-    (writer, made)
+    make_room(rt, alloc, writer, prefix, heading)?;
+    make_room(rt, alloc, writer, prefix, heading)?;
+    seat_all(writer, prefix, all, readers)
 }
 
 /// Publishes a change that changes nothing, so that there is room for one.
-fn with_room<N: DeskName, R: Wait>(
+fn make_room<N: DeskName, R: Wait>(
     rt: &R,
     alloc: Global,
-    mut writer: RawWriter<N>,
+    writer: &mut RawWriter<N>,
     prefix: &Prefix<N>,
     heading: Heading,
-) -> (RawWriter<N>, Result<(), AllocError>)
-    requires page { IsPage N.desk (page_of writer.desk.shown.value) }
-    requires same { (page_of writer.desk.shown.value).events ≡ prefix.now }
-    requires heading { (page_of writer.desk.shown.value).heading ≡ heading }
-    requires pending { drop writer.behind writer.log.items ≡ [] }
-    ensures page { page_of result.0.desk.shown.value ≡ page_of writer.desk.shown.value }
-    ensures pending { drop result.0.behind result.0.log.items ≡ [] }
+) -> Result<(), AllocError>
+    requires page { IsPage N.desk (page_of writer.old.desk.shown.value) }
+    requires same { (page_of writer.old.desk.shown.value).events ≡ prefix.now }
+    requires heading { (page_of writer.old.desk.shown.value).heading ≡ heading }
+    requires pending { drop writer.old.behind writer.old.log.items ≡ [] }
+    ensures page { page_of writer.new.desk.shown.value ≡ page_of writer.old.desk.shown.value }
+    ensures pending { drop writer.new.behind writer.new.log.items ≡ [] }
 {
     let nothing = Change {
         update: Update {
@@ -340,10 +344,10 @@ fn with_room<N: DeskName, R: Wait>(
         prefix: prefix.again(),
     };
     if writer.append(nothing).is_err() {
-        return (writer, Err(AllocError));
+        return Err(AllocError);
     }
-    let (writer, ()) = publish(writer, rt);
-    (writer, Ok(()))
+    replace_with(writer, rt, publish);
+    Ok(())
 }
 
 /// Makes so many readers.
