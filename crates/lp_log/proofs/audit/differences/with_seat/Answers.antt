@@ -1,4 +1,4 @@
-use Rattle.std.proofs.Common.{◌≡◌, ◌<◌, ◌++◌, ◌∷◌, ◌∙◌, ℕ, [], List, subst, sym, true, IfSome}
+use Rattle.std.proofs.Common.{◌≡◌, ◌<◌, ◌++◌, ◌∷◌, ◌∙◌, ℕ, [], List, subst, sym, true≢false, IfSome}
 use Rattle.std.proofs.lemmas.Bool.Decides.{when_true, when_false}
 use Rattle.lp_log.specs.Entries.{Entry}
 use Rattle.lp_log.specs.Audits.{DifferAt, IsItsPart, SeatDiffers, part_of}
@@ -20,8 +20,7 @@ returns-then-not-is_below c = λ entries before follows h.
     later_more entries before seat c.args.least
     (λ below.
     let there = subst (λ (t : ℕ). IfSome c.args.least (λ found. t < found.0)) (sym c.task-task.ensures) below in
-    let yes : c.is_below.result ≡ true = c.is_below.ensures.1 there in
-    let not_so = c.if-not-is_below.true in cc) h
+    true≢false (sym (c.is_below.ensures.1 there) ∙ c.if-not-is_below.true)) h
 
 pub returns : goal.returns
 returns c = λ entries before follows h.

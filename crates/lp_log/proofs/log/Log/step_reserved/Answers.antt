@@ -1,4 +1,4 @@
-use Rattle.std.proofs.Common.{◌≡◌, ◌<◌, ◌∙◌, Err, ◌∷◌, ◌++◌, [], List, true, ap, arith, subst, sym}
+use Rattle.std.proofs.Common.{◌≡◌, ◌<◌, ◌∙◌, Err, ◌∷◌, ◌++◌, [], List, true, ap, arith, refl, subst, sym}
 use Rattle.std.proofs.lemmas.Grind.{common_steps}
 use Rattle.lp_log.specs.Entries.{Entry}
 use Rattle.lp_log.specs.Journals.{Written, next_entry, reply_to, run_of}
@@ -36,7 +36,7 @@ invariant_of-self g c =
     let model = g.M.Consistency.rules in
     let before : List Entry = c.self.inside.entries.items in
     let journal : Written = record { patches = c.self.inside.patches; boots = c.self.inside.boots.items; entries = before } in
-    let same : c.new.result ≡ next_entry before c.args.event c.in-Ok.reply = cc (c.new.ensures, c.copy_of.ensures, c.len.ensures) in
+    let same : c.new.result ≡ next_entry before c.args.event c.in-Ok.reply = rw (c.new.ensures, c.copy_of.ensures, c.len.ensures, c.self.inside.entries.ok.0) refl in
     let items : c.push_reserved.new.self.items ≡ before ++ next_entry before c.args.event c.in-Ok.reply ∷ [] = c.push_reserved.ensures.items ∙ ap (λ (e : Entry). before ++ e ∷ []) same in
     subst (λ (es : List Entry). IsLogged model c.step.new.self (record journal { entries = es })) (sym items)
     (logged_longer model c.self.inside.core c.step.new.self journal c.args.event c.in-Ok.reply c.self.invariant c.in-Ok.ensures.step)

@@ -1,9 +1,9 @@
-use Rattle.std.proofs.Common.{◌∙◌, ◌++◌, ◌∷◌, [], List, ap, map, sym, take, arith}
+use Rattle.std.proofs.Common.{sym, arith}
 use Rattle.std.proofs.lemmas.Grind.{common_steps}
 use Rattle.std.proofs.lemmas.List.{map_more}
 use Rattle.lp_stack.specs.declared.number.TaskId.{TaskId}
 use Rattle.lp_stack.specs.declared.view.Class.{Class}
-use Rattle.lp_log.specs.Seats.{Seated, new_seat}
+use Rattle.lp_log.specs.Seats.{new_seat}
 use Rattle.lp_log.proofs.seat.Seat.all.Goals as goal
 
 pub loop-task-preserved : goal.loop-task-preserved
@@ -11,10 +11,7 @@ loop-task-preserved c =
     let boots = c.args.boots.now in
     let i = c.loop-task.task-index in
     let seat_of = λ (boot : TaskId × Class). new_seat boot.0.0 in
-    c.in_ok-push.ensures.items
-    ∙ ap (λ (seats : List Seated). seats ++ c.new.result ∷ []) c.loop-task.invariant
-    ∙ ap (λ (seat : Seated). map seat_of (take i boots) ++ seat ∷ []) c.new.ensures
-    ∙ sym (map_more seat_of boots i _ c.loop-task-test.true)
+    rw (c.in_ok-push.ensures.items, c.loop-task.invariant, c.new.ensures) (sym (map_more seat_of boots i _ c.loop-task-test.true))
 
 pub returns : goal.returns
 returns c = grind (arith, common_steps)
