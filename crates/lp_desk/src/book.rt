@@ -4,7 +4,7 @@ ghost use Rattle.lp_transition.specs.Scan.{is_scan_kind, scan_event, verdicts_of
 ghost use Rattle.lp_transition.specs.Table.{state_in};
 ghost use Rattle.lp_transition.specs.Weigh.{IsWeighed};
 ghost use Rattle.lp_transition.specs.declared.engine.boot.BootFault.TheVariants as boot_fault;
-ghost use Rattle.lp_transition.specs.declared.engine.step.Halt.TheVariants.{JournalFull};
+ghost use Rattle.lp_transition.specs.declared.engine.step.Halt.TheVariants.{JournalFull, NoMemory};
 ghost use Rattle.lp_transition.specs.declared.event.Event.TheVariants.{Walk};
 ghost use Rattle.lp_board.specs.Blanks.{name_of};
 ghost use Rattle.lp_board.specs.declared.launch.LaunchFault.TheVariants.{Boot, NoBoard};
@@ -23,7 +23,7 @@ use lp_scan::Judged;
 use lp_transition::{Event, Halt, Reply, Step};
 use publish::publish;
 pub use sent::{Commanded, Submitted};
-use std::alloc::{AllocError, Global};
+use std::alloc::Global;
 use std::marker::Model;
 use std::sync::Wait;
 
@@ -144,8 +144,7 @@ impl<M: Consistency, N: DeskName> Book<M, N> {
         ensures unchanged { OnErr result (AreSame self.old self.new) }
     {
         let step = self.log.weigh(alloc, event)?;
-        let reply = self.take(rt, alloc, step)?;
-        Ok(reply)
+        self.take(rt, alloc, step)
     }
 
     /// Takes a walk or a stop by what its checks found of the waiting tasks; else as `apply`.
@@ -164,8 +163,7 @@ impl<M: Consistency, N: DeskName> Book<M, N> {
         ensures unchanged { OnErr result (AreSame self.old self.new) }
     {
         let step = self.log.weigh_scan(alloc, kind, verdicts)?;
-        let reply = self.take(rt, alloc, step)?;
-        Ok(reply)
+        self.take(rt, alloc, step)
     }
 
     /// Takes a walk by what was judged before, as `Log::apply_judged` does; else as `apply`.
@@ -181,13 +179,13 @@ impl<M: Consistency, N: DeskName> Book<M, N> {
         ensures unchanged { OnErr result (AreSame self.old self.new) }
     {
         let step = self.log.weigh_judged(alloc, judged)?;
-        let reply = self.take(rt, alloc, step)?;
-        Ok(reply)
+        self.take(rt, alloc, step)
     }
 
-    /// Takes an event that was weighed, and publishes it.
-    fn take<R: Wait>(&mut self, rt: &R, alloc: Global, step: Step) -> Result<Reply, AllocError>
+    /// Takes an event that was weighed, and publishes it; NoMemory where an allocation failed.
+    fn take<R: Wait>(&mut self, rt: &R, alloc: Global, step: Step) -> Result<Reply, Halt>
         requires { IsWeighed M.rules self.old.core step }
+        ensures memory { IfErr result (λ halt. halt ≡ NoMemory) }
         ensures reply { IfOk result (λ given. given ≡ reply_to M.rules self.old.journal step.event) }
         ensures journal { IfOk result (λ given. self.new.journal ≡ and_entry self.old.journal step.event given) }
         ensures unchanged { OnErr result (AreSame self.old self.new) }

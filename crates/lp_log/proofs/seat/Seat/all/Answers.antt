@@ -1,5 +1,4 @@
-use Rattle.std.proofs.Common.{sym, arith}
-use Rattle.std.proofs.lemmas.Grind.{common_steps}
+use Rattle.std.proofs.Common.{◌∙◌, ap, arith, map, sym, take_all}
 use Rattle.std.proofs.lemmas.List.{map_more}
 use Rattle.lp_stack.specs.declared.number.TaskId.{TaskId}
 use Rattle.lp_stack.specs.declared.view.Class.{Class}
@@ -14,4 +13,4 @@ loop-task-preserved c =
     rw (c.in_ok-push.ensures.items, c.loop-task.invariant, c.new.ensures) (sym (map_more seat_of boots i _ c.loop-task-test.true))
 
 pub returns : goal.returns
-returns c = grind (arith, common_steps)
+returns c = c.loop-task.invariant ∙ ap (map (λ (boot : TaskId × Class). new_seat boot.0.0)) (take_all c.loop-task.task-index c.args.boots.now (omega (arith, c.loop-task-test.false)))
