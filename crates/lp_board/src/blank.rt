@@ -116,8 +116,16 @@ impl<M: Consistency> Blank<M> {
             return Err(LaunchFault::BadCrew);
         }
         let patched = patches.copy(alloc);
-        let core = Core::boot(alloc, model, patches, boots)?;
-        Ok(Blank::after(alloc, core, patched, boots, readers)?)
+        match Core::boot(alloc, model, patches, boots) {
+            Ok(core) => match Blank::after(alloc, core, patched, boots, readers) {
+                Ok(blank) => Ok(blank),
+                Err(error) => Err(LaunchFault::from(error)),
+            },
+            Err(fault) => {
+                drop(patched);
+                Err(LaunchFault::Boot(fault))
+            }
+        }
     }
 
     /// A blank of an engine at its start, with a copy of the patches, if one could be made.
