@@ -6,6 +6,7 @@ ghost use Rattle.lp_text.specs.Faults.{cause_number};
 ghost use Rattle.lp_text.specs.inside.LineFaults.{cause_at, read_fault};
 
 use std::alloc::AllocError;
+use std::fmt;
 use thiserror::Error;
 
 /// What is wrong with a line of a trace text, or of the input of a check. On one line the first that
@@ -13,42 +14,30 @@ use thiserror::Error;
 #[derive(Clone, Copy, Debug, PartialEq, Eq, Error)]
 pub enum Cause {
     /// L1: the first line is neither `lptrace 1` nor `lptrace 2`, or there are no bytes.
-    #[error("L1: the first line is no header")]
     Header,
     /// L2: the last line lacks its byte 10; before every other cause of that line.
-    #[error("L2: the last line lacks its end")]
     Unended,
     /// L3: the first word is none of the text's words, or begins an earlier part than the one reached.
-    #[error("L3: the first word is none of the text's, or belongs to an earlier part")]
     Word,
     /// L4: a wrong number of words, an empty word, a number not of 1 to 5 digits without leading
     /// zeros, a wrong class or kind of fork.
-    #[error("L4: a word too many or too few, or one that isn't as it has to be")]
     Shape,
     /// L5: in `sym`, more than 512 bytes, or a byte outside 33 to 126.
-    #[error("L5: no name")]
     Name,
     /// L6: in `sym`, the name is there already.
-    #[error("L6: the name is there already")]
     Doubled,
     /// L7: in `patch` or `call`, the name is no symbol.
-    #[error("L7: the name is no symbol")]
     Unknown,
     /// L8: in `patch`, the function or the patch's number is out of place; or no `patch` line stands
     /// before a boot or event line (then before L4), or before the end.
-    #[error("L8: a patch is out of place, or there is none")]
     Patch,
     /// L9: a task number outside 1 to 65,535; in `boot` also a doubled one.
-    #[error("L9: no task number, or a boot task is there already")]
     Task,
     /// L10: one line more than its part may have.
-    #[error("L10: one line more than its part may have")]
     Many,
     /// L11: more than 134,217,728 bytes; at line 0, before all others.
-    #[error("L11: more than 134,217,728 bytes")]
     Long,
     /// L12: in the input of a check, what follows the trace is no certificate.
-    #[error("L12: what follows the trace is no certificate")]
     Cert,
 }
 
@@ -73,11 +62,36 @@ impl Cause {
         }
     }
 
+    /// The number of the cause and what is wrong, in words.
+    fn text(self) -> &'static str {
+        match self {
+            Cause::Header => "L1: the first line is no header",
+            Cause::Unended => "L2: the last line lacks its end",
+            Cause::Word =>
+                "L3: the first word is none of the text's, or belongs to an earlier part",
+            Cause::Shape => "L4: a word too many or too few, or one that isn't as it has to be",
+            Cause::Name => "L5: no name",
+            Cause::Doubled => "L6: the name is there already",
+            Cause::Unknown => "L7: the name is no symbol",
+            Cause::Patch => "L8: a patch is out of place, or there is none",
+            Cause::Task => "L9: no task number, or a boot task is there already",
+            Cause::Many => "L10: one line more than its part may have",
+            Cause::Long => "L11: more than 134,217,728 bytes",
+            Cause::Cert => "L12: what follows the trace is no certificate",
+        }
+    }
+
     /// The fault of a text that this is at the line of a number.
     pub(crate) fn at(self, line: u64) -> ReadFault
         ensures { result ≡ cause_at line self }
     {
         ReadFault::Trace(TraceFault { line, cause: self })
+    }
+}
+
+impl fmt::Display for Cause {
+    fn fmt<W: fmt::Write>(&self, f: &mut fmt::Formatter<W>) -> fmt::Result {
+        f.write_str(self.text())
     }
 }
 
@@ -95,7 +109,7 @@ pub struct TraceFault {
 #[derive(Clone, Copy, Debug, PartialEq, Eq, Error)]
 pub enum ReadFault {
     /// The text is no trace; of a check, no trace with a certificate behind it.
-    #[error("{0}")]
+    #[error(transparent)]
     Trace(TraceFault),
     /// An allocation failed.
     #[error("out of memory")]

@@ -343,12 +343,14 @@ fn begun(patches: &[Vec<SymId>], number: u32) -> Result<&[SymId], Cause>
     if number == 0 {
         return Err(Cause::Patch);
     }
-    let at = number as usize - 1;
-    match patches.get(at) {
-        Some(patch) if at + 1 == patches.len() => Ok(patch.as_slice()),
-        None if at == patches.len() && number as usize <= MOST_PATCHES => Ok(&[]),
-        _ => Err(Cause::Patch),
+    let count = number as usize;
+    if count == patches.len() {
+        return Ok(patches[count - 1].as_slice());
     }
+    if count > MOST_PATCHES || count != patches.len() + 1 {
+        return Err(Cause::Patch);
+    }
+    Ok(&[])
 }
 
 /// What the patch of a number has with one function more.
@@ -380,11 +382,21 @@ fn put_function(
     ensures { OnOk result (functions patches.new.items ≡ take (number - 1) (functions patches.old.items) ++ (slice_index_or (functions patches.old.items) (number - 1) [] ++ func ∷ []) ∷ []) }
 {
     if number > patches.len() {
-        let mut patch = Vec::new(alloc);
-        patch.push(func)?;
-        patches.push(patch)?;
-        return Ok(());
+        return put_first(alloc, patches, func);
     }
-    patches[number - 1].push(func)?;
-    Ok(())
+    match patches[number - 1].push(func) {
+        Ok(()) => Ok(()),
+        Err(_) => Err(AllocError),
+    }
+}
+
+/// Adds one patch more, of a function.
+fn put_first(alloc: Global, patches: &mut Vec<Vec<SymId>>, func: SymId) -> Result<(), AllocError>
+    ensures { OnOk result (functions patches.new.items ≡ functions patches.old.items ++ (func ∷ []) ∷ []) }
+{
+    let patch = Vec::from_slice(alloc, &[func])?;
+    match patches.push(patch) {
+        Ok(()) => Ok(()),
+        Err(_) => Err(AllocError),
+    }
 }

@@ -17,7 +17,7 @@ pub enum StreamFault {
     #[error("the input can't be read: {0}")]
     Read(io::Error),
     /// The text is no trace; of a check, no trace with a certificate behind it.
-    #[error("{0}")]
+    #[error(transparent)]
     Trace(TraceFault),
     /// An allocation failed.
     #[error("out of memory")]
