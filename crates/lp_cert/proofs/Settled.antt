@@ -19,7 +19,13 @@ use Rattle.lp_cert.specs.Ends.{Made, IsMadeWith, is_opening}
 use Rattle.lp_cert.specs.Invariant.{open_end}
 use Rattle.lp_cert.specs.inside.Invariant.{IsStepped, is_settled}
 use Rattle.lp_cert.specs.Waiters.{WaitingGroups}
+use Rattle.lp_cert.proofs.Asked.{not_some}
 use Rattle.lp_cert.proofs.Noted.{none_made, still_made}
+
+-- a leg is under way that isn't complete
+pub open_leg : (current : Option OpenLeg) → is_settled current ≡ false → (leg : OpenLeg) × (current ≡ Some leg) × (leg.completed ≡ None)
+open_leg None settled = absurd (false≢true (sym settled))
+open_leg (Some leg) settled = (leg, refl, not_some leg.completed settled)
 
 no_control : (event : Event) → is_point event ≡ true → is_control event ≡ false
 no_control (Exit t) point = refl

@@ -10,6 +10,12 @@ use lp_stack::{GroupId, Level};
 use std::alloc::{AllocError, Global};
 use std::marker::Model;
 
+/// The last place of which a row can tell.
+const MOST_PLACES: usize = u32::MAX as usize;
+
+/// The most groups of which a row can tell.
+const MOST_GROUPS: usize = u16::MAX as usize;
+
 /// Where the end of a leg is kept.
 #[derive(Clone, Copy, PartialEq, Eq)]
 pub(crate) enum RowKind {
@@ -159,16 +165,21 @@ impl LegRow {
 fn row_of(end: &LegEnd, start: usize) -> Option<(LegRow, &[GroupId])>
     ensures { IfSome result (λ found. IsRowOf end.now start found.0 found.1.now) }
 {
-    let (head, groups) = end.certs.borrowed().bare_parts()?;
-    let kind = kind_of(end.completed, head)?;
-    if end.opened != u64::from(head.leg) {
+    let Some((head, groups)) = end.certs.borrowed().bare_parts() else {
+        return None;
+    };
+    let Some(kind) = kind_of(end.completed, head) else {
+        return None;
+    };
+    let count = groups.len();
+    if end.opened != u64::from(head.leg) || start > MOST_PLACES || count > MOST_GROUPS {
         return None;
     }
     let row = LegRow {
         opened: head.leg,
         upto: head.upto,
-        start: u32::try_from(start).ok()?,
-        count: u16::try_from(groups.len()).ok()?,
+        start: start as u32,
+        count: count as u16,
         target: end.target,
         kind,
     };

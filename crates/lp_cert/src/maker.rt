@@ -97,10 +97,10 @@ impl Maker {
         ensures { IfOk result IsFresh }
     {
         Ok(Maker {
-            ended: LegRows::new(alloc),
-            current: None,
             waiters: Waiters::new(alloc)?,
             told: NumberSet::new(alloc)?,
+            ended: LegRows::new(alloc),
+            current: None,
             noted: 0,
             ready: None,
             closing: None,

@@ -29,7 +29,7 @@ impl Maker {
 }
 
 /// Whether the leg under way is complete, or there is none.
-fn is_settled(current: Option<OpenLeg>) -> bool
+pub(super) fn is_settled(current: Option<OpenLeg>) -> bool
     ensures { result ≡ is_settled current }
 {
     match current {

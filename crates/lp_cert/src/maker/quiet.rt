@@ -7,6 +7,7 @@ ghost use Rattle.lp_cert.specs.Ends.{IsMadeFurther};
 ghost use Rattle.lp_cert.specs.inside.ToldGroups.{IsHeld};
 
 use super::Maker;
+use super::point::is_settled;
 use crate::waiters::Waiters;
 use lp_model::{CheckKind, Consistency};
 use lp_transition::Core;
@@ -26,25 +27,31 @@ impl Maker {
         ensures ready { self.new.ready ≡ self.old.ready }
         ensures left { result ≡ false → self.new ≡ self.old }
     {
-        let Some(leg) = self.current else {
-            return false;
-        };
-        if leg.completed.is_some() || self.ready.is_some() {
+        if is_settled(self.current) || self.ready.is_some() {
             return false;
         }
-        if !core.model().uses(kind)
-            || !core.is_quiet(kind)
-            || !are_held(core, kind, &self.waiters)
-        {
-            return false;
-        }
-        if !self.waiters.has_scan_room() {
+        if !may_leave_out(core, kind, &self.waiters) {
             return false;
         }
         self.noted = core.events() as u32 + 1;
         self.waiters.scan_nobody(self.noted);
         true
     }
+}
+
+/// Whether a scan of this kind, which the model uses, may leave out every group, why each waits on is known, and there is room for
+/// one more scan.
+fn may_leave_out<M: Consistency>(core: &Core<M>, kind: CheckKind, waiters: &Waiters) -> bool
+    ensures used { IsTrue result → IsTrue (M.rules.uses kind) }
+    ensures quiet { IsTrue result → MayLeaveOut M.rules kind (state_in core.now) (λ group. false) }
+    ensures last { IsTrue result → core.now.last_scan.kind ≡ Some kind }
+    ensures held { IsTrue result → (group : ℕ) → group < 65536 → has core.now.last_scan.changed group ≡ true → IsHeld (state_in core.now) waiters.now.reasons group }
+    ensures room { IsTrue result → 0 < waiters.now.reasons.scan_room }
+{
+    if !core.model().uses(kind) || !core.is_quiet(kind) || !are_held(core, kind, waiters) {
+        return false;
+    }
+    waiters.has_scan_room()
 }
 
 /// Whether a frame still holds each group back to which something happened since the last scan, if that

@@ -1,11 +1,11 @@
 //! Scans of which it isn't known of each group that waits what they found.
-ghost use Rattle.std.specs.Prelude.{◌≡◌, ◌+◌, ◌<◌, ◌≤◌, ℕ, true, length, IsTrue};
+ghost use Rattle.std.specs.Prelude.{◌≡◌, ◌+◌, ◌<◌, ◌≤◌, ℕ, true, length, IfSome, IsTrue};
 ghost use Rattle.std.specs.List.{AllByRecursion};
 ghost use Rattle.lp_numbers.specs.Ascending.{members_from};
 ghost use Rattle.lp_numbers.specs.Numbers.{has};
 ghost use Rattle.lp_transition.specs.Scan.{verdicts_of};
 ghost use Rattle.lp_transition.specs.Table.{state_in};
-ghost use Rattle.lp_cert.specs.inside.Waiters.{AreJudged, AreStanding, HasHeads, StandsAt, is_left, lines_at, scanned_lines};
+ghost use Rattle.lp_cert.specs.inside.Waiters.{AreJudged, AreStanding, HasHeads, IsUsedVerdict, StandsAt, is_left, lines_at, scanned_lines};
 ghost use Rattle.lp_cert.specs.inside.WholeScans.{IsLookedAt, IsTold, count_below, found_of};
 
 use super::{Waiters, judge};
@@ -104,12 +104,23 @@ fn judge_task<M: Consistency>(
     ensures looked { IsLookedAt (state_in core.now) at (found_of M.rules kind (state_in core.now) task.0) waiting.now refused.old refused.new reasons.old reasons.new }
     ensures room { count_below (is_left waiting.now refused.new) (length reasons.new.heads) ≤ reasons.new.room }
 {
-    let Some(view) = core.task(task) else {
+    let Some(verdict) = found_of(core, kind, task) else {
         return;
     };
-    if core.side_of(task) == Some(core.target()) {
-        return;
-    }
-    let verdict = Verdict::of(&core.model(), kind, &view, &core.aim());
     judge(core, at, &verdict, waiting, refused, reasons);
+}
+
+/// What a scan of this kind finds of a task, if it waits.
+fn found_of<M: Consistency>(core: &Core<M>, kind: CheckKind, task: TaskId) -> Option<Verdict>
+    requires { IsTrue (M.rules.uses kind) }
+    ensures found { result ≡ found_of M.rules kind (state_in core.now) task.0 }
+    ensures used { IfSome result IsUsedVerdict }
+{
+    if core.side_of(task) == Some(core.target()) {
+        return None;
+    }
+    let Some(view) = core.task(task) else {
+        return None;
+    };
+    Some(Verdict::of(&core.model(), kind, &view, &core.aim()))
 }

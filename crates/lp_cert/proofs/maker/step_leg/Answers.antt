@@ -50,13 +50,34 @@ pub returns-in-Some-clause-floor : goal.returns-in-Some-clause-floor
 returns-in-Some-clause-floor g c = grind (arith, common_steps)
 
 pub step_whole-requires-clause-wide : goal.step_whole-requires-clause-wide
-step_whole-requires-clause-wide g c = grind (arith, common_steps)
+step_whole-requires-clause-wide g c = c.requires.heads
 
 pub returns-in-None-clause-floor : goal.returns-in-None-clause-floor
 returns-in-None-clause-floor g c = grind (arith, common_steps)
 
 pub step_waiters-requires-clause-wide : goal.step_waiters-requires-clause-wide
-step_waiters-requires-clause-wide g c = grind (arith, common_steps)
+step_waiters-requires-clause-wide g c = c.requires.heads
 
 pub returns-then-reply-clause-noted : goal.returns-then-reply-clause-noted
 returns-then-reply-clause-noted g c = grind (arith, common_steps)
+
+pub step_whole-requires-clause-scan_room : goal.step_whole-requires-clause-scan_room
+step_whole-requires-clause-scan_room g c = c.requires.scan_room
+
+pub step_waiters-requires-clause-scan_room : goal.step_waiters-requires-clause-scan_room
+step_waiters-requires-clause-scan_room g c = c.requires.scan_room
+
+pub step_waiters-requires-clause-room : goal.step_waiters-requires-clause-room
+step_waiters-requires-clause-room g c = c.requires.room
+
+pub step_waiters-requires-clause-child : goal.step_waiters-requires-clause-child
+step_waiters-requires-clause-child g c = c.requires.child
+
+pub step_waiters-requires-clause-weighed : goal.step_waiters-requires-clause-weighed
+step_waiters-requires-clause-weighed g c = c.requires.weighed
+
+pub step_whole-requires-clause-weighed : goal.step_whole-requires-clause-weighed
+step_whole-requires-clause-weighed g c = c.requires.weighed
+
+pub step_whole-requires-clause-used : goal.step_whole-requires-clause-used
+step_whole-requires-clause-used g c = c.in-Some.ensures.used

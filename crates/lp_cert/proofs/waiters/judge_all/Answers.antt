@@ -36,3 +36,6 @@ judge-requires-clause-room g c = grind (arith, common_steps)
 
 pub loop-verdict-init : goal.loop-verdict-init
 loop-verdict-init g c = grind (arith, common_steps)
+
+pub judge-requires-clause-stand : goal.judge-requires-clause-stand
+judge-requires-clause-stand g c = c.loop-verdict.invariant.stand

@@ -25,3 +25,9 @@ returns g c =
 
 pub judge_all-requires-clause-wide : goal.judge_all-requires-clause-wide
 judge_all-requires-clause-wide g c = grind (arith, common_steps)
+
+pub judge_all-requires-clause-used : goal.judge_all-requires-clause-used
+judge_all-requires-clause-used g c = c.requires.used
+
+pub judge_all-requires-clause-room : goal.judge_all-requires-clause-room
+judge_all-requires-clause-room g c = c.requires.room

@@ -108,3 +108,9 @@ step_leg-requires-clause-scan_room g c = grind (arith, common_steps)
 
 pub step_leg-requires-clause-floor : goal.step_leg-requires-clause-floor
 step_leg-requires-clause-floor g c = grind (arith, common_steps)
+
+pub step_leg-requires-clause-weighed : goal.step_leg-requires-clause-weighed
+step_leg-requires-clause-weighed g c = c.requires.weighed
+
+pub opened-next-requires-clause-weighed : goal.opened-next-requires-clause-weighed
+opened-next-requires-clause-weighed g c = c.requires.weighed

@@ -1,4 +1,4 @@
-use Rattle.std.proofs.Common.{List, sym, subst, ◌∙◌, arith}
+use Rattle.std.proofs.Common.{List, sym, subst, ◌∙◌, arith, length, ◌≤◌}
 use Rattle.std.proofs.lemmas.Grind.{common_steps}
 use Rattle.std.specs.List.{AllByRecursion}
 use Rattle.lp_model.specs.declared.verdict.Verdict.{Verdict}
@@ -29,3 +29,21 @@ scan_of-requires-in-Stop-clause-used g c = λ used.
 
 pub returns-clause-stood : goal.returns-clause-stood
 returns-clause-stood g c = grind (arith, common_steps)
+
+pub scan_of-requires-clause-wide : goal.scan_of-requires-clause-wide
+scan_of-requires-clause-wide g c = c.requires.wide
+
+pub scan_of-requires-in-Stop-clause-wide : goal.scan_of-requires-in-Stop-clause-wide
+scan_of-requires-in-Stop-clause-wide g c = c.requires.wide
+
+pub scan_of-requires-clause-scan_room : goal.scan_of-requires-clause-scan_room
+scan_of-requires-clause-scan_room g c = c.requires.scan_room
+
+pub scan_of-requires-in-Stop-clause-scan_room : goal.scan_of-requires-in-Stop-clause-scan_room
+scan_of-requires-in-Stop-clause-scan_room g c = c.requires.scan_room
+
+pub scan_of-requires-clause-room : goal.scan_of-requires-clause-room
+scan_of-requires-clause-room g c = subst (λ (vs : List Verdict). length vs ≤ c.args.self.now.reasons.room) (sym c.verdicts.ensures) (omega (arith, c.requires.room))
+
+pub scan_of-requires-in-Stop-clause-room : goal.scan_of-requires-in-Stop-clause-room
+scan_of-requires-in-Stop-clause-room g c = subst (λ (vs : List Verdict). length vs ≤ c.args.self.now.reasons.room) (sym c.verdicts-in-Stop.ensures) (omega (arith, c.requires.room))

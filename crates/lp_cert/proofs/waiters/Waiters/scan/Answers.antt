@@ -16,3 +16,12 @@ returns-clause-lines g c =
 
 pub returns-clause-stood : goal.returns-clause-stood
 returns-clause-stood g c = rw (← c.self.view_is) c.self.invariant
+
+pub judge_waiting-requires-clause-wide : goal.judge_waiting-requires-clause-wide
+judge_waiting-requires-clause-wide g c = rw (← c.self.view_is) at c.requires.wide
+
+pub judge_waiting-requires-clause-room : goal.judge_waiting-requires-clause-room
+judge_waiting-requires-clause-room g c = rw (← c.self.view_is) at c.requires.room
+
+pub judge_waiting-requires-clause-used : goal.judge_waiting-requires-clause-used
+judge_waiting-requires-clause-used g c = c.requires.used

@@ -7,3 +7,9 @@ returns-then-not-matches-clause-stood c = grind (arith, common_steps)
 
 pub returns-else-not-matches-clause-stood : goal.returns-else-not-matches-clause-stood
 returns-else-not-matches-clause-stood c = grind (arith, common_steps)
+
+pub affect-requires-clause-wide : goal.affect-requires-clause-wide
+affect-requires-clause-wide g c = c.requires.wide
+
+pub affect-requires-clause-scan_room : goal.affect-requires-clause-scan_room
+affect-requires-clause-scan_room g c = c.requires.scan_room

@@ -1,8 +1,12 @@
-use Rattle.std.proofs.Common.{not, length, arith}
+use Rattle.std.proofs.Common.{not, length, subst, arith}
+use Rattle.std.specs.Prelude.{Option}
 use Rattle.std.proofs.lemmas.Grind.{common_steps}
 use Rattle.std.proofs.lemmas.Bool.{and_parts}
+use Rattle.lp_model.specs.declared.verdict.Verdict.{Verdict}
 use Rattle.lp_numbers.specs.Numbers.{has}
+use Rattle.lp_transition.specs.Table.{state_in}
 use Rattle.lp_cert.specs.inside.Waiters.{is_left}
+use Rattle.lp_cert.specs.inside.WholeScans.{IsLookedAt}
 use Rattle.lp_cert.proofs.WholeScans.{count_some}
 use Rattle.lp_cert.proofs.waiters.whole.judge_task.Goals as goal
 
@@ -13,16 +17,18 @@ judge-requires-clause-room g c = λ group left.
     omega (arith, some, c.requires.room)
 
 pub returns-clause-looked : goal.returns-clause-looked
-returns-clause-looked g c = grind (arith, common_steps)
+returns-clause-looked g c =
+    subst (λ (found : Option Verdict). IsLookedAt (state_in c.args.core.now) c.args.at found c.args.waiting.now c.args.refused.now c.judge.new.refused c.args.reasons.now c.judge.new.reasons)
+    c.in-Some.ensures.found c.judge.ensures.judged
 
 pub returns-clause-room : goal.returns-clause-room
 returns-clause-room g c = grind (arith, common_steps)
 
 pub judge-requires-clause-wide : goal.judge-requires-clause-wide
-judge-requires-clause-wide g c = grind (arith, common_steps)
+judge-requires-clause-wide g c = c.requires.wide
 
 pub judge-requires-clause-used : goal.judge-requires-clause-used
-judge-requires-clause-used g c = grind (arith, common_steps)
+judge-requires-clause-used g c = c.in-Some.ensures.used
 
-pub returns-then-eq-clause-looked : goal.returns-then-eq-clause-looked
-returns-then-eq-clause-looked g c = grind (arith, common_steps)
+pub judge-requires-clause-stand : goal.judge-requires-clause-stand
+judge-requires-clause-stand g c = c.requires.stand

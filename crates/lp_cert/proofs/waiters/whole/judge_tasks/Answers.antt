@@ -74,3 +74,12 @@ returns g c =
     ap (found_up_to model c.args.kind s) last
     ∙ found_same model c.args.kind s (from - 1) (65535 - (from - 1)) (λ t low high. found_none model c.args.kind c.args.core.now t (none_live c.args.core.now.table from now.fits c.live-number-items.ensures.wide over t (omega (arith, low)))) in
     subst (λ (vs : List Verdict). AreJudged s c.args.at vs (is_left c.args.waiting.now c.args.refused.now) (is_left c.args.waiting.now c.loop-number.refused) c.args.reasons.now c.loop-number.reasons) (sym all ∙ found_all model c.args.kind s) now.judged
+
+pub judge_task-requires-clause-stand : goal.judge_task-requires-clause-stand
+judge_task-requires-clause-stand g c = c.loop-number.invariant.stand
+
+pub judge_task-requires-clause-room : goal.judge_task-requires-clause-room
+judge_task-requires-clause-room g c = c.loop-number.invariant.room
+
+pub judge_task-requires-clause-used : goal.judge_task-requires-clause-used
+judge_task-requires-clause-used g c = c.requires.used
