@@ -144,6 +144,35 @@ module _ (s : State) (at : ℕ) (verdict : Verdict) (why : Blame) (group : Group
     scan_room = scan_room;
   }
 
+-- one that refuses no group that is left
+module _ (s : State) (at : ℕ) (verdict : Verdict) (left : ℕ → Bool) (reasons : LegReasons) where
+  pub none_judged_by : ((g : ℕ) (blamed : ℕ × Blame) → left g ≡ true → member_verdict s g verdict ≡ Some blamed → ⊥) → IsJudged s at verdict left left reasons reasons
+  none_judged_by none = record {
+    judged = λ g blamed there is. absurd (none g blamed there is);
+    others = λ g same. (refl, refl);
+    kept = record { no_less = omega arith; same = λ i h. refl };
+    scans = refl;
+    room = omega arith;
+    scan_room = refl;
+  }
+
+  -- it blames nobody
+  pub blameless_judged : verdict.blame ≡ None → IsJudged s at verdict left left reasons reasons
+  blameless_judged blameless = none_judged_by (λ g blamed there is. refuses (on_live false (λ x. nat_eq x.group g) (s.tasks verdict.task.0)) blamed (sym (ap (λ (o : Option Blame). if on_live false (λ x. nat_eq x.group g) (s.tasks verdict.task.0) then option_map (λ (y : Blame). (verdict.task.0, y)) o else None) blameless) ∙ is))
+    where
+      refuses : (b : Bool) (blamed : ℕ × Blame) → (if b then option_map (λ (y : Blame). (verdict.task.0, y)) None else None) ≡ Some blamed → ⊥
+      refuses true blamed e = absurd (some_none blamed (sym e))
+      refuses false blamed e = absurd (some_none blamed (sym e))
+
+  -- its task is of a group that isn't left
+  pub other_judged : (why : Blame) (group : GroupId) → ((g : ℕ) → on_live false (λ x. nat_eq x.group g) (s.tasks verdict.task.0) ≡ nat_eq group.0 g) → verdict.blame ≡ Some why → left group.0 ≡ false
+      → IsJudged s at verdict left left reasons reasons
+  other_judged why group mine blamed_is out = none_judged_by (λ g blamed there is. refuses g blamed there is (nat_eq group.0 g) refl)
+    where
+      refuses : (g : ℕ) (blamed : ℕ × Blame) → left g ≡ true → member_verdict s g verdict ≡ Some blamed → (b : Bool) → nat_eq group.0 g ≡ b → ⊥
+      refuses g blamed there is true e = false≢true (sym out ∙ (ap left (eqb-true group.0 g e) ∙ there))
+      refuses g blamed there is false e = some_none blamed (sym is ∙ member_at s verdict why group mine blamed_is g false e)
+
 -- ---- All verdicts
 
 first_of-push : {A : Type 0} (tests : List (Option A)) (test : Option A) (first : Option A) → first_of tests ≡ first → first_of (tests ++ test ∷ []) ≡ first_of (first ∷ test ∷ [])

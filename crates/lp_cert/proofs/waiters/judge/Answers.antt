@@ -7,7 +7,7 @@ use Rattle.lp_transition.specs.Table.{state_in}
 use Rattle.lp_cert.specs.inside.Waiters.{is_left}
 use Rattle.lp_cert.proofs.WholeScans.{count_less}
 use Rattle.lp_cert.proofs.HeadLemmas.{frame_as}
-use Rattle.lp_cert.proofs.WaiterLemmas.{grouped, judges, not_left, others_left}
+use Rattle.lp_cert.proofs.WaiterLemmas.{grouped, judges, not_left, others_left, blameless_judged, other_judged}
 use Rattle.lp_cert.proofs.waiters.judge.Goals as goal
 
 pub refuse-requires-clause-wide : goal.refuse-requires-clause-wide
@@ -44,3 +44,13 @@ refuse-requires-clause-room g c = grind (arith, common_steps)
 
 pub refuse-requires-clause-used : goal.refuse-requires-clause-used
 refuse-requires-clause-used g c = grind (arith, common_steps)
+
+pub returns-then-not-is_left-clause-judged : goal.returns-then-not-is_left-clause-judged
+returns-then-not-is_left-clause-judged g c =
+    let group = c.in-Some-group_of.group in
+    let left : is_left c.args.waiting.now c.args.refused.now group.0 ≡ c.is_left.result = sym c.is_left.ensures.left in
+    other_judged (state_in c.args.core.now) c.args.at c.args.verdict.now (is_left c.args.waiting.now c.args.refused.now) c.args.reasons.now c.in-Some.blame group
+    (grouped c.args.core.now.table c.args.verdict.now.task.0 group c.in-Some-group_of.ensures) c.in-Some.is (left ∙ c.if-not-is_left.true)
+
+pub returns-in_default-clause-judged : goal.returns-in_default-clause-judged
+returns-in_default-clause-judged g c = blameless_judged (state_in c.args.core.now) c.args.at c.args.verdict.now (is_left c.args.waiting.now c.args.refused.now) c.args.reasons.now c.in_default.is

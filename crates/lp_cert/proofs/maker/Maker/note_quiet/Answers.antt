@@ -1,3 +1,4 @@
+use Rattle.std.proofs.lemmas.Bool.{false≢true}
 use Rattle.std.proofs.Common.{◌+◌, refl, sym, ap, ◌∙◌, arith}
 use Rattle.std.proofs.lemmas.Grind.{common_steps}
 use Rattle.std.specs.Option.{option_map}
@@ -39,3 +40,27 @@ overflow_cast-self g c = grind (arith, common_steps)
 
 pub returns-clause-ready : goal.returns-clause-ready
 returns-clause-ready g c = grind (arith, common_steps)
+
+pub returns-then-is_settled-clause-quiet : goal.returns-then-is_settled-clause-quiet
+returns-then-is_settled-clause-quiet g c = λ yes. absurd (false≢true yes)
+
+pub returns-then-is_settled-clause-used : goal.returns-then-is_settled-clause-used
+returns-then-is_settled-clause-used g c = λ yes. absurd (false≢true yes)
+
+pub returns-then-is_settled-clause-last : goal.returns-then-is_settled-clause-last
+returns-then-is_settled-clause-last g c = λ yes. absurd (false≢true yes)
+
+pub returns-then-is_settled-clause-made : goal.returns-then-is_settled-clause-made
+returns-then-is_settled-clause-made g c = λ yes. absurd (false≢true yes)
+
+pub returns-then-not-may_leave_out-clause-quiet : goal.returns-then-not-may_leave_out-clause-quiet
+returns-then-not-may_leave_out-clause-quiet g c = λ yes. absurd (false≢true yes)
+
+pub returns-then-not-may_leave_out-clause-used : goal.returns-then-not-may_leave_out-clause-used
+returns-then-not-may_leave_out-clause-used g c = λ yes. absurd (false≢true yes)
+
+pub returns-then-not-may_leave_out-clause-last : goal.returns-then-not-may_leave_out-clause-last
+returns-then-not-may_leave_out-clause-last g c = λ yes. absurd (false≢true yes)
+
+pub returns-then-not-may_leave_out-clause-made : goal.returns-then-not-may_leave_out-clause-made
+returns-then-not-may_leave_out-clause-made g c = λ yes. absurd (false≢true yes)
