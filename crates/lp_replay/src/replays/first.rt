@@ -29,11 +29,11 @@ pub fn first_leg_end<M: Consistency>(
 ) -> Result<LegList, ReplayFault>
     ensures { IfOk result (λ found. found ≡ option_to_list (slice_get (leg_ends M.rules (first_leg M.rules (run_of trace.now)) trace.now.events) 0)) }
 {
-    let mut maker = Box::new(alloc, Maker::new(alloc)?)?;
+    let mut maker = Maker::new(alloc)?;
     let model = OwnCode::<M, FirstLeg>::new(model);
     let mut core = start::engine(alloc, model, trace)?;
     take_first_leg(alloc, &mut core, &mut maker, trace.events())?;
-    first_of(alloc, Box::into_inner(maker))
+    first_of(alloc, maker)
 }
 
 /// Takes these events up to the one that completes or ends the first leg.

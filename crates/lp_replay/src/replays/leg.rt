@@ -39,8 +39,7 @@ pub fn leg_numbered<M: Consistency>(
     }
     let (before, rest) = events.split_at(number as usize - 1);
     let mut core = start::engine(alloc, model, trace)?;
-    let leg = opened_after(alloc, &mut core, before, rest)?;
-    Ok(leg)
+    opened_after(alloc, &mut core, before, rest)
 }
 
 /// Takes the events before these, and gives the leg that the first of these opens; None where it
@@ -55,8 +54,7 @@ fn opened_after<'a, M: Consistency>(
     ensures { IfOk result (λ found. (run : Run) → StandsIn M.rules run (state_in core.old) → option_map (λ leg. leg_with leg.opening leg.events.now) found ≡ opened_by M.rules (leg_of M.rules (record run { events = run.events ++ before.now })) events.now) }
 {
     step_all(alloc, core, before)?;
-    let leg = opened_by(alloc, core, events)?;
-    Ok(leg)
+    opened_by(alloc, core, events)
 }
 
 /// Takes these events.

@@ -28,7 +28,7 @@ use std::marker::Model;
 /// A run under way: the engine, and what the run came to so far.
 pub(super) struct Recorder<M: Consistency> {
     core: Box<Core<M>>,
-    maker: Box<Maker>,
+    maker: Maker,
     replies: ReplyList,
     stays: StayCount,
 }
@@ -50,7 +50,7 @@ impl<M: Consistency> Model for Recorder<M> {
 
     ghost Value = { Recorded };
 
-    ghost view = { λ r. record { core = r.core.value; made = r.maker.value; replies = r.replies; stays = r.stays } };
+    ghost view = { λ r. record { core = r.core.value; made = r.maker; replies = r.replies; stays = r.stays } };
 }
 
 impl<M: Consistency> Recorder<M> {
@@ -61,8 +61,8 @@ impl<M: Consistency> Recorder<M> {
         let patches = start::stack(alloc, trace)?;
         let stays = StayCount::new(alloc, &patches)?;
         let replies = ReplyList::with_capacity(alloc, trace.events().len())?;
-        let maker = Box::new(alloc, Maker::new(alloc)?)?;
-        let core = Box::new(alloc, start::boot(alloc, model, patches, trace)?)?;
+        let maker = Maker::new(alloc)?;
+        let core = start::engine_over(alloc, model, patches, trace)?;
         Ok(Recorder {
             core,
             maker,
@@ -109,7 +109,7 @@ impl<M: Consistency> Recorder<M> {
         } = self;
         Ok(Outcome {
             replies,
-            legs: Box::into_inner(maker).into_ends(alloc)?,
+            legs: maker.into_ends(alloc)?,
             stays: stays.stays(),
             mixed: stays.mixed(),
         })

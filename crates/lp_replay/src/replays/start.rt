@@ -26,12 +26,26 @@ pub(super) fn engine<M: Consistency>(
     ensures unscanned { IfOk result (λ core. core.value.last_scan.kind ≡ None) }
 {
     let patches = stack(alloc, trace)?;
+    engine_over(alloc, model, patches, trace)
+}
+
+/// The same, over the trace's patches.
+pub(super) fn engine_over<M: Consistency>(
+    alloc: Global,
+    model: M,
+    patches: PatchStack,
+    trace: &Trace,
+) -> Result<Box<Core<M>>, ReplayFault>
+    requires { patches ≡ (run_of trace.now).patches }
+    ensures stands { IfOk result (λ core. StandsIn M.rules (run_of trace.now) (state_in core.value)) }
+    ensures unscanned { IfOk result (λ core. core.value.last_scan.kind ≡ None) }
+{
     let core = boot(alloc, model, patches, trace)?;
     Ok(Box::new(alloc, core)?)
 }
 
 /// The engine with the trace's patches and its boot tasks, before the first event.
-pub(super) fn boot<M: Consistency>(
+fn boot<M: Consistency>(
     alloc: Global,
     model: M,
     patches: PatchStack,

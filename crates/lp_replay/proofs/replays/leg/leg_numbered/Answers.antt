@@ -1,9 +1,10 @@
 use Rattle.std.proofs.Common.{arith, ◌≡◌, ◌≤◌, ◌-◌, ◌∙◌, sym, ap, ap₂, List, take, drop, length}
 use Rattle.lp_transition.specs.declared.event.Event.{Event}
 use Rattle.lp_transition.specs.Run.{leg_of}
-use Rattle.lp_replay.specs.Legs.{opened_by}
+use Rattle.lp_replay.specs.Legs.{leg_numbered, opened_by}
 use Rattle.lp_replay.specs.Outcome.{run_of}
 use Rattle.lp_replay.proofs.Legs.{longer, nowhere, too_late, numbered_at}
+use Rattle.lp_replay.proofs.Recording.{ok_then}
 use Rattle.lp_replay.proofs.replays.leg.leg_numbered.Goals.{then-number-eq0-via-then-number-eq0, then-number-eq0-via-else-number-eq0+then-number-events}
 use Rattle.lp_replay.proofs.replays.leg.leg_numbered.Goals as goal
 
@@ -25,6 +26,7 @@ returns g c =
     let all : c.events-events.result.now ≡ trace.events = c.events-events.ensures.value in
     let first : c.split_at.result.0.now ≡ take (c.args.number - 1) trace.events = c.split_at.ensures.front ∙ ap (take (c.args.number - 1)) all in
     let last : c.split_at.result.1.now ≡ drop (c.args.number - 1) trace.events = c.split_at.ensures.back ∙ ap (drop (c.args.number - 1)) all in
-    c.in_ok-leg.ensures (run_of trace) (rw c.deref_mut.ensures.value c.in_ok-core.ensures.stands)
-    ∙ (ap₂ (λ (before after : List Event). opened_by model (leg_of model (longer (run_of trace) before)) after) first last
-    ∙ sym (numbered_at model trace c.args.number (c.args.number - 1) (omega arith)))
+    let numbered : opened_by model (leg_of model (longer (run_of trace) c.split_at.result.0.now)) c.split_at.result.1.now ≡ leg_numbered model trace c.args.number =
+    ap₂ (λ (before after : List Event). opened_by model (leg_of model (longer (run_of trace) before)) after) first last
+    ∙ sym (numbered_at model trace c.args.number (c.args.number - 1) (omega arith)) in
+    ok_then _ _ c.opened_after.result c.opened_after.ensures (λ found h. h (run_of trace) (rw c.deref_mut.ensures.value c.in_ok-core.ensures.stands) ∙ numbered)

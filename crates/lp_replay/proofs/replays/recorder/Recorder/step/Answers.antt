@@ -13,9 +13,9 @@ pub returns : goal.returns
 returns g c = λ run is.
     let model = g.M.Consistency.rules in
     let given = c.in_ok-reply.reply in
-    let before : Recorded = record { core = c.self.inside.core.value; made = c.self.inside.maker.value; replies = c.self.inside.replies; stays = c.self.inside.stays } in
+    let before : Recorded = record { core = c.self.inside.core.value; made = c.self.inside.maker; replies = c.self.inside.replies; stays = c.self.inside.stays } in
     let stepped = rw c.deref_mut.ensures.value at c.in_ok-reply.ensures.step in
-    let more_made = rw (c.deref_mut.ensures.value, c.deref_mut-2.ensures.value) at c.in_ok-reply.ensures.made in
+    let more_made = rw c.deref_mut.ensures.value at c.in_ok-reply.ensures.made in
     let top = rw c.deref.ensures at c.last_function-top.ensures in
     let core : Engine = c.take.new.core in
     let made : Made = c.take.new.maker in
