@@ -81,10 +81,6 @@ pub ok_weaker : {A E : Type 0} (P Q : A → Type 0) → ((x : A) → P x → Q x
 ok_weaker P Q f (Ok x) h = f x h
 ok_weaker P Q f (Err e) h = tt
 
--- the same, where the fact about the result comes first
-pub ok_then : {A E : Type 0} (P Q : A → Type 0) (r : Result A E) → IfOk r P → ((x : A) → P x → Q x) → IfOk r Q
-ok_then P Q r h f = ok_weaker P Q f r h
-
 -- ---- The run with one event more
 
 module _ (model : Rules) where

@@ -1,10 +1,10 @@
 use Rattle.std.proofs.Common.{arith, ◌≡◌, ◌≤◌, ◌-◌, ◌∙◌, sym, ap, ap₂, List, take, drop, length}
+use Rattle.std.proofs.lemmas.Result.{IfOk-weaker}
 use Rattle.lp_transition.specs.declared.event.Event.{Event}
 use Rattle.lp_transition.specs.Run.{leg_of}
 use Rattle.lp_replay.specs.Legs.{leg_numbered, opened_by}
 use Rattle.lp_replay.specs.Outcome.{run_of}
 use Rattle.lp_replay.proofs.Legs.{longer, nowhere, too_late, numbered_at}
-use Rattle.lp_replay.proofs.Recording.{ok_then}
 use Rattle.lp_replay.proofs.replays.leg.leg_numbered.Goals.{then-number-eq0-via-then-number-eq0, then-number-eq0-via-else-number-eq0+then-number-events}
 use Rattle.lp_replay.proofs.replays.leg.leg_numbered.Goals as goal
 
@@ -29,4 +29,4 @@ returns g c =
     let numbered : opened_by model (leg_of model (longer (run_of trace) c.split_at.result.0.now)) c.split_at.result.1.now ≡ leg_numbered model trace c.args.number =
     ap₂ (λ (before after : List Event). opened_by model (leg_of model (longer (run_of trace) before)) after) first last
     ∙ sym (numbered_at model trace c.args.number (c.args.number - 1) (omega arith)) in
-    ok_then _ _ c.opened_after.result c.opened_after.ensures (λ found h. h (run_of trace) (rw c.deref_mut.ensures.value c.in_ok-core.ensures.stands) ∙ numbered)
+    IfOk-weaker c.opened_after.result _ _ (λ found h. h (run_of trace) (rw c.deref_mut.ensures.value c.in_ok-core.ensures.stands) ∙ numbered) c.opened_after.ensures

@@ -1,6 +1,6 @@
 use Rattle.std.proofs.Common.{arith, length-append}
+use Rattle.std.proofs.lemmas.Result.{IfOk-weaker}
 use Rattle.lp_replay.proofs.Legs.{longer}
-use Rattle.lp_replay.proofs.Recording.{ok_then}
 use Rattle.lp_replay.proofs.replays.leg.opened_after.Goals as goal
 
 pub step_all-requires : goal.step_all-requires
@@ -12,4 +12,4 @@ opened_by-requires g c =
     (longer h.0 c.args.before.now, c.in_ok-step_all.ensures h.0 h.1, omega (arith, h.2, length-append h.0.events c.args.before.now))
 
 pub returns : goal.returns
-returns g c = ok_then _ _ c.opened_by.result c.opened_by.ensures (λ found h run stands. h (longer run c.args.before.now) (c.in_ok-step_all.ensures run stands))
+returns g c = IfOk-weaker c.opened_by.result _ _ (λ found h run stands. h (longer run c.args.before.now) (c.in_ok-step_all.ensures run stands)) c.opened_by.ensures
