@@ -2,6 +2,7 @@
 //! has, the laws at each model, and calls after a failed allocation.
 ghost use Rattle.std.specs.Prelude.{IfOk};
 ghost use Rattle.lp_patch.specs.Patches.{ShareSymbols};
+ghost use Rattle.lp_transition.specs.Weigh.{IsWeighed};
 
 mod asked;
 mod base;
@@ -21,8 +22,8 @@ use lp_model::Consistency;
 use lp_models::Hybrid;
 use lp_patch::{PatchFault, PatchSet, PatchStack};
 use lp_stack::{Class, GroupId, Level, TaskId};
-use lp_symbols::{SymFault, SymId, Symbols};
-use lp_transition::{BootFault, Core, Event, Halt, Opening, Reply, What};
+use lp_symbols::{SymId, Symbols};
+use lp_transition::{BootFault, Core, Event, Halt, Opening, Reply, Step, What};
 use std::alloc::{AllocError, Global};
 
 const A: SymId = SymId(0);
@@ -37,7 +38,9 @@ const TWO: TaskId = TaskId(2);
 
 const THREE: TaskId = TaskId(3);
 
-const NINE: TaskId = TaskId(9);
+const ALONE: [(TaskId, Class); 1] = [(ONE, Class::Normal)];
+
+const BOTH: [(TaskId, Class); 2] = [(ONE, Class::Normal), (TWO, Class::Normal)];
 
 /// What a reply says.
 #[derive(Clone, Copy, PartialEq, Eq)]
@@ -76,22 +79,31 @@ fn said_switched(groups: &[GroupId], completed: bool) -> Said {
 
 const NAMES: [&str; 3] = ["a", "b", "c"];
 
-/// Adds the names `a`, `b` and `c`.
-fn add_names(symbols: &mut Symbols) -> Result<(), SymFault> {
+/// Adds the names `a`, `b` and `c`; whether each is added.
+fn add_names(symbols: &mut Symbols) -> bool {
     for name in &NAMES {
-        symbols.add(*name)?;
+        if symbols.add(*name).is_err() {
+            return false;
+        }
     }
-    Ok(())
+    true
 }
 
-/// These names, in a box: docs/GATE.md says why.
-fn names(alloc: Global) -> Option<Box<Symbols>> {
+/// No names, in a box: docs/GATE.md says why.
+fn no_names(alloc: Global) -> Option<Box<Symbols>> {
     match Symbols::new(alloc) {
-        Ok(mut symbols) => match add_names(&mut symbols) {
-            Ok(()) => Box::new(alloc, symbols).ok(),
-            Err(_) => None,
-        },
+        Ok(symbols) => Box::new(alloc, symbols).ok(),
         Err(_) => None,
+    }
+}
+
+/// The names `a`, `b` and `c`.
+fn names(alloc: Global) -> Option<Box<Symbols>> {
+    let mut symbols = no_names(alloc)?;
+    if add_names(&mut symbols) {
+        Some(symbols)
+    } else {
+        None
     }
 }
 
@@ -117,87 +129,61 @@ fn patches(alloc: Global, lists: &[&[SymId]]) -> Result<PatchStack, PatchFault> 
 }
 
 /// What an engine says to an event.
-fn reply_to<M: Consistency>(alloc: Global, core: &mut Core<M>, event: Event) -> Result<Said, Halt> {
-    let reply = core.step(alloc, event)?;
-    Ok(in_short(&reply))
-}
-
-/// Gives these events to an engine.
-fn give<M: Consistency>(alloc: Global, core: &mut Core<M>, events: &[Event]) -> Result<(), Halt> {
-    for event in events {
-        reply_to(alloc, core, *event)?;
+fn reply_to<M: Consistency>(alloc: Global, core: &mut Core<M>, event: Event) -> Option<Said> {
+    match core.step(alloc, event) {
+        Ok(reply) => Some(in_short(&reply)),
+        Err(_) => None,
     }
-    Ok(())
 }
 
-/// An engine that starts with these tasks, over one patch of function `a`, in a box. The fault is NoMemory
-/// also where the patch gets no memory.
+/// Gives these events to an engine; whether it takes them.
+fn give<M: Consistency>(alloc: Global, core: &mut Core<M>, events: &[Event]) -> bool {
+    for event in events {
+        if reply_to(alloc, core, *event).is_none() {
+            return false;
+        }
+    }
+    true
+}
+
+/// What is said to an event that was weighed, which is taken.
+fn taken<M: Consistency>(core: &mut Core<M>, step: Step) -> Said
+    requires { IsWeighed M.rules core.old step }
+{
+    in_short(&core.take(step))
+}
+
+/// An engine that starts with these tasks, over one patch of function `a`. The fault is NoMemory also where
+/// the patch gets no memory.
 fn boot_over_a<M: Consistency>(
     alloc: Global,
     model: M,
     boots: &[(TaskId, Class)],
-) -> Result<Box<Core<M>>, BootFault> {
-    let Ok(patches) = patches(alloc, &[&[A]]) else {
-        return Err(BootFault::NoMemory);
-    };
-    match Core::boot(alloc, model, patches, boots) {
-        Ok(core) => boxed(alloc, core),
-        Err(fault) => Err(fault),
-    }
-}
-
-/// An engine, in a box.
-fn boxed<M: Consistency>(alloc: Global, core: Core<M>) -> Result<Box<Core<M>>, BootFault> {
-    match Box::new(alloc, core) {
-        Ok(core) => Ok(core),
+) -> Result<Core<M>, BootFault> {
+    match patches(alloc, &[&[A]]) {
+        Ok(patches) => Core::boot(alloc, model, patches, boots),
         Err(_) => Err(BootFault::NoMemory),
     }
 }
 
-/// An engine that starts so. The fault is NoMemory wherever none does, so that a helper has one type of fault.
-fn start<M: Consistency>(
-    alloc: Global,
-    model: M,
-    boots: &[(TaskId, Class)],
-) -> Result<Box<Core<M>>, Halt> {
-    match boot_over_a(alloc, model, boots) {
-        Ok(core) => Ok(core),
-        Err(_) => Err(Halt::NoMemory),
-    }
+/// An engine that starts so.
+fn start<M: Consistency>(alloc: Global, model: M, boots: &[(TaskId, Class)]) -> Option<Core<M>> {
+    boot_over_a(alloc, model, boots).ok()
 }
 
 /// The tasks 1 up to this number.
 fn normal_tasks(alloc: Global, count: u16) -> Result<Vec<(TaskId, Class)>, AllocError> {
     let mut tasks = Vec::new(alloc);
     for number in 1..=count {
-        tasks.push(normal(number))?;
+        tasks.push((TaskId(number), Class::Normal))?;
     }
     Ok(tasks)
 }
 
 /// An engine that starts with them.
-fn start_with<M: Consistency>(alloc: Global, model: M, count: u16) -> Result<Box<Core<M>>, Halt> {
-    let tasks = normal_tasks(alloc, count)?;
-    start(alloc, model, tasks.as_slice())
-}
-
-/// An engine under `hybrid` that started with these tasks, over one patch of function `a`, after
-/// these events.
-fn engine_after(
-    alloc: Global,
-    boots: &[(TaskId, Class)],
-    events: &[Event],
-) -> Result<Box<Core<Hybrid>>, Halt> {
-    let mut core = start(alloc, Hybrid, boots)?;
-    give(alloc, &mut core, events)?;
-    Ok(core)
-}
-
-/// The copy of an engine, in a box.
-fn standing(alloc: Global, core: &Core<Hybrid>) -> Result<Box<Opening>, AllocError> {
-    Ok(Box::new(alloc, core.standing(alloc)?)?)
-}
-
-fn normal(number: u16) -> (TaskId, Class) {
-    (TaskId(number), Class::Normal)
+fn start_with<M: Consistency>(alloc: Global, model: M, count: u16) -> Option<Core<M>> {
+    match normal_tasks(alloc, count) {
+        Ok(tasks) => start(alloc, model, tasks.as_slice()),
+        Err(_) => None,
+    }
 }

@@ -11,8 +11,7 @@ use lp_model::{CheckKind, Verdict};
 use lp_numbers::NumberSet;
 use lp_transition::Step;
 
-const BOTH: [(TaskId, Class); 2] = [(ONE, Class::Normal), (TWO, Class::Normal)];
-
+/// Two tasks that wait come to sleep, of which the second is in a call.
 const ASLEEP: [Event; 6] = [
     Event::Enter(ONE),
     Event::Sleep(ONE),
@@ -21,11 +20,6 @@ const ASLEEP: [Event; 6] = [
     Event::Sleep(TWO),
     Event::Enable,
 ];
-
-/// Two tasks that wait and sleep, of which the second is in a call.
-fn in_a_call(alloc: Global) -> Result<Box<Core<Hybrid>>, Halt> {
-    engine_after(alloc, &BOTH, &ASLEEP)
-}
 
 /// Whether a task waits, and a check refuses it.
 fn is_refused<M: Consistency>(core: &Core<M>, kind: CheckKind, task: TaskId) -> bool
@@ -84,23 +78,7 @@ fn all_but<M: Consistency>(
     Ok(set)
 }
 
-/// What a weighed scan shows.
-#[derive(Clone, Copy)]
-struct Shown {
-    verdicts: usize,
-    completed: bool,
-    /// The group that switches, if it is one alone.
-    over: Option<GroupId>,
-}
-
-fn shown_by(scan: &Step) -> Shown {
-    Shown {
-        verdicts: scan.verdicts().len(),
-        completed: scan.reply().completed,
-        over: one_switched(&scan.reply().what),
-    }
-}
-
+/// The group that switches at a scan, if it is one alone.
 fn one_switched(what: &What) -> Option<GroupId> {
     match what {
         What::Switched(groups) if groups.len() == 1 => groups.as_slice().first().copied(),
@@ -108,80 +86,89 @@ fn one_switched(what: &What) -> Option<GroupId> {
     }
 }
 
-/// A walk after a look at every task.
-fn whole_walk(alloc: Global, core: &Core<Hybrid>) -> Result<Shown, Halt> {
-    let whole = core.weigh_any(alloc, Event::Walk)?;
-    Ok(shown_by(&whole))
+/// The same, where a scan has so many verdicts, and the transition is complete or not.
+fn one_over(scan: &Step, verdicts: usize, completes: bool) -> Option<GroupId> {
+    if scan.verdicts().len() == verdicts && scan.reply().completed == completes {
+        one_switched(&scan.reply().what)
+    } else {
+        None
+    }
 }
 
-/// A walk without task 2 where it is refused, weighed and then taken.
-fn part_walk(alloc: Global, core: &mut Core<Hybrid>) -> Result<Shown, Halt> {
-    let asked = all_but(alloc, core, CheckKind::Walk, TWO)?;
-    let part = core.weigh_asked(alloc, CheckKind::Walk, &asked)?;
-    let shown = shown_by(&part);
-    core.take(part);
-    Ok(shown)
+/// Who switches so at a walk after a look at every task.
+fn whole_walk(
+    alloc: Global,
+    core: &Core<Hybrid>,
+    verdicts: usize,
+    completes: bool,
+) -> Option<GroupId> {
+    match core.weigh_any(alloc, Event::Walk) {
+        Ok(whole) => one_over(&whole, verdicts, completes),
+        Err(_) => None,
+    }
+}
+
+/// Who switches at a walk without task 2 where it is refused, so that it looks at one task alone. It is
+/// weighed and then taken.
+fn part_walk(alloc: Global, core: &mut Core<Hybrid>, completes: bool) -> Option<GroupId> {
+    let Ok(asked) = all_but(alloc, core, CheckKind::Walk, TWO) else {
+        return None;
+    };
+    match core.weigh_asked(alloc, CheckKind::Walk, &asked) {
+        Ok(part) => {
+            let over = one_over(&part, 1, completes);
+            core.take(part);
+            over
+        }
+        Err(_) => None,
+    }
 }
 
 /// Task 2 returns and sleeps.
 const RETURNS: [Event; 3] = [Event::Wake(TWO), Event::Ret(TWO), Event::Sleep(TWO)];
 
-/// Whether the part of a walk looks at one task alone, and both walks come to the same.
-fn are_alike(part: Shown, whole: Shown, waiting: usize, completes: bool) -> bool {
-    part.verdicts == 1
-        && whole.verdicts == waiting
-        && part.completed == completes
-        && whole.completed == completes
-        && part.over.is_some()
-        && part.over == whole.over
-}
-
 /// Whether both walks are alike where so many wait. Task 2 returns and sleeps after them.
-fn walk_alike(
-    alloc: Global,
-    core: &mut Core<Hybrid>,
-    waiting: usize,
-    completes: bool,
-) -> Result<bool, Halt> {
-    let whole = whole_walk(alloc, core)?;
-    let part = part_walk(alloc, core)?;
-    give(alloc, core, &RETURNS)?;
-    Ok(are_alike(part, whole, waiting, completes))
+fn walk_alike(alloc: Global, core: &mut Core<Hybrid>, waiting: usize, completes: bool) -> bool {
+    let whole = whole_walk(alloc, core, waiting, completes);
+    let part = part_walk(alloc, core, completes);
+    part.is_some() && part == whole && give(alloc, core, &RETURNS)
 }
 
 /// Whether they are as both tasks wait, and again as one does, and nothing is left to do then.
-fn walk_alike_twice(alloc: Global, core: &mut Core<Hybrid>) -> Result<bool, Halt> {
-    Ok(
-        walk_alike(alloc, core, 2, false)?
-            && walk_alike(alloc, core, 1, true)?
-            && !core.in_transition(),
-    )
+fn walk_alike_twice(alloc: Global, core: &mut Core<Hybrid>) -> bool {
+    walk_alike(alloc, core, 2, false) && walk_alike(alloc, core, 1, true) && !core.in_transition()
 }
 
 /// Whether they are where the second of two tasks is in a call.
-fn walk_alike_in_a_call(alloc: Global) -> Result<bool, Halt> {
-    let mut core = in_a_call(alloc)?;
-    walk_alike_twice(alloc, &mut core)
+fn walk_alike_in_a_call(alloc: Global) -> bool {
+    match start(alloc, Hybrid, &BOTH) {
+        Some(mut core) => give(alloc, &mut core, &ASLEEP) && walk_alike_twice(alloc, &mut core),
+        None => false,
+    }
 }
 
 #[test]
 fn who_is_refused_may_be_left_out(rt: HostRuntime) {
-    assert!(rt; walk_alike_in_a_call(rt.alloc()) == Ok(true));
+    assert!(rt; walk_alike_in_a_call(rt.alloc()));
 }
 
 /// Whether a stop has no verdicts, and nothing comes of it.
-fn stops_in_vain(alloc: Global, core: &Core<Hybrid>) -> Result<bool, Halt> {
-    let stop = core.weigh_any(alloc, Event::Stop)?;
-    Ok(stop.verdicts().is_empty() && matches!(&stop.reply().what, What::Done))
+fn stops_in_vain(alloc: Global, core: &Core<Hybrid>) -> bool {
+    match core.weigh_any(alloc, Event::Stop) {
+        Ok(stop) => stop.verdicts().is_empty() && matches!(&stop.reply().what, What::Done),
+        Err(_) => false,
+    }
 }
 
 /// Whether one does where the second of two tasks is in a call.
-fn stops_in_vain_in_a_call(alloc: Global) -> Result<bool, Halt> {
-    let core = in_a_call(alloc)?;
-    stops_in_vain(alloc, &core)
+fn stops_in_vain_in_a_call(alloc: Global) -> bool {
+    match start(alloc, Hybrid, &BOTH) {
+        Some(mut core) => give(alloc, &mut core, &ASLEEP) && stops_in_vain(alloc, &core),
+        None => false,
+    }
 }
 
 #[test]
 fn a_scan_that_is_not_used_looks_at_nobody(rt: HostRuntime) {
-    assert!(rt; stops_in_vain_in_a_call(rt.alloc()) == Ok(true));
+    assert!(rt; stops_in_vain_in_a_call(rt.alloc()));
 }

@@ -15,20 +15,23 @@ const FAULTS: [(&[(TaskId, Class)], BootFault); 3] = [
     (&[ZERO], BootFault::TaskRange),
 ];
 
-#[test]
-fn the_first_task_at_fault_is_named(rt: HostRuntime) {
-    for (tasks, fault) in &FAULTS {
-        assert!(rt; boot_over_a(rt.alloc(), Immediate, tasks).err() == Some(*fault));
+/// Whether no engine starts with these tasks, by this fault.
+fn is_named(alloc: Global, tasks: &[(TaskId, Class)], fault: BootFault) -> bool {
+    match boot_over_a(alloc, Immediate, tasks) {
+        Ok(_) => false,
+        Err(named) => named == fault,
     }
 }
 
-/// An idle task, and another.
-const TASKS: [(TaskId, Class); 2] = [(TaskId(65_535), Class::Idle), (TaskId(3), Class::Normal)];
-
-/// The engine of task 3 and an idle task 65,535.
-fn booted(alloc: Global) -> Result<Box<Core<Immediate>>, BootFault> {
-    boot_over_a(alloc, Immediate, &TASKS)
+#[test]
+fn the_first_task_at_fault_is_named(rt: HostRuntime) {
+    for (tasks, fault) in &FAULTS {
+        assert!(rt; is_named(rt.alloc(), *tasks, *fault));
+    }
 }
+
+/// The tasks of an engine: an idle one, and another.
+const TASKS: [(TaskId, Class); 2] = [(TaskId(65_535), Class::Idle), (TaskId(3), Class::Normal)];
 
 /// Whether these are the numbers of its two tasks, in increasing order.
 fn are_the_two(mut numbers: Ascending<'_>) -> bool {
@@ -41,20 +44,16 @@ fn are_live(core: &Core<Immediate>) -> bool {
 }
 
 /// Whether they are as it starts.
-fn start_live(alloc: Global) -> Result<bool, BootFault> {
-    let core = booted(alloc)?;
-    Ok(are_live(&core))
+fn start_live(alloc: Global) -> bool {
+    match start(alloc, Immediate, &TASKS) {
+        Some(core) => are_live(&core),
+        None => false,
+    }
 }
 
 #[test]
 fn tasks_are_live_as_they_start(rt: HostRuntime) {
-    assert!(rt; start_live(rt.alloc()) == Ok(true));
-}
-
-/// The copy of that engine.
-fn opening(alloc: Global) -> Result<Box<Opening>, BootFault> {
-    let core = booted(alloc)?;
-    Ok(Box::new(alloc, core.standing(alloc)?)?)
+    assert!(rt; start_live(rt.alloc()));
 }
 
 /// Whether no event is numbered, and the first level is what it stands at and goes to, of one patch.
@@ -89,13 +88,25 @@ fn has_its_tasks(opening: &Opening) -> bool {
         && stands(opening, TaskId(4), None)
 }
 
-/// Whether all of this is so of the copy.
-fn stands_as_it_starts(alloc: Global) -> Result<bool, BootFault> {
-    let opening = opening(alloc)?;
-    Ok(is_at_the_first_level(&opening) && has_its_numbers(&opening) && has_its_tasks(&opening))
+/// Whether all of this is so of the copy of an engine.
+fn is_as_it_starts(alloc: Global, core: &Core<Immediate>) -> bool {
+    match core.standing(alloc) {
+        Ok(opening) => {
+            is_at_the_first_level(&opening) && has_its_numbers(&opening) && has_its_tasks(&opening)
+        }
+        Err(_) => false,
+    }
+}
+
+/// Whether it is of that engine.
+fn stands_as_it_starts(alloc: Global) -> bool {
+    match start(alloc, Immediate, &TASKS) {
+        Some(core) => is_as_it_starts(alloc, &core),
+        None => false,
+    }
 }
 
 #[test]
 fn an_opening_has_no_events_and_its_tasks_as_they_start(rt: HostRuntime) {
-    assert!(rt; stands_as_it_starts(rt.alloc()) == Ok(true));
+    assert!(rt; stands_as_it_starts(rt.alloc()));
 }

@@ -1,75 +1,98 @@
 //! An event that is weighed, and then taken; and what can be asked of an engine.
+ghost use Rattle.std.specs.Prelude.{◌≡◌, IfOk};
+ghost use Rattle.lp_model.specs.Row.{rules_of};
+ghost use Rattle.lp_model.specs.declared.check.CheckKind.TheVariants.{Walk};
+ghost use Rattle.lp_models.specs.Models.{hybrid};
+ghost use Rattle.lp_transition.specs.Scan.{verdicts_of};
+ghost use Rattle.lp_transition.specs.Table.{state_in};
+
 use super::*;
-use lp_model::CheckKind;
-use lp_transition::{Step, verdicts};
+use lp_model::{CheckKind, Verdict};
+use lp_transition::verdicts;
 
-/// The engine of tasks 1 and 2 after these events.
-fn two_tasks_after(alloc: Global, events: &[Event]) -> Result<Box<Core<Hybrid>>, Halt> {
-    engine_after(alloc, &[normal(1), normal(2)], events)
+/// Whether so many events are numbered, and the engine is in transition or not.
+fn is_at(core: &Core<Hybrid>, events: u64, in_transition: bool) -> bool {
+    core.events() == events && core.in_transition() == in_transition
 }
 
-/// How many events are numbered, and whether the engine is in transition.
-fn place(core: &Core<Hybrid>) -> (u64, bool) {
-    (core.events(), core.in_transition())
-}
-
-/// What a weighed event shows: the event, how many verdicts, and the answer.
-fn shown_by(step: &Step) -> (Event, usize, Said) {
-    (step.event(), step.verdicts().len(), in_short(step.reply()))
+/// Whether an enabling, without a verdict, was weighed, and isn't numbered.
+fn is_weighed(core: &Core<Hybrid>, step: &Step) -> bool {
+    step.event() == Event::Enable
+        && step.verdicts().is_empty()
+        && in_short(step.reply()) == Said::Done
+        && is_at(core, 0, false)
 }
 
 /// Whether an enabling is weighed as the first event, and is numbered only when it is taken.
-fn enables(alloc: Global, core: &mut Core<Hybrid>) -> Result<bool, Halt> {
-    let step = core.weigh(alloc, Event::Enable)?;
-    let weighed = shown_by(&step) == (Event::Enable, 0, Said::Done) && place(core) == (0, false);
-    let taken = in_short(&core.take(step));
-    Ok(weighed && taken == Said::Done && place(core) == (1, true))
+fn enables(alloc: Global, core: &mut Core<Hybrid>) -> bool {
+    match core.weigh(alloc, Event::Enable) {
+        Ok(step) => {
+            let weighed = is_weighed(core, &step);
+            taken(core, step) == Said::Done && weighed && is_at(core, 1, true)
+        }
+        Err(_) => false,
+    }
 }
 
 /// Whether it is by an engine that starts.
-fn enables_at_first(alloc: Global) -> Result<bool, Halt> {
-    let mut core = two_tasks_after(alloc, &[])?;
-    enables(alloc, &mut core)
+fn enables_at_first(alloc: Global) -> bool {
+    match start(alloc, Hybrid, &BOTH) {
+        Some(mut core) => enables(alloc, &mut core),
+        None => false,
+    }
 }
 
 #[test]
 fn an_event_is_weighed_and_then_taken(rt: HostRuntime) {
-    assert!(rt; enables_at_first(rt.alloc()) == Ok(true));
+    assert!(rt; enables_at_first(rt.alloc()));
 }
 
-/// A walk is taken by the verdicts on the tasks that wait: how many there are, and the answer.
-fn walk(alloc: Global, core: &mut Core<Hybrid>) -> Result<(usize, Said), Halt> {
+/// What a walk finds of the tasks that wait.
+fn found(alloc: Global, core: &Core<Hybrid>) -> Result<Vec<Verdict>, AllocError>
+    ensures { IfOk result (λ found. found.items ≡ verdicts_of (rules_of hybrid) Walk (state_in core.now)) }
+{
     let views = core.views(alloc)?;
-    let found = verdicts(
+    verdicts(
         alloc,
         &Hybrid,
         CheckKind::Walk,
         views.as_slice(),
         &core.aim(),
-    )?;
-    drop(views);
-    let reply = core.commit_scan(alloc, CheckKind::Walk, found.as_slice())?;
-    Ok((found.len(), in_short(&reply)))
+    )
 }
 
 /// Task 1 sleeps in the kernel as it waits.
 const ASLEEP: [Event; 3] = [Event::Enable, Event::Enter(ONE), Event::Sleep(ONE)];
 
-/// Whether such a walk has two verdicts and lets task 1 switch.
-fn walks(alloc: Global, core: &mut Core<Hybrid>) -> Result<bool, Halt> {
-    let walked = walk(alloc, core)?;
-    Ok(walked == (2, Said::Over(1)) && place(core) == (4, true))
+/// Whether a walk that is taken by its verdicts, of which there are two, lets task 1 switch.
+fn walks(alloc: Global, core: &mut Core<Hybrid>) -> bool {
+    let Ok(found) = found(alloc, core) else {
+        return false;
+    };
+    is_over(core.commit_scan(alloc, CheckKind::Walk, found.as_slice()))
+        && found.len() == 2
+        && is_at(core, 4, true)
+}
+
+/// Whether a scan lets task 1 switch alone.
+fn is_over(scanned: Result<Reply, Halt>) -> bool {
+    match scanned {
+        Ok(reply) => in_short(&reply) == Said::Over(1),
+        Err(_) => false,
+    }
 }
 
 /// Whether one does where task 1 sleeps.
-fn walks_asleep(alloc: Global) -> Result<bool, Halt> {
-    let mut core = two_tasks_after(alloc, &ASLEEP)?;
-    walks(alloc, &mut core)
+fn walks_asleep(alloc: Global) -> bool {
+    match start(alloc, Hybrid, &BOTH) {
+        Some(mut core) => give(alloc, &mut core, &ASLEEP) && walks(alloc, &mut core),
+        None => false,
+    }
 }
 
 #[test]
 fn a_walk_is_taken_by_its_verdicts(rt: HostRuntime) {
-    assert!(rt; walks_asleep(rt.alloc()) == Ok(true));
+    assert!(rt; walks_asleep(rt.alloc()));
 }
 
 /// The events after which task 1 has switched, and task 2 waits.
@@ -89,37 +112,38 @@ fn has_sides_and_groups(core: &Core<Hybrid>) -> bool {
 }
 
 /// Whether it says which group waits.
-fn says_who_waits(alloc: Global, core: &Core<Hybrid>) -> Result<bool, AllocError> {
-    let waiting = core.waiting(alloc)?;
-    Ok(waiting.as_slice() == [GroupId(2)].as_slice())
+fn says_who_waits(alloc: Global, core: &Core<Hybrid>) -> bool {
+    match core.waiting(alloc) {
+        Ok(waiting) => waiting.as_slice() == [GroupId(2)].as_slice(),
+        Err(_) => false,
+    }
 }
 
 /// Whether it shows the one task that waits.
-fn shows_who_waits(alloc: Global, core: &Core<Hybrid>) -> Result<bool, AllocError> {
-    let views = core.views(alloc)?;
-    Ok(match views.as_slice() {
-        [view] => view.task == TWO,
-        _ => false,
-    })
+fn shows_who_waits(alloc: Global, core: &Core<Hybrid>) -> bool {
+    match core.views(alloc) {
+        Ok(views) => matches!(views.as_slice(), [view] if view.task == TWO),
+        Err(_) => false,
+    }
 }
 
 /// Whether it says all of this.
-fn says_how_it_stands(alloc: Global, core: &Core<Hybrid>) -> Result<bool, AllocError> {
-    Ok(
-        has_a_model_and_a_target(core)
-            && has_sides_and_groups(core)
-            && says_who_waits(alloc, core)?
-            && shows_who_waits(alloc, core)?,
-    )
+fn says_how_it_stands(alloc: Global, core: &Core<Hybrid>) -> bool {
+    has_a_model_and_a_target(core)
+        && has_sides_and_groups(core)
+        && says_who_waits(alloc, core)
+        && shows_who_waits(alloc, core)
 }
 
 /// Whether it does where task 1 has switched.
-fn says_who_is_over(alloc: Global) -> Result<bool, Halt> {
-    let core = two_tasks_after(alloc, &ONE_OVER)?;
-    Ok(says_how_it_stands(alloc, &core)?)
+fn says_who_is_over(alloc: Global) -> bool {
+    match start(alloc, Hybrid, &BOTH) {
+        Some(mut core) => give(alloc, &mut core, &ONE_OVER) && says_how_it_stands(alloc, &core),
+        None => false,
+    }
 }
 
 #[test]
 fn an_engine_is_asked_how_it_stands(rt: HostRuntime) {
-    assert!(rt; says_who_is_over(rt.alloc()) == Ok(true));
+    assert!(rt; says_who_is_over(rt.alloc()));
 }

@@ -8,7 +8,6 @@ use super::*;
 use lp_model::{Blame, CheckKind, ForkKind, Verdict};
 use lp_models::AllAtOnce;
 use lp_process::ProcessGroup;
-use lp_transition::Step;
 
 /// Three members of a group that waits: they sleep, and the second is in a call.
 const HELD: [Event; 8] = [
@@ -90,10 +89,12 @@ pub(super) fn weighed<M: Consistency>(
     core.weigh_first_refusals(alloc, kind, &asked)
 }
 
-/// What a scan says that looks at every member.
-fn whole<M: Consistency>(alloc: Global, core: &Core<M>, scan: Event) -> Result<Said, Halt> {
-    let step = core.weigh_any(alloc, scan)?;
-    Ok(in_short(step.reply()))
+/// Whether a scan that looks at every member says this.
+fn says_whole<M: Consistency>(alloc: Global, core: &Core<M>, scan: Event, said: Said) -> bool {
+    match core.weigh_any(alloc, scan) {
+        Ok(step) => in_short(step.reply()) == said,
+        Err(_) => false,
+    }
 }
 
 /// The event of a scan.
@@ -110,32 +111,22 @@ fn has_found(scan: &Step, kind: CheckKind, found: &[Verdict]) -> bool {
 }
 
 /// Whether a scan by first refusals, which is then taken, has these verdicts, and says this.
-fn scans_in_part<M: Consistency>(
+fn says_in_part<M: Consistency>(
     alloc: Global,
     core: &mut Core<M>,
     kind: CheckKind,
     found: &[Verdict],
     said: Said,
-) -> Result<bool, Halt>
+) -> bool
     requires { is_scan_kind kind ≡ true }
 {
-    let scan = weighed(alloc, core, kind)?;
-    let right = has_found(&scan, kind, found);
-    Ok(in_short(&core.take(scan)) == said && right)
-}
-
-/// Whether it does, and says what one does that looks at every member.
-fn scans<M: Consistency>(
-    alloc: Global,
-    core: &mut Core<M>,
-    kind: CheckKind,
-    found: &[Verdict],
-    said: Said,
-) -> Result<bool, Halt>
-    requires { is_scan_kind kind ≡ true }
-{
-    let whole = whole(alloc, core, scan_of(kind))?;
-    Ok(scans_in_part(alloc, core, kind, found, said)? && whole == said)
+    match weighed(alloc, core, kind) {
+        Ok(scan) => {
+            let right = has_found(&scan, kind, found);
+            taken(core, scan) == said && right
+        }
+        Err(_) => false,
+    }
 }
 
 /// What a scan says at which this group switches, or none.
@@ -147,36 +138,36 @@ fn said_of(group: u16, switches: bool) -> Said {
     }
 }
 
-/// Whether a row turns out so, for the group of task 1.
-fn turns_out<M: Consistency>(
+/// Whether the scan of a row turns out so, and as one does that looks at every member.
+fn scans<M: Consistency>(
     alloc: Global,
     core: &mut Core<M>,
     kind: CheckKind,
-    group: u16,
-    row: &Row,
-) -> Result<bool, Halt>
+    found: &[Verdict],
+    said: Said,
+) -> bool
     requires { is_scan_kind kind ≡ true }
 {
-    give(alloc, core, row.0)?;
-    scans(alloc, core, kind, row.1, said_of(group, row.2))
+    says_whole(alloc, core, scan_of(kind), said) && says_in_part(alloc, core, kind, found, said)
 }
 
-/// Whether each of these rows does.
+/// Whether each of these rows does, for the group of task 1.
 fn turn_out<M: Consistency>(
     alloc: Global,
     core: &mut Core<M>,
     kind: CheckKind,
     group: u16,
     rows: &[Row],
-) -> Result<bool, Halt>
+) -> bool
     requires { is_scan_kind kind ≡ true }
 {
-    for row in rows {
-        if !turns_out(alloc, core, kind, group, row)? {
-            return Ok(false);
+    for (events, found, switches) in rows {
+        let said = said_of(group, *switches);
+        if !give(alloc, core, *events) || !scans(alloc, core, kind, *found, said) {
+            return false;
         }
     }
-    Ok(true)
+    true
 }
 
 /// The same, from the start of an engine with task 1.
@@ -186,36 +177,31 @@ fn turn_out_from_start<M: Consistency>(
     kind: CheckKind,
     group: u16,
     rows: &[Row],
-) -> Result<bool, Halt>
+) -> bool
     requires { is_scan_kind kind ≡ true }
 {
-    let mut core = start_with(alloc, model, 1)?;
-    turn_out(alloc, &mut core, kind, group, rows)
+    match start(alloc, model, &ALONE) {
+        Some(mut core) => turn_out(alloc, &mut core, kind, group, rows),
+        None => false,
+    }
 }
 
 /// The same, where the second member returns, and where it dies.
-fn turn_out_both_ways<M: Consistency>(
-    alloc: Global,
-    model: M,
-    kind: CheckKind,
-    group: u16,
-) -> Result<bool, Halt>
+fn turn_out_both_ways<M: Consistency>(alloc: Global, model: M, kind: CheckKind, group: u16) -> bool
     requires { is_scan_kind kind ≡ true }
 {
-    Ok(
-        turn_out_from_start(alloc, model, kind, group, &RETURNS)?
-            && turn_out_from_start(alloc, model, kind, group, &DIES)?,
-    )
+    turn_out_from_start(alloc, model, kind, group, &RETURNS)
+        && turn_out_from_start(alloc, model, kind, group, &DIES)
 }
 
 #[test]
 fn a_process_is_asked_up_to_its_first_refusal(rt: HostRuntime) {
-    assert!(rt; turn_out_both_ways(rt.alloc(), ProcessGroup, CheckKind::Walk, 1) == Ok(true));
+    assert!(rt; turn_out_both_ways(rt.alloc(), ProcessGroup, CheckKind::Walk, 1));
 }
 
 #[test]
 fn all_are_asked_up_to_the_first_refusal(rt: HostRuntime) {
-    assert!(rt; turn_out_both_ways(rt.alloc(), AllAtOnce, CheckKind::Stop, 0) == Ok(true));
+    assert!(rt; turn_out_both_ways(rt.alloc(), AllAtOnce, CheckKind::Stop, 0));
 }
 
 /// Of tasks that wait, two sleep in the kernel, the second of them in a call.
@@ -236,35 +222,35 @@ const STOPS: [(&[Event], usize, Said); 3] = [
 ];
 
 /// Whether a stop that is weighed by first refusals and then taken has so many verdicts, and says this.
-fn stops(
-    alloc: Global,
-    core: &mut Core<AllAtOnce>,
-    count: usize,
-    said: Said,
-) -> Result<bool, Halt> {
-    let scan = weighed(alloc, core, CheckKind::Stop)?;
-    let right = scan.verdicts().len() == count;
-    Ok(in_short(&core.take(scan)) == said && right)
+fn stops(alloc: Global, core: &mut Core<AllAtOnce>, count: usize, said: Said) -> bool {
+    match weighed(alloc, core, CheckKind::Stop) {
+        Ok(scan) => {
+            let right = scan.verdicts().len() == count;
+            taken(core, scan) == said && right
+        }
+        Err(_) => false,
+    }
 }
 
 /// Whether each of these stops turns out so.
-fn stops_turn_out(alloc: Global, core: &mut Core<AllAtOnce>) -> Result<bool, Halt> {
+fn stops_turn_out(alloc: Global, core: &mut Core<AllAtOnce>) -> bool {
     for (events, count, said) in &STOPS {
-        give(alloc, core, events)?;
-        if !stops(alloc, core, *count, *said)? {
-            return Ok(false);
+        if !give(alloc, core, *events) || !stops(alloc, core, *count, *said) {
+            return false;
         }
     }
-    Ok(true)
+    true
 }
 
 /// The same of the tasks 1 to 70, more than a group has whose members are gone over one by one.
-fn stops_of_70_turn_out(alloc: Global) -> Result<bool, Halt> {
-    let mut core = start_with(alloc, AllAtOnce, 70)?;
-    stops_turn_out(alloc, &mut core)
+fn stops_of_70_turn_out(alloc: Global) -> bool {
+    match start_with(alloc, AllAtOnce, 70) {
+        Some(mut core) => stops_turn_out(alloc, &mut core),
+        None => false,
+    }
 }
 
 #[test]
 fn a_large_group_is_asked_up_to_its_first_refusal(rt: HostRuntime) {
-    assert!(rt; stops_of_70_turn_out(rt.alloc()) == Ok(true));
+    assert!(rt; stops_of_70_turn_out(rt.alloc()));
 }

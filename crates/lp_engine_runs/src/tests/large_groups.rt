@@ -10,20 +10,16 @@ const HELD: [Event; 4] = [
     Event::Enable,
 ];
 
-/// Tasks of one group, of which the second is in a call of a function that changes.
-fn held_group(alloc: Global, count: u16) -> Result<Box<Core<AllAtOnce>>, Halt> {
-    let mut core = start_with(alloc, AllAtOnce, count)?;
-    give(alloc, &mut core, &HELD)?;
-    Ok(core)
-}
-
-/// How many tasks a stop looks at after an event.
-fn looks_after(alloc: Global, core: &mut Core<AllAtOnce>, event: Event) -> Result<usize, Halt> {
-    give(alloc, core, &[event])?;
-    let step = core.weigh_changed(alloc, Event::Stop)?;
-    let looked_at = step.verdicts().len();
-    core.take(step);
-    Ok(looked_at)
+/// Whether a stop looks at so many tasks, which is then taken.
+fn stop_looks_at(alloc: Global, core: &mut Core<AllAtOnce>, count: usize) -> bool {
+    match core.weigh_changed(alloc, Event::Stop) {
+        Ok(step) => {
+            let right = step.verdicts().len() == count;
+            core.take(step);
+            right
+        }
+        Err(_) => false,
+    }
 }
 
 /// An event, and at how many tasks a stop looks after it.
@@ -45,24 +41,31 @@ const IN_A_GROUP_OF_100: [Look; 4] = [
     (Event::Ret(TWO), 100),
 ];
 
-/// Whether stops look at so many tasks.
-fn look(alloc: Global, core: &mut Core<AllAtOnce>, looks: &[Look]) -> Result<bool, Halt> {
-    for (event, count) in looks {
-        if looks_after(alloc, core, *event)? != *count {
-            return Ok(false);
-        }
-    }
-    Ok(true)
+/// Whether a stop looks at so many tasks after an event.
+fn looks(alloc: Global, core: &mut Core<AllAtOnce>, look: &Look) -> bool {
+    give(alloc, core, &[look.0]) && stop_looks_at(alloc, core, look.1)
 }
 
-/// The same of a group of so many.
-fn look_in_a_group(alloc: Global, count: u16, looks: &[Look]) -> Result<bool, Halt> {
-    let mut core = held_group(alloc, count)?;
-    look(alloc, &mut core, looks)
+/// Whether stops do.
+fn all_look(alloc: Global, core: &mut Core<AllAtOnce>, rows: &[Look]) -> bool {
+    for look in rows {
+        if !looks(alloc, core, look) {
+            return false;
+        }
+    }
+    true
+}
+
+/// The same in a group of so many tasks, of which the second is in a call of a function that changes.
+fn look_in_a_group(alloc: Global, count: u16, rows: &[Look]) -> bool {
+    match start_with(alloc, AllAtOnce, count) {
+        Some(mut core) => give(alloc, &mut core, &HELD) && all_look(alloc, &mut core, rows),
+        None => false,
+    }
 }
 
 #[test]
 fn a_group_is_asked_up_to_its_first_refusal(rt: HostRuntime) {
-    assert!(rt; look_in_a_group(rt.alloc(), 3, &IN_A_GROUP_OF_3) == Ok(true));
-    assert!(rt; look_in_a_group(rt.alloc(), 100, &IN_A_GROUP_OF_100) == Ok(true));
+    assert!(rt; look_in_a_group(rt.alloc(), 3, &IN_A_GROUP_OF_3));
+    assert!(rt; look_in_a_group(rt.alloc(), 100, &IN_A_GROUP_OF_100));
 }

@@ -8,11 +8,6 @@ use lp_models::AllAtOnce;
 use lp_process::ProcessGroup;
 use lp_stack::View;
 use lp_transition::GroupList;
-use std::process::Abort;
-
-const ALONE: [(TaskId, Class); 1] = [(ONE, Class::Normal)];
-
-const BOTH: [(TaskId, Class); 2] = [(ONE, Class::Normal), (TWO, Class::Normal)];
 
 const WITH_IDLE: [(TaskId, Class); 2] = [(ONE, Class::Normal), (TWO, Class::Idle)];
 
@@ -23,15 +18,10 @@ const THREE_TASKS: [(TaskId, Class); 3] = [
 ];
 
 /// The engine of these tasks. Where an allocation fails, nothing was made, and the same call makes it.
-fn booted<M: Consistency>(
-    alloc: Global,
-    model: M,
-    boots: &[(TaskId, Class)],
-) -> Result<Box<Core<M>>, Halt> {
+fn booted<M: Consistency>(alloc: Global, model: M, boots: &[(TaskId, Class)]) -> Option<Core<M>> {
     match boot_over_a(alloc, model, boots) {
-        Ok(core) => Ok(core),
         Err(BootFault::NoMemory) => start(alloc, model, boots),
-        Err(_) => Err(Halt::NoMemory),
+        answer => answer.ok(),
     }
 }
 
@@ -63,82 +53,75 @@ fn waiting<M: Consistency>(alloc: Global, core: &Core<M>) -> Result<GroupList, A
 }
 
 /// Whether these groups wait.
-fn are_waiting<M: Consistency>(
-    alloc: Global,
-    core: &Core<M>,
-    groups: &[GroupId],
-) -> Result<bool, AllocError> {
-    let now = waiting(alloc, core)?;
-    Ok(now.as_slice() == groups)
+fn are_waiting<M: Consistency>(alloc: Global, core: &Core<M>, groups: &[GroupId]) -> bool {
+    match waiting(alloc, core) {
+        Ok(now) => now.as_slice() == groups,
+        Err(_) => false,
+    }
 }
 
-/// The answer to an event, where memory was refused before. The engine is as it was.
+/// The answer to an event, where memory was refused before. The engine has to be as it was.
 fn answer_again<M: Consistency>(
-    rt: &impl Abort,
     alloc: Global,
     core: &mut Core<M>,
     event: Event,
-    before: (&Shown, &[GroupId]),
-) -> Result<Said, Halt> {
-    assert!(rt; shown_by(core) == *before.0 && are_waiting(alloc, core, before.1)?);
-    reply_to(alloc, core, event)
+    shown: &Shown,
+    groups: &[GroupId],
+) -> Option<Said> {
+    if shown_by(core) == *shown && are_waiting(alloc, core, groups) {
+        reply_to(alloc, core, event)
+    } else {
+        None
+    }
 }
 
 /// The answer to an event, before which these groups wait. Where an allocation fails, the engine is as
 /// it was, and the same event has its answer.
 fn answer_where_wait<M: Consistency>(
-    rt: &impl Abort,
     alloc: Global,
     core: &mut Core<M>,
     event: Event,
     groups: &[GroupId],
-) -> Result<Said, Halt> {
+) -> Option<Said> {
     let shown = shown_by(core);
     match reply_to(alloc, core, event) {
-        Err(Halt::NoMemory) => answer_again(rt, alloc, core, event, (&shown, groups)),
+        None => answer_again(alloc, core, event, &shown, groups),
         answer => answer,
     }
 }
 
 /// The same, of the groups that do.
-fn answer<M: Consistency>(
-    rt: &impl Abort,
-    alloc: Global,
-    core: &mut Core<M>,
-    event: Event,
-) -> Result<Said, Halt> {
-    let groups = waiting(alloc, core)?;
-    answer_where_wait(rt, alloc, core, event, groups.as_slice())
+fn answer<M: Consistency>(alloc: Global, core: &mut Core<M>, event: Event) -> Option<Said> {
+    match waiting(alloc, core) {
+        Ok(groups) => answer_where_wait(alloc, core, event, groups.as_slice()),
+        Err(_) => None,
+    }
 }
 
 /// An event and the answer to it.
 type Answered = (Event, Said);
 
 /// Whether an engine gives these answers, each event given once more where memory was refused.
-fn answers<M: Consistency>(
-    rt: &impl Abort,
-    alloc: Global,
-    core: &mut Core<M>,
-    rows: &[Answered],
-) -> Result<bool, Halt> {
+fn answers<M: Consistency>(alloc: Global, core: &mut Core<M>, rows: &[Answered]) -> bool {
     for (event, said) in rows {
-        if answer(rt, alloc, core, *event)? != *said {
-            return Ok(false);
+        if answer(alloc, core, *event) != Some(*said) {
+            return false;
         }
     }
-    Ok(true)
+    true
 }
 
 /// Whether an engine that starts with these tasks does.
 fn goes_on<M: Consistency>(
-    rt: &impl Abort,
     alloc: Global,
     model: M,
     boots: &[(TaskId, Class)],
     rows: &[Answered],
-) -> Result<bool, Halt> {
-    let mut core = booted(alloc, model, boots)?;
-    answers(rt, alloc, &mut core, rows)
+) -> bool {
+    match booted(alloc, model, boots) {
+        Some(mut core) => answers(alloc, &mut core, rows),
+        None => false,
+    }
 }
 
 /// Births and walks.
@@ -156,7 +139,7 @@ const BIRTHS: [Answered; 9] = [
 
 #[test]
 fn births_and_walks_go_on_after_a_failed_allocation(rt: HostRuntime) {
-    assert!(rt; goes_on(&rt, rt.alloc(), ProcessGroup, &ALONE, &BIRTHS) == Ok(true));
+    assert!(rt; goes_on(rt.alloc(), ProcessGroup, &ALONE, &BIRTHS));
 }
 
 const STOPS: [Answered; 6] = [
@@ -170,7 +153,7 @@ const STOPS: [Answered; 6] = [
 
 #[test]
 fn stops_go_on_after_a_failed_allocation(rt: HostRuntime) {
-    assert!(rt; goes_on(&rt, rt.alloc(), AllAtOnce, &BOTH, &STOPS) == Ok(true));
+    assert!(rt; goes_on(rt.alloc(), AllAtOnce, &BOTH, &STOPS));
 }
 
 const POINTS: [Answered; 4] = [
@@ -182,7 +165,7 @@ const POINTS: [Answered; 4] = [
 
 #[test]
 fn exits_and_idle_points_go_on_after_a_failed_allocation(rt: HostRuntime) {
-    assert!(rt; goes_on(&rt, rt.alloc(), Hybrid, &WITH_IDLE, &POINTS) == Ok(true));
+    assert!(rt; goes_on(rt.alloc(), Hybrid, &WITH_IDLE, &POINTS));
 }
 
 /// The events by which task 2 of three switches.
@@ -204,12 +187,11 @@ fn views(alloc: Global, core: &Core<Hybrid>) -> Result<Vec<View<'_>>, AllocError
 }
 
 /// Whether a check sees the two tasks that wait.
-fn is_seen(alloc: Global, core: &Core<Hybrid>) -> Result<bool, AllocError> {
-    let views = views(alloc, core)?;
-    Ok(match views.as_slice() {
-        [first, _] => first.task == ONE,
-        _ => false,
-    })
+fn is_seen(alloc: Global, core: &Core<Hybrid>) -> bool {
+    match views(alloc, core) {
+        Ok(views) => matches!(views.as_slice(), [first, _] if first.task == ONE),
+        Err(_) => false,
+    }
 }
 
 /// Whether a copy of the engine has its events, and its tasks their levels.
@@ -222,99 +204,91 @@ fn has_levels(stands: &Opening) -> bool {
     stands.number() == 3 && levels == LEVELS
 }
 
-/// Whether the copy of the engine does. Where an allocation fails, the same call makes it.
-fn is_copied(alloc: Global, core: &Core<Hybrid>) -> Result<bool, AllocError> {
-    let stands = match standing(alloc, core) {
-        Err(_) => standing(alloc, core)?,
-        Ok(stands) => stands,
-    };
-    Ok(has_levels(&stands))
+/// The copy of the engine. Where an allocation fails, the same call makes it.
+fn standing(alloc: Global, core: &Core<Hybrid>) -> Result<Opening, AllocError> {
+    match core.standing(alloc) {
+        Err(_) => core.standing(alloc),
+        answer => answer,
+    }
+}
+
+/// Whether the copy of the engine does.
+fn is_copied(alloc: Global, core: &Core<Hybrid>) -> bool {
+    match standing(alloc, core) {
+        Ok(stands) => has_levels(&stands),
+        Err(_) => false,
+    }
 }
 
 /// Whether it is right in all that is asked.
-fn is_right(alloc: Global, core: &Core<Hybrid>) -> Result<bool, AllocError> {
-    Ok(
-        are_waiting(alloc, core, &[GroupId(1), GroupId(3)])?
-            && is_seen(alloc, core)?
-            && is_copied(alloc, core)?
-            && shown_by(core).levels == LEVELS,
-    )
+fn is_right(alloc: Global, core: &Core<Hybrid>) -> bool {
+    are_waiting(alloc, core, &[GroupId(1), GroupId(3)])
+        && is_seen(alloc, core)
+        && is_copied(alloc, core)
+        && shown_by(core).levels == LEVELS
 }
 
-/// Whether it is, after the events by which task 2 switches.
-fn is_right_after(rt: &impl Abort, alloc: Global, core: &mut Core<Hybrid>) -> Result<bool, Halt> {
-    Ok(answers(rt, alloc, core, &ONE_SWITCHES)? && is_right(alloc, core)?)
-}
-
-/// Whether an engine of three tasks is.
-fn is_asked_again(rt: &impl Abort, alloc: Global) -> Result<bool, Halt> {
-    let mut core = booted(alloc, Hybrid, &THREE_TASKS)?;
-    is_right_after(rt, alloc, &mut core)
+/// Whether an engine of three tasks is, after the events by which task 2 switches.
+fn is_asked_again(alloc: Global) -> bool {
+    match booted(alloc, Hybrid, &THREE_TASKS) {
+        Some(mut core) => answers(alloc, &mut core, &ONE_SWITCHES) && is_right(alloc, &core),
+        None => false,
+    }
 }
 
 #[test]
 fn an_engine_is_asked_again_after_a_failed_allocation(rt: HostRuntime) {
-    assert!(rt; is_asked_again(&rt, rt.alloc()) == Ok(true));
+    assert!(rt; is_asked_again(rt.alloc()));
 }
 
-/// Gives these events to an engine, each of them once more where memory was refused.
-fn give_again<M: Consistency>(
-    rt: &impl Abort,
-    alloc: Global,
-    core: &mut Core<M>,
-    events: &[Event],
-) -> Result<(), Halt> {
+/// Gives these events to an engine, each of them once more where memory was refused; whether it takes them.
+fn give_again(alloc: Global, core: &mut Core<ProcessGroup>, events: &[Event]) -> bool {
     for event in events {
-        answer(rt, alloc, core, *event)?;
-    }
-    Ok(())
-}
-
-/// Whether a walk, weighed by first refusals, has these verdicts. Where an allocation fails, the same
-/// call weighs it.
-fn is_weighed(alloc: Global, core: &Core<ProcessGroup>, found: &[Verdict]) -> Result<bool, Halt> {
-    let scan = match weighed(alloc, core, CheckKind::Walk) {
-        Err(Halt::NoMemory) => weighed(alloc, core, CheckKind::Walk),
-        answer => answer,
-    }?;
-    Ok(scan.verdicts() == found)
-}
-
-/// Whether a walk after the events of a row, before it is taken, is weighed so.
-fn is_weighed_after(
-    rt: &impl Abort,
-    alloc: Global,
-    core: &mut Core<ProcessGroup>,
-    row: &Row,
-) -> Result<bool, Halt> {
-    give_again(rt, alloc, core, row.0)?;
-    let right = is_weighed(alloc, core, row.1)?;
-    answer(rt, alloc, core, Event::Walk)?;
-    Ok(right)
-}
-
-/// Whether each of these walks is.
-fn are_weighed(
-    rt: &impl Abort,
-    alloc: Global,
-    core: &mut Core<ProcessGroup>,
-    rows: &[Row],
-) -> Result<bool, Halt> {
-    for row in rows {
-        if !is_weighed_after(rt, alloc, core, row)? {
-            return Ok(false);
+        if answer(alloc, core, *event).is_none() {
+            return false;
         }
     }
-    Ok(true)
+    true
+}
+
+/// A walk, weighed by first refusals. Where an allocation fails, the same call weighs it.
+fn walk(alloc: Global, core: &Core<ProcessGroup>) -> Result<Step, Halt> {
+    match weighed(alloc, core, CheckKind::Walk) {
+        Err(Halt::NoMemory) => weighed(alloc, core, CheckKind::Walk),
+        answer => answer,
+    }
+}
+
+/// Whether such a walk has these verdicts.
+fn is_weighed(alloc: Global, core: &Core<ProcessGroup>, found: &[Verdict]) -> bool {
+    match walk(alloc, core) {
+        Ok(scan) => scan.verdicts() == found,
+        Err(_) => false,
+    }
+}
+
+/// Whether each walk after the events of a row, before it is taken, is weighed so.
+fn are_weighed(alloc: Global, core: &mut Core<ProcessGroup>, rows: &[Row]) -> bool {
+    for (events, found, _) in rows {
+        if !give_again(alloc, core, *events)
+            || !is_weighed(alloc, core, *found)
+            || answer(alloc, core, Event::Walk).is_none()
+        {
+            return false;
+        }
+    }
+    true
 }
 
 /// Whether they are where the second member of a group returns.
-fn are_weighed_from_start(rt: &impl Abort, alloc: Global) -> Result<bool, Halt> {
-    let mut core = booted(alloc, ProcessGroup, &ALONE)?;
-    are_weighed(rt, alloc, &mut core, &RETURNS)
+fn are_weighed_from_start(alloc: Global) -> bool {
+    match booted(alloc, ProcessGroup, &ALONE) {
+        Some(mut core) => are_weighed(alloc, &mut core, &RETURNS),
+        None => false,
+    }
 }
 
 #[test]
 fn first_refusals_are_weighed_after_a_failed_allocation(rt: HostRuntime) {
-    assert!(rt; are_weighed_from_start(&rt, rt.alloc()) == Ok(true));
+    assert!(rt; are_weighed_from_start(rt.alloc()));
 }

@@ -5,9 +5,7 @@ ghost use Rattle.lp_transition.specs.Weigh.{IsWeighed};
 
 use super::*;
 use lp_model::CheckKind;
-use lp_transition::{StandingBlame, Step, verdicts};
-
-const ALONE: [(TaskId, Class); 1] = [(ONE, Class::Normal)];
+use lp_transition::{StandingBlame, verdicts};
 
 /// A task that waits and sleeps in a call.
 const HELD: [Event; 4] = [
@@ -31,72 +29,85 @@ fn open_scan<M: Consistency>(alloc: Global, core: &Core<M>, kind: CheckKind) -> 
     core.weigh_open(alloc, kind, found.as_slice())
 }
 
-/// How many open views there are, and whether the group of task 1 is known to be held by frame 2.
-fn shown(alloc: Global, core: &Core<Hybrid>) -> Result<(usize, bool), Halt> {
-    let views = core.open_views(alloc)?;
-    let held = StandingBlame {
-        task: ONE,
-        serial: 2,
-    };
-    Ok((views.len(), core.standing_blame(GroupId(1)) == Some(held)))
+/// Whether so many views are open.
+fn are_open(alloc: Global, core: &Core<Hybrid>, count: usize) -> bool {
+    match core.open_views(alloc) {
+        Ok(views) => views.len() == count,
+        Err(_) => false,
+    }
 }
 
-/// What a walk of the open groups says, which is then taken.
-fn open_walk(alloc: Global, core: &mut Core<Hybrid>) -> Result<Said, Halt> {
-    let scan = open_scan(alloc, core, CheckKind::Walk)?;
-    Ok(in_short(&core.take(scan)))
+/// Whether the group of task 1 is known to be held by frame 2.
+fn is_held(core: &Core<Hybrid>) -> bool {
+    match core.standing_blame(GroupId(1)) {
+        Some(StandingBlame { task, serial }) => task == ONE && serial == 2,
+        None => false,
+    }
 }
 
-/// Whether a walk after this is shown says that nobody switches.
-fn walks_on(alloc: Global, core: &mut Core<Hybrid>, wanted: (usize, bool)) -> Result<bool, Halt> {
-    let seen = shown(alloc, core)?;
-    Ok(seen == wanted && open_walk(alloc, core)? == Said::Done)
+/// Whether the group of task 1 is open.
+fn is_open(alloc: Global, core: &Core<Hybrid>) -> bool {
+    are_open(alloc, core, 1) && !is_held(core)
+}
+
+/// Whether a walk of the open groups, which is then taken, says that nobody switches.
+fn walks_in_vain(alloc: Global, core: &mut Core<Hybrid>) -> bool {
+    match open_scan(alloc, core, CheckKind::Walk) {
+        Ok(scan) => taken(core, scan) == Said::Done,
+        Err(_) => false,
+    }
+}
+
+/// Whether the group is open up to a walk, and closed after it.
+fn closes(alloc: Global, core: &mut Core<Hybrid>) -> bool {
+    is_open(alloc, core)
+        && walks_in_vain(alloc, core)
+        && are_open(alloc, core, 0)
+        && is_held(core)
+        && walks_in_vain(alloc, core)
 }
 
 /// Whether the group is open after the return.
-fn opens(alloc: Global, core: &mut Core<Hybrid>) -> Result<bool, Halt> {
-    give(alloc, core, &RETURNS)?;
-    Ok(shown(alloc, core)? == (1, false))
-}
-
-/// Whether the group is open up to a walk, closed after it, and open after the return.
-fn closes_and_opens(alloc: Global, core: &mut Core<Hybrid>) -> Result<bool, Halt> {
-    let walked = walks_on(alloc, core, (1, false))? && walks_on(alloc, core, (0, true))?;
-    Ok(walked && opens(alloc, core)?)
+fn opens(alloc: Global, core: &mut Core<Hybrid>) -> bool {
+    give(alloc, core, &RETURNS) && is_open(alloc, core)
 }
 
 /// Whether that of a task in a call is.
-fn closes_for_a_call(alloc: Global) -> Result<bool, Halt> {
-    let mut core = engine_after(alloc, &ALONE, &HELD)?;
-    closes_and_opens(alloc, &mut core)
+fn closes_for_a_call(alloc: Global) -> bool {
+    match start(alloc, Hybrid, &ALONE) {
+        Some(mut core) => {
+            give(alloc, &mut core, &HELD) && closes(alloc, &mut core) && opens(alloc, &mut core)
+        }
+        None => false,
+    }
 }
 
 #[test]
 fn a_held_group_is_closed_until_its_frame_is_popped(rt: HostRuntime) {
-    assert!(rt; closes_for_a_call(rt.alloc()) == Ok(true));
+    assert!(rt; closes_for_a_call(rt.alloc()));
 }
 
 /// A task that waits on a CPU.
 const BUSY: [Event; 3] = [Event::Enter(ONE), Event::Call(ONE, C), Event::Enable];
 
 /// Whether there is one open view after a walk.
-fn stays_open(alloc: Global, core: &mut Core<Hybrid>) -> Result<bool, Halt> {
-    open_walk(alloc, core)?;
-    Ok(shown(alloc, core)?.0 == 1)
+fn stays_open(alloc: Global, core: &mut Core<Hybrid>) -> bool {
+    walks_in_vain(alloc, core) && are_open(alloc, core, 1)
 }
 
-/// Whether there is after each of two walks.
-fn stays_open_twice(alloc: Global, core: &mut Core<Hybrid>) -> Result<bool, Halt> {
-    Ok(stays_open(alloc, core)? && stays_open(alloc, core)?)
-}
-
-/// Whether there is where a task is busy.
-fn stays_open_for_a_busy_task(alloc: Global) -> Result<bool, Halt> {
-    let mut core = engine_after(alloc, &ALONE, &BUSY)?;
-    stays_open_twice(alloc, &mut core)
+/// Whether there is after each of two walks, where a task is busy.
+fn stays_open_for_a_busy_task(alloc: Global) -> bool {
+    match start(alloc, Hybrid, &ALONE) {
+        Some(mut core) => {
+            give(alloc, &mut core, &BUSY)
+                && stays_open(alloc, &mut core)
+                && stays_open(alloc, &mut core)
+        }
+        None => false,
+    }
 }
 
 #[test]
 fn a_busy_task_leaves_its_group_open(rt: HostRuntime) {
-    assert!(rt; stays_open_for_a_busy_task(rt.alloc()) == Ok(true));
+    assert!(rt; stays_open_for_a_busy_task(rt.alloc()));
 }

@@ -22,18 +22,13 @@ fn fill(members: &mut Members)
     members.insert(OTHER, 65_535);
 }
 
-/// These members, in a box: docs/GATE.md says why.
-fn five(alloc: Global) -> Result<Box<Members>, AllocError>
-    ensures { IfOk result (λ members. (n : ℕ) → 0 < n → n ≤ 4 → is_member members.value 7 n ≡ true) }
+/// These members.
+fn five(alloc: Global) -> Result<Members, AllocError>
+    ensures { IfOk result (λ members. (n : ℕ) → 0 < n → n ≤ 4 → is_member members 7 n ≡ true) }
 {
-    let mut members = Box::new(alloc, Members::new(alloc)?)?;
+    let mut members = Members::new(alloc)?;
     fill(&mut members);
     Ok(members)
-}
-
-/// No numbers, in a box.
-fn no_numbers(alloc: Global) -> Result<Box<NumberSet>, AllocError> {
-    Ok(Box::new(alloc, NumberSet::new(alloc)?)?)
 }
 
 /// Whether these, in increasing order, are all numbers of a set, which is emptied.
@@ -73,24 +68,28 @@ fn are_in(set: &mut NumberSet, members: &Members) -> bool {
 }
 
 /// Whether what is told of them, and who they are, is that of these members.
-fn are_there(alloc: Global, members: &Members) -> Result<bool, AllocError> {
-    let mut set = no_numbers(alloc)?;
-    Ok(are_told(members) && are_in(&mut set, members))
+fn are_there(alloc: Global, members: &Members) -> bool {
+    match NumberSet::new(alloc) {
+        Ok(mut set) => are_told(members) && are_in(&mut set, members),
+        Err(_) => false,
+    }
 }
 
 /// Whether it is of those who were put in.
-fn were_put_in(alloc: Global) -> Result<bool, AllocError> {
-    let members = five(alloc)?;
-    are_there(alloc, &members)
+fn were_put_in(alloc: Global) -> bool {
+    match five(alloc) {
+        Ok(members) => are_there(alloc, &members),
+        Err(_) => false,
+    }
 }
 
 #[test]
 fn a_group_has_who_was_put_in(rt: HostRuntime) {
-    assert!(rt; were_put_in(rt.alloc()) == Ok(true));
+    assert!(rt; were_put_in(rt.alloc()));
 }
 
 /// Takes out the third that was put in, then the last, then the first; whether each time the others
-/// stay.
+/// stay, and the other group keeps its member.
 fn are_taken_out(set: &mut NumberSet, members: &mut Members) -> bool
     requires { (n : ℕ) → 0 < n → n ≤ 4 → is_member members.old 7 n ≡ true }
 {
@@ -99,33 +98,24 @@ fn are_taken_out(set: &mut NumberSet, members: &mut Members) -> bool
     members.remove(GROUP, 4);
     let last = has_these(set, members, GROUP, &[1, 2]);
     members.remove(GROUP, 1);
-    middle && last && has_these(set, members, GROUP, &[2]) && members.is_only(GROUP, 2)
-}
-
-/// Whether the other group keeps its member.
-fn are_taken_out_alone(alloc: Global, members: &mut Members) -> Result<bool, AllocError>
-    requires { (n : ℕ) → 0 < n → n ≤ 4 → is_member members.old 7 n ≡ true }
-{
-    let mut set = no_numbers(alloc)?;
-    Ok(are_taken_out(&mut set, members) && has_these(&mut set, members, OTHER, &[65_535]))
+    middle
+        && last
+        && has_these(set, members, GROUP, &[2])
+        && members.is_only(GROUP, 2)
+        && has_these(set, members, OTHER, &[65_535])
 }
 
 /// Whether all of this is so of the five.
-fn were_taken_out(alloc: Global) -> Result<bool, AllocError> {
-    let mut members = five(alloc)?;
-    are_taken_out_alone(alloc, &mut members)
+fn were_taken_out(alloc: Global) -> bool {
+    match (NumberSet::new(alloc), five(alloc)) {
+        (Ok(mut set), Ok(mut members)) => are_taken_out(&mut set, &mut members),
+        _ => false,
+    }
 }
 
 #[test]
 fn a_group_has_not_who_was_taken_out(rt: HostRuntime) {
-    assert!(rt; were_taken_out(rt.alloc()) == Ok(true));
-}
-
-/// A copy, in a box.
-fn copy_of(alloc: Global, members: &Members) -> Result<Box<Members>, AllocError>
-    ensures { IfOk result (λ copied. copied.value ≡ members.now) }
-{
-    Ok(Box::new(alloc, members.copy(alloc)?)?)
+    assert!(rt; were_taken_out(rt.alloc()));
 }
 
 /// Whether a copy changes alone.
@@ -138,66 +128,71 @@ fn is_apart(set: &mut NumberSet, members: &Members, copied: &mut Members) -> boo
 }
 
 /// Whether the copy of these members does.
-fn is_copied(alloc: Global, set: &mut NumberSet, members: &Members) -> Result<bool, AllocError>
+fn is_copied(alloc: Global, set: &mut NumberSet, members: &Members) -> bool
     requires { is_member members.now 7 2 ≡ true }
 {
-    let mut copied = copy_of(alloc, members)?;
-    Ok(is_apart(set, members, &mut copied))
+    match members.copy(alloc) {
+        Ok(mut copied) => is_apart(set, members, &mut copied),
+        Err(_) => false,
+    }
 }
 
 /// Whether the copy of the five does.
-fn is_copied_of_five(alloc: Global) -> Result<bool, AllocError> {
-    let mut set = no_numbers(alloc)?;
-    let members = five(alloc)?;
-    is_copied(alloc, &mut set, &members)
+fn is_copied_of_five(alloc: Global) -> bool {
+    match (NumberSet::new(alloc), five(alloc)) {
+        (Ok(mut set), Ok(members)) => is_copied(alloc, &mut set, &members),
+        _ => false,
+    }
 }
 
 #[test]
 fn members_are_copied(rt: HostRuntime) {
-    assert!(rt; is_copied_of_five(rt.alloc()) == Ok(true));
+    assert!(rt; is_copied_of_five(rt.alloc()));
 }
 
-/// Whether the copy of these members has those in it. Where an allocation fails there is none, and the
-/// same call makes it.
-fn is_copied_again(
-    alloc: Global,
-    set: &mut NumberSet,
-    members: &Members,
-) -> Result<bool, AllocError> {
-    let copied = match copy_of(alloc, members) {
-        Err(_) => copy_of(alloc, members),
+/// A copy of these members. Where an allocation fails there is none, and the same call makes it.
+fn copy_again(alloc: Global, members: &Members) -> Result<Members, AllocError> {
+    match members.copy(alloc) {
+        Err(_) => members.copy(alloc),
         answer => answer,
-    }?;
-    Ok(are_in(set, &copied))
+    }
 }
 
-/// Whether these members and their copy are those.
-fn are_in_both(alloc: Global, set: &mut NumberSet, members: &Members) -> Result<bool, AllocError> {
-    Ok(are_in(set, members) && is_copied_again(alloc, set, members)?)
+/// Whether these members and their copy are those who were put in.
+fn are_in_both(alloc: Global, set: &mut NumberSet, members: &Members) -> bool {
+    match copy_again(alloc, members) {
+        Ok(copied) => are_in(set, members) && are_in(set, &copied),
+        Err(_) => false,
+    }
 }
 
-/// Whether the five and their copy are. Where an allocation fails there are none, and the same call
-/// makes them.
-fn are_made_again(alloc: Global, set: &mut NumberSet) -> Result<bool, AllocError> {
-    let members = match five(alloc) {
+/// No numbers. Where an allocation fails, the same call makes them.
+fn no_numbers_again(alloc: Global) -> Result<NumberSet, AllocError> {
+    match NumberSet::new(alloc) {
+        Err(_) => NumberSet::new(alloc),
+        answer => answer,
+    }
+}
+
+/// The five. Where an allocation fails there are none, and the same call makes them.
+fn five_again(alloc: Global) -> Result<Members, AllocError> {
+    match five(alloc) {
         Err(_) => five(alloc),
         answer => answer,
-    }?;
-    are_in_both(alloc, set, &members)
+    }
 }
 
-/// Whether they are, told by a set that is made likewise.
-fn are_all_made_again(alloc: Global) -> Result<bool, AllocError> {
-    let mut set = match no_numbers(alloc) {
-        Err(_) => no_numbers(alloc),
-        answer => answer,
-    }?;
-    are_made_again(alloc, &mut set)
+/// Whether the five and their copy are, told by a set that is made likewise.
+fn are_all_made_again(alloc: Global) -> bool {
+    match (no_numbers_again(alloc), five_again(alloc)) {
+        (Ok(mut set), Ok(members)) => are_in_both(alloc, &mut set, &members),
+        _ => false,
+    }
 }
 
 /// For `scripts/refuse-memory`: after a failed allocation there are none, and the same call makes
 /// them.
 #[test]
 fn members_are_made_again_after_a_failed_allocation(rt: HostRuntime) {
-    assert!(rt; are_all_made_again(rt.alloc()) == Ok(true));
+    assert!(rt; are_all_made_again(rt.alloc()));
 }

@@ -100,31 +100,26 @@ fn each_blames(aim: &Aim<'_>, task: &TaskStack, want: &Blamed) -> bool {
 }
 
 /// Whether a row of `BLAMED` is right.
-fn is_right(alloc: Global, aim: &Aim<'_>, row: &Row<'_>) -> Result<bool, AllocError> {
-    let (mode, funcs, want) = *row;
-    let task = task_in(alloc, mode, funcs)?;
-    Ok(each_blames(aim, &task, want))
+fn is_right(alloc: Global, aim: &Aim<'_>, row: &Row<'_>) -> bool {
+    match task_in(alloc, row.0, row.1) {
+        Ok(task) => each_blames(aim, &task, row.2),
+        Err(_) => false,
+    }
 }
 
 /// Whether each of these rows is.
-fn are_right(alloc: Global, aim: &Aim<'_>, rows: &[Row<'_>]) -> Result<bool, AllocError> {
+fn are_right(alloc: Global, aim: &Aim<'_>, rows: &[Row<'_>]) -> bool {
     for row in rows {
-        if !is_right(alloc, aim, row)? {
-            return Ok(false);
+        if !is_right(alloc, aim, row) {
+            return false;
         }
     }
-    Ok(true)
-}
-
-/// Whether all of `BLAMED` are: a table costs at each step of a function that has it, so that this one
-/// has no other.
-fn all_are_right(alloc: Global, aim: &Aim<'_>) -> Result<bool, AllocError> {
-    are_right(alloc, aim, &BLAMED)
+    true
 }
 
 #[test]
 fn models_blame_frames_and_cpus(rt: HostRuntime) {
-    assert!(rt; on_the_way_to_a(rt.alloc(), Table::Blamed) == Ok(true));
+    assert!(rt; on_the_way_to_a(rt.alloc(), Table::Blamed));
 }
 
 /// A task with these calls in a mode, and what process-group blames it for at each kind of check.
@@ -138,36 +133,26 @@ const BLAMED_IN_A_GROUP: [GroupRow<'static>; 4] = [
 ];
 
 /// Whether a row of `BLAMED_IN_A_GROUP` is right.
-fn is_right_in_a_group(
-    alloc: Global,
-    aim: &Aim<'_>,
-    row: &GroupRow<'_>,
-) -> Result<bool, AllocError> {
-    let task = task_in(alloc, row.0, row.1)?;
-    Ok(are_blamed(ProcessGroup, aim, &task, &row.2))
+fn is_right_in_a_group(alloc: Global, aim: &Aim<'_>, row: &GroupRow<'_>) -> bool {
+    match task_in(alloc, row.0, row.1) {
+        Ok(task) => are_blamed(ProcessGroup, aim, &task, &row.2),
+        Err(_) => false,
+    }
 }
 
 /// Whether each of these rows is.
-fn are_right_in_a_group(
-    alloc: Global,
-    aim: &Aim<'_>,
-    rows: &[GroupRow<'_>],
-) -> Result<bool, AllocError> {
+fn are_right_in_a_group(alloc: Global, aim: &Aim<'_>, rows: &[GroupRow<'_>]) -> bool {
     for row in rows {
-        if !is_right_in_a_group(alloc, aim, row)? {
-            return Ok(false);
+        if !is_right_in_a_group(alloc, aim, row) {
+            return false;
         }
     }
-    Ok(true)
-}
-
-fn all_are_right_in_a_group(alloc: Global, aim: &Aim<'_>) -> Result<bool, AllocError> {
-    are_right_in_a_group(alloc, aim, &BLAMED_IN_A_GROUP)
+    true
 }
 
 #[test]
 fn process_group_blames_frames_and_the_kernel(rt: HostRuntime) {
-    assert!(rt; on_the_way_to_a(rt.alloc(), Table::BlamedInAGroup) == Ok(true));
+    assert!(rt; on_the_way_to_a(rt.alloc(), Table::BlamedInAGroup));
 }
 
 /// Calls of a task, and the serial of the lowest that is stale.
@@ -181,23 +166,21 @@ const LOWEST: [LowestRow; 4] = [
 ];
 
 /// Whether a row of `LOWEST` is right.
-fn is_lowest(alloc: Global, aim: &Aim<'_>, row: &LowestRow) -> Result<bool, AllocError> {
-    let task = task_in(alloc, Mode::User, &row.0)?;
-    Ok(lowest_stale(&task.view(), aim) == row.1)
+fn is_lowest(alloc: Global, aim: &Aim<'_>, row: &LowestRow) -> bool {
+    match task_in(alloc, Mode::User, &row.0) {
+        Ok(task) => lowest_stale(&task.view(), aim) == row.1,
+        Err(_) => false,
+    }
 }
 
 /// Whether each of these rows is.
-fn are_lowest(alloc: Global, aim: &Aim<'_>, rows: &[LowestRow]) -> Result<bool, AllocError> {
+fn are_lowest(alloc: Global, aim: &Aim<'_>, rows: &[LowestRow]) -> bool {
     for row in rows {
-        if !is_lowest(alloc, aim, row)? {
-            return Ok(false);
+        if !is_lowest(alloc, aim, row) {
+            return false;
         }
     }
-    Ok(true)
-}
-
-fn all_are_lowest(alloc: Global, aim: &Aim<'_>) -> Result<bool, AllocError> {
-    are_lowest(alloc, aim, &LOWEST)
+    true
 }
 
 /// The tables of tasks in calls.
@@ -208,28 +191,30 @@ enum Table {
     Lowest,
 }
 
-/// Whether each row of a table is right.
-fn is_table_right(alloc: Global, aim: &Aim<'_>, table: Table) -> Result<bool, AllocError> {
+/// Whether each row of a table is right, on the way to the first of these patches.
+fn is_table_right(alloc: Global, patches: &PatchStack, table: Table) -> bool {
+    let aim = Aim {
+        patches,
+        target: Level(1),
+    };
     match table {
-        Table::Blamed => all_are_right(alloc, aim),
-        Table::BlamedInAGroup => all_are_right_in_a_group(alloc, aim),
-        Table::Lowest => all_are_lowest(alloc, aim),
+        Table::Blamed => are_right(alloc, &aim, &BLAMED),
+        Table::BlamedInAGroup => are_right_in_a_group(alloc, &aim, &BLAMED_IN_A_GROUP),
+        Table::Lowest => are_lowest(alloc, &aim, &LOWEST),
     }
 }
 
-/// The same, on the way to a patch of `a`.
-fn on_the_way_to_a(alloc: Global, table: Table) -> Result<bool, PatchFault> {
-    let patches = stacked(alloc, &[A])?;
-    let aim = Aim {
-        patches: &patches,
-        target: Level(1),
-    };
-    Ok(is_table_right(alloc, &aim, table)?)
+/// The same, of a patch of `a`.
+fn on_the_way_to_a(alloc: Global, table: Table) -> bool {
+    match patches(alloc, &[&[A]]) {
+        Ok(patches) => is_table_right(alloc, &patches, table),
+        Err(_) => false,
+    }
 }
 
 #[test]
 fn the_lowest_stale_frame(rt: HostRuntime) {
-    assert!(rt; on_the_way_to_a(rt.alloc(), Table::Lowest) == Ok(true));
+    assert!(rt; on_the_way_to_a(rt.alloc(), Table::Lowest));
 }
 
 /// Whether task 7 has this group, and a child 9 of group 3 these, by a fork of its own and a shared one.

@@ -1,18 +1,15 @@
 //! Sets of numbers through inserts, removals and walks.
 use super::*;
 use lp_numbers::NumberSet;
-use std::alloc::AllocError;
 
 /// Members at the ends of words of 64 numbers, and at the ends of runs of 64 words.
 const MEMBERS: [u16; 9] = [0, 1, 63, 64, 4_095, 4_096, 4_160, 65_472, 65_535];
 
-/// The set of these numbers, in a box: docs/GATE.md says why.
-fn set_of(alloc: Global, numbers: &[u16]) -> Result<Box<NumberSet>, AllocError> {
-    let mut set = Box::new(alloc, NumberSet::new(alloc)?)?;
+/// Puts these numbers into a set.
+fn insert(set: &mut NumberSet, numbers: &[u16]) {
     for number in numbers {
         set.insert(*number);
     }
-    Ok(set)
 }
 
 /// From where a walk begins, and the member that it meets.
@@ -46,16 +43,24 @@ const WALKS: [Walk; 11] = [
 /// Walks over 0 and 64.
 const SHORT_WALKS: [Walk; 3] = [(64, Some(64)), (65, None), (65_535, None)];
 
-/// Whether each of these walks over the set of these numbers ends there.
-fn end_there_over(alloc: Global, numbers: &[u16], walks: &[Walk]) -> Result<bool, AllocError> {
-    let set = set_of(alloc, numbers)?;
-    Ok(end_there(&set, walks))
+/// Whether each of these walks over an empty set, with these numbers put in, ends there.
+fn insert_and_end_there(set: &mut NumberSet, numbers: &[u16], walks: &[Walk]) -> bool {
+    insert(set, numbers);
+    end_there(set, walks)
+}
+
+/// Whether each does over a new set.
+fn end_there_over(alloc: Global, numbers: &[u16], walks: &[Walk]) -> bool {
+    match NumberSet::new(alloc) {
+        Ok(mut set) => insert_and_end_there(&mut set, numbers, walks),
+        Err(_) => false,
+    }
 }
 
 #[test]
 fn a_walk_meets_each_member_and_ends_past_the_last(rt: HostRuntime) {
-    assert!(rt; end_there_over(rt.alloc(), &MEMBERS, &WALKS) == Ok(true));
-    assert!(rt; end_there_over(rt.alloc(), &[0, 64], &SHORT_WALKS) == Ok(true));
+    assert!(rt; end_there_over(rt.alloc(), &MEMBERS, &WALKS));
+    assert!(rt; end_there_over(rt.alloc(), &[0, 64], &SHORT_WALKS));
 }
 
 /// Walks after 0, 64, 4,096 and 65,472 were removed.
@@ -72,21 +77,24 @@ fn remove(set: &mut NumberSet, numbers: &[u16]) {
     }
 }
 
-/// Whether these numbers of a set are passed over once they are removed.
+/// Whether these numbers of `MEMBERS`, put into an empty set, are passed over once they are removed.
 fn are_passed_over(set: &mut NumberSet) -> bool {
+    insert(set, &MEMBERS);
     remove(set, &[0, 64, 4_096, 65_472, 5]);
     end_there(set, &WALKS_PAST) && !set.contains(64) && set.contains(63)
 }
 
-/// Whether they are of `MEMBERS`.
-fn are_passed_over_in_members(alloc: Global) -> Result<bool, AllocError> {
-    let mut set = set_of(alloc, &MEMBERS)?;
-    Ok(are_passed_over(&mut set))
+/// Whether they are in a new set.
+fn are_passed_over_in_members(alloc: Global) -> bool {
+    match NumberSet::new(alloc) {
+        Ok(mut set) => are_passed_over(&mut set),
+        Err(_) => false,
+    }
 }
 
 #[test]
 fn what_is_removed_is_passed_over(rt: HostRuntime) {
-    assert!(rt; are_passed_over_in_members(rt.alloc()) == Ok(true));
+    assert!(rt; are_passed_over_in_members(rt.alloc()));
 }
 
 /// Whether an empty set is empty, but where it has a member.
@@ -102,14 +110,16 @@ fn is_empty_without_members(set: &mut NumberSet) -> bool {
 }
 
 /// Whether a new set is.
-fn is_empty_at_first(alloc: Global) -> Result<bool, AllocError> {
-    let mut set = set_of(alloc, &[])?;
-    Ok(is_empty_without_members(&mut set))
+fn is_empty_at_first(alloc: Global) -> bool {
+    match NumberSet::new(alloc) {
+        Ok(mut set) => is_empty_without_members(&mut set),
+        Err(_) => false,
+    }
 }
 
 #[test]
 fn a_set_is_empty_until_it_has_a_member(rt: HostRuntime) {
-    assert!(rt; is_empty_at_first(rt.alloc()) == Ok(true));
+    assert!(rt; is_empty_at_first(rt.alloc()));
 }
 
 /// Whether a copy changes alone, and is then made anew.
@@ -120,19 +130,24 @@ fn is_apart(set: &NumberSet, copied: &mut NumberSet) -> bool {
     apart && copied.next(4) == Some(64)
 }
 
-/// Whether a copy of a set is one of its own.
-fn is_copied(alloc: Global, set: &NumberSet) -> Result<bool, AllocError> {
-    let mut copied = Box::new(alloc, set.copy(alloc)?)?;
-    Ok(is_apart(set, &mut copied))
+/// Whether a copy of an empty set, with three numbers put in, is one of its own.
+fn is_copied(alloc: Global, set: &mut NumberSet) -> bool {
+    insert(set, &[3, 64, 128]);
+    match set.copy(alloc) {
+        Ok(mut copied) => is_apart(set, &mut copied),
+        Err(_) => false,
+    }
 }
 
-/// Whether the copy of a set of three is.
-fn is_copied_of_three(alloc: Global) -> Result<bool, AllocError> {
-    let set = set_of(alloc, &[3, 64, 128])?;
-    is_copied(alloc, &set)
+/// Whether the copy of a new set is.
+fn is_copied_of_three(alloc: Global) -> bool {
+    match NumberSet::new(alloc) {
+        Ok(mut set) => is_copied(alloc, &mut set),
+        Err(_) => false,
+    }
 }
 
 #[test]
 fn sets_are_copied(rt: HostRuntime) {
-    assert!(rt; is_copied_of_three(rt.alloc()) == Ok(true));
+    assert!(rt; is_copied_of_three(rt.alloc()));
 }

@@ -1,6 +1,7 @@
 //! Patches that are built, stacked and asked.
 use super::*;
 use lp_patch::Aim;
+use std::alloc::AllocError;
 
 const UNKNOWN: SymId = SymId(3);
 
@@ -30,24 +31,40 @@ fn faults_are_found(alloc: Global, symbols: &Symbols) -> bool {
 }
 
 /// Whether each is, over `a`, `b` and `c`.
-fn faults_are_found_over_three(alloc: Global) -> Result<bool, SymFault> {
-    let symbols = three(alloc)?;
-    Ok(faults_are_found(alloc, &symbols))
+fn faults_are_found_over_three(alloc: Global) -> bool {
+    match names(alloc) {
+        Some(symbols) => faults_are_found(alloc, &symbols),
+        None => false,
+    }
 }
 
 #[test]
 fn faults_of_a_patch_come_in_their_order(rt: HostRuntime) {
-    assert!(rt; faults_are_found_over_three(rt.alloc()) == Ok(true));
+    assert!(rt; faults_are_found_over_three(rt.alloc()));
 }
 
 /// A patch of these over `a`, `b` and `c`, in a box.
-fn patch_of(alloc: Global, symbols: &Symbols, ids: &[SymId]) -> Result<Box<PatchSet>, PatchFault> {
-    Ok(Box::new(alloc, PatchSet::build(alloc, symbols, ids)?)?)
+fn patch_of(alloc: Global, symbols: &Symbols, ids: &[SymId]) -> Option<Box<PatchSet>> {
+    match PatchSet::build(alloc, symbols, ids) {
+        Ok(set) => Box::new(alloc, set).ok(),
+        Err(_) => None,
+    }
 }
 
 /// A copy of a patch, in a box.
-fn copy_of(alloc: Global, set: &PatchSet) -> Result<Box<PatchSet>, PatchFault> {
-    Ok(Box::new(alloc, set.copy(alloc)?)?)
+fn copy_of(alloc: Global, set: &PatchSet) -> Option<Box<PatchSet>> {
+    match set.copy(alloc) {
+        Ok(copy) => Box::new(alloc, copy).ok(),
+        Err(_) => None,
+    }
+}
+
+/// The same. Where an allocation fails there is none, and the same call makes it.
+fn copy_again(alloc: Global, set: &PatchSet) -> Option<Box<PatchSet>> {
+    match copy_of(alloc, set) {
+        None => copy_of(alloc, set),
+        answer => answer,
+    }
 }
 
 /// Whether a patch has `c` and `a` of the three symbols, and no more.
@@ -56,36 +73,34 @@ fn has_c_and_a(set: &PatchSet) -> bool {
 }
 
 /// Whether the copy of a patch is the same.
-fn is_copied(alloc: Global, set: &PatchSet) -> Result<bool, PatchFault> {
-    let copy = copy_of(alloc, set)?;
-    Ok(copy.same(set))
+fn is_copied(alloc: Global, set: &PatchSet) -> bool {
+    match copy_again(alloc, set) {
+        Some(copy) => copy.same(set),
+        None => false,
+    }
 }
 
-/// Whether a patch is the same as one of these.
-fn is_of(
-    alloc: Global,
-    symbols: &Symbols,
-    ids: &[SymId],
-    set: &PatchSet,
-) -> Result<bool, PatchFault> {
-    let other = patch_of(alloc, symbols, ids)?;
-    Ok(set.same(&other))
+/// Whether a patch is another than one of `a` and `b`.
+fn is_other(alloc: Global, symbols: &Symbols, set: &PatchSet) -> bool {
+    match patch_of(alloc, symbols, &[A, B]) {
+        Some(other) => !set.same(&other),
+        None => false,
+    }
 }
 
-/// Whether a patch has `c` and `a`, in its copy too, and is no patch of `a` and `b`.
-fn is_of_c_and_a(alloc: Global, symbols: &Symbols, set: &PatchSet) -> Result<bool, PatchFault> {
-    Ok(has_c_and_a(set) && is_copied(alloc, set)? && !is_of(alloc, symbols, &[A, B], set)?)
-}
-
-/// Whether a patch of `c` and `a` does.
-fn has_what_it_was_built_of(alloc: Global, symbols: &Symbols) -> Result<bool, PatchFault> {
-    let set = patch_of(alloc, symbols, &[C, A])?;
-    is_of_c_and_a(alloc, symbols, &set)
+/// Whether a patch of `c` and `a` has these, in its copy too, and is no patch of `a` and `b`.
+fn has_what_it_was_built_of(alloc: Global, symbols: &Symbols) -> bool {
+    match patch_of(alloc, symbols, &[C, A]) {
+        Some(set) => {
+            has_c_and_a(&set) && is_copied(alloc, &set) && is_other(alloc, symbols, &set)
+        }
+        None => false,
+    }
 }
 
 #[test]
 fn a_patch_has_what_it_was_built_of(rt: HostRuntime) {
-    assert!(rt; over_three(rt.alloc(), Build::Once) == Ok(true));
+    assert!(rt; over_three(rt.alloc(), false));
 }
 
 /// A level, and the versions of `a` and `b` that run at it, where `a`, `b` and `a` are patched in turn.
@@ -116,32 +131,41 @@ fn run_at_each(stack: &PatchStack) -> bool {
     true
 }
 
-/// A copy of a stack, in a box.
-fn copy_of_stack(alloc: Global, stack: &PatchStack) -> Result<Box<PatchStack>, PatchFault> {
-    Ok(Box::new(alloc, stack.copy(alloc)?)?)
+/// A copy of a stack. Where an allocation fails there is none, and the same call makes it.
+fn copy_of_stack(alloc: Global, stack: &PatchStack) -> Result<PatchStack, AllocError> {
+    match stack.copy(alloc) {
+        Err(_) => stack.copy(alloc),
+        answer => answer,
+    }
 }
 
 /// Whether the copy of a stack is the same.
-fn is_stack_copied(alloc: Global, stack: &PatchStack) -> Result<bool, PatchFault> {
-    let copy = copy_of_stack(alloc, stack)?;
-    Ok(copy.same(stack))
+fn is_stack_copied(alloc: Global, stack: &PatchStack) -> bool {
+    match copy_of_stack(alloc, stack) {
+        Ok(copy) => copy.same(stack),
+        Err(_) => false,
+    }
 }
 
 /// Whether a stack of three patches over three symbols runs them, and is copied.
-fn runs_three(alloc: Global, stack: &PatchStack) -> Result<bool, PatchFault> {
-    let whole = stack.patches() == Level(3) && stack.symbols() == 3 && run_at_each(stack);
-    Ok(whole && is_stack_copied(alloc, stack)?)
+fn runs_three(alloc: Global, stack: &PatchStack) -> bool {
+    stack.patches() == Level(3)
+        && stack.symbols() == 3
+        && run_at_each(stack)
+        && is_stack_copied(alloc, stack)
 }
 
 /// Whether one of `a`, `b` and `a` does.
-fn three_run(alloc: Global) -> Result<bool, PatchFault> {
-    let stack = stacked(alloc, &[A, B, A])?;
-    runs_three(alloc, &stack)
+fn three_run(alloc: Global) -> bool {
+    match patches(alloc, &[&[A], &[B], &[A]]) {
+        Ok(stack) => runs_three(alloc, &stack),
+        Err(_) => false,
+    }
 }
 
 #[test]
 fn a_level_runs_the_last_patch_up_to_it(rt: HostRuntime) {
-    assert!(rt; three_run(rt.alloc()) == Ok(true));
+    assert!(rt; three_run(rt.alloc()));
 }
 
 /// A call at a level, and whether it is stale on the way to level 2 of the same patches.
@@ -156,7 +180,11 @@ const STALE: [(SymId, u8, bool); 7] = [
 ];
 
 /// Whether this is said of each of these calls.
-fn is_said_of_each(aim: &Aim<'_>) -> bool {
+fn is_said_of_each(patches: &PatchStack) -> bool {
+    let aim = Aim {
+        patches,
+        target: Level(2),
+    };
     for (func, level, stale) in &STALE {
         if aim.stale(&frame(*func, *level, 1)) != *stale {
             return false;
@@ -166,113 +194,109 @@ fn is_said_of_each(aim: &Aim<'_>) -> bool {
 }
 
 /// Whether it is where `a`, `b` and `a` are patched in turn.
-fn is_said(alloc: Global) -> Result<bool, PatchFault> {
-    let patches = stacked(alloc, &[A, B, A])?;
-    Ok(is_said_of_each(&Aim {
-        patches: &patches,
-        target: Level(2),
-    }))
+fn is_said(alloc: Global) -> bool {
+    match patches(alloc, &[&[A], &[B], &[A]]) {
+        Ok(patches) => is_said_of_each(&patches),
+        Err(_) => false,
+    }
 }
 
 #[test]
 fn a_call_of_another_version_is_stale(rt: HostRuntime) {
-    assert!(rt; is_said(rt.alloc()) == Ok(true));
+    assert!(rt; is_said(rt.alloc()));
 }
 
-/// Lists of functions, and how many patches a stack has with one of each function.
-const COUNTS: [(&[SymId], Result<Level, PatchFault>); 3] = [
+/// The functions of a patch of `a`.
+const ONLY_A: &[SymId] = &[A];
+
+/// Lists of functions, and how many patches a stack has with one of each list.
+const COUNTS: [(&[&[SymId]], Result<Level, PatchFault>); 3] = [
     (&[], Err(PatchFault::Empty)),
-    (&[A; 16], Ok(Level(16))),
-    (&[A; 17], Err(PatchFault::TooManyPatches)),
+    (&[ONLY_A; 16], Ok(Level(16))),
+    (&[ONLY_A; 17], Err(PatchFault::TooManyPatches)),
 ];
 
 /// How many patches a stack has with one of each of these.
-fn patches_of(alloc: Global, ids: &[SymId]) -> Result<Level, PatchFault> {
-    let stack = stacked(alloc, ids)?;
-    Ok(stack.patches())
+fn patches_of(alloc: Global, lists: &[&[SymId]]) -> Result<Level, PatchFault> {
+    match patches(alloc, lists) {
+        Ok(stack) => Ok(stack.patches()),
+        Err(fault) => Err(fault),
+    }
 }
 
 #[test]
 fn a_stack_has_1_to_16_patches(rt: HostRuntime) {
-    for (ids, want) in &COUNTS {
-        assert!(rt; patches_of(rt.alloc(), *ids) == *want);
+    for (lists, want) in &COUNTS {
+        assert!(rt; patches_of(rt.alloc(), *lists) == *want);
     }
 }
 
-/// Whether a patch has its functions, in a copy too. Where an allocation of the copy fails there is
-/// none, and the same call makes it.
-fn is_copied_again(alloc: Global, set: &PatchSet) -> Result<bool, PatchFault> {
-    let copied = match is_copied(alloc, set) {
-        Err(PatchFault::NoMemory) => is_copied(alloc, set),
+/// A patch of `c` and `a`, in a box. Where an allocation fails there is none, and the same call makes it.
+fn patch_again(alloc: Global, symbols: &Symbols) -> Option<Box<PatchSet>> {
+    match patch_of(alloc, symbols, &[C, A]) {
+        None => patch_of(alloc, symbols, &[C, A]),
         answer => answer,
-    }?;
-    Ok(copied && has_c_and_a(set))
+    }
 }
 
-/// A patch and its copy, over these symbols. Where an allocation fails there is none, and the same call
-/// makes it.
-fn builds_and_copies(alloc: Global, symbols: &Symbols) -> Result<bool, PatchFault> {
-    let set = match patch_of(alloc, symbols, &[C, A]) {
-        Err(PatchFault::NoMemory) => patch_of(alloc, symbols, &[C, A]),
-        answer => answer,
-    }?;
-    is_copied_again(alloc, &set)
+/// Whether it has its functions, and its copy is the same.
+fn builds_and_copies(alloc: Global, symbols: &Symbols) -> bool {
+    match patch_again(alloc, symbols) {
+        Some(set) => is_copied(alloc, &set) && has_c_and_a(&set),
+        None => false,
+    }
 }
 
 /// For `scripts/refuse-memory`: after a failed allocation no patch is there, and the same call
 /// makes it.
 #[test]
 fn builds_again_after_a_failed_allocation(rt: HostRuntime) {
-    assert!(rt; over_three(rt.alloc(), Build::Again) == Ok(true));
+    assert!(rt; over_three(rt.alloc(), true));
 }
 
-/// Whether the stack of `a`, then `b`, runs these, in a copy too, as `is_copied_again` has it.
-fn is_stack_copied_again(alloc: Global, stack: &PatchStack) -> Result<bool, PatchFault> {
-    let copied = match is_stack_copied(alloc, stack) {
-        Err(PatchFault::NoMemory) => is_stack_copied(alloc, stack),
+/// `a`, `b` and `c`. Where an allocation fails, the same call makes them.
+fn names_again(alloc: Global) -> Option<Box<Symbols>> {
+    match names(alloc) {
+        None => names(alloc),
         answer => answer,
-    }?;
-    Ok(copied && runs(stack, Level(2), 1, 2))
-}
-
-/// Likewise for a stack. The refused call has taken the patches, so they are built anew.
-fn stacks_and_copies(alloc: Global, symbols: &Symbols) -> Result<bool, PatchFault> {
-    let stack = match stacked_over(alloc, symbols, &[A, B]) {
-        Err(PatchFault::NoMemory) => stacked_over(alloc, symbols, &[A, B]),
-        answer => answer,
-    }?;
-    is_stack_copied_again(alloc, &stack)
-}
-
-/// What is built over three symbols, which are made again where an allocation failed.
-#[derive(Clone, Copy)]
-enum Build {
-    /// A patch.
-    Once,
-    /// A patch, each call again where an allocation failed.
-    Again,
-    /// A stack, likewise.
-    StackAgain,
-}
-
-/// Whether that is right.
-fn is_built(alloc: Global, symbols: &Symbols, build: Build) -> Result<bool, PatchFault> {
-    match build {
-        Build::Once => has_what_it_was_built_of(alloc, symbols),
-        Build::Again => builds_and_copies(alloc, symbols),
-        Build::StackAgain => stacks_and_copies(alloc, symbols),
     }
 }
 
-/// The same, over `a`, `b` and `c`. The fault is NoMemory also where the names get no memory.
-fn over_three(alloc: Global, build: Build) -> Result<bool, PatchFault> {
-    match three_again(alloc) {
-        Ok(symbols) => is_built(alloc, &symbols, build),
-        Err(_) => Err(PatchFault::NoMemory),
+/// Whether a patch over these is right; where `again` is true, each call is made again where an allocation
+/// failed.
+fn is_built(alloc: Global, symbols: &Symbols, again: bool) -> bool {
+    if again {
+        builds_and_copies(alloc, symbols)
+    } else {
+        has_what_it_was_built_of(alloc, symbols)
+    }
+}
+
+/// The same, over `a`, `b` and `c`.
+fn over_three(alloc: Global, again: bool) -> bool {
+    match names_again(alloc) {
+        Some(symbols) => is_built(alloc, &symbols, again),
+        None => false,
+    }
+}
+
+/// The stack of `a`, then `b`. Where an allocation fails there is none, and the same calls make it.
+fn stack_again(alloc: Global) -> Result<PatchStack, PatchFault> {
+    match patches(alloc, &[&[A], &[B]]) {
+        Err(PatchFault::NoMemory) => patches(alloc, &[&[A], &[B]]),
+        answer => answer,
+    }
+}
+
+/// Whether it runs these, and its copy, likewise, is the same.
+fn stacks_and_copies(alloc: Global) -> bool {
+    match stack_again(alloc) {
+        Ok(stack) => is_stack_copied(alloc, &stack) && runs(&stack, Level(2), 1, 2),
+        Err(_) => false,
     }
 }
 
 #[test]
 fn stacks_again_after_a_failed_allocation(rt: HostRuntime) {
-    assert!(rt; over_three(rt.alloc(), Build::StackAgain) == Ok(true));
+    assert!(rt; stacks_and_copies(rt.alloc()));
 }

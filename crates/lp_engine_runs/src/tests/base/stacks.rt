@@ -1,7 +1,6 @@
 //! Tasks with their frames, and views that are kept.
 use super::*;
 use lp_stack::ViewCopy;
-use std::alloc::AllocError;
 
 /// A call of `c` at level 1.
 fn called(serial: u32) -> Frame {
@@ -9,8 +8,8 @@ fn called(serial: u32) -> Frame {
 }
 
 /// A task of a class in the kernel, with no frames, in a box: docs/GATE.md says why.
-fn in_kernel(alloc: Global, class: Class) -> Result<Box<TaskStack>, AllocError> {
-    Ok(Box::new(alloc, TaskStack::new(TaskId(7), class, Mode::Kernel))?)
+fn in_kernel(alloc: Global, class: Class) -> Option<Box<TaskStack>> {
+    Box::new(alloc, TaskStack::new(TaskId(7), class, Mode::Kernel)).ok()
 }
 
 /// Whether a task has room for 100 calls.
@@ -33,14 +32,16 @@ fn has_room_for_no_more(stack: &mut TaskStack) -> bool {
 }
 
 /// Whether a task has room for 100 frames.
-fn has_room_for_100(alloc: Global) -> Result<bool, AllocError> {
-    let mut stack = in_kernel(alloc, Class::Normal)?;
-    Ok(has_room(&mut stack) && has_room_for_no_more(&mut stack))
+fn has_room_for_100(alloc: Global) -> bool {
+    match in_kernel(alloc, Class::Normal) {
+        Some(mut stack) => has_room(&mut stack) && has_room_for_no_more(&mut stack),
+        None => false,
+    }
 }
 
 #[test]
 fn refuses_the_101st_frame(rt: HostRuntime) {
-    assert!(rt; has_room_for_100(rt.alloc()) == Ok(true));
+    assert!(rt; has_room_for_100(rt.alloc()));
 }
 
 /// Whether a task has no frame, and then one.
@@ -73,20 +74,23 @@ fn stays(stack: &mut TaskStack, kept: &ViewCopy) -> bool {
     tells_modes(stack, kept) && tells_frames(stack, kept) && is_as_it_was(stack, kept)
 }
 
-/// Whether a view is kept while the task changes, which gets its first frame before.
-fn is_kept(alloc: Global, stack: &mut TaskStack) -> Result<bool, AllocError> {
-    let first = has_its_first_frame(stack);
-    let kept = Box::new(alloc, ViewCopy::of(&stack.view()))?;
-    Ok(first && stays(stack, &kept))
+/// Whether a view is kept while the task changes.
+fn is_kept(alloc: Global, stack: &mut TaskStack) -> bool {
+    match Box::new(alloc, ViewCopy::of(&stack.view())) {
+        Ok(kept) => stays(stack, &kept),
+        Err(_) => false,
+    }
 }
 
-/// Whether one is of a new task.
-fn is_kept_of_a_task(alloc: Global) -> Result<bool, AllocError> {
-    let mut stack = in_kernel(alloc, Class::Idle)?;
-    is_kept(alloc, &mut stack)
+/// Whether one is of a new task, which gets its first frame before.
+fn is_kept_of_a_task(alloc: Global) -> bool {
+    match in_kernel(alloc, Class::Idle) {
+        Some(mut stack) => has_its_first_frame(&mut stack) && is_kept(alloc, &mut stack),
+        None => false,
+    }
 }
 
 #[test]
 fn keeps_a_view(rt: HostRuntime) {
-    assert!(rt; is_kept_of_a_task(rt.alloc()) == Ok(true));
+    assert!(rt; is_kept_of_a_task(rt.alloc()));
 }

@@ -19,26 +19,34 @@ fn are_found(symbols: &Symbols) -> bool {
 }
 
 /// Whether an empty list numbers them in order, and then these two alone are found.
-fn are_numbered_and_found(alloc: Global) -> Result<bool, SymFault> {
-    let mut symbols = none(alloc)?;
-    Ok(are_numbered_in_order(&mut symbols) && are_found(&symbols))
+fn are_numbered_and_found(alloc: Global) -> bool {
+    match no_names(alloc) {
+        Some(mut symbols) => are_numbered_in_order(&mut symbols) && are_found(&symbols),
+        None => false,
+    }
 }
 
 #[test]
 fn numbers_names_in_order(rt: HostRuntime) {
-    assert!(rt; are_numbered_and_found(rt.alloc()) == Ok(true));
-    assert!(rt; SymId(65_535).index() == 65_535);
+    assert!(rt; are_numbered_and_found(rt.alloc()) && SymId(65_535).index() == 65_535);
 }
 
-/// How many of these names an empty list takes, up to the first that it refuses.
-fn taken(alloc: Global, names: &[&str]) -> Result<usize, SymFault> {
-    let mut symbols = none(alloc)?;
+/// Whether an empty list takes these names.
+fn takes_all(symbols: &mut Symbols, names: &[&str]) -> bool {
     for name in names {
-        if symbols.add(name).is_err() {
-            break;
+        if symbols.add(*name).is_err() {
+            return false;
         }
     }
-    Ok(symbols.len())
+    symbols.len() == names.len()
+}
+
+/// Whether a new one does.
+fn are_taken(alloc: Global, names: &[&str]) -> bool {
+    match no_names(alloc) {
+        Some(mut symbols) => takes_all(&mut symbols, names),
+        None => false,
+    }
 }
 
 /// Whether an empty list calls a name bad, and keeps nothing of it.
@@ -47,50 +55,63 @@ fn is_bad(symbols: &mut Symbols, name: &str) -> bool {
 }
 
 /// Whether it does so with each of these.
-fn are_bad(alloc: Global, names: &[&str]) -> Result<bool, SymFault> {
-    let mut symbols = none(alloc)?;
+fn are_all_bad(symbols: &mut Symbols, names: &[&str]) -> bool {
     for name in names {
-        if !is_bad(&mut symbols, name) {
-            return Ok(false);
+        if !is_bad(symbols, *name) {
+            return false;
         }
     }
-    Ok(true)
+    true
 }
 
-/// How many are taken of four names, one of 512 bytes among them.
-fn taken_of_four(alloc: Global) -> Result<usize, SymFault> {
-    let longest = "f".repeat(alloc, 512)?;
-    taken(alloc, &["!", "~", "a.b$c", longest.as_str()])
+/// Whether a new one does.
+fn are_bad(alloc: Global, names: &[&str]) -> bool {
+    match no_names(alloc) {
+        Some(mut symbols) => are_all_bad(&mut symbols, names),
+        None => false,
+    }
+}
+
+/// Whether four names are taken, one of 512 bytes among them.
+fn are_four_taken(alloc: Global) -> bool {
+    match "f".repeat(alloc, 512) {
+        Ok(longest) => are_taken(alloc, &["!", "~", "a.b$c", longest.as_str()]),
+        Err(_) => false,
+    }
 }
 
 /// Whether a name of 513 bytes is bad.
-fn is_too_long(alloc: Global) -> Result<bool, SymFault> {
-    let too_long = "f".repeat(alloc, 513)?;
-    are_bad(alloc, &[too_long.as_str()])
+fn is_too_long(alloc: Global) -> bool {
+    match "f".repeat(alloc, 513) {
+        Ok(too_long) => are_bad(alloc, &[too_long.as_str()]),
+        Err(_) => false,
+    }
 }
 
 const BAD: [&str; 6] = ["", " ", "a b", "a\t", "\x7f", "caf\u{e9}"];
 
 #[test]
 fn takes_1_to_512_graphic_bytes(rt: HostRuntime) {
-    assert!(rt; taken_of_four(rt.alloc()) == Ok(4));
-    assert!(rt; are_bad(rt.alloc(), &BAD) == Ok(true) && is_too_long(rt.alloc()) == Ok(true));
+    assert!(rt; are_four_taken(rt.alloc()));
+    assert!(rt; are_bad(rt.alloc(), &BAD) && is_too_long(rt.alloc()));
 }
 
-/// The number of the name `f` with this number.
-fn add_numbered(alloc: Global, symbols: &mut Symbols, number: u16) -> Result<SymId, SymFault> {
-    let name = format!(in alloc; "f{number}")?;
-    symbols.add(&name)
+/// Whether the name `f` with this number is given it.
+fn is_numbered(alloc: Global, symbols: &mut Symbols, number: u16) -> bool {
+    match format!(in alloc; "f{number}") {
+        Ok(name) => symbols.add(&name) == Ok(SymId(number)),
+        Err(_) => false,
+    }
 }
 
 /// Adds the names `f0` to `f4095`; whether each gets its number.
-fn fill(alloc: Global, symbols: &mut Symbols) -> Result<bool, SymFault> {
+fn fill(alloc: Global, symbols: &mut Symbols) -> bool {
     for number in 0..4_096 {
-        if add_numbered(alloc, symbols, number)? != SymId(number) {
-            return Ok(false);
+        if !is_numbered(alloc, symbols, number) {
+            return false;
         }
     }
-    Ok(true)
+    true
 }
 
 /// Whether 4,096 names are refused others, each for the first fault of it.
@@ -102,20 +123,17 @@ fn is_full(symbols: &mut Symbols) -> bool {
         && symbols.find("f4095") == Some(SymId(4_095))
 }
 
-/// Whether these take 4,096 names, and are full then.
-fn fill_up(alloc: Global, symbols: &mut Symbols) -> Result<bool, SymFault> {
-    Ok(fill(alloc, symbols)? && is_full(symbols))
-}
-
-/// Whether an empty list does.
-fn none_fill_up(alloc: Global) -> Result<bool, SymFault> {
-    let mut symbols = none(alloc)?;
-    fill_up(alloc, &mut symbols)
+/// Whether an empty list takes 4,096 names, and is full then.
+fn fills_up(alloc: Global) -> bool {
+    match no_names(alloc) {
+        Some(mut symbols) => fill(alloc, &mut symbols) && is_full(&mut symbols),
+        None => false,
+    }
 }
 
 #[test]
 fn refuses_in_order_where_4096_names_are_there(rt: HostRuntime) {
-    assert!(rt; none_fill_up(rt.alloc()) == Ok(true));
+    assert!(rt; fills_up(rt.alloc()));
 }
 
 /// The number that a name is given. Where an allocation fails, nothing changes, and the same call adds it.
@@ -129,11 +147,16 @@ fn added_again(symbols: &mut Symbols, name: &str) -> Result<SymId, SymFault> {
     }
 }
 
-/// Whether a name has this number, and the first name is found too.
-fn is_added(symbols: &Symbols, name: &str, added: SymId, number: usize) -> bool {
-    added.index() == number
-        && symbols.name(added) == Some(name)
-        && symbols.find("schedule") == Some(SymId(0))
+/// Whether a name is added with this number, and the first name is found too.
+fn is_added(symbols: &mut Symbols, name: &str, number: usize) -> bool {
+    match added_again(symbols, name) {
+        Ok(added) => {
+            added.index() == number
+                && symbols.name(added) == Some(name)
+                && symbols.find("schedule") == Some(SymId(0))
+        }
+        Err(_) => false,
+    }
 }
 
 /// Names, and their numbers.
@@ -146,33 +169,34 @@ const NAMES: [(&str, usize); 5] = [
 ];
 
 /// Whether each of these names is added in its turn.
-fn are_added(symbols: &mut Symbols) -> Result<bool, SymFault> {
+fn are_added(symbols: &mut Symbols) -> bool {
     for (name, number) in &NAMES {
-        let added = added_again(symbols, *name)?;
-        if !is_added(symbols, *name, added, *number) {
-            return Ok(false);
+        if !is_added(symbols, *name, *number) {
+            return false;
         }
     }
-    Ok(true)
+    true
 }
 
 /// No names. Where an allocation fails, the same call makes them.
-fn none_again(alloc: Global) -> Result<Box<Symbols>, SymFault> {
-    match none(alloc) {
-        Err(SymFault::NoMemory) => none(alloc),
+fn no_names_again(alloc: Global) -> Option<Box<Symbols>> {
+    match no_names(alloc) {
+        None => no_names(alloc),
         answer => answer,
     }
 }
 
 /// Whether they are added to an empty list.
-fn are_added_to_none(alloc: Global) -> Result<bool, SymFault> {
-    let mut symbols = none_again(alloc)?;
-    are_added(&mut symbols)
+fn are_added_to_none(alloc: Global) -> bool {
+    match no_names_again(alloc) {
+        Some(mut symbols) => are_added(&mut symbols),
+        None => false,
+    }
 }
 
 /// For `scripts/refuse-memory`: a failed allocation changes nothing, and the same call succeeds
 /// after it.
 #[test]
 fn adds_again_after_a_failed_allocation(rt: HostRuntime) {
-    assert!(rt; are_added_to_none(rt.alloc()) == Ok(true));
+    assert!(rt; are_added_to_none(rt.alloc()));
 }
