@@ -70,21 +70,31 @@ fn play_row<R: Print + Threads + Wait + Sync>(
             let through_desk = usize::from(played.through_desk);
             tally.through_desk = tally.through_desk.saturating_add(through_desk);
         }
-        Err(Trouble::Differs(difference)) => {
-            tally.differing = tally.differing.saturating_add(1);
-            tell(rt, row.name(), &difference)?;
-        }
-        Err(trouble) => return Err(trouble),
+        Err(trouble) => note(rt, row.name(), trouble, tally)?,
     }
     tally.rows = tally.rows.saturating_add(1);
     Ok(())
 }
 
+/// Counts a difference, and says where it is. Any other trouble is handed on.
+fn note(rt: &impl Print, name: &str, trouble: Trouble, tally: &mut Tally) -> Result<(), Trouble> {
+    match trouble {
+        Trouble::Differs(difference) => {
+            tally.differing = tally.differing.saturating_add(1);
+            Ok(tell(rt, name, &difference)?)
+        }
+        trouble => Err(trouble),
+    }
+}
+
 /// Says where a row differs.
 fn tell(rt: &impl Print, name: &str, difference: &Difference) -> io::Result<()> {
-    println!(rt; "{name}: {} differs", difference.part())?;
-    println!(rt; "  wanted: {}", difference.wanted())?;
-    println!(rt; "  given: {}", difference.given())
+    println!(rt;
+        "{name}: {} differs\n  wanted: {}\n  given: {}",
+        difference.part(),
+        difference.wanted(),
+        difference.given()
+    )
 }
 
 /// The rows of a file.
@@ -114,18 +124,33 @@ fn play_recordings<R: Files + AllocGlobal + Print>(
     for (trace, over) in RECORDINGS {
         match play_recording(rt, trace, over) {
             Ok(()) => tally.recordings = tally.recordings.saturating_add(1),
-            Err(Trouble::Differs(difference)) => {
-                tally.differing = tally.differing.saturating_add(1);
-                tell(rt, trace, &difference)?;
-            }
-            Err(trouble) => return Err(trouble),
+            Err(trouble) => note(rt, trace, trouble, tally)?,
         }
     }
     Ok(())
 }
 
-/// Plays all rows and recordings, and sends events through a log.
+/// Says how much was played.
+fn tell_tally(rt: &impl Print, tally: &Tally) -> io::Result<()> {
+    println!(rt;
+        "{} rows, {} certificates, {} through a desk, {} recordings",
+        tally.rows, tally.certificates, tally.through_desk, tally.recordings
+    )
+}
+
+/// Plays all rows and recordings.
 fn play_all<R: Files + AllocGlobal + Print + Threads + Wait + Sync>(
+    rt: &R,
+    tally: &mut Tally,
+) -> Result<(), Trouble> {
+    for file in FILES {
+        play_file(rt, file, tally)?;
+    }
+    play_recordings(rt, tally)
+}
+
+/// Plays all rows and recordings, and sends events through a log.
+fn play_and_send<R: Files + AllocGlobal + Print + Threads + Wait + Sync>(
     rt: &R,
 ) -> Result<ExitCode, Trouble> {
     let mut tally = Tally {
@@ -135,17 +160,11 @@ fn play_all<R: Files + AllocGlobal + Print + Threads + Wait + Sync>(
         recordings: 0,
         differing: 0,
     };
-    for file in FILES {
-        play_file(rt, file, &mut tally)?;
-    }
-    play_recordings(rt, &mut tally)?;
+    play_all(rt, &mut tally)?;
     if tally.differing > 0 {
         return Ok(ExitCode::FAILURE);
     }
-    println!(rt;
-        "{} rows, {} certificates, {} through a desk, {} recordings",
-        tally.rows, tally.certificates, tally.through_desk, tally.recordings
-    )?;
+    tell_tally(rt, &tally)?;
     send_through_log(rt)
 }
 
@@ -162,7 +181,7 @@ fn main(rt: HostRuntime) -> Result<ExitCode, Trouble> {
     let mut line = String::new(rt.alloc());
     rt.read_line(&mut line)?;
     match line.trim_end() {
-        "" => play_all(&rt),
+        "" => play_and_send(&rt),
         way => {
             cost::measure(&rt, rt.alloc(), way)?;
             Ok(ExitCode::SUCCESS)

@@ -179,6 +179,15 @@ fn read(alloc: Global, text: &[u8]) -> Result<Result<Box<Trace>, String>, Troubl
     }
 }
 
+/// Runs a row's input, by each number of bytes at a time.
+fn play_sizes(alloc: Global, model: ModelName, row: &Row) -> Result<(), Trouble> {
+    for most in SIZES {
+        let given = reported(alloc, model, row.input(), most)?;
+        compare(alloc, "its report", row.wanted(), given.as_slice())?;
+    }
+    Ok(())
+}
+
 /// Plays a row whose input is a trace.
 fn play_run<T: Threads + Wait + Sync>(
     rt: &T,
@@ -186,10 +195,7 @@ fn play_run<T: Threads + Wait + Sync>(
     model: ModelName,
     row: &Row,
 ) -> Result<Played, Trouble> {
-    for most in SIZES {
-        let given = reported(alloc, model, row.input(), most)?;
-        compare(alloc, "its report", row.wanted(), given.as_slice())?;
-    }
+    play_sizes(alloc, model, row)?;
     match read(alloc, row.input())? {
         Ok(trace) => play_trace(rt, alloc, model, row, &trace),
         Err(fault) => {

@@ -44,13 +44,13 @@ pub fn play_recording<R: Files + AllocGlobal>(
 ) -> Result<(), Trouble> {
     let text = fs::read(rt, trace)?;
     let wanted = fs::read(rt, over)?;
-    let given = reported(rt.alloc(), ModelName::Hybrid, text.as_slice(), text.len())?;
+    compare_moves(rt.alloc(), text.as_slice(), wanted.as_slice())
+}
+
+/// Runs a trace, in which the wanted tasks have to switch at their events.
+fn compare_moves(alloc: Global, text: &[u8], wanted: &[u8]) -> Result<(), Trouble> {
+    let given = reported(alloc, ModelName::Hybrid, text, text.len())?;
     let report = str::from_utf8(given.as_slice()).unwrap_or("");
-    let moves = moves(rt.alloc(), report)?;
-    compare(
-        rt.alloc(),
-        "who switched",
-        wanted.as_slice(),
-        moves.as_bytes(),
-    )
+    let moves = moves(alloc, report)?;
+    compare(alloc, "who switched", wanted, moves.as_bytes())
 }

@@ -3,29 +3,35 @@
 use crate::difference::compare;
 use crate::engine::{add_reply, lines_of};
 use crate::trouble::Trouble;
-use lp_log::Journal;
+use lp_log::{Entry, Journal};
 use lp_model::Consistency;
 use lp_threads::play_in_order;
-use lp_trace::Trace;
-use std::alloc::Global;
+use lp_trace::{Trace, TraceForm};
+use std::alloc::{AllocError, Global};
 use std::sync::Wait;
 use std::thread::Threads;
 
+/// Adds the line of an entry's reply.
+fn add_entry(
+    alloc: Global,
+    text: &mut String,
+    form: TraceForm,
+    entry: &Entry,
+) -> Result<(), AllocError> {
+    let reply = entry.reply(alloc)?;
+    add_reply(text, form, entry.number() as usize, &reply)
+}
+
 /// The lines of a journal's replies, as a report has them, as far as its events are the trace's; then one that no report
 /// has, where an entry is another event than the trace's, or one too many.
-fn journal_lines(alloc: Global, journal: &Journal, trace: &Trace) -> Result<String, Trouble> {
+fn journal_lines(alloc: Global, journal: &Journal, trace: &Trace) -> Result<String, AllocError> {
     let mut text = String::new(alloc);
     for (index, entry) in journal.entries().iter().enumerate() {
         if trace.events().get(index) != Some(&entry.event()) {
             writeln!(text, "{} of another event", entry.number())?;
             return Ok(text);
         }
-        add_reply(
-            &mut text,
-            trace.form(),
-            entry.number() as usize,
-            &entry.reply(alloc)?,
-        )?;
+        add_entry(alloc, &mut text, trace.form(), entry)?;
     }
     Ok(text)
 }
