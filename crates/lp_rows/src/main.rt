@@ -27,7 +27,7 @@ use std::thread::Threads;
 use std::{fs, io};
 use trouble::Trouble;
 
-const FILES: [&str; 17] = [
+const FILES: &[&str] = &[
     "models.rows",
     "legs.rows",
     "tasks.rows",
