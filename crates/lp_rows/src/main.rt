@@ -130,11 +130,15 @@ fn play_recordings<R: Files + AllocGlobal + Print>(
     Ok(())
 }
 
-/// Says how much was played.
+/// Says how much was played and sent.
 fn tell_tally(rt: &impl Print, tally: &Tally) -> io::Result<()> {
     println!(rt;
-        "{} rows, {} certificates, {} through a desk, {} recordings",
-        tally.rows, tally.certificates, tally.through_desk, tally.recordings
+        "{} rows, {} certificates, {} through a desk, {} recordings, {} events through a log",
+        tally.rows,
+        tally.certificates,
+        tally.through_desk,
+        tally.recordings,
+        cost::COUNT
     )
 }
 
@@ -164,16 +168,11 @@ fn play_and_send<R: Files + AllocGlobal + Print + Threads + Wait + Sync>(
     if tally.differing > 0 {
         return Ok(ExitCode::FAILURE);
     }
-    tell_tally(rt, &tally)?;
-    send_through_log(rt)
-}
-
-/// Sends events through a log.
-fn send_through_log<R: AllocGlobal + Print>(rt: &R) -> Result<ExitCode, Trouble> {
     if cost::log(rt.alloc()).is_none() {
+        println!(rt; "a log took too few events")?;
         return Ok(ExitCode::FAILURE);
     }
-    println!(rt; "{} events through a log", cost::COUNT)?;
+    tell_tally(rt, &tally)?;
     Ok(ExitCode::SUCCESS)
 }
 
