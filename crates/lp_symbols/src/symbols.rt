@@ -78,7 +78,10 @@ impl Numbering for Symbols {
 
     ghost count = { λ names. length names };
 
-    fn count(&self) -> usize {
+    fn count(&self) -> usize
+        ensures value { result ≡ length self.now }
+        ensures fits { result ≤ 4096 }
+    {
         self.len()
     }
 }
