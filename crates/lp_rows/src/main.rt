@@ -7,6 +7,8 @@ mod certificates;
 mod cost;
 mod difference;
 mod engine;
+mod in_order;
+mod open;
 mod play;
 mod program;
 mod recordings;

@@ -2,10 +2,10 @@
 
 use crate::difference::compare;
 use crate::engine::{add_reply, lines_of};
+use crate::in_order::play_in_order;
 use crate::trouble::Trouble;
 use lp_log::{Entry, Journal};
 use lp_model::Consistency;
-use lp_threads::play_in_order;
 use lp_trace::{Trace, TraceForm};
 use std::alloc::{AllocError, Global};
 use std::sync::Wait;

@@ -1,7 +1,8 @@
 //! Why a row was not played to its end.
 
 use crate::difference::Difference;
-use lp_threads::ThreadsFault;
+use lp_board::LaunchFault;
+use lp_log::{Cause, CloseCause};
 use lp_trace::{OfFault, ReplayFault};
 use lp_transition::{BootFault, Halt};
 use std::alloc::{AllocError, AllocFailed};
@@ -15,8 +16,12 @@ pub enum Trouble {
     File(io::Error),
     /// A line of a data file says nothing that a row has.
     NoRow,
-    /// No desk was launched for a trace, or it turned an event back, or it wasn't closed.
-    Desk(ThreadsFault),
+    /// No desk was launched for a trace.
+    Launch(LaunchFault),
+    /// A desk turned an event of a trace back.
+    Turned(Cause),
+    /// What was sent isn't what a desk's journal says.
+    Unclosed(CloseCause),
     /// An allocation failed.
     NoMemory,
 }
@@ -36,12 +41,6 @@ impl<T: Drop> From<AllocFailed<T>> for Trouble {
 impl From<io::Error> for Trouble {
     fn from(error: io::Error) -> Trouble {
         Trouble::File(error)
-    }
-}
-
-impl From<ThreadsFault> for Trouble {
-    fn from(fault: ThreadsFault) -> Trouble {
-        Trouble::Desk(fault)
     }
 }
 

@@ -2,7 +2,6 @@
 #![tactic(auto)]
 
 mod fault;
-mod in_order;
 mod parts;
 mod play;
 mod playing;
@@ -12,10 +11,9 @@ mod scripts;
 mod trace_name;
 
 pub use fault::ThreadsFault;
-pub use in_order::play_in_order;
 pub use lp_board::LaunchFault;
 pub use lp_desk::Unclosed;
-pub use lp_log::{Cause, CloseCause, Journal};
+pub use lp_log::{Cause, CloseCause};
 pub use lp_model::Consistency;
 pub use lp_scan::ScanGate;
 pub use lp_trace::{Counted, ReplayFault, RunFault, Trace, WriteFault};

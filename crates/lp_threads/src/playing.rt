@@ -36,14 +36,14 @@ use std::thread::{self, Threads};
 const MOST_PLAYERS: usize = 64;
 
 /// The workers of a walk or a stop.
-pub(crate) const SCAN_WORKERS: usize = 2;
+const SCAN_WORKERS: usize = 2;
 
 /// The readers of the board: a board has one at least.
-pub(crate) const READERS: usize = 1;
+const READERS: usize = 1;
 
 /// Holds nobody.
 #[derive(Drop)]
-pub(crate) struct Open;
+struct Open;
 
 impl ScanGate for Open {
     fn pass(&self, _piece: usize) {}

@@ -3,12 +3,12 @@ ghost use Rattle.std.specs.Prelude.{◌≡◌};
 ghost use Rattle.lp_board.specs.Blanks.{name_of};
 
 use crate::cost::events::{BOOTS, TASK, count_beside, event, patches};
+use crate::open::Open;
 use lp_board::{Blank, BoardReader, DeskName};
 use lp_desk::{Desk, Launched};
 use lp_log::Seat;
 use lp_model::Consistency;
 use lp_models::Hybrid;
-use lp_scan::ScanGate;
 use std::alloc::Global;
 use std::marker::Brand;
 use std::sync::Wait;
@@ -17,14 +17,6 @@ use std::thread::{self, Threads};
 
 /// A reader gives up after so many reads.
 const MOST_READS: u64 = 1_000_000_000;
-
-/// Holds nobody.
-#[derive(Drop)]
-struct Open;
-
-impl ScanGate for Open {
-    fn pass(&self, _piece: usize) {}
-}
 
 /// How many reads so many readers had while the events were sent, each in a thread of its own; None where an event wasn't
 /// taken. A board has one reader at least, which with 0 doesn't read.

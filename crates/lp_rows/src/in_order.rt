@@ -1,0 +1,242 @@
+//! A trace, played through a desk by one thread, each event in its turn.
+ghost use Rattle.std.specs.Prelude.{◌≡◌};
+ghost use Rattle.lp_board.specs.Blanks.{name_of};
+
+use crate::open::Open;
+use crate::trouble::Trouble;
+use lp_board::{Blank, DeskName};
+use lp_desk::{Commanded, Desk, Launched, Submitted};
+use lp_log::{Cause, Control, Journal, Seat, owner};
+use lp_model::Consistency;
+use lp_numbers::NUMBERS;
+use lp_trace::{Trace, stack};
+use lp_transition::Event;
+use std::alloc::{AllocError, Global};
+use std::marker::Brand;
+use std::sync::Wait;
+use std::thread::Threads;
+
+/// The workers of a walk or a stop.
+const SCAN_WORKERS: usize = 2;
+
+/// The readers of the board, of which it has one at least.
+const READERS: usize = 1;
+
+/// Plays a trace through a desk, each event in its turn by its task's seat or by the control, closes the desk with all of
+/// these, and gives its journal. None where an event is of a task that has no seat, since it was never born.
+pub fn play_in_order<T: Threads + Wait + Sync, M: Consistency + Sync>(
+    rt: &T,
+    alloc: Global,
+    model: M,
+    trace: &Trace,
+) -> Result<Option<Journal>, Trouble> {
+    let patches = stack(alloc, trace)?;
+    match Blank::new(alloc, model, patches, trace.boots(), READERS) {
+        Ok(blank) => play_blank::<T, M, Brand>(rt, alloc, trace.events(), blank),
+        Err(fault) => Err(Trouble::Launch(fault)),
+    }
+}
+
+/// Plays these events through the desk that starts as a blank.
+fn play_blank<T: Threads + Wait + Sync, M: Consistency + Sync, N: DeskName>(
+    rt: &T,
+    alloc: Global,
+    events: &[Event],
+    blank: Blank<M>,
+) -> Result<Option<Journal>, Trouble>
+    requires { name_of M.rules blank ≡ N.desk }
+{
+    match Desk::<M, N, Open, &T>::launch(rt, alloc, blank, SCAN_WORKERS, Open) {
+        Ok(launched) => play_launched(rt, alloc, events, launched),
+        Err(fault) => Err(Trouble::Launch(fault)),
+    }
+}
+
+/// The same, through a desk at its start.
+fn play_launched<T: Threads + Wait + Sync, M: Consistency + Sync, N: DeskName>(
+    rt: &T,
+    alloc: Global,
+    events: &[Event],
+    launched: Launched<M, N, Open, &T>,
+) -> Result<Option<Journal>, Trouble> {
+    let Launched {
+        desk,
+        seats,
+        control,
+        readers: _,
+    } = launched;
+    match Senders::new(alloc, seats, control) {
+        Ok(mut senders) => play_by(rt, alloc, events, desk, &mut senders),
+        Err(_) => Err(Trouble::NoMemory),
+    }
+}
+
+/// Plays them by these senders, with all of whom the desk is closed.
+fn play_by<T: Threads + Wait + Sync, M: Consistency + Sync, N: DeskName>(
+    rt: &T,
+    alloc: Global,
+    events: &[Event],
+    desk: Desk<M, N, Open, &T>,
+    senders: &mut Senders,
+) -> Result<Option<Journal>, Trouble> {
+    match are_sent(rt, alloc, &desk, events, senders) {
+        Ok(true) => close(rt, alloc, desk, senders),
+        Ok(false) => Ok(None),
+        Err(cause) => Err(Trouble::Turned(cause)),
+    }
+}
+
+/// Sends these events; false where one is of a task that has no seat.
+fn are_sent<T: Threads + Wait + Sync, M: Consistency + Sync, N: DeskName>(
+    rt: &T,
+    alloc: Global,
+    desk: &Desk<M, N, Open, &T>,
+    events: &[Event],
+    senders: &mut Senders,
+) -> Result<bool, Cause> {
+    for event in events {
+        if !is_sent(rt, alloc, desk, senders, *event)? {
+            return Ok(false);
+        }
+    }
+    Ok(true)
+}
+
+/// Sends an event; false where it is of a task that has no seat.
+fn is_sent<T: Threads + Wait + Sync, M: Consistency + Sync, N: DeskName>(
+    rt: &T,
+    alloc: Global,
+    desk: &Desk<M, N, Open, &T>,
+    senders: &mut Senders,
+    event: Event,
+) -> Result<bool, Cause> {
+    match owner(event) {
+        Some(task) => is_submitted(rt, alloc, desk, senders, task, event),
+        None => is_commanded(rt, alloc, desk, senders, event),
+    }
+}
+
+/// Sends an event from the control.
+fn is_commanded<T: Threads + Wait + Sync, M: Consistency + Sync, N: DeskName>(
+    rt: &T,
+    alloc: Global,
+    desk: &Desk<M, N, Open, &T>,
+    senders: &mut Senders,
+    event: Event,
+) -> Result<bool, Cause> {
+    let Some(control) = senders.control.take() else {
+        return Ok(false);
+    };
+    match desk.command(rt, alloc, control, event) {
+        Ok(Commanded { control, .. }) => {
+            senders.control = Some(control);
+            Ok(true)
+        }
+        Err(turned) => Err(turned.cause),
+    }
+}
+
+/// Sends an event from its task's seat; false where the task has none.
+fn is_submitted<T: Wait, M: Consistency, N: DeskName>(
+    rt: &T,
+    alloc: Global,
+    desk: &Desk<M, N, Open, &T>,
+    senders: &mut Senders,
+    task: u16,
+    event: Event,
+) -> Result<bool, Cause> {
+    let Some(seat) = senders.take(task) else {
+        return Ok(false);
+    };
+    match desk.submit(rt, alloc, seat, event) {
+        Ok(Submitted { seat, child, .. }) => {
+            senders.put(seat);
+            if let Some(child) = child {
+                senders.put(child);
+            }
+            Ok(true)
+        }
+        Err(turned) => Err(turned.cause),
+    }
+}
+
+/// Closes the desk, and gives its journal.
+fn close<T: Wait, M: Consistency, N: DeskName>(
+    rt: &T,
+    alloc: Global,
+    desk: Desk<M, N, Open, &T>,
+    senders: &mut Senders,
+) -> Result<Option<Journal>, Trouble> {
+    let seats = senders.all_seats(alloc)?;
+    let Some(control) = senders.control.take() else {
+        return Ok(None);
+    };
+    match desk.close(rt, alloc, seats, control) {
+        Ok(journal) => Ok(Some(journal)),
+        Err(unclosed) => Err(Trouble::Unclosed(unclosed.cause)),
+    }
+}
+
+/// Who may send to a desk.
+struct Senders {
+    /// For each task number its seat, if it has one.
+    seats: Vec<Option<Seat>>,
+    /// None while an event of the control is under way.
+    control: Option<Control>,
+}
+
+/// In one step for who owns one: docs/GATE.md says why.
+impl Drop for Senders {
+    fn drop(self) {
+        let Senders {
+            seats: _,
+            control: _,
+        } = self;
+    }
+}
+
+impl Senders {
+    fn new(alloc: Global, seats: Vec<Seat>, control: Control) -> Result<Senders, AllocError> {
+        let mut senders = Senders {
+            seats: no_seats(alloc)?,
+            control: Some(control),
+        };
+        for seat in seats {
+            senders.put(seat);
+        }
+        Ok(senders)
+    }
+
+    /// Takes the seat of a task.
+    fn take(&mut self, task: u16) -> Option<Seat> {
+        self.seats.get_mut(usize::from(task))?.take()
+    }
+
+    /// Puts a seat at its task's place.
+    fn put(&mut self, seat: Seat) {
+        let place = usize::from(seat.task().0);
+        if let Some(kept) = self.seats.get_mut(place) {
+            *kept = Some(seat);
+        }
+    }
+
+    /// All seats, in the order of their tasks.
+    fn all_seats(&mut self, alloc: Global) -> Result<Vec<Seat>, AllocError> {
+        let mut seats = Vec::new(alloc);
+        for kept in self.seats.as_mut_slice() {
+            if let Some(seat) = kept.take() {
+                seats.push(seat)?;
+            }
+        }
+        Ok(seats)
+    }
+}
+
+/// No seat for any task number.
+fn no_seats(alloc: Global) -> Result<Vec<Option<Seat>>, AllocError> {
+    let mut seats = Vec::with_capacity(alloc, NUMBERS)?;
+    for _task in 0..NUMBERS {
+        seats.push(None)?;
+    }
+    Ok(seats)
+}
