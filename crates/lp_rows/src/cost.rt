@@ -21,9 +21,9 @@ enum Way {
 }
 
 impl Way {
-    /// The way of some words.
-    fn read(words: &str) -> Option<Way> {
-        match words {
+    /// The way of a word.
+    fn read(word: &str) -> Option<Way> {
+        match word {
             "core" => Some(Way::Core),
             "log" => Some(Way::Log),
             "desk 0" => Some(Way::Desk(0)),
@@ -36,7 +36,7 @@ impl Way {
 }
 
 /// Says whether the events were taken.
-fn tell(rt: &impl Print, taken: Option<()>) -> io::Result<()> {
+fn tell_taken(rt: &impl Print, taken: Option<()>) -> io::Result<()> {
     match taken {
         Some(()) => println!(rt; "{COUNT} events"),
         None => println!(rt; "not taken"),
@@ -46,8 +46,8 @@ fn tell(rt: &impl Print, taken: Option<()>) -> io::Result<()> {
 /// Sends the events in one way, and prints how many were taken, and of a desk also how many reads its readers had.
 fn send<R: Print + Threads + Wait + Sync>(rt: &R, alloc: Global, way: Way) -> io::Result<()> {
     match way {
-        Way::Core => tell(rt, through_log::core(alloc)),
-        Way::Log => tell(rt, log(alloc)),
+        Way::Core => tell_taken(rt, through_log::core(alloc)),
+        Way::Log => tell_taken(rt, log(alloc)),
         Way::Desk(readers) => match through_desk::desk(rt, alloc, readers) {
             Some(reads) => println!(rt; "{} events, {reads} reads", count_beside(readers)),
             None => println!(rt; "not taken"),
@@ -55,13 +55,13 @@ fn send<R: Print + Threads + Wait + Sync>(rt: &R, alloc: Global, way: Way) -> io
     }
 }
 
-/// Sends the events in the way that a line asks for.
+/// Sends the events in the way that a word asks for.
 pub fn measure<R: Print + Threads + Wait + Sync>(
     rt: &R,
     alloc: Global,
-    line: &str,
+    word: &str,
 ) -> io::Result<()> {
-    match Way::read(line) {
+    match Way::read(word) {
         Some(way) => send(rt, alloc, way),
         None => println!(rt; "usage: core, log, desk 0, desk 1, desk 4 or desk 64"),
     }

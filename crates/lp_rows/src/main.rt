@@ -1,6 +1,6 @@
 //! Plays the worked rows of its data files, each under its model, and counts them, their certificates, and those whose
 //! events went through a desk too; then the recordings of a kernel that lie beside them; and sends a million events
-//! through a log. Where a line on the standard input asks for a way of events, it sends these alone, to be timed.
+//! through a log. Where a word asks for a way of events, it sends these alone, to be timed.
 #![tactic(auto)]
 
 mod certificates;
@@ -26,7 +26,7 @@ use std::process::ExitCode;
 use std::rt::Files;
 use std::sync::Wait;
 use std::thread::Threads;
-use std::{fs, io};
+use std::{env, fs, io};
 use trouble::Trouble;
 
 const FILES: &[&str] = &[
@@ -83,14 +83,14 @@ fn note(rt: &impl Print, name: &str, trouble: Trouble, tally: &mut Tally) -> Res
     match trouble {
         Trouble::Differs(difference) => {
             tally.differing = tally.differing.saturating_add(1);
-            Ok(tell(rt, name, &difference)?)
+            Ok(tell_difference(rt, name, &difference)?)
         }
         trouble => Err(trouble),
     }
 }
 
 /// Says where a row differs.
-fn tell(rt: &impl Print, name: &str, difference: &Difference) -> io::Result<()> {
+fn tell_difference(rt: &impl Print, name: &str, difference: &Difference) -> io::Result<()> {
     println!(rt;
         "{name}: {} differs\n  wanted: {}\n  given: {}",
         difference.part(),
@@ -179,12 +179,11 @@ fn play_and_send<R: Files + AllocGlobal + Print + Threads + Wait + Sync>(
 }
 
 fn main(rt: HostRuntime) -> Result<ExitCode, Trouble> {
-    let mut line = String::new(rt.alloc());
-    rt.read_line(&mut line)?;
-    match line.trim_end() {
-        "" => play_and_send(&rt),
-        way => {
-            cost::measure(&rt, rt.alloc(), way)?;
+    let words: Vec<String> = env::args(&rt)?.collect(rt.alloc())?;
+    match words.get(1) {
+        None => play_and_send(&rt),
+        Some(way) => {
+            cost::measure(&rt, rt.alloc(), way.as_str())?;
             Ok(ExitCode::SUCCESS)
         }
     }
