@@ -1,26 +1,26 @@
 //! Runs of desks under `hybrid`, with the replies that are worked out by hand.
-ghost use Rattle.std.specs.Prelude.{◌≡◌};
-ghost use Rattle.lp_board.specs.Blanks.{name_of};
 
 mod boards;
 mod closes;
 mod limits;
 mod meets;
 mod memory;
+mod run;
 mod scans;
 mod threads;
 mod walks;
 
-use lp_board::{Blank, BoardReader, DeskName, Told};
-use lp_desk::{Commanded, Desk, Launched, Submitted, Unclosed};
-use lp_log::{Cause, Control, Journal, Seat, Turned};
+use lp_board::{Blank, BoardReader, DeskName, LaunchFault, Told};
+use lp_desk::{Commanded, Desk, Submitted, Unclosed};
+use lp_log::{Cause, CloseCause, Control, Journal, Seat, Turned};
 use lp_model::Consistency;
 use lp_models::Hybrid;
 use lp_patch::{PatchFault, PatchSet, PatchStack};
-use lp_scan::ScanGate;
 use lp_stack::{Class, TaskId};
 use lp_symbols::{SymId, Symbols};
-use lp_transition::{Event, GroupList, Reply, What};
+use lp_transition::{BootFault, Event, GroupList, Halt, Reply, What};
+use meets::Gate;
+use run::{OF_BOTH, OF_FIRST, Parts, Play, Run, Setting, is_right, with_desk};
 use std::alloc::Global;
 use std::marker::Brand;
 use std::mem::replace;
@@ -73,14 +73,6 @@ fn said_switched(groups: &GroupList, completed: bool) -> Said {
     }
 }
 
-/// Holds nobody.
-#[derive(Drop)]
-struct Open;
-
-impl ScanGate for Open {
-    fn pass(&self, _piece: usize) {}
-}
-
 /// A patch of the name `a` alone.
 fn patch_over(alloc: Global, symbols: &mut Symbols) -> Result<PatchSet, PatchFault> {
     match symbols.add("a") {
@@ -105,30 +97,51 @@ fn patched(alloc: Global) -> Result<PatchStack, PatchFault> {
     PatchStack::new(alloc, sets)
 }
 
-/// How a desk with these tasks starts, which has so many readers; in a box: docs/GATE.md says why.
+const NO_MEMORY: LaunchFault = LaunchFault::Boot(BootFault::NoMemory);
+
+/// How a desk with these tasks starts, which has so many readers.
 fn blank<M: Consistency>(
     alloc: Global,
     model: M,
     boots: &[(TaskId, Class)],
     readers: usize,
-) -> Option<Box<Blank<M>>> {
-    let Ok(patches) = patched(alloc) else {
-        return None;
-    };
-    match Blank::new(alloc, model, patches, boots, readers) {
-        Ok(blank) => Box::new(alloc, blank).ok(),
-        Err(_) => None,
+) -> Result<Blank<M>, LaunchFault> {
+    match patched(alloc) {
+        Ok(patches) => Blank::new(alloc, model, patches, boots, readers),
+        Err(_) => Err(NO_MEMORY),
     }
 }
 
+/// What the answer to an event says; Other where there is none.
+fn answer_in_short(answer: Result<Reply, Halt>) -> Said {
+    match answer {
+        Ok(reply) => in_short(&reply),
+        Err(_) => Said::Other,
+    }
+}
+
+/// An event with its answer, and the place of the seat that sends it; the control sends it where there is none.
+type Row = (Option<usize>, Event, Said);
+
 /// All that may send to a desk and read its board, and what was told last.
-#[derive(Drop)]
 struct Hands<N: DeskName> {
     seats: Vec<Seat>,
     /// None while an event of the control is under way.
     control: Option<Control>,
     readers: Vec<BoardReader<N>>,
     told: Option<Told<N>>,
+}
+
+/// In one step for who owns one: docs/GATE.md says why.
+impl<N: DeskName> Drop for Hands<N> {
+    fn drop(self) {
+        let Hands {
+            seats: _,
+            control: _,
+            readers: _,
+            told: _,
+        } = self;
+    }
 }
 
 impl<N: DeskName> Hands<N> {
@@ -212,104 +225,5 @@ impl<N: DeskName> Hands<N> {
         let Turned { part, cause } = turned;
         self.control = Some(part);
         Said::Turned(cause)
-    }
-}
-
-/// The desk of a launch by itself, and in a box who may send to it and read its board.
-fn parted<M: Consistency, N: DeskName, G: ScanGate + Drop, R: Wait + Drop>(
-    alloc: Global,
-    launched: Launched<M, N, G, R>,
-) -> Option<(Desk<M, N, G, R>, Box<Hands<N>>)> {
-    let Launched {
-        desk,
-        seats,
-        control,
-        readers,
-    } = launched;
-    let hands = Hands {
-        seats,
-        control: Some(control),
-        readers,
-        told: None,
-    };
-    match Box::new(alloc, hands) {
-        Ok(hands) => Some((desk, hands)),
-        Err(_) => None,
-    }
-}
-
-/// The desk that starts so, with two workers that pass a gate.
-fn started<'a, M: Consistency, N: DeskName, G: ScanGate + Drop, R: Wait>(
-    rt: &'a R,
-    alloc: Global,
-    blank: Box<Blank<M>>,
-    gate: G,
-) -> Option<(Desk<M, N, G, &'a R>, Box<Hands<N>>)>
-    requires { name_of M.rules blank.value ≡ N.desk }
-{
-    match Desk::launch(rt, alloc, Box::into_inner(blank), 2, gate) {
-        Ok(launched) => parted(alloc, launched),
-        Err(_) => None,
-    }
-}
-
-/// What a desk says to an event of the seat at a place.
-fn submit<M: Consistency, N: DeskName, G: ScanGate + Drop, R: Wait>(
-    rt: &R,
-    alloc: Global,
-    desk: &Desk<M, N, G, &R>,
-    hands: &mut Hands<N>,
-    place: usize,
-    event: Event,
-) -> Said {
-    let Some(seat) = hands.seat(place) else {
-        return Said::Other;
-    };
-    match desk.submit(rt, alloc, seat, event) {
-        Ok(done) => hands.take_answer(place, done),
-        Err(turned) => hands.take_turned(place, turned),
-    }
-}
-
-/// What a desk says to an event of the control.
-fn command<M: Consistency + Sync, N: DeskName, G: ScanGate + Sync + Drop, R: Threads + Wait + Sync>(
-    rt: &R,
-    alloc: Global,
-    desk: &Desk<M, N, G, &R>,
-    hands: &mut Hands<N>,
-    event: Event,
-) -> Said {
-    let Some(control) = hands.control.take() else {
-        return Said::Other;
-    };
-    match desk.command(rt, alloc, control, event) {
-        Ok(done) => hands.take_commanded(done),
-        Err(turned) => hands.take_control(turned),
-    }
-}
-
-/// What comes of a close with all seats and the control.
-fn closed<M: Consistency, N: DeskName, R: Wait>(
-    rt: &R,
-    alloc: Global,
-    desk: Desk<M, N, Open, &R>,
-    hands: &mut Hands<N>,
-) -> Option<Result<Journal, Unclosed>> {
-    match hands.control.take() {
-        Some(control) => Some(desk.close(rt, alloc, hands.all_seats(alloc), control)),
-        None => None,
-    }
-}
-
-/// How many entries the journal of a desk has that is closed; None where it isn't.
-fn entries_at_close<M: Consistency, N: DeskName, R: Wait>(
-    rt: &R,
-    alloc: Global,
-    desk: Desk<M, N, Open, &R>,
-    hands: &mut Hands<N>,
-) -> Option<usize> {
-    match closed(rt, alloc, desk, hands) {
-        Some(Ok(journal)) => Some(journal.entries().len()),
-        _ => None,
     }
 }

@@ -1,10 +1,7 @@
 //! What a board shows of a desk's events.
-ghost use Rattle.std.specs.Prelude.{◌≡◌};
-ghost use Rattle.lp_board.specs.Blanks.{name_of};
-
 use super::threads::exits;
 use super::*;
-use lp_board::{BoardFault, LaunchFault, Shown};
+use lp_board::{BoardFault, Shown};
 use lp_models::AllAtOnce;
 use std::thread::join;
 
@@ -12,61 +9,50 @@ use std::thread::join;
 /// space. After the close nothing is shown any more.
 #[test]
 fn told_is_shown(rt: HostRuntime) {
-    assert!(rt; is_shown(&rt, rt.alloc()));
+    assert!(rt; is_right(&rt, rt.alloc(), Hybrid, OF_BOTH, Play::Shown));
 }
 
-fn is_shown<R: Threads + Wait + Sync>(rt: &R, alloc: Global) -> bool {
-    match blank(alloc, Hybrid, &BOTH, 1) {
-        Some(blank) => shown_after_an_exit::<Hybrid, Brand, R>(rt, alloc, blank),
+/// Whether the right thing is shown up to the close, and nothing after it.
+pub(super) fn is_shown<
+    M: Consistency + Send + Sync,
+    N: DeskName + Send + Sync,
+    R: Threads + Wait + Sync,
+>(run: &mut Run<'_, M, N, R>) -> bool {
+    match run.hands.readers.pop() {
+        Some(mut reader) => is_shown_to(run, &mut reader),
         None => false,
     }
 }
 
-fn shown_after_an_exit<
-    M: Consistency + Send + Sync,
-    N: DeskName + Send + Sync,
-    R: Threads + Wait + Sync,
->(rt: &R, alloc: Global, blank: Box<Blank<M>>) -> bool
-    requires { name_of M.rules blank.value ≡ N.desk }
-{
-    match started::<M, N, Open, R>(rt, alloc, blank, Open) {
-        Some((desk, mut hands)) => shown_up_to_the_close(rt, alloc, desk, &mut hands),
-        None => false,
-    }
-}
-
-fn shown_up_to_the_close<
-    M: Consistency + Send + Sync,
-    N: DeskName + Send + Sync,
-    R: Threads + Wait + Sync,
->(rt: &R, alloc: Global, desk: Desk<M, N, Open, &R>, hands: &mut Hands<N>) -> bool {
-    let Some(mut reader) = hands.readers.pop() else {
-        return false;
-    };
-    is_shown_while_open(rt, alloc, &desk, hands, &mut reader)
-        && entries_at_close(rt, alloc, desk, hands) == Some(4)
-        && is_nothing_shown(alloc, &mut reader)
-}
-
-/// Whether the right thing is shown while the desk is open.
-fn is_shown_while_open<
-    M: Consistency + Send + Sync,
-    N: DeskName + Send + Sync,
-    R: Threads + Wait + Sync,
->(
-    rt: &R,
-    alloc: Global,
-    desk: &Desk<M, N, Open, &R>,
-    hands: &mut Hands<N>,
+fn is_shown_to<M: Consistency + Send + Sync, N: DeskName + Send + Sync, R: Threads + Wait + Sync>(
+    run: &mut Run<'_, M, N, R>,
     reader: &mut BoardReader<N>,
 ) -> bool {
-    exits(rt, alloc, desk, hands)
-        && learns(hands, reader)
+    is_exit_shown(run, reader)
+        && is_walk_shown(run, reader)
+        && run.closes_with(4)
+        && is_nothing_shown(run.alloc, reader)
+}
+
+/// Whether the switch of task 1 at its exit is shown.
+fn is_exit_shown<M: Consistency + Send + Sync, N: DeskName + Send + Sync, R: Threads + Wait + Sync>(
+    run: &mut Run<'_, M, N, R>,
+    reader: &mut BoardReader<N>,
+) -> bool {
+    exits(run)
+        && learns(&mut run.hands, reader)
         && reader.state_of(ONE) == Some(Shown::Patched)
         && reader.state_of(TWO) == Some(Shown::Unpatched)
-        && command(rt, alloc, desk, hands, Event::Walk) == Said::Done
-        && learns(hands, reader)
-        && shows_one_patched(alloc, reader)
+}
+
+/// Whether a walk that refuses task 2 is shown.
+fn is_walk_shown<M: Consistency + Sync, N: DeskName, R: Threads + Wait + Sync>(
+    run: &mut Run<'_, M, N, R>,
+    reader: &mut BoardReader<N>,
+) -> bool {
+    run.send(None, Event::Walk) == Said::Done
+        && learns(&mut run.hands, reader)
+        && shows_one_patched(run.alloc, reader)
 }
 
 /// A reader learns what was told last, if anything was.
@@ -100,69 +86,43 @@ fn is_nothing_shown<N: DeskName>(alloc: Global, reader: &mut BoardReader<N>) -> 
 /// While both tasks switch together a reader looks all along, and sees them together.
 #[test]
 fn never_one_of_each(rt: HostRuntime) {
-    assert!(rt; is_never_one_of_each(&rt, rt.alloc()));
+    assert!(rt; is_right(&rt, rt.alloc(), AllAtOnce, OF_BOTH, Play::Watched));
 }
 
-fn is_never_one_of_each<R: Threads + Wait + Sync>(rt: &R, alloc: Global) -> bool {
-    match blank(alloc, AllAtOnce, &BOTH, 1) {
-        Some(blank) => watched_stop::<AllAtOnce, Brand, R>(rt, alloc, blank),
-        None => false,
-    }
-}
-
-fn watched_stop<M: Consistency + Send + Sync, N: DeskName + Send + Sync, R: Threads + Wait + Sync>(
-    rt: &R,
-    alloc: Global,
-    blank: Box<Blank<M>>,
-) -> bool
-    requires { name_of M.rules blank.value ≡ N.desk }
-{
-    match started::<M, N, Open, R>(rt, alloc, blank, Open) {
-        Some((desk, mut hands)) => watched_by_one(rt, alloc, &desk, &mut hands),
-        None => false,
-    }
-}
-
-/// Whether the one reader saw what it should.
-fn watched_by_one<
+/// Whether the one reader saw the tasks together all along a stop, and both are settled once it learnt what was told of
+/// it.
+pub(super) fn is_watched<
     M: Consistency + Send + Sync,
     N: DeskName + Send + Sync,
     R: Threads + Wait + Sync,
->(rt: &R, alloc: Global, desk: &Desk<M, N, Open, &R>, hands: &mut Hands<N>) -> bool {
-    match hands.readers.pop() {
-        Some(mut reader) => watched(rt, alloc, desk, hands, &mut reader),
+>(run: &mut Run<'_, M, N, R>) -> bool {
+    match run.hands.readers.pop() {
+        Some(mut reader) => watches(run, &mut reader) && ends_settled(run, &mut reader),
         None => false,
     }
 }
 
-/// Whether a reader saw the tasks together all along a stop, and both are settled once it learnt what was told of it.
-fn watched<M: Consistency + Send + Sync, N: DeskName + Send + Sync, R: Threads + Wait + Sync>(
-    rt: &R,
-    alloc: Global,
-    desk: &Desk<M, N, Open, &R>,
-    hands: &mut Hands<N>,
+/// Whether a reader saw the tasks together all along a stop.
+fn watches<M: Consistency + Send + Sync, N: DeskName + Send + Sync, R: Threads + Wait + Sync>(
+    run: &mut Run<'_, M, N, R>,
     reader: &mut BoardReader<N>,
 ) -> bool {
-    let (stopped, step) = join(
-        rt,
-        || enables_and_stops(rt, alloc, desk, hands),
-        || looks(alloc, reader),
-    );
-    stopped
-        && step.is_some()
-        && learns(hands, reader)
-        && both(alloc, reader) == Some(Shown::Settled)
+    let (rt, alloc) = (run.rt, run.alloc);
+    let (stopped, step) = join(rt, || run.takes(&STOP), || looks(alloc, reader));
+    stopped && step.is_some()
 }
 
-/// Whether both are taken.
-fn enables_and_stops<M: Consistency + Sync, N: DeskName, R: Threads + Wait + Sync>(
-    rt: &R,
-    alloc: Global,
-    desk: &Desk<M, N, Open, &R>,
-    hands: &mut Hands<N>,
+const STOP: [Row; 2] = [
+    (None, Event::Enable, Said::Done),
+    (None, Event::Stop, Said::SwitchedLast(0)),
+];
+
+/// Whether both tasks are settled to who learns what was told last.
+fn ends_settled<M: Consistency, N: DeskName, R: Wait>(
+    run: &mut Run<'_, M, N, R>,
+    reader: &mut BoardReader<N>,
 ) -> bool {
-    command(rt, alloc, desk, hands, Event::Enable) == Said::Done
-        && command(rt, alloc, desk, hands, Event::Stop) == Said::SwitchedLast(0)
+    learns(&mut run.hands, reader) && both(run.alloc, reader) == Some(Shown::Settled)
 }
 
 /// What is shown of both tasks, where it is the same.
@@ -200,38 +160,20 @@ fn looks<N: DeskName>(alloc: Global, reader: &mut BoardReader<N>) -> Option<u8> 
 /// Each of as many readers as a board may have sees the event that it learnt.
 #[test]
 fn many_readers_see_the_same(rt: HostRuntime) {
-    assert!(rt; many_readers_see(&rt, rt.alloc()));
+    assert!(rt; is_right(&rt, rt.alloc(), Hybrid, MANY_READERS, Play::Seen));
 }
 
-fn many_readers_see<R: Wait>(rt: &R, alloc: Global) -> bool {
-    match blank(alloc, Hybrid, &FIRST, 64) {
-        Some(blank) => seen_by_all::<Hybrid, Brand, R>(rt, alloc, blank),
-        None => false,
-    }
-}
+const MANY_READERS: Setting<'static> = Setting {
+    readers: 64,
+    ..OF_FIRST
+};
 
-fn seen_by_all<M: Consistency, N: DeskName, R: Wait>(
-    rt: &R,
-    alloc: Global,
-    blank: Box<Blank<M>>,
-) -> bool
-    requires { name_of M.rules blank.value ≡ N.desk }
-{
-    match started::<M, N, Open, R>(rt, alloc, blank, Open) {
-        Some((desk, mut hands)) => sees_an_entry(rt, alloc, &desk, &mut hands),
-        None => false,
-    }
-}
-
-/// Whether all readers see it.
-fn sees_an_entry<M: Consistency, N: DeskName, R: Wait>(
-    rt: &R,
-    alloc: Global,
-    desk: &Desk<M, N, Open, &R>,
-    hands: &mut Hands<N>,
+/// Whether all readers see an entry.
+pub(super) fn is_seen<M: Consistency + Sync, N: DeskName, R: Threads + Wait + Sync>(
+    run: &mut Run<'_, M, N, R>,
 ) -> bool {
-    submit(rt, alloc, desk, hands, 0, Event::Enter(ONE)) == Said::Done
-        && all_see_one_settled(hands.readers.as_mut_slice())
+    run.send(Some(0), Event::Enter(ONE)) == Said::Done
+        && all_see_one_settled(run.hands.readers.as_mut_slice())
 }
 
 /// Whether there are 64, and each of them sees it.

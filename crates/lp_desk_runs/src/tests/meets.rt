@@ -1,9 +1,8 @@
 //! Gates that only several threads can pass.
-ghost use Rattle.std.specs.Prelude.{◌≡◌};
-ghost use Rattle.lp_board.specs.Blanks.{name_of};
-
+use super::run::{command, submit};
 use super::*;
 use lp_models::AllAtOnce;
+use lp_scan::ScanGate;
 use std::hint::spin_loop;
 use std::sync::atomic::{AtomicBool, Ordering};
 use std::thread::join;
@@ -24,7 +23,7 @@ fn is_set_in_time(flag: &AtomicBool) -> bool {
 
 /// Two marks, and whether somebody waited for one in vain.
 #[derive(Drop)]
-struct Marks {
+pub(super) struct Marks {
     first: AtomicBool,
     second: AtomicBool,
     gave_up: AtomicBool,
@@ -60,92 +59,64 @@ impl Marks {
     }
 }
 
-/// Holds the pieces 0 and 1 until the other has come.
+/// What the pieces of a scan pass.
 #[derive(Clone, Copy)]
-struct Meeting<'a>(&'a Marks);
+pub(super) enum Gate<'a> {
+    /// Holds nobody.
+    Open,
+    /// Holds the pieces 0 and 1 until the other has come.
+    Meeting(&'a Marks),
+    /// Holds piece 0 until a seat was answered.
+    Holding(&'a Marks),
+}
 
-impl<'a> ScanGate for Meeting<'a> {
+impl<'a> ScanGate for Gate<'a> {
     fn pass(&self, piece: usize) {
-        match piece {
-            0 => self.0.first_meets_second(),
-            1 => self.0.second_meets_first(),
+        match (self, piece) {
+            (Gate::Meeting(marks) | Gate::Holding(marks), 0) => marks.first_meets_second(),
+            (Gate::Meeting(marks), 1) => marks.second_meets_first(),
             _ => (),
         }
-    }
-}
-
-/// What a desk of tasks 1 and 2 with two workers says to a scan after `enable`.
-fn scanned<M: Consistency + Sync, N: DeskName, R: Threads + Wait + Sync>(
-    rt: &R,
-    alloc: Global,
-    blank: Box<Blank<M>>,
-    marks: &Marks,
-    scan: Event,
-) -> Said
-    requires { name_of M.rules blank.value ≡ N.desk }
-{
-    match started::<M, N, Meeting<'_>, R>(rt, alloc, blank, Meeting(marks)) {
-        Some((desk, mut hands)) => said_after_enable(rt, alloc, &desk, &mut hands, scan),
-        None => Said::Other,
-    }
-}
-
-fn said_after_enable<
-    M: Consistency + Sync,
-    N: DeskName,
-    G: ScanGate + Sync + Drop,
-    R: Threads + Wait + Sync,
->(rt: &R, alloc: Global, desk: &Desk<M, N, G, &R>, hands: &mut Hands<N>, scan: Event) -> Said {
-    match command(rt, alloc, desk, hands, Event::Enable) {
-        Said::Done => command(rt, alloc, desk, hands, scan),
-        _ => Said::Other,
     }
 }
 
 /// The pieces of a walk are judged by threads of their own, and so are those of a stop.
 #[test]
 fn desk_pieces_meet(rt: HostRuntime) {
-    assert!(rt; met_in_a_walk(&rt, rt.alloc()) == (Said::Done, false));
-    assert!(rt; met_in_a_stop(&rt, rt.alloc()) == (Said::SwitchedLast(0), false));
+    assert!(rt; meet(&rt, rt.alloc(), Hybrid, &WALK));
+    assert!(rt; meet(&rt, rt.alloc(), AllAtOnce, &STOP));
 }
 
-/// What a desk says to a walk, and whether a piece waited for another in vain.
-fn met_in_a_walk<R: Threads + Wait + Sync>(rt: &R, alloc: Global) -> (Said, bool) {
+const WALK: [Row; 2] = [
+    (None, Event::Enable, Said::Done),
+    (None, Event::Walk, Said::Done),
+];
+
+const STOP: [Row; 2] = [
+    (None, Event::Enable, Said::Done),
+    (None, Event::Stop, Said::SwitchedLast(0)),
+];
+
+/// Whether a desk answers two rows as it should, and no piece waited for another in vain.
+fn meet<M: Consistency + Send + Sync, R: Threads + Wait + Sync>(
+    rt: &R,
+    alloc: Global,
+    model: M,
+    rows: &[Row],
+) -> bool {
     let marks = Marks::new();
-    let said = match blank(alloc, Hybrid, &BOTH, 1) {
-        Some(blank) => scanned::<Hybrid, Brand, R>(rt, alloc, blank, &marks, Event::Walk),
-        None => Said::Other,
+    let setting = Setting {
+        gate: Gate::Meeting(&marks),
+        ..OF_BOTH
     };
-    (said, marks.gave_up())
-}
-
-/// The same for a stop.
-fn met_in_a_stop<R: Threads + Wait + Sync>(rt: &R, alloc: Global) -> (Said, bool) {
-    let marks = Marks::new();
-    let said = match blank(alloc, AllAtOnce, &BOTH, 1) {
-        Some(blank) => scanned::<AllAtOnce, Brand, R>(rt, alloc, blank, &marks, Event::Stop),
-        None => Said::Other,
-    };
-    (said, marks.gave_up())
-}
-
-/// Holds piece 0 until a seat was answered.
-#[derive(Clone, Copy)]
-struct Holding<'a>(&'a Marks);
-
-impl<'a> ScanGate for Holding<'a> {
-    fn pass(&self, piece: usize) {
-        if piece == 0 {
-            self.0.first_meets_second();
-        }
-    }
+    is_right(rt, alloc, model, setting, Play::Rows(rows, 2)) && !marks.gave_up()
 }
 
 /// What is said to an event that is sent once piece 0 has come to the gate, which is told when it was answered.
-fn submit_meanwhile<M: Consistency, N: DeskName, G: ScanGate + Drop, R: Wait>(
+fn submit_meanwhile<M: Consistency, N: DeskName, R: Wait>(
     rt: &R,
     alloc: Global,
-    desk: &Desk<M, N, G, &R>,
+    desk: &Desk<M, N, Gate<'_>, &R>,
     marks: &Marks,
     hands: &mut Hands<N>,
 ) -> Said {
@@ -161,51 +132,43 @@ fn submit_meanwhile<M: Consistency, N: DeskName, G: ScanGate + Drop, R: Wait>(
 #[test]
 fn tasks_run_during_walk(rt: HostRuntime) {
     let marks = Marks::new();
-    assert!(rt; run_during_walk(&rt, rt.alloc(), &marks) == (Said::Done, Said::Done));
+    assert!(rt; are_both_taken(&rt, rt.alloc(), &marks));
     assert!(rt; !marks.gave_up());
 }
 
-fn run_during_walk<R: Threads + Wait + Sync>(rt: &R, alloc: Global, marks: &Marks) -> (Said, Said) {
-    match blank(alloc, Hybrid, &BOTH, 1) {
-        Some(blank) => walked_meanwhile::<Hybrid, Brand, R>(rt, alloc, blank, marks),
-        None => (Said::Other, Said::Other),
-    }
+/// Whether a desk whose gate holds the first piece of a walk takes both.
+fn are_both_taken<R: Threads + Wait + Sync>(rt: &R, alloc: Global, marks: &Marks) -> bool {
+    let setting = Setting {
+        gate: Gate::Holding(marks),
+        ..OF_BOTH
+    };
+    is_right(rt, alloc, Hybrid, setting, Play::Meanwhile(marks))
+}
+
+/// Whether a desk takes an event while the first piece of a walk is judged, and the walk.
+pub(super) fn is_taken_meanwhile<
+    M: Consistency + Send + Sync,
+    N: DeskName + Send + Sync,
+    R: Threads + Wait + Sync,
+>(run: &mut Run<'_, M, N, R>, marks: &Marks) -> bool {
+    let mut seated = run.hands.seated(run.alloc);
+    run.send(None, Event::Enable) == Said::Done
+        && walk_and_submit(run, marks, &mut seated) == (Said::Done, Said::Done)
 }
 
 /// What a desk says to a walk, and to an event that is sent while its first piece is judged.
-fn walked_meanwhile<
-    M: Consistency + Send + Sync,
-    N: DeskName + Send + Sync,
-    R: Threads + Wait + Sync,
->(rt: &R, alloc: Global, blank: Box<Blank<M>>, marks: &Marks) -> (Said, Said)
-    requires { name_of M.rules blank.value ≡ N.desk }
-{
-    match started::<M, N, Holding<'_>, R>(rt, alloc, blank, Holding(marks)) {
-        Some((desk, mut hands)) => walk_and_submit(rt, alloc, &desk, marks, &mut hands),
-        None => (Said::Other, Said::Other),
-    }
-}
-
-/// The same, of a desk at its start.
 fn walk_and_submit<
     M: Consistency + Send + Sync,
     N: DeskName + Send + Sync,
-    G: ScanGate + Send + Sync + Drop,
     R: Threads + Wait + Sync,
->(
-    rt: &R,
-    alloc: Global,
-    desk: &Desk<M, N, G, &R>,
-    marks: &Marks,
-    hands: &mut Hands<N>,
-) -> (Said, Said) {
-    if command(rt, alloc, desk, hands, Event::Enable) != Said::Done {
-        return (Said::Other, Said::Other);
+>(run: &mut Run<'_, M, N, R>, marks: &Marks, seated: &mut Hands<N>) -> (Said, Said) {
+    let (rt, alloc, hands) = (run.rt, run.alloc, &mut run.hands);
+    match &run.desk {
+        Some(desk) => join(
+            rt,
+            || command(rt, alloc, desk, hands, Event::Walk),
+            || submit_meanwhile(rt, alloc, desk, marks, seated),
+        ),
+        None => (Said::Other, Said::Other),
     }
-    let mut seated = hands.seated(alloc);
-    join(
-        rt,
-        || command(rt, alloc, desk, hands, Event::Walk),
-        || submit_meanwhile(rt, alloc, desk, marks, &mut seated),
-    )
 }

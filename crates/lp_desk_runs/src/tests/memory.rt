@@ -1,20 +1,11 @@
 //! A desk on which an allocation fails: nothing is lost, and the same call succeeds after it.
 //!
 //! `scripts/refuse-memory` runs these tests with each allocation refused in turn.
-ghost use Rattle.std.specs.Prelude.{◌≡◌};
-ghost use Rattle.lp_board.specs.Blanks.{name_of};
-
 use super::*;
-use lp_board::LaunchFault;
-use lp_log::CloseCause;
 use lp_model::ForkKind;
 use lp_models::AllAtOnce;
-use lp_transition::BootFault;
 
 const THREE: TaskId = TaskId(3);
-
-/// An event with its answer, and the place of the seat that sends it; the control sends it where there is none.
-type Row = (Option<usize>, Event, Said);
 
 /// The third seat is the child's.
 const WALKED: [Row; 12] = [
@@ -67,124 +58,95 @@ enum Ending {
 }
 
 impl Ending {
-    fn by(is_right: bool) -> Ending {
-        if is_right {
-            Ending::Right
-        } else {
-            Ending::Wrong
-        }
-    }
-
-    /// Where there is no desk, because of this.
-    fn without(fault: &LaunchFault) -> Ending {
-        match fault {
-            LaunchFault::Boot(BootFault::NoMemory) | LaunchFault::NoBoard => Ending::NoDesk,
-            _ => Ending::Wrong,
+    fn of(played: Result<bool, LaunchFault>) -> Ending {
+        match played {
+            Ok(true) => Ending::Right,
+            Err(NO_MEMORY | LaunchFault::NoBoard) => Ending::NoDesk,
+            Ok(false) | Err(_) => Ending::Wrong,
         }
     }
 }
 
 fn walked<R: Threads + Wait + Sync>(rt: &R, alloc: Global) -> Ending {
-    match blank_of_both(alloc, Hybrid) {
-        Ok(blank) => played::<Hybrid, Brand, R>(rt, alloc, blank, &WALKED),
-        Err(fault) => Ending::without(&fault),
-    }
+    played(rt, alloc, Hybrid, &WALKED)
 }
 
 fn stopped<R: Threads + Wait + Sync>(rt: &R, alloc: Global) -> Ending {
-    match blank_of_both(alloc, AllAtOnce) {
-        Ok(blank) => played::<AllAtOnce, Brand, R>(rt, alloc, blank, &STOPPED),
-        Err(fault) => Ending::without(&fault),
-    }
+    played(rt, alloc, AllAtOnce, &STOPPED)
 }
 
-const NO_MEMORY: LaunchFault = LaunchFault::Boot(BootFault::NoMemory);
-
-/// How a desk of tasks 1 and 2 starts.
-fn blank_of_both<M: Consistency>(alloc: Global, model: M) -> Result<Box<Blank<M>>, LaunchFault> {
-    let Ok(patches) = patched(alloc) else {
-        return Err(NO_MEMORY);
-    };
-    match Blank::new(alloc, model, patches, &BOTH, 1) {
-        Ok(blank) => boxed(alloc, blank),
-        Err(fault) => Err(fault),
-    }
-}
-
-fn boxed<M: Consistency>(alloc: Global, blank: Blank<M>) -> Result<Box<Blank<M>>, LaunchFault> {
-    match Box::new(alloc, blank) {
-        Ok(blank) => Ok(blank),
-        Err(_) => Err(NO_MEMORY),
-    }
-}
-
-/// Plays the rows through a desk, and closes it.
-fn played<M: Consistency + Sync, N: DeskName, R: Threads + Wait + Sync>(
+/// How the play of these rows ends.
+fn played<M: Consistency + Send + Sync, R: Threads + Wait + Sync>(
     rt: &R,
     alloc: Global,
-    blank: Box<Blank<M>>,
-    rows: &[Row],
-) -> Ending
-    requires { name_of M.rules blank.value ≡ N.desk }
-{
-    match Desk::<M, N, Open, &R>::launch(rt, alloc, Box::into_inner(blank), 2, Open) {
-        Ok(launched) => played_by(rt, alloc, launched, rows),
-        Err(fault) => Ending::without(&fault),
-    }
-}
-
-fn played_by<M: Consistency + Sync, N: DeskName, R: Threads + Wait + Sync>(
-    rt: &R,
-    alloc: Global,
-    launched: Launched<M, N, Open, &R>,
+    model: M,
     rows: &[Row],
 ) -> Ending {
-    match parted(alloc, launched) {
-        Some((desk, mut hands)) => {
-            let is_played = are_played(rt, alloc, &desk, &mut hands, rows);
-            Ending::by(is_played && is_closed(rt, alloc, desk, &mut hands, rows.len()))
-        }
-        None => Ending::NoDesk,
-    }
+    let mut parts = Parts::none(alloc);
+    Ending::of(with_desk(rt, alloc, model, OF_BOTH, Play::Again(rows), &mut parts))
 }
 
-/// Whether each row is answered as it should be, and the one reader has seen them.
+/// Whether each of these rows is answered as it should be, and the desk is closed.
+pub(super) fn is_played<M: Consistency + Sync, N: DeskName, R: Threads + Wait + Sync>(
+    run: &mut Run<'_, M, N, R>,
+    rows: &[Row],
+) -> bool {
+    are_played(run, rows)
+        && are_seen(run.hands.readers.as_mut_slice(), rows.len())
+        && is_closed(run, rows.len())
+}
+
+/// Whether each row is answered as it should be.
 fn are_played<M: Consistency + Sync, N: DeskName, R: Threads + Wait + Sync>(
-    rt: &R,
-    alloc: Global,
-    desk: &Desk<M, N, Open, &R>,
-    hands: &mut Hands<N>,
+    run: &mut Run<'_, M, N, R>,
     rows: &[Row],
 ) -> bool {
     for (place, event, said) in rows {
-        if answer(rt, alloc, desk, hands, *place, *event) != *said {
+        if answer(run, *place, *event) != *said {
             return false;
         }
     }
-    match hands.readers.as_mut_slice() {
-        [reader] => has_seen(reader, rows.len() as u64),
+    true
+}
+
+/// Whether there is one reader, and it has seen so many events, and task 1.
+fn are_seen<N: DeskName>(readers: &mut [BoardReader<N>], count: usize) -> bool {
+    match readers {
+        [reader] => reader.state_of(ONE).is_some() && reader.seen() == count as u64,
         _ => false,
     }
 }
 
-/// The answer to an event of a row.
+/// The answer to an event of a row, where it was sent once.
 fn answer<M: Consistency + Sync, N: DeskName, R: Threads + Wait + Sync>(
-    rt: &R,
-    alloc: Global,
-    desk: &Desk<M, N, Open, &R>,
-    hands: &mut Hands<N>,
+    run: &mut Run<'_, M, N, R>,
     place: Option<usize>,
     event: Event,
 ) -> Said {
-    match place {
-        Some(place) => submitted(rt, alloc, desk, hands, place, event),
-        None => commanded(rt, alloc, desk, hands, event),
+    if !has_room(&mut run.hands.seats) {
+        return Said::Other;
+    }
+    let sent = sent_from(&run.hands, place);
+    let said = answer_at_last(run, place, event);
+    match sent_from(&run.hands, place).checked_sub(sent) {
+        Some(1) => said,
+        _ => Said::Other,
     }
 }
 
-/// Whether a reader has seen so many events, and task 1.
-fn has_seen<N: DeskName>(reader: &mut BoardReader<N>, count: u64) -> bool {
-    reader.state_of(ONE).is_some() && reader.seen() == count
+/// The answer to an event: once more where an allocation failed, after which who sends it has sent no more than before.
+fn answer_at_last<M: Consistency + Sync, N: DeskName, R: Threads + Wait + Sync>(
+    run: &mut Run<'_, M, N, R>,
+    place: Option<usize>,
+    event: Event,
+) -> Said {
+    let sent = sent_from(&run.hands, place);
+    match run.send(place, event) {
+        Said::Turned(Cause::NoMemory) if sent_from(&run.hands, place) == sent => {
+            run.send(place, event)
+        }
+        said => said,
+    }
 }
 
 /// Whether there is room for a child's seat, made again where an allocation fails.
@@ -192,92 +154,40 @@ fn has_room(seats: &mut Vec<Seat>) -> bool {
     seats.reserve(1).is_ok() || seats.reserve(1).is_ok()
 }
 
-/// How many events were sent from the seat at a place.
-fn sent_from(seats: &[Seat], place: usize) -> usize {
-    match seats.get(place) {
-        Some(seat) => seat.entries().len(),
-        None => 0,
-    }
-}
-
-/// The answer to an event that is sent from the seat at a place: once more where an allocation failed, after which the
-/// seat is as it was.
-fn submitted<M: Consistency, N: DeskName, R: Wait>(
-    rt: &R,
-    alloc: Global,
-    desk: &Desk<M, N, Open, &R>,
-    hands: &mut Hands<N>,
-    place: usize,
-    event: Event,
-) -> Said {
-    if !has_room(&mut hands.seats) {
-        return Said::Other;
-    }
-    let sent = sent_from(hands.seats.as_slice(), place);
-    let mut said = submit(rt, alloc, desk, hands, place, event);
-    if said == Said::Turned(Cause::NoMemory) && sent_from(hands.seats.as_slice(), place) == sent {
-        said = submit(rt, alloc, desk, hands, place, event);
-    }
-    match sent_from(hands.seats.as_slice(), place).checked_sub(sent) {
-        Some(1) => said,
-        _ => Said::Other,
-    }
-}
-
-/// How many events were sent from the control.
-fn sent_by(control: Option<&Control>) -> usize {
-    match control {
-        Some(control) => control.entries().len(),
-        None => 0,
-    }
-}
-
-/// The answer to an event that is sent from the control, in the same way.
-fn commanded<M: Consistency + Sync, N: DeskName, R: Threads + Wait + Sync>(
-    rt: &R,
-    alloc: Global,
-    desk: &Desk<M, N, Open, &R>,
-    hands: &mut Hands<N>,
-    event: Event,
-) -> Said {
-    let sent = sent_by(hands.control.as_ref());
-    let mut said = command(rt, alloc, desk, hands, event);
-    if said == Said::Turned(Cause::NoMemory) && sent_by(hands.control.as_ref()) == sent {
-        said = command(rt, alloc, desk, hands, event);
-    }
-    match sent_by(hands.control.as_ref()).checked_sub(sent) {
-        Some(1) => said,
-        _ => Said::Other,
+/// How many events were sent from the seat at a place, or from the control where there is none.
+fn sent_from<N: DeskName>(hands: &Hands<N>, place: Option<usize>) -> usize {
+    match place {
+        Some(place) => match hands.seats.get(place) {
+            Some(seat) => seat.entries().len(),
+            None => 0,
+        },
+        None => match &hands.control {
+            Some(control) => control.entries().len(),
+            None => 0,
+        },
     }
 }
 
 /// Whether a desk is closed with all its seats, and its journal has so many entries: the audit is made once more where an
 /// allocation failed, with what was handed back.
 fn is_closed<M: Consistency, N: DeskName, R: Wait>(
-    rt: &R,
-    alloc: Global,
-    desk: Desk<M, N, Open, &R>,
-    hands: &mut Hands<N>,
+    run: &mut Run<'_, M, N, R>,
     count: usize,
 ) -> bool {
-    match closed(rt, alloc, desk, hands) {
-        Some(Ok(journal)) => is_numbered(&journal, count),
-        Some(Err(unclosed)) => {
-            is_audited_again(alloc, &unclosed) && is_numbered(&unclosed.journal, count)
-        }
-        None => false,
-    }
+    let is_closed = match run.close() {
+        Some(Ok(())) => true,
+        Some(Err(CloseCause::NoMemory)) => run.audits_to(run.hands.seats.as_slice(), Ok(())),
+        _ => false,
+    };
+    is_closed && are_numbered(run.journal.as_ref(), count)
 }
 
-/// Whether the audit failed for want of memory, and succeeds.
-fn is_audited_again(alloc: Global, unclosed: &Unclosed) -> bool {
-    let Unclosed {
-        journal,
-        seats,
-        control,
-        cause,
-    } = unclosed;
-    *cause == CloseCause::NoMemory && journal.audit(alloc, seats.as_slice(), control) == Ok(())
+/// Whether there is a journal, and its entries have the numbers from 1 to this, without a gap.
+fn are_numbered(journal: Option<&Journal>, count: usize) -> bool {
+    match journal {
+        Some(journal) => is_numbered(journal, count),
+        None => false,
+    }
 }
 
 /// Whether the entries have the numbers from 1 to this, without a gap.

@@ -9,8 +9,8 @@ use super::*;
 use lp_desk::{Book, OpenedBook};
 use lp_log::{Log, Opened};
 use lp_model::{CheckKind, Verdict};
-use lp_scan::judge;
-use lp_transition::{Core, Halt, verdicts};
+use lp_scan::{Judged, judge};
+use lp_transition::{Core, verdicts};
 use std::alloc::AllocError;
 
 /// Task 1 sleeps in a call of `a` as the transition begins.
@@ -39,23 +39,22 @@ fn found<M: Consistency>(alloc: Global, core: &Core<M>) -> Result<Vec<Verdict>, 
 /// It returns, and sleeps again.
 pub(super) const RETURNS: [Event; 3] = [Event::Wake(ONE), Event::Ret(ONE), Event::Sleep(ONE)];
 
-/// Applies these events to a log.
-pub(super) fn apply_all(
-    alloc: Global,
-    log: &mut Log<Hybrid>,
-    events: &[Event],
-) -> Result<(), Halt> {
+/// Whether a log takes these events.
+pub(super) fn takes_all(alloc: Global, log: &mut Log<Hybrid>, events: &[Event]) -> bool {
     for event in events {
-        log.apply(alloc, *event)?;
+        if log.apply(alloc, *event).is_err() {
+            return false;
+        }
     }
-    Ok(())
+    true
 }
 
 /// What a log says to a walk by its verdicts.
-fn walk_by_verdicts(alloc: Global, log: &mut Log<Hybrid>) -> Result<Said, Halt> {
-    let found = found(alloc, log.core())?;
-    let walked = log.apply_scan(alloc, CheckKind::Walk, found.as_slice())?;
-    Ok(in_short(&walked))
+fn walk_by_verdicts(alloc: Global, log: &mut Log<Hybrid>) -> Said {
+    match found(alloc, log.core()) {
+        Ok(found) => answer_in_short(log.apply_scan(alloc, CheckKind::Walk, found.as_slice())),
+        Err(_) => Said::Other,
+    }
 }
 
 /// What a log says to a walk that the control sends.
@@ -64,24 +63,18 @@ fn walk_by_command<R: Threads + Sync>(
     alloc: Global,
     log: &mut Log<Hybrid>,
     control: Control,
-) -> Option<Said> {
-    match log.command(rt, alloc, 1, &Open, None, control, Event::Walk) {
-        Ok(done) => Some(in_short(&done.reply)),
-        Err(_) => None,
+) -> Said {
+    match log.command(rt, alloc, 1, &Gate::Open, None, control, Event::Walk) {
+        Ok(done) => in_short(&done.reply),
+        Err(_) => Said::Other,
     }
 }
 
-/// Whether a log takes the first and then the second.
-fn takes_both<R: Threads + Sync>(
-    rt: &R,
-    alloc: Global,
-    log: &mut Log<Hybrid>,
-    control: Control,
-) -> Result<bool, Halt> {
-    apply_all(alloc, log, &ASLEEP)?;
-    let is_held = walk_by_verdicts(alloc, log)? == Said::Done;
-    apply_all(alloc, log, &RETURNS)?;
-    Ok(is_held && walk_by_command(rt, alloc, log, control) == Some(Said::SwitchedLast(1)))
+/// Whether a log takes the first, and the task then returns and sleeps again.
+fn takes_the_first(alloc: Global, log: &mut Log<Hybrid>) -> bool {
+    takes_all(alloc, log, &ASLEEP)
+        && walk_by_verdicts(alloc, log) == Said::Done
+        && takes_all(alloc, log, &RETURNS)
 }
 
 /// A log of task 1, in a box, and its control.
@@ -100,7 +93,10 @@ pub(super) fn opened(alloc: Global) -> Option<(Box<Log<Hybrid>>, Control)> {
 
 fn log_takes_both<R: Threads + Sync>(rt: &R, alloc: Global) -> bool {
     match opened(alloc) {
-        Some((mut log, control)) => takes_both(rt, alloc, &mut log, control) == Ok(true),
+        Some((mut log, control)) => {
+            takes_the_first(alloc, &mut log)
+                && walk_by_command(rt, alloc, &mut log, control) == Said::SwitchedLast(1)
+        }
         None => false,
     }
 }
@@ -112,25 +108,25 @@ fn a_log_takes_a_walk_by_its_verdicts_and_a_command(rt: HostRuntime) {
 
 #[test]
 fn a_book_takes_events_and_scans(rt: HostRuntime) {
-    assert!(rt; said_in_a_book(&rt, rt.alloc()) == Some([Said::Done, Said::Done]));
+    assert!(rt; book_takes_both(&rt, rt.alloc()));
 }
 
-fn said_in_a_book<R: Threads + Wait + Sync>(rt: &R, alloc: Global) -> Option<[Said; 2]> {
+fn book_takes_both<R: Threads + Wait + Sync>(rt: &R, alloc: Global) -> bool {
     match blank(alloc, Hybrid, &FIRST, 1) {
-        Some(blank) => in_a_book::<Hybrid, Brand, R>(rt, alloc, blank),
-        None => None,
+        Ok(blank) => in_a_book::<Hybrid, Brand, R>(rt, alloc, blank),
+        Err(_) => false,
     }
 }
 
-/// What two walks say in a book of this start: one by its verdicts, one that was judged before.
+/// Whether a book of this start takes two walks: one by its verdicts, one that was judged before.
 fn in_a_book<M: Consistency + Sync, N: DeskName, R: Threads + Wait + Sync>(
     rt: &R,
     alloc: Global,
-    blank: Box<Blank<M>>,
-) -> Option<[Said; 2]>
-    requires { name_of M.rules blank.value ≡ N.desk }
+    blank: Blank<M>,
+) -> bool
+    requires { name_of M.rules blank ≡ N.desk }
 {
-    match Book::<M, N>::open(rt, alloc, Box::into_inner(blank)) {
+    match Book::<M, N>::open(rt, alloc, blank) {
         Ok(
             OpenedBook {
                 mut book,
@@ -139,23 +135,25 @@ fn in_a_book<M: Consistency + Sync, N: DeskName, R: Threads + Wait + Sync>(
                 readers: _,
             },
         ) => {
-            let said = walks(rt, alloc, &mut book);
+            let is_right = takes_both(rt, alloc, &mut book);
             drop(book.shut(rt));
-            said.ok()
+            is_right
         }
-        Err(_) => None,
+        Err(_) => false,
     }
 }
 
-fn walks<M: Consistency + Sync, N: DeskName, R: Threads + Wait + Sync>(
+fn takes_both<M: Consistency + Sync, N: DeskName, R: Threads + Wait + Sync>(
     rt: &R,
     alloc: Global,
     book: &mut Book<M, N>,
-) -> Result<[Said; 2], Halt> {
+) -> bool {
     for event in &ASLEEP {
-        book.apply(rt, alloc, *event)?;
+        if book.apply(rt, alloc, *event).is_err() {
+            return false;
+        }
     }
-    Ok([walk_of(rt, alloc, book)?, judged_walk_of(rt, alloc, book)?])
+    walk_of(rt, alloc, book) == Said::Done && judged_walk_of(rt, alloc, book) == Said::Done
 }
 
 /// What a book says to a walk by its verdicts.
@@ -163,10 +161,11 @@ fn walk_of<M: Consistency, N: DeskName, R: Wait>(
     rt: &R,
     alloc: Global,
     book: &mut Book<M, N>,
-) -> Result<Said, Halt> {
-    let found = found(alloc, book.log().core())?;
-    let walked = book.apply_scan(rt, alloc, CheckKind::Walk, found.as_slice())?;
-    Ok(in_short(&walked))
+) -> Said {
+    match found(alloc, book.log().core()) {
+        Ok(found) => answer_in_short(book.apply_scan(rt, alloc, CheckKind::Walk, found.as_slice())),
+        Err(_) => Said::Other,
+    }
 }
 
 /// What a book says to a walk that was judged before.
@@ -174,9 +173,21 @@ fn judged_walk_of<M: Consistency + Sync, N: DeskName, R: Threads + Wait + Sync>(
     rt: &R,
     alloc: Global,
     book: &mut Book<M, N>,
-) -> Result<Said, Halt> {
-    let model = book.log().core().model();
-    let judged = judge(rt, alloc, 1, &Open, model, book.log().batch(alloc)?)?;
-    let walked = book.apply_judged(rt, alloc, &judged)?;
-    Ok(in_short(&walked))
+) -> Said {
+    match judged_now(rt, alloc, book.log()) {
+        Some(judged) => answer_in_short(book.apply_judged(rt, alloc, &judged)),
+        None => Said::Other,
+    }
+}
+
+/// What a walk finds of copies of the tasks.
+pub(super) fn judged_now<M: Consistency + Sync, R: Threads + Sync>(
+    rt: &R,
+    alloc: Global,
+    log: &Log<M>,
+) -> Option<Judged<M>> {
+    match log.batch(alloc) {
+        Ok(batch) => judge(rt, alloc, 2, &Gate::Open, log.core().model(), batch).ok(),
+        Err(_) => None,
+    }
 }

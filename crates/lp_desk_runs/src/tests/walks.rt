@@ -1,10 +1,9 @@
 //! A walk that is judged over copies of the tasks.
-use super::scans::{ASLEEP, RETURNS, apply_all, opened};
+use super::scans::{ASLEEP, RETURNS, judged_now, opened, takes_all};
 use super::*;
 use lp_log::Log;
 use lp_model::{Blame, Verdict};
-use lp_scan::{Judged, judge};
-use lp_transition::Halt;
+use lp_scan::Judged;
 
 /// The walk that finds task 1 held by its call.
 const REFUSED: Verdict = Verdict {
@@ -12,41 +11,22 @@ const REFUSED: Verdict = Verdict {
     blame: Some(Blame::Frame(2)),
 };
 
-/// What a walk finds of copies of the tasks.
-fn judged_now<R: Threads + Sync>(
-    rt: &R,
-    alloc: Global,
-    log: &Log<Hybrid>,
-) -> Result<Judged<Hybrid>, Halt> {
-    Ok(judge(rt, alloc, 2, &Open, Hybrid, log.batch(alloc)?)?)
-}
-
-/// What a log says to what was judged.
-fn said_to_judged(
-    alloc: Global,
-    log: &mut Log<Hybrid>,
-    judged: &Judged<Hybrid>,
-) -> Result<Said, Halt> {
-    let reply = log.apply_judged(alloc, judged)?;
-    Ok(in_short(&reply))
-}
-
 /// Whether what was judged of a log's tasks refuses task 1, which then returns and switches.
-fn switches_after(
-    alloc: Global,
-    log: &mut Log<Hybrid>,
-    judged: &Judged<Hybrid>,
-) -> Result<bool, Halt> {
-    apply_all(alloc, log, &RETURNS)?;
-    let said = said_to_judged(alloc, log, judged)?;
-    Ok(judged.verdicts() == [REFUSED].as_slice() && said == Said::SwitchedLast(1))
+fn switches_after(alloc: Global, log: &mut Log<Hybrid>, judged: &Judged<Hybrid>) -> bool {
+    takes_all(alloc, log, &RETURNS)
+        && judged.verdicts() == [REFUSED].as_slice()
+        && answer_in_short(log.apply_judged(alloc, judged)) == Said::SwitchedLast(1)
 }
 
 /// Whether task 1 switches at a walk that was judged while it slept in its call.
-fn switches<R: Threads + Sync>(rt: &R, alloc: Global, log: &mut Log<Hybrid>) -> Result<bool, Halt> {
-    apply_all(alloc, log, &ASLEEP)?;
-    let judged = judged_now(rt, alloc, log)?;
-    switches_after(alloc, log, &judged)
+fn switches<R: Threads + Sync>(rt: &R, alloc: Global, log: &mut Log<Hybrid>) -> bool {
+    if !takes_all(alloc, log, &ASLEEP) {
+        return false;
+    }
+    match judged_now(rt, alloc, log) {
+        Some(judged) => switches_after(alloc, log, &judged),
+        None => false,
+    }
 }
 
 /// Whether the last entry of a log has this number.
@@ -59,7 +39,7 @@ fn ends_at(log: &Log<Hybrid>, number: u32) -> bool {
 
 fn switches_at_first<R: Threads + Sync>(rt: &R, alloc: Global) -> bool {
     match opened(alloc) {
-        Some((mut log, _)) => switches(rt, alloc, &mut log) == Ok(true) && ends_at(&log, 8),
+        Some((mut log, _)) => switches(rt, alloc, &mut log) && ends_at(&log, 8),
         None => false,
     }
 }

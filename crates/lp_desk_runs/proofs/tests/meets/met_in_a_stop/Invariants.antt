@@ -1,8 +1,0 @@
-use Rattle.lp_model.specs.Row.{rules_of}
-use Rattle.lp_models.specs.Models.{all_at_once}
-use Rattle.lp_board.specs.Blanks.{name_of}
-use Rattle.lp_desk_runs.proofs.tests.meets.met_in_a_stop.Given as goal
-
--- the desk that starts as the blank which was just made
-abbrev pub ghosts-scanned : goal.ghosts-scanned
-ghosts-scanned g a = record { desk = name_of (rules_of all_at_once) a.blank.value }
