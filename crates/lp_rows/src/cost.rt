@@ -35,34 +35,42 @@ impl Way {
     }
 }
 
-/// Says whether the events were taken.
-fn tell_taken(rt: &impl Print, taken: Option<()>) -> io::Result<()> {
+/// Says whether the events were taken, and answers that.
+fn tell_taken(rt: &impl Print, taken: Option<()>) -> io::Result<bool> {
     match taken {
-        Some(()) => println!(rt; "{COUNT} events"),
-        None => println!(rt; "not taken"),
+        Some(()) => println!(rt; "{COUNT} events")?,
+        None => println!(rt; "not taken")?,
     }
+    Ok(taken.is_some())
 }
 
-/// Sends the events in one way, and prints how many were taken, and of a desk also how many reads its readers had.
-fn send<R: Print + Threads + Wait + Sync>(rt: &R, alloc: Global, way: Way) -> io::Result<()> {
+/// Sends the events in one way, prints how many were taken, and of a desk also how many reads its readers had, and answers
+/// whether all were taken.
+fn send<R: Print + Threads + Wait + Sync>(rt: &R, alloc: Global, way: Way) -> io::Result<bool> {
     match way {
         Way::Core => tell_taken(rt, through_log::core(alloc)),
         Way::Log => tell_taken(rt, log(alloc)),
         Way::Desk(readers) => match through_desk::desk(rt, alloc, readers) {
-            Some(reads) => println!(rt; "{} events, {reads} reads", count_beside(readers)),
-            None => println!(rt; "not taken"),
+            Some(reads) => {
+                println!(rt; "{} events, {reads} reads", count_beside(readers))?;
+                Ok(true)
+            }
+            None => tell_taken(rt, None),
         },
     }
 }
 
-/// Sends the events in the way that a word asks for.
+/// Sends the events in the way that a word asks for; false where they weren't all taken, or the word is none of these.
 pub fn measure<R: Print + Threads + Wait + Sync>(
     rt: &R,
     alloc: Global,
     word: &str,
-) -> io::Result<()> {
+) -> io::Result<bool> {
     match Way::read(word) {
         Some(way) => send(rt, alloc, way),
-        None => println!(rt; "usage: core, log, desk 0, desk 1, desk 4 or desk 64"),
+        None => {
+            println!(rt; "usage: core, log, desk 0, desk 1, desk 4 or desk 64")?;
+            Ok(false)
+        }
     }
 }

@@ -178,13 +178,19 @@ fn play_and_send<R: Files + AllocGlobal + Print + Threads + Wait + Sync>(
     Ok(ExitCode::SUCCESS)
 }
 
+/// The status where what was asked for was done, or wasn't.
+fn status_of(is_done: bool) -> ExitCode {
+    if is_done {
+        ExitCode::SUCCESS
+    } else {
+        ExitCode::FAILURE
+    }
+}
+
 fn main(rt: HostRuntime) -> Result<ExitCode, Trouble> {
     let words: Vec<String> = env::args(&rt)?.collect(rt.alloc())?;
     match words.get(1) {
         None => play_and_send(&rt),
-        Some(way) => {
-            cost::measure(&rt, rt.alloc(), way.as_str())?;
-            Ok(ExitCode::SUCCESS)
-        }
+        Some(way) => Ok(status_of(cost::measure(&rt, rt.alloc(), way.as_str())?)),
     }
 }
