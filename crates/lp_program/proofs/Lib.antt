@@ -1,3 +1,2 @@
 pub mod Prefix
 pub mod Plays
-pub mod Matched

@@ -5,8 +5,8 @@ use Rattle.lp_trace.specs.declared.runs.RunFault.TheVariants as run
 use Rattle.lp_text.specs.Faults.{cause_number}
 use Rattle.lp_program.specs.declared.fault.Fault.{Fault}
 use Rattle.lp_program.specs.declared.fault.Fault.TheVariants as fault
-use Rattle.lp_program.specs.declared.words.WordsFault.{WordsFault}
-use Rattle.lp_program.specs.declared.words.WordsFault.TheVariants as words
+use Rattle.lp_words.specs.declared.words.WordsFault.{WordsFault}
+use Rattle.lp_words.specs.declared.words.WordsFault.TheVariants as words
 
 -- the exit status
 abbrev pub status_of : Fault → ℕ

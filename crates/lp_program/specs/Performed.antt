@@ -22,14 +22,14 @@ use Rattle.lp_threads.specs.declared.fault.ThreadsFault.{ThreadsFault}
 use Rattle.lp_threads.specs.declared.report.Play.{Play}
 use Rattle.lp_compare.specs.Comparison.{comparison}
 use Rattle.lp_compare.specs.Text.{written}
-use Rattle.lp_program.specs.Asked.{Asks, AsksNothing}
+use Rattle.lp_words.specs.Asked.{Asks, AsksNothing}
 use Rattle.lp_program.specs.Faults.{of_words}
 use Rattle.lp_program.specs.Named.{rules_named}
 use Rattle.lp_program.specs.declared.fault.Fault.{Fault}
 use Rattle.lp_program.specs.declared.fault.Fault.TheVariants as fault
-use Rattle.lp_program.specs.declared.words.Task.{Task}
-use Rattle.lp_program.specs.declared.words.Task.TheVariants.{Run, Check, Compare, Threads}
-use Rattle.lp_program.specs.declared.words.WordsFault.{WordsFault}
+use Rattle.lp_words.specs.declared.words.Task.{Task}
+use Rattle.lp_words.specs.declared.words.Task.TheVariants.{Run, Check, Compare, Threads}
+use Rattle.lp_words.specs.declared.words.WordsFault.{WordsFault}
 
 -- the report of a trace under the model of a name
 abbrev pub report_under : ModelName → TraceValue → List ℕ

@@ -4,10 +4,10 @@ ghost use Rattle.std.specs.Io.KnownBytes.{Appends};
 ghost use Rattle.lp_threads.specs.Codes.{code_of};
 ghost use Rattle.lp_program.specs.Faults.{IsOfThreads, desk_line, line_for, of_run, of_words, status_of};
 
-use crate::words::WordsFault;
 use itoa::Buffer;
 use lp_threads::ThreadsFault;
 use lp_trace::{RunFault, TraceFault};
+use lp_words::WordsFault;
 use std::alloc::AllocError;
 use std::io::{self, Write};
 use thiserror::Error;

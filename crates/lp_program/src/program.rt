@@ -6,10 +6,10 @@ ghost use Rattle.lp_program.specs.Performed.{EndsBy, Fails, IsDone, Performs};
 
 use crate::dispatch::{check, run, threads};
 use crate::fault::Fault;
-use crate::words::{Task, task_of};
 use lp_compare::compare_run;
 use lp_models::ModelName;
 use lp_trace::Counted;
+use lp_words::{Task, task_of};
 use std::alloc::Global;
 use std::convert::AsStr;
 use std::io::{Read, Write};

@@ -1,6 +1,0 @@
-use Rattle.lp_board.specs.Blanks.{name_of}
-use Rattle.lp_desk_runs.proofs.tests.run.with_desk.Given as goal
-
--- the desk that starts as the blank which was just made
-abbrev pub ghosts-played : goal.ghosts-played
-ghosts-played g a = record { desk = name_of g.M.Consistency.rules a.blank }

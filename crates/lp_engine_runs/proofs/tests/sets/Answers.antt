@@ -1,5 +1,0 @@
-use Rattle.std.proofs.Common.{length}
-use Rattle.lp_engine_runs.proofs.tests.sets.Goals as goal
-
-pub returns : goal.returns
-returns c = (length c.args.symbols.now, c.loop-ids.invariant)
