@@ -1,6 +1,9 @@
 //! A trace, played through a desk by one thread, each event in its turn.
-ghost use Rattle.std.specs.Prelude.{◌≡◌};
+ghost use Rattle.std.specs.Prelude.{◌≡◌, IfOk, IfSome};
 ghost use Rattle.lp_board.specs.Blanks.{name_of};
+ghost use Rattle.lp_desk.specs.Books.{IsOf};
+ghost use Rattle.lp_log.specs.Journals.{IsReplayed};
+ghost use Rattle.lp_replay.specs.Outcome.{run_of};
 
 use crate::open::Open;
 use crate::trouble::Trouble;
@@ -29,7 +32,11 @@ pub fn play_in_order<T: Threads + Wait + Sync, M: Consistency + Sync>(
     alloc: Global,
     model: M,
     trace: &Trace,
-) -> Result<Option<Journal>, Trouble> {
+) -> Result<Option<Journal>, Trouble>
+    // The journal starts as the trace does, and has the replies of the definitions.
+    ensures start { IfOk result (λ journal. IfSome journal (λ journal. (journal.patches ≡ (run_of trace.now).patches) × (journal.boots ≡ trace.now.boots))) }
+    ensures replayed { IfOk result (λ journal. IfSome journal (λ journal. IsReplayed M.rules journal)) }
+{
     let patches = stack(alloc, trace)?;
     match Blank::new(alloc, model, patches, trace.boots(), READERS) {
         Ok(blank) => play_blank::<T, M, Brand>(rt, alloc, trace.events(), blank),
@@ -45,6 +52,8 @@ fn play_blank<T: Threads + Wait + Sync, M: Consistency + Sync, N: DeskName>(
     blank: Blank<M>,
 ) -> Result<Option<Journal>, Trouble>
     requires { name_of M.rules blank ≡ N.desk }
+    ensures start { IfOk result (λ journal. IfSome journal (λ journal. (journal.patches ≡ blank.patches) × (journal.boots ≡ blank.boots))) }
+    ensures replayed { IfOk result (λ journal. IfSome journal (λ journal. IsReplayed M.rules journal)) }
 {
     match Desk::<M, N, Open, &T>::launch(rt, alloc, blank, SCAN_WORKERS, Open) {
         Ok(launched) => play_launched(rt, alloc, events, launched),
@@ -58,7 +67,10 @@ fn play_launched<T: Threads + Wait + Sync, M: Consistency + Sync, N: DeskName>(
     alloc: Global,
     events: &[Event],
     launched: Launched<M, N, Open, &T>,
-) -> Result<Option<Journal>, Trouble> {
+) -> Result<Option<Journal>, Trouble>
+    ensures named { IfOk result (λ journal. IfSome journal (IsOf N.desk M.rules)) }
+    ensures replayed { IfOk result (λ journal. IfSome journal (λ journal. IsReplayed M.rules journal)) }
+{
     let Launched {
         desk,
         seats,
@@ -78,7 +90,10 @@ fn play_by<T: Threads + Wait + Sync, M: Consistency + Sync, N: DeskName>(
     events: &[Event],
     desk: Desk<M, N, Open, &T>,
     senders: &mut Senders,
-) -> Result<Option<Journal>, Trouble> {
+) -> Result<Option<Journal>, Trouble>
+    ensures named { IfOk result (λ journal. IfSome journal (IsOf N.desk M.rules)) }
+    ensures replayed { IfOk result (λ journal. IfSome journal (λ journal. IsReplayed M.rules journal)) }
+{
     match are_sent(rt, alloc, &desk, events, senders) {
         Ok(true) => close(rt, alloc, desk, senders),
         Ok(false) => Ok(None),
@@ -166,7 +181,10 @@ fn close<T: Wait, M: Consistency, N: DeskName>(
     alloc: Global,
     desk: Desk<M, N, Open, &T>,
     senders: &mut Senders,
-) -> Result<Option<Journal>, Trouble> {
+) -> Result<Option<Journal>, Trouble>
+    ensures named { IfOk result (λ journal. IfSome journal (IsOf N.desk M.rules)) }
+    ensures replayed { IfOk result (λ journal. IfSome journal (λ journal. IsReplayed M.rules journal)) }
+{
     let seats = senders.all_seats(alloc)?;
     let Some(control) = senders.control.take() else {
         return Ok(None);
