@@ -14,5 +14,5 @@ pub use launch::Launched;
 pub use lp_board::{Blank, BoardReader, DeskName, LaunchFault, Told};
 pub use lp_log::{CloseCause, Control, Journal, Log, Seat, Turned};
 pub use lp_model::{CheckKind, Consistency, Verdict};
-pub use lp_scan::{Judged, ScanGate};
+pub use lp_scan::{Judged, OpenGate, ScanGate};
 pub use lp_transition::{Event, Halt, Reply};

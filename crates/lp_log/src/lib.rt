@@ -17,7 +17,7 @@ pub use journal::Journal;
 pub use log::{Commanding, Log, Opened, Ready, Sending};
 pub use lp_model::{CheckKind, Consistency, Verdict};
 pub use lp_patch::PatchStack;
-pub use lp_scan::{Batch, Judged, ScanGate};
+pub use lp_scan::{Batch, Judged, OpenGate, ScanGate};
 pub use lp_stack::{Class, TaskId};
 pub use lp_transition::{BootFault, Core, Event, Halt, Reply, Step};
 pub use seat::{Cause, Commanded, Control, Seat, Submitted, Turned};

@@ -5,10 +5,9 @@ ghost use Rattle.lp_desk.specs.Books.{IsOf};
 ghost use Rattle.lp_log.specs.Journals.{IsReplayed};
 ghost use Rattle.lp_replay.specs.Outcome.{run_of};
 
-use crate::open::Open;
 use crate::trouble::Trouble;
 use lp_board::{Blank, DeskName};
-use lp_desk::{Commanded, Desk, Launched, Submitted};
+use lp_desk::{Commanded, Desk, Launched, OpenGate, Submitted};
 use lp_log::{Cause, Control, Journal, Seat, owner};
 use lp_model::Consistency;
 use lp_numbers::NUMBERS;
@@ -55,7 +54,7 @@ fn play_blank<T: Threads + Wait + Sync, M: Consistency + Sync, N: DeskName>(
     ensures start { IfOk result (λ journal. IfSome journal (λ journal. (journal.patches ≡ blank.patches) × (journal.boots ≡ blank.boots))) }
     ensures replayed { IfOk result (λ journal. IfSome journal (λ journal. IsReplayed M.rules journal)) }
 {
-    match Desk::<M, N, Open, &T>::launch(rt, alloc, blank, SCAN_WORKERS, Open) {
+    match Desk::<M, N, OpenGate, &T>::launch(rt, alloc, blank, SCAN_WORKERS, OpenGate) {
         Ok(launched) => play_launched(rt, alloc, events, launched),
         Err(fault) => Err(Trouble::Launch(fault)),
     }
@@ -66,7 +65,7 @@ fn play_launched<T: Threads + Wait + Sync, M: Consistency + Sync, N: DeskName>(
     rt: &T,
     alloc: Global,
     events: &[Event],
-    launched: Launched<M, N, Open, &T>,
+    launched: Launched<M, N, OpenGate, &T>,
 ) -> Result<Option<Journal>, Trouble>
     ensures named { IfOk result (λ journal. IfSome journal (IsOf N.desk M.rules)) }
     ensures replayed { IfOk result (λ journal. IfSome journal (λ journal. IsReplayed M.rules journal)) }
@@ -77,76 +76,60 @@ fn play_launched<T: Threads + Wait + Sync, M: Consistency + Sync, N: DeskName>(
         control,
         readers: _,
     } = launched;
-    match Senders::new(alloc, seats, control) {
-        Ok(mut senders) => play_by(rt, alloc, events, desk, &mut senders),
+    match Seats::new(alloc, seats) {
+        Ok(mut seats) => play_by(rt, alloc, events, desk, &mut seats, control),
         Err(_) => Err(Trouble::NoMemory),
     }
 }
 
-/// Plays them by these senders, with all of whom the desk is closed.
+/// Plays them by these seats and the control, with all of which the desk is closed.
 fn play_by<T: Threads + Wait + Sync, M: Consistency + Sync, N: DeskName>(
     rt: &T,
     alloc: Global,
     events: &[Event],
-    desk: Desk<M, N, Open, &T>,
-    senders: &mut Senders,
+    desk: Desk<M, N, OpenGate, &T>,
+    seats: &mut Seats,
+    control: Control,
 ) -> Result<Option<Journal>, Trouble>
     ensures named { IfOk result (λ journal. IfSome journal (IsOf N.desk M.rules)) }
     ensures replayed { IfOk result (λ journal. IfSome journal (λ journal. IsReplayed M.rules journal)) }
 {
-    match are_sent(rt, alloc, &desk, events, senders) {
-        Ok(true) => close(rt, alloc, desk, senders),
-        Ok(false) => Ok(None),
+    match sent(rt, alloc, &desk, events, seats, control) {
+        Ok(Some(control)) => close(rt, alloc, desk, seats, control),
+        Ok(None) => Ok(None),
         Err(cause) => Err(Trouble::Turned(cause)),
     }
 }
 
-/// Sends these events; false where one is of a task that has no seat.
-fn are_sent<T: Threads + Wait + Sync, M: Consistency + Sync, N: DeskName>(
+/// Sends these events, and gives the control back; None where one is of a task that has no seat.
+fn sent<T: Threads + Wait + Sync, M: Consistency + Sync, N: DeskName>(
     rt: &T,
     alloc: Global,
-    desk: &Desk<M, N, Open, &T>,
+    desk: &Desk<M, N, OpenGate, &T>,
     events: &[Event],
-    senders: &mut Senders,
-) -> Result<bool, Cause> {
+    seats: &mut Seats,
+    mut control: Control,
+) -> Result<Option<Control>, Cause> {
     for event in events {
-        if !is_sent(rt, alloc, desk, senders, *event)? {
-            return Ok(false);
+        match owner(*event) {
+            Some(task) if is_submitted(rt, alloc, desk, seats, task, *event)? => (),
+            Some(_) => return Ok(None),
+            None => control = commanded(rt, alloc, desk, control, *event)?,
         }
     }
-    Ok(true)
+    Ok(Some(control))
 }
 
-/// Sends an event; false where it is of a task that has no seat.
-fn is_sent<T: Threads + Wait + Sync, M: Consistency + Sync, N: DeskName>(
+/// Sends an event from the control, which comes back.
+fn commanded<T: Threads + Wait + Sync, M: Consistency + Sync, N: DeskName>(
     rt: &T,
     alloc: Global,
-    desk: &Desk<M, N, Open, &T>,
-    senders: &mut Senders,
+    desk: &Desk<M, N, OpenGate, &T>,
+    control: Control,
     event: Event,
-) -> Result<bool, Cause> {
-    match owner(event) {
-        Some(task) => is_submitted(rt, alloc, desk, senders, task, event),
-        None => is_commanded(rt, alloc, desk, senders, event),
-    }
-}
-
-/// Sends an event from the control.
-fn is_commanded<T: Threads + Wait + Sync, M: Consistency + Sync, N: DeskName>(
-    rt: &T,
-    alloc: Global,
-    desk: &Desk<M, N, Open, &T>,
-    senders: &mut Senders,
-    event: Event,
-) -> Result<bool, Cause> {
-    let Some(control) = senders.control.take() else {
-        return Ok(false);
-    };
+) -> Result<Control, Cause> {
     match desk.command(rt, alloc, control, event) {
-        Ok(Commanded { control, .. }) => {
-            senders.control = Some(control);
-            Ok(true)
-        }
+        Ok(Commanded { control, .. }) => Ok(control),
         Err(turned) => Err(turned.cause),
     }
 }
@@ -155,19 +138,19 @@ fn is_commanded<T: Threads + Wait + Sync, M: Consistency + Sync, N: DeskName>(
 fn is_submitted<T: Wait, M: Consistency, N: DeskName>(
     rt: &T,
     alloc: Global,
-    desk: &Desk<M, N, Open, &T>,
-    senders: &mut Senders,
+    desk: &Desk<M, N, OpenGate, &T>,
+    seats: &mut Seats,
     task: u16,
     event: Event,
 ) -> Result<bool, Cause> {
-    let Some(seat) = senders.take(task) else {
+    let Some(seat) = seats.take(task) else {
         return Ok(false);
     };
     match desk.submit(rt, alloc, seat, event) {
         Ok(Submitted { seat, child, .. }) => {
-            senders.put(seat);
+            seats.put(seat);
             if let Some(child) = child {
-                senders.put(child);
+                seats.put(child);
             }
             Ok(true)
         }
@@ -175,73 +158,54 @@ fn is_submitted<T: Wait, M: Consistency, N: DeskName>(
     }
 }
 
-/// Closes the desk, and gives its journal.
+/// Closes the desk with all seats and the control, and gives its journal.
 fn close<T: Wait, M: Consistency, N: DeskName>(
     rt: &T,
     alloc: Global,
-    desk: Desk<M, N, Open, &T>,
-    senders: &mut Senders,
+    desk: Desk<M, N, OpenGate, &T>,
+    seats: &mut Seats,
+    control: Control,
 ) -> Result<Option<Journal>, Trouble>
     ensures named { IfOk result (λ journal. IfSome journal (IsOf N.desk M.rules)) }
     ensures replayed { IfOk result (λ journal. IfSome journal (λ journal. IsReplayed M.rules journal)) }
 {
-    let seats = senders.all_seats(alloc)?;
-    let Some(control) = senders.control.take() else {
-        return Ok(None);
-    };
+    let seats = seats.take_all(alloc)?;
     match desk.close(rt, alloc, seats, control) {
         Ok(journal) => Ok(Some(journal)),
         Err(unclosed) => Err(Trouble::Unclosed(unclosed.cause)),
     }
 }
 
-/// Who may send to a desk.
-struct Senders {
-    /// For each task number its seat, if it has one.
-    seats: Vec<Option<Seat>>,
-    /// None while an event of the control is under way.
-    control: Option<Control>,
-}
+/// For each task number its seat, if it has one.
+#[derive(Drop)]
+struct Seats(Vec<Option<Seat>>);
 
-/// In one step for who owns one: docs/GATE.md says why.
-impl Drop for Senders {
-    fn drop(self) {
-        let Senders {
-            seats: _,
-            control: _,
-        } = self;
-    }
-}
-
-impl Senders {
-    fn new(alloc: Global, seats: Vec<Seat>, control: Control) -> Result<Senders, AllocError> {
-        let mut senders = Senders {
-            seats: no_seats(alloc)?,
-            control: Some(control),
-        };
+impl Seats {
+    fn new(alloc: Global, seats: Vec<Seat>) -> Result<Seats, AllocError> {
+        let mut all = Seats(no_seats(alloc)?);
         for seat in seats {
-            senders.put(seat);
+            all.put(seat);
         }
-        Ok(senders)
+        Ok(all)
     }
 
     /// Takes the seat of a task.
     fn take(&mut self, task: u16) -> Option<Seat> {
-        self.seats.get_mut(usize::from(task))?.take()
+        self.0.get_mut(usize::from(task))?.take()
     }
 
     /// Puts a seat at its task's place.
     fn put(&mut self, seat: Seat) {
         let place = usize::from(seat.task().0);
-        if let Some(kept) = self.seats.get_mut(place) {
+        if let Some(kept) = self.0.get_mut(place) {
             *kept = Some(seat);
         }
     }
 
-    /// All seats, in the order of their tasks.
-    fn all_seats(&mut self, alloc: Global) -> Result<Vec<Seat>, AllocError> {
+    /// Takes all seats, in the order of their tasks.
+    fn take_all(&mut self, alloc: Global) -> Result<Vec<Seat>, AllocError> {
         let mut seats = Vec::new(alloc);
-        for kept in self.seats.as_mut_slice() {
+        for kept in self.0.as_mut_slice() {
             if let Some(seat) = kept.take() {
                 seats.push(seat)?;
             }

@@ -8,7 +8,6 @@ mod cost;
 mod difference;
 mod engine;
 mod in_order;
-mod open;
 mod play;
 mod program;
 mod recordings;

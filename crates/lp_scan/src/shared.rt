@@ -20,6 +20,14 @@ pub trait ScanGate {
     fn pass(&self, piece: usize);
 }
 
+/// A gate that holds nobody.
+#[derive(Clone, Copy, Debug)]
+pub struct OpenGate;
+
+impl ScanGate for OpenGate {
+    fn pass(&self, _piece: usize) {}
+}
+
 /// What a check of a kind finds of each of these tasks, in their order, as `scan_plain` gives it;
 /// AllocError where an allocation failed.
 ///

@@ -23,7 +23,7 @@ use lp_board::{Blank, DeskName};
 use lp_desk::{Desk, Launched};
 use lp_log::{Control, Seat};
 use lp_model::Consistency;
-use lp_scan::ScanGate;
+use lp_scan::{OpenGate, ScanGate};
 use lp_trace::{Counted, Trace, read_trace, stack};
 use std::alloc::{AllocError, Global};
 use std::collections::VecDeque;
@@ -40,14 +40,6 @@ const SCAN_WORKERS: usize = 2;
 
 /// The readers of the board: a board has one at least.
 const READERS: usize = 1;
-
-/// Holds nobody.
-#[derive(Drop)]
-struct Open;
-
-impl ScanGate for Open {
-    fn pass(&self, _piece: usize) {}
-}
 
 /// Reads a trace to the reader's end, lets threads play it through a desk, each task's events in their order, closes the
 /// desk with all that came back, and writes how many seats and events there were and how many events no seat played.
@@ -125,7 +117,7 @@ fn play_blank<
 {
     let scripts = Scripts::<S>::deal(alloc, trace.events())?;
     let blank = Box::into_inner(blank);
-    let launched = Desk::<M, N, Open, &T>::launch(rt, alloc, blank, SCAN_WORKERS, Open)?;
+    let launched = Desk::<M, N, OpenGate, &T>::launch(rt, alloc, blank, SCAN_WORKERS, OpenGate)?;
     play_launched(rt, alloc, trace, &scripts, launched)
 }
 
@@ -140,7 +132,7 @@ fn play_launched<
     alloc: Global,
     trace: &Trace,
     scripts: &Scripts<S>,
-    launched: Launched<M, N, Open, &T>,
+    launched: Launched<M, N, OpenGate, &T>,
 ) -> Result<Play, ThreadsFault>
     requires seats { All (λ seat. seat.entries ≡ []) launched.seats.items }
     requires control { launched.control ≡ [] }
@@ -178,7 +170,7 @@ fn sent<
 >(
     rt: &T,
     alloc: Global,
-    desk: &Desk<M, N, Open, &T>,
+    desk: &Desk<M, N, OpenGate, &T>,
     scripts: &Scripts<S>,
     seats: Vec<Seat>,
     control: Control,

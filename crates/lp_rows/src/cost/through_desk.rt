@@ -3,9 +3,8 @@ ghost use Rattle.std.specs.Prelude.{◌≡◌};
 ghost use Rattle.lp_board.specs.Blanks.{name_of};
 
 use crate::cost::events::{BOOTS, TASK, count_beside, event, patches};
-use crate::open::Open;
 use lp_board::{Blank, BoardReader, DeskName};
-use lp_desk::{Desk, Launched};
+use lp_desk::{Desk, Launched, OpenGate};
 use lp_log::Seat;
 use lp_model::Consistency;
 use lp_models::Hybrid;
@@ -33,7 +32,7 @@ fn through<T: Threads + Wait + Sync, M: Consistency + Send + Sync, N: DeskName +
 ) -> Option<u64>
     requires { name_of M.rules blank ≡ N.desk }
 {
-    let launched = Desk::<M, N, Open, &T>::launch(rt, alloc, blank, 1, Open).ok()?;
+    let launched = Desk::<M, N, OpenGate, &T>::launch(rt, alloc, blank, 1, OpenGate).ok()?;
     let Launched {
         desk,
         mut seats,
@@ -52,7 +51,7 @@ fn read_while_fed<
 >(
     rt: &T,
     alloc: Global,
-    desk: &Desk<M, N, Open, &T>,
+    desk: &Desk<M, N, OpenGate, &T>,
     seats: &mut Vec<Seat>,
     readers: Vec<BoardReader<N>>,
     count: u32,
@@ -88,7 +87,7 @@ fn looks<N: DeskName>(reader: &mut BoardReader<N>, count: u32) -> u64 {
 fn fed<T: Wait, M: Consistency, N: DeskName>(
     rt: &T,
     alloc: Global,
-    desk: &Desk<M, N, Open, &T>,
+    desk: &Desk<M, N, OpenGate, &T>,
     seats: &mut Vec<Seat>,
     count: u32,
 ) -> Option<()> {

@@ -10,15 +10,16 @@ mod scans;
 mod threads;
 mod walks;
 
+use crate::tests::patched::patched;
+use crate::tests::said::{Said, in_short};
 use lp_board::{Blank, BoardReader, DeskName, LaunchFault, Told};
 use lp_desk::{Commanded, Desk, Submitted, Unclosed};
 use lp_log::{Cause, CloseCause, Control, Journal, Seat, Turned};
 use lp_model::Consistency;
 use lp_models::Hybrid;
-use lp_patch::{PatchFault, PatchSet, PatchStack};
 use lp_stack::{Class, TaskId};
-use lp_symbols::{SymId, Symbols};
-use lp_transition::{BootFault, Event, GroupList, Halt, Reply, What};
+use lp_symbols::SymId;
+use lp_transition::{BootFault, Event, Halt, Reply};
 use meets::Gate;
 use run::{OF_BOTH, OF_FIRST, Parts, Play, Run, Setting, is_right, with_desk};
 use std::alloc::Global;
@@ -38,64 +39,6 @@ const FIRST: [(TaskId, Class); 1] = [(ONE, Class::Normal)];
 
 /// Two tasks, in user space.
 const BOTH: [(TaskId, Class); 2] = [(ONE, Class::Normal), (TWO, Class::Normal)];
-
-/// What a reply says.
-#[derive(Clone, Copy, PartialEq, Eq)]
-enum Said {
-    Ran(u8),
-    Done,
-    /// One group switches.
-    Switched(u16),
-    /// One group switches, and the transition is complete.
-    SwitchedLast(u16),
-    Refused(u8),
-    /// The event is turned back.
-    Turned(Cause),
-    /// Anything else.
-    Other,
-}
-
-fn in_short(reply: &Reply) -> Said {
-    match &reply.what {
-        What::Ran(level) => Said::Ran(level.0),
-        What::Done if reply.completed => Said::Other,
-        What::Done => Said::Done,
-        What::Switched(groups) => said_switched(groups, reply.completed),
-        What::Refused(why) => Said::Refused(why.number()),
-    }
-}
-
-fn said_switched(groups: &GroupList, completed: bool) -> Said {
-    match groups.as_slice() {
-        [group] if completed => Said::SwitchedLast(group.0),
-        [group] => Said::Switched(group.0),
-        _ => Said::Other,
-    }
-}
-
-/// A patch of the name `a` alone.
-fn patch_over(alloc: Global, symbols: &mut Symbols) -> Result<PatchSet, PatchFault> {
-    match symbols.add("a") {
-        Ok(a) => PatchSet::build(alloc, symbols, &[a]),
-        Err(_) => Err(PatchFault::NoMemory),
-    }
-}
-
-/// A patch of `a`. The fault is NoMemory also where the name gets no memory.
-fn patch_of_a(alloc: Global) -> Result<PatchSet, PatchFault> {
-    match Symbols::new(alloc) {
-        Ok(mut symbols) => patch_over(alloc, &mut symbols),
-        Err(_) => Err(PatchFault::NoMemory),
-    }
-}
-
-/// A stack of one patch of `a`.
-fn patched(alloc: Global) -> Result<PatchStack, PatchFault> {
-    let patch = patch_of_a(alloc)?;
-    let mut sets = Vec::new(alloc);
-    sets.push(patch)?;
-    PatchStack::new(alloc, sets)
-}
 
 const NO_MEMORY: LaunchFault = LaunchFault::Boot(BootFault::NoMemory);
 
@@ -122,6 +65,12 @@ fn answer_in_short(answer: Result<Reply, Halt>) -> Said {
 
 /// An event with its answer, and the place of the seat that sends it; the control sends it where there is none.
 type Row = (Option<usize>, Event, Said);
+
+/// A transition, and a stop at which the group 0 goes over, the last.
+const STOP: [Row; 2] = [
+    (None, Event::Enable, Said::Done),
+    (None, Event::Stop, Said::SwitchedLast(0)),
+];
 
 /// All that may send to a desk and read its board, and what was told last.
 struct Hands<N: DeskName> {

@@ -18,6 +18,7 @@ mod memory;
 mod open;
 mod refusals;
 
+use crate::tests::said::{Said, in_short};
 use lp_model::Consistency;
 use lp_models::Hybrid;
 use lp_patch::{PatchFault, PatchSet, PatchStack};
@@ -41,41 +42,6 @@ const THREE: TaskId = TaskId(3);
 const ALONE: [(TaskId, Class); 1] = [(ONE, Class::Normal)];
 
 const BOTH: [(TaskId, Class); 2] = [(ONE, Class::Normal), (TWO, Class::Normal)];
-
-/// What a reply says.
-#[derive(Clone, Copy, PartialEq, Eq)]
-enum Said {
-    Ran(u8),
-    Done,
-    /// One group switches.
-    Over(u16),
-    /// Several groups switch: the first of them, and how many.
-    OverAll(u16, usize),
-    Refused(u8),
-    /// The transition is complete from here on, with no group switching.
-    Complete,
-    /// One group switches, and the transition is complete.
-    OverLast(u16),
-}
-
-fn in_short(reply: &Reply) -> Said {
-    match &reply.what {
-        What::Ran(level) => Said::Ran(level.0),
-        What::Done if reply.completed => Said::Complete,
-        What::Done => Said::Done,
-        What::Switched(groups) => said_switched(groups.as_slice(), reply.completed),
-        What::Refused(why) => Said::Refused(why.number()),
-    }
-}
-
-fn said_switched(groups: &[GroupId], completed: bool) -> Said {
-    match groups {
-        [group] if completed => Said::OverLast(group.0),
-        [group] => Said::Over(group.0),
-        [first, ..] => Said::OverAll(first.0, groups.len()),
-        [] => Said::Done,
-    }
-}
 
 const NAMES: [&str; 3] = ["a", "b", "c"];
 

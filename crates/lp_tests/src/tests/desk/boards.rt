@@ -112,11 +112,6 @@ fn watches<M: Consistency + Send + Sync, N: DeskName + Send + Sync, R: Threads +
     stopped && step.is_some()
 }
 
-const STOP: [Row; 2] = [
-    (None, Event::Enable, Said::Done),
-    (None, Event::Stop, Said::SwitchedLast(0)),
-];
-
 /// Whether both tasks are settled to who learns what was told last.
 fn ends_settled<M: Consistency, N: DeskName, R: Wait>(
     run: &mut Run<'_, M, N, R>,

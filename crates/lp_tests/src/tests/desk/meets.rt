@@ -92,11 +92,6 @@ const WALK: [Row; 2] = [
     (None, Event::Walk, Said::Done),
 ];
 
-const STOP: [Row; 2] = [
-    (None, Event::Enable, Said::Done),
-    (None, Event::Stop, Said::SwitchedLast(0)),
-];
-
 /// Whether a desk answers two rows as it should, and no piece waited for another in vain.
 fn meet<M: Consistency + Send + Sync, R: Threads + Wait + Sync>(
     rt: &R,

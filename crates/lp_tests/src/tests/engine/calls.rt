@@ -77,7 +77,7 @@ fn walks(alloc: Global, core: &mut Core<Hybrid>) -> bool {
 /// Whether a scan lets task 1 switch alone.
 fn is_over(scanned: Result<Reply, Halt>) -> bool {
     match scanned {
-        Ok(reply) => in_short(&reply) == Said::Over(1),
+        Ok(reply) => in_short(&reply) == Said::Switched(1),
         Err(_) => false,
     }
 }

@@ -132,7 +132,7 @@ fn says_in_part<M: Consistency>(
 /// What a scan says at which this group switches, or none.
 fn said_of(group: u16, switches: bool) -> Said {
     if switches {
-        Said::OverLast(group)
+        Said::SwitchedLast(group)
     } else {
         Said::Done
     }
@@ -218,7 +218,7 @@ const CALLED: [Event; 6] = [
 const STOPS: [(&[Event], usize, Said); 3] = [
     (&CALLED, 70, Said::Done),
     (&TOUCHED, 2, Said::Done),
-    (&RETURNED, 70, Said::OverLast(0)),
+    (&RETURNED, 70, Said::SwitchedLast(0)),
 ];
 
 /// Whether a stop that is weighed by first refusals and then taken has so many verdicts, and says this.

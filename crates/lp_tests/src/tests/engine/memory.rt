@@ -134,7 +134,7 @@ const BIRTHS: [Answered; 9] = [
     (Event::Walk, Said::Done),
     (Event::Ret(TWO), Said::Done),
     (Event::Exit(TWO), Said::Done),
-    (Event::Walk, Said::OverLast(1)),
+    (Event::Walk, Said::SwitchedLast(1)),
 ];
 
 #[test]
@@ -148,7 +148,7 @@ const STOPS: [Answered; 6] = [
     (Event::Enable, Said::Done),
     (Event::Stop, Said::Done),
     (Event::Ret(TWO), Said::Done),
-    (Event::Stop, Said::OverLast(0)),
+    (Event::Stop, Said::SwitchedLast(0)),
 ];
 
 #[test]
@@ -159,8 +159,8 @@ fn stops_go_on_after_a_failed_allocation(rt: HostRuntime) {
 const POINTS: [Answered; 4] = [
     (Event::Enable, Said::Done),
     (Event::Enter(ONE), Said::Done),
-    (Event::Exit(ONE), Said::Over(1)),
-    (Event::Idle(TWO), Said::OverLast(2)),
+    (Event::Exit(ONE), Said::Switched(1)),
+    (Event::Idle(TWO), Said::SwitchedLast(2)),
 ];
 
 #[test]
@@ -172,7 +172,7 @@ fn exits_and_idle_points_go_on_after_a_failed_allocation(rt: HostRuntime) {
 const ONE_SWITCHES: [Answered; 3] = [
     (Event::Enable, Said::Done),
     (Event::Enter(TWO), Said::Done),
-    (Event::Exit(TWO), Said::Over(2)),
+    (Event::Exit(TWO), Said::Switched(2)),
 ];
 
 /// The levels of the three tasks after them.
