@@ -6,7 +6,7 @@ use mathlib.Core.List.{IsPrefix}
 use prog.Atomic.{either}
 use Rattle.logbook.specs.Pages.{Cell, cell, keeps, no_nib, step, Moves, Goes}
 use Rattle.lp_transition.specs.declared.event.Event.{Event}
-use Rattle.lp_board.specs.History.{IsKept, Adds}
+use Rattle.lp_board.specs.inside.History.{IsKept, Adds}
 use Rattle.lp_board.proofs.Prefixes.{prefix_whole}
 
 abbrev pub shown : List Event → List Event

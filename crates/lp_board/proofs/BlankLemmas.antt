@@ -10,7 +10,7 @@ use Rattle.lp_transition.specs.Steps.{StandsIn}
 use Rattle.lp_transition.specs.Table.{Engine, standings, state_in}
 use Rattle.lp_board.specs.declared.sheet.Heading.{Heading}
 use Rattle.lp_board.specs.declared.sheet.Page.{Page}
-use Rattle.lp_board.specs.Blanks.{levels_of}
+use Rattle.lp_board.specs.inside.Starts.{levels_of}
 use Rattle.lp_board.specs.Names.{Name, run_of, state_after}
 use Rattle.lp_board.specs.Pages.{level_of, IsPageOf}
 

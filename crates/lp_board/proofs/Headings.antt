@@ -24,7 +24,7 @@ use Rattle.lp_transition.proofs.Quantifiers.{each_live-at, each_live-from}
 use Rattle.lp_board.specs.declared.sheet.Heading.{Heading}
 use Rattle.lp_board.specs.declared.sheet.Update.{Update}
 use Rattle.lp_board.specs.Pages.{level_of, level_by, IsHeading, Leads}
-use Rattle.lp_board.specs.Changes.{target_if, levels_switched, levels_done, levels_by, heading_on, heading_unless, heading_by}
+use Rattle.lp_board.specs.inside.Changes.{target_if, levels_switched, levels_done, levels_by, heading_on, heading_unless, heading_by}
 use Rattle.lp_board.proofs.NewLevels.{levels-lead}
 
 -- ---- Levels that are on the target, where there are any

@@ -9,7 +9,7 @@ use Rattle.lp_transition.specs.Scan.{passing}
 use Rattle.lp_board.specs.declared.shown.Shown.{Shown}
 use Rattle.lp_board.specs.declared.shown.Shown.TheVariants.{Settled, Unpatched, Patched}
 use Rattle.lp_board.specs.declared.sheet.Heading.{Heading}
-use Rattle.lp_board.specs.Levels.{AreLive}
+use Rattle.lp_board.specs.inside.Levels.{AreLive}
 use Rattle.lp_board.specs.Pages.{shown_by}
 use Rattle.lp_board.specs.Words.{all_shown, if_live}
 

@@ -29,7 +29,7 @@ use Rattle.lp_transition.proofs.Passing.{passing-any}
 use Rattle.lp_transition.proofs.ScanAnswers.{switching_by, switches-walk, switches-stop}
 use Rattle.lp_transition.proofs.ScanTakes.{group_fits}
 use Rattle.lp_board.specs.Pages.{level_of, level_by}
-use Rattle.lp_board.specs.Changes.{target_if, target_among, levels_by}
+use Rattle.lp_board.specs.inside.Changes.{target_if, target_among, levels_by}
 
 abbrev pub some_level : ℕ → Option Level
 some_level l = Some (record { 0 = l })

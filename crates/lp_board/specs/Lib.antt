@@ -1,9 +1,6 @@
 pub mod Words
 pub mod Names
-pub mod History
-pub mod Levels
 pub mod Pages
 pub mod Readers
-pub mod Publishers
-pub mod Changes
 pub mod Blanks
+pub mod inside

@@ -38,10 +38,12 @@ IsPage name page = IsPageOf page (state_after name page.events)
 
 -- ---- What a page shows
 
+-- what is shown of a task on this level, under this heading
 abbrev pub shown_by : Heading → Option Level → Shown
 shown_by heading None = Absent
 shown_by heading (Some level) = shown_on heading.in_transition heading.lower.0 level.0
 
+-- what a page shows of a task number
 abbrev pub shown_at : Page → ℕ → Shown
 shown_at page t = shown_by page.heading (slice_index_or page.levels t None)
 

@@ -12,6 +12,7 @@ use Rattle.lp_board.specs.declared.shown.Shown.TheVariants.{Absent, Settled, Unp
 abbrev pub shown_on : (in_transition : Bool) → (lower : ℕ) → (level : ℕ) → Shown
 shown_on in_transition lower level = if in_transition then (if nat_lt lower level then Patched else Unpatched) else Settled
 
+-- what is shown of a task number of this fate
 abbrev pub shown_of : (in_transition : Bool) → (lower : ℕ) → Fate Standing → Shown
 shown_of in_transition lower Unused = Absent
 shown_of in_transition lower (Live x) = shown_on in_transition lower x.level

@@ -4,11 +4,12 @@ ghost use Rattle.lp_transition.specs.Boot.{boot_refusal};
 ghost use Rattle.lp_transition.specs.Steps.{StandsIn};
 ghost use Rattle.lp_transition.specs.Table.{bounds_of, state_in};
 ghost use Rattle.lp_transition.specs.declared.engine.boot.BootFault.TheVariants as boot_fault;
-ghost use Rattle.lp_board.specs.Blanks.{IsCrew, levels_of, name_of};
-ghost use Rattle.lp_board.specs.History.{head_of};
+ghost use Rattle.lp_board.specs.Blanks.{IsCrew, name_of};
+ghost use Rattle.lp_board.specs.inside.Starts.{levels_of};
+ghost use Rattle.lp_board.specs.inside.History.{head_of};
 ghost use Rattle.lp_board.specs.Names.{run_of};
 ghost use Rattle.lp_board.specs.Pages.{IsPage};
-ghost use Rattle.lp_board.specs.Publishers.{page_of};
+ghost use Rattle.lp_board.specs.inside.Publishers.{page_of};
 ghost use Rattle.lp_board.specs.declared.launch.LaunchFault.TheVariants.{BadCrew, Boot, NoBoard};
 
 use crate::history::{Head, Law, Prefix};
@@ -61,7 +62,8 @@ impl<M: Consistency> Drop for Blank<M> {
 }
 
 impl<M: Consistency> Model for Blank<M> {
-    ghost use Rattle.lp_board.specs.Blanks.{BlankStart, name_of, IsBlank};
+    ghost use Rattle.lp_board.specs.Blanks.{BlankStart, name_of};
+    ghost use Rattle.lp_board.specs.inside.Starts.{IsBlank};
     ghost use Rattle.std.specs.Prelude.{[]};
 
     ghost Value = { BlankStart };

@@ -1,7 +1,7 @@
 //! The history of a desk's events, which only grows, and beginnings of it that were seen.
 ghost use Rattle.std.specs.Prelude.{◌≡◌, ◌⊎◌, ◌∷◌, ◌++◌, ◌<◌, ◌≤◌, ◌^◌, [], true, length, OnErr, IfOk, IsTrue, IsFalse};
 ghost use mathlib.Core.List.{IsPrefix};
-ghost use Rattle.lp_board.specs.History.{head_of};
+ghost use Rattle.lp_board.specs.inside.History.{head_of};
 
 use crate::name::DeskName;
 use logbook::{Gain, Offer, Plain, Play, Rule, Seen, Word};
@@ -14,7 +14,7 @@ pub struct Law;
 impl Rule<Event, u64> for Law {
     ghost use Rattle.std.specs.Prelude.{[]};
     ghost use base.Fml.{ftrue};
-    ghost use Rattle.lp_board.specs.History.{IsKept};
+    ghost use Rattle.lp_board.specs.inside.History.{IsKept};
 
     ghost holds = { λ cells events. IsKept cells events };
 
@@ -42,7 +42,7 @@ impl Gain<Event, u64> for Nothing {
 pub struct Add;
 
 impl Play<Event, u64> for Add {
-    ghost use Rattle.lp_board.specs.History.{Adds};
+    ghost use Rattle.lp_board.specs.inside.History.{Adds};
 
     ghost then = { Adds };
 }

@@ -2,8 +2,8 @@
 ghost use Rattle.std.specs.Prelude.{◌≡◌, ◌≤◌, ◌&&◌, ◌||◌, ℕ, None, IfOk, length, nat_eq, slice_index_or, slice_set};
 ghost use Rattle.lp_numbers.specs.Numbers.{has};
 ghost use Rattle.lp_transition.specs.Table.{standings};
-ghost use Rattle.lp_board.specs.Blanks.{levels_of};
-ghost use Rattle.lp_board.specs.Levels.{AreLive};
+ghost use Rattle.lp_board.specs.inside.Starts.{levels_of};
+ghost use Rattle.lp_board.specs.inside.Levels.{AreLive};
 ghost use Rattle.lp_board.specs.Pages.{level_of, shown_by, written};
 ghost use Rattle.lp_board.specs.Words.{all_shown};
 
@@ -35,7 +35,7 @@ impl Drop for Levels {
 impl Model for Levels {
     ghost use Rattle.std.specs.Prelude.{List, Option};
     ghost use Rattle.lp_stack.specs.declared.number.Level.{Level};
-    ghost use Rattle.lp_board.specs.Levels.{AreLive};
+    ghost use Rattle.lp_board.specs.inside.Levels.{AreLive};
 
     ghost Value = { List (Option Level) };
 

@@ -2,7 +2,7 @@
 ghost use Rattle.std.specs.Prelude.{◌≡◌, ◌∷◌, ◌++◌, ◌<◌, ◌^◌, [], drop, fold, length, OnOk, OnErr};
 ghost use Rattle.lp_board.specs.Names.{state_after};
 ghost use Rattle.lp_board.specs.Pages.{IsHeading, IsPage, Leads, page_after};
-ghost use Rattle.lp_board.specs.Publishers.{page_of};
+ghost use Rattle.lp_board.specs.inside.Publishers.{page_of};
 
 use crate::history::{Head, Prefix};
 use crate::name::DeskName;
@@ -39,7 +39,7 @@ where
 {
     ghost use Rattle.std.specs.Prelude.{List, drop};
     ghost use Rattle.lp_transition.specs.declared.event.Event.{Event};
-    ghost use Rattle.lp_board.specs.Publishers.{IsPublished, page_of};
+    ghost use Rattle.lp_board.specs.inside.Publishers.{IsPublished, page_of};
 
     ghost Value = { List Event };
 
@@ -49,8 +49,8 @@ where
 }
 
 impl<N: DeskName> Publisher<N> {
-    ghost use Rattle.lp_board.specs.History.{head_of};
-    ghost use Rattle.lp_board.specs.Publishers.{IsPublished};
+    ghost use Rattle.lp_board.specs.inside.History.{head_of};
+    ghost use Rattle.lp_board.specs.inside.Publishers.{IsPublished};
 
     /// The publisher of a board that shows the start, with nothing pending.
     pub(crate) fn new(head: Head, prefix: Prefix<N>, writer: RawWriter<N>) -> Publisher<N>

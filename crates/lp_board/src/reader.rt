@@ -4,7 +4,7 @@ ghost use mathlib.Core.List.{IsPrefix};
 ghost use Rattle.lp_board.specs.Words.{shown_word, all_shown};
 ghost use Rattle.lp_board.specs.Names.{state_after};
 ghost use Rattle.lp_board.specs.Pages.{IsPage};
-ghost use Rattle.lp_board.specs.Publishers.{page_of};
+ghost use Rattle.lp_board.specs.inside.Publishers.{page_of};
 
 use crate::history::Prefix;
 use crate::name::DeskName;
@@ -54,7 +54,7 @@ impl<N: DeskName> Told<N> {
 /// Why a reader gave no snapshot. The reader is then as it was.
 #[derive(Clone, Copy, Debug, PartialEq, Eq, Error)]
 pub enum BoardFault {
-    /// The board can't be entered, as it was given up.
+    /// The board was given up; or it shows less than its reader was told, which never happens, but no contract says so.
     #[error("the board was given up")]
     Shut,
     /// An allocation failed.
@@ -127,7 +127,8 @@ impl<N: DeskName> BoardReader<N> {
         self.known = self.known.again().longer(prefix);
     }
 
-    /// Where a task stands. None where the board can't be entered, and then the reader is as it was. Never allocates.
+    /// Where a task stands. None where the board was given up, and then the reader is as it was; no contract says that a
+    /// board shows at least what its reader was told, so None is also what it would get otherwise. Never allocates.
     pub fn state_of(&mut self, task: TaskId) -> Option<Shown>
         ensures shown { IfSome result (λ shown. shown ≡ shown_word (state_after N.desk self.new.seen) task.0) }
         ensures later { IfSome result (λ _. IsPrefix self.old.known self.new.seen × (self.new.known ≡ self.new.seen)) }
@@ -144,7 +145,8 @@ impl<N: DeskName> BoardReader<N> {
         }
     }
 
-    /// Where each live task stands, by increasing number, all at one moment. At `Err` the reader is as it was.
+    /// Where each live task stands, by increasing number, all at one moment. Refused as Shut or NoMemory, and then the
+    /// reader is as it was.
     pub fn snapshot(&mut self, alloc: Global) -> Result<Vec<(TaskId, Shown)>, BoardFault>
         ensures shown { IfOk result (λ tasks. tasks.items ≡ all_shown (shown_word (state_after N.desk self.new.seen))) }
         ensures later { OnOk result (IsPrefix self.old.known self.new.seen × (self.new.known ≡ self.new.seen)) }

@@ -1,7 +1,7 @@
 //! A sheet of the board, and what an event changes of it.
 ghost use Rattle.std.specs.Prelude.{◌≡◌, ◌<◌, slice_index_or, length, None, IfOk};
 ghost use Rattle.lp_board.specs.Words.{if_live, all_shown};
-ghost use Rattle.lp_board.specs.Publishers.{page_of};
+ghost use Rattle.lp_board.specs.inside.Publishers.{page_of};
 ghost use Rattle.lp_board.specs.Pages.{shown_at, shown_by, written};
 
 use crate::history::Prefix;

@@ -7,7 +7,7 @@ ghost use Rattle.lp_transition.specs.Table.{standings, state_in};
 ghost use Rattle.lp_transition.specs.Weigh.{IsWeighed};
 ghost use Rattle.lp_transition.specs.Events.{group_numbers};
 ghost use Rattle.lp_board.specs.Pages.{IsHeading, Leads, level_of};
-ghost use Rattle.lp_board.specs.Changes.{heading_by, levels_by, target_among, target_if};
+ghost use Rattle.lp_board.specs.inside.Changes.{heading_by, levels_by, target_among, target_if};
 
 use crate::levels::level_now;
 use crate::sheet::{Heading, Update};

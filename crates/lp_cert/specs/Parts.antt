@@ -1,4 +1,4 @@
--- Parts of lists of reasons.
+-- Lines that are listed as one.
 use Rattle.std.specs.Prelude.{List, map}
 use Rattle.lp_cert.specs.declared.line.Line.{Line}
 use Rattle.lp_cert.specs.declared.line.Line.TheVariants as line

@@ -1,4 +1,4 @@
--- Where the fold of a leg stands.
+-- The leg that a certificate is checked against.
 use Rattle.std.specs.Prelude.{List}
 use Rattle.lp_transition.specs.declared.event.Event.{Event}
 use Rattle.lp_transition.specs.Leg.{Leg}

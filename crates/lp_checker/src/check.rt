@@ -23,7 +23,7 @@ use lp_transition::{Event, MOST_EVENTS, Opening};
 use std::alloc::{AllocError, Global};
 
 /// Checks a certificate which says that its group still waits after event `upto` of the run, in the
-/// leg with this opening and these events, control events among them taken as refused.
+/// leg with this opening and these events, of which control events change nothing.
 ///
 /// # Errors
 /// The first fault: C6 for another claim or leg, or an end outside of the leg or past event

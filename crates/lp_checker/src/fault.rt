@@ -23,7 +23,7 @@ pub enum CertFault {
     /// C5: this event is no such birth.
     #[error("C5: event {0} is no such birth")]
     BadBirth(u64),
-    /// C6: the certificate is for another claim or another leg, or ends outside of it.
+    /// C6: the certificate is for another claim or another leg, or ends outside of it or past event 1,000,000.
     #[error("C6: another claim or another leg, or an end outside of it")]
     NoLeg,
     /// C7: an allocation failed.

@@ -94,9 +94,10 @@ impl<M: Consistency + Sync, N: DeskName, G: ScanGate + Sync + Drop, R: Wait + Dr
     G,
     R,
 > {
-    /// Takes an event that is sent from the control, in any thread. A walk is judged over copies of the waiting tasks, by
-    /// the desk's workers, while the tasks run on: the lock is taken once for the copies and once for the walk. A stop
-    /// looks at the tasks under the lock. Waits for the lock and for the workers.
+    /// Takes an event that is sent from the control, in any thread. A walk is judged over copies of the waiting tasks
+    /// whose groups have no standing blame, by the desk's workers, while the tasks run on: the lock is taken once for the
+    /// copies and once for the walk. A stop looks at the tasks under the lock. What was taken is published. Waits for the
+    /// lock, for the workers, and for readers of the board that are inside a read.
     ///
     /// Turned back, with nothing having happened, for a task's event, else where no event is left, else where an
     /// allocation failed.

@@ -134,8 +134,8 @@ pub struct Turned<P: Drop> {
 /// Why an event that was sent wasn't taken. The first that fits is given.
 #[derive(Clone, Copy, Debug, PartialEq, Eq, Error)]
 pub enum Cause {
-    /// D1: it is the event of another task; or it is a task's event, and was sent from the control.
-    #[error("D1: the event is another task's, or a task's that was sent from the control")]
+    /// D1: it isn't an event of the seat's task; or it is a task's event, and was sent from the control.
+    #[error("D1: the event isn't the seat's task's, or is a task's that was sent from the control")]
     NotYours,
     /// E14: 1,000,000 events are numbered.
     #[error("E14: 1,000,000 events are numbered")]

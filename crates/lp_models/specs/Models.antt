@@ -13,10 +13,12 @@ is_exit_or_idle KernelExit = true
 is_exit_or_idle IdlePoint = true
 is_exit_or_idle _ = false
 
+-- a check by a stop
 abbrev pub is_stop : CheckKind → Bool
 is_stop Stop = true
 is_stop _ = false
 
+-- a task that is in user space or in the kernel
 abbrev pub is_awake : Mode → Bool
 is_awake Asleep = false
 is_awake _ = true

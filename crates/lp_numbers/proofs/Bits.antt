@@ -5,7 +5,7 @@ use Rattle.std.proofs.lemmas.Bool.{eqb-true, eqb-false, ne_eqb, cases_lt, false�
 use Rattle.std.proofs.lemmas.Nat.{shr-shr, shr_below, and_le_l}
 use Rattle.std.proofs.lemmas.Nat.Bits.{bit_at-zero, bit_at-lt, bit_at_lowest, bit_at_above, bit_at_set_same, bit_at_set_other, bit_at_or, bit_at_clear_same, bit_at_clear_other, bit_at-trailing_zeros, shr_and_one}
 use Rattle.lp_numbers.specs.Numbers.{IsLeastFrom}
-use Rattle.lp_numbers.specs.Words.{word_has}
+use Rattle.lp_numbers.specs.inside.Words.{word_has}
 
 -- 0 has no bit
 pub word_has-zero : (bit : ℕ) → word_has 0 bit ≡ false

@@ -2,7 +2,7 @@
 use Rattle.std.proofs.Common.{◌≡◌, ℕ, zero, suc, ◌+◌, ◌-◌, ◌<◌, ◌≤◌, List, [], ◌∷◌, ◌++◌, length, get_or, set, replicate, inl, inr, refl, sym, ap, ◌∙◌, append_assoc, arith}
 use Rattle.std.proofs.lemmas.Bool.{cases_lt}
 use Rattle.std.proofs.lemmas.List.{length-append, length-replicate, length-set, get_or_past, get_or_append_left, get_or-append_right, set-append_left}
-use Rattle.lp_numbers.specs.Links.{all_links}
+use Rattle.lp_numbers.specs.inside.Links.{all_links}
 
 pub all_links-count : (links : List ℕ) → length links ≤ 65536 → length (all_links links) ≡ 65536
 unfolding all_links

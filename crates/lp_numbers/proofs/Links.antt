@@ -5,7 +5,7 @@ use Rattle.std.proofs.lemmas.List.{get_or-set_same, get_or-set_other, get_or-map
 use mathlib.Core.Path.{fun_ext}
 use Rattle.lp_numbers.specs.Groups.{is_member}
 use Rattle.lp_numbers.specs.Numbers.{Numbers, has}
-use Rattle.lp_numbers.specs.Links.{among, walk, list_from, groups_of, IsChain, AreLists, IsLinked}
+use Rattle.lp_numbers.specs.inside.Links.{among, walk, list_from, groups_of, IsChain, AreLists, IsLinked}
 use Rattle.lp_numbers.proofs.Chains.{differs, among_first, among_rest, chain-positive, chain-below, chain-first, chain-next, chain-before, chain-back, list_from-chain, chain-same, chain-led, without, among-without, past, chain-without}
 
 -- ---- What tables stand for

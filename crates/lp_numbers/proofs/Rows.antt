@@ -3,7 +3,7 @@ use Rattle.std.proofs.Common.{◌≡◌, ℕ, ◌+◌, ◌*◌, ◌/◌, ◌%◌
 use Rattle.std.proofs.lemmas.Bool.{cases_lt}
 use Rattle.std.proofs.lemmas.List.{get_or_past}
 use Rattle.std.proofs.lemmas.Nat.{div-mul-add, mod-mul-add}
-use Rattle.lp_numbers.specs.Words.{word_has, row_has}
+use Rattle.lp_numbers.specs.inside.Words.{word_has, row_has}
 use Rattle.lp_numbers.proofs.Bits.{word_has-zero}
 
 -- a bit of a word is a bit of its row

@@ -6,7 +6,7 @@ use Rattle.std.proofs.lemmas.List.{get_or_past, ext_get_or, length-set}
 use Rattle.std.proofs.Math.Seq.{take-append_seam}
 use Rattle.std.proofs.lemmas.List.FromFn.{length-map-range_with_len, get_or-map-range_with_len}
 use Rattle.lp_numbers.specs.Numbers.{has}
-use Rattle.lp_numbers.specs.Words.{row_has, numbers_of}
+use Rattle.lp_numbers.specs.inside.Words.{row_has, numbers_of}
 use Rattle.lp_numbers.proofs.Bits.{word_has-zero}
 use Rattle.lp_numbers.proofs.Rows.{row_has-past}
 

@@ -4,7 +4,7 @@ use Rattle.std.proofs.Common.{◌≡◌, ◌≢◌, ℕ, ◌+◌, ◌*◌, ◌/�
 use Rattle.std.proofs.lemmas.Bool.{cases_lt, cases_eq, ne_eqb, eq-eqb, eqb-true, not-false, not-true, false≢true}
 use Rattle.std.proofs.lemmas.List.{get_or_past, length-set}
 use Rattle.lp_numbers.specs.Numbers.{IsLeastFrom}
-use Rattle.lp_numbers.specs.Words.{word_has, row_has, IsThreeLevel}
+use Rattle.lp_numbers.specs.inside.Words.{word_has, row_has, IsThreeLevel}
 use Rattle.lp_numbers.proofs.Bits.{word_has-zero, word_has-neither, word_has-either_none, word-zero}
 use Rattle.lp_numbers.proofs.Rows.{row_has-at, row_has-zero}
 

@@ -1,5 +1,4 @@
 pub mod Numbers
-pub mod Words
 pub mod Groups
-pub mod Links
 pub mod Ascending
+pub mod inside

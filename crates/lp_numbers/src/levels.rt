@@ -2,7 +2,7 @@
 //! summary of which bit i says whether word i of the summary isn't 0.
 ghost use Rattle.std.specs.Prelude.{◌≡◌, ◌≢◌, ℕ, ◌+◌, ◌*◌, ◌/◌, ◌%◌, ◌<◌, ◌≤◌, ◌==◌, if◌then◌else◌, length, false, not, slice_index, IsTrue, ◌↔◌};
 ghost use Rattle.lp_numbers.specs.Numbers.{IsNextFrom};
-ghost use Rattle.lp_numbers.specs.Words.{word_has, row_has, IsBlank, IsThreeLevel};
+ghost use Rattle.lp_numbers.specs.inside.Words.{word_has, row_has, IsBlank, IsThreeLevel};
 
 use crate::word::{later_in_word, lowest_bit, next_in_word, with_bit, without_bit};
 use crate::{NUMBERS, row};

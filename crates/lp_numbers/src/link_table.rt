@@ -2,7 +2,7 @@
 #![tactic(auto, using(crate::proofs::LinkTables::link_tables))]
 
 ghost use Rattle.std.specs.Prelude.{◌≡◌, ℕ, ◌<◌, ◌≤◌, length, slice_index, slice_set, vec_capacity, IfOk};
-ghost use Rattle.lp_numbers.specs.Links.{all_links};
+ghost use Rattle.lp_numbers.specs.inside.Links.{all_links};
 
 use crate::set::NUMBERS;
 use std::alloc::{AllocError, Global};
@@ -21,7 +21,7 @@ pub(crate) struct LinkTable {
 
 impl Model for LinkTable {
     ghost use Rattle.std.specs.Prelude.{ℕ, List, vec_capacity};
-    ghost use Rattle.lp_numbers.specs.Links.{all_links, HasLinks};
+    ghost use Rattle.lp_numbers.specs.inside.Links.{all_links, HasLinks};
 
     ghost Value = { List ℕ };
 

@@ -4,7 +4,7 @@
 ghost use Rattle.std.specs.Prelude.{◌≡◌, ℕ, ◌<◌, ◌&&◌, ◌||◌, false, true, length, [], nat_eq, not, slice_index, slice_index_or, IsTrue, ◌↔◌, IfOk};
 ghost use Rattle.lp_numbers.specs.Groups.{is_member};
 ghost use Rattle.lp_numbers.specs.Numbers.{has};
-ghost use Rattle.lp_numbers.specs.Links.{among, list_from, IsLinked};
+ghost use Rattle.lp_numbers.specs.inside.Links.{among, list_from, IsLinked};
 
 use crate::link_table::LinkTable;
 use crate::set::NumberSet;
@@ -40,7 +40,7 @@ impl Drop for Members {
 
 impl Model for Members {
     ghost use Rattle.lp_numbers.specs.Groups.{Groups};
-    ghost use Rattle.lp_numbers.specs.Links.{groups_of, IsLinked};
+    ghost use Rattle.lp_numbers.specs.inside.Links.{groups_of, IsLinked};
 
     ghost Value = { Groups };
 

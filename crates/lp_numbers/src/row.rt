@@ -1,7 +1,7 @@
 //! The bits of a row of words.
 ghost use Rattle.std.specs.Prelude.{◌≡◌, ◌≢◌, ℕ, ◌*◌, ◌/◌, ◌<◌, ◌^◌, ◌==◌, if◌then◌else◌, length, slice_index, IfOk};
 ghost use Rattle.lp_numbers.specs.Numbers.{IsNextFrom};
-ghost use Rattle.lp_numbers.specs.Words.{row_has, IsBlank};
+ghost use Rattle.lp_numbers.specs.inside.Words.{row_has, IsBlank};
 
 use crate::word::{has_bit, with_bit};
 use std::alloc::{AllocError, Global};

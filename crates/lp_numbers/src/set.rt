@@ -40,7 +40,7 @@ impl Drop for NumberSet {
 
 impl Model for NumberSet {
     ghost use Rattle.lp_numbers.specs.Numbers.{Numbers};
-    ghost use Rattle.lp_numbers.specs.Words.{numbers_of, IsThreeLevel};
+    ghost use Rattle.lp_numbers.specs.inside.Words.{numbers_of, IsThreeLevel};
 
     ghost Value = { Numbers };
 

@@ -1,7 +1,7 @@
 //! The bits of one word.
 ghost use Rattle.std.specs.Prelude.{◌≡◌, ℕ, ◌+◌, ◌<◌, ◌==◌, if◌then◌else◌, true, false, IfSome};
 ghost use Rattle.lp_numbers.specs.Numbers.{IsLeastFrom, IsNextFrom};
-ghost use Rattle.lp_numbers.specs.Words.{word_has};
+ghost use Rattle.lp_numbers.specs.inside.Words.{word_has};
 
 /// Whether a bit of a word is 1.
 pub(crate) fn has_bit(word: u64, bit: usize) -> bool

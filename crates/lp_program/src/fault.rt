@@ -36,7 +36,8 @@ pub enum Fault {
     /// An allocation failed.
     #[error("out of memory")]
     NoMemory,
-    /// No desk was launched, or it wasn't closed, or a thread couldn't be started: this letter and number.
+    /// No desk was launched, or an event was turned back, or the desk wasn't closed, or a thread couldn't be started: this
+    /// letter and number.
     #[error("desk: {0}")]
     Desk(&'static str),
 }

@@ -73,7 +73,7 @@ pub fn act<T: Threads + Wait + Sync, R: Read, W: Write>(
     }
 }
 
-/// Writes the report of a trace.
+/// Writes the report of a trace; each fault as [`Fault`] says.
 pub fn act_run<R: Read, W: Write>(
     alloc: Global,
     model: ModelName,
@@ -96,7 +96,7 @@ pub fn act_run<R: Read, W: Write>(
     }
 }
 
-/// Writes the answer to a certificate.
+/// Writes the answer to a certificate; Refused where that is a refusal, and any other fault as [`Fault`] says.
 pub fn act_check<R: Read, W: Write>(
     alloc: Global,
     model: ModelName,
@@ -120,7 +120,7 @@ pub fn act_check<R: Read, W: Write>(
     }
 }
 
-/// Writes the comparison of a trace, as JSON if asked for.
+/// Writes the comparison of a trace, as JSON if asked for; each fault as [`Fault`] says.
 pub fn act_compare<R: Read, W: Write>(
     alloc: Global,
     json: bool,

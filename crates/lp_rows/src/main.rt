@@ -77,14 +77,17 @@ fn play_row<R: Print + Threads + Wait + Sync>(
     Ok(())
 }
 
-/// Counts a difference, and says where it is. Any other trouble is handed on.
+/// Counts a difference, and says where it is. Any other trouble is handed on, once the row is named.
 fn note(rt: &impl Print, name: &str, trouble: Trouble, tally: &mut Tally) -> Result<(), Trouble> {
     match trouble {
         Trouble::Differs(difference) => {
             tally.differing = tally.differing.saturating_add(1);
             Ok(tell_difference(rt, name, &difference)?)
         }
-        trouble => Err(trouble),
+        trouble => {
+            println!(rt; "{name}: not played to its end")?;
+            Err(trouble)
+        }
     }
 }
 

@@ -45,12 +45,15 @@ fn fault_line(alloc: Global, fault: TraceFault) -> Result<String, AllocError> {
 
 /// Adds the line of a fault to what was written.
 fn add_fault(alloc: Global, given: &mut Vec<u8>, fault: RunFault) -> Result<(), Trouble> {
-    let RunFault::Trace(fault) = fault else {
-        return Err(Trouble::NoMemory);
-    };
-    let line = fault_line(alloc, fault)?;
-    given.extend_from_slice(line.as_bytes())?;
-    Ok(())
+    match fault {
+        RunFault::Trace(fault) => {
+            let line = fault_line(alloc, fault)?;
+            given.extend_from_slice(line.as_bytes())?;
+            Ok(())
+        }
+        RunFault::NoMemory => Err(Trouble::NoMemory),
+        RunFault::Read(_) | RunFault::Write(_) => Err(Trouble::Stream),
+    }
 }
 
 /// What the run of a text writes, by so many bytes at a time, and the line of its fault behind it.
@@ -107,7 +110,7 @@ fn written_again(alloc: Global, trace: &Trace) -> Result<Vec<u8>, Trouble> {
     let mut text = Counted::new(Vec::new(alloc));
     match made.write(&mut text) {
         Ok(()) => Ok(text.into_stream()),
-        Err(_) => Err(Trouble::NoMemory),
+        Err(_) => Err(Trouble::Stream),
     }
 }
 

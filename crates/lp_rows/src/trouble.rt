@@ -16,6 +16,14 @@ pub enum Trouble {
     File(io::Error),
     /// A line of a data file says nothing that a row has.
     NoRow,
+    /// No engine was booted for a trace.
+    Boot(BootFault),
+    /// An engine took no event of a trace.
+    Halted(Halt),
+    /// No trace was made of a trace's parts.
+    Unmade(OfFault),
+    /// A read or a write in memory failed.
+    Stream,
     /// No desk was launched for a trace.
     Launch(LaunchFault),
     /// A desk turned an event of a trace back.
@@ -51,19 +59,19 @@ impl From<ReplayFault> for Trouble {
 }
 
 impl From<BootFault> for Trouble {
-    fn from(_fault: BootFault) -> Trouble {
-        Trouble::NoMemory
+    fn from(fault: BootFault) -> Trouble {
+        Trouble::Boot(fault)
     }
 }
 
 impl From<Halt> for Trouble {
-    fn from(_halt: Halt) -> Trouble {
-        Trouble::NoMemory
+    fn from(halt: Halt) -> Trouble {
+        Trouble::Halted(halt)
     }
 }
 
 impl From<OfFault> for Trouble {
-    fn from(_fault: OfFault) -> Trouble {
-        Trouble::NoMemory
+    fn from(fault: OfFault) -> Trouble {
+        Trouble::Unmade(fault)
     }
 }

@@ -21,6 +21,7 @@ abbrev pub last_of : {A : Type 0} → A → List A → A
 last_of other [] = other
 last_of other (x ∷ xs) = last_of x xs
 
+-- nothing, where no call of the patch is on the stack now
 abbrev pub if_inside : List Bool → List (List Bool) → List Bool
 if_inside [] found = []
 if_inside (side ∷ sides) found = last_of [] found

@@ -10,7 +10,7 @@ use lp_stack::Level;
 use lp_symbols::SymId;
 use std::alloc::{AllocError, Global};
 
-/// How many functions there are at most.
+/// How many numbers a function can have.
 const FUNCTIONS: usize = 65_536;
 
 /// The patches that have each function.

@@ -68,7 +68,8 @@ impl CheckInput {
 
     /// The trace and the certificate that a reader has, read to its end.
     ///
-    /// It makes at most 134,217,729 reads. A read that fails or is interrupted ends it.
+    /// It makes at most 134,217,729 reads. A read that fails or is interrupted ends it, as Read; else a text that is no trace
+    /// and certificate is Trace with its first fault, and NoMemory comes where an allocation failed.
     pub fn read_from<R: Read>(
         alloc: Global,
         reader: &mut Counted<R>,

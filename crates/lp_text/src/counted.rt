@@ -7,7 +7,7 @@ ghost use Rattle.lp_text.specs.Counts.{next};
 use std::io::{self, Read, Write};
 use std::marker::Model;
 
-/// A reader or a writer, and how often it was called, how often it failed, and how often it was at its end.
+/// A reader or a writer, and how often it was called, how often it failed, and how often a read gave no byte.
 ///
 /// Each count has 64 bits and goes round: behind the largest number comes 0.
 #[derive(Drop)]

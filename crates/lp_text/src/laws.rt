@@ -4,7 +4,7 @@ ghost use Rattle.lp_text.specs.CheckRows.{InputsCompute};
 ghost use Rattle.lp_text.specs.Laws.{ReadsSpelledInputs, ReadsWhatIsSpelled, SpellsOne, SpellsOneInput};
 ghost use Rattle.lp_text.specs.Rows.{TextsCompute};
 
-/// What the definitions make of short texts: one of each fault, and a text of each form.
+/// What the definitions make of short texts: one of nine of the twelve causes, and a text of each form.
 pub fn worked_texts()
     ensures { TextsCompute }
 {}

@@ -33,7 +33,7 @@ impl Trace {
     /// Unwritable at the first part that has no spelling: a function of the patch that is no symbol,
     /// is there already or is the 257th; the place after the symbols, if the patch is empty; a boot
     /// task with the number 0 or one that is there already; an event of a task 0, a call of no symbol,
-    /// the 1,000,001st event; a part that would carry the text past 134,217,728 bytes.
+    /// the 1,000,001st event; a part that would carry the text past 134,217,728 bytes. NoMemory where an allocation failed.
     pub fn of(
         alloc: Global,
         symbols: &Symbols,
@@ -54,7 +54,7 @@ impl Trace {
     /// The trace of these parts in the second text, which has 1 to 16 patches, the lowest in front.
     ///
     /// Unwritable as `of`, where an empty patch is the place after the lines before it, as is no
-    /// patch at all, and a 17th patch is the place of its first function.
+    /// patch at all, and a 17th patch is the place of its first function. NoMemory where an allocation failed.
     pub fn of_stack(
         alloc: Global,
         symbols: &Symbols,

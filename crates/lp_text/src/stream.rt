@@ -216,7 +216,8 @@ fn take_lines<'a>(
 impl Trace {
     /// The trace that a reader has, read to its end.
     ///
-    /// It makes at most 134,217,729 reads. A read that fails or is interrupted ends it.
+    /// It makes at most 134,217,729 reads. A read that fails or is interrupted ends it, as Read; else a text that is no trace
+    /// is Trace with its first fault, and NoMemory comes where an allocation failed.
     pub fn read_from<R: Read>(alloc: Global, reader: &mut Counted<R>) -> Result<Trace, StreamFault>
         // What was read spells a trace, and nothing is left.
         ensures found { IfOk result (λ trace. IsTrace trace × ReadsAll (R.remaining reader.old.stream) (R.remaining reader.new.stream) (text_of trace)) }

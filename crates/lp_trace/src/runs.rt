@@ -71,8 +71,9 @@ impl From<AllocError> for RunFault {
 /// Reads a trace to the reader's end, replays it under a model, and writes its report, in which the
 /// model has this name.
 ///
-/// It makes at most 134,217,729 reads. A read or write that fails or is interrupted ends it, and so
-/// does a write that takes no byte. Nothing is written before all allocations are done.
+/// It makes at most 134,217,729 reads. A read or write that fails or is interrupted ends it, as Read or Write, and so
+/// does a write that takes no byte. A text that is no trace is Trace with its first fault, and NoMemory comes where an
+/// allocation failed. Nothing is written before all allocations are done.
 pub fn run<M: Consistency, R: Read, W: Write>(
     alloc: Global,
     name: &str,
@@ -139,7 +140,7 @@ fn report_on<M: Consistency, W: Write>(
     }
 }
 
-/// The trace that a reader has, read to its end.
+/// The trace that a reader has, read to its end; faults as `run` has them.
 ///
 /// It makes at most 134,217,729 reads. A read that fails or is interrupted ends it.
 pub fn read_trace<R: Read>(alloc: Global, reader: &mut Counted<R>) -> Result<Trace, RunFault>

@@ -78,13 +78,14 @@ or_blame (Some b) found = Some b
 
 module _ (model : Rules) (e : Engine) (event : Event) (verdicts : List Verdict) (group : ℕ) where
   -- the group's blame after an accepted event. It goes at a control event, and when its frame is popped; a scan finds
-  -- one of a group that has none where it refuses its first member for a frame. An exit and an idle point find none, since
-  -- they are refused while there is a frame
+  -- one of a group that has none where the first member that it refuses is refused for a frame. An exit and an idle point
+  -- find none, since they are refused while there is a frame
   abbrev pub blame_taken : Option StandingBlame
   blame_taken =
       if is_control event then None
       else or_blame (while_there (affected model (state_in e) event) (blame_of e group)) (frame_blame (first_refused (state_in e) group verdicts))
 
+  -- the same of an event that is refused, too: it leaves the blame as it was
   abbrev pub blame_by : Option Refusal → Option StandingBlame
   blame_by None = blame_taken
   blame_by (Some why) = blame_of e group

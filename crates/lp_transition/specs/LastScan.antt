@@ -26,15 +26,15 @@ used_scan model _ = None
 abbrev pub AreSameMembers : (before after : State) → (group : ℕ) → Type 0
 AreSameMembers before after group = (t : ℕ) (x : Standing) → x.group ≡ group → (before.tasks t ≡ Live x) ↔ (after.tasks t ≡ Live x)
 
--- what the engine knows of the last scan after an event
+-- what the engine knows of the last scan after an event: it may know of none at any time
 pub record IsLastScanAfter (model : Rules) (old : Engine) (event : Event) (new : Engine) : Type 0 where
-  -- a scan that the model uses is the last one
+  -- after a scan that the model uses it knows of no other
   pub scan : (on kind : CheckKind) → used_scan model event ≡ Some on → new.last_scan.kind ≡ Some kind → kind ≡ on
-  -- after which nothing has happened to anybody yet
+  -- and of nobody to whom something has happened since
   pub fresh : (on kind : CheckKind) → used_scan model event ≡ Some on → new.last_scan.kind ≡ Some kind → IsEmpty new.last_scan.changed
   -- nothing is known where a leg opens
   pub opening : is_control event ≡ true → refusal_of model (state_in old) event ≡ None → new.last_scan.kind ≡ None
-  -- at any other event the last scan is the one from before
+  -- after any other event it knows of none but the one from before
   pub kind : used_scan model event ≡ None → (on : CheckKind) → new.last_scan.kind ≡ Some on → old.last_scan.kind ≡ Some on
   -- and a waiting group counts as unchanged where it did so, and nothing happened to it
   pub others :

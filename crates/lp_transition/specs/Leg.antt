@@ -102,6 +102,7 @@ is_alone bounds now group t =
     on_live false (λ x. nat_eq x.group group) (now t)
     && each_live bounds now (λ other x. not (nat_eq x.group group) || nat_eq other t)
 
+-- this kind, or none
 abbrev pub when : Bool → CheckKind → Option CheckKind
 when true kind = Some kind
 when false kind = None
@@ -118,6 +119,7 @@ check_by bounds now (Some Stop) group = when (has_member bounds now group) Stop
 check_by bounds now (Some _) group = None
 check_by bounds now None group = None
 
+-- the kind of a check, if it is used
 abbrev pub if_used : (CheckKind → Bool) → Option CheckKind → Option CheckKind
 if_used uses None = None
 if_used uses (Some kind) = when (uses kind) kind

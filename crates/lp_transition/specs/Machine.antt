@@ -1,5 +1,5 @@
--- The engine as a machine: a state, and what an event makes of it. It knows no run, no leg and no schedule,
--- and a law ties it to the definitions that do.
+-- The engine as a machine: a state, and what an event makes of it. Up to its last section it knows no run, no leg and no
+-- schedule, and a law ties it to the definitions that do.
 use Rattle.std.specs.Prelude.{ℕ, suc, pred, ◌+◌, Bool, false, not, ◌&&◌, ◌||◌, List, [], ◌∷◌, ◌++◌, length, take, filter, Option, Some, None, if◌then◌else◌, nat_eq}
 use Rattle.std.specs.List.{range_with_len}
 use Rattle.lp_stack.specs.declared.view.Class.TheVariants.{Normal}
@@ -26,6 +26,7 @@ use Rattle.lp_transition.specs.Events.{is_control}
 abbrev pub Standings : Type 0
 Standings = ℕ → Fate Standing
 
+-- a live task without its level and its frames, and the same of all tasks
 abbrev pub outline_of : Standing → Outline
 outline_of x = record { class = x.class; mode = x.mode; group = x.group; depth = length x.frames }
 
@@ -38,6 +39,7 @@ view_of t x = record { task = t; class = x.class; mode = x.mode; frames = x.fram
 
 -- ---- An event's own effect
 
+-- it sleeps, wakes up or enters the kernel; it calls; it returns; a child of it is born
 abbrev pub put_in : Mode → Standing → Standing
 put_in mode x = record x { mode = mode }
 
@@ -134,6 +136,7 @@ module _ (model : Rules) where
         tasks = s.tasks;
       }
 
+  -- the state after an event that was refused so, or accepted
   abbrev pub next_by : State → Event → Option Refusal → State
   next_by s event (Some why) = counted s
   next_by s event None = if is_control event then turned s event else with_switches s event
@@ -151,6 +154,7 @@ module _ (model : Rules) where
   told s (Call t f) = Ran (record { 0 = level_of s t.0 })
   told s event = switched (switched_groups (affected s event) event)
 
+  -- the answer to an event that is refused so, or accepted
   abbrev pub answer_by : State → Event → Option Refusal → Reply
   answer_by s event (Some why) = record { what = Refused why; completed = false }
   answer_by s event None =

@@ -143,6 +143,7 @@ module _ (model : Rules) where
   done leg (Call t f) = Ran (record { 0 = level_now leg t.0 })
   done leg event = switched (switched_at leg (first_check model (and_then leg event)) (suc (length leg.events)))
 
+  -- what happened, unless the event was refused
   abbrev pub unless_why : Option Refusal → What → What
   unless_why None what = what
   unless_why (Some why) what = Refused why

@@ -26,6 +26,7 @@ moments model patch t leg [] = sides leg.patches patch (stack model leg t) ∷ [
 moments model patch t leg (event ∷ events) =
     sides leg.patches patch (stack model leg t) ∷ moments model patch t (next_leg model leg event) events
 
+-- one moment more in front of the first stay
 abbrev pub join_first : List Bool → List (List Bool) → List (List Bool)
 join_first now [] = now ∷ []
 join_first now (stay ∷ stays) = (now ++ stay) ∷ stays

@@ -18,6 +18,7 @@ pub record Table : Type 0 where
 abbrev pub slot : Table → ℕ → Option Standing
 slot table t = slice_index_or table.slots t None
 
+-- the fate of a number by its slot and by whether it was used
 abbrev pub fate_at : Option Standing → Bool → Fate Standing
 fate_at (Some x) used = Live x
 fate_at None true = Dead
@@ -58,6 +59,7 @@ pub record Engine : Type 0 where
 abbrev pub task_numbers : ℕ → Bounds
 task_numbers symbols = record { symbols = symbols; tasks = 65535 }
 
+-- the bounds of these patches
 abbrev pub bounds_of : Patches → Bounds
 bounds_of patches = task_numbers (symbols_of patches)
 

@@ -49,11 +49,13 @@ on_live other f Unused = other
 on_live other f (Live life) = f life
 on_live other f Dead = other
 
+-- a live task changed; one that isn't live stays as it is
 abbrev pub map_live : {A B : Type 0} → (A → B) → Fate A → Fate B
 map_live f Unused = Unused
 map_live f (Live life) = Live (f life)
 map_live f Dead = Dead
 
+-- no task had the number yet
 abbrev pub is_unused : {A : Type 0} → Fate A → Bool
 is_unused Unused = true
 is_unused (Live life) = false
@@ -63,6 +65,7 @@ is_unused Dead = false
 
 -- each event has tests in an order, and is refused for the first that fits
 
+-- equality of modes and of classes
 abbrev pub same_mode : Mode → Mode → Bool
 same_mode User User = true
 same_mode Kernel Kernel = true
@@ -92,9 +95,11 @@ pub record Outline : Type 0 where
   pub group : ℕ
   pub depth : ℕ
 
+-- the outline of each task number
 abbrev pub Outlines : Type 0
 Outlines = ℕ → Fate Outline
 
+-- a life without its calls, and the same of all tasks
 abbrev pub outline : Life → Outline
 outline x = record { class = x.class; mode = x.mode; group = x.group; depth = length x.calls }
 
@@ -174,6 +179,7 @@ refusal bounds now event = first_of (tests bounds (outlines now) event)
 abbrev pub change : {A : Type 0} → ℕ → (A → A) → (ℕ → Fate A) → ℕ → Fate A
 change t f now x = if nat_eq x t then map_live f (now x) else now x
 
+-- a life whose task sleeps, wakes up or enters the kernel; that calls; that returns
 abbrev pub in_mode : Mode → Life → Life
 in_mode mode life = record life { mode = mode }
 

@@ -22,6 +22,7 @@ pub record Weighed : Type 0 where
   pub verdicts : List Verdict
   pub born : Option Standing
 
+-- the child that a fork brings, if its parent lives
 abbrev pub child_of : Grouping → ℕ → Event → Fate Standing → Option Standing
 child_of grouping c (Fork p _ how) (Live x) = Some (bearing grouping c how x)
 child_of grouping c _ _ = None
@@ -31,6 +32,7 @@ abbrev pub born_by : Grouping → Option Refusal → Event → (ℕ → Fate Sta
 born_by grouping None (Fork p c how) now = child_of grouping c.0 (Fork p c how) (now p.0)
 born_by grouping _ event now = None
 
+-- the child that an event brings in a state; none where it is refused
 abbrev pub born_of : Rules → State → Event → Option Standing
 born_of model s event = born_by model.child_group (refusal_of model s event) event s.tasks
 
@@ -54,7 +56,7 @@ pub record IsWeighed (model : Rules) (engine : Engine) (step : Weighed) : Type 0
   pub born : step.born ≡ born_of model (state_in engine) step.event
   pub verdicts : AreVerdictsFor model (state_in engine) step.event step.verdicts
 
--- an event that moves one task, between user space, the kernel and sleep or down its stack
+-- a return, a sleep, a wake-up or an entry into the kernel: it moves one task, and is no check
 abbrev pub is_silent : Event → Bool
 is_silent (Ret t) = true
 is_silent (Sleep t) = true
@@ -70,6 +72,7 @@ silent_task (Wake t) = t.0
 silent_task (Enter t) = t.0
 silent_task _ = 0
 
+-- a fork
 abbrev pub is_fork : Event → Bool
 is_fork (Fork p c how) = true
 is_fork _ = false

@@ -2,10 +2,11 @@
 ghost use Rattle.std.specs.Prelude.{◌≡◌, ◌≤◌, None, not, is_some, false};
 ghost use Rattle.std.specs.Option.{ForSome, option_map};
 ghost use Rattle.lp_patch.specs.Aimed.{aimed};
-ghost use Rattle.lp_transition.specs.Scan.{passing};
+ghost use Rattle.lp_transition.specs.Scan.{passing, MayLeaveOut};
 ghost use Rattle.lp_transition.specs.Sound.{IsSound};
 ghost use Rattle.lp_transition.specs.Table.{IsWide, slot, standings, bounds_of, state_in};
-ghost use Rattle.lp_transition.specs.Blames.{blame_of, has_frame_in};
+ghost use Rattle.lp_transition.specs.Blames.{blame_of, has_frame_in, is_open};
+ghost use Rattle.lp_model.specs.declared.check.CheckKind.{CheckKind};
 ghost use Rattle.lp_transition.specs.Leg.{is_alone};
 ghost use Rattle.lp_stack.specs.TaskView.{seen};
 ghost use Rattle.lp_transition.specs.Machine.{complete_in, outlines_of, view_of};
@@ -174,7 +175,9 @@ impl<M: Consistency> Core<M> {
     /// The standing blame of a group: a frame by which every check of it is refused until the frame is
     /// popped or the leg ends. None where there is none.
     pub fn standing_blame(&self, group: GroupId) -> Option<StandingBlame>
-        ensures { result ≡ blame_of self.now group.0 }
+        ensures blame { result ≡ blame_of self.now group.0 }
+        // A waiting group that has one is refused at every kind of check.
+        ensures refused { (kind : CheckKind) → MayLeaveOut M.rules kind (state_in self.now) (is_open self.now) }
     {
         self.blames.of(group)
     }

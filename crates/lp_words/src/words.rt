@@ -144,7 +144,8 @@ fn task_in(matches: &ArgMatches<'_>) -> Result<Task, WordsFault>
     }
 }
 
-/// What these words ask for, the first of which is the program's name.
+/// What these words ask for, the first of which is the program's name. UnknownModel where they are right but for
+/// the model's name, Usage for any other words that ask for nothing, NoMemory where an allocation failed.
 pub fn task_of<S: AsStr>(alloc: Global, words: &[S]) -> Result<Task, WordsFault>
     ensures task { IfOk result (Asks (map S.text words.now)) }
     ensures fault { IfErr result (AsksNothing (map S.text words.now)) }

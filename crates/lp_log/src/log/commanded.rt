@@ -21,8 +21,9 @@ use std::thread::Threads;
 
 impl<M: Consistency + Sync> Log<M> {
     /// Takes an event that is sent from the control, which comes back with the entry. A walk that was judged before is
-    /// taken by that, as `apply_judged` does. Else a walk or a stop looks at the waiting tasks in as many pieces as there
-    /// are workers, each of which passes the gate; where the model doesn't use the check, at none. Waits for the workers.
+    /// taken by that, as `apply_judged` does. Else a walk or a stop looks at the waiting tasks whose groups have no standing
+    /// blame, in as many pieces as there are workers, each of which passes the gate; where the model doesn't use the check,
+    /// at none. Waits for the workers.
     ///
     /// Turned back, with the engine and the journal as they were, for a task's event, else where no event is left,
     /// else where an allocation failed.
@@ -56,8 +57,8 @@ impl<M: Consistency + Sync> Log<M> {
         }
     }
 
-    /// An event, weighed on the engine; a walk by what was judged before, if it was; else a walk or a stop after a look at
-    /// every waiting task, by several threads.
+    /// An event, weighed on the engine; a walk by what was judged before, if it was; else a walk or a stop that the model
+    /// uses after a look at every waiting task whose group has no standing blame, by several threads.
     pub(super) fn weigh_shared<R: Threads + Sync, G: ScanGate + Sync>(
         &self,
         rt: &R,

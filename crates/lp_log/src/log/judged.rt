@@ -71,7 +71,7 @@ impl<M: Consistency> Log<M> {
         Ok(self.commit(ready))
     }
 
-    /// A walk, weighed by what was judged before.
+    /// A walk, weighed by what was judged before. NoMemory where an allocation failed, JournalFull where no event is left.
     pub fn weigh_judged(&self, alloc: Global, judged: &Judged<M>) -> Result<Step, Halt>
         ensures full { (result ≡ Err JournalFull) ↔ (1000000 ≤ length self.now.journal.entries) }
         ensures weighed { IfOk result (λ step. IsWeighed M.rules self.now.core step) }

@@ -48,7 +48,8 @@ impl Ready {
 
 impl<M: Consistency> Log<M> {
     /// An event, weighed on the engine; a walk or a stop after a look at the groups alone that a scan
-    /// of its kind may judge otherwise than the last one.
+    /// of its kind may judge otherwise than the last one. NoMemory where an allocation failed, JournalFull where no event is
+    /// left.
     pub fn weigh(&self, alloc: Global, event: Event) -> Result<Step, Halt>
         ensures full { (result ≡ Err JournalFull) ↔ (1000000 ≤ length self.now.journal.entries) }
         ensures weighed { IfOk result (λ step. IsWeighed M.rules self.now.core step) }
@@ -57,7 +58,7 @@ impl<M: Consistency> Log<M> {
         self.core.weigh_changed(alloc, event)
     }
 
-    /// A walk or a stop, weighed by what its checks found of the waiting tasks.
+    /// A walk or a stop, weighed by what its checks found of the waiting tasks; errors as `weigh` has them.
     pub fn weigh_scan(
         &self,
         alloc: Global,
@@ -73,7 +74,8 @@ impl<M: Consistency> Log<M> {
         self.core.weigh_scan(alloc, kind, verdicts)
     }
 
-    /// A walk or a stop, weighed by what its checks found of the waiting tasks whose groups have no standing blame.
+    /// A walk or a stop, weighed by what its checks found of the waiting tasks whose groups have no standing blame; errors
+    /// as `weigh` has them.
     pub fn weigh_open(
         &self,
         alloc: Global,
@@ -89,7 +91,8 @@ impl<M: Consistency> Log<M> {
         self.core.weigh_open(alloc, kind, verdicts)
     }
 
-    /// Allocates all that the entry of an event needs: what fails here has changed nothing, and `commit` can't fail.
+    /// Allocates all that the entry of an event needs: what fails here, for memory alone, has changed nothing, and `commit`
+    /// can't fail.
     pub fn ready(&mut self, alloc: Global, step: Step) -> Result<Ready, AllocError>
         ensures step { IfOk result (λ ready. ready ≡ step) }
         ensures room { OnOk result (0 < self.new.room) }

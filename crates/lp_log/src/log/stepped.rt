@@ -64,6 +64,7 @@ impl<M: Consistency> Log<M> {
     {
         the_machine_steps_as_defined::<M>();
         let number = self.entries.len() as u32 + 1;
+        // There is an event left, and what switches nobody asks for no memory: the law says that the answer switches nobody.
         let Ok(reply) = self.core.step(alloc, event) else {
             unreachable!()
         };

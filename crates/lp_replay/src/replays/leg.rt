@@ -24,7 +24,7 @@ pub struct TraceLeg<'a> {
     pub events: &'a [Event],
 }
 
-/// The leg of a trace that the event of a number opens; None where it opens none.
+/// The leg of a trace that the event of a number opens; None where it opens none. NoMemory where an allocation failed.
 pub fn leg_numbered<M: Consistency>(
     alloc: Global,
     model: M,

@@ -63,7 +63,7 @@ fn boot<M: Consistency>(
     }
 }
 
-/// The patches of the trace, on one another.
+/// The patches of the trace, on one another; NoMemory where an allocation failed.
 pub fn stack(alloc: Global, trace: &Trace) -> Result<PatchStack, ReplayFault>
     ensures { IfOk result (λ patches. patches ≡ (run_of trace.now).patches) }
 {

@@ -11,7 +11,7 @@ use std::fmt;
 pub struct KeptReply<'a> {
     /// The reply without its groups.
     pub short: ShortReply,
-    /// The groups that switched, in increasing order; of no use where none did.
+    /// The groups that switched, as the reply had them; of no use where none did.
     pub groups: &'a [GroupId],
 }
 

@@ -204,7 +204,7 @@ pub fn verdicts<M: Consistency>(
     Ok(found)
 }
 
-/// The reply alone tells: it was weighed on this very engine.
+/// Whether the event switched groups.
 pub(super) fn is_switched(what: &What) -> bool
     ensures { result ≡ is_switched what.now }
 {

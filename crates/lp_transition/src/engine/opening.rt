@@ -54,8 +54,8 @@ impl Model for Opening {
 }
 
 impl<M: Consistency> Core<M> {
-    /// A copy of the engine as it stands but for the standing blames, which just after an accepted
-    /// control event is the opening of that event's leg; an `Err` only where an allocation failed.
+    /// A copy of the engine as it stands, but for the standing blames and what is known of the last scan. Just after an
+    /// accepted control event it is the opening of that event's leg. An `Err` only where an allocation failed.
     pub fn standing(&self, alloc: Global) -> Result<Opening, AllocError>
         ensures same { IfOk result (λ opening. opening ≡ record self.now { blames = []; last_scan = no_scan }) }
         ensures sound { IfOk result (λ opening. IsSound (state_in opening)) }

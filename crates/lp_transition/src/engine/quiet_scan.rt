@@ -15,7 +15,7 @@ use lp_numbers::NumberSet;
 use lp_stack::GroupId;
 
 impl<M: Consistency> Core<M> {
-    /// Whether a walk or a stop of this kind may leave out every group that waits: the leg's last
+    /// True only where a walk or a stop of this kind may leave out every group that waits: the leg's last
     /// scan was of this kind, and each group to which something happened since has a standing blame.
     pub fn is_quiet(&self, kind: CheckKind) -> bool
         ensures last { IsTrue result → self.now.last_scan.kind ≡ Some kind }

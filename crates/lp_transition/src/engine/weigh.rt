@@ -1,4 +1,4 @@
-//! The answers to events of one task.
+//! The answers to events that are no scans.
 ghost use Rattle.std.specs.Prelude.{◌≡◌, ◌≢◌, ◌≤◌, ◌<◌, ◌↔◌, ℕ, [], ◌∷◌, true, false, None, Some, Err, IfOk, IsErr, IsTrue};
 ghost use Rattle.lp_transition.specs.declared.engine.step.Halt.TheVariants.{NoMemory, JournalFull};
 ghost use Rattle.lp_transition.specs.Events.{is_scan};

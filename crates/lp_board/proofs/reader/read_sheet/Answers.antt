@@ -3,7 +3,7 @@ use Rattle.std.proofs.lemmas.Grind.{common_steps}
 use Rattle.lp_board.specs.Words.{all_shown, shown_word}
 use Rattle.lp_board.specs.Names.{state_after}
 use Rattle.lp_board.specs.Pages.{shown_at}
-use Rattle.lp_board.specs.Publishers.{page_of}
+use Rattle.lp_board.specs.inside.Publishers.{page_of}
 use Rattle.lp_board.proofs.PageLemmas.{all_shown-page}
 use Rattle.lp_board.proofs.reader.read_sheet.Goals as goal
 

@@ -1,7 +1,7 @@
 use Rattle.std.proofs.Common.{sym, ◌∙◌, arith}
 use Rattle.std.proofs.lemmas.Grind.{common_steps}
 use Rattle.lp_numbers.specs.Numbers.{has}
-use Rattle.lp_board.specs.Changes.{target_if}
+use Rattle.lp_board.specs.inside.Changes.{target_if}
 use Rattle.lp_board.proofs.Taken.{given-more, none-more}
 use Rattle.lp_board.proofs.update.levels_in.Goals as goal
 use Rattle.lp_board.proofs.update.levels_in.Goals.{in-Some+in_ok-push, in_default}

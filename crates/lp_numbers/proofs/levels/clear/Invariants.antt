@@ -1,4 +1,4 @@
-use Rattle.lp_numbers.specs.Words.{IsThreeLevel}
+use Rattle.lp_numbers.specs.inside.Words.{IsThreeLevel}
 use Rattle.lp_numbers.proofs.levels.clear.Given as goal
 
 abbrev pub invariant-loop-rest : goal.invariant-loop-rest

@@ -1,5 +1,5 @@
 use Rattle.std.proofs.Common.{◌≡◌, ◌≢◌, ℕ, ◌/◌, ◌%◌, not, ◌==◌, slice_index}
-use Rattle.lp_numbers.specs.Words.{word_has}
+use Rattle.lp_numbers.specs.inside.Words.{word_has}
 use Rattle.lp_numbers.proofs.levels.clear_named.Given as goal
 
 -- the rest names those of the words that aren't 0 yet, and the words elsewhere are as they were

@@ -1,5 +1,5 @@
 use Rattle.std.proofs.Common.{◌≡◌, ℕ, ◌≤◌, ◌/◌, length, false, slice_index}
-use Rattle.lp_numbers.specs.Words.{word_has}
+use Rattle.lp_numbers.specs.inside.Words.{word_has}
 use Rattle.lp_numbers.proofs.levels.copy_blocks.Given as goal
 
 -- the words that the rest doesn't name are equal to the others

@@ -1,6 +1,6 @@
 use Rattle.std.proofs.Common.{arith}
 use Rattle.std.proofs.lemmas.Grind.{common_steps}
-use Rattle.lp_numbers.specs.Words.{word_has}
+use Rattle.lp_numbers.specs.inside.Words.{word_has}
 use Rattle.lp_numbers.proofs.ThreeLevels.{above-in_word, above-none, above-later}
 use Rattle.lp_numbers.proofs.levels.later_word.Goals as goal
 

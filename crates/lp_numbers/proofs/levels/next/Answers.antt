@@ -1,6 +1,6 @@
 use Rattle.std.proofs.Common.{arith}
 use Rattle.std.proofs.lemmas.Grind.{common_steps}
-use Rattle.lp_numbers.specs.Words.{row_has}
+use Rattle.lp_numbers.specs.inside.Words.{row_has}
 use Rattle.lp_numbers.proofs.ThreeLevels.{next-none, next-later}
 use Rattle.lp_numbers.proofs.levels.next.Goals as goal
 

@@ -1,5 +1,5 @@
 use Rattle.std.proofs.Common.{◌≡◌, ◌≤◌, ◌-◌, length, vec_len, vec_capacity}
-use Rattle.lp_numbers.specs.Links.{all_links}
+use Rattle.lp_numbers.specs.inside.Links.{all_links}
 use Rattle.lp_numbers.proofs.link_table.reach.Given as goal
 
 -- the new links so far are 0

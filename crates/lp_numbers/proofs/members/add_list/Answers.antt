@@ -1,7 +1,7 @@
 use Rattle.std.proofs.Common.{ℕ, ◌<◌, true, refl, sym, ap, ◌∙◌, ◌||◌, length, arith}
 use Rattle.std.proofs.lemmas.List.{length-set}
 use Rattle.lp_numbers.specs.Numbers.{has}
-use Rattle.lp_numbers.specs.Links.{among, list_from}
+use Rattle.lp_numbers.specs.inside.Links.{among, list_from}
 use Rattle.lp_numbers.proofs.Links.{at-below, walk-on, added, none_left}
 use Rattle.lp_numbers.proofs.members.add_list.Goals as goal
 

@@ -1,6 +1,6 @@
 use Rattle.std.proofs.Common.{◌≡◌, ℕ, ◌||◌, length}
 use Rattle.lp_numbers.specs.Numbers.{has}
-use Rattle.lp_numbers.specs.Links.{among, list_from, IsChain}
+use Rattle.lp_numbers.specs.inside.Links.{among, list_from, IsChain}
 use Rattle.lp_numbers.proofs.members.add_list.Given as goal
 
 -- the members so far, and those still to come

@@ -1,7 +1,7 @@
 use Rattle.std.proofs.Common.{◌≡◌, suc, length, get_or, arith}
 use Rattle.std.proofs.lemmas.Grind.{common_steps}
 use Rattle.std.proofs.Common.{refl, ap, ◌∙◌, arith}
-use Rattle.lp_numbers.specs.Links.{list_from}
+use Rattle.lp_numbers.specs.inside.Links.{list_from}
 use Rattle.lp_numbers.proofs.Links.{walk-on, none_walked}
 use Rattle.lp_numbers.proofs.members.is_longer.Goals as goal
 

@@ -1,5 +1,5 @@
 use Rattle.std.proofs.Common.{◌≡◌, ℕ, ◌+◌, ◌≤◌, length}
-use Rattle.lp_numbers.specs.Links.{list_from, IsChain}
+use Rattle.lp_numbers.specs.inside.Links.{list_from, IsChain}
 use Rattle.lp_numbers.proofs.members.is_longer.Given as goal
 
 -- the members so far, and those still to come

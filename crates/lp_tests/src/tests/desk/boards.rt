@@ -152,7 +152,7 @@ fn looks<N: DeskName>(alloc: Global, reader: &mut BoardReader<N>) -> Option<u8> 
     Some(step)
 }
 
-/// Each of as many readers as a board may have sees the event that it learnt.
+/// Each of as many readers as a board may have sees the event.
 #[test]
 fn many_readers_see_the_same(rt: HostRuntime) {
     assert!(rt; is_right(&rt, rt.alloc(), Hybrid, MANY_READERS, Play::Seen));

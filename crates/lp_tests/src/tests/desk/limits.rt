@@ -57,9 +57,10 @@ fn an_entry_takes_48_bytes_at_most(rt: HostRuntime) {
 
 const TWICE: [(TaskId, Class); 2] = [(ONE, Class::Normal), (ONE, Class::Idle)];
 
-/// The tasks come before the desk's workers: the engine is made first.
+/// The readers come before the tasks.
 #[test]
-fn a_launch_names_the_first_fault(rt: HostRuntime) {
+fn a_launch_names_its_fault(rt: HostRuntime) {
+    assert!(rt; blank_fault(rt.alloc(), &TWICE, 0) == Some(LaunchFault::BadCrew));
     let twice = blank_fault(rt.alloc(), &TWICE, 1);
     assert!(rt; twice == Some(LaunchFault::Boot(BootFault::TaskDoubled)));
     let none = blank_fault(rt.alloc(), &[(TaskId(0), Class::Normal)], 1);

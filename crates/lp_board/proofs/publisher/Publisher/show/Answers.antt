@@ -2,7 +2,7 @@ use Rattle.std.proofs.Common.{rules, ◌≡◌, ◌∷◌, ◌++◌, [], drop, s
 use Rattle.std.proofs.lemmas.Grind.{common_steps}
 use Rattle.lp_board.specs.Names.{state_after}
 use Rattle.lp_board.specs.Pages.{IsPage, Leads, page_after}
-use Rattle.lp_board.specs.Publishers.{page_of}
+use Rattle.lp_board.specs.inside.Publishers.{page_of}
 use Rattle.lp_board.specs.declared.sheet.Change.{Change}
 use Rattle.lp_board.specs.declared.sheet.Page.{Page}
 use Rattle.lp_board.proofs.PageLemmas.{shows-after, fold-one}

@@ -1,5 +1,4 @@
 -- How a set is kept: as the bits of words of 64 bits, with a second row of words over the first, and one word over that.
--- Only private clauses cite this file.
 use Rattle.std.specs.Prelude.{◌≡◌, ℕ, ◌*◌, ◌/◌, ◌%◌, Bool, not, List, map, length, slice_index, ◌==◌}
 use Rattle.std.specs.Int.{bit_at}
 use Rattle.std.specs.List.{range_with_len}

@@ -5,7 +5,7 @@ use Rattle.lp_transition.specs.declared.event.Event.{Event}
 use Rattle.lp_board.specs.declared.sheet.Page.{Page}
 use Rattle.lp_board.specs.declared.sheet.Sheet.{Sheet}
 use Rattle.lp_board.specs.Names.{Name}
-use Rattle.lp_board.specs.History.{head_of}
+use Rattle.lp_board.specs.inside.History.{head_of}
 use Rattle.lp_board.specs.Pages.{IsPage}
 
 module _ {N : Type 0} where

@@ -1,5 +1,4 @@
 -- How the members of groups are kept: the first member of each group, and the next one and the one before it of each member.
--- Only private clauses cite this file.
 use Rattle.std.specs.Prelude.{◌≡◌, ℕ, zero, suc, ◌-◌, ◌<◌, ◌≤◌, Bool, true, false, List, [], ◌∷◌, ◌++◌, length, map, replicate, if◌then◌else◌, nat_eq, slice_index}
 use Rattle.std.specs.List.{list_any}
 use Rattle.lp_numbers.specs.Groups.{Groups}
