@@ -133,7 +133,7 @@ impl<M: Consistency> Blank<M> {
     /// A blank of an engine at its start, with a copy of the patches, if one could be made.
     ///
     /// Apart from `new`, and with a `drop` of its own: the proof goes over each part of an engine at each early return that
-    /// gives one up, and took ten minutes.
+    /// gives one up.
     fn after(
         alloc: Global,
         core: Core<M>,

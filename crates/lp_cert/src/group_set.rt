@@ -1,5 +1,5 @@
 //! Sets of groups.
-ghost use Rattle.std.specs.Prelude.{◌≡◌, ◌<◌, ◌≤◌, ℕ, true, false, length, map, slice_set, IfOk};
+ghost use Rattle.std.specs.Prelude.{◌≡◌, ◌<◌, ℕ, true, false, length, map, slice_set, IfOk};
 ghost use Rattle.lp_numbers.specs.Numbers.{has, IsEmpty, IsNextFrom};
 ghost use Rattle.lp_numbers.specs.Ascending.{members_from};
 ghost use Rattle.lp_transition.specs.Scan.{passing};
@@ -90,8 +90,7 @@ impl GroupSet {
         ensures numbers { length self.new ≡ 65536 }
     {
         self.groups.insert(group);
-        let bound = greater(self.bound, usize::from(group) + 1);
-        self.bound = bound;
+        self.bound = self.bound.max(usize::from(group) + 1);
     }
 
     /// The groups, as a set.
@@ -129,12 +128,4 @@ impl<'a> IntoIterator for &'a GroupSet {
     fn into_iter(self) -> Ascending<'a> {
         self.iter()
     }
-}
-
-/// The greater of two numbers.
-pub(crate) fn greater(one: usize, other: usize) -> usize
-    ensures first { one ≤ result }
-    ensures second { other ≤ result }
-{
-    if one < other { other } else { one }
 }

@@ -21,7 +21,7 @@ mod whole;
 use self::held::is_held;
 use crate::cert_lines::CertLines;
 use crate::chains::Chains;
-use crate::group_set::{GroupSet, greater};
+use crate::group_set::GroupSet;
 use crate::head::{OwnFork, Refused, Waiter};
 use crate::reasons::Reasons;
 use lp_model::{Consistency, Verdict};
@@ -88,7 +88,7 @@ impl Waiters {
         ensures all_room { OnOk result (is_scan event ≡ true → length self.new.reasons.heads ≤ self.new.reasons.room) }
         ensures scan_room { OnOk result (0 < self.new.reasons.scan_room) }
     {
-        let groups = greater(self.groups.bound(), above_child(event));
+        let groups = self.groups.bound().max(above_child(event));
         self.reasons.reserve(more, groups)?;
         if matches!(event, Event::Walk | Event::Stop) {
             self.reasons.reserve_all()?;

@@ -121,18 +121,11 @@ fn ends_by(
 fn keep_greatest(numbers: &mut [u64])
     ensures { (place bound : ℕ) → place < length numbers.old → 0 < bound → nat_le bound (slice_index numbers.new place) ≡ list_any (nat_le bound) (take (suc place) numbers.old) }
 {
-    let mut greatest = 0;
+    let mut greatest = 0u64;
     for number in numbers.iter_mut() {
-        greatest = greater(greatest, *number);
+        greatest = greatest.max(*number);
         *number = greatest;
     }
-}
-
-/// The greater of two numbers.
-fn greater(one: u64, other: u64) -> u64
-    ensures { result ≡ max one other }
-{
-    if one < other { other } else { one }
 }
 
 /// For each moment of a section's time, counted from its beginning, the last end of the spans that
@@ -171,7 +164,7 @@ fn raise(numbers: &mut [u64], place: usize, number: u64)
     requires { place < length numbers.old }
     ensures { numbers.new ≡ slice_set numbers.old place (max (slice_index numbers.old place) number) }
 {
-    numbers[place] = greater(numbers[place], number);
+    numbers[place] = numbers[place].max(number);
 }
 
 /// As many zeros as are asked for.

@@ -1,5 +1,5 @@
 //! How the first leg of a trace ended under a model.
-ghost use Rattle.std.specs.Prelude.{◌≡◌, ◌<◌, ◌^◌, All, count_by, map, max, IfOk};
+ghost use Rattle.std.specs.Prelude.{◌≡◌, ◌<◌, ◌^◌, All, count_by, map, IfOk};
 ghost use Rattle.std.specs.Option.{option_map};
 ghost use Rattle.lp_cert.specs.Ends.{end_in};
 ghost use Rattle.lp_text.specs.Traces.{IsTrace};
@@ -67,18 +67,11 @@ fn most_births(certs: &CertListRef<'_>) -> u64
     requires { All (λ cert. births_in cert < 2 ^ 64) certs.now }
     ensures { result ≡ greatest (map births_in certs.now) }
 {
-    let mut most = 0;
+    let mut most = 0u64;
     for place in 0..certs.len() {
-        most = greater(most, births(&mut certs.lines(place)));
+        most = most.max(births(&mut certs.lines(place)));
     }
     most
-}
-
-/// The greater of two numbers.
-fn greater(a: u64, b: u64) -> u64
-    ensures { result ≡ max a b }
-{
-    if a < b { b } else { a }
 }
 
 /// How many of the lines that are left tell a birth.

@@ -21,8 +21,8 @@ use Rattle.lp_transition.specs.Run.{Run, switched}
 use Rattle.lp_transition.specs.Steps.{StandsIn, IsStep}
 use Rattle.lp_transition.specs.Weigh.{is_switched, may_allocate}
 use Rattle.lp_transition.proofs.Quantifiers.{some_live-is, each_live-at}
-use Rattle.lp_transition.specs.Plain.{is_plain}
-use Rattle.lp_log.specs.inside.Plain.{is_calm, is_point}
+use Rattle.lp_transition.specs.Plain.{is_plain, is_point}
+use Rattle.lp_log.specs.inside.Plain.{is_calm}
 
 filter_none : {A : Type 0} (p : A → Bool) → ((x : A) → p x ≡ false) → (xs : List A) → filter p xs ≡ []
 filter_none p none [] = refl

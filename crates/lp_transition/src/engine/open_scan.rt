@@ -65,30 +65,6 @@ impl<M: Consistency> Core<M> {
         }
     }
 
-    /// A walk or a stop, weighed after a look at the waiting tasks of some groups alone: of each of
-    /// the others that waits it would refuse a member. NoMemory where an allocation failed,
-    /// JournalFull where no event is left.
-    pub fn weigh_asked(
-        &self,
-        alloc: Global,
-        kind: CheckKind,
-        asked: &NumberSet,
-    ) -> Result<Step, Halt>
-        requires scan { is_scan_kind kind ≡ true }
-        requires others { MayLeaveOut M.rules kind (state_in self.now) (has asked.now) }
-        ensures full { (result ≡ Err JournalFull) ↔ (1000000 ≤ self.now.number) }
-        ensures reply { IfOk result (λ step. IsReply M.rules (state_in self.now) (scan_event kind) step.reply) }
-        ensures weighed { IfOk result (λ step. IsWeighed M.rules self.now step) }
-        ensures event { IfOk result (λ step. step.event ≡ scan_event kind) }
-        ensures verdicts { IfOk result (λ step. step.verdicts ≡ verdicts_among M.rules kind (state_in self.now) (has asked.now)) }
-    {
-        if self.events >= MOST_EVENTS {
-            return Err(Halt::JournalFull);
-        }
-        let found = self.asked_verdicts(alloc, kind, asked)?;
-        self.weigh_found(alloc, kind, found)
-    }
-
     /// What a check finds of the waiting tasks of some groups, by increasing number.
     pub(super) fn asked_verdicts(
         &self,

@@ -114,7 +114,7 @@ fn part_walk(alloc: Global, core: &mut Core<Hybrid>, completes: bool) -> Option<
     let Ok(asked) = all_but(alloc, core, CheckKind::Walk, TWO) else {
         return None;
     };
-    match core.weigh_asked(alloc, CheckKind::Walk, &asked) {
+    match core.weigh_first_refusals(alloc, CheckKind::Walk, &asked) {
         Ok(part) => {
             let over = one_over(&part, 1, completes);
             core.take(part);

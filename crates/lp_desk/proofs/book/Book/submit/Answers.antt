@@ -1,4 +1,4 @@
-use Rattle.std.proofs.Common.{arith}
+use Rattle.std.proofs.Common.{arith, rules}
 use Rattle.std.proofs.lemmas.Grind.{common_steps}
 use Rattle.lp_desk.proofs.book.Book.submit.Goals as goal
 
@@ -22,3 +22,9 @@ publish-requires-clause-weighed c = grind (arith, common_steps)
 
 pub returns-clause-journal : goal.returns-clause-journal
 returns-clause-journal c = grind (arith, common_steps)
+
+pub returns-in_err-sending-clause-not_yours : goal.returns-in_err-sending-clause-not_yours
+returns-in_err-sending-clause-not_yours c = search rules
+
+pub returns-in_err-sending-clause-full : goal.returns-in_err-sending-clause-full
+returns-in_err-sending-clause-full c = search rules
