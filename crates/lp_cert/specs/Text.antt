@@ -1,5 +1,5 @@
--- Certificates as texts, each line as its words.
-use Rattle.std.specs.Prelude.{ℕ, List, [], ◌∷◌, map, decimal, codes}
+-- Certificates and the ends of legs as texts, each line as its words.
+use Rattle.std.specs.Prelude.{ℕ, List, [], ◌∷◌, map, decimal, codes, Option, Some, None}
 use Rattle.lp_cert.specs.declared.line.Line.{Line}
 use Rattle.lp_cert.specs.declared.line.Line.TheVariants.{Hold, Busy, Born}
 use Rattle.lp_cert.specs.declared.cert.Claim.{Claim}
@@ -23,3 +23,8 @@ reason_words (Born group parent at) = codes "born" ∷ map decimal (group.0 ∷ 
 -- the lines of a certificate
 abbrev pub cert_lines : Cert → List (List (List ℕ))
 cert_lines cert = claim_words cert ∷ map reason_words cert.lines
+
+-- the event of a leg's completion, or how many groups wait at its end
+abbrev pub end_words : Option ℕ → ℕ → List (List ℕ)
+end_words (Some event) waiting = codes "complete" ∷ decimal event ∷ []
+end_words None waiting = codes "waiting" ∷ decimal waiting ∷ []

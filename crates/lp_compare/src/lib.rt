@@ -12,6 +12,6 @@ mod text;
 pub use compares::compare;
 pub use comparison::{Comparison, Row, RowList};
 pub use lp_models::ModelName;
+pub use lp_replay::RunFault;
 pub use lp_text::{Counted, Trace};
-pub use lp_trace::RunFault;
 pub use runs::compare_run;

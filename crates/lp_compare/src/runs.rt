@@ -5,14 +5,14 @@ ghost use Rattle.lp_text.specs.Counts.{AtMost, next};
 ghost use Rattle.lp_text.specs.Input.{FailsOnce};
 ghost use Rattle.lp_text.specs.Reading.{reading};
 ghost use Rattle.lp_text.specs.Writing.{AppendsPrefix};
-ghost use Rattle.lp_trace.specs.Runs.{ReadsTrace, AtReading, AtTrace, AtWrite, BeforeWriting, ButForReading};
+ghost use Rattle.lp_replay.specs.Runs.{ReadsTrace, AtReading, AtTrace, AtWrite, BeforeWriting, ButForReading};
 ghost use Rattle.lp_compare.specs.Comparison.{comparison};
 ghost use Rattle.lp_compare.specs.Text.{written};
 
 use crate::compares::compare;
 use crate::comparison::Comparison;
+use lp_replay::{RunFault, read_trace};
 use lp_text::{Counted, Trace, put};
-use lp_trace::{RunFault, read_trace};
 use std::alloc::{AllocError, Global};
 use std::io::{Read, Write};
 

@@ -10,7 +10,7 @@ use Rattle.lp_threads.specs.Faults.{AtRun}
 use Rattle.lp_threads.specs.Plays.{IsPlay, play_text}
 use Rattle.lp_threads.specs.declared.fault.ThreadsFault.{ThreadsFault}
 use Rattle.lp_threads.specs.declared.report.Play.{Play}
-use Rattle.lp_trace.specs.Runs.{AtWrite, ReadsTrace}
+use Rattle.lp_replay.specs.Runs.{AtWrite, ReadsTrace}
 use Rattle.lp_program.specs.Named.{rules_named}
 use Rattle.lp_program.specs.Performed.{IsPlayed}
 

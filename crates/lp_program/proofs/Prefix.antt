@@ -2,9 +2,9 @@
 use Rattle.std.proofs.Common.{◌≡◌, ℕ, List, Option, sym, subst}
 use Rattle.lp_model.specs.Rules.{Rules}
 use Rattle.lp_models.specs.declared.name.ModelName.{ModelName}
-use Rattle.lp_trace.specs.declared.runs.RunFault.{RunFault}
+use Rattle.lp_replay.specs.declared.run_fault.RunFault.{RunFault}
 use Rattle.lp_trace.specs.Answer.{ReadsInput, answer_to, answer_words}
-use Rattle.lp_trace.specs.Runs.{AtWrite}
+use Rattle.lp_replay.specs.Runs.{AtWrite}
 use Rattle.lp_text.specs.Words.{line_of}
 use Rattle.lp_text.specs.Writing.{AppendsPrefix}
 use Rattle.lp_program.specs.Named.{rules_named}

@@ -1,7 +1,7 @@
 -- How the program ends: its exit status, and its line on standard error.
 use Rattle.std.specs.Prelude.{◌≡◌, ℕ, List, [], ◌++◌, Result, Ok, Err, codes, decimal}
-use Rattle.lp_trace.specs.declared.runs.RunFault.{RunFault}
-use Rattle.lp_trace.specs.declared.runs.RunFault.TheVariants as run
+use Rattle.lp_replay.specs.declared.run_fault.RunFault.{RunFault}
+use Rattle.lp_replay.specs.declared.run_fault.RunFault.TheVariants as run
 use Rattle.lp_text.specs.Faults.{cause_number}
 use Rattle.lp_program.specs.declared.fault.Fault.{Fault}
 use Rattle.lp_program.specs.declared.fault.Fault.TheVariants as fault

@@ -11,7 +11,7 @@ use Rattle.lp_text.specs.CheckReading.{check_reading}
 use Rattle.lp_replay.specs.Outcome.{outcome}
 use Rattle.lp_text.specs.Reading.{reading}
 use Rattle.lp_trace.specs.Report.{report}
-use Rattle.lp_trace.specs.Runs.{ReadsTrace}
+use Rattle.lp_replay.specs.Runs.{ReadsTrace}
 use Rattle.lp_text.specs.Traces.{TraceValue}
 use Rattle.lp_text.specs.Words.{line_of}
 use Rattle.lp_text.specs.Writing.{AppendsPrefix}

@@ -10,7 +10,7 @@ ghost use Rattle.lp_replay.specs.Headline.{Headline, whole_run};
 ghost use Rattle.lp_replay.specs.Outcome.{outcome};
 ghost use Rattle.lp_text.specs.Reading.{reading};
 ghost use Rattle.lp_trace.specs.Report.{report};
-ghost use Rattle.lp_trace.specs.Runs.{AtReading, AtTrace, AtWrite, BeforeWriting, ButForReading, ReadsTrace};
+ghost use Rattle.lp_replay.specs.Runs.{AtReading, AtTrace, AtWrite, BeforeWriting, ButForReading, ReadsTrace};
 ghost use Rattle.lp_text.specs.Words.{line_of};
 ghost use Rattle.lp_text.specs.Writing.{AppendsPrefix};
 ghost use Rattle.lp_threads.specs.Faults.{AtDesk, AtRun, ButForReader, ButForWriter, IsOfPlay};

@@ -7,3 +7,4 @@ pub mod LegByLeg
 pub mod Headline
 pub mod FirstEnd
 pub mod ListsOfGroups
+pub mod RunFaults

@@ -3,15 +3,19 @@
 
 pub mod laws;
 mod outcome;
+mod reading;
 mod replays;
 mod replies;
+mod run_fault;
 
 pub use lp_cert::{LegEndRef, LegEnds, LegList};
 pub use lp_model::Consistency;
 pub use lp_patch::PatchStack;
 pub use lp_stack::{GroupId, Level};
-pub use lp_text::Trace;
+pub use lp_text::{Counted, StreamFault, Trace, TraceFault, WriteFault};
 pub use lp_transition::{Event, GroupList, Opening, Refusal, Reply};
 pub use outcome::Outcome;
+pub use reading::read_trace;
 pub use replays::{ReplayFault, TraceLeg, first_leg_end, leg_numbered, replay, stack};
 pub use replies::{GroupLists, KeptReply, PackedReply, Replies, ReplyList, ShortReply, ShortWhat};
+pub use run_fault::RunFault;

@@ -2,9 +2,9 @@
 use Rattle.std.proofs.Common.{◌≡◌, Result, Ok, Err, sym, subst}
 use Rattle.std.specs.Prelude.{IfErr, IsErrAnd}
 use Rattle.lp_text.specs.declared.write.WriteFault.{WriteFault}
-use Rattle.lp_trace.specs.Runs.{AtWrite}
-use Rattle.lp_trace.specs.declared.runs.RunFault.{RunFault}
-use Rattle.lp_trace.specs.declared.runs.RunFault.TheVariants.{NoMemory, Write}
+use Rattle.lp_replay.specs.Runs.{AtWrite}
+use Rattle.lp_replay.specs.declared.run_fault.RunFault.{RunFault}
+use Rattle.lp_replay.specs.declared.run_fault.RunFault.TheVariants.{NoMemory, Write}
 use Rattle.lp_threads.specs.Faults.{AtDesk, AtRun, AtRunElse, IsOfPlay}
 use Rattle.lp_threads.specs.declared.fault.ThreadsFault.{ThreadsFault}
 use Rattle.lp_threads.specs.declared.fault.ThreadsFault.TheVariants as threads

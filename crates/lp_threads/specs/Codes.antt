@@ -7,7 +7,7 @@ use Rattle.lp_log.specs.declared.seat.Cause.{Cause}
 use Rattle.lp_log.specs.declared.seat.Cause.TheVariants as sent
 use Rattle.lp_log.specs.declared.audit.CloseCause.{CloseCause}
 use Rattle.lp_log.specs.declared.audit.CloseCause.TheVariants as close
-use Rattle.lp_trace.specs.declared.runs.RunFault.{RunFault}
+use Rattle.lp_replay.specs.declared.run_fault.RunFault.{RunFault}
 use Rattle.lp_threads.specs.declared.fault.ThreadsFault.{ThreadsFault}
 use Rattle.lp_threads.specs.declared.fault.ThreadsFault.TheVariants as threads
 

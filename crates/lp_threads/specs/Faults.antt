@@ -9,9 +9,9 @@ use Rattle.lp_log.specs.declared.audit.CloseCause.{CloseCause}
 use Rattle.lp_log.specs.declared.audit.CloseCause.TheVariants as close
 use Rattle.lp_threads.specs.declared.fault.ThreadsFault.{ThreadsFault}
 use Rattle.lp_threads.specs.declared.fault.ThreadsFault.TheVariants as threads
-use Rattle.lp_trace.specs.Runs.{BeforeWriting, ButForReading}
-use Rattle.lp_trace.specs.declared.runs.RunFault.{RunFault}
-use Rattle.lp_trace.specs.declared.runs.RunFault.TheVariants.{NoMemory}
+use Rattle.lp_replay.specs.Runs.{BeforeWriting, ButForReading}
+use Rattle.lp_replay.specs.declared.run_fault.RunFault.{RunFault}
+use Rattle.lp_replay.specs.declared.run_fault.RunFault.TheVariants.{NoMemory}
 
 -- this holds of a fault as of a run; and that is so at the desk's own
 abbrev pub AtRunElse : ThreadsFault → (RunFault → Type 0) → Type 0 → Type 0

@@ -3,12 +3,12 @@ ghost use Rattle.std.specs.Prelude.{◌≡◌, Err, IfErr, IfOk, Ok};
 ghost use Rattle.lp_threads.specs.Codes.{code_of, of_cause, of_close, of_launch};
 ghost use Rattle.lp_threads.specs.Faults.{of_launched, of_turned, of_unclosed};
 ghost use Rattle.lp_threads.specs.declared.fault.ThreadsFault.TheVariants.{Run};
-ghost use Rattle.lp_trace.specs.declared.runs.RunFault.TheVariants.{NoMemory, Write};
+ghost use Rattle.lp_replay.specs.declared.run_fault.RunFault.TheVariants.{NoMemory, Write};
 
 use lp_board::LaunchFault;
 use lp_desk::Unclosed;
 use lp_log::{Cause, CloseCause};
-use lp_trace::{ReplayFault, RunFault, WriteFault};
+use lp_replay::{ReplayFault, RunFault, WriteFault};
 use lp_transition::BootFault;
 use std::alloc::AllocError;
 use thiserror::Error;

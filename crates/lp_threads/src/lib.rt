@@ -15,5 +15,5 @@ pub use lp_board::LaunchFault;
 pub use lp_desk::Unclosed;
 pub use lp_log::{Cause, CloseCause};
 pub use lp_model::Consistency;
-pub use lp_trace::{Counted, ReplayFault, RunFault, WriteFault};
+pub use lp_replay::{Counted, ReplayFault, RunFault, WriteFault};
 pub use playing::threads;

@@ -2,13 +2,13 @@
 ghost use Rattle.std.specs.Prelude.{◌≡◌, IfErr, IfOk, OnOk, string_bytes};
 ghost use Rattle.std.specs.Io.KnownBytes.{Appends};
 ghost use Rattle.lp_text.specs.Counts.{next};
-ghost use Rattle.lp_trace.specs.Runs.{AtReading, AtTrace, AtWrite};
+ghost use Rattle.lp_replay.specs.Runs.{AtReading, AtTrace, AtWrite};
 ghost use Rattle.lp_text.specs.Writing.{AppendsPrefix};
 ghost use Rattle.lp_threads.specs.Faults.{AtDesk, AtRun, ButForWriter};
 ghost use Rattle.lp_threads.specs.Plays.{play_text};
 
 use crate::ThreadsFault;
-use lp_trace::{Counted, put};
+use lp_text::{Counted, put};
 use std::alloc::{AllocError, Global};
 use std::io::Write;
 

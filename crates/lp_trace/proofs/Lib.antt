@@ -1,7 +1,7 @@
 pub mod Counting
 pub mod Digits
 pub mod Pages
-pub mod RunFaults
+mod RunOutcomes
 pub mod Reports
 pub mod Sections
 pub mod Decimals

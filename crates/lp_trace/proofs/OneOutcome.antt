@@ -18,8 +18,8 @@ use Rattle.lp_text.specs.declared.form.TraceForm.{TraceForm}
 use Rattle.lp_text.specs.declared.form.TraceForm.TheVariants.{Single, Stacked}
 use Rattle.lp_replay.specs.declared.outcome.Outcome.{Outcome}
 use Rattle.lp_text.specs.Words.{line_of}
-use Rattle.lp_cert.specs.Text.{claim_word, cert_lines, reason_words}
-use Rattle.lp_trace.specs.Report.{complete_words, end_words, leg_lines, level_word, report, report_header, report_lines, reply_line, reply_lines, target_words, what_words, leg_line}
+use Rattle.lp_cert.specs.Text.{claim_word, cert_lines, reason_words, end_words}
+use Rattle.lp_trace.specs.Report.{complete_words, leg_lines, level_word, report, report_header, report_lines, reply_line, reply_lines, target_words, what_words, leg_line}
 use Rattle.lp_trace.specs.Laws.{FitsReport}
 use Rattle.lp_text.proofs.Complete.{Clean, CleanLine, all_both}
 use Rattle.lp_trace.proofs.Decimals.{decimal_clean, either_way}

@@ -13,7 +13,8 @@ use Rattle.lp_transition.specs.declared.reply.What.{What}
 use Rattle.lp_transition.specs.declared.reply.What.TheVariants.{Ran, Done, Switched, Refused}
 use Rattle.lp_text.specs.declared.form.TraceForm.{TraceForm}
 use Rattle.lp_text.specs.declared.form.TraceForm.TheVariants.{Single, Stacked}
-use Rattle.lp_trace.specs.Report.{level_word, what_words, complete_words, target_words, end_words}
+use Rattle.lp_cert.specs.Text.{end_words}
+use Rattle.lp_trace.specs.Report.{level_word, what_words, complete_words, target_words}
 use Rattle.lp_trace.specs.Laws.{IsWhole, IsWholeLevel, IsWholeWhat, IsWholeEvent}
 use Rattle.lp_text.proofs.Pushes.{not_same}
 use Rattle.lp_trace.proofs.Decimals.{decimal_digits, decimal_tells}

@@ -1,5 +1,4 @@
 pub mod Report
-pub mod Runs
 pub mod Answer
 pub mod Laws
 pub mod inside
@@ -15,3 +14,4 @@ pub use Rattle.lp_text.specs.Writing
 pub use Rattle.lp_replay.specs.Headline
 pub use Rattle.lp_replay.specs.Legs
 pub use Rattle.lp_replay.specs.Outcome
+pub use Rattle.lp_replay.specs.Runs

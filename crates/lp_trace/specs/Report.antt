@@ -7,7 +7,7 @@ use Rattle.lp_transition.specs.declared.reply.What.TheVariants.{Ran, Done, Switc
 use Rattle.lp_transition.specs.declared.reply.Reply.{Reply}
 use Rattle.lp_transition.specs.Events.{refusal_number}
 use Rattle.lp_cert.specs.declared.leg_end.LegEnd.{LegEnd}
-use Rattle.lp_cert.specs.Text.{cert_lines}
+use Rattle.lp_cert.specs.Text.{cert_lines, end_words}
 use Rattle.lp_text.specs.declared.form.TraceForm.{TraceForm}
 use Rattle.lp_text.specs.declared.form.TraceForm.TheVariants.{Single, Stacked}
 use Rattle.lp_replay.specs.declared.outcome.Outcome.{Outcome}
@@ -51,11 +51,6 @@ reply_lines form number (reply ∷ replies) = reply_line form number reply ∷ r
 abbrev pub target_words : TraceForm → Level → List (List ℕ)
 target_words Single level = level_word Single level ∷ []
 target_words Stacked level = codes "to" ∷ level_word Stacked level ∷ []
-
--- the event of a leg's completion, or how many groups wait at its end
-abbrev pub end_words : Option ℕ → ℕ → List (List ℕ)
-end_words (Some event) waiting = codes "complete" ∷ decimal event ∷ []
-end_words None waiting = codes "waiting" ∷ decimal waiting ∷ []
 
 abbrev pub leg_line : TraceForm → LegEnd → List (List ℕ)
 leg_line form leg =

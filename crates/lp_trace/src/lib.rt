@@ -12,9 +12,11 @@ mod runs;
 
 pub use checks::check;
 pub use lp_model::Consistency;
-pub use lp_replay::{LegList, Outcome, ReplayFault, ReplyList, replay, stack};
+pub use lp_replay::{
+    LegList, Outcome, ReplayFault, ReplyList, RunFault, read_trace, replay, stack,
+};
 pub use lp_text::{
     Cause, CheckInput, Counted, OfFault, ReadFault, StreamFault, Trace, TraceFault, TraceForm,
     WriteFault, put,
 };
-pub use runs::{RunFault, read_trace, run};
+pub use runs::run;

@@ -1,72 +1,22 @@
 //! A run: a trace in, its report out.
 ghost use Rattle.std.specs.Prelude.{◌≡◌, IfSome, IfOk, IfErr, MatchResult, OnOk, Err};
 ghost use Rattle.std.specs.Io.KnownBytes.{Appends};
-ghost use Rattle.lp_trace.specs.declared.runs.RunFault.TheVariants.{NoMemory as RunNoMemory};
 ghost use Rattle.lp_replay.specs.Headline.{Headline, whole_run};
 ghost use Rattle.lp_text.specs.Counts.{AtMost, next};
-ghost use Rattle.lp_text.specs.Input.{FailsOnce, ReadsAll};
+ghost use Rattle.lp_text.specs.Input.{FailsOnce};
 ghost use Rattle.lp_replay.specs.Outcome.{outcome};
 ghost use Rattle.lp_text.specs.Reading.{reading};
 ghost use Rattle.lp_trace.specs.Report.{report};
-ghost use Rattle.lp_trace.specs.Runs.{ReadsTrace, AtReading, AtTrace, AtWrite, BeforeWriting, ButForReading, of_stream};
-ghost use Rattle.lp_text.specs.Traces.{IsTrace, text_of};
+ghost use Rattle.lp_replay.specs.Runs.{ReadsTrace, AtReading, AtTrace, AtWrite, BeforeWriting, ButForReading};
 ghost use Rattle.lp_text.specs.Writing.{AppendsPrefix};
 
 use crate::page::Page;
 use crate::report::{KeptBirths, write_report};
 use lp_model::Consistency;
-use lp_replay::{Outcome, ReplayFault, replay};
-use lp_text::{Counted, StreamFault, Trace, TraceFault, WriteFault};
-use std::alloc::{AllocError, Global};
-use std::io::{self, Read, Write};
-use thiserror::Error;
-
-/// Why a run or a check didn't write its output, the report or the answer, or not all of it.
-#[derive(Debug, Drop, Error)]
-pub enum RunFault {
-    /// The reader failed, or was interrupted. Nothing was written.
-    #[error("the input can't be read: {0}")]
-    Read(io::Error),
-    /// The input is no trace; of a check, no trace with a certificate behind it. Nothing was written.
-    #[error("line {line}: L{number}", line = .0.line, number = .0.cause.number())]
-    Trace(TraceFault),
-    /// An allocation failed. Nothing was written.
-    #[error("out of memory")]
-    NoMemory,
-    /// The writer failed, was interrupted or took no byte. What was written is a prefix of the output.
-    #[error("the output can't be written")]
-    Write(WriteFault),
-}
-
-impl From<StreamFault> for RunFault {
-    ghost from_gives = { λ fault e. e ≡ of_stream fault };
-
-    fn from(fault: StreamFault) -> RunFault {
-        match fault {
-            StreamFault::Read(error) => RunFault::Read(error),
-            StreamFault::Trace(fault) => RunFault::Trace(fault),
-            StreamFault::NoMemory => RunFault::NoMemory,
-        }
-    }
-}
-
-impl From<ReplayFault> for RunFault {
-    ghost from_gives = { λ _ e. e ≡ RunNoMemory };
-
-    fn from(fault: ReplayFault) -> RunFault {
-        match fault {
-            ReplayFault::NoMemory => RunFault::NoMemory,
-        }
-    }
-}
-
-impl From<AllocError> for RunFault {
-    ghost from_gives = { λ _ e. e ≡ RunNoMemory };
-
-    fn from(_e: AllocError) -> RunFault {
-        RunFault::NoMemory
-    }
-}
+use lp_replay::{Outcome, ReplayFault, RunFault, read_trace, replay};
+use lp_text::{Counted, Trace};
+use std::alloc::Global;
+use std::io::{Read, Write};
 
 /// Reads a trace to the reader's end, replays it under a model, and writes its report, in which the
 /// model has this name.
@@ -138,25 +88,6 @@ fn report_on<M: Consistency, W: Write>(
         Ok(()) => Ok(()),
         Err(fault) => Err(RunFault::Write(fault)),
     }
-}
-
-/// The trace that a reader has, read to its end; faults as `run` has them.
-///
-/// It makes at most 134,217,729 reads. A read that fails or is interrupted ends it.
-pub fn read_trace<R: Read>(alloc: Global, reader: &mut Counted<R>) -> Result<Trace, RunFault>
-    ensures found { IfOk result (λ trace. IsTrace trace × ReadsAll (R.remaining reader.old.stream) (R.remaining reader.new.stream) (text_of trace)) }
-    ensures trace { IfErr result (λ fault. AtTrace fault (λ why. IfSome (R.remaining reader.old.stream) (λ text. reading text ≡ Err why))) }
-    ensures read_failed { IfErr result (λ fault. AtReading fault (FailsOnce reader.old reader.new)) }
-    // Else no read failed: one that failed is told before a fault of the text.
-    ensures unfailed { MatchResult result (λ _. reader.new.failures ≡ reader.old.failures) (λ fault. ButForReading fault (reader.new.failures ≡ reader.old.failures)) }
-    // Without a fault the end was found once: nothing is read behind it.
-    ensures once { OnOk result (reader.new.ends ≡ next reader.old.ends) }
-    // Each read but the last gives a byte at least.
-    ensures few { AtMost 134217729 reader.old.calls reader.new.calls }
-    ensures early { IfErr result (λ fault. AtWrite fault ⊥) }
-{
-    let trace = Trace::read_from(alloc, reader)?;
-    Ok(trace)
 }
 
 /// What a trace comes to under a model.

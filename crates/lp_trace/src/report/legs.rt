@@ -3,9 +3,9 @@ ghost use Rattle.std.specs.Prelude.{◌≡◌, ◌≤◌, ◌<◌, ◌∷◌, �
 ghost use Rattle.std.specs.List.{flat_map};
 ghost use Rattle.lp_cert.specs.declared.cert.Cert.{Cert};
 ghost use Rattle.lp_cert.specs.Ends.{end_in};
-ghost use Rattle.lp_cert.specs.Text.{cert_lines};
+ghost use Rattle.lp_cert.specs.Text.{cert_lines, end_words};
 ghost use Rattle.lp_text.specs.Words.{line_of};
-ghost use Rattle.lp_trace.specs.Report.{end_words, leg_line, leg_lines, target_words};
+ghost use Rattle.lp_trace.specs.Report.{leg_line, leg_lines, target_words};
 ghost use Rattle.lp_text.specs.inside.Writing.{Puts, line_rest, seen_of};
 ghost use Rattle.lp_trace.specs.inside.Births.{text_of};
 

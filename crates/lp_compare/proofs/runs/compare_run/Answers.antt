@@ -1,4 +1,4 @@
-use Rattle.lp_trace.proofs.RunFaults.{at_write, no_read, no_text, still_unread}
+use Rattle.lp_replay.proofs.RunFaults.{at_write, no_read, no_text, still_unread}
 use Rattle.lp_compare.proofs.runs.compare_run.Goals as goal
 
 pub returns-clause-prefix : goal.returns-clause-prefix

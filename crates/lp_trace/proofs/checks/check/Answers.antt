@@ -1,4 +1,4 @@
-use Rattle.lp_trace.proofs.RunFaults.{at_write, no_read, no_text, still_unread}
+use Rattle.lp_replay.proofs.RunFaults.{at_write, no_read, no_text, still_unread}
 use Rattle.lp_trace.proofs.checks.check.Goals as goal
 
 pub returns-in-Ok-clause-sound : goal.returns-in-Ok-clause-sound

@@ -1,6 +1,6 @@
 use Rattle.std.proofs.Common.{◌≡◌, IfSome, Err}
 use Rattle.lp_text.specs.CheckReading.{check_reading}
-use Rattle.lp_trace.proofs.RunFaults.{read_told_of, stream_fault_of, unread_told_of, unwritten_of}
+use Rattle.lp_replay.proofs.RunFaults.{read_told_of, stream_fault_of, unread_told_of, unwritten_of}
 use Rattle.lp_trace.proofs.checks.read_check.Goals as goal
 
 pub returns-in_err-input-clause-trace : goal.returns-in_err-input-clause-trace

@@ -1,4 +1,4 @@
-use Rattle.lp_trace.proofs.RunFaults.{whole_outcome_of}
+use Rattle.lp_trace.proofs.RunOutcomes.{whole_outcome_of}
 use Rattle.lp_trace.proofs.runs.outcome_of.Goals as goal
 
 pub returns : goal.returns

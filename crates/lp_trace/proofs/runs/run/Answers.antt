@@ -1,6 +1,7 @@
 use Rattle.std.proofs.Common.{rules, arith}
 use Rattle.std.proofs.lemmas.Grind.{common_steps}
-use Rattle.lp_trace.proofs.RunFaults.{at_write, headline_of_text, no_read, no_text, still_unread}
+use Rattle.lp_replay.proofs.RunFaults.{at_write, no_read, no_text, still_unread}
+use Rattle.lp_trace.proofs.RunOutcomes.{headline_of_text}
 use Rattle.lp_trace.proofs.runs.run.Goals as goal
 
 pub returns-in-Ok-clause-headline : goal.returns-in-Ok-clause-headline

@@ -1,6 +1,7 @@
 use Rattle.std.proofs.Common.{◌∷◌, ◌++◌, ◌∙◌, ap, codes, decimal, length, sym, List, ℕ}
 use Rattle.lp_text.proofs.Writing.{line_split}
-use Rattle.lp_trace.specs.Report.{end_words, target_words}
+use Rattle.lp_cert.specs.Text.{end_words}
+use Rattle.lp_trace.specs.Report.{target_words}
 use Rattle.lp_trace.proofs.report.legs.hold_end.Goals as goal
 
 pub returns-clause-taken : goal.returns-clause-taken

@@ -3,8 +3,8 @@ use Rattle.std.specs.Prelude.{List, ℕ, Option}
 use Rattle.lp_text.specs.declared.fault.TraceFault.{TraceFault}
 use Rattle.lp_text.specs.declared.stream_fault.StreamFault.{StreamFault}
 use Rattle.lp_text.specs.declared.stream_fault.StreamFault.TheVariants as stream
-use Rattle.lp_trace.specs.declared.runs.RunFault.{RunFault}
-use Rattle.lp_trace.specs.declared.runs.RunFault.TheVariants as run
+use Rattle.lp_replay.specs.declared.run_fault.RunFault.{RunFault}
+use Rattle.lp_replay.specs.declared.run_fault.RunFault.TheVariants as run
 use Rattle.lp_text.specs.Input.{ReadsAll}
 use Rattle.lp_text.specs.Traces.{TraceValue, IsTrace, text_of}
 

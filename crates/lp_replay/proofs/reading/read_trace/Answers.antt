@@ -1,7 +1,7 @@
 use Rattle.std.proofs.Common.{◌≡◌, IfSome, Err}
 use Rattle.lp_text.specs.Reading.{reading}
-use Rattle.lp_trace.proofs.RunFaults.{read_told_of, stream_fault_of, unread_told_of, unwritten_of}
-use Rattle.lp_trace.proofs.runs.read_trace.Goals as goal
+use Rattle.lp_replay.proofs.RunFaults.{read_told_of, stream_fault_of, unread_told_of, unwritten_of}
+use Rattle.lp_replay.proofs.reading.read_trace.Goals as goal
 
 pub returns-in_err-trace-clause-trace : goal.returns-in_err-trace-clause-trace
 returns-in_err-trace-clause-trace g c =
