@@ -1,6 +1,6 @@
 //! The certificates of a report, each behind the trace that it is of, as the input of a check.
 
-use crate::difference::compare;
+use crate::difference::{Stage, compare};
 use crate::play::checked;
 use crate::trouble::Trouble;
 use lp_models::ModelName;
@@ -27,7 +27,8 @@ fn input_of(alloc: Global, trace: &[u8], certificate: &str) -> Result<Vec<u8>, T
 
 /// Checks a certificate of a trace, which has to be accepted, and says how many that were: one, or
 /// none where there is no line.
-fn accept(
+fn accept<T: Print>(
+    stage: &Stage<'_, T>,
     alloc: Global,
     model: ModelName,
     trace: &[u8],
@@ -38,7 +39,7 @@ fn accept(
     }
     let input = input_of(alloc, trace, certificate)?;
     let given = checked(alloc, model, input.as_slice(), 7)?;
-    compare(alloc, certificate_part(), b"accepted\n", given.as_slice())?;
+    compare(stage, certificate_part(), b"accepted\n", given.as_slice())?;
     Ok(1)
 }
 
@@ -47,7 +48,8 @@ const fn certificate_part() -> &'static str {
 }
 
 /// Checks each certificate of a trace's report, and counts them.
-pub fn accept_all(
+pub fn accept_all<T: Print>(
+    stage: &Stage<'_, T>,
     alloc: Global,
     model: ModelName,
     trace: &[u8],
@@ -57,7 +59,7 @@ pub fn accept_all(
     let mut certificate = String::new(alloc);
     for line in report.lines() {
         if !is_reason(line) {
-            count = count.saturating_add(accept(alloc, model, trace, certificate.as_str())?);
+            count = count.saturating_add(accept(stage, alloc, model, trace, certificate.as_str())?);
             certificate.clear();
         }
         if is_reason(line) || is_claim(line) {

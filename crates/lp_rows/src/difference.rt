@@ -2,30 +2,13 @@
 ghost use Rattle.std.specs.Prelude.{◌≡◌, OnOk};
 
 use crate::trouble::Trouble;
-use std::alloc::{AllocError, Global};
-use std::str;
+use std::{io, str};
 
-/// A line that was wanted, and the one that was given in its place.
-#[derive(Debug, Drop)]
-pub struct Difference {
-    part: String,
-    wanted: String,
-    given: String,
-}
-
-impl Difference {
-    /// What it is a part of.
-    pub fn part(&self) -> &str {
-        self.part.as_str()
-    }
-
-    pub fn wanted(&self) -> &str {
-        self.wanted.as_str()
-    }
-
-    pub fn given(&self) -> &str {
-        self.given.as_str()
-    }
+/// What is played: what it is called, and where it is said in which line it differs.
+#[derive(Drop)]
+pub struct Stage<'a, R> {
+    pub rt: &'a R,
+    pub name: &'a str,
 }
 
 /// How many bytes two texts begin with that are the same in both.
@@ -38,7 +21,7 @@ fn common(wanted: &[u8], given: &[u8]) -> usize {
 }
 
 /// The line of a text in which the byte of this place stands.
-fn line_at(alloc: Global, text: &[u8], place: usize) -> Result<String, AllocError> {
+fn line_at(text: &[u8], place: usize) -> &str {
     let prefix = text.get(..place).unwrap_or(text);
     let begin = prefix
         .iter()
@@ -47,21 +30,30 @@ fn line_at(alloc: Global, text: &[u8], place: usize) -> Result<String, AllocErro
     let rest = text.get(begin..).unwrap_or(&[]);
     let end = rest.iter().position(|byte| *byte == b'\n');
     let line = rest.get(..end.unwrap_or(rest.len())).unwrap_or(rest);
-    String::from_str(alloc, str::from_utf8(line).unwrap_or("no text"))
+    str::from_utf8(line).unwrap_or("no text")
 }
 
-/// Says in which line a part of what a row gives differs from what the row wants.
-pub fn compare(alloc: Global, part: &str, wanted: &[u8], given: &[u8]) -> Result<(), Trouble>
+/// Says in which line a part of what is played differs from what is wanted.
+fn tell<R: Print>(stage: &Stage<'_, R>, part: &str, wanted: &str, given: &str) -> io::Result<()> {
+    println!(stage.rt;
+        "{}: {part} differs\n  wanted: {wanted}\n  given: {given}",
+        stage.name
+    )
+}
+
+/// Says in which line a part of what is given differs from what is wanted; Differs where it does.
+pub fn compare<R: Print>(
+    stage: &Stage<'_, R>,
+    part: &str,
+    wanted: &[u8],
+    given: &[u8],
+) -> Result<(), Trouble>
     ensures { OnOk result (wanted.now ≡ given.now) }
 {
     if wanted == given {
         return Ok(());
     }
     let place = common(wanted, given);
-    let difference = Difference {
-        part: String::from_str(alloc, part)?,
-        wanted: line_at(alloc, wanted, place)?,
-        given: line_at(alloc, given, place)?,
-    };
-    Err(Trouble::Differs(Box::new(alloc, difference)?))
+    tell(stage, part, line_at(wanted, place), line_at(given, place))?;
+    Err(Trouble::Differs)
 }

@@ -16,7 +16,6 @@ mod rows_through_desk;
 mod streams;
 mod trouble;
 
-use difference::Difference;
 use play::play;
 use recordings::{RECORDINGS, play_recording};
 use rows::{Row, rows_of};
@@ -58,7 +57,7 @@ struct Tally {
     differing: usize,
 }
 
-/// Plays a row, and says where something differs.
+/// Plays a row, and counts what came of it.
 fn play_row<R: Print + Threads + Wait + Sync>(
     rt: &R,
     alloc: Global,
@@ -77,28 +76,18 @@ fn play_row<R: Print + Threads + Wait + Sync>(
     Ok(())
 }
 
-/// Counts a difference, and says where it is. Any other trouble is handed on, once the row is named.
+/// Counts a difference, of which it was said where it is. Any other trouble is handed on, once the row is named.
 fn note(rt: &impl Print, name: &str, trouble: Trouble, tally: &mut Tally) -> Result<(), Trouble> {
     match trouble {
-        Trouble::Differs(difference) => {
+        Trouble::Differs => {
             tally.differing = tally.differing.saturating_add(1);
-            Ok(tell_difference(rt, name, &difference)?)
+            Ok(())
         }
         trouble => {
             println!(rt; "{name}: not played to its end")?;
             Err(trouble)
         }
     }
-}
-
-/// Says where a row differs.
-fn tell_difference(rt: &impl Print, name: &str, difference: &Difference) -> io::Result<()> {
-    println!(rt;
-        "{name}: {} differs\n  wanted: {}\n  given: {}",
-        difference.part(),
-        difference.wanted(),
-        difference.given()
-    )
 }
 
 /// The rows of a file.
@@ -120,7 +109,7 @@ fn play_file<R: Files + AllocGlobal + Print + Threads + Wait + Sync>(
     Ok(())
 }
 
-/// Plays the recordings of a kernel, and says where one differs from what the kernel did.
+/// Plays the recordings of a kernel, and counts those that are as the kernel made them.
 fn play_recordings<R: Files + AllocGlobal + Print>(
     rt: &R,
     tally: &mut Tally,

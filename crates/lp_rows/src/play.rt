@@ -1,7 +1,7 @@
 //! A row, played in each way that gives what it wants.
 
 use crate::certificates::accept_all;
-use crate::difference::compare;
+use crate::difference::{Stage, compare};
 use crate::engine::{event_lines, lines_of, lists_of};
 use crate::program::{play_fault, play_program};
 use crate::rows::{Row, Task};
@@ -116,8 +116,8 @@ fn written_again(alloc: Global, trace: &Trace) -> Result<Vec<u8>, Trouble> {
 
 /// Plays a trace's events under a model, one by one and through a desk, where the replies have to be the report's.
 /// Says whether they went through a desk.
-fn play_events<T: Threads + Wait + Sync, M: Consistency + Sync>(
-    rt: &T,
+fn play_events<T: Print + Threads + Wait + Sync, M: Consistency + Sync>(
+    stage: &Stage<'_, T>,
     alloc: Global,
     model: M,
     trace: &Trace,
@@ -126,34 +126,34 @@ fn play_events<T: Threads + Wait + Sync, M: Consistency + Sync>(
     let wanted = lines_of(alloc, report, true)?;
     let given = event_lines(alloc, model, trace)?;
     compare(
-        alloc,
+        stage,
         "the engine's reply",
         wanted.as_bytes(),
         given.as_bytes(),
     )?;
-    play_through_desk(rt, alloc, model, trace, report)
+    play_through_desk(stage, alloc, model, trace, report)
 }
 
 /// The same under the model of a name.
-fn play_events_under<T: Threads + Wait + Sync>(
-    rt: &T,
+fn play_events_under<T: Print + Threads + Wait + Sync>(
+    stage: &Stage<'_, T>,
     alloc: Global,
     model: ModelName,
     trace: &Trace,
     report: &str,
 ) -> Result<bool, Trouble> {
     match model {
-        ModelName::Hybrid => play_events(rt, alloc, Hybrid, trace, report),
-        ModelName::LeaveKernel => play_events(rt, alloc, LeaveKernel, trace, report),
-        ModelName::AllAtOnce => play_events(rt, alloc, AllAtOnce, trace, report),
-        ModelName::Immediate => play_events(rt, alloc, Immediate, trace, report),
-        ModelName::ProcessGroup => play_events(rt, alloc, ProcessGroup, trace, report),
+        ModelName::Hybrid => play_events(stage, alloc, Hybrid, trace, report),
+        ModelName::LeaveKernel => play_events(stage, alloc, LeaveKernel, trace, report),
+        ModelName::AllAtOnce => play_events(stage, alloc, AllAtOnce, trace, report),
+        ModelName::Immediate => play_events(stage, alloc, Immediate, trace, report),
+        ModelName::ProcessGroup => play_events(stage, alloc, ProcessGroup, trace, report),
     }
 }
 
 /// Plays a trace of a row: its text made again, its events, and its certificates.
-fn play_trace<T: Threads + Wait + Sync>(
-    rt: &T,
+fn play_trace<T: Print + Threads + Wait + Sync>(
+    stage: &Stage<'_, T>,
     alloc: Global,
     model: ModelName,
     row: &Row,
@@ -162,14 +162,14 @@ fn play_trace<T: Threads + Wait + Sync>(
     let report = str::from_utf8(row.wanted()).unwrap_or("");
     let again = written_again(alloc, trace)?;
     compare(
-        alloc,
+        stage,
         "its trace written again",
         row.input(),
         again.as_slice(),
     )?;
     Ok(Played {
-        through_desk: play_events_under(rt, alloc, model, trace, report)?,
-        certificates: accept_all(alloc, model, row.input(), report)?,
+        through_desk: play_events_under(stage, alloc, model, trace, report)?,
+        certificates: accept_all(stage, alloc, model, row.input(), report)?,
     })
 }
 
@@ -183,59 +183,77 @@ fn read(alloc: Global, text: &[u8]) -> Result<Result<Box<Trace>, String>, Troubl
 }
 
 /// Runs a row's input, by each number of bytes at a time.
-fn play_sizes(alloc: Global, model: ModelName, row: &Row) -> Result<(), Trouble> {
+fn play_sizes<T: Print>(
+    stage: &Stage<'_, T>,
+    alloc: Global,
+    model: ModelName,
+    row: &Row,
+) -> Result<(), Trouble> {
     for most in SIZES {
         let given = reported(alloc, model, row.input(), most)?;
-        compare(alloc, "its report", row.wanted(), given.as_slice())?;
+        compare(stage, "its report", row.wanted(), given.as_slice())?;
     }
     Ok(())
 }
 
 /// Plays a row whose input is a trace.
-fn play_run<T: Threads + Wait + Sync>(
-    rt: &T,
+fn play_run<T: Print + Threads + Wait + Sync>(
+    stage: &Stage<'_, T>,
     alloc: Global,
     model: ModelName,
     row: &Row,
 ) -> Result<Played, Trouble> {
-    play_sizes(alloc, model, row)?;
+    play_sizes(stage, alloc, model, row)?;
     match read(alloc, row.input())? {
-        Ok(trace) => play_trace(rt, alloc, model, row, &trace),
+        Ok(trace) => play_trace(stage, alloc, model, row, &trace),
         Err(fault) => {
-            compare(alloc, "the reader's fault", row.wanted(), fault.as_bytes())?;
+            compare(stage, "the reader's fault", row.wanted(), fault.as_bytes())?;
             Ok(no_trace())
         }
     }
 }
 
 /// Reads a row's input, whose fault has to be the wanted one.
-fn read_input(alloc: Global, row: &Row) -> Result<(), Trouble> {
+fn read_input<T: Print>(stage: &Stage<'_, T>, alloc: Global, row: &Row) -> Result<(), Trouble> {
     match CheckInput::read(alloc, row.input()) {
         Ok(_) => Ok(()),
         Err(ReadFault::Trace(fault)) => {
             let line = fault_line(alloc, fault)?;
-            compare(alloc, "the reader's fault", row.wanted(), line.as_bytes())
+            compare(stage, "the reader's fault", row.wanted(), line.as_bytes())
         }
         Err(ReadFault::NoMemory) => Err(Trouble::NoMemory),
     }
 }
 
 /// Plays a row whose input is a trace with a certificate behind it.
-fn play_check(alloc: Global, model: ModelName, row: &Row) -> Result<(), Trouble> {
+fn play_check<T: Print>(
+    stage: &Stage<'_, T>,
+    alloc: Global,
+    model: ModelName,
+    row: &Row,
+) -> Result<(), Trouble> {
     for most in SIZES {
         let given = checked(alloc, model, row.input(), most)?;
-        compare(alloc, "its answer", row.wanted(), given.as_slice())?;
+        compare(stage, "its answer", row.wanted(), given.as_slice())?;
     }
-    read_input(alloc, row)
+    read_input(stage, alloc, row)
 }
 
 /// Plays a row.
-pub fn play<T: Threads + Wait + Sync>(rt: &T, alloc: Global, row: &Row) -> Result<Played, Trouble> {
+pub fn play<T: Print + Threads + Wait + Sync>(
+    rt: &T,
+    alloc: Global,
+    row: &Row,
+) -> Result<Played, Trouble> {
+    let stage = Stage {
+        rt,
+        name: row.name(),
+    };
     match row.task() {
-        Some(Task::Run(model)) => return play_run(rt, alloc, model, row),
-        Some(Task::Check(model)) => play_check(alloc, model, row)?,
-        Some(Task::Program) => play_program(rt, alloc, row)?,
-        Some(Task::Fault(fault)) => play_fault(alloc, row, fault)?,
+        Some(Task::Run(model)) => return play_run(&stage, alloc, model, row),
+        Some(Task::Check(model)) => play_check(&stage, alloc, model, row)?,
+        Some(Task::Program) => play_program(&stage, alloc, row)?,
+        Some(Task::Fault(fault)) => play_fault(&stage, alloc, row, fault)?,
         None => return Err(Trouble::NoRow),
     }
     Ok(no_trace())

@@ -1,6 +1,6 @@
 //! A row of the whole program: what its words make it write and say, between a reader and a writer in memory.
 
-use crate::difference::compare;
+use crate::difference::{Stage, compare};
 use crate::play::SIZES;
 use crate::rows::Row;
 use crate::trouble::Trouble;
@@ -48,23 +48,23 @@ fn performed<T: Threads + Wait + Sync>(
 }
 
 /// Lets the program do what a line of words asks for, which has to end as the row wants.
-fn play_line<T: Threads + Wait + Sync>(
-    rt: &T,
+fn play_line<T: Print + Threads + Wait + Sync>(
+    stage: &Stage<'_, T>,
     alloc: Global,
     row: &Row,
     line: &str,
 ) -> Result<(), Trouble> {
     let part = if line.is_empty() { "no word" } else { line };
     for most in SIZES {
-        let given = performed(rt, alloc, row, line, most)?;
-        compare(alloc, part, row.wanted(), given.as_slice())?;
+        let given = performed(stage.rt, alloc, row, line, most)?;
+        compare(stage, part, row.wanted(), given.as_slice())?;
     }
     Ok(())
 }
 
 /// Plays a row of the program: each of its lines of words.
-pub fn play_program<T: Threads + Wait + Sync>(
-    rt: &T,
+pub fn play_program<T: Print + Threads + Wait + Sync>(
+    stage: &Stage<'_, T>,
     alloc: Global,
     row: &Row,
 ) -> Result<(), Trouble> {
@@ -72,14 +72,19 @@ pub fn play_program<T: Threads + Wait + Sync>(
         return Err(Trouble::NoRow);
     };
     for line in lines.lines() {
-        play_line(rt, alloc, row, line)?;
+        play_line(stage, alloc, row, line)?;
     }
     Ok(())
 }
 
 /// Plays a row of a fault of the program, as no input may come to it.
-pub fn play_fault(alloc: Global, row: &Row, fault: Fault) -> Result<(), Trouble> {
+pub fn play_fault<T: Print>(
+    stage: &Stage<'_, T>,
+    alloc: Global,
+    row: &Row,
+    fault: Fault,
+) -> Result<(), Trouble> {
     let mut given = Vec::new(alloc);
     add_end(alloc, &mut given, fault)?;
-    compare(alloc, "its end", row.wanted(), given.as_slice())
+    compare(stage, "its end", row.wanted(), given.as_slice())
 }

@@ -1,6 +1,6 @@
 //! Recordings of a Linux kernel: whether a run under `hybrid` takes each task over at the event at which the kernel did.
 
-use crate::difference::compare;
+use crate::difference::{Stage, compare};
 use crate::play::reported;
 use crate::trouble::Trouble;
 use lp_models::ModelName;
@@ -37,20 +37,26 @@ fn add_moves(text: &mut String, number: &str, groups: &str) -> Result<(), AllocE
 }
 
 /// Plays a recording, in which the same tasks have to switch at the same events as in the kernel.
-pub fn play_recording<R: Files + AllocGlobal>(
+pub fn play_recording<R: Files + AllocGlobal + Print>(
     rt: &R,
     trace: &str,
     over: &str,
 ) -> Result<(), Trouble> {
     let text = fs::read(rt, trace)?;
     let wanted = fs::read(rt, over)?;
-    compare_moves(rt.alloc(), text.as_slice(), wanted.as_slice())
+    let stage = Stage { rt, name: trace };
+    compare_moves(&stage, rt.alloc(), text.as_slice(), wanted.as_slice())
 }
 
 /// Runs a trace, in which the wanted tasks have to switch at their events.
-fn compare_moves(alloc: Global, text: &[u8], wanted: &[u8]) -> Result<(), Trouble> {
+fn compare_moves<R: Print>(
+    stage: &Stage<'_, R>,
+    alloc: Global,
+    text: &[u8],
+    wanted: &[u8],
+) -> Result<(), Trouble> {
     let given = reported(alloc, ModelName::Hybrid, text, text.len())?;
     let report = str::from_utf8(given.as_slice()).unwrap_or("");
     let moves = moves(alloc, report)?;
-    compare(alloc, "who switched", wanted, moves.as_bytes())
+    compare(stage, "who switched", wanted, moves.as_bytes())
 }

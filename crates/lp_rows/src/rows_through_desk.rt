@@ -1,6 +1,6 @@
 //! A trace's events through a desk, in their order, each by the seat of its task or by the control.
 
-use crate::difference::compare;
+use crate::difference::{Stage, compare};
 use crate::engine::{add_reply, lines_of};
 use crate::in_order::play_in_order;
 use crate::trouble::Trouble;
@@ -38,20 +38,20 @@ fn journal_lines(alloc: Global, journal: &Journal, trace: &Trace) -> Result<Stri
 
 /// Plays a trace through a desk that is closed behind it, whose journal has to have the replies of the report. False,
 /// and nothing is looked at, where an event is of a task that was never born, so that nobody can send it.
-pub fn play_through_desk<T: Threads + Wait + Sync, M: Consistency + Sync>(
-    rt: &T,
+pub fn play_through_desk<T: Print + Threads + Wait + Sync, M: Consistency + Sync>(
+    stage: &Stage<'_, T>,
     alloc: Global,
     model: M,
     trace: &Trace,
     report: &str,
 ) -> Result<bool, Trouble> {
-    let Some(journal) = play_in_order(rt, alloc, model, trace)? else {
+    let Some(journal) = play_in_order(stage.rt, alloc, model, trace)? else {
         return Ok(false);
     };
     let wanted = lines_of(alloc, report, false)?;
     let given = journal_lines(alloc, &journal, trace)?;
     compare(
-        alloc,
+        stage,
         "the desk's reply",
         wanted.as_bytes(),
         given.as_bytes(),

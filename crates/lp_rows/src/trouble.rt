@@ -1,19 +1,18 @@
 //! Why a row was not played to its end.
 
-use crate::difference::Difference;
 use lp_board::LaunchFault;
 use lp_log::{Cause, CloseCause};
 use lp_trace::{OfFault, ReplayFault};
 use lp_transition::{BootFault, Halt};
 use std::alloc::{AllocError, AllocFailed};
-use std::io;
+use std::io::{self, ErrorKind};
 
-#[derive(Debug, Drop)]
+#[derive(Clone, Copy, Debug)]
 pub enum Trouble {
-    /// Something differs from what the row wants.
-    Differs(Box<Difference>),
+    /// Something differs from what is wanted, and it was said where.
+    Differs,
     /// A data file can't be read, or a line can't be written.
-    File(io::Error),
+    File(ErrorKind),
     /// A line of a data file says nothing that a row has.
     NoRow,
     /// No engine was booted for a trace.
@@ -48,7 +47,7 @@ impl<T: Drop> From<AllocFailed<T>> for Trouble {
 
 impl From<io::Error> for Trouble {
     fn from(error: io::Error) -> Trouble {
-        Trouble::File(error)
+        Trouble::File(error.kind())
     }
 }
 
