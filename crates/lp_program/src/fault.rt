@@ -1,11 +1,9 @@
 //! How the program ends where it has not done what it was asked.
 ghost use Rattle.std.specs.Prelude.{◌≡◌, OnOk};
 ghost use Rattle.std.specs.Io.KnownBytes.{Appends};
-ghost use Rattle.lp_threads.specs.Codes.{code_of};
-ghost use Rattle.lp_program.specs.Faults.{IsOfThreads, desk_line, line_for, of_run, of_words, status_of};
+ghost use Rattle.lp_program.specs.Faults.{desk_line, line_for, of_run, of_words, status_of};
 
 use itoa::Buffer;
-use lp_threads::ThreadsFault;
 use lp_trace::{RunFault, TraceFault};
 use lp_words::WordsFault;
 use std::alloc::AllocError;
@@ -63,17 +61,6 @@ impl From<RunFault> for Fault {
             RunFault::Trace(fault) => Fault::Trace(fault),
             RunFault::NoMemory => Fault::NoMemory,
             RunFault::Write(_) => Fault::Write,
-        }
-    }
-}
-
-impl From<ThreadsFault> for Fault {
-    ghost from_gives = { λ fault e. IsOfThreads (code_of fault) e };
-
-    fn from(fault: ThreadsFault) -> Fault {
-        match fault.code() {
-            Ok(code) => Fault::Desk(code),
-            Err(fault) => Fault::from(fault),
         }
     }
 }

@@ -4,10 +4,11 @@ ghost use Rattle.lp_text.specs.Counts.{AtMost, next};
 ghost use Rattle.lp_text.specs.Input.{FailsOnce};
 ghost use Rattle.lp_program.specs.Performed.{EndsBy, Fails, IsDone, Performs};
 
-use crate::dispatch::{check, run, threads};
+use crate::checks::act_check;
+use crate::comparing::act_compare;
 use crate::fault::Fault;
-use lp_compare::compare_run;
-use lp_models::ModelName;
+use crate::playing::act_threads;
+use crate::runs::act_run;
 use lp_trace::Counted;
 use lp_words::{Task, task_of};
 use std::alloc::Global;
@@ -70,99 +71,5 @@ pub fn act<T: Threads + Wait + Sync, R: Read, W: Write>(
         Task::Check(model) => act_check(alloc, model, reader, writer),
         Task::Compare { json } => act_compare(alloc, json, reader, writer),
         Task::Threads(model) => act_threads(rt, alloc, model, reader, writer),
-    }
-}
-
-/// Writes the report of a trace; each fault as [`Fault`] says.
-pub fn act_run<R: Read, W: Write>(
-    alloc: Global,
-    model: ModelName,
-    reader: &mut Counted<R>,
-    writer: &mut Counted<W>,
-) -> Result<(), Fault>
-    ensures done { OnOk result (IsDone (R.remaining reader.old.stream) (R.remaining reader.new.stream) (W.contents writer.old.stream) (W.contents writer.new.stream) (Task.Run model)) }
-    ensures ends { IfErr result (EndsBy (R.remaining reader.old.stream) (R.remaining reader.new.stream) (W.contents writer.old.stream) (W.contents writer.new.stream) (writer.new ≡ writer.old) (Task.Run model)) }
-    ensures read_failed { result ≡ Err Fault.Read → FailsOnce reader.old reader.new }
-    ensures unfailed { result ≢ Err Fault.Read → reader.new.failures ≡ reader.old.failures }
-    ensures once { OnOk result (reader.new.ends ≡ next reader.old.ends) }
-    ensures refused_once { result ≡ Err Fault.Refused → reader.new.ends ≡ next reader.old.ends }
-    ensures few { AtMost 134217729 reader.old.calls reader.new.calls }
-    ensures write_failed { result ≡ Err Fault.Write → writer.new.failures ≡ next writer.old.failures }
-    ensures written { result ≢ Err Fault.Write → writer.new.failures ≡ writer.old.failures }
-{
-    match run(alloc, model, reader, writer) {
-        Ok(()) => Ok(()),
-        Err(fault) => Err(Fault::from(fault)),
-    }
-}
-
-/// Writes the answer to a certificate; Refused where that is a refusal, and any other fault as [`Fault`] says.
-pub fn act_check<R: Read, W: Write>(
-    alloc: Global,
-    model: ModelName,
-    reader: &mut Counted<R>,
-    writer: &mut Counted<W>,
-) -> Result<(), Fault>
-    ensures done { OnOk result (IsDone (R.remaining reader.old.stream) (R.remaining reader.new.stream) (W.contents writer.old.stream) (W.contents writer.new.stream) (Task.Check model)) }
-    ensures ends { IfErr result (EndsBy (R.remaining reader.old.stream) (R.remaining reader.new.stream) (W.contents writer.old.stream) (W.contents writer.new.stream) (writer.new ≡ writer.old) (Task.Check model)) }
-    ensures read_failed { result ≡ Err Fault.Read → FailsOnce reader.old reader.new }
-    ensures unfailed { result ≢ Err Fault.Read → reader.new.failures ≡ reader.old.failures }
-    ensures once { OnOk result (reader.new.ends ≡ next reader.old.ends) }
-    ensures refused_once { result ≡ Err Fault.Refused → reader.new.ends ≡ next reader.old.ends }
-    ensures few { AtMost 134217729 reader.old.calls reader.new.calls }
-    ensures write_failed { result ≡ Err Fault.Write → writer.new.failures ≡ next writer.old.failures }
-    ensures written { result ≢ Err Fault.Write → writer.new.failures ≡ writer.old.failures }
-{
-    match check(alloc, model, reader, writer) {
-        Ok(true) => Ok(()),
-        Ok(false) => Err(Fault::Refused),
-        Err(fault) => Err(Fault::from(fault)),
-    }
-}
-
-/// Writes the comparison of a trace, as JSON if asked for; each fault as [`Fault`] says.
-pub fn act_compare<R: Read, W: Write>(
-    alloc: Global,
-    json: bool,
-    reader: &mut Counted<R>,
-    writer: &mut Counted<W>,
-) -> Result<(), Fault>
-    ensures done { OnOk result (IsDone (R.remaining reader.old.stream) (R.remaining reader.new.stream) (W.contents writer.old.stream) (W.contents writer.new.stream) (Task.Compare json)) }
-    ensures ends { IfErr result (EndsBy (R.remaining reader.old.stream) (R.remaining reader.new.stream) (W.contents writer.old.stream) (W.contents writer.new.stream) (writer.new ≡ writer.old) (Task.Compare json)) }
-    ensures read_failed { result ≡ Err Fault.Read → FailsOnce reader.old reader.new }
-    ensures unfailed { result ≢ Err Fault.Read → reader.new.failures ≡ reader.old.failures }
-    ensures once { OnOk result (reader.new.ends ≡ next reader.old.ends) }
-    ensures refused_once { result ≡ Err Fault.Refused → reader.new.ends ≡ next reader.old.ends }
-    ensures few { AtMost 134217729 reader.old.calls reader.new.calls }
-    ensures write_failed { result ≡ Err Fault.Write → writer.new.failures ≡ next writer.old.failures }
-    ensures written { result ≢ Err Fault.Write → writer.new.failures ≡ writer.old.failures }
-{
-    match compare_run(alloc, json, reader, writer) {
-        Ok(()) => Ok(()),
-        Err(fault) => Err(Fault::from(fault)),
-    }
-}
-
-/// Writes what came of a trace that threads play.
-fn act_threads<T: Threads + Wait + Sync, R: Read, W: Write>(
-    rt: &T,
-    alloc: Global,
-    model: ModelName,
-    reader: &mut Counted<R>,
-    writer: &mut Counted<W>,
-) -> Result<(), Fault>
-    ensures done { OnOk result (IsDone (R.remaining reader.old.stream) (R.remaining reader.new.stream) (W.contents writer.old.stream) (W.contents writer.new.stream) (Task.Threads model)) }
-    ensures ends { IfErr result (EndsBy (R.remaining reader.old.stream) (R.remaining reader.new.stream) (W.contents writer.old.stream) (W.contents writer.new.stream) (writer.new ≡ writer.old) (Task.Threads model)) }
-    ensures read_failed { result ≡ Err Fault.Read → FailsOnce reader.old reader.new }
-    ensures unfailed { result ≢ Err Fault.Read → reader.new.failures ≡ reader.old.failures }
-    ensures once { OnOk result (reader.new.ends ≡ next reader.old.ends) }
-    ensures refused_once { result ≡ Err Fault.Refused → reader.new.ends ≡ next reader.old.ends }
-    ensures few { AtMost 134217729 reader.old.calls reader.new.calls }
-    ensures write_failed { result ≡ Err Fault.Write → writer.new.failures ≡ next writer.old.failures }
-    ensures written { result ≢ Err Fault.Write → writer.new.failures ≡ writer.old.failures }
-{
-    match threads(rt, alloc, model, reader, writer) {
-        Ok(()) => Ok(()),
-        Err(fault) => Err(Fault::from(fault)),
     }
 }

@@ -1,6 +1,6 @@
 use Rattle.std.proofs.Common.{arith}
 use Rattle.std.proofs.lemmas.Grind.{common_steps}
-use Rattle.lp_program.proofs.program.act_threads.Goals as goal
+use Rattle.lp_program.proofs.playing.act_threads.Goals as goal
 
 pub returns-in-Err-clause-refused_once : goal.returns-in-Err-clause-refused_once
 returns-in-Err-clause-refused_once c = grind (arith, common_steps)

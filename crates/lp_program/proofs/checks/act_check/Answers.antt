@@ -1,6 +1,6 @@
 use Rattle.std.proofs.Common.{arith}
 use Rattle.std.proofs.lemmas.Grind.{common_steps}
-use Rattle.lp_program.proofs.program.act_check.Goals as goal
+use Rattle.lp_program.proofs.checks.act_check.Goals as goal
 
 pub returns-in-Ok-false-clause-ends : goal.returns-in-Ok-false-clause-ends
 returns-in-Ok-false-clause-ends c = grind (arith, common_steps)

@@ -5,7 +5,7 @@ use Rattle.lp_models.specs.Models.{hybrid, leave_kernel, all_at_once, immediate}
 use Rattle.lp_process.specs.Models.{process_group}
 use Rattle.lp_program.specs.Named.{rules_named}
 use Rattle.lp_program.proofs.Plays.{played_named, prefix_named}
-use Rattle.lp_program.proofs.dispatch.threads.Goals as goal
+use Rattle.lp_program.proofs.playing.threads.Goals as goal
 
 pub returns-in-Hybrid-clause-report : goal.returns-in-Hybrid-clause-report
 returns-in-Hybrid-clause-report g c =

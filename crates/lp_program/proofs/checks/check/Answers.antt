@@ -6,7 +6,7 @@ use Rattle.lp_models.specs.Models.{hybrid, leave_kernel, all_at_once, immediate}
 use Rattle.lp_process.specs.Models.{process_group}
 use Rattle.lp_program.specs.Named.{rules_named}
 use Rattle.lp_program.proofs.Prefix.{prefix_named}
-use Rattle.lp_program.proofs.dispatch.check.Goals as goal
+use Rattle.lp_program.proofs.checks.check.Goals as goal
 
 pub returns-in-Hybrid-clause-prefix : goal.returns-in-Hybrid-clause-prefix
 returns-in-Hybrid-clause-prefix g c =

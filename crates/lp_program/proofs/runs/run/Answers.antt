@@ -1,6 +1,6 @@
 use Rattle.std.proofs.Common.{rules, arith}
 use Rattle.std.proofs.lemmas.Grind.{common_steps}
-use Rattle.lp_program.proofs.dispatch.run.Goals as goal
+use Rattle.lp_program.proofs.runs.run.Goals as goal
 
 pub returns-in-Hybrid-clause-report : goal.returns-in-Hybrid-clause-report
 returns-in-Hybrid-clause-report g c = search rules

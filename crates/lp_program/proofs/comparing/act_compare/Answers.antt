@@ -1,6 +1,6 @@
 use Rattle.std.proofs.Common.{arith, rules}
 use Rattle.std.proofs.lemmas.Grind.{common_steps}
-use Rattle.lp_program.proofs.program.act_compare.Goals as goal
+use Rattle.lp_program.proofs.comparing.act_compare.Goals as goal
 
 pub returns-in-Err-clause-ends : goal.returns-in-Err-clause-ends
 returns-in-Err-clause-ends c = grind (arith, common_steps)

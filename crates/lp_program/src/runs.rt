@@ -1,0 +1,79 @@
+//! A run under the model of a name.
+ghost use Rattle.std.specs.Prelude.{◌≡◌, ◌≢◌, Err, IfErr, IfSome, MatchResult, OnOk};
+ghost use Rattle.std.specs.Io.KnownBytes.{Appends};
+ghost use Rattle.lp_models.specs.Names.{name_of};
+ghost use Rattle.lp_text.specs.Counts.{AtMost, next};
+ghost use Rattle.lp_text.specs.Input.{FailsOnce};
+ghost use Rattle.lp_replay.specs.Headline.{Headline, whole_run};
+ghost use Rattle.lp_replay.specs.Outcome.{outcome};
+ghost use Rattle.lp_text.specs.Reading.{reading};
+ghost use Rattle.lp_trace.specs.Report.{report};
+ghost use Rattle.lp_replay.specs.Runs.{AtReading, AtTrace, AtWrite, BeforeWriting, ButForReading, ReadsTrace};
+ghost use Rattle.lp_text.specs.Writing.{AppendsPrefix};
+ghost use Rattle.lp_program.specs.Named.{rules_named};
+ghost use Rattle.lp_program.specs.Performed.{EndsBy, IsDone};
+ghost use Rattle.lp_words.specs.declared.words.Task.TheVariants.{Run};
+
+use crate::fault::Fault;
+use lp_models::{AllAtOnce, Hybrid, Immediate, LeaveKernel, ModelName};
+use lp_process::ProcessGroup;
+use lp_trace::{Counted, RunFault};
+use std::alloc::Global;
+use std::io::{Read, Write};
+
+/// Reads a trace and writes the report of its run under a model, as [`lp_trace::run`].
+pub fn run<R: Read, W: Write>(
+    alloc: Global,
+    model: ModelName,
+    reader: &mut Counted<R>,
+    writer: &mut Counted<W>,
+) -> Result<(), RunFault>
+    // The report has the model's name, and is that of its rules.
+    ensures report { OnOk result (ReadsTrace (R.remaining reader.old.stream) (R.remaining reader.new.stream)
+        (λ trace. Appends (W.contents writer.old.stream) (W.contents writer.new.stream) (report trace.form (name_of model) (outcome (rules_named model) trace)))) }
+    ensures headline { OnOk result (ReadsTrace (R.remaining reader.old.stream) (R.remaining reader.new.stream)
+        (λ trace. Appends (W.contents writer.old.stream) (W.contents writer.new.stream) (report trace.form (name_of model) (outcome (rules_named model) trace))
+        × Headline (rules_named model) (whole_run trace) (outcome (rules_named model) trace))) }
+    ensures prefix { IfErr result (λ fault. AtWrite fault (ReadsTrace (R.remaining reader.old.stream) (R.remaining reader.new.stream)
+        (λ trace. AppendsPrefix (W.contents writer.old.stream) (W.contents writer.new.stream) (report trace.form (name_of model) (outcome (rules_named model) trace))))) }
+    ensures untouched { IfErr result (λ fault. BeforeWriting fault (writer.new ≡ writer.old)) }
+    ensures trace { IfErr result (λ fault. AtTrace fault (λ why. IfSome (R.remaining reader.old.stream) (λ text. reading text ≡ Err why))) }
+    ensures read_failed { IfErr result (λ fault. AtReading fault (FailsOnce reader.old reader.new)) }
+    ensures unfailed { MatchResult result (λ _. reader.new.failures ≡ reader.old.failures) (λ fault. ButForReading fault (reader.new.failures ≡ reader.old.failures)) }
+    ensures once { OnOk result (reader.new.ends ≡ next reader.old.ends) }
+    ensures few { AtMost 134217729 reader.old.calls reader.new.calls }
+    ensures write_failed { IfErr result (λ fault. AtWrite fault (writer.new.failures ≡ next writer.old.failures)) }
+    ensures written { OnOk result (writer.new.failures ≡ writer.old.failures) }
+{
+    let name = model.name();
+    match model {
+        ModelName::Hybrid => lp_trace::run(alloc, name, Hybrid, reader, writer),
+        ModelName::LeaveKernel => lp_trace::run(alloc, name, LeaveKernel, reader, writer),
+        ModelName::AllAtOnce => lp_trace::run(alloc, name, AllAtOnce, reader, writer),
+        ModelName::Immediate => lp_trace::run(alloc, name, Immediate, reader, writer),
+        ModelName::ProcessGroup => lp_trace::run(alloc, name, ProcessGroup, reader, writer),
+    }
+}
+
+/// Writes the report of a trace; each fault as [`Fault`] says.
+pub fn act_run<R: Read, W: Write>(
+    alloc: Global,
+    model: ModelName,
+    reader: &mut Counted<R>,
+    writer: &mut Counted<W>,
+) -> Result<(), Fault>
+    ensures done { OnOk result (IsDone (R.remaining reader.old.stream) (R.remaining reader.new.stream) (W.contents writer.old.stream) (W.contents writer.new.stream) (Run model)) }
+    ensures ends { IfErr result (EndsBy (R.remaining reader.old.stream) (R.remaining reader.new.stream) (W.contents writer.old.stream) (W.contents writer.new.stream) (writer.new ≡ writer.old) (Run model)) }
+    ensures read_failed { result ≡ Err Fault.Read → FailsOnce reader.old reader.new }
+    ensures unfailed { result ≢ Err Fault.Read → reader.new.failures ≡ reader.old.failures }
+    ensures once { OnOk result (reader.new.ends ≡ next reader.old.ends) }
+    ensures refused_once { result ≡ Err Fault.Refused → reader.new.ends ≡ next reader.old.ends }
+    ensures few { AtMost 134217729 reader.old.calls reader.new.calls }
+    ensures write_failed { result ≡ Err Fault.Write → writer.new.failures ≡ next writer.old.failures }
+    ensures written { result ≢ Err Fault.Write → writer.new.failures ≡ writer.old.failures }
+{
+    match run(alloc, model, reader, writer) {
+        Ok(()) => Ok(()),
+        Err(fault) => Err(Fault::from(fault)),
+    }
+}
