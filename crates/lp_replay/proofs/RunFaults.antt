@@ -1,13 +1,13 @@
 -- Faults of a run.
-use Rattle.std.proofs.Common.{◌≡◌, ℕ, List, Option, Result, Ok, Err, ap, ◌∙◌, sym, subst}
-use Rattle.std.specs.Prelude.{IfErr, IfOk, IsErrAnd, MatchResult}
+use Rattle.std.proofs.Common.{◌≡◌, Result, Ok, Err, sym, subst}
+use Rattle.std.specs.Prelude.{IfErr, IsErrAnd, MatchResult}
 use Rattle.lp_text.specs.declared.fault.TraceFault.{TraceFault}
 use Rattle.lp_text.specs.declared.stream_fault.StreamFault.{StreamFault}
 use Rattle.lp_text.specs.declared.stream_fault.StreamFault.TheVariants as stream
-use Rattle.lp_text.specs.Input.{AtRead, AtText, ButForReads, ReadsAll}
+use Rattle.lp_text.specs.Input.{AtRead, AtText, ButForReads}
 use Rattle.lp_replay.specs.declared.run_fault.RunFault.{RunFault}
 use Rattle.lp_replay.specs.declared.run_fault.RunFault.TheVariants as run
-use Rattle.lp_replay.specs.Runs.{AtReading, AtTrace, AtWrite, ButForReading, ReadsTrace, of_stream}
+use Rattle.lp_replay.specs.Runs.{AtReading, AtTrace, AtWrite, ButForReading, of_stream}
 
 -- ---- Faults in reading
 

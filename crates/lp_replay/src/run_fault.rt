@@ -9,7 +9,7 @@ use std::alloc::AllocError;
 use std::io;
 use thiserror::Error;
 
-/// Why a run or a check didn't write its output, the report or the answer, or not all of it.
+/// Why a run, a check, a comparison or a play by threads didn't write its output, or not all of it.
 #[derive(Debug, Drop, Error)]
 pub enum RunFault {
     /// The reader failed, or was interrupted. Nothing was written.

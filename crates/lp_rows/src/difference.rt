@@ -1,4 +1,4 @@
-//! The first line in which two texts differ.
+//! What is played, and the first line in which it differs from what is wanted.
 ghost use Rattle.std.specs.Prelude.{◌≡◌, OnOk};
 
 use crate::trouble::Trouble;

@@ -1,18 +1,18 @@
 -- Outcomes put together, and the headline of what was read.
-use Rattle.std.proofs.Common.{◌≡◌, ℕ, List, Option, Result, Ok, Err, ap, ◌∙◌, sym, subst}
-use Rattle.std.specs.Prelude.{IfErr, IfOk, IsErrAnd, MatchResult}
+use Rattle.std.proofs.Common.{◌≡◌, ℕ, List, Option, Result, Ok, Err, ap, ◌∙◌}
+use Rattle.std.specs.Prelude.{IfOk}
 use Rattle.lp_model.specs.Rules.{Rules, IsLawful}
 use Rattle.lp_transition.specs.declared.reply.Reply.{Reply}
 use Rattle.lp_transition.specs.Run.{first_leg, replies}
 use Rattle.lp_transition.specs.Stays.{mixed_count, stay_count}
 use Rattle.lp_cert.specs.declared.leg_end.LegEnd.{LegEnd}
-use Rattle.lp_text.specs.Input.{AtRead, AtText, ButForReads, ReadsAll}
+use Rattle.lp_text.specs.Input.{ReadsAll}
 use Rattle.lp_text.specs.Traces.{TraceValue, IsTrace, text_of}
 use Rattle.lp_replay.specs.declared.outcome.Outcome.{Outcome}
 use Rattle.lp_replay.specs.Headline.{Headline, whole_run}
 use Rattle.lp_replay.specs.Outcome.{outcome, leg_ends, run_of}
 use Rattle.lp_replay.proofs.Headline.{headline_of_trace, outcome_is}
-use Rattle.lp_replay.specs.Runs.{AtReading, AtTrace, AtWrite, ButForReading, ReadsTrace, of_stream}
+use Rattle.lp_replay.specs.Runs.{ReadsTrace}
 
 abbrev with_fields : List Reply → List LegEnd → ℕ → ℕ → Outcome
 with_fields replies legs stays mixed = record { replies = replies; legs = legs; stays = stays; mixed = mixed }
