@@ -9,24 +9,22 @@ use lp_transition::Event::{Call, Enable, Enter, Exit, Ret};
 use lp_transition::{Class, Core, PatchStack, TaskId};
 use std::alloc::Global;
 
-fn patches(alloc: Global) -> Result<PatchStack> {
+fn boot(alloc: Global) -> Result<Core<Hybrid>> {
     let mut symbols = Symbols::new(alloc)?;
     let a = symbols.add("a")?;
     let patch = PatchSet::build(alloc, &symbols, &[a])?;
-    Ok(PatchStack::new(alloc, vec![in alloc; patch]?)?)
+    let patches = PatchStack::new(alloc, vec![in alloc; patch]?)?;
+    Ok(Core::boot(alloc, Hybrid, patches, &[(TaskId(1), Class::Normal)])?)
 }
 
 fn print_replies<R: Print + AllocGlobal>(rt: &R, core: &mut Core<Hybrid>) -> Result<()> {
     let (one, a) = (TaskId(1), SymId(0));
     for event in [Enter(one), Call(one, a), Enable, Ret(one), Exit(one)] {
-        let reply = core.step(rt.alloc(), event)?;
-        println!(rt; "{event}: {reply}")?;
+        println!(rt; "{event}: {}", core.step(rt.alloc(), event)?)?;
     }
     Ok(())
 }
 
 fn main(rt: HostRuntime) -> Result<()> {
-    let patches = patches(rt.alloc())?;
-    let mut core = Core::boot(rt.alloc(), Hybrid, patches, &[(TaskId(1), Class::Normal)])?;
-    print_replies(&rt, &mut core)
+    print_replies(&rt, &mut boot(rt.alloc())?)
 }
