@@ -5,7 +5,7 @@ use Rattle.std.proofs.lemmas.Bool.Decides.{nat_tests}
 use mathlib.Core.List.{IsPrefix}
 use prog.Atomic.{either}
 use Rattle.logbook.specs.Pages.{Cell, cell, keeps, no_nib, step, Moves, Goes}
-use Rattle.lp_transition.specs.declared.event.Event.{Event}
+use Rattle.lp_definitions.specs.declared.event.Event.{Event}
 use Rattle.lp_board.specs.inside.History.{IsKept, Adds}
 use Rattle.lp_board.proofs.Prefixes.{prefix_whole}
 

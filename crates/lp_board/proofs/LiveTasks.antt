@@ -5,7 +5,7 @@ use Rattle.std.specs.List.{filter, filter_map, cons_option, range_with_len}
 use Rattle.lp_numbers.specs.Numbers.{Numbers, has}
 use Rattle.lp_stack.specs.declared.number.Level.{Level}
 use Rattle.lp_stack.specs.declared.number.TaskId.{TaskId}
-use Rattle.lp_transition.specs.Scan.{passing}
+use Rattle.lp_tasks.specs.Passing.{passing}
 use Rattle.lp_board.specs.declared.shown.Shown.{Shown}
 use Rattle.lp_board.specs.declared.shown.Shown.TheVariants.{Settled, Unpatched, Patched}
 use Rattle.lp_board.specs.declared.sheet.Heading.{Heading}

@@ -9,23 +9,23 @@ use Rattle.lp_model.specs.Rules.{Rules, IsLawful}
 use Rattle.lp_model.specs.declared.check.CheckKind.{CheckKind}
 use Rattle.lp_model.specs.declared.check.CheckKind.TheVariants as Check
 use Rattle.lp_model.specs.declared.verdict.Verdict.{Verdict}
-use Rattle.lp_transition.specs.declared.event.Event.{Event}
-use Rattle.lp_transition.specs.declared.event.Event.TheVariants.{Call, Ret, Sleep, Wake, Enter, Exit, Idle, Fork, Die, Walk, Stop, Enable, Disable, Reverse}
-use Rattle.lp_transition.specs.declared.refusal.Refusal.{Refusal}
-use Rattle.lp_transition.specs.Tasks.{Fate, Unused, Live, Dead, on_live, map_live, change}
-use Rattle.lp_transition.specs.Leg.{Standing, State, each_live, is_alone, check_by, when, if_used}
-use Rattle.lp_transition.specs.Sound.{IsSound}
-use Rattle.lp_transition.specs.Machine.{Standings, outline_of, outlines_of, put_in, calling, returning, bearing, waits_in, admits_all, switches_at, switched_groups, switched_task, affected, next_by, answer_by}
-use Rattle.lp_transition.specs.Run.{switched}
-use Rattle.lp_transition.specs.Table.{Engine, IsWide, slot, standings, state_in}
+use Rattle.lp_definitions.specs.declared.event.Event.{Event}
+use Rattle.lp_definitions.specs.declared.event.Event.TheVariants.{Call, Ret, Sleep, Wake, Enter, Exit, Idle, Fork, Die, Walk, Stop, Enable, Disable, Reverse}
+use Rattle.lp_definitions.specs.declared.refusal.Refusal.{Refusal}
+use Rattle.lp_definitions.specs.Tasks.{Fate, Unused, Live, Dead, on_live, map_live, change}
+use Rattle.lp_definitions.specs.Leg.{Standing, State, each_live, is_alone, check_by, when, if_used}
+use Rattle.lp_definitions.specs.Sound.{IsSound}
+use Rattle.lp_machine.specs.Machine.{Standings, outline_of, outlines_of, put_in, calling, returning, bearing, waits_in, admits_all, switches_at, switched_groups, switched_task, affected, next_by, answer_by}
+use Rattle.lp_definitions.specs.Run.{switched}
+use Rattle.lp_machine.specs.Table.{Engine, IsWide, slot, standings, state_in}
 use Rattle.lp_transition.specs.Weigh.{AreVerdictsFor}
 use Rattle.lp_transition.specs.Scan.{verdicts_of, AreEnough}
 use Rattle.lp_transition.specs.inside.ScanSteps.{is_judged, switches_by, task_switches}
-use Rattle.lp_transition.proofs.EngineLemmas.{and-false, is_quiet, quiet-stays}
-use Rattle.lp_transition.proofs.TableLemmas.{slot_from_live, live_from_slot}
-use Rattle.lp_transition.proofs.Alone.{ChecksAlone, alone-other}
+use Rattle.lp_machine.proofs.EngineLemmas.{and-false, is_quiet, quiet-stays}
+use Rattle.lp_tasks.proofs.TableLemmas.{slot_from_live, live_from_slot}
+use Rattle.lp_machine.proofs.Alone.{ChecksAlone, alone-other}
 use Rattle.lp_transition.proofs.AskedScans.{switches-judged}
-use Rattle.lp_transition.proofs.Passing.{passing-any}
+use Rattle.lp_tasks.proofs.Passing.{passing-any}
 use Rattle.lp_transition.proofs.ScanAnswers.{switching_by, switches-walk, switches-stop}
 use Rattle.lp_transition.proofs.ScanTakes.{group_fits}
 use Rattle.lp_board.specs.Pages.{level_of, level_by}

@@ -1,11 +1,11 @@
 -- The run of a desk, one event longer.
 use Rattle.std.proofs.Common.{◌≡◌, List, [], ◌∷◌, ◌++◌, sym, subst}
 use Rattle.lp_model.specs.Rules.{Rules, IsLawful}
-use Rattle.lp_transition.specs.declared.event.Event.{Event}
-use Rattle.lp_transition.specs.Leg.{State}
-use Rattle.lp_transition.specs.Steps.{StandsIn}
-use Rattle.lp_transition.specs.Machine.{next}
-use Rattle.lp_transition.proofs.Runs.{steps_as_defined}
+use Rattle.lp_definitions.specs.declared.event.Event.{Event}
+use Rattle.lp_definitions.specs.Leg.{State}
+use Rattle.lp_machine.specs.Steps.{StandsIn}
+use Rattle.lp_machine.specs.Machine.{next}
+use Rattle.lp_machine.proofs.Runs.{steps_as_defined}
 use Rattle.lp_board.specs.Names.{Name, run_of, state_after}
 
 -- where a run of this model stands is the state after its events

@@ -6,11 +6,11 @@ use Rattle.lp_stack.specs.declared.view.Class.{Class}
 use Rattle.lp_patch.specs.Patches.{Patches}
 use Rattle.lp_model.specs.declared.check.Blame.TheVariants.{Unused}
 use Rattle.lp_model.specs.Rules.{Rules}
-use Rattle.lp_transition.specs.declared.event.Event.{Event}
-use Rattle.lp_transition.specs.Leg.{State}
-use Rattle.lp_transition.specs.Run.{Run, leg_of}
-use Rattle.lp_transition.specs.Machine.{state_of}
-use Rattle.lp_transition.specs.Table.{bounds_of}
+use Rattle.lp_definitions.specs.declared.event.Event.{Event}
+use Rattle.lp_definitions.specs.Leg.{State}
+use Rattle.lp_definitions.specs.Run.{Run, leg_of}
+use Rattle.lp_machine.specs.Machine.{state_of}
+use Rattle.lp_machine.specs.Table.{bounds_of}
 
 -- a model, how a run starts, and where the run's events are kept
 pub record Name : Type 0 where

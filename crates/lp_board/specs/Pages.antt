@@ -2,8 +2,8 @@
 use Rattle.std.specs.Prelude.{◌≡◌, ℕ, ◌<◌, List, [], ◌∷◌, length, Option, Some, None, if◌then◌else◌, nat_eq, slice_index_or, slice_set}
 use Rattle.lp_stack.specs.declared.number.Level.{Level}
 use Rattle.lp_stack.specs.declared.number.TaskId.{TaskId}
-use Rattle.lp_transition.specs.Tasks.{Fate, Unused, Live, Dead}
-use Rattle.lp_transition.specs.Leg.{Standing, State}
+use Rattle.lp_definitions.specs.Tasks.{Fate, Unused, Live, Dead}
+use Rattle.lp_definitions.specs.Leg.{Standing, State}
 use Rattle.lp_board.specs.declared.shown.Shown.{Shown}
 use Rattle.lp_board.specs.declared.shown.Shown.TheVariants.{Absent}
 use Rattle.lp_board.specs.declared.sheet.Heading.{Heading}

@@ -1,8 +1,8 @@
 //! An engine and a board that have no name yet.
 ghost use Rattle.std.specs.Prelude.{◌≡◌, ◌⊎◌, ◌↔◌, [], Err, None, Ok, All, IfOk, IfErr, IfSome, OnErr, OnOk, drop, length};
 ghost use Rattle.lp_transition.specs.Boot.{boot_refusal};
-ghost use Rattle.lp_transition.specs.Steps.{StandsIn};
-ghost use Rattle.lp_transition.specs.Table.{bounds_of, state_in};
+ghost use Rattle.lp_machine.specs.Steps.{StandsIn};
+ghost use Rattle.lp_machine.specs.Table.{bounds_of, state_in};
 ghost use Rattle.lp_transition.specs.declared.engine.boot.BootFault.TheVariants as boot_fault;
 ghost use Rattle.lp_board.specs.Blanks.{IsCrew, name_of};
 ghost use Rattle.lp_board.specs.inside.Starts.{levels_of};
@@ -44,7 +44,7 @@ pub struct Blank<M: Consistency> {
     readers: usize,
 }
 
-/// In one step for who owns one: docs/GATE.md says why.
+/// By hand, so that the proof of who owns one lets go of it in one step, not field by field.
 impl<M: Consistency> Drop for Blank<M> {
     fn drop(self) {
         let Blank {

@@ -1,5 +1,5 @@
 //! The history of a desk's events, which only grows, and beginnings of it that were seen.
-ghost use Rattle.std.specs.Prelude.{◌≡◌, ◌⊎◌, ◌∷◌, ◌++◌, ◌<◌, ◌≤◌, ◌^◌, [], true, length, OnErr, IfOk, IsTrue, IsFalse};
+ghost use Rattle.std.specs.Prelude.{◌≡◌, ◌⊎◌, ◌↔◌, ◌∷◌, ◌++◌, ◌<◌, ◌≤◌, ◌^◌, [], true, length, OnErr, IfOk, IsTrue, IsFalse};
 ghost use mathlib.Core.List.{IsPrefix};
 ghost use Rattle.lp_board.specs.inside.History.{head_of};
 
@@ -71,7 +71,7 @@ pub struct Prefix<N: DeskName> {
 
 impl<N: DeskName> Model for Prefix<N> {
     ghost use Rattle.std.specs.Prelude.{◌≡◌, List, length};
-    ghost use Rattle.lp_transition.specs.declared.event.Event.{Event};
+    ghost use Rattle.lp_definitions.specs.declared.event.Event.{Event};
 
     ghost Value = { List Event };
 
@@ -113,7 +113,7 @@ impl<N: DeskName> Prefix<N> {
 
     /// Whether another prefix of this history begins this one, as it does where it is no longer.
     pub(crate) fn begins_with(&self, other: &Prefix<N>) -> bool
-        ensures { IsTrue result → IsPrefix other.now self.now }
+        ensures { IsTrue result ↔ IsPrefix other.now self.now }
     {
         let mut both = self.seen.again();
         both.learn(&other.seen);

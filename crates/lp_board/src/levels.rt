@@ -1,7 +1,7 @@
 //! The level of each task number.
 ghost use Rattle.std.specs.Prelude.{◌≡◌, ◌≤◌, ◌&&◌, ◌||◌, ℕ, None, IfOk, length, nat_eq, slice_index_or, slice_set};
 ghost use Rattle.lp_numbers.specs.Numbers.{has};
-ghost use Rattle.lp_transition.specs.Table.{standings};
+ghost use Rattle.lp_machine.specs.Table.{standings};
 ghost use Rattle.lp_board.specs.inside.Starts.{levels_of};
 ghost use Rattle.lp_board.specs.inside.Levels.{AreLive};
 ghost use Rattle.lp_board.specs.Pages.{level_of, shown_by, written};
@@ -25,7 +25,7 @@ pub struct Levels {
     live: NumberSet,
 }
 
-/// In one step for who owns one: docs/GATE.md says why.
+/// By hand, so that the proof of who owns one lets go of it in one step, not field by field.
 impl Drop for Levels {
     fn drop(self) {
         let Levels { levels: _, live: _ } = self;
@@ -99,7 +99,7 @@ impl Levels {
 }
 
 /// What is shown under a heading of the tasks that live, by increasing number.
-#[tactic(auto, using(lp_transition::proofs::AscendingLemmas::in_order))]
+#[tactic(auto, using(lp_tasks::proofs::AscendingLemmas::in_order))]
 fn shown_of(
     alloc: Global,
     levels: &[Option<Level>],

@@ -20,7 +20,7 @@ pub use lp_patch::PatchStack;
 pub use lp_stack::{Class, Level, TaskId};
 pub use lp_transition::{BootFault, Core, Event, Step};
 pub use name::DeskName;
-pub use publisher::Publisher;
+pub use publisher::{AllTold, Publisher};
 pub use reader::{BoardFault, BoardReader, Told};
 pub use sheet::{Heading, Update};
 pub use shown::Shown;

@@ -38,7 +38,7 @@ where
     Shows<N>: Protocol<Sheet<N>, ()>,
 {
     ghost use Rattle.std.specs.Prelude.{List, drop};
-    ghost use Rattle.lp_transition.specs.declared.event.Event.{Event};
+    ghost use Rattle.lp_definitions.specs.declared.event.Event.{Event};
     ghost use Rattle.lp_board.specs.inside.Publishers.{IsPublished, page_of};
 
     ghost Value = { List Event };
@@ -46,6 +46,32 @@ where
     ghost view = { λ p. p.prefix };
 
     ghost invariant = { λ p. IsPublished N.desk p.head p.prefix (page_of p.writer.desk.shown.value) (drop p.writer.behind p.writer.log.items) };
+}
+
+/// All events that a desk ever published: its board was given up after them.
+///
+/// Contracts see the events.
+#[derive(Drop)]
+pub struct AllTold<N: DeskName> {
+    told: Told<N>,
+}
+
+impl<N: DeskName> Model for AllTold<N> {
+    ghost use Rattle.std.specs.Prelude.{List};
+    ghost use Rattle.lp_definitions.specs.declared.event.Event.{Event};
+
+    ghost Value = { List Event };
+
+    ghost view = { λ all. all.told };
+}
+
+impl<N: DeskName> AllTold<N> {
+    /// The same, to compare it with what readers saw or others were told.
+    pub fn told(&self) -> &Told<N>
+        ensures { result.now ≡ self.now }
+    {
+        &self.told
+    }
 }
 
 impl<N: DeskName> Publisher<N> {
@@ -107,14 +133,19 @@ impl<N: DeskName> Publisher<N> {
         Told::new(self.prefix.again())
     }
 
-    /// Gives the board up. It waits for readers that are inside a read.
-    pub fn shut<R: Wait>(self, rt: &R) {
+    /// Gives the board up, and tells all that it ever showed. It waits for readers that are inside a read.
+    pub fn shut<R: Wait>(self, rt: &R) -> AllTold<N>
+        ensures { result ≡ self }
+    {
         let Publisher {
             head: _,
-            prefix: _,
+            prefix,
             writer,
         } = self;
         drop(writer.take(rt));
+        AllTold {
+            told: Told::new(prefix),
+        }
     }
 }
 

@@ -1,5 +1,5 @@
 //! Readers of the board, and what they are told.
-ghost use Rattle.std.specs.Prelude.{◌≡◌, ◌⊎◌, ◌∷◌, [], length, slice_index_or, IfSome, IfNone, IfOk, OnOk, OnErr};
+ghost use Rattle.std.specs.Prelude.{◌≡◌, ◌⊎◌, ◌↔◌, ◌∷◌, [], length, slice_index_or, IfSome, IfNone, IfOk, IsTrue, OnOk, OnErr};
 ghost use mathlib.Core.List.{IsPrefix};
 ghost use Rattle.lp_board.specs.Words.{shown_word, all_shown};
 ghost use Rattle.lp_board.specs.Names.{state_after};
@@ -29,7 +29,7 @@ pub struct Told<N: DeskName> {
 
 impl<N: DeskName> Model for Told<N> {
     ghost use Rattle.std.specs.Prelude.{List};
-    ghost use Rattle.lp_transition.specs.declared.event.Event.{Event};
+    ghost use Rattle.lp_definitions.specs.declared.event.Event.{Event};
 
     ghost Value = { List Event };
 
@@ -48,6 +48,23 @@ impl<N: DeskName> Told<N> {
         ensures { result ≡ length self.now }
     {
         self.prefix.len()
+    }
+
+    /// Whether what was told here begins with what was told there, as it does where that was told no later. Never
+    /// allocates.
+    pub fn begins_with(&self, other: &Told<N>) -> bool
+        ensures { IsTrue result ↔ IsPrefix other.now self.now }
+    {
+        self.prefix.begins_with(&other.prefix)
+    }
+
+    /// The same once more. Never allocates.
+    pub fn again(&self) -> Told<N>
+        ensures { result ≡ self.now }
+    {
+        Told {
+            prefix: self.prefix.again(),
+        }
     }
 }
 
@@ -71,7 +88,7 @@ pub struct BoardReader<N: DeskName> {
     known: Prefix<N>,
 }
 
-/// In one step for who owns one: docs/GATE.md says why.
+/// By hand, so that the proof of who owns one lets go of it in one step, not field by field.
 impl<N: DeskName> Drop for BoardReader<N> {
     fn drop(self) {
         let BoardReader {
@@ -114,6 +131,13 @@ impl<N: DeskName> BoardReader<N> {
         ensures begins { IsPrefix self.now.seen self.now.known }
     {
         self.seen.len()
+    }
+
+    /// The events that its last answer showed, to compare them with what others saw or were told. Never allocates.
+    pub fn told(&self) -> Told<N>
+        ensures { result ≡ self.now.seen }
+    {
+        Told::new(self.seen.again())
     }
 
     /// From now on it sees no less than what it is told. Never allocates.

@@ -35,7 +35,7 @@ pub struct Change<N: DeskName> {
     pub(crate) prefix: Prefix<N>,
 }
 
-/// In one step for who owns one: docs/GATE.md says why.
+/// By hand, so that the proof of who owns one lets go of it in one step, not field by field.
 impl<N: DeskName> Drop for Change<N> {
     fn drop(self) {
         let Change {
@@ -52,7 +52,7 @@ pub struct Sheet<N: DeskName> {
     pub(crate) prefix: Prefix<N>,
 }
 
-/// In one step for who owns one: docs/GATE.md says why.
+/// By hand, so that the proof of who owns one lets go of it in one step, not field by field.
 impl<N: DeskName> Drop for Sheet<N> {
     fn drop(self) {
         let Sheet {

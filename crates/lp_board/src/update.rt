@@ -2,10 +2,10 @@
 ghost use Rattle.std.specs.Prelude.{◌≡◌, ◌||◌, ℕ, ◌∷◌, [], IfOk, nat_eq};
 ghost use Rattle.std.specs.List.{list_any, filter_map};
 ghost use Rattle.lp_numbers.specs.Numbers.{has};
-ghost use Rattle.lp_transition.specs.Machine.{next};
-ghost use Rattle.lp_transition.specs.Table.{standings, state_in};
+ghost use Rattle.lp_machine.specs.Machine.{next};
+ghost use Rattle.lp_machine.specs.Table.{standings, state_in};
 ghost use Rattle.lp_transition.specs.Weigh.{IsWeighed};
-ghost use Rattle.lp_transition.specs.Events.{group_numbers};
+ghost use Rattle.lp_definitions.specs.Events.{group_numbers};
 ghost use Rattle.lp_board.specs.Pages.{IsHeading, Leads, level_of};
 ghost use Rattle.lp_board.specs.inside.Changes.{heading_by, levels_by, target_among, target_if};
 

@@ -5,18 +5,18 @@ use Rattle.std.specs.Option.{option_map}
 use Rattle.std.proofs.lemmas.Bool.{cond-true, cond-false}
 use Rattle.lp_stack.specs.declared.number.GroupId.{GroupId}
 use Rattle.lp_numbers.specs.Numbers.{has}
-use Rattle.lp_transition.specs.Scan.{passing}
-use Rattle.lp_cert.specs.declared.cert.Claim.{Claim}
-use Rattle.lp_cert.specs.declared.cert.Cert.{Cert}
+use Rattle.lp_tasks.specs.Passing.{passing}
+use Rattle.lp_definitions.specs.declared.cert.Claim.{Claim}
+use Rattle.lp_definitions.specs.declared.cert.Cert.{Cert}
 use Rattle.lp_cert.specs.declared.head.Head.{Head}
-use Rattle.lp_cert.specs.declared.line.Line.{Line}
+use Rattle.lp_definitions.specs.declared.line.Line.{Line}
 use Rattle.lp_cert.specs.declared.head.Waiter.{Waiter}
 use Rattle.lp_cert.specs.declared.open_leg.Completion.{Completion}
 use Rattle.lp_cert.specs.declared.open_leg.OpenLeg.{OpenLeg}
 use Rattle.lp_cert.specs.declared.ongoing.Ongoing.{Ongoing}
 use Rattle.lp_cert.specs.declared.ongoing.Ongoing.TheVariants.{Nothing, Hold, Busy}
 use Rattle.lp_cert.specs.declared.reason.Reason.{Reason}
-use Rattle.lp_cert.specs.Certificates.{group_id}
+use Rattle.lp_definitions.specs.Certificates.{group_id}
 use Rattle.lp_cert.specs.Heads.{head_lines}
 use Rattle.lp_cert.specs.Invariant.{claim_of, end_waiters, upto_of}
 use Rattle.lp_cert.specs.Waiters.{LegReasons, WaitingGroups, head_of, kept_cert, waiter_in, waiters_of}

@@ -8,28 +8,28 @@ use Rattle.lp_model.specs.Rules.{Rules, IsLawful}
 use Rattle.lp_model.specs.declared.check.CheckKind.{CheckKind}
 use Rattle.lp_model.specs.declared.check.Blame.{Blame}
 use Rattle.lp_model.specs.declared.verdict.Verdict.{Verdict}
-use Rattle.lp_transition.specs.declared.event.Event.{Event}
-use Rattle.lp_transition.specs.declared.event.Event.TheVariants.{Call, Ret, Sleep, Wake, Enter, Exit, Idle, Fork, Die, Walk, Stop, Enable, Disable, Reverse}
-use Rattle.lp_transition.specs.Events.{is_control, is_scan}
-use Rattle.lp_transition.specs.Tasks.{Fate, on_live, first_of, change}
-use Rattle.lp_transition.specs.Leg.{Standing, State, Leg, some_live}
-use Rattle.lp_transition.specs.Run.{and_then, switched}
+use Rattle.lp_definitions.specs.declared.event.Event.{Event}
+use Rattle.lp_definitions.specs.declared.event.Event.TheVariants.{Call, Ret, Sleep, Wake, Enter, Exit, Idle, Fork, Die, Walk, Stop, Enable, Disable, Reverse}
+use Rattle.lp_definitions.specs.Events.{is_control, is_scan}
+use Rattle.lp_definitions.specs.Tasks.{Fate, on_live, first_of, change}
+use Rattle.lp_definitions.specs.Leg.{Standing, State, Leg, some_live}
+use Rattle.lp_definitions.specs.Run.{and_then, switched}
 use Rattle.lp_transition.specs.Scan.{is_scan_kind, scan_event, verdicts_of, member_verdict, first_refused}
 use Rattle.lp_transition.specs.inside.ScanSteps.{groups_of, is_found, switches_by}
-use Rattle.lp_transition.specs.Sound.{IsSound}
-use Rattle.lp_transition.specs.Machine.{waits_in, switches_at, switched_groups, switched_task, affected, with_switches, told, state_of, view_of}
-use Rattle.lp_transition.specs.Table.{Table, Engine, slot, fate_at, standings, state_in}
-use Rattle.lp_transition.specs.inside.Table.{is_in}
+use Rattle.lp_definitions.specs.Sound.{IsSound}
+use Rattle.lp_machine.specs.Machine.{waits_in, switches_at, switched_groups, switched_task, affected, with_switches, told, state_of, view_of}
+use Rattle.lp_machine.specs.Table.{Table, Engine, slot, fate_at, standings, state_in}
+use Rattle.lp_tasks.specs.inside.Table.{is_in}
 use Rattle.lp_transition.specs.Weigh.{is_fork}
-use Rattle.lp_transition.proofs.Alone.{behind-same}
-use Rattle.lp_transition.proofs.EngineLemmas.{and-false, quiet-stays}
-use Rattle.lp_transition.proofs.Passing.{passing-any}
-use Rattle.lp_transition.proofs.Quantifiers.{some_live-is, some_live-map}
+use Rattle.lp_machine.proofs.Alone.{behind-same}
+use Rattle.lp_machine.proofs.EngineLemmas.{and-false, quiet-stays}
+use Rattle.lp_tasks.proofs.Passing.{passing-any}
+use Rattle.lp_laws.proofs.Quantifiers.{some_live-is, some_live-map}
 use Rattle.lp_transition.proofs.ScanAnswers.{groups_of-switched, switching_by}
 use Rattle.lp_transition.proofs.ScanLists.{verdict-from}
-use Rattle.lp_transition.proofs.TableLemmas.{slot_from_live}
-use Rattle.lp_cert.specs.declared.line.Line.{Line}
-use Rattle.lp_cert.specs.Certificates.{lines, after_check, after_refusal}
+use Rattle.lp_tasks.proofs.TableLemmas.{slot_from_live}
+use Rattle.lp_definitions.specs.declared.line.Line.{Line}
+use Rattle.lp_definitions.specs.Certificates.{lines, after_check, after_refusal}
 use Rattle.lp_transition.specs.Blames.{has_frame_in, first_blamed_in}
 use Rattle.lp_cert.specs.EventLines.{lines_after_scan}
 use Rattle.lp_cert.specs.inside.Waiters.{after_scan}

@@ -5,17 +5,16 @@ use Rattle.std.proofs.lemmas.Bool.{false≢true, false_from_ne_true, cond-true, 
 use Rattle.lp_stack.specs.declared.number.TaskId.{TaskId}
 use Rattle.lp_model.specs.Rules.{Rules, IsLawful}
 use Rattle.lp_model.specs.declared.check.ForkKind.{ForkKind}
-use Rattle.lp_transition.specs.declared.event.Event.TheVariants.{Fork, Die}
-use Rattle.lp_transition.specs.Tasks.{Unused, Live, Dead, on_live, map_live}
-use Rattle.lp_transition.specs.Leg.{Standing, State, is_alone}
-use Rattle.lp_transition.specs.Sound.{IsSound}
-use Rattle.lp_transition.specs.Machine.{waits_in, affected, bearing, outlines_of, outline_of}
-use Rattle.lp_transition.proofs.Alone.{alone-other}
-use Rattle.lp_transition.proofs.EngineLemmas.{and-false}
-use Rattle.lp_transition.proofs.Quantifiers.{some_live-is, some_live-from, each_live-from, each_live-map}
-use Rattle.lp_transition.proofs.ScanGroups.{same_bool}
-use Rattle.lp_cert.specs.declared.line.Line.{Line}
-use Rattle.lp_cert.specs.Certificates.{birth_line}
+use Rattle.lp_definitions.specs.declared.event.Event.TheVariants.{Fork, Die}
+use Rattle.lp_definitions.specs.Tasks.{Unused, Live, Dead, on_live, map_live}
+use Rattle.lp_definitions.specs.Leg.{Standing, State, is_alone}
+use Rattle.lp_definitions.specs.Sound.{IsSound}
+use Rattle.lp_machine.specs.Machine.{waits_in, affected, bearing, outlines_of, outline_of}
+use Rattle.lp_machine.proofs.Alone.{alone-other}
+use Rattle.lp_machine.proofs.EngineLemmas.{and-false}
+use Rattle.lp_laws.proofs.Quantifiers.{some_live-is, some_live-from, each_live-from, each_live-map, same_bool}
+use Rattle.lp_definitions.specs.declared.line.Line.{Line}
+use Rattle.lp_definitions.specs.Certificates.{birth_line}
 use Rattle.lp_cert.specs.inside.Waiters.{after_fork, after_death}
 
 -- ---- A fork

@@ -1,14 +1,14 @@
 -- The certificates of the leg under way as it ends.
 use Rattle.std.proofs.Common.{◌≡◌, ℕ, ◌<◌, ◌||◌, Bool, true, List, [], ◌∷◌, ◌++◌, length, map, nat_eq, get_or, Option, Some, None, is_some, refl, sym, ap, ap₂, ◌∙◌, arith}
 use Rattle.std.specs.Option.{option_map}
-use Rattle.lp_transition.specs.Scan.{passing}
+use Rattle.lp_tasks.specs.Passing.{passing}
 use Rattle.lp_numbers.specs.Numbers.{Numbers, has}
 use Rattle.lp_numbers.specs.Ascending.{members_from}
-use Rattle.lp_transition.proofs.AscendingLemmas.{members-any, members-passing}
-use Rattle.std.proofs.lemmas.Bool.{eq-eqb}
+use Rattle.lp_tasks.proofs.AscendingLemmas.{members-any, members-passing}
+use Rattle.std.proofs.lemmas.Bool.{eq-eqb, false≢true}
 use Rattle.std.specs.List.{list_any}
-use Rattle.lp_cert.specs.declared.cert.Claim.{Claim}
-use Rattle.lp_cert.specs.declared.cert.Cert.{Cert}
+use Rattle.lp_definitions.specs.declared.cert.Claim.{Claim}
+use Rattle.lp_definitions.specs.declared.cert.Cert.{Cert}
 use Rattle.lp_cert.specs.declared.head.Head.{Head}
 use Rattle.lp_cert.specs.declared.head.Waiter.{Waiter}
 use Rattle.lp_cert.specs.declared.ongoing.Ongoing.{Ongoing}
@@ -21,9 +21,8 @@ use Rattle.lp_cert.specs.declared.open_leg.OpenLeg.{OpenLeg}
 use Rattle.lp_cert.specs.Waiters.{WaitingGroups, kept_cert, waiters_of}
 use Rattle.lp_cert.specs.inside.Invariant.{certs_at}
 use Rattle.lp_cert.specs.inside.Kept.{up_to}
-use Rattle.std.proofs.lemmas.Bool.{false≢true}
 use Rattle.lp_cert.specs.Invariant.{open_end}
-use Rattle.lp_cert.specs.declared.leg_end.LegEnd.{LegEnd}
+use Rattle.lp_definitions.specs.Ends.{LegEnd}
 
 -- certificates up to another event are those of the same waiters
 pub up_to_kept : (upto before : ℕ) (claim : Claim) (leg : ℕ) (lists : List (List Reason)) (scans : List ℕ) (waiters : List Waiter)

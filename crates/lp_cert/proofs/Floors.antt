@@ -5,19 +5,21 @@ use Rattle.std.specs.Option.{option_map}
 use Rattle.std.proofs.lemmas.Bool.{cond-true, cond-false, cases_Bool, cases_eq, cases_lt, eqb-false}
 use Rattle.std.proofs.lemmas.List.{take_at}
 use Rattle.lp_model.specs.Rules.{Rules, IsLawful}
-use Rattle.lp_transition.specs.Leg.{Leg, after}
-use Rattle.lp_transition.specs.Run.{Run, AreInRange, first_leg, leg_of, is_complete_now}
-use Rattle.lp_transition.specs.Schedule.{level, waits, complete, first_check}
-use Rattle.lp_transition.specs.Sound.{IsSound}
-use Rattle.lp_transition.proofs.Plain.{numbered}
-use Rattle.lp_transition.proofs.Quantifiers.{each_live-not}
-use Rattle.lp_transition.proofs.Waiting.{waits-is, waits-from}
-use Rattle.lp_transition.proofs.WholeRun.{run_sound, start_sound}
-use Rattle.lp_cert.specs.declared.cert.Claim.TheVariants.{Floor}
-use Rattle.lp_cert.specs.Certificates.{cert, completion, opened_legs}
-use Rattle.lp_cert.specs.Ends.{Made, IsMadeOf, IsLeastWaiting, end_of, ended_legs, leg_under_way, under_way, floor_in}
-use Rattle.lp_cert.proofs.Completions.{incomplete_if}
-use Rattle.lp_cert.proofs.GroupsInRange.{GroupsAreInRange, group_in_range, run_in_range, start_in_range}
+use Rattle.lp_definitions.specs.Leg.{Leg, after}
+use Rattle.lp_definitions.specs.Run.{Run, AreInRange, first_leg, leg_of, is_complete_now}
+use Rattle.lp_definitions.specs.Schedule.{level, waits, complete, first_check}
+use Rattle.lp_definitions.specs.Sound.{IsSound}
+use Rattle.lp_laws.proofs.Plain.{numbered}
+use Rattle.lp_laws.proofs.Quantifiers.{each_live-not}
+use Rattle.lp_laws.proofs.Waiting.{waits-is, waits-from}
+use Rattle.lp_laws.proofs.WholeRun.{run_sound, start_sound}
+use Rattle.lp_definitions.specs.declared.cert.Claim.TheVariants.{Floor}
+use Rattle.lp_definitions.specs.Certificates.{cert, completion, opened_legs}
+use Rattle.lp_cert.specs.Ends.{Made, IsMadeOf, IsLeastWaiting, ended_legs, leg_under_way, under_way, floor_in}
+use Rattle.lp_definitions.specs.Ends.{end_of}
+use Rattle.lp_laws.proofs.Completions.{incomplete_if}
+use Rattle.lp_laws.proofs.Waiters.{waiting_in_range, someone_waits}
+use Rattle.lp_laws.proofs.GroupsInRange.{GroupsAreInRange, group_in_range, run_in_range, start_in_range}
 use Rattle.lp_cert.proofs.Tellings.{legs-split, floor_told, complete_told}
 
 -- ---- The least number of a range that passes
@@ -56,27 +58,13 @@ module _ (model : Rules) (lawful : IsLawful model) (leg : Leg) where
   abbrev first : ℕ → ℕ → Bool
   first = waits model leg (first_check model leg)
 
-  -- a group that waits has a number in range
-  pub waiting_in_range : GroupsAreInRange leg.opening → (k group : ℕ) → IsTrue (first k group) → group ≤ leg.bounds.tasks
-  waiting_in_range in_range k group w =
-      let v = waits-is model leg (first_check model leg) k group w in
-      subst (λ g. g ≤ leg.bounds.tasks) v.member (group_in_range model lawful leg in_range k v.task v.life v.live)
-
-  -- where not all is complete a group waits
-  pub someone_waits : IsSound leg.opening → (k : ℕ) → complete model leg (first_check model leg) k ≡ false → (group : ℕ) × IsTrue (first k group)
-  unfolding complete
-  someone_waits sound k e =
-      let r = each_live-not leg.bounds (after model leg k) (λ t x. nat_eq (level leg (first_check model leg) k x) leg.target) e in
-      let number = numbered model.child_group leg sound k r.0 r.1 r.2 in
-      (r.1.group, waits-from model leg (first_check model leg) k r.1.group (record { task = r.0; life = r.1; positive = number.0; within = number.1; live = r.2; member = refl; off = eqb-false _ _ r.3 }))
-
   -- the floor of a leg that isn't complete
   floor_of : IsSound leg.opening → GroupsAreInRange leg.opening → completion model leg ≡ None → (group : ℕ) × IsLeastWaiting model leg group × (floor_in (Some (end_of model leg)) ≡ Some (cert model leg Floor (length leg.events) group))
   unfolding is_complete_now
   floor_of sound in_range still =
       let last = length leg.events in
-      let waiter = someone_waits sound last (incomplete_if model lawful leg sound still) in
-      let within = waiting_in_range in_range last waiter.0 waiter.1 in
+      let waiter = someone_waits model lawful leg sound last (incomplete_if model lawful leg sound still) in
+      let within = waiting_in_range model lawful leg in_range last waiter.0 waiter.1 in
       let found = first_kept (cert model leg Floor last) (first last) 0 (suc leg.bounds.tasks) waiter.0 (omega arith) (omega (arith, within)) waiter.1 in (
         found.0,
         record {

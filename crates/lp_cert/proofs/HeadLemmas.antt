@@ -9,8 +9,8 @@ use Rattle.lp_stack.specs.declared.number.GroupId.{GroupId}
 use Rattle.lp_stack.specs.declared.number.TaskId.{TaskId}
 use Rattle.lp_model.specs.declared.check.Blame.{Blame}
 use Rattle.lp_model.specs.declared.check.Blame.TheVariants as blame
-use Rattle.lp_cert.specs.declared.line.Line.{Line}
-use Rattle.lp_cert.specs.declared.line.Line.TheVariants as line
+use Rattle.lp_definitions.specs.declared.line.Line.{Line}
+use Rattle.lp_definitions.specs.declared.line.Line.TheVariants as line
 use Rattle.lp_cert.specs.declared.reason.Reason.{Reason}
 use Rattle.lp_cert.specs.declared.reason.Reason.TheVariants as reason
 use Rattle.lp_cert.specs.declared.ongoing.Ongoing.{Ongoing}
@@ -18,7 +18,7 @@ use Rattle.lp_cert.specs.declared.ongoing.Ongoing.TheVariants.{Nothing, Hold, Bu
 use Rattle.lp_cert.specs.declared.head.Head.{Head}
 use Rattle.lp_cert.specs.declared.head.Refused.{Refused}
 use Rattle.lp_cert.specs.declared.head.OwnFork.{OwnFork}
-use Rattle.lp_cert.specs.Certificates.{refusal_line, after_refusal}
+use Rattle.lp_definitions.specs.Certificates.{refusal_line, after_refusal}
 use Rattle.lp_cert.specs.Heads.{busy_lines, reason_lines, lines_of, ongoing_reasons}
 use Rattle.lp_cert.specs.inside.ToldGroups.{is_held}
 use Rattle.lp_cert.specs.inside.Heads.{FitsIn, ContinuesIn, IsUnchecked, IsHead, Keeps, IsUsed, HasFrameAs, is_busy, continues_after, reason_begun_by, IsRefusedBy, IsBornBy}

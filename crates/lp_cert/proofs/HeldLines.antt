@@ -3,13 +3,13 @@ use Rattle.std.proofs.Common.{◌≡◌, ℕ, ◌<◌, Bool, true, false, not, �
 use Rattle.std.proofs.lemmas.Bool.{cond-true, cond-false, eq-eqb}
 use Rattle.lp_numbers.specs.Numbers.{has}
 use Rattle.lp_model.specs.Rules.{Rules, IsLawful}
-use Rattle.lp_transition.specs.Tasks.{Live}
-use Rattle.lp_transition.specs.Leg.{Standing, State, Leg}
-use Rattle.lp_transition.specs.Sound.{IsSound}
-use Rattle.lp_transition.specs.Machine.{waits_in, state_of}
-use Rattle.lp_transition.proofs.Quantifiers.{some_live-from}
-use Rattle.lp_transition.proofs.States.{state_sound}
-use Rattle.lp_cert.specs.Certificates.{lines}
+use Rattle.lp_definitions.specs.Tasks.{Live}
+use Rattle.lp_definitions.specs.Leg.{Standing, State, Leg}
+use Rattle.lp_definitions.specs.Sound.{IsSound}
+use Rattle.lp_machine.specs.Machine.{waits_in, state_of}
+use Rattle.lp_laws.proofs.Quantifiers.{some_live-from}
+use Rattle.lp_machine.proofs.States.{state_sound}
+use Rattle.lp_definitions.specs.Certificates.{lines}
 use Rattle.lp_cert.specs.Waiters.{WaitingGroups}
 use Rattle.lp_cert.specs.inside.Waiters.{lines_at, lines_in}
 

@@ -7,17 +7,17 @@ use Rattle.lp_model.specs.declared.check.CheckKind.{CheckKind}
 use Rattle.lp_model.specs.declared.check.Blame.{Blame}
 use Rattle.lp_model.specs.declared.check.Blame.TheVariants as blame
 use Rattle.lp_model.specs.Rules.{Rules}
-use Rattle.lp_transition.specs.declared.event.Event.{Event}
-use Rattle.lp_transition.specs.declared.event.Event.TheVariants.{Fork}
-use Rattle.lp_transition.specs.Tasks.{Life, Fate, Unused, Live, Dead, map_live, on_live, first_of}
-use Rattle.lp_transition.specs.Leg.{Standing, State, Leg, after, accepted, check}
-use Rattle.lp_transition.specs.Schedule.{standing, view, first_check}
-use Rattle.lp_transition.specs.Run.{shown}
-use Rattle.lp_transition.specs.Machine.{state_of}
-use Rattle.lp_transition.proofs.Plain.{Came, Stayed, Born, came, changed_group, unused_before}
-use Rattle.lp_cert.specs.declared.line.Line.{Line}
-use Rattle.lp_cert.specs.declared.line.Line.TheVariants as line
-use Rattle.lp_cert.specs.Certificates.{after_check, after_refusal, refusal_line, birth_line, with_birth, has_frame, member_blame, first_blamed, lines}
+use Rattle.lp_definitions.specs.declared.event.Event.{Event}
+use Rattle.lp_definitions.specs.declared.event.Event.TheVariants.{Fork}
+use Rattle.lp_definitions.specs.Tasks.{Life, Fate, Unused, Live, Dead, map_live, on_live, first_of}
+use Rattle.lp_definitions.specs.Leg.{Standing, State, Leg, after, accepted, check}
+use Rattle.lp_definitions.specs.Schedule.{standing, view, first_check}
+use Rattle.lp_definitions.specs.Run.{shown}
+use Rattle.lp_machine.specs.Machine.{state_of}
+use Rattle.lp_laws.proofs.Plain.{Came, Stayed, Born, came, changed_group, unused_before}
+use Rattle.lp_definitions.specs.declared.line.Line.{Line}
+use Rattle.lp_definitions.specs.declared.line.Line.TheVariants as line
+use Rattle.lp_definitions.specs.Certificates.{after_check, after_refusal, refusal_line, birth_line, with_birth, has_frame, member_blame, first_blamed, lines}
 
 -- of numbers of which the first is blamed so, some is
 pub first_at : (at : ℕ → Option Blame) (blamed : ℕ × Blame) (a n : ℕ) → first_of {A = ℕ × Blame} (map (λ u. option_map (λ b. (u, b)) (at u)) (range_with_len a n)) ≡ Some blamed → at blamed.0 ≡ Some blamed.1

@@ -3,7 +3,7 @@ use Rattle.std.proofs.Common.{◌≡◌, ℕ, ◌-◌, Bool, true, false, List, 
 use Rattle.std.specs.List.{range_with_len}
 use Rattle.std.proofs.lemmas.Bool.{cond-true, cond-false}
 use Rattle.lp_numbers.specs.Numbers.{Numbers, has}
-use Rattle.lp_transition.specs.Scan.{passing}
+use Rattle.lp_tasks.specs.Passing.{passing}
 use Rattle.lp_cert.specs.Waiters.{LegReasons, waiter_in}
 use Rattle.lp_cert.specs.inside.Waiters.{AreHeads, StandsAt}
 

@@ -6,7 +6,6 @@ pub mod LineLemmas
 pub mod HeadLemmas
 pub mod UnchangedLines
 pub mod WrittenLemmas
-pub mod Past
 pub mod NextLines
 pub mod OtherEvents
 pub mod VerdictLines
@@ -23,7 +22,6 @@ pub mod HoldNames
 pub mod UnchangedEvents
 pub mod HeldLines
 pub mod UnchangedScans
-pub mod Completions
 pub mod Bare
 pub mod Listed
 pub mod Keeping
@@ -36,5 +34,4 @@ pub mod Upto
 pub mod QuietScans
 pub mod Asked
 pub mod Tellings
-pub mod GroupsInRange
 pub mod Floors

@@ -5,8 +5,8 @@ use Rattle.std.proofs.lemmas.Grind.{flat_map-append}
 use Rattle.std.proofs.lemmas.List.{append-nil, append_assoc, reverse-append, length-drop, length-take-le, length-map}
 use Rattle.lp_stack.specs.declared.number.GroupId.{GroupId}
 use Rattle.lp_stack.specs.declared.number.TaskId.{TaskId}
-use Rattle.lp_cert.specs.declared.line.Line.{Line}
-use Rattle.lp_cert.specs.declared.line.Line.TheVariants as line
+use Rattle.lp_definitions.specs.declared.line.Line.{Line}
+use Rattle.lp_definitions.specs.declared.line.Line.TheVariants as line
 use Rattle.lp_cert.specs.declared.reason.Reason.{Reason}
 use Rattle.lp_cert.specs.declared.reason.Reason.TheVariants as reason
 use Rattle.lp_cert.specs.Heads.{reason_lines, lines_of}

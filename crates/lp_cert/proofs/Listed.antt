@@ -4,10 +4,10 @@ use Rattle.std.specs.Option.{option_map}
 use Rattle.std.proofs.lemmas.List.{append-nil}
 use Rattle.lp_numbers.specs.Ascending.{members_from}
 use Rattle.lp_numbers.specs.Numbers.{Numbers, has}
-use Rattle.lp_transition.proofs.AscendingLemmas.{members-passing}
-use Rattle.lp_transition.specs.Scan.{passing}
-use Rattle.lp_cert.specs.declared.cert.Cert.{Cert}
-use Rattle.lp_cert.specs.declared.cert.CertHead.{CertHead}
+use Rattle.lp_tasks.proofs.AscendingLemmas.{members-passing}
+use Rattle.lp_tasks.specs.Passing.{passing}
+use Rattle.lp_definitions.specs.declared.cert.Cert.{Cert}
+use Rattle.lp_cert.specs.declared.cert_head.CertHead.{CertHead}
 use Rattle.lp_cert.specs.Ends.{cert_head}
 
 -- ---- The members of a set

@@ -6,19 +6,19 @@ use Rattle.std.proofs.lemmas.Bool.{false≢true, cond-true, cond-false, cases_eq
 use Rattle.std.proofs.lemmas.List.{reverse-reverse}
 use Rattle.lp_stack.specs.declared.number.GroupId.{GroupId}
 use Rattle.lp_numbers.specs.Numbers.{Numbers, has, IsNextFrom}
-use Rattle.lp_transition.specs.Scan.{passing}
-use Rattle.lp_transition.proofs.Passing.{passing-none, passing-skip}
-use Rattle.lp_cert.specs.declared.cert.Claim.{Claim}
-use Rattle.lp_cert.specs.declared.cert.Claim.TheVariants.{Floor}
-use Rattle.lp_cert.specs.declared.cert.Cert.{Cert}
+use Rattle.lp_tasks.specs.Passing.{passing}
+use Rattle.lp_tasks.proofs.Passing.{passing-none, passing-skip}
+use Rattle.lp_definitions.specs.declared.cert.Claim.{Claim}
+use Rattle.lp_definitions.specs.declared.cert.Claim.TheVariants.{Floor}
+use Rattle.lp_definitions.specs.declared.cert.Cert.{Cert}
 use Rattle.lp_cert.specs.declared.head.Head.{Head}
 use Rattle.lp_cert.specs.declared.head.Waiter.{Waiter}
 use Rattle.lp_cert.specs.declared.reason.Reason.{Reason}
-use Rattle.lp_cert.specs.declared.line.Line.{Line}
-use Rattle.lp_cert.specs.declared.leg_end.LegEnd.{LegEnd}
+use Rattle.lp_definitions.specs.declared.line.Line.{Line}
+use Rattle.lp_definitions.specs.Ends.{LegEnd}
 use Rattle.lp_cert.specs.declared.open_leg.Completion.{Completion}
 use Rattle.lp_cert.specs.declared.open_leg.OpenLeg.{OpenLeg}
-use Rattle.lp_cert.specs.Certificates.{group_id}
+use Rattle.lp_definitions.specs.Certificates.{group_id}
 use Rattle.lp_cert.specs.Invariant.{claim_of, upto_of, open_end, floor_waiters, end_waiters}
 use Rattle.lp_cert.specs.Waiters.{WaitingGroups, head_of, kept_cert, waiter_in, waiters_of}
 use Rattle.lp_cert.specs.inside.Waiters.{lines_in, lines_at}

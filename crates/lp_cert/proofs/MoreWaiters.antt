@@ -1,38 +1,34 @@
 -- The groups that wait, as births, openings and switches come.
-use Rattle.std.proofs.Common.{◌≡◌, ◌≢◌, ℕ, ◌+◌, ◌<◌, ◌≤◌, Bool, true, false, List, [], ◌∷◌, ◌++◌, length, set, Option, Some, None, if◌then◌else◌, nat_eq, refl, sym, ap, ap₂, subst, ◌∙◌, arith, ◌⊎◌, inl, inr, not, ◌&&◌, ◌||◌, is_some}
+use Rattle.std.proofs.Common.{◌≡◌, ◌≢◌, ℕ, ◌+◌, ◌<◌, ◌≤◌, Bool, true, false, List, [], ◌∷◌, ◌++◌, length, set, Option, Some, None, if◌then◌else◌, nat_eq, refl, sym, ap, ap₂, subst, ◌∙◌, arith, ◌⊎◌, inl, inr, not, ◌&&◌, ◌||◌, is_some, IfSome, IsTrue, map}
 use Rattle.std.specs.List.{AllByRecursion, filter, list_any}
 use Rattle.std.specs.Option.{option_map}
 use Rattle.std.proofs.lemmas.Bool.{false≢true, cases_lt, cond-true, cond-false, eqb-true, eqb-false}
 use Rattle.std.proofs.lemmas.List.{get_or-set_same, get_or-set_other, length-set, get_or_past}
 use Rattle.lp_stack.specs.declared.number.GroupId.{GroupId}
 use Rattle.lp_numbers.specs.Numbers.{Numbers, has, IsEmpty, IsLeastFrom}
-use Rattle.lp_transition.specs.Leg.{Standing}
-use Rattle.lp_transition.specs.Sound.{IsSound}
-use Rattle.lp_transition.specs.Table.{Table, Engine, slot, state_in}
-use Rattle.lp_transition.specs.inside.Table.{is_in, is_off}
-use Rattle.lp_transition.proofs.Quantifiers.{some_live-is, some_live-from}
-use Rattle.lp_transition.proofs.TableLemmas.{slot_from_live, live_from_slot}
-use Rattle.lp_cert.specs.declared.line.Line.{Line}
+use Rattle.lp_definitions.specs.Leg.{Standing, State}
+use Rattle.lp_definitions.specs.Sound.{IsSound}
+use Rattle.lp_machine.specs.Table.{Table, Engine, slot, state_in}
+use Rattle.lp_tasks.specs.inside.Table.{is_in, is_off}
+use Rattle.lp_laws.proofs.Quantifiers.{some_live-is, some_live-from}
+use Rattle.lp_tasks.proofs.TableLemmas.{slot_from_live, live_from_slot}
+use Rattle.lp_definitions.specs.declared.line.Line.{Line}
 use Rattle.lp_cert.specs.declared.reason.Reason.{Reason}
 use Rattle.lp_cert.specs.declared.head.Head.{Head}
 use Rattle.lp_cert.specs.declared.head.OwnFork.{OwnFork}
-use Rattle.lp_cert.specs.Certificates.{group_id, birth_line}
+use Rattle.lp_definitions.specs.Certificates.{group_id, birth_line}
 use Rattle.lp_cert.specs.Heads.{head_lines, lines_of}
-use Rattle.lp_cert.specs.inside.Heads.{IsHead, IsBornBy}
+use Rattle.lp_cert.specs.inside.Heads.{IsHead, IsBornBy, IsUsed}
 use Rattle.lp_cert.specs.Waiters.{WaitingGroups, LegReasons, no_head, head_of}
-use Rattle.lp_cert.specs.inside.Waiters.{is_off_here, has_off, IsTakenIn, AreTakenIn, lines_in, StandsAt, lines_at, after_birth, after_switch}
+use Rattle.lp_cert.specs.inside.Waiters.{is_off_here, has_off, IsTakenIn, AreTakenIn, lines_in, StandsAt, lines_at, after_birth, after_switch, IsUsedVerdict}
 use Rattle.lp_patch.specs.Patches.{Goal}
 use Rattle.lp_model.specs.Rules.{Rules, IsLawful}
 use Rattle.lp_model.specs.declared.check.CheckKind.{CheckKind}
 use Rattle.lp_model.specs.declared.check.Blame.{Blame}
 use Rattle.lp_model.specs.declared.check.Blame.TheVariants as blame
 use Rattle.lp_stack.specs.TaskView.{TaskView}
-use Rattle.lp_transition.specs.Leg.{State}
 use Rattle.lp_transition.specs.Scan.{AreEnough, verdict_of, verdicts_of, views_of}
 use Rattle.lp_model.specs.declared.verdict.Verdict.{Verdict}
-use Rattle.lp_cert.specs.inside.Heads.{IsUsed}
-use Rattle.lp_cert.specs.inside.Waiters.{IsUsedVerdict}
-use Rattle.std.proofs.Common.{IfSome, IsTrue, map}
 use Rattle.lp_cert.proofs.WaiterLemmas.{head_kept, lines_kept}
 
 -- ---- A birth

@@ -11,23 +11,23 @@ use Rattle.lp_model.specs.declared.check.CheckKind.TheVariants as kind
 use Rattle.lp_model.specs.declared.check.ForkKind.{ForkKind}
 use Rattle.lp_model.specs.declared.check.Blame.{Blame}
 use Rattle.lp_model.specs.Rules.{Rules}
-use Rattle.lp_transition.specs.declared.event.Event.{Event}
-use Rattle.lp_transition.specs.declared.event.Event.TheVariants.{Fork, Walk, Stop}
-use Rattle.lp_transition.specs.Tasks.{Life, Fate, Unused, Live, Dead, Tasks, on_live, map_live, outlines, first_of, refusal, effect}
-use Rattle.lp_transition.specs.Leg.{Standing, Leg, after, accept, accepted, check, check_by, has_member, if_used, when, some_live, unless_refused}
-use Rattle.lp_transition.specs.Schedule.{standing, view, first_check}
-use Rattle.lp_transition.specs.Run.{and_then, refused_by, shown}
+use Rattle.lp_definitions.specs.declared.event.Event.{Event}
+use Rattle.lp_definitions.specs.declared.event.Event.TheVariants.{Fork, Walk, Stop}
+use Rattle.lp_definitions.specs.Tasks.{Life, Fate, Unused, Live, Dead, Tasks, on_live, map_live, outlines, first_of, refusal, effect}
+use Rattle.lp_definitions.specs.Leg.{Standing, Leg, after, accept, accepted, check, check_by, has_member, if_used, when, some_live, unless_refused}
+use Rattle.lp_definitions.specs.Schedule.{standing, view, first_check}
+use Rattle.lp_definitions.specs.Run.{and_then, refused_by, shown}
 use Rattle.lp_transition.specs.Scan.{is_scan_kind, scan_event}
-use Rattle.lp_transition.specs.Machine.{outline_of, outlines_of, waits_in, state_of}
-use Rattle.lp_transition.proofs.Quantifiers.{some_live-is, some_live-from}
-use Rattle.lp_transition.proofs.Cut.{outlines_same}
-use Rattle.lp_transition.proofs.Prefix.{after_same}
-use Rattle.lp_transition.proofs.Steps.{accepted_is, after_is, check_is, plain_refusal}
-use Rattle.lp_cert.specs.declared.line.Line.{Line}
-use Rattle.lp_cert.specs.Certificates.{after_check, birth_line, has_frame, first_blamed, member_blame, with_birth, lines}
+use Rattle.lp_machine.specs.Machine.{outline_of, outlines_of, waits_in, state_of}
+use Rattle.lp_laws.proofs.Quantifiers.{some_live-is, some_live-from}
+use Rattle.lp_machine.proofs.Cut.{outlines_same}
+use Rattle.lp_laws.proofs.Prefix.{after_same}
+use Rattle.lp_laws.proofs.OneMore.{accepted_is, after_is, check_is, plain_refusal}
+use Rattle.lp_definitions.specs.declared.line.Line.{Line}
+use Rattle.lp_definitions.specs.Certificates.{after_check, birth_line, has_frame, first_blamed, member_blame, with_birth, lines}
 use Rattle.lp_transition.specs.Blames.{has_frame_in, blame_in, first_blamed_in}
 use Rattle.lp_cert.specs.EventLines.{lines_after_scan, lines_after_fork}
-use Rattle.lp_cert.proofs.Past.{on_live_same, seen_same, lines_past}
+use Rattle.lp_laws.proofs.Past.{on_live_same, seen_same, lines_past}
 
 on_live_map : {A B C : Type 0} (other : C) (f : B → C) (g : A → B) (fate : Fate A) → on_live other f (map_live g fate) ≡ on_live other (λ x. f (g x)) fate
 on_live_map other f g Unused = refl

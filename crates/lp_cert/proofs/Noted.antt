@@ -5,41 +5,40 @@ use Rattle.std.specs.List.{range_with_len}
 use Rattle.std.specs.Option.{option_map}
 use Rattle.std.proofs.lemmas.Bool.{false≢true, cond-true, cond-false, cases_Bool, and_parts}
 use Rattle.lp_model.specs.Rules.{Rules, IsLawful}
-use Rattle.lp_transition.specs.declared.event.Event.{Event}
-use Rattle.lp_transition.specs.declared.reply.Reply.{Reply}
-use Rattle.lp_transition.specs.Events.{is_control}
-use Rattle.lp_transition.specs.Leg.{State, Leg, after}
-use Rattle.lp_transition.specs.Schedule.{standing, waits, first_check}
-use Rattle.lp_transition.specs.Run.{Run, plus, first_leg, leg_of, and_then, is_complete_now, opened, opens, next_leg, reply, new_target, shown, leg_after}
-use Rattle.lp_transition.specs.Run.{refused_by as why_refused}
-use Rattle.lp_transition.specs.Sound.{IsSound}
-use Rattle.lp_transition.specs.Steps.{StandsIn}
-use Rattle.lp_transition.proofs.Runs.{leg_after-plus}
-use Rattle.lp_transition.proofs.States.{state_sound}
-use Rattle.lp_transition.proofs.WholeRun.{run_sound, start_sound}
+use Rattle.lp_definitions.specs.declared.event.Event.{Event}
+use Rattle.lp_definitions.specs.declared.reply.Reply.{Reply}
+use Rattle.lp_definitions.specs.Events.{is_control}
+use Rattle.lp_definitions.specs.Leg.{State, Leg, after}
+use Rattle.lp_definitions.specs.Schedule.{standing, waits, first_check}
+use Rattle.lp_definitions.specs.Run.{Run, plus, first_leg, leg_of, and_then, is_complete_now, opened, opens, next_leg, reply, new_target, shown, leg_after, refused_by as why_refused}
+use Rattle.lp_definitions.specs.Sound.{IsSound}
+use Rattle.lp_machine.specs.Steps.{StandsIn}
+use Rattle.lp_machine.proofs.Runs.{leg_after-plus}
+use Rattle.lp_machine.proofs.States.{state_sound}
+use Rattle.lp_laws.proofs.WholeRun.{run_sound, start_sound}
 use Rattle.std.proofs.lemmas.List.{map-append}
-use Rattle.lp_transition.specs.Machine.{waits_in, next, turned, answer, refusal_of, state_of}
-use Rattle.lp_transition.specs.Table.{Engine, state_in}
+use Rattle.lp_machine.specs.Machine.{waits_in, next, turned, answer, refusal_of, state_of}
+use Rattle.lp_machine.specs.Table.{Engine, state_in}
 use Rattle.lp_transition.specs.Weigh.{Weighed, IsWeighed, refusal_in}
-use Rattle.lp_transition.proofs.EngineLemmas.{next-turned}
-use Rattle.lp_transition.proofs.Quantifiers.{some_live-map}
-use Rattle.lp_transition.proofs.Steps.{refusal_is, does}
+use Rattle.lp_machine.proofs.EngineLemmas.{next-turned}
+use Rattle.lp_laws.proofs.Quantifiers.{some_live-map}
+use Rattle.lp_machine.proofs.Steps.{refusal_is, does}
 use Rattle.lp_transition.proofs.Weighing.{refused-as}
-use Rattle.lp_cert.specs.declared.cert.Claim.TheVariants.{Waiting, Floor}
-use Rattle.lp_cert.specs.declared.cert.Cert.{Cert}
-use Rattle.lp_cert.specs.declared.line.Line.{Line}
-use Rattle.lp_cert.specs.declared.leg_end.LegEnd.{LegEnd}
+use Rattle.lp_definitions.specs.declared.cert.Claim.TheVariants.{Waiting, Floor}
+use Rattle.lp_definitions.specs.declared.cert.Cert.{Cert}
+use Rattle.lp_definitions.specs.declared.line.Line.{Line}
+use Rattle.lp_definitions.specs.Ends.{LegEnd, end_of}
 use Rattle.lp_cert.specs.declared.open_leg.Completion.{Completion}
 use Rattle.lp_cert.specs.declared.open_leg.OpenLeg.{OpenLeg}
 use Rattle.lp_cert.specs.declared.maker.Ready.{Ready}
-use Rattle.lp_cert.specs.Certificates.{lines, waiting_groups, waiting_certs, floor_certs, completion, certs_by}
-use Rattle.lp_cert.specs.Ends.{Made, IsMadeWith, Room, end_of, ended_legs, is_opening, under_way}
+use Rattle.lp_definitions.specs.Certificates.{lines, waiting_groups, waiting_certs, floor_certs, completion, certs_by}
+use Rattle.lp_cert.specs.Ends.{Made, IsMadeWith, Room, ended_legs, is_opening, under_way}
 use Rattle.lp_cert.specs.Invariant.{open_end, floor_waiters, room_of}
 use Rattle.lp_cert.specs.inside.Invariant.{IfReady, IsReady, leg_at, IsStepped}
 use Rattle.lp_cert.specs.Waiters.{WaitingGroups, kept_cert, waiters_of}
 use Rattle.lp_cert.specs.inside.LegRows.{KeptEnds}
 use Rattle.lp_cert.specs.inside.Waiters.{HasFewGroups, has_off, lines_at}
-use Rattle.lp_cert.proofs.Completions.{past_floor, completion_opened, completion_below, certs_kept, completion_stays, completion_now, incomplete_if}
+use Rattle.lp_laws.proofs.Completions.{past_floor, completion_opened, completion_below, certs_kept, completion_stays, completion_now, incomplete_if}
 use Rattle.lp_cert.proofs.Making.{none_is, cert_for, certs_from, certs_tell, floor_from}
 use Rattle.lp_transition.specs.LastScan.{IsLastScanAfter, used_scan}
 use Rattle.lp_cert.specs.Unchanged.{AreUnchangedBy}

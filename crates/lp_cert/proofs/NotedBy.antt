@@ -6,23 +6,23 @@ use Rattle.lp_numbers.specs.Numbers.{has}
 use Rattle.lp_model.specs.Rules.{Rules, IsLawful}
 use Rattle.lp_model.specs.declared.check.CheckKind.{CheckKind}
 use Rattle.lp_model.specs.declared.verdict.Verdict.{Verdict}
-use Rattle.lp_transition.specs.declared.event.Event.{Event}
-use Rattle.lp_transition.specs.Tasks.{Live, on_live}
-use Rattle.lp_transition.specs.Leg.{Standing, State}
-use Rattle.lp_transition.specs.Machine.{waits_in}
-use Rattle.lp_transition.specs.Run.{Run, leg_of, plus}
+use Rattle.lp_definitions.specs.declared.event.Event.{Event}
+use Rattle.lp_definitions.specs.Tasks.{Live, on_live}
+use Rattle.lp_definitions.specs.Leg.{Standing, State}
+use Rattle.lp_machine.specs.Machine.{waits_in}
+use Rattle.lp_definitions.specs.Run.{Run, leg_of, plus}
 use Rattle.lp_transition.specs.Scan.{is_of, verdicts_of}
-use Rattle.lp_transition.specs.Sound.{IsSound}
-use Rattle.lp_transition.specs.Steps.{StandsIn}
-use Rattle.lp_transition.specs.Table.{Engine, IsWide, LastScan, state_in}
+use Rattle.lp_definitions.specs.Sound.{IsSound}
+use Rattle.lp_machine.specs.Steps.{StandsIn}
+use Rattle.lp_machine.specs.Table.{Engine, IsWide, LastScan, state_in}
 use Rattle.lp_transition.specs.Weigh.{AreVerdictsFor, IsWeighed, Weighed}
 use Rattle.lp_transition.proofs.AskedScans.{all-enough}
 use Rattle.lp_transition.proofs.ScanAnswers.{verdicts-scan}
 use Rattle.lp_transition.proofs.ScanLists.{verdict-from}
 use Rattle.lp_transition.proofs.ScanTakes.{group_fits}
-use Rattle.lp_transition.proofs.TableLemmas.{slot_from_live}
+use Rattle.lp_tasks.proofs.TableLemmas.{slot_from_live}
 use Rattle.lp_cert.specs.declared.open_leg.OpenLeg.{OpenLeg}
-use Rattle.lp_cert.specs.Certificates.{lines}
+use Rattle.lp_definitions.specs.Certificates.{lines}
 use Rattle.lp_cert.specs.Ends.{Made, IsMadeWith, is_opening}
 use Rattle.lp_cert.specs.Invariant.{open_end}
 use Rattle.lp_transition.specs.LastScan.{IsLastScanAfter, used_scan}

@@ -11,22 +11,22 @@ use Rattle.lp_model.specs.declared.check.CheckKind.TheVariants as kind
 use Rattle.lp_model.specs.declared.check.Blame.{Blame}
 use Rattle.lp_model.specs.Rules.{Rules, IsLawful, IsCalmAt}
 use Rattle.lp_stack.specs.declared.number.TaskId.{TaskId}
-use Rattle.lp_transition.specs.declared.event.Event.{Event}
-use Rattle.lp_transition.specs.declared.event.Event.TheVariants.{Call, Ret, Sleep, Wake, Enter, Exit, Idle, Fork, Die, Walk, Stop, Enable, Disable, Reverse}
-use Rattle.lp_transition.specs.declared.refusal.Refusal.{Refusal}
-use Rattle.lp_transition.specs.Events.{is_scan}
-use Rattle.lp_transition.specs.Tasks.{Pushed, Life, Fate, Unused, Live, Dead, Tasks, on_live, map_live, same_mode, outline, outlines, first_of, unknown_task, not_of, not_in, stack_not_empty, depth, refusal, change, in_mode, effect}
-use Rattle.lp_transition.specs.Leg.{Leg, after, accept, accepted, check, check_by, is_alone, if_used, when, unless_refused, take_effect}
-use Rattle.lp_transition.specs.Schedule.{frame_of, view, first_check}
-use Rattle.lp_transition.specs.Run.{and_then}
-use Rattle.lp_transition.specs.Sound.{IsSound}
+use Rattle.lp_definitions.specs.declared.event.Event.{Event}
+use Rattle.lp_definitions.specs.declared.event.Event.TheVariants.{Call, Ret, Sleep, Wake, Enter, Exit, Idle, Fork, Die, Walk, Stop, Enable, Disable, Reverse}
+use Rattle.lp_definitions.specs.declared.refusal.Refusal.{Refusal}
+use Rattle.lp_definitions.specs.Events.{is_scan}
+use Rattle.lp_definitions.specs.Tasks.{Pushed, Life, Fate, Unused, Live, Dead, Tasks, on_live, map_live, same_mode, outline, outlines, first_of, unknown_task, not_of, not_in, stack_not_empty, depth, refusal, change, in_mode, effect}
+use Rattle.lp_definitions.specs.Leg.{Leg, after, accept, accepted, check, check_by, is_alone, if_used, when, unless_refused, take_effect}
+use Rattle.lp_definitions.specs.Schedule.{frame_of, view, first_check}
+use Rattle.lp_definitions.specs.Run.{and_then}
+use Rattle.lp_definitions.specs.Sound.{IsSound}
 use Rattle.lp_transition.specs.Weigh.{is_fork}
-use Rattle.lp_transition.proofs.Quantifiers.{each_live-at}
-use Rattle.lp_transition.proofs.Plain.{none_first, unfit, numbered}
-use Rattle.lp_transition.proofs.Steps.{accepted_is, after_is, check_is}
-use Rattle.lp_cert.specs.declared.line.Line.{Line}
-use Rattle.lp_cert.specs.Certificates.{after_check, has_frame, first_blamed, member_blame, with_birth, lines}
-use Rattle.lp_cert.proofs.Past.{lines_past}
+use Rattle.lp_laws.proofs.Quantifiers.{each_live-at}
+use Rattle.lp_laws.proofs.Plain.{none_first, unfit, numbered}
+use Rattle.lp_laws.proofs.OneMore.{accepted_is, after_is, check_is}
+use Rattle.lp_definitions.specs.declared.line.Line.{Line}
+use Rattle.lp_definitions.specs.Certificates.{after_check, has_frame, first_blamed, member_blame, with_birth, lines}
+use Rattle.lp_laws.proofs.Past.{lines_past}
 
 -- ---- What an accepted exit and an accepted idle point tell
 

@@ -6,26 +6,26 @@ use Rattle.std.specs.List.{list_any}
 use Rattle.std.proofs.lemmas.Bool.{cond-false, false≢true}
 use Rattle.lp_stack.specs.declared.view.Mode.TheVariants.{Kernel, Asleep}
 use Rattle.lp_model.specs.Rules.{Rules, IsLawful}
-use Rattle.lp_transition.specs.declared.event.Event.{Event}
-use Rattle.lp_transition.specs.declared.event.Event.TheVariants.{Call, Ret, Sleep, Wake, Enter}
-use Rattle.lp_transition.specs.declared.refusal.Refusal.{Refusal}
-use Rattle.lp_transition.specs.declared.reply.Reply.{Reply}
-use Rattle.lp_transition.specs.Events.{is_control}
-use Rattle.lp_transition.specs.Plain.{is_plain}
-use Rattle.lp_transition.specs.Tasks.{change}
-use Rattle.lp_transition.specs.Leg.{Standing, State, each_live, each_task}
-use Rattle.lp_transition.specs.Run.{Run, leg_of, switched, plus}
-use Rattle.lp_transition.specs.Machine.{complete_in, affected, answer, calling, switches_at, put_in, refusal_of, returning, with_switches, told}
+use Rattle.lp_definitions.specs.declared.event.Event.{Event}
+use Rattle.lp_definitions.specs.declared.event.Event.TheVariants.{Call, Ret, Sleep, Wake, Enter}
+use Rattle.lp_definitions.specs.declared.refusal.Refusal.{Refusal}
+use Rattle.lp_definitions.specs.declared.reply.Reply.{Reply}
+use Rattle.lp_definitions.specs.Events.{is_control}
+use Rattle.lp_definitions.specs.Plain.{is_plain}
+use Rattle.lp_definitions.specs.Tasks.{change}
+use Rattle.lp_definitions.specs.Leg.{Standing, State, each_live, each_task}
+use Rattle.lp_definitions.specs.Run.{Run, leg_of, switched, plus}
+use Rattle.lp_machine.specs.Machine.{complete_in, affected, answer, calling, switches_at, put_in, refusal_of, returning, with_switches, told}
 use Rattle.lp_transition.specs.inside.ScanSteps.{groups_of}
-use Rattle.lp_transition.specs.Steps.{StandsIn}
-use Rattle.lp_transition.specs.Table.{Engine, state_in}
+use Rattle.lp_machine.specs.Steps.{StandsIn}
+use Rattle.lp_machine.specs.Table.{Engine, state_in}
 use Rattle.lp_transition.specs.Weigh.{Weighed, IsWeighed, born_of, refusal_in, AreVerdictsFor}
-use Rattle.lp_transition.proofs.Alone.{same-after}
-use Rattle.lp_transition.proofs.EngineLemmas.{answer-refused, answer-accepted, is_quiet, quiet-control, quiet-stays, switched-still}
+use Rattle.lp_machine.proofs.Alone.{same-after}
+use Rattle.lp_machine.proofs.EngineLemmas.{answer-refused, answer-accepted, is_quiet, quiet-control, quiet-stays, switched-still}
 use Rattle.lp_transition.proofs.SwitchedGroups.{switched-none}
 use Rattle.lp_model.specs.declared.check.CheckKind.{CheckKind}
-use Rattle.lp_cert.specs.declared.line.Line.{Line}
-use Rattle.lp_cert.specs.Certificates.{lines}
+use Rattle.lp_definitions.specs.declared.line.Line.{Line}
+use Rattle.lp_definitions.specs.Certificates.{lines}
 use Rattle.lp_cert.specs.declared.open_leg.OpenLeg.{OpenLeg}
 use Rattle.lp_cert.specs.Ends.{Made, IsMadeWith, is_opening}
 use Rattle.lp_cert.specs.Invariant.{open_end}

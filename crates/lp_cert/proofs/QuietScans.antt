@@ -5,16 +5,16 @@ use Rattle.lp_numbers.specs.Numbers.{has}
 use Rattle.lp_model.specs.Rules.{Rules, IsLawful}
 use Rattle.lp_model.specs.declared.check.CheckKind.{CheckKind}
 use Rattle.lp_model.specs.declared.check.CheckKind.TheVariants as kind
-use Rattle.lp_transition.specs.Leg.{Standing, State}
-use Rattle.lp_transition.specs.Run.{Run, leg_of, plus}
-use Rattle.lp_transition.specs.Sound.{IsSound}
-use Rattle.lp_transition.specs.Tasks.{Live}
-use Rattle.lp_transition.specs.Machine.{waits_in}
+use Rattle.lp_definitions.specs.Leg.{Standing, State}
+use Rattle.lp_definitions.specs.Run.{Run, leg_of, plus}
+use Rattle.lp_definitions.specs.Sound.{IsSound}
+use Rattle.lp_definitions.specs.Tasks.{Live}
+use Rattle.lp_machine.specs.Machine.{waits_in}
 use Rattle.lp_transition.proofs.ScanTakes.{group_fits}
-use Rattle.lp_transition.proofs.TableLemmas.{slot_from_live}
+use Rattle.lp_tasks.proofs.TableLemmas.{slot_from_live}
 use Rattle.lp_transition.specs.Scan.{is_scan_kind, scan_event, MayLeaveOut}
-use Rattle.lp_transition.specs.Steps.{StandsIn}
-use Rattle.lp_transition.specs.Table.{Engine, IsWide, state_in}
+use Rattle.lp_machine.specs.Steps.{StandsIn}
+use Rattle.lp_machine.specs.Table.{Engine, IsWide, state_in}
 use Rattle.lp_transition.specs.Weigh.{IsWeighed}
 use Rattle.lp_transition.proofs.QuietScans.{quiet_step, quiet_weighed}
 use Rattle.lp_cert.specs.declared.open_leg.OpenLeg.{OpenLeg}
@@ -22,7 +22,7 @@ use Rattle.lp_cert.specs.Ends.{Made, IsMadeWith, is_opening}
 use Rattle.lp_cert.specs.Invariant.{open_end}
 use Rattle.lp_transition.specs.LastScan.{IsLastScanAfter, used_scan}
 use Rattle.lp_cert.specs.inside.ToldGroups.{IsHeld}
-use Rattle.lp_cert.specs.Certificates.{lines, group_id}
+use Rattle.lp_definitions.specs.Certificates.{lines, group_id}
 use Rattle.lp_cert.specs.Unchanged.{IsUnchanged, AreUnchangedSince}
 use Rattle.lp_cert.specs.Waiters.{WaitingGroups, head_of}
 use Rattle.lp_cert.specs.inside.Invariant.{IsStepped}

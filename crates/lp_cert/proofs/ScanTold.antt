@@ -8,17 +8,17 @@ use Rattle.lp_model.specs.Rules.{Rules}
 use Rattle.lp_model.specs.declared.check.Blame.{Blame}
 use Rattle.lp_model.specs.declared.check.CheckKind.{CheckKind}
 use Rattle.lp_model.specs.declared.verdict.Verdict.{Verdict}
-use Rattle.lp_transition.specs.Leg.{Standing, State}
-use Rattle.lp_transition.specs.Machine.{waits_in}
+use Rattle.lp_definitions.specs.Leg.{Standing, State}
+use Rattle.lp_machine.specs.Machine.{waits_in}
 use Rattle.lp_transition.specs.Scan.{verdicts_of, is_of, member_verdict, first_refused, AreEnough}
-use Rattle.lp_transition.specs.Sound.{IsSound}
-use Rattle.lp_transition.specs.Tasks.{Live, first_of}
-use Rattle.lp_transition.proofs.Quantifiers.{some_live-is}
-use Rattle.lp_cert.specs.declared.line.Line.{Line}
-use Rattle.lp_cert.specs.Certificates.{group_id, after_refusal}
+use Rattle.lp_definitions.specs.Sound.{IsSound}
+use Rattle.lp_definitions.specs.Tasks.{Live, first_of}
+use Rattle.lp_laws.proofs.Quantifiers.{some_live-is}
+use Rattle.lp_definitions.specs.declared.line.Line.{Line}
+use Rattle.lp_definitions.specs.Certificates.{group_id, after_refusal}
 use Rattle.lp_cert.specs.Unchanged.{IsUnchanged, AreUnchangedBy, AreUnchangedSince}
 use Rattle.lp_transition.specs.Blames.{has_frame_in}
-use Rattle.lp_transition.specs.Table.{LastScan}
+use Rattle.lp_machine.specs.Table.{LastScan}
 use Rattle.lp_cert.specs.inside.ToldGroups.{TellOfChanged}
 use Rattle.lp_cert.specs.Waiters.{WaitingGroups, head_of}
 use Rattle.lp_cert.specs.inside.Waiters.{AreStanding, after_verdict, lines_in}

@@ -3,16 +3,16 @@ use Rattle.std.proofs.Common.{◌≡◌, ◌<◌, ◌+◌, ℕ, true, false, [],
 use Rattle.std.specs.Option.{option_map}
 use Rattle.std.proofs.lemmas.Bool.{false≢true}
 use Rattle.lp_model.specs.Rules.{Rules, IsLawful}
-use Rattle.lp_transition.specs.declared.event.Event.{Event}
-use Rattle.lp_transition.specs.declared.event.Event.TheVariants.{Exit, Idle}
-use Rattle.lp_transition.specs.Events.{is_control}
+use Rattle.lp_definitions.specs.declared.event.Event.{Event}
+use Rattle.lp_definitions.specs.declared.event.Event.TheVariants.{Exit, Idle}
+use Rattle.lp_definitions.specs.Events.{is_control}
 use Rattle.lp_transition.specs.LastScan.{IsLastScanAfter}
-use Rattle.lp_transition.specs.Leg.{State}
-use Rattle.lp_transition.specs.Machine.{answer}
-use Rattle.lp_transition.specs.Plain.{is_point}
-use Rattle.lp_transition.specs.Run.{Run, plus}
-use Rattle.lp_transition.specs.Steps.{StandsIn}
-use Rattle.lp_transition.specs.Table.{Engine, state_in}
+use Rattle.lp_definitions.specs.Leg.{State}
+use Rattle.lp_machine.specs.Machine.{answer}
+use Rattle.lp_definitions.specs.Plain.{is_point}
+use Rattle.lp_definitions.specs.Run.{Run, plus}
+use Rattle.lp_machine.specs.Steps.{StandsIn}
+use Rattle.lp_machine.specs.Table.{Engine, state_in}
 use Rattle.lp_transition.specs.Weigh.{Weighed, IsWeighed, AreVerdictsFor, born_of, refusal_in}
 use Rattle.lp_cert.specs.declared.open_leg.OpenLeg.{OpenLeg}
 use Rattle.lp_cert.specs.Ends.{Made, IsMadeWith, is_opening}

@@ -10,30 +10,31 @@ use Rattle.lp_model.specs.declared.check.CheckKind.TheVariants as kind
 use Rattle.lp_model.specs.declared.check.Blame.{Blame}
 use Rattle.lp_model.specs.declared.check.ForkKind.{ForkKind}
 use Rattle.lp_model.specs.declared.verdict.Verdict.{Verdict}
-use Rattle.lp_transition.specs.declared.event.Event.{Event}
-use Rattle.lp_transition.specs.declared.event.Event.TheVariants.{Call, Ret, Sleep, Wake, Enter, Exit, Idle, Fork, Die, Walk, Stop, Enable, Disable, Reverse}
-use Rattle.lp_transition.specs.declared.refusal.Refusal.{Refusal}
-use Rattle.lp_transition.specs.declared.reply.What.{What}
-use Rattle.lp_transition.specs.declared.reply.Reply.{Reply}
-use Rattle.lp_transition.specs.Events.{is_control, is_scan}
-use Rattle.lp_transition.specs.Tasks.{Fate, Unused, Live, on_live, change}
-use Rattle.lp_transition.specs.Leg.{Standing, State, Leg, some_live}
-use Rattle.lp_transition.specs.Run.{and_then}
-use Rattle.lp_transition.specs.Sound.{IsSound}
+use Rattle.lp_definitions.specs.declared.event.Event.{Event}
+use Rattle.lp_definitions.specs.declared.event.Event.TheVariants.{Call, Ret, Sleep, Wake, Enter, Exit, Idle, Fork, Die, Walk, Stop, Enable, Disable, Reverse}
+use Rattle.lp_definitions.specs.declared.refusal.Refusal.{Refusal}
+use Rattle.lp_definitions.specs.declared.reply.What.{What}
+use Rattle.lp_definitions.specs.declared.reply.Reply.{Reply}
+use Rattle.lp_definitions.specs.Events.{is_control, is_scan}
+use Rattle.lp_definitions.specs.Tasks.{Fate, Unused, Live, on_live, change}
+use Rattle.lp_definitions.specs.Leg.{Standing, State, Leg, some_live}
+use Rattle.lp_definitions.specs.Run.{and_then}
+use Rattle.lp_definitions.specs.Sound.{IsSound}
 use Rattle.lp_transition.specs.Scan.{verdicts_of, first_refused, AreEnough}
 use Rattle.lp_transition.specs.inside.ScanSteps.{switches_by, groups_of}
-use Rattle.lp_transition.specs.Machine.{waits_in, switches_at, affected, next, told, state_of, refusal_of, calling, returning, put_in}
-use Rattle.lp_transition.specs.Table.{Engine, slot, fate_at, state_in}
+use Rattle.lp_machine.specs.Machine.{waits_in, switches_at, affected, next, told, state_of, refusal_of, calling, returning, put_in}
+use Rattle.lp_machine.specs.Table.{Engine, slot, fate_at, state_in}
 use Rattle.lp_transition.specs.Weigh.{Weighed, IsWeighed, AreVerdictsFor, is_fork, refusal_in}
 use Rattle.lp_stack.specs.declared.view.Mode.TheVariants.{User, Kernel, Asleep}
-use Rattle.lp_transition.proofs.Accept.{fork-live, fork-new, fork-positive, fork-within, die-live}
-use Rattle.lp_transition.proofs.EngineLemmas.{and-false, answer-accepted, next-accepted, next-refused}
+use Rattle.lp_machine.proofs.Accept.{fork-live, fork-new, fork-positive, fork-within, die-live}
+use Rattle.lp_machine.proofs.EngineLemmas.{and-false, answer-accepted, next-accepted, next-refused}
 use Rattle.lp_transition.proofs.ScanAnswers.{switches-walk, switches-stop}
-use Rattle.lp_transition.proofs.Steps.{plain_refusal, refusal_is}
-use Rattle.lp_transition.proofs.TableLemmas.{live_from_slot, slot_from_live}
+use Rattle.lp_laws.proofs.OneMore.{plain_refusal}
+use Rattle.lp_machine.proofs.Steps.{refusal_is}
+use Rattle.lp_tasks.proofs.TableLemmas.{live_from_slot, slot_from_live}
 use Rattle.lp_transition.proofs.Weighing.{refused-as}
-use Rattle.lp_cert.specs.declared.line.Line.{Line}
-use Rattle.lp_cert.specs.Certificates.{lines, birth_line, after_refusal}
+use Rattle.lp_definitions.specs.declared.line.Line.{Line}
+use Rattle.lp_definitions.specs.Certificates.{lines, birth_line, after_refusal}
 use Rattle.lp_cert.specs.EventLines.{lines_after_fork}
 use Rattle.lp_cert.specs.inside.StepLines.{stepped_lines, noted_by, noted_lines}
 use Rattle.lp_transition.specs.LastScan.{used_kind, used_scan}

@@ -3,17 +3,17 @@ use Rattle.std.proofs.Common.{◌≡◌, ℕ, suc, ◌+◌, ◌≤◌, List, [],
 use Rattle.std.proofs.lemmas.List.{map-append}
 use Rattle.std.specs.Option.{option_map}
 use Rattle.lp_model.specs.Rules.{Rules}
-use Rattle.lp_transition.specs.declared.event.Event.{Event}
-use Rattle.lp_transition.specs.Leg.{Leg}
-use Rattle.lp_transition.specs.Run.{Run, first_leg, leg_of, opens, next_leg, leg_after}
-use Rattle.lp_transition.specs.Schedule.{waits, first_check}
-use Rattle.lp_transition.specs.Machine.{state_of}
-use Rattle.lp_transition.specs.Table.{LastScan}
-use Rattle.lp_cert.specs.declared.cert.Claim.TheVariants.{Waiting, Floor}
-use Rattle.lp_cert.specs.declared.cert.Cert.{Cert}
-use Rattle.lp_cert.specs.declared.leg_end.LegEnd.{LegEnd}
-use Rattle.lp_cert.specs.Certificates.{cert, completion, certs_by, lines, waiting_groups, floor_certs, legs, opened_legs}
-use Rattle.lp_cert.specs.Ends.{Made, IsFresh, IsMadeOf, IsMadeWith, end_of, ended_legs, under_way, waiting_in, floor_in}
+use Rattle.lp_definitions.specs.declared.event.Event.{Event}
+use Rattle.lp_definitions.specs.Leg.{Leg}
+use Rattle.lp_definitions.specs.Run.{Run, first_leg, leg_of, opens, next_leg, leg_after}
+use Rattle.lp_definitions.specs.Schedule.{waits, first_check}
+use Rattle.lp_machine.specs.Machine.{state_of}
+use Rattle.lp_machine.specs.Table.{LastScan}
+use Rattle.lp_definitions.specs.declared.cert.Claim.TheVariants.{Waiting, Floor}
+use Rattle.lp_definitions.specs.declared.cert.Cert.{Cert}
+use Rattle.lp_definitions.specs.Ends.{LegEnd, end_of}
+use Rattle.lp_definitions.specs.Certificates.{cert, completion, certs_by, lines, waiting_groups, floor_certs, legs, opened_legs}
+use Rattle.lp_cert.specs.Ends.{Made, IsFresh, IsMadeOf, IsMadeWith, ended_legs, under_way, waiting_in, floor_in}
 use Rattle.lp_cert.proofs.Asked.{find_own}
 use Rattle.lp_cert.proofs.UnchangedSteps.{none_unchanged}
 

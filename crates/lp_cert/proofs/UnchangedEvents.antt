@@ -13,26 +13,27 @@ use Rattle.lp_model.specs.declared.check.ForkKind.{ForkKind}
 use Rattle.lp_model.specs.declared.check.Blame.{Blame}
 use Rattle.lp_model.specs.Rules.{Rules, IsLawful}
 use Rattle.lp_patch.specs.Patches.{Goal}
-use Rattle.lp_transition.specs.declared.event.Event.{Event}
-use Rattle.lp_transition.specs.declared.event.Event.TheVariants.{Call, Ret, Sleep, Wake, Enter, Exit, Idle, Fork, Die, Walk, Stop, Enable, Disable, Reverse}
-use Rattle.lp_transition.specs.declared.refusal.Refusal.{Refusal}
-use Rattle.lp_transition.specs.declared.refusal.Refusal.TheVariants.{TaskRange, TaskUsed}
-use Rattle.lp_transition.specs.Events.{is_control}
+use Rattle.lp_definitions.specs.declared.event.Event.{Event}
+use Rattle.lp_definitions.specs.declared.event.Event.TheVariants.{Call, Ret, Sleep, Wake, Enter, Exit, Idle, Fork, Die, Walk, Stop, Enable, Disable, Reverse}
+use Rattle.lp_definitions.specs.declared.refusal.Refusal.{Refusal}
+use Rattle.lp_definitions.specs.declared.refusal.Refusal.TheVariants.{TaskRange, TaskUsed}
+use Rattle.lp_definitions.specs.Events.{is_control}
 use Rattle.lp_transition.specs.LastScan.{AreSameMembers}
-use Rattle.lp_transition.specs.Tasks.{Fate, Unused, Live, Dead, on_live, map_live, is_unused, unknown_task, out_of_range, used, not_of, not_in, first_of}
-use Rattle.lp_transition.specs.Leg.{Standing, State, Leg}
-use Rattle.lp_transition.specs.Run.{and_then, opened, opens, next_leg}
+use Rattle.lp_definitions.specs.Tasks.{Fate, Unused, Live, Dead, on_live, map_live, is_unused, unknown_task, out_of_range, used, not_of, not_in, first_of}
+use Rattle.lp_definitions.specs.Leg.{Standing, State, Leg}
+use Rattle.lp_definitions.specs.Run.{and_then, opened, opens, next_leg}
 use Rattle.lp_transition.specs.Scan.{is_scan_kind, scan_event}
-use Rattle.lp_transition.specs.Sound.{IsSound}
-use Rattle.lp_transition.specs.Machine.{outline_of, outlines_of, view_of, refusal_of, with_switches, next, state_of}
-use Rattle.lp_transition.proofs.EngineLemmas.{next-accepted}
-use Rattle.lp_transition.proofs.Plain.{none_first, unfit}
-use Rattle.lp_transition.proofs.States.{state_sound}
-use Rattle.lp_transition.proofs.Steps.{plain_refusal, refusal_is, does}
+use Rattle.lp_definitions.specs.Sound.{IsSound}
+use Rattle.lp_machine.specs.Machine.{outline_of, outlines_of, view_of, refusal_of, with_switches, next, state_of}
+use Rattle.lp_machine.proofs.EngineLemmas.{next-accepted}
+use Rattle.lp_laws.proofs.Plain.{none_first, unfit}
+use Rattle.lp_machine.proofs.States.{state_sound}
+use Rattle.lp_laws.proofs.OneMore.{plain_refusal}
+use Rattle.lp_machine.proofs.Steps.{refusal_is, does}
 use Rattle.lp_transition.specs.Blames.{has_frame_in, first_blamed_in}
-use Rattle.lp_cert.specs.declared.line.Line.{Line}
-use Rattle.lp_cert.specs.declared.line.Line.TheVariants as line
-use Rattle.lp_cert.specs.Certificates.{lines, birth_line}
+use Rattle.lp_definitions.specs.declared.line.Line.{Line}
+use Rattle.lp_definitions.specs.declared.line.Line.TheVariants as line
+use Rattle.lp_definitions.specs.Certificates.{lines, birth_line}
 use Rattle.lp_cert.specs.Unchanged.{IsUnchanged, AreUnchanged}
 use Rattle.lp_cert.proofs.HoldNames.{NamesMember, lines_name}
 use Rattle.lp_cert.proofs.NextLines.{lines_at_fork, lines_at_unused_scan}

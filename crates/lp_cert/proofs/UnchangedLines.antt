@@ -7,17 +7,17 @@ use Rattle.lp_model.specs.declared.check.CheckKind.{CheckKind}
 use Rattle.lp_model.specs.declared.check.Blame.{Blame}
 use Rattle.lp_model.specs.declared.check.Blame.TheVariants as blame
 use Rattle.lp_model.specs.Rules.{Rules}
-use Rattle.lp_transition.specs.Leg.{State}
+use Rattle.lp_definitions.specs.Leg.{State}
 use Rattle.lp_transition.specs.Blames.{has_frame_in, first_blamed_in}
-use Rattle.lp_cert.specs.declared.line.Line.{Line}
-use Rattle.lp_cert.specs.declared.line.Line.TheVariants as line
+use Rattle.lp_definitions.specs.declared.line.Line.{Line}
+use Rattle.lp_definitions.specs.declared.line.Line.TheVariants as line
 use Rattle.lp_cert.specs.declared.reason.Reason.{Reason}
 use Rattle.lp_cert.specs.declared.reason.Reason.TheVariants as reason
 use Rattle.lp_cert.specs.declared.ongoing.Ongoing.{Ongoing}
 use Rattle.lp_cert.specs.declared.ongoing.Ongoing.TheVariants.{Nothing, Hold, Busy}
 use Rattle.lp_cert.specs.declared.head.Head.{Head}
 use Rattle.lp_cert.specs.declared.head.Refused.{Refused}
-use Rattle.lp_cert.specs.Certificates.{after_refusal, task_id}
+use Rattle.lp_definitions.specs.Certificates.{after_refusal, task_id}
 use Rattle.lp_cert.specs.Heads.{lines_of, ongoing_reasons, head_lines}
 use Rattle.lp_cert.specs.Unchanged.{IsUnchanged}
 use Rattle.lp_cert.specs.inside.ToldGroups.{is_held}

@@ -10,23 +10,23 @@ use Rattle.lp_model.specs.declared.check.Blame.{Blame}
 use Rattle.lp_model.specs.declared.check.Blame.TheVariants as blame
 use Rattle.lp_model.specs.Rules.{Rules, IsLawful}
 use Rattle.lp_transition.specs.LastScan.{AreSameMembers}
-use Rattle.lp_transition.specs.Tasks.{Fate, Unused, Live, Dead, on_live, map_live}
-use Rattle.lp_transition.specs.Leg.{Standing, State, Leg}
-use Rattle.lp_transition.specs.Run.{and_then, opens}
+use Rattle.lp_definitions.specs.Tasks.{Fate, Unused, Live, Dead, on_live, map_live}
+use Rattle.lp_definitions.specs.Leg.{Standing, State, Leg}
+use Rattle.lp_definitions.specs.Run.{and_then, opens}
 use Rattle.lp_transition.specs.Scan.{is_scan_kind, scan_event, verdicts_of}
 use Rattle.lp_transition.specs.inside.ScanSteps.{switches_by}
-use Rattle.lp_transition.specs.Sound.{IsSound}
-use Rattle.lp_transition.specs.Table.{Engine, state_in}
-use Rattle.lp_transition.specs.Machine.{view_of, waits_in, refusal_of, affected, switches_at, switched_task, with_switches, state_of}
-use Rattle.lp_transition.proofs.Quantifiers.{some_live-from}
+use Rattle.lp_definitions.specs.Sound.{IsSound}
+use Rattle.lp_machine.specs.Table.{Engine, state_in}
+use Rattle.lp_machine.specs.Machine.{view_of, waits_in, refusal_of, affected, switches_at, switched_task, with_switches, state_of}
+use Rattle.lp_laws.proofs.Quantifiers.{some_live-from}
 use Rattle.lp_transition.proofs.ScanAnswers.{switches-walk, switches-stop}
-use Rattle.lp_transition.proofs.States.{state_sound}
-use Rattle.lp_transition.proofs.TableLemmas.{slot_from_live}
+use Rattle.lp_machine.proofs.States.{state_sound}
+use Rattle.lp_tasks.proofs.TableLemmas.{slot_from_live}
 use Rattle.lp_transition.proofs.Unchanged.{live_from}
 use Rattle.lp_transition.specs.Blames.{has_frame_in, blame_in, first_blamed_in}
-use Rattle.lp_cert.specs.declared.line.Line.{Line}
-use Rattle.lp_cert.specs.declared.line.Line.TheVariants as line
-use Rattle.lp_cert.specs.Certificates.{lines, after_check, after_refusal, refusal_line}
+use Rattle.lp_definitions.specs.declared.line.Line.{Line}
+use Rattle.lp_definitions.specs.declared.line.Line.TheVariants as line
+use Rattle.lp_definitions.specs.Certificates.{lines, after_check, after_refusal, refusal_line}
 use Rattle.lp_cert.specs.Unchanged.{IsUnchanged, AreUnchanged}
 use Rattle.lp_cert.proofs.Behind.{none_refused}
 use Rattle.lp_cert.proofs.HoldNames.{NamesMember, first_at, lines_name}

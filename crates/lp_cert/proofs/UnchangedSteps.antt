@@ -8,19 +8,19 @@ use Rattle.lp_model.specs.Rules.{Rules, IsLawful}
 use Rattle.lp_model.specs.declared.check.CheckKind.{CheckKind}
 use Rattle.lp_model.specs.declared.check.CheckKind.TheVariants as kind
 use Rattle.lp_model.specs.declared.verdict.Verdict.{Verdict}
-use Rattle.lp_transition.specs.declared.event.Event.{Event}
-use Rattle.lp_transition.specs.declared.event.Event.TheVariants.{Walk, Stop}
+use Rattle.lp_definitions.specs.declared.event.Event.{Event}
+use Rattle.lp_definitions.specs.declared.event.Event.TheVariants.{Walk, Stop}
 use Rattle.lp_transition.specs.LastScan.{IsLastScanAfter, AreSameMembers, used_kind, used_scan}
-use Rattle.lp_transition.specs.Tasks.{on_live}
-use Rattle.lp_transition.specs.Leg.{Standing, State, Leg}
-use Rattle.lp_transition.specs.Run.{and_then, opens}
-use Rattle.lp_transition.specs.Sound.{IsSound}
-use Rattle.lp_transition.specs.Machine.{state_of}
+use Rattle.lp_definitions.specs.Tasks.{on_live}
+use Rattle.lp_definitions.specs.Leg.{Standing, State, Leg}
+use Rattle.lp_definitions.specs.Run.{and_then, opens}
+use Rattle.lp_definitions.specs.Sound.{IsSound}
+use Rattle.lp_machine.specs.Machine.{state_of}
 use Rattle.lp_transition.specs.Scan.{is_scan_kind, scan_event, is_of}
-use Rattle.lp_transition.specs.Table.{Engine, LastScan, fate_at, slot, state_in}
-use Rattle.lp_transition.specs.inside.Table.{is_in}
-use Rattle.lp_cert.specs.declared.line.Line.{Line}
-use Rattle.lp_cert.specs.Certificates.{lines}
+use Rattle.lp_machine.specs.Table.{Engine, LastScan, fate_at, slot, state_in}
+use Rattle.lp_tasks.specs.inside.Table.{is_in}
+use Rattle.lp_definitions.specs.declared.line.Line.{Line}
+use Rattle.lp_definitions.specs.Certificates.{lines}
 use Rattle.lp_cert.specs.Unchanged.{AreUnchanged, AreUnchangedBy, AreUnchangedSince}
 use Rattle.lp_cert.specs.inside.ToldGroups.{is_of_group}
 use Rattle.lp_cert.proofs.UnchangedEvents.{IsNoUsedScan, unchanged_by}

@@ -2,17 +2,17 @@
 use Rattle.std.proofs.Common.{◌≡◌, ◌+◌, ℕ, List, [], ◌∷◌, length, map, Option, Some, None, refl, sym, ap, subst, ◌∙◌}
 use Rattle.std.specs.Option.{option_map}
 use Rattle.lp_model.specs.Rules.{Rules}
-use Rattle.lp_transition.specs.Leg.{Leg, State}
-use Rattle.lp_transition.specs.Run.{Run, first_leg, leg_of}
-use Rattle.lp_transition.specs.Steps.{StandsIn}
-use Rattle.lp_transition.specs.Table.{Engine, LastScan, state_in}
-use Rattle.lp_cert.specs.declared.cert.Cert.{Cert}
-use Rattle.lp_cert.specs.declared.cert.Claim.TheVariants.{Waiting}
-use Rattle.lp_cert.specs.declared.leg_end.LegEnd.{LegEnd}
+use Rattle.lp_definitions.specs.Leg.{Leg, State}
+use Rattle.lp_definitions.specs.Run.{Run, first_leg, leg_of}
+use Rattle.lp_machine.specs.Steps.{StandsIn}
+use Rattle.lp_machine.specs.Table.{Engine, LastScan, state_in}
+use Rattle.lp_definitions.specs.declared.cert.Cert.{Cert}
+use Rattle.lp_definitions.specs.declared.cert.Claim.TheVariants.{Waiting}
+use Rattle.lp_definitions.specs.Ends.{LegEnd, end_of}
 use Rattle.lp_cert.specs.declared.open_leg.Completion.{Completion}
 use Rattle.lp_cert.specs.declared.open_leg.OpenLeg.{OpenLeg}
-use Rattle.lp_cert.specs.Certificates.{certs_by, completion, lines, waiting_groups}
-use Rattle.lp_cert.specs.Ends.{Made, IsMadeOf, IsMadeWith, end_of, end_upto, ended_legs, made_upto, under_way}
+use Rattle.lp_definitions.specs.Certificates.{certs_by, completion, lines, waiting_groups}
+use Rattle.lp_cert.specs.Ends.{Made, IsMadeOf, IsMadeWith, end_upto, ended_legs, made_upto, under_way}
 use Rattle.lp_cert.specs.Invariant.{claim_of, end_waiters, open_end, upto_of}
 use Rattle.lp_cert.specs.Waiters.{WaitingGroups, kept_cert}
 use Rattle.lp_cert.proofs.Making.{cert_for, map_twice}

@@ -8,12 +8,12 @@ use Rattle.lp_model.specs.declared.check.Blame.{Blame}
 use Rattle.lp_model.specs.declared.verdict.Verdict.{Verdict}
 use Rattle.lp_model.specs.Rules.{Rules}
 use Rattle.lp_stack.specs.TaskView.{TaskView}
-use Rattle.lp_transition.specs.Tasks.{Fate, Unused, Live, Dead, on_live, first_of}
-use Rattle.lp_transition.specs.Leg.{Standing, State}
+use Rattle.lp_definitions.specs.Tasks.{Fate, Unused, Live, Dead, on_live, first_of}
+use Rattle.lp_definitions.specs.Leg.{Standing, State}
 use Rattle.lp_transition.specs.Scan.{waiting_view, verdict_of, verdicts_of, views_of, member_verdict, first_refused}
-use Rattle.lp_transition.specs.Machine.{view_of, waits_in}
-use Rattle.lp_transition.specs.Sound.{IsSound}
-use Rattle.lp_transition.proofs.Quantifiers.{some_live-is}
+use Rattle.lp_machine.specs.Machine.{view_of, waits_in}
+use Rattle.lp_definitions.specs.Sound.{IsSound}
+use Rattle.lp_laws.proofs.Quantifiers.{some_live-is}
 use Rattle.lp_transition.specs.Blames.{blame_in, first_blamed_in}
 
 module _ (model : Rules) (s : State) (sound : IsSound s) (on : CheckKind) (group : ℕ) (behind : IsTrue (waits_in s group)) where

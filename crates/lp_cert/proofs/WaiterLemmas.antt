@@ -8,14 +8,14 @@ use Rattle.lp_stack.specs.declared.number.GroupId.{GroupId}
 use Rattle.lp_numbers.specs.Numbers.{Numbers, has, IsEmpty}
 use Rattle.lp_model.specs.declared.check.Blame.{Blame}
 use Rattle.lp_model.specs.declared.verdict.Verdict.{Verdict}
-use Rattle.lp_transition.specs.Tasks.{on_live, first_of}
-use Rattle.lp_transition.specs.Leg.{Standing, State}
-use Rattle.lp_transition.specs.Table.{Table, slot, fate_at, standings}
-use Rattle.lp_cert.specs.declared.line.Line.{Line}
+use Rattle.lp_definitions.specs.Tasks.{on_live, first_of}
+use Rattle.lp_definitions.specs.Leg.{Standing, State}
+use Rattle.lp_machine.specs.Table.{Table, slot, fate_at, standings}
+use Rattle.lp_definitions.specs.declared.line.Line.{Line}
 use Rattle.lp_cert.specs.declared.reason.Reason.{Reason}
 use Rattle.lp_cert.specs.declared.head.Head.{Head}
 use Rattle.lp_cert.specs.declared.ongoing.Ongoing.TheVariants.{Nothing}
-use Rattle.lp_cert.specs.Certificates.{group_id, after_refusal}
+use Rattle.lp_definitions.specs.Certificates.{group_id, after_refusal}
 use Rattle.lp_cert.specs.Heads.{ongoing_reasons, head_lines, lines_of}
 use Rattle.lp_cert.specs.inside.Heads.{FitsIn, IsUnchecked, IsHead, Keeps, HasFrameAs, IsRefusedBy}
 use Rattle.lp_transition.specs.Blames.{has_frame_in}

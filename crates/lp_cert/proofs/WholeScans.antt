@@ -11,13 +11,13 @@ use Rattle.lp_numbers.specs.Numbers.{Numbers, has}
 use Rattle.lp_model.specs.Rules.{Rules}
 use Rattle.lp_model.specs.declared.check.CheckKind.{CheckKind}
 use Rattle.lp_model.specs.declared.verdict.Verdict.{Verdict}
-use Rattle.lp_transition.specs.Leg.{Standing, State}
+use Rattle.lp_definitions.specs.Leg.{Standing, State}
 use Rattle.lp_transition.specs.Scan.{verdict_of, verdicts_of, views_of, waiting_view}
-use Rattle.lp_transition.specs.Table.{Engine, slot, fate_at, state_in}
+use Rattle.lp_machine.specs.Table.{Engine, slot, fate_at, state_in}
 use Rattle.lp_cert.specs.Waiters.{LegReasons}
 use Rattle.lp_cert.specs.inside.Waiters.{AreJudged, StandsAt, is_left}
 use Rattle.lp_cert.specs.inside.WholeScans.{IsLookedAt, count_below, found_of, found_up_to}
-use Rattle.lp_cert.proofs.Completions.{range_more}
+use Rattle.lp_laws.proofs.Completions.{range_more}
 use Rattle.lp_cert.proofs.WaiterLemmas.{one_judged, still_standing}
 
 -- ---- Members of a set that all pass a test

@@ -3,23 +3,23 @@ use Rattle.std.specs.Prelude.{◌≡◌, ℕ, pred, ◌+◌, ◌≤◌, Bool, �
 use Rattle.std.specs.List.{find}
 use Rattle.std.specs.Option.{option_map}
 use Rattle.lp_model.specs.Rules.{Rules}
-use Rattle.lp_transition.specs.declared.event.Event.{Event}
-use Rattle.lp_transition.specs.Events.{is_control}
+use Rattle.lp_definitions.specs.declared.event.Event.{Event}
+use Rattle.lp_definitions.specs.Events.{is_control}
 use Rattle.lp_transition.specs.Weigh.{Weighed, refusal_in}
-use Rattle.lp_transition.specs.Leg.{Leg}
-use Rattle.lp_transition.specs.Run.{Run, plus, first_leg, leg_of, opens, next_leg}
-use Rattle.lp_transition.specs.Schedule.{waits, first_check}
-use Rattle.lp_transition.specs.Machine.{state_of}
-use Rattle.lp_transition.specs.Steps.{StandsIn}
-use Rattle.lp_transition.specs.Table.{Engine, LastScan, state_in}
+use Rattle.lp_definitions.specs.Leg.{Leg}
+use Rattle.lp_definitions.specs.Run.{Run, plus, first_leg, leg_of, opens, next_leg}
+use Rattle.lp_definitions.specs.Schedule.{waits, first_check}
+use Rattle.lp_machine.specs.Machine.{state_of}
+use Rattle.lp_machine.specs.Steps.{StandsIn}
+use Rattle.lp_machine.specs.Table.{Engine, LastScan, state_in}
 use Rattle.lp_transition.specs.LastScan.{IsLastScanAfter}
-use Rattle.lp_cert.specs.declared.cert.Claim.TheVariants.{Floor}
-use Rattle.lp_cert.specs.declared.cert.Cert.{Cert}
-use Rattle.lp_cert.specs.declared.cert.CertHead.{CertHead}
-use Rattle.lp_cert.specs.declared.leg_end.LegEnd.{LegEnd}
+use Rattle.lp_definitions.specs.declared.cert.Claim.TheVariants.{Floor}
+use Rattle.lp_definitions.specs.declared.cert.Cert.{Cert}
+use Rattle.lp_cert.specs.declared.cert_head.CertHead.{CertHead}
+use Rattle.lp_definitions.specs.Ends.{LegEnd, end_of}
 use Rattle.lp_cert.specs.declared.leg_end.LegEndRef.{LegEndRef}
 use Rattle.lp_cert.specs.declared.leg_list.LegEnds.{LegEnds}
-use Rattle.lp_cert.specs.Certificates.{completion, certs_of, lines, opened_legs}
+use Rattle.lp_definitions.specs.Certificates.{completion, certs_of, lines, opened_legs}
 use Rattle.lp_cert.specs.Unchanged.{AreUnchangedBy}
 
 -- the event opens a leg: it is a control event, and was accepted
@@ -88,16 +88,6 @@ is_complete_in (Some leg) = is_some leg.completed
 -- ---- The legs of a run
 
 module _ (model : Rules) where
-  -- how a leg ended
-  abbrev pub end_of : Leg → LegEnd
-  end_of leg =
-      record {
-        opened = leg.number;
-        target = record { 0 = leg.target };
-        completed = option_map (λ k. leg.number + k) (completion model leg);
-        certs = certs_of model leg;
-      }
-
   -- the legs that ended by these events, what stands before the first control event in front
   unfoldable pub ended_legs : Leg → List Event → List Leg
   ended_legs leg [] = []
@@ -110,8 +100,8 @@ module _ (model : Rules) where
 
   -- what is made is that of the run
   pub record IsMadeOf (run : Run) (made : Made) : Type 0 where
-    pub ended : made.ended ≡ map end_of (drop 1 (ended_legs (first_leg model run) run.events))
-    pub current : made.current ≡ option_map end_of (under_way (ended_legs (first_leg model run) run.events) (leg_of model run))
+    pub ended : made.ended ≡ map (end_of model) (drop 1 (ended_legs (first_leg model run) run.events))
+    pub current : made.current ≡ option_map (end_of model) (under_way (ended_legs (first_leg model run) run.events) (leg_of model run))
 
   -- and the groups are unchanged to which, as the engine knows it, nothing happened since the last scan
   pub record IsMadeWith (run : Run) (last_scan : LastScan) (made : Made) : Type 0 where

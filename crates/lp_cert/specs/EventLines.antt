@@ -4,11 +4,11 @@ use Rattle.lp_stack.specs.declared.number.TaskId.{TaskId}
 use Rattle.lp_model.specs.declared.check.CheckKind.{CheckKind}
 use Rattle.lp_model.specs.declared.check.ForkKind.{ForkKind}
 use Rattle.lp_model.specs.Rules.{Rules}
-use Rattle.lp_transition.specs.Tasks.{on_live}
-use Rattle.lp_transition.specs.Leg.{State}
+use Rattle.lp_definitions.specs.Tasks.{on_live}
+use Rattle.lp_definitions.specs.Leg.{State}
 use Rattle.lp_transition.specs.Blames.{has_frame_in, first_blamed_in}
-use Rattle.lp_cert.specs.declared.line.Line.{Line}
-use Rattle.lp_cert.specs.Certificates.{after_check, birth_line}
+use Rattle.lp_definitions.specs.declared.line.Line.{Line}
+use Rattle.lp_definitions.specs.Certificates.{after_check, birth_line}
 
 -- the lines of a group after a scan of a kind that the model uses, which is the next event
 abbrev pub lines_after_scan : Rules → State → CheckKind → (group : ℕ) → List Line → List Line

@@ -5,20 +5,21 @@ use Rattle.lp_stack.specs.declared.number.TaskId.{TaskId}
 use Rattle.lp_model.specs.declared.check.CheckKind.{CheckKind}
 use Rattle.lp_model.specs.declared.check.ForkKind.{ForkKind}
 use Rattle.lp_model.specs.Rules.{Rules}
-use Rattle.lp_transition.specs.declared.event.Event.{Event}
-use Rattle.lp_transition.specs.declared.event.Event.TheVariants.{Fork}
-use Rattle.lp_transition.specs.declared.refusal.Refusal.{Refusal}
-use Rattle.lp_transition.specs.Events.{is_scan}
+use Rattle.lp_definitions.specs.declared.event.Event.{Event}
+use Rattle.lp_definitions.specs.declared.event.Event.TheVariants.{Fork}
+use Rattle.lp_definitions.specs.declared.refusal.Refusal.{Refusal}
+use Rattle.lp_definitions.specs.Events.{is_scan}
 use Rattle.lp_transition.specs.Weigh.{is_fork}
-use Rattle.lp_transition.specs.Sound.{IsSound}
-use Rattle.lp_transition.specs.Leg.{State, Leg}
-use Rattle.lp_transition.specs.Run.{Run, AreInRange, and_then, first_leg, leg_of, refused_by}
-use Rattle.lp_transition.specs.Schedule.{waits, first_check}
+use Rattle.lp_definitions.specs.Sound.{IsSound}
+use Rattle.lp_definitions.specs.Leg.{State, Leg}
+use Rattle.lp_definitions.specs.Run.{Run, AreInRange, and_then, first_leg, leg_of, refused_by}
+use Rattle.lp_definitions.specs.Schedule.{waits, first_check}
 use Rattle.lp_transition.specs.Scan.{is_scan_kind, scan_event, verdicts_of, first_refused}
-use Rattle.lp_transition.specs.Machine.{waits_in, state_of}
-use Rattle.lp_cert.specs.declared.cert.Claim.TheVariants.{Waiting, Floor}
-use Rattle.lp_cert.specs.Certificates.{lines, cert, completion, floor_certs, opened_legs}
-use Rattle.lp_cert.specs.Ends.{Made, IsFresh, IsMadeOf, IsLeastWaiting, end_of, leg_under_way, waiting_in, floor_in}
+use Rattle.lp_machine.specs.Machine.{waits_in, state_of}
+use Rattle.lp_definitions.specs.declared.cert.Claim.TheVariants.{Waiting, Floor}
+use Rattle.lp_definitions.specs.Certificates.{lines, cert, completion, floor_certs, opened_legs}
+use Rattle.lp_cert.specs.Ends.{Made, IsFresh, IsMadeOf, IsLeastWaiting, leg_under_way, waiting_in, floor_in}
+use Rattle.lp_definitions.specs.Ends.{end_of}
 use Rattle.lp_transition.specs.Blames.{first_blamed_in}
 use Rattle.lp_cert.specs.EventLines.{lines_after_scan, lines_after_fork}
 

@@ -1,5 +1,3 @@
-pub mod Certificates
-pub mod Text
 pub mod Parts
 pub mod Heads
 pub mod EventLines

@@ -4,12 +4,12 @@ use Rattle.lp_numbers.specs.Numbers.{has}
 use Rattle.lp_model.specs.declared.check.CheckKind.{CheckKind}
 use Rattle.lp_model.specs.declared.check.Blame.TheVariants as blame
 use Rattle.lp_model.specs.Rules.{Rules}
-use Rattle.lp_transition.specs.Tasks.{Live}
-use Rattle.lp_transition.specs.Leg.{Standing, State}
-use Rattle.lp_transition.specs.Table.{LastScan}
+use Rattle.lp_definitions.specs.Tasks.{Live}
+use Rattle.lp_definitions.specs.Leg.{Standing, State}
+use Rattle.lp_machine.specs.Table.{LastScan}
 use Rattle.lp_transition.specs.Blames.{has_frame_in, first_blamed_in}
-use Rattle.lp_cert.specs.declared.line.Line.{Line}
-use Rattle.lp_cert.specs.declared.line.Line.TheVariants.{Hold, Busy}
+use Rattle.lp_definitions.specs.declared.line.Line.{Line}
+use Rattle.lp_definitions.specs.declared.line.Line.TheVariants.{Hold, Busy}
 
 -- the newest line of the group goes on if a scan of this kind refuses the group: a hold whose frame is still on its task's
 -- stack, or that a member is busy, where it is the first that such a scan refuses

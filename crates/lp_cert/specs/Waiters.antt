@@ -1,14 +1,14 @@
 -- The groups that wait in a leg as they are kept, each with its reasons.
 use Rattle.std.specs.Prelude.{ℕ, List, map, reverse, slice_index_or}
 use Rattle.lp_numbers.specs.Numbers.{Numbers, has}
-use Rattle.lp_transition.specs.Scan.{passing}
-use Rattle.lp_cert.specs.declared.cert.Claim.{Claim}
-use Rattle.lp_cert.specs.declared.cert.Cert.{Cert}
+use Rattle.lp_tasks.specs.Passing.{passing}
+use Rattle.lp_definitions.specs.declared.cert.Claim.{Claim}
+use Rattle.lp_definitions.specs.declared.cert.Cert.{Cert}
 use Rattle.lp_cert.specs.declared.reason.Reason.{Reason}
 use Rattle.lp_cert.specs.declared.head.Head.{Head}
 use Rattle.lp_cert.specs.declared.head.Waiter.{Waiter}
 use Rattle.lp_cert.specs.declared.ongoing.Ongoing.TheVariants.{Nothing}
-use Rattle.lp_cert.specs.Certificates.{group_id}
+use Rattle.lp_definitions.specs.Certificates.{group_id}
 use Rattle.lp_cert.specs.Heads.{head_lines}
 
 -- ---- Each group's reasons

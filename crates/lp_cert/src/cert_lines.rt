@@ -6,9 +6,9 @@ ghost use Rattle.lp_cert.specs.inside.Heads.{FitsIn};
 ghost use Rattle.lp_cert.specs.inside.Parts.{reasons_left};
 ghost use Rattle.lp_cert.specs.Parts.{busy_scan_lines};
 
-use crate::line::{Line, LineList};
 use crate::oldest_first::OldestFirst;
 use crate::reason::Reason;
+use lp_definitions::{Line, LineList};
 use lp_stack::{GroupId, TaskId};
 use std::alloc::{AllocError, Global};
 use std::marker::Model;
@@ -51,7 +51,7 @@ pub struct CertLines<'a> {
 impl<'a> Model for CertLines<'a> {
     ghost use Rattle.std.specs.Prelude.{◌++◌, List, length, reverse};
     ghost use Rattle.std.specs.List.{AllByRecursion};
-    ghost use Rattle.lp_cert.specs.declared.line.Line.{Line};
+    ghost use Rattle.lp_definitions.specs.declared.line.Line.{Line};
     ghost use Rattle.lp_cert.specs.Heads.{lines_of};
     ghost use Rattle.lp_cert.specs.inside.Heads.{FitsIn};
     ghost use Rattle.lp_cert.specs.inside.Parts.{reasons_left};

@@ -7,11 +7,12 @@ ghost use Rattle.lp_cert.specs.inside.Bare.{bare_cert, bare_certs};
 ghost use Rattle.lp_cert.specs.inside.Kept.{up_to};
 ghost use Rattle.lp_cert.specs.inside.Waiters.{AreHeads};
 
-use crate::cert::{Cert, CertHead, Claim};
+use crate::cert_head::CertHead;
 use crate::cert_lines::CertLines;
 use crate::chains::Chains;
 use crate::head::Waiter;
 use crate::many_certs::ManyCerts;
+use lp_definitions::{Cert, Claim};
 use lp_stack::GroupId;
 use std::alloc::{AllocError, Global};
 use std::marker::Model;
@@ -24,7 +25,7 @@ pub struct CertList {
     kept: Kept,
 }
 
-/// In one step for who owns one: docs/GATE.md says why.
+/// By hand, so that the proof of who owns one lets go of it in one step, not field by field.
 impl Drop for CertList {
     fn drop(self) {
         let CertList { kept: _ } = self;
@@ -54,7 +55,7 @@ pub(crate) enum Kept {
 
 impl Model for CertList {
     ghost use Rattle.std.specs.Prelude.{List};
-    ghost use Rattle.lp_cert.specs.declared.cert.Cert.{Cert};
+    ghost use Rattle.lp_definitions.specs.declared.cert.Cert.{Cert};
     ghost use Rattle.lp_cert.specs.inside.Kept.{certs_in};
 
     ghost Value = { List Cert };
@@ -152,7 +153,7 @@ pub(crate) enum KeptRef<'a> {
 
 impl<'a> Model for CertListRef<'a> {
     ghost use Rattle.std.specs.Prelude.{List};
-    ghost use Rattle.lp_cert.specs.declared.cert.Cert.{Cert};
+    ghost use Rattle.lp_definitions.specs.declared.cert.Cert.{Cert};
     ghost use Rattle.lp_cert.specs.inside.Kept.{certs_borrowed};
 
     ghost Value = { List Cert };

@@ -2,8 +2,8 @@
 ghost use Rattle.std.specs.Prelude.{◌≡◌, ◌<◌, ℕ, true, false, length, map, slice_set, IfOk};
 ghost use Rattle.lp_numbers.specs.Numbers.{has, IsEmpty, IsNextFrom};
 ghost use Rattle.lp_numbers.specs.Ascending.{members_from};
-ghost use Rattle.lp_transition.specs.Scan.{passing};
-ghost use Rattle.lp_cert.specs.Certificates.{group_id};
+ghost use Rattle.lp_tasks.specs.Passing.{passing};
+ghost use Rattle.lp_definitions.specs.Certificates.{group_id};
 
 use lp_numbers::{Ascending, NumberSet};
 use lp_stack::GroupId;

@@ -5,10 +5,10 @@ ghost use Rattle.lp_cert.specs.inside.Heads.{continues_after, reason_begun_by, I
 
 use crate::cert_lines::CertLines;
 use crate::chains::{ChainId, Chains};
-use crate::line::Line;
 use crate::oldest_first::OldestFirst;
 use crate::ongoing::Ongoing;
 use crate::reason::Reason;
+use lp_definitions::Line;
 use lp_model::Blame;
 use lp_stack::{GroupId, TaskId};
 

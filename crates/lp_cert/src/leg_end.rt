@@ -4,9 +4,12 @@ ghost use Rattle.lp_cert.specs.Ends.{end_in};
 
 use crate::cert_list::{CertList, CertListRef};
 use lp_stack::Level;
+use std::marker::Model;
 
 /// How a leg ended: a transition, from the control event that opened it up to the next, or to the
 /// last event so far.
+///
+/// Contracts see the record that the definitions have of it.
 #[derive(Drop)]
 pub struct LegEnd {
     /// The number of the event that opened it.
@@ -19,6 +22,14 @@ pub struct LegEnd {
     /// Of a leg that isn't complete one for each group that waits, of one that completed after its
     /// opening one that it wasn't complete just before.
     pub certs: CertList,
+}
+
+impl Model for LegEnd {
+    ghost use Rattle.lp_definitions.specs.Ends.{LegEnd as EndOfLeg};
+
+    ghost Value = { EndOfLeg };
+
+    ghost view = { λ e. record { opened = e.opened; target = e.target; completed = e.completed; certs = e.certs } };
 }
 
 /// The end of a leg, borrowed from a list of ends or from an owned one.

@@ -14,7 +14,7 @@ pub struct LegList {
 
 impl Model for LegList {
     ghost use Rattle.std.specs.Prelude.{List};
-    ghost use Rattle.lp_cert.specs.declared.leg_end.LegEnd.{LegEnd};
+    ghost use Rattle.lp_definitions.specs.Ends.{LegEnd};
 
     ghost Value = { List LegEnd };
 

@@ -3,9 +3,9 @@ ghost use Rattle.std.specs.Prelude.{◌≡◌, ◌+◌, ◌<◌, ◌≤◌, ◌+
 ghost use Rattle.lp_cert.specs.Ends.{end_in};
 ghost use Rattle.lp_cert.specs.inside.LegRows.{HasRoomFor, IsRowOf, bare_end, claim_in, completed_in, is_other};
 
-use crate::cert::Claim;
 use crate::cert_list::{BareHead, CertList, CertListRef};
 use crate::leg_end::{LegEnd, LegEndRef};
+use lp_definitions::Claim;
 use lp_stack::{GroupId, Level};
 use std::alloc::{AllocError, Global};
 use std::marker::Model;

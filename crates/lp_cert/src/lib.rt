@@ -1,7 +1,7 @@
 //! Certificates: why a group still waits.
 #![tactic(auto)]
 
-mod cert;
+mod cert_head;
 mod cert_lines;
 mod cert_list;
 mod chains;
@@ -11,7 +11,6 @@ pub mod laws;
 mod leg_end;
 mod leg_list;
 mod leg_rows;
-mod line;
 mod maker;
 mod many_certs;
 mod oldest_first;
@@ -23,12 +22,12 @@ mod told;
 mod waiter_steps;
 mod waiters;
 
-pub use cert::{Cert, CertHead, Claim};
+pub use cert_head::CertHead;
 pub use cert_lines::CertLines;
 pub use cert_list::{CertList, CertListRef};
 pub use leg_end::{LegEnd, LegEndRef};
 pub use leg_list::{LegEnds, LegList};
-pub use line::{Line, LineList};
+pub use lp_definitions::{Cert, Claim, Line, LineList};
 pub use lp_model::Consistency;
 pub use lp_stack::{GroupId, Level, TaskId};
 pub use lp_transition::{Core, Event, Halt, Step};

@@ -1,10 +1,10 @@
 //! The maker of certificates.
 ghost use Rattle.std.specs.Prelude.{◌≡◌, ◌+◌, ◌<◌, [], ◌∷◌, ◌++◌, true, Some, None, IsTrue, ◌≤◌, length, option_to_list, is_some, IfOk, IfSome, OnOk};
-ghost use Rattle.lp_transition.specs.Events.{is_control, is_scan};
-ghost use Rattle.lp_transition.specs.Plain.{is_plain};
-ghost use Rattle.lp_transition.specs.Run.{new_target};
-ghost use Rattle.lp_transition.specs.declared.event.Event.{Event};
-ghost use Rattle.lp_transition.specs.Table.{state_in};
+ghost use Rattle.lp_definitions.specs.Events.{is_control, is_scan};
+ghost use Rattle.lp_definitions.specs.Plain.{is_plain};
+ghost use Rattle.lp_definitions.specs.Run.{new_target};
+ghost use Rattle.lp_definitions.specs.declared.event.Event.{Event};
+ghost use Rattle.lp_machine.specs.Table.{state_in};
 ghost use Rattle.lp_transition.specs.Weigh.{IsWeighed};
 ghost use Rattle.lp_cert.specs.Ends.{IsFresh, IsMadeFurther, ends_left, floor_in, is_complete_in, is_opening, room_for, waiting_in};
 ghost use Rattle.lp_cert.specs.Invariant.{open_end};
@@ -18,7 +18,6 @@ mod passed;
 mod point;
 mod quiet;
 
-use crate::cert::{Cert, Claim};
 use crate::cert_list::CertList;
 use crate::leg_end::LegEnd;
 use crate::leg_list::{LegEnds, LegList};
@@ -26,6 +25,7 @@ use crate::leg_rows::LegRows;
 use crate::open_leg::{Completion, OpenLeg};
 use crate::waiter_steps::untold;
 use crate::waiters::Waiters;
+use lp_definitions::{Cert, Claim};
 use lp_model::Consistency;
 use lp_numbers::NumberSet;
 use lp_stack::GroupId;
@@ -63,7 +63,7 @@ pub struct Maker {
     closing: Option<CertList>,
 }
 
-/// In one step for who owns one: docs/GATE.md says why.
+/// By hand, so that the proof of who owns one lets go of it in one step, not field by field.
 impl Drop for Maker {
     fn drop(self) {
         let Maker {

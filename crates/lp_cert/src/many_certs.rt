@@ -6,10 +6,11 @@ ghost use Rattle.lp_cert.specs.Waiters.{kept_cert};
 ghost use Rattle.lp_cert.specs.inside.Kept.{up_to};
 ghost use Rattle.lp_cert.specs.inside.Waiters.{AreHeads};
 
-use crate::cert::{CertHead, Claim};
+use crate::cert_head::CertHead;
 use crate::cert_lines::CertLines;
 use crate::chains::Chains;
 use crate::head::Waiter;
+use lp_definitions::Claim;
 use std::marker::Model;
 
 /// Certificates of one leg, over the older reasons and the scans that they share.
@@ -24,7 +25,7 @@ pub(crate) struct ManyCerts {
     scans: Vec<u32>,
 }
 
-/// In one step for who owns one: docs/GATE.md says why.
+/// By hand, so that the proof of who owns one lets go of it in one step, not field by field.
 impl Drop for ManyCerts {
     fn drop(self) {
         let ManyCerts {
@@ -40,7 +41,7 @@ impl Drop for ManyCerts {
 
 impl Model for ManyCerts {
     ghost use Rattle.std.specs.Prelude.{List, length, map};
-    ghost use Rattle.lp_cert.specs.declared.cert.Cert.{Cert};
+    ghost use Rattle.lp_definitions.specs.declared.cert.Cert.{Cert};
     ghost use Rattle.lp_cert.specs.Waiters.{kept_cert};
     ghost use Rattle.lp_cert.specs.inside.Waiters.{AreHeads};
 

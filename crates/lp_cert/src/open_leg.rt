@@ -6,11 +6,11 @@ ghost use Rattle.lp_cert.specs.Waiters.{waiter_in};
 ghost use Rattle.lp_cert.specs.inside.Invariant.{HasFloor, certs_at};
 ghost use Rattle.lp_cert.specs.inside.Waiters.{AreHeads};
 
-use crate::cert::Claim;
 use crate::cert_list::CertList;
 use crate::head::Waiter;
 use crate::leg_end::LegEnd;
 use crate::waiters::Waiters;
+use lp_definitions::Claim;
 use lp_stack::{GroupId, Level};
 use std::alloc::{AllocError, Global};
 

@@ -1,6 +1,6 @@
 //! The reasons why a group still waits, as they are kept.
 
-use crate::line::Line;
+use lp_definitions::Line;
 use lp_stack::{GroupId, TaskId};
 
 /// What keeps a group back: one line, or one line for each of several scans.

@@ -1,7 +1,7 @@
 //! The reasons of each group in a leg.
 ghost use Rattle.std.specs.Prelude.{◌≡◌, ◌≢◌, ◌+◌, ◌<◌, ◌≤◌, ◌↔◌, ℕ, List, [], ◌∷◌, ◌++◌, length, reverse, slice_index_or, IfOk, IsTrue, OnOk};
 ghost use Rattle.lp_cert.specs.inside.Heads.{IsUsed, IsRefusedBy, IsBornBy};
-ghost use Rattle.lp_cert.specs.Certificates.{group_id};
+ghost use Rattle.lp_definitions.specs.Certificates.{group_id};
 ghost use Rattle.lp_cert.specs.Heads.{head_lines};
 ghost use Rattle.lp_cert.specs.Waiters.{no_head, head_of, waiter_in};
 ghost use Rattle.lp_cert.specs.inside.Waiters.{lines_in, StandsAt};
@@ -31,7 +31,7 @@ pub(crate) struct Reasons {
     scans: Vec<u32>,
 }
 
-/// In one step for who owns one: docs/GATE.md says why.
+/// By hand, so that the proof of who owns one lets go of it in one step, not field by field.
 impl Drop for Reasons {
     fn drop(self) {
         let Reasons {

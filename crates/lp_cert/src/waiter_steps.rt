@@ -1,11 +1,11 @@
 //! The groups that wait, as events come.
 ghost use Rattle.std.specs.Prelude.{◌≡◌, ◌+◌, ◌<◌, ◌≤◌, ℕ, suc, [], true, None, Some, length, IfSome, IsTrue, IsSome, IsNone};
 ghost use Rattle.std.specs.List.{AllByRecursion, list_any};
-ghost use Rattle.lp_transition.specs.Events.{group_numbers};
+ghost use Rattle.lp_definitions.specs.Events.{group_numbers};
 ghost use Rattle.lp_transition.specs.inside.ScanSteps.{groups_of};
 ghost use Rattle.lp_numbers.specs.Numbers.{has};
 ghost use Rattle.lp_transition.specs.Scan.{verdicts_of};
-ghost use Rattle.lp_transition.specs.Table.{state_in};
+ghost use Rattle.lp_machine.specs.Table.{state_in};
 ghost use Rattle.lp_transition.specs.Weigh.{IsWeighed, refusal_in};
 ghost use Rattle.lp_transition.specs.LastScan.{used_kind, used_scan};
 ghost use Rattle.lp_cert.specs.inside.ToldGroups.{AreToldOf, is_of_group};

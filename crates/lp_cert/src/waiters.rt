@@ -4,12 +4,13 @@ ghost use Rattle.std.specs.List.{AllByRecursion, list_any};
 ghost use Rattle.std.specs.Option.{option_map};
 ghost use Rattle.lp_cert.specs.inside.WholeScans.{count_below};
 ghost use Rattle.lp_numbers.specs.Numbers.{has, IsEmpty, IsNextFrom};
-ghost use Rattle.lp_transition.specs.Events.{is_scan};
-ghost use Rattle.lp_transition.specs.Leg.{State};
-ghost use Rattle.lp_transition.specs.Sound.{IsSound};
-ghost use Rattle.lp_transition.specs.Scan.{passing, first_refused};
-ghost use Rattle.lp_transition.specs.Table.{state_in};
-ghost use Rattle.lp_cert.specs.Certificates.{group_id};
+ghost use Rattle.lp_definitions.specs.Events.{is_scan};
+ghost use Rattle.lp_definitions.specs.Leg.{State};
+ghost use Rattle.lp_definitions.specs.Sound.{IsSound};
+ghost use Rattle.lp_tasks.specs.Passing.{passing};
+ghost use Rattle.lp_transition.specs.Scan.{first_refused};
+ghost use Rattle.lp_machine.specs.Table.{state_in};
+ghost use Rattle.lp_definitions.specs.Certificates.{group_id};
 ghost use Rattle.lp_cert.specs.Heads.{head_lines};
 ghost use Rattle.lp_cert.specs.Invariant.{floor_waiters};
 ghost use Rattle.lp_cert.specs.Waiters.{head_of, waiter_in, waiters_of};
@@ -41,7 +42,7 @@ pub(crate) struct Waiters {
     reasons: Reasons,
 }
 
-/// In one step for who owns one: docs/GATE.md says why.
+/// By hand, so that the proof of who owns one lets go of it in one step, not field by field.
 impl Drop for Waiters {
     fn drop(self) {
         let Waiters {
@@ -132,7 +133,7 @@ impl Waiters {
     }
 
     /// The only group that waits, if there is just one.
-    #[tactic(auto, using(lp_transition::proofs::AscendingLemmas::in_order))]
+    #[tactic(auto, using(lp_tasks::proofs::AscendingLemmas::in_order))]
     pub(crate) fn lone(&self) -> Option<GroupId>
         ensures lone { IfSome result (λ group. waiters_of self.now ≡ waiter_in self.now.reasons group.0 ∷ []) }
         ensures stands { AreHeads self.now.reasons.lists (length self.now.reasons.scans) (floor_waiters self.now.reasons result) }
@@ -157,6 +158,7 @@ impl Waiters {
     pub(crate) fn are_bare(&self) -> bool
         ensures { IsTrue result → AreBare self.now }
     {
+        // For the proof alone, which knows what every value keeps once a field is read.
         let _ = &self.groups;
         self.reasons.is_empty()
     }
@@ -255,6 +257,7 @@ impl Waiters {
         ensures lines { (s : State) (group : ℕ) → lines_at self.new group ≡ scanned_lines s at [] self.old group }
         ensures stood { AreStanding self.old }
     {
+        // For the proof alone, which knows what every value keeps once a field is read.
         let _ = &self.groups;
         self.reasons.scanned(at);
     }

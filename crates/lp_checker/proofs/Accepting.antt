@@ -5,13 +5,13 @@ use Rattle.lp_stack.specs.declared.number.TaskId.{TaskId}
 use Rattle.lp_patch.specs.Patches.{Patches}
 use Rattle.lp_model.specs.declared.check.ForkKind.{ForkKind}
 use Rattle.lp_model.specs.Rules.{Rules}
-use Rattle.lp_transition.specs.declared.event.Event.{Event}
-use Rattle.lp_transition.specs.declared.event.Event.TheVariants.{Call, Fork, Die}
-use Rattle.lp_transition.specs.Tasks.{first_of, tests}
-use Rattle.lp_transition.specs.Leg.{Standing}
-use Rattle.lp_transition.specs.Machine.{outlines_of, refusal_of}
-use Rattle.lp_transition.specs.Table.{Engine, Table, slot, standings, state_in, bounds_of, no_scan}
-use Rattle.lp_transition.proofs.Accept.{IsLive, call-room, fork-live, fork-new, fork-positive, die-live}
+use Rattle.lp_definitions.specs.declared.event.Event.{Event}
+use Rattle.lp_definitions.specs.declared.event.Event.TheVariants.{Call, Fork, Die}
+use Rattle.lp_definitions.specs.Tasks.{first_of, tests}
+use Rattle.lp_definitions.specs.Leg.{Standing}
+use Rattle.lp_machine.specs.Machine.{outlines_of, refusal_of}
+use Rattle.lp_machine.specs.Table.{Engine, Table, slot, standings, state_in, bounds_of, no_scan}
+use Rattle.lp_machine.proofs.Accept.{IsLive, call-room, fork-live, fork-new, fork-positive, die-live}
 
 -- what an event finds is the same under every model: one that admits everybody stands for them
 abbrev any_model : Rules

@@ -3,14 +3,14 @@ use Rattle.std.proofs.Common.{◌≡◌, ◌≢◌, ℕ, ◌<◌, Bool, true, fa
 use Rattle.std.proofs.lemmas.Bool.{and_parts, and_from, eqb-true, eq-eqb, ne_eqb, false_from_ne_true}
 use Rattle.lp_numbers.specs.Numbers.{has}
 use Rattle.lp_model.specs.Rules.{Rules}
-use Rattle.lp_transition.specs.declared.event.Event.{Event}
-use Rattle.lp_transition.specs.Chain.{nobody}
-use Rattle.lp_transition.specs.Leg.{Leg, Standing, begin, tasks_after}
-use Rattle.lp_transition.specs.Openings.{IsOpening}
-use Rattle.lp_transition.specs.Schedule.{level, level_by, waits}
-use Rattle.lp_transition.specs.Table.{Engine, slot, fate_at, standings}
-use Rattle.lp_transition.specs.Tasks.{Life, Live, map_live}
-use Rattle.lp_transition.proofs.Waiting.{Waiter, waits-is, waits-from}
+use Rattle.lp_definitions.specs.declared.event.Event.{Event}
+use Rattle.lp_definitions.specs.Chain.{nobody}
+use Rattle.lp_definitions.specs.Leg.{Leg, Standing, begin, tasks_after}
+use Rattle.lp_tasks.specs.Openings.{IsOpening}
+use Rattle.lp_definitions.specs.Schedule.{level, level_by, waits}
+use Rattle.lp_machine.specs.Table.{Engine, slot, fate_at, standings}
+use Rattle.lp_definitions.specs.Tasks.{Life, Live, map_live}
+use Rattle.lp_laws.proofs.Waiting.{Waiter, waits-is, waits-from}
 use Rattle.lp_checker.specs.Folds.{leg_with}
 use Rattle.lp_checker.specs.inside.Sections.{is_waiting_member}
 

@@ -5,16 +5,16 @@ use Rattle.std.proofs.lemmas.Bool.{and_parts, ltb-true, leb-true}
 use Rattle.lp_stack.specs.declared.number.GroupId.{GroupId}
 use Rattle.lp_stack.specs.declared.number.TaskId.{TaskId}
 use Rattle.lp_model.specs.Rules.{Rules}
-use Rattle.lp_transition.specs.declared.event.Event.{Event}
-use Rattle.lp_transition.specs.declared.event.Event.TheVariants.{Fork}
-use Rattle.lp_transition.specs.Tasks.{Life, Fate, Unused, Live, Dead, fits, first_of}
-use Rattle.lp_transition.specs.Leg.{Leg, accepted, after}
-use Rattle.lp_cert.specs.declared.line.Line.{Line}
-use Rattle.lp_cert.specs.declared.line.Line.TheVariants.{Born}
-use Rattle.lp_checker.specs.declared.fault.CertFault.{CertFault}
-use Rattle.lp_checker.specs.declared.fault.CertFault.TheVariants.{BadBirth}
+use Rattle.lp_definitions.specs.declared.event.Event.{Event}
+use Rattle.lp_definitions.specs.declared.event.Event.TheVariants.{Fork}
+use Rattle.lp_definitions.specs.Tasks.{Life, Fate, Unused, Live, Dead, fits, first_of}
+use Rattle.lp_definitions.specs.Leg.{Leg, accepted, after}
+use Rattle.lp_definitions.specs.declared.line.Line.{Line}
+use Rattle.lp_definitions.specs.declared.line.Line.TheVariants.{Born}
+use Rattle.lp_definitions.specs.declared.cert_fault.CertFault.{CertFault}
+use Rattle.lp_definitions.specs.declared.cert_fault.CertFault.TheVariants.{BadBirth}
 use Rattle.lp_checker.specs.inside.Births.{group_in, group_or_0, is_own_fork, group_now}
-use Rattle.lp_checker.specs.Verdict.{Birth, births, first_lines, moment_of, forks_group, is_birth, birth_tests, first_group}
+use Rattle.lp_definitions.specs.Verdict.{Birth, births, first_lines, moment_of, forks_group, is_birth, birth_tests, first_group}
 
 -- a group as code has it, or 0
 pub own_as : (own : Option GroupId) (fate : Fate Life) → option_map (λ g. g.0) own ≡ group_in fate → group_now own 0 ≡ group_or_0 fate

@@ -4,18 +4,18 @@ use Rattle.std.specs.List.{list_any}
 use Rattle.lp_model.specs.declared.check.CheckKind.{CheckKind}
 use Rattle.lp_model.specs.declared.check.Blame.{Blame}
 use Rattle.lp_model.specs.Rules.{Rules, IsLawful}
-use Rattle.lp_transition.specs.declared.event.Event.{Event}
-use Rattle.lp_transition.specs.Tasks.{Life, Fate, Unused, Live, Dead, Tasks, on_live, map_live, outlines, first_of, tests, refusal}
-use Rattle.lp_transition.specs.Leg.{Standing, Leg, unless_refused, accept, accepted, after, check_by, if_used, check}
-use Rattle.lp_transition.specs.Schedule.{standing, view}
-use Rattle.lp_transition.specs.Sound.{IsSound}
-use Rattle.lp_transition.specs.Chain.{nobody}
-use Rattle.lp_transition.specs.Machine.{Standings, outlines_of, view_of}
-use Rattle.lp_transition.specs.inside.Unswitched.{accept_standing, take_own_effect, unswitched}
-use Rattle.lp_transition.proofs.Cut.{outlines_same}
-use Rattle.lp_transition.proofs.Unswitched.{unswitched_is}
+use Rattle.lp_definitions.specs.declared.event.Event.{Event}
+use Rattle.lp_definitions.specs.Tasks.{Life, Fate, Unused, Live, Dead, Tasks, on_live, map_live, outlines, first_of, tests, refusal}
+use Rattle.lp_definitions.specs.Leg.{Standing, Leg, unless_refused, accept, accepted, after, check_by, if_used, check}
+use Rattle.lp_definitions.specs.Schedule.{standing, view}
+use Rattle.lp_definitions.specs.Sound.{IsSound}
+use Rattle.lp_definitions.specs.Chain.{nobody}
+use Rattle.lp_machine.specs.Machine.{Standings, outlines_of, view_of}
+use Rattle.lp_machine.specs.inside.Unswitched.{accept_standing, take_own_effect, unswitched}
+use Rattle.lp_machine.proofs.Cut.{outlines_same}
+use Rattle.lp_machine.proofs.Unswitched.{unswitched_is}
 use Rattle.lp_checker.specs.inside.Births.{group_in}
-use Rattle.lp_checker.specs.Verdict.{blame_by, is_on_stack}
+use Rattle.lp_definitions.specs.Verdict.{blame_by, is_on_stack}
 
 module _ (model : Rules) (leg : Leg) (lawful : IsLawful model) (sound : IsSound leg.opening) where
   abbrev pub now : ℕ → Standings

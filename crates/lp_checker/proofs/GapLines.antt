@@ -5,13 +5,13 @@ use Rattle.std.specs.List.{list_any}
 use Rattle.std.specs.Option.{option_map}
 use Rattle.lp_model.specs.declared.check.CheckKind.{CheckKind}
 use Rattle.lp_model.specs.Rules.{Rules}
-use Rattle.lp_transition.specs.Leg.{Leg, check}
-use Rattle.lp_cert.specs.declared.line.Line.{Line}
-use Rattle.lp_checker.specs.declared.fault.CertFault.TheVariants.{Gap}
+use Rattle.lp_definitions.specs.Leg.{Leg, check}
+use Rattle.lp_definitions.specs.declared.line.Line.{Line}
+use Rattle.lp_definitions.specs.declared.cert_fault.CertFault.TheVariants.{Gap}
 use Rattle.lp_checker.specs.declared.sections.Section.{Section as Part}
 use Rattle.lp_checker.specs.inside.Sections.{with_lines}
-use Rattle.lp_checker.specs.Verdict.{covers, first_bad, gap_test, is_covered}
-use Rattle.lp_checker.proofs.FirstBad.{first_bad_same, bad_within}
+use Rattle.lp_definitions.specs.Verdict.{covers, first_bad, gap_test, is_covered}
+use Rattle.lp_laws.proofs.FirstBad.{first_bad_same, bad_within}
 
 pub no_check : (o : Option CheckKind) (b : Bool) → false ≡ is_some o → (is_none o || b) ≡ true
 no_check None b e = refl

@@ -1,4 +1,3 @@
-pub mod Stacks
 pub mod Tables
 pub mod Accepting
 pub mod Members
@@ -6,22 +5,12 @@ pub mod OpeningTasks
 pub mod Folding
 pub mod Stepping
 pub mod BirthLines
-pub mod Accepted
-pub mod LawProofs
 pub mod Strays
-pub mod FirstBad
 pub mod GapLines
 pub mod Stages
 pub mod NoLeg
-pub mod Held
 pub mod MarkLines
 pub mod SpanLines
 pub mod SectionLines
 pub mod PartLines
 pub mod AtOpening
-pub mod LeadingTo
-pub mod MadeParts
-pub mod MadeSteps
-pub mod MadeLines
-pub mod MadeVerdicts
-pub mod MadeOfRuns

@@ -4,15 +4,15 @@ use Rattle.std.proofs.lemmas.Bool.{cases_eq}
 use Rattle.std.proofs.lemmas.List.{get_or_default}
 use Rattle.std.proofs.Math.Seq.{drop-cons}
 use Rattle.lp_model.specs.Rules.{Rules}
-use Rattle.lp_transition.specs.Leg.{Leg}
-use Rattle.lp_transition.specs.Tasks.{first_of}
-use Rattle.lp_cert.specs.declared.line.Line.{Line}
-use Rattle.lp_checker.specs.declared.fault.CertFault.{CertFault}
+use Rattle.lp_definitions.specs.Leg.{Leg}
+use Rattle.lp_definitions.specs.Tasks.{first_of}
+use Rattle.lp_definitions.specs.declared.line.Line.{Line}
+use Rattle.lp_definitions.specs.declared.cert_fault.CertFault.{CertFault}
 use Rattle.lp_checker.specs.declared.marks.Mark.{Mark}
 use Rattle.lp_checker.specs.declared.marks.Mark.TheVariants.{Sound}
 use Rattle.lp_checker.specs.inside.Marks.{IsMarked, AreMarked}
-use Rattle.lp_checker.specs.Verdict.{Section, line_test}
-use Rattle.lp_checker.proofs.FirstBad.{first_none, first_some}
+use Rattle.lp_definitions.specs.Verdict.{Section, line_test}
+use Rattle.lp_laws.proofs.FirstBad.{first_none, first_some}
 
 module _ (model : Rules) (leg : Leg) (section : Section) (lines : List Line) where
   -- one line's mark is put

@@ -2,11 +2,11 @@
 use Rattle.std.proofs.Common.{◌≡◌, ℕ, Bool, true, false, count_by, Some, None, nat_eq, nat_lt, refl, sym, ◌∙◌, arith}
 use Rattle.std.proofs.lemmas.Bool.{eqb-true, eq-eqb, ltb-true, lt-ltb}
 use Rattle.lp_patch.specs.Patches.{Patches}
-use Rattle.lp_transition.specs.Leg.{Standing, has_member, is_alone}
-use Rattle.lp_transition.specs.Machine.{outlines_of}
-use Rattle.lp_transition.specs.Table.{Table, slot, standings, bounds_of, IsWide}
-use Rattle.lp_transition.specs.inside.Table.{is_in}
-use Rattle.lp_transition.proofs.MemberLemmas.{Member, has_member-is, has_member-from, alone-is, alone-from}
+use Rattle.lp_definitions.specs.Leg.{Standing, has_member, is_alone}
+use Rattle.lp_machine.specs.Machine.{outlines_of}
+use Rattle.lp_machine.specs.Table.{Table, slot, standings, bounds_of, IsWide}
+use Rattle.lp_tasks.specs.inside.Table.{is_in}
+use Rattle.lp_tasks.proofs.MemberLemmas.{Member, has_member-is, has_member-from, alone-is, alone-from}
 
 -- two answers that come to the same
 pub same_answer : (a b : Bool) → (a ≡ true → b ≡ true) → (b ≡ true → a ≡ true) → a ≡ b

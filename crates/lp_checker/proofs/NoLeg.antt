@@ -3,15 +3,15 @@ use Rattle.std.proofs.Common.{◌≡◌, ℕ, zero, suc, ◌+◌, ◌-◌, Bool,
 use Rattle.std.specs.List.{flat_map, AllByRecursion}
 use Rattle.std.specs.Option.{option_map}
 use Rattle.lp_model.specs.Rules.{Rules}
-use Rattle.lp_transition.specs.Leg.{Leg}
-use Rattle.lp_transition.specs.Tasks.{fits, first_of}
-use Rattle.lp_cert.specs.declared.cert.Cert.{Cert}
-use Rattle.lp_cert.specs.declared.cert.Claim.{Claim}
-use Rattle.lp_cert.specs.declared.line.Line.{Line}
-use Rattle.lp_cert.specs.declared.line.Line.TheVariants.{Hold, Busy as OnCpu, Born}
-use Rattle.lp_checker.specs.declared.fault.CertFault.{CertFault}
-use Rattle.lp_checker.specs.declared.fault.CertFault.TheVariants.{NoSuchGroup, NotOnStack, NoBlame, Gap, BadBirth, NoLeg}
-use Rattle.lp_checker.specs.Verdict.{Birth, Section, births, birth_tests, first_bad, first_group, first_lines, gap_test, is_birth, is_covered, is_held_by, is_busy, is_on_stack, blame_at, lies_in, line_test, line_tests, moment_of, no_leg, no_such_group, sections, verdict_on}
+use Rattle.lp_definitions.specs.Leg.{Leg}
+use Rattle.lp_definitions.specs.Tasks.{fits, first_of}
+use Rattle.lp_definitions.specs.declared.cert.Cert.{Cert}
+use Rattle.lp_definitions.specs.declared.cert.Claim.{Claim}
+use Rattle.lp_definitions.specs.declared.line.Line.{Line}
+use Rattle.lp_definitions.specs.declared.line.Line.TheVariants.{Hold, Busy as OnCpu, Born}
+use Rattle.lp_definitions.specs.declared.cert_fault.CertFault.{CertFault}
+use Rattle.lp_definitions.specs.declared.cert_fault.CertFault.TheVariants.{NoSuchGroup, NotOnStack, NoBlame, Gap, BadBirth, NoLeg}
+use Rattle.lp_definitions.specs.Verdict.{Birth, Section, births, birth_tests, first_bad, first_group, first_lines, gap_test, is_birth, is_covered, is_held_by, is_busy, is_on_stack, blame_at, lies_in, line_test, line_tests, moment_of, no_leg, no_such_group, sections, verdict_on}
 
 -- a test that finds no other leg
 abbrev Other : Option CertFault → Type 0

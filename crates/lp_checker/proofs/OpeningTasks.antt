@@ -4,11 +4,11 @@ use Rattle.std.proofs.lemmas.Bool.{cases_eq, cases_lt, eq-eqb, ne_eqb, cond-true
 use Rattle.std.proofs.lemmas.List.{get_or_past}
 use mathlib.Core.Path.{fun_ext}
 use Rattle.lp_numbers.specs.Numbers.{has}
-use Rattle.lp_transition.specs.Tasks.{Fate, Unused, Dead, is_unused}
-use Rattle.lp_transition.specs.Leg.{Standing}
-use Rattle.lp_transition.specs.Sound.{IsSound}
-use Rattle.lp_transition.specs.Table.{Engine, Table, slot, fate_at, standings, state_in, IsWide}
-use Rattle.lp_transition.proofs.TableLemmas.{live_from_slot}
+use Rattle.lp_definitions.specs.Tasks.{Fate, Unused, Dead, is_unused}
+use Rattle.lp_definitions.specs.Leg.{Standing}
+use Rattle.lp_definitions.specs.Sound.{IsSound}
+use Rattle.lp_machine.specs.Table.{Engine, Table, slot, fate_at, standings, state_in, IsWide}
+use Rattle.lp_tasks.proofs.TableLemmas.{live_from_slot}
 
 -- a live task of a sound state has a number above 0
 pub positive : (engine : Engine) (t : ℕ) (x : Standing) → IsSound (state_in engine) → slot engine.table t ≡ Some x → 0 < t

@@ -3,15 +3,15 @@ use Rattle.std.proofs.Common.{◌≡◌, ℕ, ◌≤◌, List, ◌∷◌, map, s
 use Rattle.std.specs.List.{flat_map}
 use mathlib.Core.Path.{fun_ext}
 use Rattle.lp_model.specs.Rules.{Rules}
-use Rattle.lp_transition.specs.Leg.{Leg}
-use Rattle.lp_transition.specs.Tasks.{first_of}
-use Rattle.lp_cert.specs.declared.line.Line.{Line}
-use Rattle.lp_cert.specs.declared.line.Line.TheVariants.{Hold, Busy as OnCpu, Born}
-use Rattle.lp_checker.specs.declared.fault.CertFault.{CertFault}
+use Rattle.lp_definitions.specs.Leg.{Leg}
+use Rattle.lp_definitions.specs.Tasks.{first_of}
+use Rattle.lp_definitions.specs.declared.line.Line.{Line}
+use Rattle.lp_definitions.specs.declared.line.Line.TheVariants.{Hold, Busy as OnCpu, Born}
+use Rattle.lp_definitions.specs.declared.cert_fault.CertFault.{CertFault}
 use Rattle.lp_checker.specs.declared.sections.Section.{Section as Part}
-use Rattle.lp_checker.specs.Verdict.{line_test, line_tests, gap_test}
+use Rattle.lp_definitions.specs.Verdict.{line_test, line_tests, gap_test}
 use Rattle.lp_checker.specs.inside.Sections.{section_of, timed, FollowOn}
-use Rattle.lp_checker.proofs.FirstBad.{first_of_append, first_of_found, first_none, first_some}
+use Rattle.lp_laws.proofs.FirstBad.{first_of_append, first_of_found, first_none, first_some}
 
 -- what comes behind the first of them
 pub follows : (size last : ℕ) (parts more : List Part) (part : Part) → parts ≡ part ∷ more → (begin : ℕ) × FollowOn size last begin parts → FollowOn size last part.until more

@@ -4,11 +4,11 @@ use Rattle.std.proofs.lemmas.List.{map-append}
 use Rattle.lp_stack.specs.declared.number.GroupId.{GroupId}
 use Rattle.lp_stack.specs.declared.number.TaskId.{TaskId}
 use Rattle.lp_model.specs.Rules.{Rules}
-use Rattle.lp_transition.specs.Leg.{Leg}
-use Rattle.lp_cert.specs.declared.line.Line.{Line}
-use Rattle.lp_cert.specs.declared.line.Line.TheVariants.{Hold, Busy as OnCpu, Born}
+use Rattle.lp_definitions.specs.Leg.{Leg}
+use Rattle.lp_definitions.specs.declared.line.Line.{Line}
+use Rattle.lp_definitions.specs.declared.line.Line.TheVariants.{Hold, Busy as OnCpu, Born}
 use Rattle.lp_checker.specs.declared.sections.Section.{Section as Part}
-use Rattle.lp_checker.specs.Verdict.{Birth, Section, births, first_lines, sections}
+use Rattle.lp_definitions.specs.Verdict.{Birth, Section, births, first_lines, sections}
 use Rattle.lp_checker.specs.inside.Sections.{section_of, AreInOrder, FollowOn}
 
 -- what is in order ends no later than the last moment

@@ -4,13 +4,13 @@ use Rattle.std.specs.List.{list_any}
 use Rattle.std.proofs.lemmas.Bool.{cases_eq, cases_Bool, and_parts, and_from, or_cases, or_left, or_right, eqb-true, eq-eqb, leb-true, leb-false, le-leb, ltb-true, lt-ltb, lt-leb, le-ltb}
 use Rattle.std.proofs.lemmas.List.Folds.{list_any_more}
 use Rattle.lp_model.specs.Rules.{Rules}
-use Rattle.lp_transition.specs.Leg.{Leg}
-use Rattle.lp_cert.specs.declared.line.Line.{Line}
-use Rattle.lp_cert.specs.declared.line.Line.TheVariants.{Hold, Busy, Born}
+use Rattle.lp_definitions.specs.Leg.{Leg}
+use Rattle.lp_definitions.specs.declared.line.Line.{Line}
+use Rattle.lp_definitions.specs.declared.line.Line.TheVariants.{Hold, Busy, Born}
 use Rattle.lp_checker.specs.declared.gaps.Span.{Span}
 use Rattle.lp_checker.specs.inside.Spans.{span_of, spans_to, some_spans_to, AreEnds}
 use Rattle.lp_checker.proofs.Members.{same_answer}
-use Rattle.lp_checker.specs.Verdict.{covers}
+use Rattle.lp_definitions.specs.Verdict.{covers}
 
 -- ---- The greatest so far
 

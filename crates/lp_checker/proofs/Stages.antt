@@ -2,25 +2,21 @@
 use Rattle.std.proofs.Common.{◌≡◌, ℕ, ◌≤◌, Bool, true, false, not, ◌&&◌, List, [], ◌∷◌, ◌++◌, Option, Some, None, is_some, nat_lt, nat_le, refl, sym, ap, ap₂, ◌∙◌}
 use Rattle.std.proofs.lemmas.Bool.{and_parts, ltb-true, leb-true, not-false}
 use Rattle.lp_model.specs.Rules.{Rules}
-use Rattle.lp_transition.specs.declared.event.Event.{Event}
-use Rattle.lp_transition.specs.Leg.{Leg}
-use Rattle.lp_transition.specs.Table.{Engine}
-use Rattle.lp_transition.specs.Tasks.{fits, first_of}
-use Rattle.lp_transition.proofs.Plain.{none_first, unfit}
-use Rattle.lp_cert.specs.declared.cert.Cert.{Cert}
-use Rattle.lp_cert.specs.declared.cert.Claim.{Claim}
-use Rattle.lp_cert.specs.declared.line.Line.{Line}
-use Rattle.lp_checker.specs.declared.fault.CertFault.TheVariants.{BadBirth, NoLeg}
-use Rattle.lp_checker.specs.Verdict.{Birth, birth_tests, is_birth, moment_of, no_leg, verdict_on}
+use Rattle.lp_definitions.specs.declared.event.Event.{Event}
+use Rattle.lp_definitions.specs.Leg.{Leg}
+use Rattle.lp_machine.specs.Table.{Engine}
+use Rattle.lp_definitions.specs.Tasks.{fits, first_of}
+use Rattle.lp_laws.proofs.Plain.{none_first, unfit}
+use Rattle.lp_definitions.specs.declared.cert.Cert.{Cert}
+use Rattle.lp_definitions.specs.declared.cert.Claim.{Claim}
+use Rattle.lp_definitions.specs.declared.line.Line.{Line}
+use Rattle.lp_definitions.specs.declared.cert_fault.CertFault.TheVariants.{BadBirth, NoLeg}
+use Rattle.lp_definitions.specs.Verdict.{Birth, birth_tests, is_birth, moment_of, no_leg, verdict_on}
 use Rattle.lp_checker.specs.Folds.{leg_with}
 use Rattle.lp_checker.specs.inside.Cursors.{Range}
 use Rattle.lp_checker.specs.inside.Sections.{AreInOrder}
 use Rattle.lp_checker.specs.inside.Stages.{later_tests}
-use Rattle.lp_checker.proofs.FirstBad.{first_of_found, first_none, first_some}
-
-pub fit_none : {A : Type 0} (b : Bool) (x : A) → b ≡ false → fits b x ≡ None
-fit_none false x e = refl
-fit_none true x e = absurd (cc)
+use Rattle.lp_laws.proofs.FirstBad.{fit_none, first_of_found, first_none, first_some}
 
 fit_some : {A : Type 0} (b : Bool) (x : A) → b ≡ true → fits b x ≡ Some x
 fit_some true x e = refl

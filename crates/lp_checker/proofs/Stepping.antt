@@ -2,12 +2,12 @@
 use Rattle.std.proofs.Common.{◌≡◌, ℕ, suc, ◌+◌, List, Option, Some, slice_get, sym, ap, ◌∙◌, arith}
 use Rattle.lp_patch.specs.Patches.{Patches}
 use Rattle.lp_model.specs.Rules.{Rules, IsLawful}
-use Rattle.lp_transition.specs.declared.event.Event.{Event}
-use Rattle.lp_transition.specs.Leg.{Leg, accepted}
-use Rattle.lp_transition.specs.Machine.{Standings}
-use Rattle.lp_transition.specs.inside.Unswitched.{accept_standing, take_own_effect, unswitched}
-use Rattle.lp_transition.specs.Openings.{IsOpening}
-use Rattle.lp_transition.specs.Table.{Engine, bounds_of, standings}
+use Rattle.lp_definitions.specs.declared.event.Event.{Event}
+use Rattle.lp_definitions.specs.Leg.{Leg, accepted}
+use Rattle.lp_machine.specs.Machine.{Standings}
+use Rattle.lp_machine.specs.inside.Unswitched.{accept_standing, take_own_effect, unswitched}
+use Rattle.lp_tasks.specs.Openings.{IsOpening}
+use Rattle.lp_machine.specs.Table.{Engine, bounds_of, standings}
 use Rattle.lp_checker.specs.declared.fold.Fold.{Fold}
 use Rattle.lp_checker.specs.Folds.{leg_with}
 use Rattle.lp_checker.specs.inside.Folds.{IsAt}

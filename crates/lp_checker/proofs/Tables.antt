@@ -7,13 +7,13 @@ use Rattle.std.proofs.lemmas.List.Sums.{count_by-le-length}
 use mathlib.Core.Path.{fun_ext}
 use Rattle.std.specs.Option.{option_map}
 use Rattle.lp_numbers.specs.Numbers.{Numbers, has}
-use Rattle.lp_transition.specs.Tasks.{Fate, Unused, Live, Dead, change, map_live}
-use Rattle.lp_transition.specs.Leg.{Standing}
-use Rattle.lp_transition.specs.Table.{Table, slot, fate_at, standings}
-use Rattle.lp_transition.specs.inside.Table.{is_in, changed, with_task, without_task, IsBlank}
-use Rattle.lp_transition.proofs.TableLemmas.{standings-changed, standings-with_task, standings-without_task, slot-changed, slot-changed_other, slot-with_task_other, used-with_task, used-with_task_other, slot-without_task, slot-without_task_other, IsWide-changed, IsWide-with_task, IsWide-without_task}
-use Rattle.lp_transition.proofs.CountLemmas.{count-changed, count-with_task, count-without_task}
-use Rattle.lp_transition.proofs.MemberLemmas.{count-blank}
+use Rattle.lp_definitions.specs.Tasks.{Fate, Unused, Live, Dead, change, map_live}
+use Rattle.lp_definitions.specs.Leg.{Standing}
+use Rattle.lp_machine.specs.Table.{Table, slot, fate_at, standings}
+use Rattle.lp_tasks.specs.inside.Table.{is_in, changed, with_task, without_task, IsBlank}
+use Rattle.lp_tasks.proofs.TableLemmas.{standings-changed, standings-with_task, standings-without_task, slot-changed, slot-changed_other, slot-with_task_other, used-with_task, used-with_task_other, slot-without_task, slot-without_task_other, IsWide-changed, IsWide-with_task, IsWide-without_task}
+use Rattle.lp_tasks.proofs.CountLemmas.{count-changed, count-with_task, count-without_task}
+use Rattle.lp_tasks.proofs.MemberLemmas.{count-blank}
 use Rattle.lp_checker.specs.inside.Tables.{all_slots, IsCounted, IsKept}
 
 is_some-map : {A B : Type 0} (f : A → B) (o : Option A) → is_some (option_map f o) ≡ is_some o

@@ -1,8 +1,8 @@
 -- The leg that a certificate is checked against.
 use Rattle.std.specs.Prelude.{List}
-use Rattle.lp_transition.specs.declared.event.Event.{Event}
-use Rattle.lp_transition.specs.Leg.{Leg}
-use Rattle.lp_transition.specs.Table.{Engine, state_in}
+use Rattle.lp_definitions.specs.declared.event.Event.{Event}
+use Rattle.lp_definitions.specs.Leg.{Leg}
+use Rattle.lp_machine.specs.Table.{Engine, state_in}
 
 -- the leg with this opening and these events
 abbrev pub leg_with : Engine → List Event → Leg

@@ -1,18 +1,16 @@
 //! The births of a certificate.
 ghost use Rattle.std.specs.Prelude.{◌≡◌, ℕ, ◌<◌, ◌≤◌, pred, nat_eq, IfOk};
 ghost use Rattle.std.specs.Option.{option_map};
-ghost use Rattle.lp_transition.specs.Tasks.{first_of};
-ghost use Rattle.lp_transition.specs.Leg.{accepted, after};
+ghost use Rattle.lp_definitions.specs.Tasks.{first_of};
+ghost use Rattle.lp_definitions.specs.Leg.{accepted, after};
 ghost use Rattle.lp_checker.specs.inside.Births.{group_in, group_or_0, is_own_fork, group_now};
 ghost use Rattle.lp_checker.specs.inside.Cursors.{leg_in};
-ghost use Rattle.lp_checker.specs.Verdict.{births, birth_tests, first_group};
+ghost use Rattle.lp_definitions.specs.Verdict.{births, birth_tests, first_group};
 
-use crate::CertFault;
 use crate::cursor::Cursor;
-use lp_cert::Line;
+use lp_definitions::{CertFault, Event, Line};
 use lp_model::Consistency;
 use lp_stack::{GroupId, TaskId};
-use lp_transition::Event;
 use std::alloc::{AllocError, Global};
 
 /// A `born` line, with the place of its event in the leg, from 1.

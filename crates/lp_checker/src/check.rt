@@ -1,25 +1,24 @@
 //! The check of a certificate.
 ghost use Rattle.std.specs.Prelude.{◌≡◌, ◌⊎◌, true, None, Some, Ok, Err, length, map, IfOk, MatchResult};
-ghost use Rattle.lp_transition.specs.Tasks.{first_of};
+ghost use Rattle.lp_definitions.specs.Tasks.{first_of};
 ghost use Rattle.lp_checker.specs.Folds.{leg_with};
-ghost use Rattle.lp_checker.specs.Laws.{Holds};
-ghost use Rattle.lp_checker.specs.Verdict.{births, no_leg, verdict_on};
+ghost use Rattle.lp_definitions.specs.Holds.{Holds};
+ghost use Rattle.lp_definitions.specs.Verdict.{births, no_leg, verdict_on};
 ghost use Rattle.lp_checker.specs.inside.Cursors.{leg_in};
 ghost use Rattle.lp_checker.specs.inside.Sections.{section_of, AreInOrder, FollowOn};
 ghost use Rattle.lp_checker.specs.inside.Stages.{part_tests, chain_tests, later_tests};
-ghost use Rattle.lp_checker.specs.declared.fault.CertFault.TheVariants.{NoLeg};
+ghost use Rattle.lp_definitions.specs.declared.cert_fault.CertFault.TheVariants.{NoLeg};
 
-use crate::CertFault;
 use crate::births::birth_fault;
 use crate::cursor::Cursor;
 use crate::gaps::gap_fault;
 use crate::groups::{first_group, is_no_such_group};
 use crate::lines::line_fault;
 use crate::sections::{Section, sections};
-use lp_cert::{Cert, Claim, Line};
+use lp_definitions::{Cert, CertFault, Claim, Event, Line, MOST_EVENTS};
 use lp_model::Consistency;
 use lp_stack::GroupId;
-use lp_transition::{Event, MOST_EVENTS, Opening};
+use lp_tasks::Opening;
 use std::alloc::{AllocError, Global};
 
 /// Checks a certificate which says that its group still waits after event `upto` of the run, in the

@@ -1,19 +1,20 @@
 //! A leg's events, taken one after the other with nobody switching.
 ghost use Rattle.std.specs.Prelude.{◌≡◌, ℕ, suc, pred, ◌+◌, ◌-◌, ◌<◌, ◌≤◌, ◌&&◌, length, nat_lt, nat_le, IfOk, OnOk};
 ghost use Rattle.std.specs.Option.{option_map};
-ghost use Rattle.lp_transition.specs.Leg.{accepted, after, check, has_member};
-ghost use Rattle.lp_transition.specs.Table.{slot};
-ghost use Rattle.lp_transition.specs.Tasks.{fits, outlines};
-ghost use Rattle.lp_checker.specs.Verdict.{blame_at, is_on_stack};
+ghost use Rattle.lp_definitions.specs.Leg.{accepted, after, check, has_member};
+ghost use Rattle.lp_machine.specs.Table.{slot};
+ghost use Rattle.lp_definitions.specs.Tasks.{fits, outlines};
+ghost use Rattle.lp_definitions.specs.Verdict.{blame_at, is_on_stack};
 ghost use Rattle.lp_checker.specs.inside.Births.{group_in};
 ghost use Rattle.lp_checker.specs.inside.Folds.{IsAt};
 ghost use Rattle.lp_checker.specs.inside.Sections.{is_waiting_member};
 ghost use Rattle.lp_checker.specs.inside.Cursors.{leg_in};
 
 use crate::fold::Fold;
+use lp_definitions::Event;
 use lp_model::{Blame, CheckKind, Consistency};
 use lp_stack::{GroupId, TaskId};
-use lp_transition::{Event, Opening};
+use lp_tasks::Opening;
 use std::alloc::{AllocError, Global};
 use std::marker::Model;
 
@@ -43,8 +44,8 @@ impl<'a, M: Consistency> Model for Cursor<'a, M> {
 }
 
 impl<'a, M: Consistency> Cursor<'a, M> {
-    ghost use Rattle.lp_transition.specs.Openings.{IsOpening};
-    ghost use Rattle.lp_transition.specs.Sound.{IsSound};
+    ghost use Rattle.lp_tasks.specs.Openings.{IsOpening};
+    ghost use Rattle.lp_definitions.specs.Sound.{IsSound};
 
     /// At the opening of a leg, of which no more events than these many will be taken.
     pub(crate) fn open(
@@ -128,6 +129,7 @@ impl<'a, M: Consistency> Cursor<'a, M> {
         ensures opening { IsOpening self.now.range.opening }
         ensures room { self.now.range.opening.number + self.now.range.end ≤ 1000000 }
     {
+        // For the proof alone, which knows what every value keeps once a field is read.
         let _ = &self.moment;
         self.opening.number()
     }

@@ -3,23 +3,24 @@
 ghost use Rattle.std.specs.Prelude.{◌≡◌, ℕ, suc, ◌<◌, ◌≤◌, false, Some, None, if◌then◌else◌, nat_eq, IfOk, OnOk, OnErr};
 ghost use Rattle.std.specs.List.{list_any};
 ghost use Rattle.std.specs.Option.{option_map};
-ghost use Rattle.lp_transition.specs.Tasks.{first_of, tests, on_live, Unused, Dead};
-ghost use Rattle.lp_transition.specs.Leg.{check_by, if_used, is_alone, has_member};
-ghost use Rattle.lp_transition.specs.Machine.{view_of, outlines_of, own_effect};
-ghost use Rattle.lp_transition.specs.inside.Unswitched.{accept_standing, take_own_effect};
-ghost use Rattle.lp_transition.specs.Openings.{IsOpening};
-ghost use Rattle.lp_transition.specs.Table.{slot, standings, bounds_of};
+ghost use Rattle.lp_definitions.specs.Tasks.{first_of, tests, on_live, Unused, Dead};
+ghost use Rattle.lp_definitions.specs.Leg.{check_by, if_used, is_alone, has_member};
+ghost use Rattle.lp_machine.specs.Machine.{view_of, outlines_of, own_effect};
+ghost use Rattle.lp_machine.specs.inside.Unswitched.{accept_standing, take_own_effect};
+ghost use Rattle.lp_tasks.specs.Openings.{IsOpening};
+ghost use Rattle.lp_machine.specs.Table.{slot, standings, bounds_of};
 
 mod accept;
 mod table;
 mod task;
 
 use accept::accepts;
+use lp_definitions::Event;
 use lp_model::{Blame, CheckKind, Consistency, ForkKind};
 use lp_numbers::NUMBERS;
 use lp_patch::{Aim, PatchStack};
 use lp_stack::{Class, Frame, GroupId, Level, Mode, TaskId};
-use lp_transition::{Event, Opening};
+use lp_tasks::Opening;
 use std::alloc::{AllocError, Global};
 use table::FoldedTable;
 use task::FoldedTask;
@@ -32,7 +33,7 @@ pub(crate) struct Fold {
     tasks: FoldedTable,
 }
 
-/// In one step for who owns one: docs/GATE.md says why.
+/// By hand, so that the proof of who owns one lets go of it in one step, not field by field.
 impl Drop for Fold {
     fn drop(self) {
         let Fold {

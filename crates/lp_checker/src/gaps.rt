@@ -2,17 +2,16 @@
 ghost use Rattle.std.specs.Prelude.{◌≡◌, ℕ, suc, ◌+◌, ◌-◌, ◌<◌, ◌≤◌, ◌||◌, None, length, map, is_none, nat_eq, nat_le, slice_index, slice_set, take, max, IfOk};
 ghost use Rattle.std.specs.List.{list_any};
 ghost use Rattle.lp_model.specs.Rules.{Rules};
-ghost use Rattle.lp_transition.specs.Tasks.{first_of};
-ghost use Rattle.lp_transition.specs.Leg.{Leg, check};
+ghost use Rattle.lp_definitions.specs.Tasks.{first_of};
+ghost use Rattle.lp_definitions.specs.Leg.{Leg, check};
 ghost use Rattle.lp_checker.specs.inside.Cursors.{leg_in};
-ghost use Rattle.lp_checker.specs.Verdict.{covers, first_bad, gap_test};
+ghost use Rattle.lp_definitions.specs.Verdict.{covers, first_bad, gap_test};
 ghost use Rattle.lp_checker.specs.inside.Sections.{section_of, with_lines, FollowOn};
 ghost use Rattle.lp_checker.specs.inside.Spans.{span_of, AreEnds};
 
-use crate::CertFault;
 use crate::cursor::Cursor;
 use crate::sections::Section;
-use lp_cert::Line;
+use lp_definitions::{CertFault, Line};
 use lp_model::Consistency;
 use std::alloc::{AllocError, Global};
 

@@ -2,19 +2,19 @@
 ghost use Rattle.std.specs.Prelude.{◌≡◌, ℕ, ◌+◌, ◌-◌, ◌≤◌, ◌&&◌, pred, false, not, length, nat_eq, IfOk};
 ghost use Rattle.std.specs.List.{list_any};
 ghost use Rattle.std.specs.Option.{option_map};
-ghost use Rattle.lp_transition.specs.Chain.{nobody};
-ghost use Rattle.lp_transition.specs.Leg.{Leg, after, has_member};
-ghost use Rattle.lp_transition.specs.Schedule.{waits};
-ghost use Rattle.lp_transition.specs.Table.{slot};
-ghost use Rattle.lp_transition.specs.Tasks.{outlines};
+ghost use Rattle.lp_definitions.specs.Chain.{nobody};
+ghost use Rattle.lp_definitions.specs.Leg.{Leg, after, has_member};
+ghost use Rattle.lp_definitions.specs.Schedule.{waits};
+ghost use Rattle.lp_machine.specs.Table.{slot};
+ghost use Rattle.lp_definitions.specs.Tasks.{outlines};
 ghost use Rattle.lp_model.specs.Rules.{Rules};
 ghost use Rattle.lp_checker.specs.inside.Births.{group_or_0};
 ghost use Rattle.lp_checker.specs.inside.Cursors.{leg_in};
 ghost use Rattle.lp_checker.specs.inside.Sections.{AreInOrder, is_waiting_member};
-ghost use Rattle.lp_checker.specs.Verdict.{births, first_group, first_lines, has_stray, last_group, no_such_group, sections};
+ghost use Rattle.lp_definitions.specs.Verdict.{births, first_group, first_lines, has_stray, last_group, no_such_group, sections};
 
 use crate::cursor::Cursor;
-use lp_cert::Line;
+use lp_definitions::Line;
 use lp_model::Consistency;
 use lp_numbers::NUMBERS;
 use lp_stack::{GroupId, TaskId};

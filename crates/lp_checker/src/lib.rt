@@ -5,7 +5,6 @@
 mod births;
 mod check;
 mod cursor;
-mod fault;
 mod fold;
 mod gaps;
 mod groups;
@@ -15,7 +14,6 @@ mod marks;
 mod sections;
 
 pub use check::{check_floor, check_waiting};
-pub use fault::CertFault;
-pub use lp_cert::Cert;
+pub use lp_definitions::{Cert, CertFault, Event};
 pub use lp_model::Consistency;
-pub use lp_transition::{Event, Opening};
+pub use lp_tasks::Opening;

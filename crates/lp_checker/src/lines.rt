@@ -1,18 +1,18 @@
 //! The lines of a certificate that tell of blames.
 ghost use Rattle.std.specs.Prelude.{◌≡◌, ℕ, true, suc, ◌+◌, ◌-◌, ◌≤◌, length, map, IfOk};
 ghost use Rattle.std.specs.List.{flat_map};
-ghost use Rattle.lp_transition.specs.Tasks.{first_of};
-ghost use Rattle.lp_cert.specs.declared.line.Line.{Line};
-ghost use Rattle.lp_checker.specs.Verdict.{first_bad, is_busy, is_held_by, is_on_stack, line_test, line_tests};
-ghost use Rattle.lp_checker.specs.inside.Marks.{is_blamed, was_busy, AreMarked};
+ghost use Rattle.lp_definitions.specs.Tasks.{first_of};
+ghost use Rattle.lp_definitions.specs.declared.line.Line.{Line};
+ghost use Rattle.lp_definitions.specs.Verdict.{first_bad, is_busy, is_held_by, is_on_stack, line_test, line_tests};
+ghost use Rattle.lp_laws.specs.Blamed.{is_blamed};
+ghost use Rattle.lp_checker.specs.inside.Marks.{was_busy, AreMarked};
 ghost use Rattle.lp_checker.specs.inside.Cursors.{leg_in};
 ghost use Rattle.lp_checker.specs.inside.Sections.{section_of, timed, FollowOn};
 
-use crate::CertFault;
 use crate::cursor::Cursor;
 use crate::marks::{Mark, marks_of};
 use crate::sections::Section;
-use lp_cert::Line;
+use lp_definitions::{CertFault, Line};
 use lp_model::{Blame, Consistency};
 use lp_stack::{GroupId, TaskId};
 use std::alloc::{AllocError, Global};

@@ -1,15 +1,16 @@
 //! Which lines of a section have no fault, found in one pass through its time.
 ghost use Rattle.std.specs.Prelude.{◌≡◌, ℕ, All, ◌+◌, ◌<◌, ◌≤◌, true, length, IfOk, OnOk};
 ghost use Rattle.lp_stack.specs.declared.number.GroupId.{GroupId};
-ghost use Rattle.lp_cert.specs.declared.line.Line.{Line};
-ghost use Rattle.lp_checker.specs.inside.Marks.{is_blamed, IsMarked, AreMarked};
+ghost use Rattle.lp_definitions.specs.declared.line.Line.{Line};
+ghost use Rattle.lp_laws.specs.Blamed.{is_blamed};
+ghost use Rattle.lp_checker.specs.inside.Marks.{IsMarked, AreMarked};
 ghost use Rattle.lp_checker.specs.inside.Sections.{timed};
 ghost use Rattle.lp_checker.specs.inside.Cursors.{leg_in};
 
 use crate::cursor::Cursor;
 use crate::lines::{Hold, is_blamed, was_busy};
 use crate::sections::Section;
-use lp_cert::Line;
+use lp_definitions::Line;
 use lp_model::Consistency;
 use std::alloc::{AllocError, Global};
 

@@ -1,11 +1,11 @@
 //! The sections of a certificate: a group each, its time in the leg, and its lines.
 ghost use Rattle.std.specs.Prelude.{◌≡◌, map, length, IfOk};
 ghost use Rattle.lp_checker.specs.inside.Cursors.{leg_in};
-ghost use Rattle.lp_checker.specs.Verdict.{births, first_lines, sections};
+ghost use Rattle.lp_definitions.specs.Verdict.{births, first_lines, sections};
 ghost use Rattle.lp_checker.specs.inside.Sections.{section_of, AreInOrder, FollowOn};
 
 use crate::cursor::Cursor;
-use lp_cert::Line;
+use lp_definitions::Line;
 use lp_model::Consistency;
 use lp_stack::GroupId;
 use std::alloc::{AllocError, Global};

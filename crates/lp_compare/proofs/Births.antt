@@ -9,18 +9,18 @@ use Rattle.std.proofs.lemmas.List.Sums.{sum_by-append, sum_by-cons}
 use Rattle.lp_model.specs.declared.check.Blame.{Blame}
 use Rattle.lp_model.specs.declared.check.Blame.TheVariants as blame
 use Rattle.lp_model.specs.Rules.{Rules}
-use Rattle.lp_transition.specs.declared.event.Event.{Event}
-use Rattle.lp_transition.specs.declared.event.Event.TheVariants.{Call, Ret, Sleep, Wake, Enter, Exit, Idle, Fork, Die, Walk, Stop, Enable, Disable, Reverse}
-use Rattle.lp_transition.specs.Tasks.{on_live}
-use Rattle.lp_transition.specs.Leg.{Leg, after, accepted, check}
-use Rattle.lp_cert.specs.declared.line.Line.{Line}
-use Rattle.lp_cert.specs.declared.line.Line.TheVariants.{Hold, Busy, Born}
-use Rattle.lp_cert.specs.declared.cert.Cert.{Cert}
-use Rattle.lp_cert.specs.declared.cert.Claim.{Claim}
-use Rattle.lp_cert.specs.declared.cert.Claim.TheVariants.{Waiting, Floor}
-use Rattle.lp_cert.specs.Ends.{end_of}
-use Rattle.lp_cert.specs.Certificates.{after_check, after_refusal, refusal_line, birth_line, with_birth, has_frame, first_blamed, lines, cert, certs_by, completion, waiting_groups}
-use Rattle.lp_cert.proofs.Completions.{completion_below}
+use Rattle.lp_definitions.specs.declared.event.Event.{Event}
+use Rattle.lp_definitions.specs.declared.event.Event.TheVariants.{Call, Ret, Sleep, Wake, Enter, Exit, Idle, Fork, Die, Walk, Stop, Enable, Disable, Reverse}
+use Rattle.lp_definitions.specs.Tasks.{on_live}
+use Rattle.lp_definitions.specs.Leg.{Leg, after, accepted, check}
+use Rattle.lp_definitions.specs.declared.line.Line.{Line}
+use Rattle.lp_definitions.specs.declared.line.Line.TheVariants.{Hold, Busy, Born}
+use Rattle.lp_definitions.specs.declared.cert.Cert.{Cert}
+use Rattle.lp_definitions.specs.declared.cert.Claim.{Claim}
+use Rattle.lp_definitions.specs.declared.cert.Claim.TheVariants.{Waiting, Floor}
+use Rattle.lp_definitions.specs.Ends.{end_of}
+use Rattle.lp_definitions.specs.Certificates.{after_check, after_refusal, refusal_line, birth_line, with_birth, has_frame, first_blamed, lines, cert, certs_by, completion, waiting_groups}
+use Rattle.lp_laws.proofs.Completions.{completion_below}
 use Rattle.lp_compare.specs.Comparison.{is_born, births_in, greatest}
 use Rattle.lp_compare.specs.inside.FirstEnds.{FewBirths}
 

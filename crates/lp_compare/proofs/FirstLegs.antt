@@ -9,16 +9,14 @@ use Rattle.lp_stack.specs.declared.view.Class.{Class}
 use Rattle.lp_model.specs.Rules.{Rules, IsLawful}
 use Rattle.lp_models.specs.declared.name.ModelName.{ModelName}
 use Rattle.lp_models.specs.declared.name.ModelName.TheVariants.{Hybrid, LeaveKernel, AllAtOnce, Immediate, ProcessGroup}
-use Rattle.lp_transition.specs.declared.reply.Reply.{Reply}
-use Rattle.lp_transition.specs.Leg.{Leg}
-use Rattle.lp_transition.specs.Run.{AreInRange, first_leg, replies}
-use Rattle.lp_cert.specs.declared.leg_end.LegEnd.{LegEnd}
-use Rattle.lp_cert.specs.Certificates.{opened_legs}
-use Rattle.lp_cert.specs.Ends.{end_of}
+use Rattle.lp_definitions.specs.declared.reply.Reply.{Reply}
+use Rattle.lp_definitions.specs.Leg.{Leg}
+use Rattle.lp_definitions.specs.Run.{AreInRange, first_leg, replies}
+use Rattle.lp_definitions.specs.Ends.{LegEnd, end_of}
+use Rattle.lp_definitions.specs.Certificates.{opened_legs}
 use Rattle.lp_text.specs.Traces.{TraceValue, IsTask, IsTrace}
-use Rattle.lp_replay.specs.Headline.{whole_run}
-use Rattle.lp_replay.specs.Outcome.{run_of}
-use Rattle.lp_replay.proofs.LegByLeg.{IsLeg, legs_of}
+use Rattle.lp_replay.specs.Outcome.{whole_run, run_of}
+use Rattle.lp_laws.proofs.LegByLeg.{IsLeg, legs_of}
 use Rattle.lp_compare.specs.declared.comparison.Comparison.{Comparison}
 use Rattle.lp_compare.specs.declared.comparison.Row.{Row}
 use Rattle.lp_compare.specs.declared.first_end.FirstEnd.{FirstEnd}

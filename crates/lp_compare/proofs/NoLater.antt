@@ -7,12 +7,11 @@ use Rattle.lp_model.specs.Rules.{Rules, IsLawful}
 use Rattle.lp_models.specs.declared.name.ModelName.{ModelName}
 use Rattle.lp_models.specs.declared.name.ModelName.TheVariants.{Hybrid, LeaveKernel, Immediate}
 use Rattle.lp_models.specs.inside.ModelLaws.{hybrid_lawful, leave_kernel_lawful, immediate_lawful}
-use Rattle.lp_transition.specs.Leg.{Leg}
-use Rattle.lp_transition.specs.Order.{IsAtLeastAsPermissive}
-use Rattle.lp_transition.specs.Run.{first_leg}
-use Rattle.lp_cert.specs.declared.leg_end.LegEnd.{LegEnd}
-use Rattle.lp_cert.specs.Certificates.{opened_legs}
-use Rattle.lp_cert.specs.Ends.{end_of}
+use Rattle.lp_definitions.specs.Leg.{Leg}
+use Rattle.lp_definitions.specs.Order.{IsAtLeastAsPermissive}
+use Rattle.lp_definitions.specs.Run.{first_leg}
+use Rattle.lp_definitions.specs.Ends.{LegEnd, end_of}
+use Rattle.lp_definitions.specs.Certificates.{opened_legs}
 use Rattle.lp_text.specs.Traces.{TraceValue, IsTrace}
 use Rattle.lp_replay.specs.Outcome.{run_of}
 use Rattle.lp_compare.specs.declared.comparison.Comparison.{Comparison}

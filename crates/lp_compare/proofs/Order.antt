@@ -9,7 +9,7 @@ use Rattle.lp_model.specs.declared.check.CheckKind.TheVariants.{KernelExit, Idle
 use Rattle.lp_model.specs.Row.{admits_of, rules_of}
 use Rattle.lp_models.specs.Models.{hybrid, leave_kernel, immediate}
 use Rattle.lp_models.specs.inside.ModelLaws.{admits_all}
-use Rattle.lp_transition.specs.Order.{IsAtLeastAsPermissive}
+use Rattle.lp_definitions.specs.Order.{IsAtLeastAsPermissive}
 
 -- who has no frame has none that a test keeps back
 no_frames : (test : Frame → Bool) (frames : List Frame) → IsTrue (true && not (list_any (λ frame. true) frames) && not false) → IsTrue (true && not (list_any test frames) && not false)

@@ -8,22 +8,22 @@ use Rattle.std.proofs.lemmas.Bool.{cases_Bool, cond-true, cond-false, cond_both}
 use Rattle.lp_stack.specs.declared.number.TaskId.{TaskId}
 use Rattle.lp_stack.specs.declared.view.Class.{Class}
 use Rattle.lp_model.specs.Rules.{Rules, IsLawful}
-use Rattle.lp_transition.specs.declared.event.Event.{Event}
-use Rattle.lp_transition.specs.declared.event.Event.TheVariants.{Call, Ret, Sleep, Wake, Enter, Exit, Idle, Fork, Die, Walk, Stop, Enable, Disable, Reverse}
-use Rattle.lp_transition.specs.declared.refusal.Refusal.TheVariants.{InTransition, NotInTransition, AlreadyThere}
-use Rattle.lp_transition.specs.Events.{is_control}
-use Rattle.lp_transition.specs.Tasks.{Fate, Unused, Live, Dead, Life, Stood, Grouping, map_live, fits, first_of, tests, outlines}
-use Rattle.lp_transition.specs.Leg.{Leg, State, Standing, begin, tasks_after}
-use Rattle.lp_transition.specs.Schedule.{Schedule, complete, first_check, level, level_by, standing, has_come}
-use Rattle.lp_transition.specs.Order.{IsAtLeastAsPermissive}
-use Rattle.lp_transition.specs.Sound.{IsSound}
-use Rattle.lp_transition.specs.Run.{Run, AreInRange, and_then, at_boot, booted, control_tests, first_leg, first_mode, is_complete_now, new_target, next_leg, opened, opens, refused_by, shown}
-use Rattle.lp_transition.proofs.First.{first_check_is}
-use Rattle.lp_transition.proofs.Permissive.{never_loses}
-use Rattle.lp_transition.proofs.Waiting.{complete-is, complete-from, complete_later, waits-is}
-use Rattle.lp_transition.proofs.WholeRun.{next_sound, start_sound}
-use Rattle.lp_cert.specs.Certificates.{completion, legs, opened_legs}
-use Rattle.lp_cert.proofs.Completions.{completion_below, completion_now, completion_stays, incomplete_if}
+use Rattle.lp_definitions.specs.declared.event.Event.{Event}
+use Rattle.lp_definitions.specs.declared.event.Event.TheVariants.{Call, Ret, Sleep, Wake, Enter, Exit, Idle, Fork, Die, Walk, Stop, Enable, Disable, Reverse}
+use Rattle.lp_definitions.specs.declared.refusal.Refusal.TheVariants.{InTransition, NotInTransition, AlreadyThere}
+use Rattle.lp_definitions.specs.Events.{is_control}
+use Rattle.lp_definitions.specs.Tasks.{Fate, Unused, Live, Dead, Life, Stood, Grouping, map_live, fits, first_of, tests, outlines}
+use Rattle.lp_definitions.specs.Leg.{Leg, State, Standing, begin, tasks_after}
+use Rattle.lp_definitions.specs.Schedule.{Schedule, complete, first_check, level, level_by, standing, has_come}
+use Rattle.lp_definitions.specs.Order.{IsAtLeastAsPermissive}
+use Rattle.lp_definitions.specs.Sound.{IsSound}
+use Rattle.lp_definitions.specs.Run.{Run, AreInRange, and_then, at_boot, booted, control_tests, first_leg, first_mode, is_complete_now, new_target, next_leg, opened, opens, refused_by, shown}
+use Rattle.lp_laws.proofs.First.{first_check_is}
+use Rattle.lp_laws.proofs.Permissive.{never_loses}
+use Rattle.lp_laws.proofs.Waiting.{complete-is, complete-from, complete_later, waits-is}
+use Rattle.lp_laws.proofs.WholeRun.{next_sound, start_sound}
+use Rattle.lp_definitions.specs.Certificates.{completion, legs, opened_legs}
+use Rattle.lp_laws.proofs.Completions.{completion_below, completion_now, completion_stays, incomplete_if}
 use Rattle.lp_replay.specs.Legs.{to_end}
 
 -- ---- One model

@@ -4,13 +4,14 @@ use Rattle.std.specs.Option.{option_map}
 use Rattle.lp_model.specs.Rules.{Rules}
 use Rattle.lp_models.specs.declared.name.ModelName.{ModelName}
 use Rattle.lp_models.specs.declared.name.ModelName.TheVariants.{Hybrid}
-use Rattle.lp_transition.specs.Run.{first_leg}
-use Rattle.lp_cert.specs.declared.cert.Cert.{Cert}
-use Rattle.lp_cert.specs.declared.leg_end.LegEnd.{LegEnd}
-use Rattle.lp_cert.specs.declared.line.Line.{Line}
-use Rattle.lp_cert.specs.declared.line.Line.TheVariants.{Born}
+use Rattle.lp_definitions.specs.Run.{first_leg}
+use Rattle.lp_definitions.specs.declared.cert.Cert.{Cert}
+use Rattle.lp_definitions.specs.Ends.{LegEnd}
+use Rattle.lp_definitions.specs.declared.line.Line.{Line}
+use Rattle.lp_definitions.specs.declared.line.Line.TheVariants.{Born}
 use Rattle.lp_text.specs.Traces.{TraceValue}
-use Rattle.lp_replay.specs.Outcome.{leg_ends, run_of}
+use Rattle.lp_definitions.specs.Outcome.{leg_ends}
+use Rattle.lp_replay.specs.Outcome.{run_of}
 use Rattle.lp_compare.specs.declared.comparison.Comparison.{Comparison}
 use Rattle.lp_compare.specs.declared.comparison.Row.{Row}
 use Rattle.lp_compare.specs.Named.{models, rules_named}

@@ -6,7 +6,7 @@ use Rattle.serde_json.specs.View.{items_of}
 use Rattle.serde_json.specs.Written.{compact_text}
 use Rattle.lp_models.specs.Names.{name_of}
 use Rattle.lp_text.specs.Words.{line_of}
-use Rattle.lp_cert.specs.Text.{end_words}
+use Rattle.lp_text.specs.CertTexts.{end_words}
 use Rattle.lp_compare.specs.declared.comparison.Comparison.{Comparison}
 use Rattle.lp_compare.specs.declared.comparison.Row.{Row}
 

@@ -4,13 +4,13 @@ use Rattle.lp_stack.specs.declared.number.TaskId.{TaskId}
 use Rattle.lp_stack.specs.declared.view.Class.{Class}
 use Rattle.lp_patch.specs.Patches.{Patches}
 use Rattle.lp_model.specs.Rules.{Rules, IsLawful}
-use Rattle.lp_transition.specs.declared.event.Event.{Event}
-use Rattle.lp_transition.specs.declared.reply.Reply.{Reply}
-use Rattle.lp_transition.specs.Leg.{State}
-use Rattle.lp_transition.specs.Machine.{next}
-use Rattle.lp_transition.specs.Run.{Run}
-use Rattle.lp_transition.specs.Steps.{StandsIn}
-use Rattle.lp_transition.specs.Table.{Engine, bounds_of, state_in}
+use Rattle.lp_definitions.specs.declared.event.Event.{Event}
+use Rattle.lp_definitions.specs.declared.reply.Reply.{Reply}
+use Rattle.lp_definitions.specs.Leg.{State}
+use Rattle.lp_machine.specs.Machine.{next}
+use Rattle.lp_definitions.specs.Run.{Run}
+use Rattle.lp_machine.specs.Steps.{StandsIn}
+use Rattle.lp_machine.specs.Table.{Engine, bounds_of, state_in}
 use Rattle.lp_board.specs.Names.{Name, state_after, run_of as named_run}
 use Rattle.lp_board.specs.Pages.{IsHeading, Leads}
 use Rattle.lp_board.specs.declared.sheet.Heading.{Heading}

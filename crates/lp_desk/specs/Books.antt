@@ -1,8 +1,8 @@
 -- A book: a log with the board of its events.
 use Rattle.std.specs.Prelude.{◌≡◌, ◌<◌, List, [], ◌∷◌, ◌++◌, length}
 use Rattle.lp_model.specs.Rules.{Rules}
-use Rattle.lp_transition.specs.declared.event.Event.{Event}
-use Rattle.lp_transition.specs.declared.reply.Reply.{Reply}
+use Rattle.lp_definitions.specs.declared.event.Event.{Event}
+use Rattle.lp_definitions.specs.declared.reply.Reply.{Reply}
 use Rattle.lp_board.specs.Names.{Name}
 use Rattle.lp_log.specs.Journals.{Written, IsReplayed, events_in, reply_to}
 

@@ -1,11 +1,11 @@
 //! What lies under a desk's lock: a log, and the board that shows its events.
 ghost use Rattle.std.specs.Prelude.{◌≡◌, ◌⊎◌, ◌≤◌, ◌↔◌, [], true, All, Err, IfErr, IfOk, OnErr, length, map};
 ghost use Rattle.lp_transition.specs.Scan.{is_scan_kind, scan_event, verdicts_of};
-ghost use Rattle.lp_transition.specs.Table.{state_in};
+ghost use Rattle.lp_machine.specs.Table.{state_in};
 ghost use Rattle.lp_transition.specs.Weigh.{IsWeighed};
 ghost use Rattle.lp_transition.specs.declared.engine.boot.BootFault.TheVariants as boot_fault;
 ghost use Rattle.lp_transition.specs.declared.engine.step.Halt.TheVariants.{JournalFull, NoMemory};
-ghost use Rattle.lp_transition.specs.declared.event.Event.TheVariants.{Walk};
+ghost use Rattle.lp_definitions.specs.declared.event.Event.TheVariants.{Walk};
 ghost use Rattle.lp_board.specs.Blanks.{name_of};
 ghost use Rattle.lp_board.specs.declared.launch.LaunchFault.TheVariants.{Boot, NoBoard};
 ghost use Rattle.lp_log.specs.Journals.{IsReplayed, and_entry, events_in, reply_to};
@@ -16,8 +16,9 @@ ghost use Rattle.lp_desk.specs.Books.{IsOf, first_journal};
 mod publish;
 mod sent;
 
+use crate::Closed;
 use lp_board::{Blank, BoardReader, DeskName, LaunchFault, Parts, Publisher, Told};
-use lp_log::{Control, Journal, Log, Opened, Seat};
+use lp_log::{Control, Log, Opened, Seat};
 use lp_model::{CheckKind, Consistency, Verdict};
 use lp_scan::Judged;
 use lp_transition::{Event, Halt, Reply, Step};
@@ -101,7 +102,7 @@ impl<M: Consistency, N: DeskName> Book<M, N> {
             }
             Err(refused) => {
                 drop(readers);
-                board.shut(rt);
+                drop(board.shut(rt));
                 Err(LaunchFault::from(refused))
             }
         }
@@ -122,16 +123,18 @@ impl<M: Consistency, N: DeskName> Book<M, N> {
         self.board.tell()
     }
 
-    /// Gives the board and the engine up, and hands out the journal. Waits for readers that are inside a read. Never
-    /// allocates.
-    pub fn shut<R: Wait>(self, rt: &R) -> Journal
-        ensures value { result ≡ self.journal }
-        ensures named { IsOf N.desk M.rules result }
-        ensures replayed { IsReplayed M.rules result }
+    /// Gives the board and the engine up, and hands out the journal, with all that was ever published. Waits for readers
+    /// that are inside a read. Never allocates.
+    pub fn shut<R: Wait>(self, rt: &R) -> Closed<N>
+        ensures value { result.journal ≡ self.journal }
+        ensures told { result.told ≡ events_in result.journal.entries }
+        ensures named { IsOf N.desk M.rules result.journal }
+        ensures replayed { IsReplayed M.rules result.journal }
     {
         let Self { log, board } = self;
-        board.shut(rt);
-        log.into_journal()
+        let told = board.shut(rt);
+        let journal = log.into_journal();
+        Closed { journal, told }
     }
 
     /// Takes one event: it is answered, written down and published at once. Where it fails the engine, the journal and

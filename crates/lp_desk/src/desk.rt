@@ -1,14 +1,15 @@
 //! One lock round a book.
 ghost use Rattle.std.specs.Prelude.{◌≡◌, ◌≢◌, ◌↔◌, ◌<◌, ◌≤◌, ◌∷◌, ◌++◌, [], IfOk, IfErr, IfSome, OnOk, Some, None};
-ghost use Rattle.lp_transition.specs.declared.event.Event.TheVariants.{Walk};
+ghost use Rattle.lp_definitions.specs.declared.event.Event.TheVariants.{Walk};
 ghost use Rattle.lp_log.specs.declared.seat.Cause.TheVariants.{NotYours};
-ghost use Rattle.lp_log.specs.Journals.{Written, next_entry};
+ghost use mathlib.Core.List.{IsPrefix};
+ghost use Rattle.lp_log.specs.Journals.{Written, events_in, next_entry};
 ghost use Rattle.lp_log.specs.Seats.{and_sent, child_seat, owner};
 ghost use Rattle.lp_desk.specs.Books.{IsSent, first_journal};
 
 use crate::held::Held;
 use crate::{Book, Commanded, Submitted};
-use lp_board::DeskName;
+use lp_board::{DeskName, Told};
 use lp_log::{Cause, Control, Seat, Turned};
 use lp_model::Consistency;
 use lp_scan::{Judged, ScanGate, judge};
@@ -27,7 +28,7 @@ pub struct Desk<M: Consistency, N: DeskName, G: ScanGate + Drop, R: Wait + Drop>
     ghost few: { workers ≤ 64 },
 }
 
-/// In one step for who owns one: docs/GATE.md says why.
+/// By hand, so that the proof of who owns one lets go of it in one step, not field by field.
 impl<M: Consistency, N: DeskName, G: ScanGate + Drop, R: Wait + Drop> Drop for Desk<M, N, G, R> {
     fn drop(self) {
         let Desk {
@@ -86,6 +87,26 @@ impl<M: Consistency, N: DeskName, G: ScanGate + Drop, R: Wait + Drop> Desk<M, N,
     {
         self.held.lock(rt).book.submit(rt, alloc, seat, event)
     }
+
+    /// As `submit`, for who was told of events, by this call or another: this one stands in the journal after all of
+    /// these. See `Book::submit_after`.
+    pub fn submit_after<T: Wait>(
+        &self,
+        rt: &T,
+        alloc: Global,
+        after: &Told<N>,
+        seat: Seat,
+        event: Event,
+    ) -> Result<Submitted<N>, Turned<Seat>>
+        ensures yours { OnOk result (owner event ≡ Some seat.task) }
+        ensures sent { IfOk result (λ done. (before : Written) × IsSent N.desk M.rules before event done.reply done.told × IsPrefix after.now (events_in before.entries) × (done.seat ≡ and_sent seat (next_entry before.entries event done.reply))) }
+        ensures child { IfOk result (λ done. done.child ≡ child_seat event done.reply.what) }
+        ensures turned { IfErr result (λ turned. turned.part ≡ seat) }
+        ensures not_yours { IfErr result (λ turned. (turned.cause ≡ NotYours) ↔ (owner event ≢ Some seat.task)) }
+    {
+        let mut held = self.held.lock(rt);
+        held.book.submit_after(rt, alloc, after, seat, event)
+    }
 }
 
 impl<M: Consistency + Sync, N: DeskName, G: ScanGate + Sync + Drop, R: Wait + Drop> Desk<
@@ -115,6 +136,30 @@ impl<M: Consistency + Sync, N: DeskName, G: ScanGate + Sync + Drop, R: Wait + Dr
     {
         match self.judged(rt, alloc, event) {
             Ok(judged) => self.take(rt, alloc, judged.as_ref(), control, event),
+            Err(cause) => Err(Turned {
+                part: control,
+                cause,
+            }),
+        }
+    }
+
+    /// As `command`, for who was told of events, by this call or another: this one stands in the journal after all of
+    /// these. See `Book::command_after`.
+    pub fn command_after<T: Threads + Wait + Sync>(
+        &self,
+        rt: &T,
+        alloc: Global,
+        after: &Told<N>,
+        control: Control,
+        event: Event,
+    ) -> Result<Commanded<N>, Turned<Control>>
+        ensures yours { OnOk result (owner event ≡ None) }
+        ensures sent { IfOk result (λ done. (before : Written) × IsSent N.desk M.rules before event done.reply done.told × IsPrefix after.now (events_in before.entries) × (done.control ≡ control ++ next_entry before.entries event done.reply ∷ [])) }
+        ensures turned { IfErr result (λ turned. turned.part ≡ control) }
+        ensures not_yours { IfErr result (λ turned. (turned.cause ≡ NotYours) ↔ (owner event ≢ None)) }
+    {
+        match self.judged(rt, alloc, event) {
+            Ok(judged) => self.take_after(rt, alloc, after, judged.as_ref(), control, event),
             Err(cause) => Err(Turned {
                 part: control,
                 cause,
@@ -164,6 +209,33 @@ impl<M: Consistency + Sync, N: DeskName, G: ScanGate + Sync + Drop, R: Wait + Dr
         match held
             .book
             .command(rt, alloc, workers, gate, judged, control, event)
+        {
+            Ok(done) => Ok(done),
+            Err(turned) => Err(turned),
+        }
+    }
+    /// The same, after all events that one was told of.
+    fn take_after<T: Threads + Wait + Sync>(
+        &self,
+        rt: &T,
+        alloc: Global,
+        after: &Told<N>,
+        judged: Option<&Judged<M>>,
+        control: Control,
+        event: Event,
+    ) -> Result<Commanded<N>, Turned<Control>>
+        requires walk { IfSome judged (λ _. event ≡ Walk) }
+        ensures yours { OnOk result (owner event ≡ None) }
+        ensures sent { IfOk result (λ done. (before : Written) × IsSent N.desk M.rules before event done.reply done.told × IsPrefix after.now (events_in before.entries) × (done.control ≡ control ++ next_entry before.entries event done.reply ∷ [])) }
+        ensures turned { IfErr result (λ turned. turned.part ≡ control) }
+        ensures not_yours { IfErr result (λ turned. (turned.cause ≡ NotYours) ↔ (owner event ≢ None)) }
+    {
+        let workers = self.workers;
+        let gate = &self.gate;
+        let mut held = self.held.lock(rt);
+        match held
+            .book
+            .command_after(rt, alloc, after, workers, gate, judged, control, event)
         {
             Ok(done) => Ok(done),
             Err(turned) => Err(turned),

@@ -8,10 +8,10 @@ mod held;
 mod launch;
 
 pub use book::{Book, Commanded, OpenedBook, Submitted};
-pub use closing::Unclosed;
+pub use closing::{Closed, Unclosed};
 pub use desk::Desk;
 pub use launch::Launched;
-pub use lp_board::{Blank, BoardReader, DeskName, LaunchFault, Told};
+pub use lp_board::{AllTold, Blank, BoardReader, DeskName, LaunchFault, Told};
 pub use lp_log::{CloseCause, Control, Journal, Log, Seat, Turned};
 pub use lp_model::{CheckKind, Consistency, Verdict};
 pub use lp_scan::{Judged, OpenGate, ScanGate};

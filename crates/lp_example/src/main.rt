@@ -2,11 +2,8 @@
 #![tactic(auto)]
 
 use anyhow::Result;
-use lp_models::Hybrid;
-use lp_patch::PatchSet;
-use lp_symbols::{SymId, Symbols};
-use lp_transition::Event::{Call, Enable, Enter, Exit, Ret};
-use lp_transition::{Class, Core, PatchStack, TaskId};
+use livepatch::Event::{Call, Enable, Enter, Exit, Ret};
+use livepatch::{Class, Core, Hybrid, PatchSet, PatchStack, SymId, Symbols, TaskId};
 use std::alloc::Global;
 
 fn boot(alloc: Global) -> Result<Core<Hybrid>> {

@@ -6,22 +6,22 @@ use mathlib.Core.Path.{fun_ext}
 use Rattle.lp_stack.specs.declared.view.Mode.TheVariants.{User}
 use Rattle.lp_stack.specs.declared.number.TaskId.{TaskId}
 use Rattle.lp_model.specs.Rules.{Rules}
-use Rattle.lp_transition.specs.declared.event.Event.{Event}
-use Rattle.lp_transition.specs.declared.event.Event.TheVariants.{Call, Ret, Sleep, Wake, Enter, Exit, Idle}
+use Rattle.lp_definitions.specs.declared.event.Event.{Event}
+use Rattle.lp_definitions.specs.declared.event.Event.TheVariants.{Call, Ret, Sleep, Wake, Enter, Exit, Idle}
 use Rattle.lp_transition.specs.declared.engine.step.Halt.{Halt}
 use Rattle.lp_transition.specs.declared.engine.step.Halt.TheVariants.{NoMemory, JournalFull}
-use Rattle.lp_transition.specs.declared.refusal.Refusal.{Refusal}
-use Rattle.lp_transition.specs.declared.reply.Reply.{Reply}
-use Rattle.lp_transition.specs.declared.reply.What.{What}
-use Rattle.lp_transition.specs.Tasks.{Fate, Unused, Live, Dead, map_live, on_live}
-use Rattle.lp_transition.specs.Leg.{Standing, State, some_live, some_task}
-use Rattle.lp_transition.specs.Laws.{StepsAsDefined}
-use Rattle.lp_transition.specs.Machine.{affected, answer, answer_by, complete_in, put_in, refusal_of, switched_groups, switches_at, waits_in}
-use Rattle.lp_transition.specs.Run.{Run, switched}
-use Rattle.lp_transition.specs.Steps.{StandsIn, IsStep}
+use Rattle.lp_definitions.specs.declared.refusal.Refusal.{Refusal}
+use Rattle.lp_definitions.specs.declared.reply.Reply.{Reply}
+use Rattle.lp_definitions.specs.declared.reply.What.{What}
+use Rattle.lp_definitions.specs.Tasks.{Fate, Unused, Live, Dead, map_live, on_live}
+use Rattle.lp_definitions.specs.Leg.{Standing, State, some_live, some_task}
+use Rattle.lp_machine.specs.Laws.{StepsAsDefined}
+use Rattle.lp_machine.specs.Machine.{affected, answer, answer_by, complete_in, put_in, refusal_of, switched_groups, switches_at, waits_in}
+use Rattle.lp_definitions.specs.Run.{Run, switched}
+use Rattle.lp_machine.specs.Steps.{StandsIn, IsStep}
 use Rattle.lp_transition.specs.Weigh.{is_switched, may_allocate}
-use Rattle.lp_transition.proofs.Quantifiers.{some_live-is, each_live-at}
-use Rattle.lp_transition.specs.Plain.{is_plain, is_point}
+use Rattle.lp_laws.proofs.Quantifiers.{some_live-is, each_live-at}
+use Rattle.lp_definitions.specs.Plain.{is_plain, is_point}
 use Rattle.lp_log.specs.inside.Plain.{is_calm}
 
 filter_none : {A : Type 0} (p : A → Bool) → ((x : A) → p x ≡ false) → (xs : List A) → filter p xs ≡ []

@@ -27,7 +27,7 @@ pub struct Members {
     before: LinkTable,
 }
 
-/// In one step for who owns one: docs/GATE.md says why.
+/// By hand, so that the proof of who owns one lets go of it in one step, not field by field.
 impl Drop for Members {
     fn drop(self) {
         let Members {

@@ -27,7 +27,7 @@ pub struct NumberSet {
     top: u64,
 }
 
-/// In one step for who owns one: docs/GATE.md says why.
+/// By hand, so that the proof of who owns one lets go of it in one step, not field by field.
 impl Drop for NumberSet {
     fn drop(self) {
         let NumberSet {

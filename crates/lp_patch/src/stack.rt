@@ -25,7 +25,7 @@ pub struct PatchStack {
     versions: Vec<Versions>,
 }
 
-/// In one step for who owns one: docs/GATE.md says why.
+/// By hand, so that the proof of who owns one lets go of it in one step, not field by field.
 impl Drop for PatchStack {
     fn drop(self) {
         let PatchStack {

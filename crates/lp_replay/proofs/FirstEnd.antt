@@ -5,19 +5,19 @@ use Rattle.std.specs.Option.{option_map, option_or}
 use Rattle.std.proofs.lemmas.Bool.{false≢true}
 use Rattle.std.proofs.lemmas.List.{append-nil, take_all, take_more, take-append-drop}
 use Rattle.lp_model.specs.Rules.{Rules}
-use Rattle.lp_transition.specs.declared.event.Event.{Event}
-use Rattle.lp_transition.specs.Steps.{StandsIn}
-use Rattle.lp_transition.specs.Table.{Engine, LastScan, state_in}
-use Rattle.lp_transition.specs.Leg.{Leg}
-use Rattle.lp_transition.specs.Run.{Run, and_then, first_leg, is_complete_now, leg_after, leg_of, next_leg, opened, opens, plus}
-use Rattle.lp_cert.specs.declared.leg_end.LegEnd.{LegEnd}
-use Rattle.lp_cert.specs.declared.cert.Cert.{Cert}
-use Rattle.lp_cert.specs.Certificates.{certs_by, completion, legs}
-use Rattle.lp_cert.specs.Ends.{Made, IsMadeOf, IsMadeWith, end_of, ended_legs, is_complete_in, made_upto, under_way}
-use Rattle.lp_cert.proofs.Completions.{certs_kept, completion_below, completion_up}
+use Rattle.lp_definitions.specs.declared.event.Event.{Event}
+use Rattle.lp_machine.specs.Steps.{StandsIn}
+use Rattle.lp_machine.specs.Table.{Engine, LastScan, state_in}
+use Rattle.lp_definitions.specs.Leg.{Leg}
+use Rattle.lp_definitions.specs.Run.{Run, and_then, first_leg, is_complete_now, leg_after, leg_of, next_leg, opened, opens, plus}
+use Rattle.lp_definitions.specs.Ends.{LegEnd, end_of}
+use Rattle.lp_definitions.specs.declared.cert.Cert.{Cert}
+use Rattle.lp_definitions.specs.Certificates.{certs_by, completion, legs}
+use Rattle.lp_cert.specs.Ends.{Made, IsMadeOf, IsMadeWith, ended_legs, is_complete_in, made_upto, under_way}
+use Rattle.lp_laws.proofs.Completions.{certs_kept, completion_below, completion_up}
 use Rattle.lp_cert.proofs.Tellings.{legs_made}
 use Rattle.lp_cert.proofs.Upto.{upto_now}
-use Rattle.lp_replay.specs.Outcome.{leg_ends}
+use Rattle.lp_definitions.specs.Outcome.{leg_ends}
 use Rattle.lp_replay.specs.inside.Recording.{first_made}
 use Rattle.lp_replay.proofs.Legs.{StandsAfter, at_first, at_more, longer}
 use Rattle.lp_replay.proofs.Recording.{number_is}

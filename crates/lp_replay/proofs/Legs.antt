@@ -5,13 +5,13 @@ use Rattle.std.proofs.lemmas.List.{append-nil, length-take-le, take_more}
 use Rattle.std.proofs.Math.ListN.{drop_of_length-le}
 use Rattle.std.proofs.Math.Seq.{drop-cons}
 use Rattle.lp_model.specs.Rules.{Rules}
-use Rattle.lp_transition.specs.declared.event.Event.{Event}
-use Rattle.lp_transition.specs.declared.reply.Reply.{Reply}
-use Rattle.lp_transition.specs.Leg.{Leg, State}
-use Rattle.lp_transition.specs.Run.{Run, and_then, first_leg, leg_after, leg_of, next_leg, opened, opens, plus}
-use Rattle.lp_transition.specs.Steps.{IsStep, OpensLegs, StandsIn}
-use Rattle.lp_transition.specs.Table.{Engine, state_in}
-use Rattle.lp_transition.proofs.Runs.{leg_after-plus}
+use Rattle.lp_definitions.specs.declared.event.Event.{Event}
+use Rattle.lp_definitions.specs.declared.reply.Reply.{Reply}
+use Rattle.lp_definitions.specs.Leg.{Leg, State}
+use Rattle.lp_definitions.specs.Run.{Run, and_then, first_leg, leg_after, leg_of, next_leg, opened, opens, plus}
+use Rattle.lp_machine.specs.Steps.{IsStep, OpensLegs, StandsIn}
+use Rattle.lp_machine.specs.Table.{Engine, state_in}
+use Rattle.lp_machine.proofs.Runs.{leg_after-plus}
 use Rattle.lp_checker.specs.Folds.{leg_with}
 use Rattle.lp_replay.specs.Legs.{leg_numbered, opened_by, to_end}
 use Rattle.lp_replay.specs.Outcome.{run_of}

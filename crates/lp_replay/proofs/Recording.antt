@@ -2,17 +2,17 @@
 use Rattle.std.proofs.Common.{◌≡◌, ◌<◌, ◌≤◌, ◌+◌, ℕ, suc, Bool, true, false, not, ◌&&◌, List, [], ◌∷◌, ◌++◌, length, Option, Some, None, Result, Ok, Err, IfOk, is_none, if◌then◌else◌, refl, sym, ap, ap₂, ◌∙◌, arith, length-append, append_assoc, get_or, subst, take}
 use Rattle.std.proofs.lemmas.List.{append-nil, length-take-le, take_more}
 use Rattle.lp_model.specs.Rules.{Rules}
-use Rattle.lp_transition.specs.declared.event.Event.{Event}
-use Rattle.lp_transition.specs.declared.event.Event.TheVariants.{Call}
-use Rattle.lp_transition.specs.declared.refusal.Refusal.{Refusal}
-use Rattle.lp_transition.specs.declared.reply.What.{What}
-use Rattle.lp_transition.specs.declared.reply.Reply.{Reply}
-use Rattle.lp_transition.specs.Events.{is_control}
-use Rattle.lp_transition.specs.Leg.{Leg, State}
-use Rattle.lp_transition.specs.Schedule.{first_check}
-use Rattle.lp_transition.specs.Run.{Run, and_then, switched, switched_at, refused_by, opened, opens, next_leg, done, unless_why, reply, replies, leg_after, first_leg, leg_of, plus}
-use Rattle.lp_transition.specs.Steps.{StandsIn, IsStep}
-use Rattle.lp_transition.specs.Table.{Engine, state_in}
+use Rattle.lp_definitions.specs.declared.event.Event.{Event}
+use Rattle.lp_definitions.specs.declared.event.Event.TheVariants.{Call}
+use Rattle.lp_definitions.specs.declared.refusal.Refusal.{Refusal}
+use Rattle.lp_definitions.specs.declared.reply.What.{What}
+use Rattle.lp_definitions.specs.declared.reply.Reply.{Reply}
+use Rattle.lp_definitions.specs.Events.{is_control}
+use Rattle.lp_definitions.specs.Leg.{Leg, State}
+use Rattle.lp_definitions.specs.Schedule.{first_check}
+use Rattle.lp_definitions.specs.Run.{Run, and_then, switched, switched_at, refused_by, opened, opens, next_leg, done, unless_why, reply, replies, leg_after, first_leg, leg_of, plus}
+use Rattle.lp_machine.specs.Steps.{StandsIn, IsStep}
+use Rattle.lp_machine.specs.Table.{Engine, state_in}
 use Rattle.lp_stays.specs.Invariant.{Counted}
 use Rattle.lp_stays.specs.Counts.{Counts}
 use Rattle.lp_cert.specs.Ends.{Made, IsFresh, IsMadeWith}

@@ -3,9 +3,9 @@ use Rattle.std.proofs.Common.{◌≡◌, ◌≤◌, ◌<◌, ◌+◌, ℕ, suc, 
 use Rattle.std.proofs.lemmas.List.{drop-drop, length-drop, length-append}
 use Rattle.std.proofs.Math.ListN.{drop_of_length-le}
 use Rattle.std.proofs.Math.Seq.{drop-cons, drop-append_seam}
-use Rattle.lp_transition.specs.declared.reply.What.{What}
-use Rattle.lp_transition.specs.declared.reply.What.TheVariants as said
-use Rattle.lp_transition.specs.declared.reply.Reply.{Reply}
+use Rattle.lp_definitions.specs.declared.reply.What.{What}
+use Rattle.lp_definitions.specs.declared.reply.What.TheVariants as said
+use Rattle.lp_definitions.specs.declared.reply.Reply.{Reply}
 use Rattle.lp_replay.specs.declared.replies.ShortWhat.{ShortWhat}
 use Rattle.lp_replay.specs.declared.replies.ShortWhat.TheVariants.{Ran, Done, Switched, Refused}
 use Rattle.lp_replay.specs.declared.replies.ShortReply.{ShortReply}

@@ -12,10 +12,10 @@ use Rattle.lp_stack.specs.declared.view.Class.{Class}
 use Rattle.lp_patch.specs.Patches.{Patch, ShareSymbols, has, stack_refusal, symbols_of}
 use Rattle.lp_transition.specs.Boot.{boot_fault, boot_refusal}
 use Rattle.lp_text.specs.Traces.{functions, TraceValue, IsTask, IsTrace}
-use Rattle.lp_transition.specs.declared.event.Event.{Event}
-use Rattle.lp_transition.specs.Run.{Run, plus}
-use Rattle.lp_transition.specs.Table.{bounds_of, task_numbers}
-use Rattle.lp_transition.specs.Tasks.{Bounds}
+use Rattle.lp_definitions.specs.declared.event.Event.{Event}
+use Rattle.lp_definitions.specs.Run.{Run, plus, task_numbers}
+use Rattle.lp_machine.specs.Table.{bounds_of}
+use Rattle.lp_definitions.specs.Tasks.{Bounds}
 use Rattle.lp_replay.specs.Outcome.{patch_of, run_of}
 use Rattle.lp_text.proofs.Pushes.{differ, not_less, not_same, or_false, or_parts}
 

@@ -1,9 +1,9 @@
 -- The legs of a trace.
 use Rattle.std.specs.Prelude.{ℕ, zero, suc, List, [], ◌∷◌, take, drop, Option, Some, None, if◌then◌else◌}
 use Rattle.lp_model.specs.Rules.{Rules}
-use Rattle.lp_transition.specs.declared.event.Event.{Event}
-use Rattle.lp_transition.specs.Leg.{Leg}
-use Rattle.lp_transition.specs.Run.{and_then, first_leg, leg_after, next_leg, opens}
+use Rattle.lp_definitions.specs.declared.event.Event.{Event}
+use Rattle.lp_definitions.specs.Leg.{Leg}
+use Rattle.lp_definitions.specs.Run.{and_then, first_leg, leg_after, next_leg, opens}
 use Rattle.lp_text.specs.Traces.{TraceValue}
 use Rattle.lp_replay.specs.Outcome.{run_of}
 

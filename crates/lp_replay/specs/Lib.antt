@@ -1,6 +1,5 @@
 pub mod Outcome
 pub mod Replies
 pub mod Legs
-pub mod Headline
 pub mod Runs
 pub mod inside

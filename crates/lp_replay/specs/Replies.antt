@@ -1,13 +1,13 @@
 -- Replies as they are kept: each in short, and apart from them the groups of those events that switched some.
 use Rattle.std.specs.Prelude.{ℕ, ◌+◌, List, [], ◌∷◌, drop}
-use Rattle.lp_transition.specs.declared.reply.What.{What}
-use Rattle.lp_transition.specs.declared.reply.What.TheVariants as what
-use Rattle.lp_transition.specs.declared.reply.Reply.{Reply}
+use Rattle.lp_definitions.specs.declared.reply.What.{What}
+use Rattle.lp_definitions.specs.declared.reply.What.TheVariants as what
+use Rattle.lp_definitions.specs.declared.reply.Reply.{Reply}
 use Rattle.lp_replay.specs.declared.replies.ShortWhat.{ShortWhat}
 use Rattle.lp_replay.specs.declared.replies.ShortWhat.TheVariants.{Ran, Done, Switched, Refused}
 use Rattle.lp_replay.specs.declared.replies.ShortReply.{ShortReply}
 use Rattle.lp_replay.specs.declared.replies.kept.KeptReply.{KeptReply}
-use Rattle.lp_transition.specs.Events.{group_numbers}
+use Rattle.lp_definitions.specs.Events.{group_numbers}
 
 -- the first of these lists of groups
 abbrev pub first_groups : List (List ℕ) → List ℕ

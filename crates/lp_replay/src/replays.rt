@@ -1,10 +1,11 @@
 //! The replay of a trace under a model.
 ghost use Rattle.std.specs.Prelude.{◌≡◌, IfOk, IsTrue};
-ghost use Rattle.lp_transition.specs.Run.{first_leg, replies};
-ghost use Rattle.lp_transition.specs.Stays.{mixed_count, stay_count};
-ghost use Rattle.lp_replay.specs.Headline.{Headline, whole_run};
+ghost use Rattle.lp_definitions.specs.Run.{first_leg, replies};
+ghost use Rattle.lp_definitions.specs.Stays.{mixed_count, stay_count};
+ghost use Rattle.lp_definitions.specs.Headline.{Headline};
+ghost use Rattle.lp_replay.specs.Outcome.{whole_run, run_of};
 ghost use Rattle.lp_text.specs.Traces.{IsTrace};
-ghost use Rattle.lp_replay.specs.Outcome.{leg_ends, run_of, IsOutcome};
+ghost use Rattle.lp_definitions.specs.Outcome.{leg_ends, IsOutcome};
 
 mod fault;
 mod first;

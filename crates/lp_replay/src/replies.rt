@@ -1,6 +1,6 @@
 //! The replies of a run.
 ghost use Rattle.std.specs.Prelude.{◌≡◌, ◌≤◌, ◌↔◌, ◌∷◌, ◌++◌, [], length, IsTrue, IfOk, OnErr, OnOk};
-ghost use Rattle.lp_transition.specs.Events.{group_numbers};
+ghost use Rattle.lp_definitions.specs.Events.{group_numbers};
 ghost use Rattle.lp_replay.specs.Replies.{lists_in, replies_of, what_of};
 
 use lp_stack::{GroupId, Level};
@@ -56,7 +56,7 @@ pub struct ReplyList {
     groups: GroupLists,
 }
 
-/// In one step for who owns one: docs/GATE.md says why.
+/// By hand, so that the proof of who owns one lets go of it in one step, not field by field.
 impl Drop for ReplyList {
     fn drop(self) {
         let ReplyList {
@@ -68,7 +68,7 @@ impl Drop for ReplyList {
 
 impl Model for ReplyList {
     ghost use Rattle.std.specs.Prelude.{◌≡◌, List, length};
-    ghost use Rattle.lp_transition.specs.declared.reply.Reply.{Reply};
+    ghost use Rattle.lp_definitions.specs.declared.reply.Reply.{Reply};
     ghost use Rattle.lp_replay.specs.Replies.{lists_of, replies_of};
 
     ghost Value = { List Reply };

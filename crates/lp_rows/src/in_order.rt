@@ -171,7 +171,7 @@ fn close<T: Wait, M: Consistency, N: DeskName>(
 {
     let seats = seats.take_all(alloc)?;
     match desk.close(rt, alloc, seats, control) {
-        Ok(journal) => Ok(Some(journal)),
+        Ok(closed) => Ok(Some(closed.journal)),
         Err(unclosed) => Err(Trouble::Unclosed(unclosed.cause)),
     }
 }

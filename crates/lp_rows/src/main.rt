@@ -8,6 +8,7 @@ mod cost;
 mod difference;
 mod engine;
 mod in_order;
+mod kernel;
 mod play;
 mod program;
 mod recordings;
@@ -114,10 +115,10 @@ fn play_recordings<R: Files + AllocGlobal + Print>(
     rt: &R,
     tally: &mut Tally,
 ) -> Result<(), Trouble> {
-    for (trace, over) in RECORDINGS {
-        match play_recording(rt, trace, over) {
+    for recording in &RECORDINGS {
+        match play_recording(rt, recording) {
             Ok(()) => tally.recordings = tally.recordings.saturating_add(1),
-            Err(trouble) => note(rt, trace, trouble, tally)?,
+            Err(trouble) => note(rt, recording.trace, trouble, tally)?,
         }
     }
     Ok(())

@@ -2,7 +2,7 @@
 
 use lp_board::LaunchFault;
 use lp_log::{Cause, CloseCause};
-use lp_trace::{OfFault, ReplayFault};
+use lp_trace::{OfFault, ReadFault, ReplayFault};
 use lp_transition::{BootFault, Halt};
 use std::alloc::{AllocError, AllocFailed};
 use std::io::{self, ErrorKind};
@@ -15,6 +15,8 @@ pub enum Trouble {
     File(ErrorKind),
     /// A line of a data file says nothing that a row has.
     NoRow,
+    /// A recording is no trace.
+    NoTrace,
     /// No engine was booted for a trace.
     Boot(BootFault),
     /// An engine took no event of a trace.
@@ -54,6 +56,15 @@ impl From<io::Error> for Trouble {
 impl From<ReplayFault> for Trouble {
     fn from(_fault: ReplayFault) -> Trouble {
         Trouble::NoMemory
+    }
+}
+
+impl From<ReadFault> for Trouble {
+    fn from(fault: ReadFault) -> Trouble {
+        match fault {
+            ReadFault::Trace(_) => Trouble::NoTrace,
+            ReadFault::NoMemory => Trouble::NoMemory,
+        }
     }
 }
 

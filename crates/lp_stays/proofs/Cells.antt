@@ -5,7 +5,7 @@ use Rattle.std.proofs.lemmas.Bool.{le-leb, lt-leb, ne_eqb, cond-true, cond-false
 use Rattle.std.proofs.lemmas.List.Folds.{list_any-append}
 use Rattle.std.proofs.lemmas.List.Sums.{sum_by_push}
 use Rattle.std.proofs.Math.Bool.{and-not_self}
-use Rattle.lp_transition.specs.Stays.{stays, is_mixed}
+use Rattle.lp_definitions.specs.Stays.{stays, is_mixed}
 use Rattle.lp_stays.specs.Invariant.{Ongoing, outside}
 use Rattle.lp_stays.specs.inside.Calls.{is_both, called, returned, one_if, begins, mixes}
 use Rattle.lp_stays.specs.Counts.{last_of, if_inside, under_way, Shows}

@@ -5,15 +5,15 @@ use Rattle.std.proofs.lemmas.List.Sums.{sum_by-append}
 use Rattle.lp_symbols.specs.declared.sym_id.SymId.{SymId}
 use Rattle.lp_patch.specs.Patches.{patch_has}
 use Rattle.lp_model.specs.Rules.{Rules, IsLawful}
-use Rattle.lp_transition.specs.declared.event.Event.{Event}
-use Rattle.lp_transition.specs.Leg.{Leg, State}
-use Rattle.lp_transition.specs.Run.{Run, AreInRange, plus, first_leg, leg_of, leg_after}
-use Rattle.lp_transition.specs.Sound.{IsSound}
-use Rattle.lp_transition.specs.Machine.{next, state_of}
-use Rattle.lp_transition.specs.Stays.{sides, moments, stays, is_mixed, all_stays}
-use Rattle.lp_transition.proofs.Steps.{does}
-use Rattle.lp_transition.proofs.Runs.{leg_after-plus}
-use Rattle.lp_transition.proofs.WholeRun.{run_sound, start_sound}
+use Rattle.lp_definitions.specs.declared.event.Event.{Event}
+use Rattle.lp_definitions.specs.Leg.{Leg, State}
+use Rattle.lp_definitions.specs.Run.{Run, AreInRange, plus, first_leg, leg_of, leg_after}
+use Rattle.lp_definitions.specs.Sound.{IsSound}
+use Rattle.lp_machine.specs.Machine.{next, state_of}
+use Rattle.lp_definitions.specs.Stays.{sides, moments, stays, is_mixed, all_stays}
+use Rattle.lp_machine.proofs.Steps.{does}
+use Rattle.lp_machine.proofs.Runs.{leg_after-plus}
+use Rattle.lp_laws.proofs.WholeRun.{run_sound, start_sound}
 use Rattle.lp_stays.specs.Invariant.{Counted, kept}
 use Rattle.lp_stays.specs.inside.Calls.{called, returned, begins, mixes, calls, returns, one_more}
 use Rattle.lp_stays.specs.Counts.{last_of, Shows, Counts}

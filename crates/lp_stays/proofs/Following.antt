@@ -3,13 +3,13 @@ use Rattle.std.proofs.Common.{◌≡◌, [], Option, ap, ◌∙◌}
 use Rattle.lp_symbols.specs.declared.sym_id.SymId.{SymId}
 use Rattle.lp_stack.specs.declared.number.TaskId.{TaskId}
 use Rattle.lp_model.specs.Rules.{Rules}
-use Rattle.lp_transition.specs.declared.event.Event.{Event}
-use Rattle.lp_transition.specs.declared.event.Event.TheVariants.{Ret}
-use Rattle.lp_transition.specs.declared.reply.Reply.{Reply}
-use Rattle.lp_transition.specs.Tasks.{on_live}
-use Rattle.lp_transition.specs.Leg.{State}
-use Rattle.lp_transition.specs.Run.{Run}
-use Rattle.lp_transition.specs.Steps.{StandsIn, IsStep}
+use Rattle.lp_definitions.specs.declared.event.Event.{Event}
+use Rattle.lp_definitions.specs.declared.event.Event.TheVariants.{Ret}
+use Rattle.lp_definitions.specs.declared.reply.Reply.{Reply}
+use Rattle.lp_definitions.specs.Tasks.{on_live}
+use Rattle.lp_definitions.specs.Leg.{State}
+use Rattle.lp_definitions.specs.Run.{Run}
+use Rattle.lp_machine.specs.Steps.{StandsIn, IsStep}
 use Rattle.lp_stays.specs.Counts.{top_of, IsNext}
 
 -- the event is the next of each run that stands where the engine stood, if a return comes with the last frame's function

@@ -3,10 +3,10 @@ use Rattle.std.proofs.Common.{◌≡◌, ◌≢◌, ℕ, zero, suc, pred, ◌+�
 use Rattle.std.proofs.lemmas.Bool.{cases_Bool, cases_eq, cond-true, cond-false}
 use Rattle.lp_patch.specs.Patches.{patch_has}
 use Rattle.lp_symbols.specs.declared.sym_id.SymId.{SymId}
-use Rattle.lp_transition.specs.declared.event.Event.{Event}
-use Rattle.lp_transition.specs.declared.event.Event.TheVariants.{Call, Ret}
-use Rattle.lp_transition.specs.declared.reply.What.{What}
-use Rattle.lp_transition.specs.declared.reply.What.TheVariants.{Ran, Refused}
+use Rattle.lp_definitions.specs.declared.event.Event.{Event}
+use Rattle.lp_definitions.specs.declared.event.Event.TheVariants.{Call, Ret}
+use Rattle.lp_definitions.specs.declared.reply.What.{What}
+use Rattle.lp_definitions.specs.declared.reply.What.TheVariants.{Ran, Refused}
 use Rattle.lp_stays.specs.Invariant.{Ongoing, Counted, outside, place, kept}
 use Rattle.lp_stays.specs.inside.Calls.{is_outside, is_both, called, returned, one_if, begins, mixes, after_call, after_return, calls, returns, one_more, by_call, by_return, after_event}
 use Rattle.lp_stays.proofs.Sums.{sum_from, sum_last}

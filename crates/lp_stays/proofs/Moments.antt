@@ -7,11 +7,11 @@ use Rattle.std.proofs.lemmas.List.Sums.{length-filter, count_by-le-length}
 use Rattle.lp_stack.specs.declared.frame.Frame.{Frame}
 use Rattle.lp_patch.specs.Patches.{Patches, patch_has}
 use Rattle.lp_model.specs.Rules.{Rules, IsLawful}
-use Rattle.lp_transition.specs.declared.event.Event.{Event}
-use Rattle.lp_transition.specs.Leg.{Leg}
-use Rattle.lp_transition.specs.Run.{and_then, opened, opens, next_leg, leg_after}
-use Rattle.lp_transition.specs.Stays.{sides, stack, moments}
-use Rattle.lp_transition.proofs.WholeRun.{next_patches}
+use Rattle.lp_definitions.specs.declared.event.Event.{Event}
+use Rattle.lp_definitions.specs.Leg.{Leg}
+use Rattle.lp_definitions.specs.Run.{and_then, opened, opens, next_leg, leg_after}
+use Rattle.lp_definitions.specs.Stays.{sides, stack, moments}
+use Rattle.lp_laws.proofs.WholeRun.{next_patches}
 use Rattle.lp_stays.specs.Counts.{last_of}
 
 module _ (model : Rules) where

@@ -1,7 +1,7 @@
 -- One more moment: what becomes of the stays.
 use Rattle.std.proofs.Common.{◌≡◌, Bool, List, [], ◌∷◌, ◌++◌, refl, sym, ap, ◌∙◌}
 use Rattle.std.proofs.lemmas.List.{append_assoc}
-use Rattle.lp_transition.specs.Stays.{join_first, stays}
+use Rattle.lp_definitions.specs.Stays.{join_first, stays}
 use Rattle.lp_stays.specs.Counts.{last_of}
 
 -- ---- The last of a list

@@ -7,16 +7,16 @@ use Rattle.lp_symbols.specs.declared.sym_id.SymId.{SymId}
 use Rattle.lp_stack.specs.declared.number.TaskId.{TaskId}
 use Rattle.lp_stack.specs.declared.frame.Frame.{Frame}
 use Rattle.lp_model.specs.Rules.{Rules}
-use Rattle.lp_transition.specs.declared.event.Event.{Event}
-use Rattle.lp_transition.specs.declared.event.Event.TheVariants.{Call, Ret, Sleep, Wake, Enter, Exit, Idle, Fork, Die, Walk, Stop, Enable, Disable, Reverse}
-use Rattle.lp_transition.specs.declared.refusal.Refusal.{Refusal}
-use Rattle.lp_transition.specs.declared.refusal.Refusal.TheVariants.{UnknownTask, TaskUsed, StackFull, StackEmpty, StackNotEmpty}
-use Rattle.lp_transition.specs.Run.{control_tests}
-use Rattle.lp_transition.specs.Events.{is_control}
-use Rattle.lp_transition.specs.Tasks.{Fate, Unused, Live, Dead, on_live, map_live, is_unused, fits, first_of, depth, tests, change}
-use Rattle.lp_transition.specs.Leg.{Standing, State}
-use Rattle.lp_transition.specs.Machine.{Standings, outline_of, outlines_of, complete_in, own_effect, switched_task, refusal_of, affected, next, level_of}
-use Rattle.lp_transition.proofs.EngineLemmas.{next-refused, next-accepted, next-turned}
+use Rattle.lp_definitions.specs.declared.event.Event.{Event}
+use Rattle.lp_definitions.specs.declared.event.Event.TheVariants.{Call, Ret, Sleep, Wake, Enter, Exit, Idle, Fork, Die, Walk, Stop, Enable, Disable, Reverse}
+use Rattle.lp_definitions.specs.declared.refusal.Refusal.{Refusal}
+use Rattle.lp_definitions.specs.declared.refusal.Refusal.TheVariants.{UnknownTask, TaskUsed, StackFull, StackEmpty, StackNotEmpty}
+use Rattle.lp_definitions.specs.Run.{control_tests}
+use Rattle.lp_definitions.specs.Events.{is_control}
+use Rattle.lp_definitions.specs.Tasks.{Fate, Unused, Live, Dead, on_live, map_live, is_unused, fits, first_of, depth, tests, change}
+use Rattle.lp_definitions.specs.Leg.{Standing, State}
+use Rattle.lp_machine.specs.Machine.{Standings, outline_of, outlines_of, complete_in, own_effect, switched_task, refusal_of, affected, next, level_of}
+use Rattle.lp_machine.proofs.EngineLemmas.{next-refused, next-accepted, next-turned}
 use Rattle.lp_stays.specs.Counts.{top_of}
 
 -- the frames of a task

@@ -7,22 +7,22 @@ use Rattle.lp_symbols.specs.declared.sym_id.SymId.{SymId}
 use Rattle.lp_stack.specs.declared.number.TaskId.{TaskId}
 use Rattle.lp_stack.specs.declared.view.Class.{Class}
 use Rattle.lp_model.specs.Rules.{Rules, IsLawful}
-use Rattle.lp_transition.specs.declared.event.Event.{Event}
-use Rattle.lp_transition.specs.declared.event.Event.TheVariants.{Call, Ret}
-use Rattle.lp_transition.specs.declared.refusal.Refusal.{Refusal}
-use Rattle.lp_transition.specs.declared.reply.Reply.{Reply}
-use Rattle.lp_transition.specs.declared.reply.What.{What}
-use Rattle.lp_transition.specs.declared.reply.What.TheVariants.{Ran, Refused}
-use Rattle.lp_transition.specs.Tasks.{Fate, Live}
-use Rattle.lp_transition.specs.Leg.{Standing, State}
-use Rattle.lp_transition.specs.Sound.{IsSound}
-use Rattle.lp_transition.specs.Run.{Run, AreInRange, plus, first_leg, leg_of, switched, at_boot, booted}
-use Rattle.lp_transition.specs.Machine.{affected, switched_groups, refusal_of, level_of, answer, state_of}
-use Rattle.lp_transition.specs.Stays.{sides, stack, moments, stays, is_mixed, all_stays, stay_count, mixed_count}
-use Rattle.lp_transition.proofs.EngineLemmas.{answer-refused, answer-accepted}
-use Rattle.lp_transition.proofs.States.{state_sound}
-use Rattle.lp_transition.proofs.Steps.{open_shown, does}
-use Rattle.lp_transition.proofs.WholeRun.{run_sound, start_sound}
+use Rattle.lp_definitions.specs.declared.event.Event.{Event}
+use Rattle.lp_definitions.specs.declared.event.Event.TheVariants.{Call, Ret}
+use Rattle.lp_definitions.specs.declared.refusal.Refusal.{Refusal}
+use Rattle.lp_definitions.specs.declared.reply.Reply.{Reply}
+use Rattle.lp_definitions.specs.declared.reply.What.{What}
+use Rattle.lp_definitions.specs.declared.reply.What.TheVariants.{Ran, Refused}
+use Rattle.lp_definitions.specs.Tasks.{Fate, Live}
+use Rattle.lp_definitions.specs.Leg.{Standing, State}
+use Rattle.lp_definitions.specs.Sound.{IsSound}
+use Rattle.lp_definitions.specs.Run.{Run, AreInRange, plus, first_leg, leg_of, switched, at_boot, booted}
+use Rattle.lp_machine.specs.Machine.{affected, switched_groups, refusal_of, level_of, answer, state_of}
+use Rattle.lp_definitions.specs.Stays.{sides, stack, moments, stays, is_mixed, all_stays, stay_count, mixed_count}
+use Rattle.lp_machine.proofs.EngineLemmas.{answer-refused, answer-accepted}
+use Rattle.lp_machine.proofs.States.{state_sound}
+use Rattle.lp_machine.proofs.Steps.{open_shown, does}
+use Rattle.lp_laws.proofs.WholeRun.{run_sound, start_sound}
 use Rattle.lp_stays.specs.Invariant.{Counted, outside, kept}
 use Rattle.lp_stays.specs.inside.Calls.{returns, one_more, by_return, after_event}
 use Rattle.lp_stays.specs.Counts.{Shows, Counts, IsNext}

@@ -7,11 +7,11 @@ use Rattle.lp_stack.specs.declared.number.TaskId.{TaskId}
 use Rattle.lp_stack.specs.declared.frame.Frame.{Frame}
 use Rattle.lp_patch.specs.Patches.{Patches}
 use Rattle.lp_model.specs.Rules.{Rules, IsLawful}
-use Rattle.lp_transition.specs.declared.event.Event.{Event}
-use Rattle.lp_transition.specs.declared.event.Event.TheVariants.{Ret}
-use Rattle.lp_transition.specs.declared.reply.Reply.{Reply}
-use Rattle.lp_transition.specs.Run.{Run, AreInRange, plus, first_leg, leg_of, reply}
-use Rattle.lp_transition.specs.Stays.{stack, moments, stays, stay_count, mixed_count}
+use Rattle.lp_definitions.specs.declared.event.Event.{Event}
+use Rattle.lp_definitions.specs.declared.event.Event.TheVariants.{Ret}
+use Rattle.lp_definitions.specs.declared.reply.Reply.{Reply}
+use Rattle.lp_definitions.specs.Run.{Run, AreInRange, plus, first_leg, leg_of, reply}
+use Rattle.lp_definitions.specs.Stays.{stack, moments, stays, stay_count, mixed_count}
 use Rattle.lp_stays.specs.Invariant.{Ongoing, Counted, kept}
 
 -- ---- The stay under way

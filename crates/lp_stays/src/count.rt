@@ -7,11 +7,11 @@ ghost use Rattle.lp_stays.specs.Counts.{IsFirst, CountsOne};
 
 use crate::holders::{all_holders, holders, next_holder};
 use crate::present::Present;
+use lp_definitions::{Event, Reply, What};
 use lp_numbers::NUMBERS;
 use lp_patch::PatchStack;
 use lp_stack::{Level, TaskId};
 use lp_symbols::SymId;
-use lp_transition::{Event, Reply, What};
 use std::alloc::{AllocError, Global};
 use std::marker::Model;
 
@@ -37,7 +37,7 @@ pub struct StayCount {
     holders: Vec<u16>,
 }
 
-/// In one step for who owns one: docs/GATE.md says why.
+/// By hand, so that the proof of who owns one lets go of it in one step, not field by field.
 impl Drop for StayCount {
     fn drop(self) {
         let StayCount {
@@ -91,6 +91,7 @@ impl StayCount {
         ensures counts { CountsOne event reply.now top self.old self.new }
         ensures events { self.new.events ≡ self.old.events + 1 }
     {
+        // For the proof alone, which knows what every value keeps once a field is read.
         let _ = &self.patches;
         self.keep(event, &reply.what, top);
     }

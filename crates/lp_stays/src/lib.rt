@@ -6,6 +6,6 @@ mod holders;
 mod present;
 
 pub use count::StayCount;
+pub use lp_definitions::{Event, Reply};
 pub use lp_patch::PatchStack;
 pub use lp_symbols::SymId;
-pub use lp_transition::{Event, Reply};

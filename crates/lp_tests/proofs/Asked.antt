@@ -7,11 +7,11 @@ use Rattle.lp_stack.specs.declared.number.GroupId.{GroupId}
 use Rattle.lp_model.specs.Rules.{Rules}
 use Rattle.lp_model.specs.declared.check.CheckKind.{CheckKind}
 use Rattle.lp_numbers.specs.Numbers.{Numbers, has, IsLeastFrom}
-use Rattle.lp_transition.specs.Leg.{Standing}
-use Rattle.lp_transition.specs.Machine.{view_of}
+use Rattle.lp_definitions.specs.Leg.{Standing}
+use Rattle.lp_machine.specs.Machine.{view_of}
 use Rattle.lp_transition.specs.Scan.{MayLeaveOut}
-use Rattle.lp_transition.specs.Table.{Engine, slot, state_in}
-use Rattle.lp_transition.proofs.TableLemmas.{live_from_slot, slot_from_live}
+use Rattle.lp_machine.specs.Table.{Engine, slot, state_in}
+use Rattle.lp_tasks.proofs.TableLemmas.{live_from_slot, slot_from_live}
 
 -- ---- The groups that wait
 

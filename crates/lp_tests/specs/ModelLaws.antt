@@ -1,10 +1,12 @@
 -- The laws of a transition at one model, and at two.
 use Rattle.std.specs.Prelude.{ℕ, ◌≤◌}
 use Rattle.lp_model.specs.Rules.{Rules}
-use Rattle.lp_transition.specs.Laws.{HasOneFirstCheck, KeepsThePast, SwitchesNoneLater, CompletesNoneLater, WaitsForAReason, TrustsChains, OpensSoundly, KeepsOneVersion, MixesNoStay, StepsAsDefined, StatesAreSound, StatesTell}
-use Rattle.lp_transition.specs.Leg.{Leg}
-use Rattle.lp_transition.specs.Schedule.{Schedule, CompletesAt, IsFirstCheck}
-use Rattle.lp_transition.specs.Sound.{IsSound}
+use Rattle.lp_laws.specs.Laws.{HasOneFirstCheck, KeepsThePast, SwitchesNoneLater, CompletesNoneLater, WaitsForAReason, TrustsChains, OpensSoundly, KeepsOneVersion, MixesNoStay}
+use Rattle.lp_machine.specs.Laws.{StepsAsDefined, StatesAreSound}
+use Rattle.lp_transition.specs.Laws.{StatesTell}
+use Rattle.lp_definitions.specs.Leg.{Leg}
+use Rattle.lp_definitions.specs.Schedule.{Schedule, CompletesAt, IsFirstCheck}
+use Rattle.lp_definitions.specs.Sound.{IsSound}
 
 -- all laws that are about one model
 pub record KeepsAllLaws (model : Rules) : Type 0 where

@@ -1,7 +1,7 @@
 -- The parts of an input, put together.
 use Rattle.std.proofs.Common.{◌≡◌, ◌<◌, ◌≤◌, ℕ, List, length, Bool, true, not, Option, None, Some, is_some, Ok, Err, refl, sym, ap, ◌∙◌, arith, nat_lt, lt-ltb}
 use Rattle.std.proofs.lemmas.Bool.{cond-true, cond-false}
-use Rattle.lp_cert.specs.declared.cert.Cert.{Cert}
+use Rattle.lp_definitions.specs.declared.cert.Cert.{Cert}
 use Rattle.lp_text.specs.declared.check_input.CheckInput.{CheckInput}
 use Rattle.lp_text.specs.declared.fault.Cause.TheVariants as cause
 use Rattle.lp_text.specs.declared.fault.ReadFault.{ReadFault}

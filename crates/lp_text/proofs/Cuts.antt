@@ -10,7 +10,7 @@ use Rattle.std.proofs.Math.Seq.{drop-cons}
 use Rattle.lp_text.specs.declared.fault.Cause.TheVariants as cause
 use Rattle.lp_text.specs.inside.Cut.{IsCut}
 use Rattle.lp_text.specs.Words.{parts}
-use Rattle.lp_transition.specs.declared.event.Event.{Event}
+use Rattle.lp_definitions.specs.declared.event.Event.{Event}
 use Rattle.lp_text.specs.Reading.{last_word, no_word}
 
 -- no byte is this one, up to an index

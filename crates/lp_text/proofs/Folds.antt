@@ -12,7 +12,7 @@ use Rattle.lp_stack.specs.declared.number.TaskId.{TaskId}
 use Rattle.lp_stack.specs.declared.view.Class.{Class}
 use Rattle.lp_patch.specs.declared.fault.PatchFault.TheVariants as patch
 use Rattle.lp_patch.specs.Patches.{first_fault, patch_refusal}
-use Rattle.lp_transition.specs.declared.event.Event.{Event}
+use Rattle.lp_definitions.specs.declared.event.Event.{Event}
 use Rattle.lp_text.specs.declared.form.TraceForm.{TraceForm}
 use Rattle.lp_text.specs.declared.form.TraceForm.TheVariants.{Single, Stacked}
 use Rattle.lp_text.specs.declared.keyword.LineKeyword.{LineKeyword}

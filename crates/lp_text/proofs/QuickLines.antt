@@ -14,8 +14,8 @@ use Rattle.std.proofs.lemmas.List.Folds.{list_all-append}
 use Rattle.std.proofs.lemmas.Str.{digit_value_digit}
 use Rattle.lp_symbols.specs.declared.sym_id.SymId.{SymId}
 use Rattle.lp_stack.specs.declared.number.TaskId.{TaskId}
-use Rattle.lp_transition.specs.declared.event.Event.{Event}
-use Rattle.lp_transition.specs.declared.event.Event.TheVariants.{Call}
+use Rattle.lp_definitions.specs.declared.event.Event.{Event}
+use Rattle.lp_definitions.specs.declared.event.Event.TheVariants.{Call}
 use Rattle.lp_text.specs.Words.{line_of, lines, words}
 use Rattle.lp_text.specs.Traces.{AreNames, TraceValue, event_words}
 use Rattle.lp_text.specs.Reading.{add_event, last_word, reading_from, symbol_of, with_line}

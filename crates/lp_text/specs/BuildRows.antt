@@ -5,8 +5,8 @@ use Rattle.lp_stack.specs.declared.number.TaskId.{TaskId}
 use Rattle.lp_stack.specs.declared.view.Class.{Class}
 use Rattle.lp_stack.specs.declared.view.Class.TheVariants as class
 use Rattle.lp_model.specs.declared.check.ForkKind.TheVariants.{Own}
-use Rattle.lp_transition.specs.declared.event.Event.{Event}
-use Rattle.lp_transition.specs.declared.event.Event.TheVariants.{Call, Ret, Fork, Enable}
+use Rattle.lp_definitions.specs.declared.event.Event.{Event}
+use Rattle.lp_definitions.specs.declared.event.Event.TheVariants.{Call, Ret, Fork, Enable}
 use Rattle.lp_text.specs.declared.form.TraceForm.TheVariants.{Single, Stacked}
 use Rattle.lp_text.specs.Traces.{TraceValue}
 use Rattle.lp_text.specs.Build.{of_parts, spelling}

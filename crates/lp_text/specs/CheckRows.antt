@@ -1,10 +1,10 @@
 -- Worked inputs of a check: what the definitions make of short ones.
 use Rattle.std.specs.Prelude.{◌≡◌, ℕ, List, [], ◌∷◌, ◌++◌, Ok, Err, codes}
 use Rattle.lp_stack.specs.declared.view.Class.TheVariants as class
-use Rattle.lp_transition.specs.declared.event.Event.TheVariants.{Enable}
-use Rattle.lp_cert.specs.declared.cert.Cert.{Cert}
-use Rattle.lp_cert.specs.declared.cert.Claim.TheVariants.{Waiting, Floor}
-use Rattle.lp_cert.specs.declared.line.Line.TheVariants.{Hold, Busy, Born}
+use Rattle.lp_definitions.specs.declared.event.Event.TheVariants.{Enable}
+use Rattle.lp_definitions.specs.declared.cert.Cert.{Cert}
+use Rattle.lp_definitions.specs.declared.cert.Claim.TheVariants.{Waiting, Floor}
+use Rattle.lp_definitions.specs.declared.line.Line.TheVariants.{Hold, Busy, Born}
 use Rattle.lp_text.specs.declared.form.TraceForm.TheVariants.{Single}
 use Rattle.lp_text.specs.declared.fault.Cause.{Cause}
 use Rattle.lp_text.specs.declared.fault.Cause.TheVariants as cause

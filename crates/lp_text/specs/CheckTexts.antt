@@ -1,10 +1,10 @@
 -- A trace and a certificate of one of its legs, and their one spelling as the input of a check.
 use Rattle.std.specs.Prelude.{ℕ, ◌<◌, ◌≤◌, List, [], ◌∷◌, ◌++◌, length, codes}
 use Rattle.std.specs.List.{flat_map, AllByRecursion}
-use Rattle.lp_cert.specs.declared.cert.Cert.{Cert}
-use Rattle.lp_cert.specs.declared.line.Line.{Line}
-use Rattle.lp_cert.specs.declared.line.Line.TheVariants.{Hold, Busy, Born}
-use Rattle.lp_cert.specs.Text.{cert_lines}
+use Rattle.lp_definitions.specs.declared.cert.Cert.{Cert}
+use Rattle.lp_definitions.specs.declared.line.Line.{Line}
+use Rattle.lp_definitions.specs.declared.line.Line.TheVariants.{Hold, Busy, Born}
+use Rattle.lp_text.specs.CertTexts.{cert_lines}
 use Rattle.lp_text.specs.declared.check_input.CheckInput.{CheckInput}
 use Rattle.lp_text.specs.Words.{line_of}
 use Rattle.lp_text.specs.Traces.{IsTrace, text_of}

@@ -9,6 +9,7 @@ pub mod Laws
 pub mod Build
 pub mod BuildRows
 pub mod Input
+pub mod CertTexts
 pub mod CheckReading
 pub mod CheckTexts
 pub mod CheckRows

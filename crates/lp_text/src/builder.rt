@@ -15,9 +15,9 @@ use crate::parser::Parser;
 use crate::read::MOST_BYTES;
 use crate::trace::Trace;
 use crate::write::name_of;
+use lp_definitions::Event;
 use lp_stack::{Class, TaskId};
 use lp_symbols::{SymId, Symbols};
-use lp_transition::Event;
 use std::alloc::Global;
 
 /// What the lines so far give, where the next one stands, and how long they are.

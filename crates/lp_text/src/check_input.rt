@@ -17,7 +17,7 @@ use crate::read::MOST_BYTES;
 use crate::split::cut;
 use crate::stream_fault::StreamFault;
 use crate::trace::Trace;
-use lp_cert::{Cert, Line, LineList};
+use lp_definitions::{Cert, Line, LineList};
 use std::alloc::Global;
 use std::io::Read;
 

@@ -9,7 +9,7 @@ use crate::fault::Cause;
 use crate::keyword::is;
 use crate::number::event_number_of;
 use crate::split::{last_word, next_number, next_word};
-use lp_cert::{Cert, Claim, Line, LineList};
+use lp_definitions::{Cert, Claim, Line, LineList};
 use lp_numbers::NUMBERS;
 use lp_stack::{GroupId, TaskId};
 use std::alloc::Global;

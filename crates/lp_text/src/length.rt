@@ -8,10 +8,10 @@ use crate::form::TraceForm;
 use crate::keyword::{EventKeyword, LineKeyword, class_word, fork_word};
 use crate::write::name_of;
 use itoa::Buffer;
+use lp_definitions::Event;
 use lp_model::ForkKind;
 use lp_stack::{Class, TaskId};
 use lp_symbols::{SymId, Symbols};
-use lp_transition::Event;
 
 /// How many digits a number has.
 fn digits(number: u16) -> usize

@@ -10,10 +10,10 @@ use crate::form::TraceForm;
 use crate::keyword::{EventKeyword, class_of, fork_kind_of};
 use crate::split::{last_number, last_word, next_number};
 use crate::symbol_cache::SymbolCache;
+use lp_definitions::Event;
 use lp_numbers::NUMBERS;
 use lp_stack::{Class, TaskId};
 use lp_symbols::{SymId, Symbols};
-use lp_transition::Event;
 use std::str;
 
 /// The symbol of a name.

@@ -9,9 +9,9 @@ ghost use Rattle.lp_text.specs.declared.form.TraceForm.TheVariants.{Single, Stac
 use crate::builder::Builder;
 use crate::form::TraceForm;
 use crate::trace::Trace;
+use lp_definitions::Event;
 use lp_stack::{Class, TaskId};
 use lp_symbols::{SymId, Symbols};
-use lp_transition::Event;
 use std::alloc::Global;
 use thiserror::Error;
 

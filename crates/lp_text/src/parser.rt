@@ -17,11 +17,11 @@ use crate::quick::quick_event;
 use crate::split::{cut_word, last_word};
 use crate::symbol_cache::SymbolCache;
 use crate::trace::Trace;
+use lp_definitions::{Event, MOST_EVENTS};
 use lp_numbers::NUMBERS;
 use lp_patch::{MOST_FUNCTIONS, MOST_PATCHES};
 use lp_stack::{Class, TaskId};
 use lp_symbols::{SymFault, SymId, Symbols};
-use lp_transition::{Event, MOST_EVENTS};
 use std::alloc::{AllocError, Global};
 use std::marker::Model;
 use std::str;
@@ -38,7 +38,7 @@ pub(crate) struct Parser {
     events: Vec<Event>,
 }
 
-/// In one step for who owns one: docs/GATE.md says why.
+/// By hand, so that the proof of who owns one lets go of it in one step, not field by field.
 impl Drop for Parser {
     fn drop(self) {
         let Parser {

@@ -7,10 +7,10 @@ ghost use Rattle.lp_text.specs.inside.QuickLines.{BeginsWith};
 
 use crate::split::cut;
 use crate::symbol_cache::SymbolCache;
+use lp_definitions::Event;
 use lp_numbers::NUMBERS;
 use lp_stack::TaskId;
 use lp_symbols::Symbols;
-use lp_transition::Event;
 
 /// The bytes `call` as a number, the first one lowest; likewise the others.
 const CALL: u32 = 0x6c6c_6163;

@@ -3,9 +3,9 @@ ghost use Rattle.std.specs.Prelude.{◌≡◌, ◌≤◌, ◌-◌, [], length, s
 ghost use Rattle.lp_text.specs.Traces.{functions, IsTrace};
 
 use crate::form::TraceForm;
+use lp_definitions::Event;
 use lp_stack::{Class, TaskId};
 use lp_symbols::{SymId, Symbols};
-use lp_transition::Event;
 use std::marker::Model;
 
 /// What happened to the tasks of a system while patches came and went: names of functions, patches
@@ -20,7 +20,7 @@ pub struct Trace {
     pub(crate) events: Vec<Event>,
 }
 
-/// In one step for who owns one: docs/GATE.md says why.
+/// By hand, so that the proof of who owns one lets go of it in one step, not field by field.
 impl Drop for Trace {
     fn drop(self) {
         let Trace {

@@ -13,10 +13,10 @@ use crate::form::TraceForm;
 use crate::keyword::{EventKeyword, LineKeyword, class_word, fork_word};
 use crate::trace::Trace;
 use itoa::Buffer;
+use lp_definitions::Event;
 use lp_model::ForkKind;
 use lp_stack::{Class, TaskId};
 use lp_symbols::{SymId, Symbols};
-use lp_transition::Event;
 use std::io::{self, Write};
 use thiserror::Error;
 

@@ -1,7 +1,7 @@
 -- What comes of a trace that threads play, and what is written of it.
 use Rattle.std.specs.Prelude.{◌≡◌, ℕ, ◌-◌, not, is_some, List, ◌++◌, filter, length, All, decimal, codes}
 use Rattle.lp_model.specs.Rules.{Rules}
-use Rattle.lp_transition.specs.declared.event.Event.{Event}
+use Rattle.lp_definitions.specs.declared.event.Event.{Event}
 use Rattle.lp_text.specs.Traces.{TraceValue}
 use Rattle.lp_replay.specs.Outcome.{run_of}
 use Rattle.lp_log.specs.Entries.{Entry}

@@ -5,7 +5,7 @@ ghost use Rattle.lp_threads.specs.Faults.{of_launched, of_turned, of_unclosed};
 ghost use Rattle.lp_threads.specs.declared.fault.ThreadsFault.TheVariants.{Run};
 ghost use Rattle.lp_replay.specs.declared.run_fault.RunFault.TheVariants.{NoMemory, Write};
 
-use lp_board::LaunchFault;
+use lp_board::{DeskName, LaunchFault};
 use lp_desk::Unclosed;
 use lp_log::{Cause, CloseCause};
 use lp_replay::{ReplayFault, RunFault, WriteFault};
@@ -137,10 +137,10 @@ impl From<Cause> for ThreadsFault {
     }
 }
 
-impl From<Unclosed> for ThreadsFault {
+impl<N: DeskName> From<Unclosed<N>> for ThreadsFault {
     ghost from_gives = { λ unclosed e. e ≡ of_unclosed unclosed.cause };
 
-    fn from(unclosed: Unclosed) -> ThreadsFault {
+    fn from(unclosed: Unclosed<N>) -> ThreadsFault {
         match unclosed.cause {
             CloseCause::NoMemory => ThreadsFault::Run(RunFault::NoMemory),
             cause => ThreadsFault::Close(cause),

@@ -151,8 +151,8 @@ fn play_launched<
     drop(readers);
     let (seats, control) = sent(rt, alloc, &desk, scripts, seats, control)?;
     let given = seats.len();
-    let journal = desk.close(rt, alloc, seats, control)?;
-    let events = journal.entries().len();
+    let closed = desk.close(rt, alloc, seats, control)?;
+    let events = closed.journal.entries().len();
     let skipped = trace.events().len().saturating_sub(events);
     Ok(Play {
         seats: given,

@@ -19,7 +19,7 @@ pub(crate) struct Returns<S: TraceName> {
     ghost own: { cause ≢ Some NotYours },
 }
 
-/// In one step for who owns one: docs/GATE.md says why.
+/// By hand, so that the proof of who owns one lets go of it in one step, not field by field.
 impl<S: TraceName> Drop for Returns<S> {
     fn drop(self) {
         let Returns {

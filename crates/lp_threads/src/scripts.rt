@@ -21,7 +21,7 @@ pub(crate) struct Scripts<S: TraceName> {
     ghost dealt: { IsDealt S.events tasks.items control.items },
 }
 
-/// In one step for who owns one: docs/GATE.md says why.
+/// By hand, so that the proof of who owns one lets go of it in one step, not field by field.
 impl<S: TraceName> Drop for Scripts<S> {
     fn drop(self) {
         let Scripts {

@@ -4,7 +4,7 @@ use std::marker::Brand;
 /// Stands for the trace that threads play: its events. Each call of `threads` picks it.
 pub(crate) trait TraceName {
     ghost use Rattle.std.specs.Prelude.{List};
-    ghost use Rattle.lp_transition.specs.declared.event.Event.{Event};
+    ghost use Rattle.lp_definitions.specs.declared.event.Event.{Event};
 
     ghost events: { List Event };
 }

@@ -4,8 +4,8 @@ use Rattle.std.proofs.Math.Seq.{take-append_seam}
 use Rattle.std.proofs.lemmas.Grind.{flat_map-append}
 use Rattle.std.proofs.lemmas.List.{append-nil, map-append, take-map}
 use Rattle.std.specs.List.{flat_map}
-use Rattle.lp_cert.specs.declared.line.Line.{Line}
-use Rattle.lp_cert.specs.Text.{reason_words}
+use Rattle.lp_definitions.specs.declared.line.Line.{Line}
+use Rattle.lp_text.specs.CertTexts.{reason_words}
 use Rattle.lp_text.specs.Words.{line_of}
 use Rattle.lp_trace.specs.declared.report.births.KeptBirth.{KeptBirth}
 use Rattle.lp_trace.specs.inside.Births.{AreStarts, IsKept, birth_line, text_of}

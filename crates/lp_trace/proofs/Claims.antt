@@ -1,11 +1,11 @@
 -- The first lines of certificates, from what they have in common and the group.
 use Rattle.std.proofs.Common.{◌≡◌, ℕ, List, [], ◌∷◌, ◌++◌, Some, decimal, sym, ap, ap₂, ◌∙◌, append_assoc}
 use Rattle.std.specs.List.{flat_map}
-use Rattle.lp_cert.specs.declared.cert.Cert.{Cert}
-use Rattle.lp_cert.specs.declared.cert.CertHead.{CertHead}
-use Rattle.lp_cert.specs.declared.line.Line.{Line}
+use Rattle.lp_definitions.specs.declared.cert.Cert.{Cert}
+use Rattle.lp_cert.specs.declared.cert_head.CertHead.{CertHead}
+use Rattle.lp_definitions.specs.declared.line.Line.{Line}
 use Rattle.lp_cert.specs.Ends.{cert_head}
-use Rattle.lp_cert.specs.Text.{cert_lines, claim_word}
+use Rattle.lp_text.specs.CertTexts.{cert_lines, claim_word}
 use Rattle.lp_text.specs.Words.{line_of}
 use Rattle.lp_text.specs.inside.Writing.{line_rest}
 use Rattle.lp_text.proofs.Writing.{line_split}

@@ -4,21 +4,21 @@ use Rattle.std.specs.Prelude.{nat_eq, nat_lt}
 use Rattle.std.specs.List.{All, AllByRecursion, flat_map, join_with_byte, list_all}
 use Rattle.std.proofs.lemmas.Bool.{and_parts, ltb-true}
 use Rattle.lp_stack.specs.declared.number.Level.{Level}
-use Rattle.lp_transition.specs.Events.{refusal_number}
-use Rattle.lp_transition.specs.declared.reply.What.{What}
-use Rattle.lp_transition.specs.declared.reply.What.TheVariants.{Ran, Done, Switched, Refused}
-use Rattle.lp_transition.specs.declared.reply.Reply.{Reply}
-use Rattle.lp_cert.specs.declared.cert.Claim.{Claim}
-use Rattle.lp_cert.specs.declared.cert.Claim.TheVariants.{Waiting, Floor}
-use Rattle.lp_cert.specs.declared.cert.Cert.{Cert}
-use Rattle.lp_cert.specs.declared.leg_end.LegEnd.{LegEnd}
-use Rattle.lp_cert.specs.declared.line.Line.{Line}
-use Rattle.lp_cert.specs.declared.line.Line.TheVariants.{Hold, Busy, Born}
+use Rattle.lp_definitions.specs.Events.{refusal_number}
+use Rattle.lp_definitions.specs.declared.reply.What.{What}
+use Rattle.lp_definitions.specs.declared.reply.What.TheVariants.{Ran, Done, Switched, Refused}
+use Rattle.lp_definitions.specs.declared.reply.Reply.{Reply}
+use Rattle.lp_definitions.specs.declared.cert.Claim.{Claim}
+use Rattle.lp_definitions.specs.declared.cert.Claim.TheVariants.{Waiting, Floor}
+use Rattle.lp_definitions.specs.declared.cert.Cert.{Cert}
+use Rattle.lp_definitions.specs.Ends.{LegEnd}
+use Rattle.lp_definitions.specs.declared.line.Line.{Line}
+use Rattle.lp_definitions.specs.declared.line.Line.TheVariants.{Hold, Busy, Born}
 use Rattle.lp_text.specs.declared.form.TraceForm.{TraceForm}
 use Rattle.lp_text.specs.declared.form.TraceForm.TheVariants.{Single, Stacked}
-use Rattle.lp_replay.specs.declared.outcome.Outcome.{Outcome}
+use Rattle.lp_definitions.specs.Outcome.{Outcome}
 use Rattle.lp_text.specs.Words.{line_of}
-use Rattle.lp_cert.specs.Text.{claim_word, cert_lines, reason_words, end_words}
+use Rattle.lp_text.specs.CertTexts.{claim_word, cert_lines, reason_words, end_words}
 use Rattle.lp_trace.specs.Report.{complete_words, leg_lines, level_word, report, report_header, report_lines, reply_line, reply_lines, target_words, what_words, leg_line}
 use Rattle.lp_trace.specs.Laws.{FitsReport}
 use Rattle.lp_text.proofs.Complete.{Clean, CleanLine, all_both}

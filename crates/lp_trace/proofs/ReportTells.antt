@@ -3,16 +3,16 @@ use Rattle.std.proofs.Common.{◌≡◌, ℕ, suc, List, [], ◌∷◌, ◌++◌
 use Rattle.std.specs.List.{All, flat_map}
 use Rattle.lp_stack.specs.declared.number.GroupId.{GroupId}
 use Rattle.lp_stack.specs.declared.number.TaskId.{TaskId}
-use Rattle.lp_transition.specs.declared.reply.Reply.{Reply}
-use Rattle.lp_cert.specs.declared.cert.Claim.{Claim}
-use Rattle.lp_cert.specs.declared.cert.Claim.TheVariants.{Waiting, Floor}
-use Rattle.lp_cert.specs.declared.cert.Cert.{Cert}
-use Rattle.lp_cert.specs.declared.leg_end.LegEnd.{LegEnd}
-use Rattle.lp_cert.specs.declared.line.Line.{Line}
-use Rattle.lp_cert.specs.declared.line.Line.TheVariants.{Hold, Busy, Born}
+use Rattle.lp_definitions.specs.declared.reply.Reply.{Reply}
+use Rattle.lp_definitions.specs.declared.cert.Claim.{Claim}
+use Rattle.lp_definitions.specs.declared.cert.Claim.TheVariants.{Waiting, Floor}
+use Rattle.lp_definitions.specs.declared.cert.Cert.{Cert}
+use Rattle.lp_definitions.specs.Ends.{LegEnd}
+use Rattle.lp_definitions.specs.declared.line.Line.{Line}
+use Rattle.lp_definitions.specs.declared.line.Line.TheVariants.{Hold, Busy, Born}
 use Rattle.lp_text.specs.declared.form.TraceForm.{TraceForm}
-use Rattle.lp_replay.specs.declared.outcome.Outcome.{Outcome}
-use Rattle.lp_cert.specs.Text.{claim_word, cert_lines, reason_words}
+use Rattle.lp_definitions.specs.Outcome.{Outcome}
+use Rattle.lp_text.specs.CertTexts.{claim_word, cert_lines, reason_words}
 use Rattle.lp_trace.specs.Report.{reply_line, reply_lines, leg_lines, stays_line}
 use Rattle.lp_trace.specs.Laws.{IsWholeLeg, FitsReport, IsWholeWhat, IsWholeCert, IsWholeReason}
 use Rattle.lp_trace.proofs.Decimals.{decimal_tells}

@@ -6,14 +6,14 @@ use Rattle.std.specs.List.{All, list_all}
 use Rattle.std.proofs.lemmas.Bool.{and_parts, leb-true}
 use Rattle.std.proofs.lemmas.Bool.Decides.{Decides-ltb}
 use Rattle.lp_stack.specs.declared.number.Level.{Level}
-use Rattle.lp_transition.specs.Events.{refusal_number}
-use Rattle.lp_transition.specs.declared.refusal.Refusal.{Refusal}
-use Rattle.lp_transition.specs.declared.refusal.Refusal.TheVariants.{UnknownTask, UnknownSymbol, TaskRange, TaskUsed, WrongClass, WrongMode, StackFull, StackEmpty, StackNotEmpty, InTransition, NotInTransition, AlreadyThere}
-use Rattle.lp_transition.specs.declared.reply.What.{What}
-use Rattle.lp_transition.specs.declared.reply.What.TheVariants.{Ran, Done, Switched, Refused}
+use Rattle.lp_definitions.specs.Events.{refusal_number}
+use Rattle.lp_definitions.specs.declared.refusal.Refusal.{Refusal}
+use Rattle.lp_definitions.specs.declared.refusal.Refusal.TheVariants.{UnknownTask, UnknownSymbol, TaskRange, TaskUsed, WrongClass, WrongMode, StackFull, StackEmpty, StackNotEmpty, InTransition, NotInTransition, AlreadyThere}
+use Rattle.lp_definitions.specs.declared.reply.What.{What}
+use Rattle.lp_definitions.specs.declared.reply.What.TheVariants.{Ran, Done, Switched, Refused}
 use Rattle.lp_text.specs.declared.form.TraceForm.{TraceForm}
 use Rattle.lp_text.specs.declared.form.TraceForm.TheVariants.{Single, Stacked}
-use Rattle.lp_cert.specs.Text.{end_words}
+use Rattle.lp_text.specs.CertTexts.{end_words}
 use Rattle.lp_trace.specs.Report.{level_word, what_words, complete_words, target_words}
 use Rattle.lp_trace.specs.Laws.{IsWhole, IsWholeLevel, IsWholeWhat, IsWholeEvent}
 use Rattle.lp_text.proofs.Pushes.{not_same}

@@ -7,11 +7,11 @@ use Rattle.std.proofs.lemmas.Grind.{flat_map-append}
 use Rattle.std.proofs.Math.ListN.{drop_of_length-le}
 use Rattle.std.proofs.Math.Seq.{drop-cons}
 use Rattle.lp_stack.specs.declared.number.GroupId.{GroupId}
-use Rattle.lp_transition.specs.Events.{group_numbers}
-use Rattle.lp_transition.specs.declared.reply.Reply.{Reply}
-use Rattle.lp_cert.specs.declared.leg_end.LegEnd.{LegEnd}
+use Rattle.lp_definitions.specs.Events.{group_numbers}
+use Rattle.lp_definitions.specs.declared.reply.Reply.{Reply}
+use Rattle.lp_definitions.specs.Ends.{LegEnd}
 use Rattle.lp_text.specs.declared.form.TraceForm.{TraceForm}
-use Rattle.lp_replay.specs.declared.outcome.Outcome.{Outcome}
+use Rattle.lp_definitions.specs.Outcome.{Outcome}
 use Rattle.lp_text.specs.Words.{line_of}
 use Rattle.lp_text.specs.inside.Writing.{Left, Seen, line_rest}
 use Rattle.lp_trace.specs.Report.{reply_line, reply_lines, leg_lines, stays_line, report, report_lines, report_header}

@@ -3,14 +3,14 @@ use Rattle.std.proofs.Common.{◌≡◌, ℕ, suc, ◌+◌, ◌≤◌, List, [],
 use Rattle.std.proofs.lemmas.Bool.{cond_both}
 use Rattle.std.proofs.lemmas.List.Elements.{All-append, All-cons, All-drop, All-map, All-nil}
 use Rattle.lp_model.specs.Rules.{Rules, IsLawful}
-use Rattle.lp_transition.specs.declared.event.Event.{Event}
-use Rattle.lp_transition.specs.Leg.{Leg}
-use Rattle.lp_transition.specs.Sound.{IsSound}
-use Rattle.lp_transition.specs.Run.{Run, AreInRange, and_then, first_leg, next_leg, opened, opens}
-use Rattle.lp_transition.proofs.WholeRun.{next_sound, start_sound}
-use Rattle.lp_cert.specs.Certificates.{legs, opened_legs}
-use Rattle.lp_cert.specs.Ends.{end_of}
-use Rattle.lp_cert.proofs.GroupsInRange.{GroupsAreInRange, next_in_range, start_in_range}
+use Rattle.lp_definitions.specs.declared.event.Event.{Event}
+use Rattle.lp_definitions.specs.Leg.{Leg}
+use Rattle.lp_definitions.specs.Sound.{IsSound}
+use Rattle.lp_definitions.specs.Run.{Run, AreInRange, and_then, first_leg, next_leg, opened, opens}
+use Rattle.lp_laws.proofs.WholeRun.{next_sound, start_sound}
+use Rattle.lp_definitions.specs.Certificates.{legs, opened_legs}
+use Rattle.lp_definitions.specs.Ends.{end_of}
+use Rattle.lp_laws.proofs.GroupsInRange.{GroupsAreInRange, next_in_range, start_in_range}
 use Rattle.lp_text.specs.declared.form.TraceForm.{TraceForm}
 use Rattle.lp_trace.specs.Laws.{IsWholeLeg, IsWholeLevel}
 use Rattle.lp_trace.proofs.RunLevels.{IsUpTo, next_up_to, start_up_to}

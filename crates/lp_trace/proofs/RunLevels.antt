@@ -6,14 +6,14 @@ use Rattle.lp_stack.specs.declared.number.TaskId.{TaskId}
 use Rattle.lp_stack.specs.declared.view.Class.{Class}
 use Rattle.lp_patch.specs.Patches.{Patches}
 use Rattle.lp_model.specs.Rules.{Rules}
-use Rattle.lp_transition.specs.declared.event.Event.{Event}
-use Rattle.lp_transition.specs.declared.event.Event.TheVariants.{Call, Ret, Sleep, Wake, Enter, Exit, Idle, Fork, Die, Walk, Stop, Enable, Disable, Reverse}
-use Rattle.lp_transition.specs.declared.refusal.Refusal.TheVariants.{InTransition, AlreadyThere}
-use Rattle.lp_transition.specs.Tasks.{Bounds, Fate, Unused, Live, Dead, Life, Origin, Stood, Forked, fits, first_of, map_live, on_live}
-use Rattle.lp_transition.specs.Leg.{Leg, Standing, State, after}
-use Rattle.lp_transition.specs.Schedule.{Schedule, first_check, has_come, level_by, standing}
-use Rattle.lp_transition.specs.Run.{and_then, at_boot, booted, control_tests, is_complete_now, level_now, new_target, next_leg, opened, opens, refused_by, shown, start}
-use Rattle.lp_transition.proofs.Plain.{changed_origin, each_life, none_first, unfit}
+use Rattle.lp_definitions.specs.declared.event.Event.{Event}
+use Rattle.lp_definitions.specs.declared.event.Event.TheVariants.{Call, Ret, Sleep, Wake, Enter, Exit, Idle, Fork, Die, Walk, Stop, Enable, Disable, Reverse}
+use Rattle.lp_definitions.specs.declared.refusal.Refusal.TheVariants.{InTransition, AlreadyThere}
+use Rattle.lp_definitions.specs.Tasks.{Bounds, Fate, Unused, Live, Dead, Life, Origin, Stood, Forked, fits, first_of, map_live, on_live}
+use Rattle.lp_definitions.specs.Leg.{Leg, Standing, State, after}
+use Rattle.lp_definitions.specs.Schedule.{Schedule, first_check, has_come, level_by, standing}
+use Rattle.lp_definitions.specs.Run.{and_then, at_boot, booted, control_tests, is_complete_now, level_now, new_target, next_leg, opened, opens, refused_by, shown, start}
+use Rattle.lp_laws.proofs.Plain.{changed_origin, each_life, none_first, unfit}
 
 -- ---- Levels of tasks
 

@@ -12,26 +12,26 @@ use Rattle.lp_model.specs.declared.check.Blame.{Blame}
 use Rattle.lp_model.specs.declared.check.Blame.TheVariants as blame
 use Rattle.lp_model.specs.declared.check.CheckKind.{CheckKind}
 use Rattle.lp_model.specs.Rules.{Rules, IsLawful}
-use Rattle.lp_transition.specs.declared.event.Event.{Event}
-use Rattle.lp_transition.specs.declared.event.Event.TheVariants.{Fork}
-use Rattle.lp_transition.specs.declared.refusal.Refusal.TheVariants.{UnknownTask}
+use Rattle.lp_definitions.specs.declared.event.Event.{Event}
+use Rattle.lp_definitions.specs.declared.event.Event.TheVariants.{Fork}
+use Rattle.lp_definitions.specs.declared.refusal.Refusal.TheVariants.{UnknownTask}
 use Rattle.lp_stack.specs.declared.view.Class.TheVariants.{Normal}
 use Rattle.lp_stack.specs.declared.view.Mode.TheVariants.{Kernel}
-use Rattle.lp_transition.specs.Tasks.{Fate, Unused, Live, Dead, Life, first_of, map_live, not_in, not_of, on_live, out_of_range, outline, outlines, refusal, unknown_task, used}
-use Rattle.lp_transition.specs.Leg.{Leg, accepted, after, check}
-use Rattle.lp_transition.specs.Schedule.{first_check, view, waits}
-use Rattle.lp_transition.specs.Sound.{IsSound}
-use Rattle.lp_transition.proofs.Checks.{accepted-is}
-use Rattle.lp_transition.proofs.First.{first_check_is}
-use Rattle.lp_transition.proofs.Plain.{none_first, numbered, unfit}
-use Rattle.lp_transition.proofs.SoundAfter.{serials}
-use Rattle.lp_cert.specs.declared.cert.Claim.{Claim}
-use Rattle.lp_cert.specs.declared.cert.Claim.TheVariants.{Waiting, Floor}
-use Rattle.lp_cert.specs.declared.line.Line.{Line}
-use Rattle.lp_cert.specs.declared.line.Line.TheVariants.{Hold, Busy, Born}
-use Rattle.lp_cert.specs.Certificates.{after_check, after_refusal, birth_line, cert, certs_by, certs_of, completion, first_blamed, has_frame, lines, member_blame, refusal_line, waiting_groups, with_birth}
-use Rattle.lp_cert.proofs.Completions.{completion_below}
-use Rattle.lp_cert.proofs.GroupsInRange.{GroupsAreInRange, group_in_range}
+use Rattle.lp_definitions.specs.Tasks.{Fate, Unused, Live, Dead, Life, first_of, map_live, not_in, not_of, on_live, out_of_range, outline, outlines, refusal, unknown_task, used}
+use Rattle.lp_definitions.specs.Leg.{Leg, accepted, after, check}
+use Rattle.lp_definitions.specs.Schedule.{first_check, view, waits}
+use Rattle.lp_definitions.specs.Sound.{IsSound}
+use Rattle.lp_laws.proofs.Checks.{accepted-is}
+use Rattle.lp_laws.proofs.First.{first_check_is}
+use Rattle.lp_laws.proofs.Plain.{none_first, numbered, unfit}
+use Rattle.lp_laws.proofs.SoundAfter.{serials}
+use Rattle.lp_definitions.specs.declared.cert.Claim.{Claim}
+use Rattle.lp_definitions.specs.declared.cert.Claim.TheVariants.{Waiting, Floor}
+use Rattle.lp_definitions.specs.declared.line.Line.{Line}
+use Rattle.lp_definitions.specs.declared.line.Line.TheVariants.{Hold, Busy, Born}
+use Rattle.lp_definitions.specs.Certificates.{after_check, after_refusal, birth_line, cert, certs_by, certs_of, completion, first_blamed, has_frame, lines, member_blame, refusal_line, waiting_groups, with_birth}
+use Rattle.lp_laws.proofs.Completions.{completion_below}
+use Rattle.lp_laws.proofs.GroupsInRange.{GroupsAreInRange, group_in_range}
 use Rattle.lp_trace.specs.Laws.{IsWhole, IsWholeCert, IsWholeEvent, IsWholeReason}
 
 -- ---- Lists

@@ -2,15 +2,15 @@
 use Rattle.std.proofs.Common.{◌≡◌, ℕ, List, Option, Result, Ok, Err, ap, ◌∙◌}
 use Rattle.std.specs.Prelude.{IfOk}
 use Rattle.lp_model.specs.Rules.{Rules, IsLawful}
-use Rattle.lp_transition.specs.declared.reply.Reply.{Reply}
-use Rattle.lp_transition.specs.Run.{first_leg, replies}
-use Rattle.lp_transition.specs.Stays.{mixed_count, stay_count}
-use Rattle.lp_cert.specs.declared.leg_end.LegEnd.{LegEnd}
+use Rattle.lp_definitions.specs.declared.reply.Reply.{Reply}
+use Rattle.lp_definitions.specs.Run.{first_leg, replies}
+use Rattle.lp_definitions.specs.Stays.{mixed_count, stay_count}
+use Rattle.lp_definitions.specs.Ends.{LegEnd}
 use Rattle.lp_text.specs.Input.{ReadsAll}
 use Rattle.lp_text.specs.Traces.{TraceValue, IsTrace, text_of}
-use Rattle.lp_replay.specs.declared.outcome.Outcome.{Outcome}
-use Rattle.lp_replay.specs.Headline.{Headline, whole_run}
-use Rattle.lp_replay.specs.Outcome.{outcome, leg_ends, run_of}
+use Rattle.lp_definitions.specs.Outcome.{Outcome, leg_ends}
+use Rattle.lp_definitions.specs.Headline.{Headline}
+use Rattle.lp_replay.specs.Outcome.{whole_run, outcome, run_of}
 use Rattle.lp_replay.proofs.Headline.{headline_of_trace, outcome_is}
 use Rattle.lp_replay.specs.Runs.{ReadsTrace}
 

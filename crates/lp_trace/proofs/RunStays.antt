@@ -5,10 +5,10 @@ use Rattle.std.proofs.lemmas.Nat.{mul-le}
 use Rattle.std.proofs.lemmas.List.Sums.{count_by-le-length}
 use Rattle.std.proofs.lemmas.List.FromFn.{length-range_with_len}
 use Rattle.lp_model.specs.Rules.{Rules}
-use Rattle.lp_transition.specs.declared.event.Event.{Event}
-use Rattle.lp_transition.specs.Leg.{Leg}
-use Rattle.lp_transition.specs.Run.{next_leg}
-use Rattle.lp_transition.specs.Stays.{all_stays, before_stays, is_mixed, mixed_count, moments, stay_count, stays}
+use Rattle.lp_definitions.specs.declared.event.Event.{Event}
+use Rattle.lp_definitions.specs.Leg.{Leg}
+use Rattle.lp_definitions.specs.Run.{next_leg}
+use Rattle.lp_definitions.specs.Stays.{all_stays, before_stays, is_mixed, mixed_count, moments, stay_count, stays}
 
 flat_map_few : {A B : Type 0} (f : A → List B) (n : ℕ) (xs : List A) → ((x : A) → length (f x) ≤ n) → length (flat_map f xs) ≤ length xs * n
 flat_map_few f n [] each = omega arith

@@ -6,13 +6,11 @@ use Rattle.std.proofs.lemmas.List.Elements.{All-cons, All-nil}
 use Rattle.lp_stack.specs.declared.number.TaskId.{TaskId}
 use Rattle.lp_stack.specs.declared.view.Class.{Class}
 use Rattle.lp_model.specs.Rules.{Rules, IsLawful}
-use Rattle.lp_transition.specs.Run.{AreInRange, first_leg}
-use Rattle.lp_transition.specs.Table.{task_numbers}
+use Rattle.lp_definitions.specs.Run.{AreInRange, first_leg, task_numbers}
 use Rattle.lp_text.specs.declared.form.TraceForm.{TraceForm}
 use Rattle.lp_text.specs.declared.form.TraceForm.TheVariants.{Single, Stacked}
 use Rattle.lp_text.specs.Traces.{IsTask, IsTrace, TraceValue, most_patches}
-use Rattle.lp_replay.specs.Headline.{whole_run}
-use Rattle.lp_replay.specs.Outcome.{outcome, patch_of, run_of}
+use Rattle.lp_replay.specs.Outcome.{whole_run, outcome, patch_of, run_of}
 use Rattle.lp_trace.specs.Laws.{FitsReport, IsWholeLevel, ReportsTellRuns, RunsFitReports}
 use Rattle.lp_trace.proofs.OneOutcome.{one_outcome}
 use Rattle.lp_trace.proofs.RunLegs.{legs_whole}

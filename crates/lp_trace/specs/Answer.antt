@@ -1,13 +1,13 @@
 -- The answer to the input of a check: the verdict on its certificate in the leg of the trace that it names.
 use Rattle.std.specs.Prelude.{◌≡◌, ℕ, List, [], ◌∷◌, ◌++◌, decimal, codes, Option, Some, None}
 use Rattle.lp_model.specs.Rules.{Rules}
-use Rattle.lp_transition.specs.Leg.{Leg}
-use Rattle.lp_cert.specs.declared.cert.Cert.{Cert}
-use Rattle.lp_checker.specs.declared.fault.CertFault.{CertFault}
-use Rattle.lp_checker.specs.declared.fault.CertFault.TheVariants.{NoSuchGroup, NotOnStack, NoBlame, Gap, BadBirth, NoLeg, NoMemory}
-use Rattle.lp_checker.specs.Faults.{fault_number}
-use Rattle.lp_checker.specs.Laws.{Holds}
-use Rattle.lp_checker.specs.Verdict.{verdict_on}
+use Rattle.lp_definitions.specs.Leg.{Leg}
+use Rattle.lp_definitions.specs.declared.cert.Cert.{Cert}
+use Rattle.lp_definitions.specs.declared.cert_fault.CertFault.{CertFault}
+use Rattle.lp_definitions.specs.declared.cert_fault.CertFault.TheVariants.{NoSuchGroup, NotOnStack, NoBlame, Gap, BadBirth, NoLeg, NoMemory}
+use Rattle.lp_definitions.specs.Faults.{fault_number}
+use Rattle.lp_definitions.specs.Holds.{Holds}
+use Rattle.lp_definitions.specs.Verdict.{verdict_on}
 use Rattle.lp_text.specs.declared.check_input.CheckInput.{CheckInput}
 use Rattle.lp_text.specs.CheckTexts.{IsInput, input_text}
 use Rattle.lp_text.specs.Input.{ReadsAll}

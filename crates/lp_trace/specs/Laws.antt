@@ -2,16 +2,16 @@
 use Rattle.std.specs.Prelude.{◌≡◌, ◌≢◌, ℕ, ◌<◌, ◌≤◌, ◌^◌, List, All, Option, Some, None}
 use Rattle.lp_stack.specs.declared.number.Level.{Level}
 use Rattle.lp_model.specs.Rules.{Rules}
-use Rattle.lp_transition.specs.declared.reply.What.{What}
-use Rattle.lp_transition.specs.declared.reply.What.TheVariants.{Ran, Done, Switched, Refused}
-use Rattle.lp_cert.specs.declared.cert.Cert.{Cert}
-use Rattle.lp_cert.specs.declared.leg_end.LegEnd.{LegEnd}
-use Rattle.lp_cert.specs.declared.line.Line.{Line}
-use Rattle.lp_cert.specs.declared.line.Line.TheVariants.{Hold, Busy, Born}
+use Rattle.lp_definitions.specs.declared.reply.What.{What}
+use Rattle.lp_definitions.specs.declared.reply.What.TheVariants.{Ran, Done, Switched, Refused}
+use Rattle.lp_definitions.specs.declared.cert.Cert.{Cert}
+use Rattle.lp_definitions.specs.Ends.{LegEnd}
+use Rattle.lp_definitions.specs.declared.line.Line.{Line}
+use Rattle.lp_definitions.specs.declared.line.Line.TheVariants.{Hold, Busy, Born}
 use Rattle.lp_text.specs.declared.form.TraceForm.{TraceForm}
 use Rattle.lp_text.specs.declared.form.TraceForm.TheVariants.{Single, Stacked}
 use Rattle.lp_text.specs.Traces.{TraceValue, IsTrace}
-use Rattle.lp_replay.specs.declared.outcome.Outcome.{Outcome}
+use Rattle.lp_definitions.specs.Outcome.{Outcome}
 use Rattle.lp_replay.specs.Outcome.{outcome}
 use Rattle.lp_trace.specs.Report.{report}
 

@@ -11,7 +11,7 @@ pub use Rattle.lp_text.specs.Reading
 pub use Rattle.lp_text.specs.Traces
 pub use Rattle.lp_text.specs.Words
 pub use Rattle.lp_text.specs.Writing
-pub use Rattle.lp_replay.specs.Headline
+pub use Rattle.lp_definitions.specs.Headline
 pub use Rattle.lp_replay.specs.Legs
 pub use Rattle.lp_replay.specs.Outcome
 pub use Rattle.lp_replay.specs.Runs

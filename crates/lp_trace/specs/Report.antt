@@ -2,15 +2,15 @@
 use Rattle.std.specs.Prelude.{ℕ, suc, true, false, Bool, List, [], ◌∷◌, ◌++◌, length, map, Option, Some, None, decimal, codes, nat_eq, if◌then◌else◌}
 use Rattle.std.specs.List.{flat_map}
 use Rattle.lp_stack.specs.declared.number.Level.{Level}
-use Rattle.lp_transition.specs.declared.reply.What.{What}
-use Rattle.lp_transition.specs.declared.reply.What.TheVariants.{Ran, Done, Switched, Refused}
-use Rattle.lp_transition.specs.declared.reply.Reply.{Reply}
-use Rattle.lp_transition.specs.Events.{refusal_number}
-use Rattle.lp_cert.specs.declared.leg_end.LegEnd.{LegEnd}
-use Rattle.lp_cert.specs.Text.{cert_lines, end_words}
+use Rattle.lp_definitions.specs.declared.reply.What.{What}
+use Rattle.lp_definitions.specs.declared.reply.What.TheVariants.{Ran, Done, Switched, Refused}
+use Rattle.lp_definitions.specs.declared.reply.Reply.{Reply}
+use Rattle.lp_definitions.specs.Events.{refusal_number}
+use Rattle.lp_definitions.specs.Ends.{LegEnd}
+use Rattle.lp_text.specs.CertTexts.{cert_lines, end_words}
 use Rattle.lp_text.specs.declared.form.TraceForm.{TraceForm}
 use Rattle.lp_text.specs.declared.form.TraceForm.TheVariants.{Single, Stacked}
-use Rattle.lp_replay.specs.declared.outcome.Outcome.{Outcome}
+use Rattle.lp_definitions.specs.Outcome.{Outcome}
 use Rattle.lp_text.specs.Words.{line_of}
 
 -- ---- Words

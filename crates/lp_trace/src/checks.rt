@@ -2,10 +2,10 @@
 ghost use Rattle.std.specs.Prelude.{◌≡◌, ◌++◌, codes, decimal, None, is_none, IfSome, IfOk, IfErr, IsTrue, Err, MatchResult, OnErr, OnOk};
 ghost use Rattle.std.specs.Io.KnownBytes.{Appends};
 ghost use Rattle.lp_checker.specs.Folds.{leg_with};
-ghost use Rattle.lp_checker.specs.Laws.{Holds};
-ghost use Rattle.lp_checker.specs.Verdict.{verdict_on};
+ghost use Rattle.lp_definitions.specs.Holds.{Holds};
+ghost use Rattle.lp_definitions.specs.Verdict.{verdict_on};
 ghost use Rattle.lp_trace.specs.Answer.{HoldsInTrace, ReadsInput, answer_to, answer_words, event_of};
-ghost use Rattle.lp_checker.specs.Faults.{fault_number};
+ghost use Rattle.lp_definitions.specs.Faults.{fault_number};
 ghost use Rattle.lp_text.specs.CheckReading.{check_reading};
 ghost use Rattle.lp_text.specs.CheckTexts.{IsInput, input_text};
 ghost use Rattle.lp_text.specs.Counts.{AtMost, next};

@@ -1,7 +1,7 @@
 //! Writing the report of a run.
 ghost use Rattle.std.specs.Prelude.{◌≡◌, ℕ, ◌+◌, ◌<◌, ◌≤◌, ◌∷◌, ◌++◌, [], List, codes, decimal, map, take, IfSome, IsTrue, IsFalse, OnErr, OnOk};
 ghost use Rattle.std.specs.List.{flat_map};
-ghost use Rattle.lp_transition.specs.Events.{group_numbers};
+ghost use Rattle.lp_definitions.specs.Events.{group_numbers};
 ghost use Rattle.lp_text.specs.Words.{line_of};
 ghost use Rattle.lp_trace.specs.Report.{what_words, complete_words, reply_line, reply_lines, level_word, report, report_header, stays_line};
 ghost use Rattle.lp_replay.specs.Replies.{replies_of, reply_of, what_of};

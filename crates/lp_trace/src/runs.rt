@@ -1,10 +1,10 @@
 //! A run: a trace in, its report out.
 ghost use Rattle.std.specs.Prelude.{◌≡◌, IfSome, IfOk, IfErr, MatchResult, OnOk, Err};
 ghost use Rattle.std.specs.Io.KnownBytes.{Appends};
-ghost use Rattle.lp_replay.specs.Headline.{Headline, whole_run};
+ghost use Rattle.lp_definitions.specs.Headline.{Headline};
+ghost use Rattle.lp_replay.specs.Outcome.{whole_run, outcome};
 ghost use Rattle.lp_text.specs.Counts.{AtMost, next};
 ghost use Rattle.lp_text.specs.Input.{FailsOnce};
-ghost use Rattle.lp_replay.specs.Outcome.{outcome};
 ghost use Rattle.lp_text.specs.Reading.{reading};
 ghost use Rattle.lp_trace.specs.Report.{report};
 ghost use Rattle.lp_replay.specs.Runs.{ReadsTrace, AtReading, AtTrace, AtWrite, BeforeWriting, ButForReading};

@@ -9,17 +9,19 @@ use Rattle.lp_model.specs.Rules.{Rules, IsLawful}
 use Rattle.lp_model.specs.declared.check.Blame.{Blame}
 use Rattle.lp_model.specs.declared.check.CheckKind.{CheckKind}
 use Rattle.lp_model.specs.declared.verdict.Verdict.{Verdict}
-use Rattle.lp_transition.specs.Tasks.{Fate, Unused, Live, Dead, on_live, first_of}
-use Rattle.lp_transition.specs.Leg.{Standing, State}
-use Rattle.lp_transition.specs.Sound.{IsSound}
-use Rattle.lp_transition.specs.Machine.{view_of}
-use Rattle.lp_transition.specs.Table.{Table, Engine, slot, state_in}
-use Rattle.lp_transition.specs.inside.Table.{is_in}
+use Rattle.lp_definitions.specs.Tasks.{Fate, Unused, Live, Dead, on_live, first_of}
+use Rattle.lp_definitions.specs.Leg.{Standing, State}
+use Rattle.lp_definitions.specs.Sound.{IsSound}
+use Rattle.lp_machine.specs.Machine.{view_of}
+use Rattle.lp_machine.specs.Table.{Table, Engine, slot, state_in}
+use Rattle.lp_tasks.specs.inside.Table.{is_in}
 use Rattle.lp_transition.specs.inside.Invariant.{IsEngine}
-use Rattle.lp_transition.specs.Scan.{waiting_view, views_of, verdict_of, verdicts_of, RefusesMember, MayLeaveOut, MayPassOver, is_of, member_verdict, first_refused, is_asked, verdicts_at, verdicts_among, AreEnough, passing}
+use Rattle.lp_transition.specs.Scan.{waiting_view, views_of, verdict_of, verdicts_of, RefusesMember, MayLeaveOut, MayPassOver, is_of, member_verdict, first_refused, is_asked, verdicts_at, verdicts_among, AreEnough}
+use Rattle.lp_tasks.specs.Passing.{passing}
 use Rattle.lp_transition.specs.inside.ScanSteps.{tasks_of, is_judged, is_found, switches_by, all_admit}
 use Rattle.lp_transition.proofs.ScanLists.{any-map, verdict-is, verdict-from}
-use Rattle.lp_transition.proofs.ScanGroups.{same_bool, found-from, found-is}
+use Rattle.lp_laws.proofs.Quantifiers.{same_bool}
+use Rattle.lp_transition.proofs.ScanGroups.{found-from, found-is}
 use Rattle.lp_transition.proofs.ScanLemmas.{tasks-waiting}
 
 -- ---- Lists with some left out

@@ -1,28 +1,24 @@
 -- The engine after a task is born, or ends.
-use Rattle.std.proofs.Common.{◌≡◌, ℕ, suc, ◌<◌, true, false, not, List, length, get_or, set, Some, None, if◌then◌else◌, nat_eq, refl, sym, ap, ◌∙◌, subst, ⊎_elim, arith}
+use Rattle.std.proofs.Common.{◌≡◌, ℕ, suc, ◌<◌, true, false, not, length, set, Some, None, if◌then◌else◌, nat_eq, refl, sym, ap, ◌∙◌, subst, ⊎_elim, arith}
 use Rattle.std.proofs.lemmas.Bool.{cases_eq, eq-eqb, ne_eqb, cond-true, cond-false}
-use Rattle.std.proofs.lemmas.List.{length-set, get_or-set_same, get_or-set_other, get_or_default}
+use Rattle.std.proofs.lemmas.List.{length-set, get_or-set_same, get_or-set_other}
 use mathlib.Core.Path.{fun_ext}
 use Rattle.lp_numbers.specs.Numbers.{Numbers, has}
 use Rattle.lp_stack.specs.declared.number.TaskId.{TaskId}
 use Rattle.lp_model.specs.Rules.{Rules, IsLawful}
 use Rattle.lp_model.specs.declared.check.ForkKind.{ForkKind}
-use Rattle.lp_transition.specs.declared.event.Event.TheVariants.{Fork, Die}
-use Rattle.lp_transition.specs.Tasks.{Live, map_live}
-use Rattle.lp_transition.specs.Leg.{Standing}
-use Rattle.lp_transition.specs.Machine.{refusal_of, own_effect, bearing, affected}
-use Rattle.lp_transition.specs.Table.{Table, Engine, IsWide, slot, standings, state_in}
-use Rattle.lp_transition.specs.inside.Table.{with_task, without_task, is_off}
+use Rattle.lp_definitions.specs.declared.event.Event.TheVariants.{Fork, Die}
+use Rattle.lp_definitions.specs.Tasks.{Live, map_live}
+use Rattle.lp_definitions.specs.Leg.{Standing}
+use Rattle.lp_machine.specs.Machine.{refusal_of, own_effect, bearing, affected}
+use Rattle.lp_machine.specs.Table.{Table, Engine, IsWide, slot, standings, state_in}
+use Rattle.lp_tasks.specs.inside.Table.{with_task, without_task, is_off}
 use Rattle.lp_transition.specs.inside.Invariant.{IsEngine}
 use Rattle.lp_transition.specs.Weigh.{born_of, born_by, child_of}
-use Rattle.lp_transition.proofs.EngineLemmas.{quiet-control, quiet-stays, next-still}
-use Rattle.lp_transition.proofs.Accept.{fork-live, fork-new}
-use Rattle.lp_transition.proofs.TableLemmas.{standings-with_task, standings-without_task, slot-with_task, slot-with_task_other, slot-without_task, slot-without_task_other, IsWide-with_task, IsWide-without_task, live_from_slot}
+use Rattle.lp_machine.proofs.EngineLemmas.{quiet-control, quiet-stays, next-still}
+use Rattle.lp_machine.proofs.Accept.{fork-live, fork-new}
+use Rattle.lp_tasks.proofs.TableLemmas.{standings-with_task, standings-without_task, slot-with_task, slot-with_task_other, slot-without_task, slot-without_task_other, IsWide-with_task, IsWide-without_task, live_from_slot}
 use Rattle.lp_transition.proofs.Effects.{HasTaken, with_table, state-with_table, sound_next}
-
--- an entry, whatever stands past the end
-pub value_at : (xs : List ℕ) (i v : ℕ) → i < length xs → v ≡ get_or xs i v → v ≡ get_or xs i 0
-value_at xs i v within is = is ∙ get_or_default xs i v 0 within
 
 -- who waits, with a task more
 off-with_task : (table : Table) (waiting now : Numbers) (c target : ℕ) (x : Standing) → IsWide table → c < 65536 → ((t : ℕ) → has waiting t ≡ is_off target (slot table t)) → ((t : ℕ) → has now t ≡ (if nat_eq t c then not (nat_eq x.level target) else has waiting t)) → (t : ℕ) → has now t ≡ is_off target (slot (with_task c x table) t)

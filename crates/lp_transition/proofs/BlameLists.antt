@@ -7,12 +7,12 @@ use Rattle.lp_stack.specs.declared.frame.Frame.{Frame}
 use Rattle.lp_numbers.specs.Numbers.{Numbers, has}
 use Rattle.lp_model.specs.declared.check.Blame.{Blame}
 use Rattle.lp_model.specs.declared.verdict.Verdict.{Verdict}
-use Rattle.lp_transition.specs.declared.engine.blames.StandingBlame.{StandingBlame}
-use Rattle.lp_transition.specs.Tasks.{first_of}
-use Rattle.lp_transition.specs.Leg.{Standing}
-use Rattle.lp_transition.specs.Table.{Table, slot}
+use Rattle.lp_machine.specs.declared.standing_blame.StandingBlame.{StandingBlame}
+use Rattle.lp_definitions.specs.Tasks.{first_of}
+use Rattle.lp_definitions.specs.Leg.{Standing}
+use Rattle.lp_machine.specs.Table.{Table, slot}
 use Rattle.lp_transition.specs.Blames.{or_blame, frame_blame}
-use Rattle.lp_transition.specs.inside.Table.{is_in}
+use Rattle.lp_tasks.specs.inside.Table.{is_in}
 use Rattle.lp_transition.specs.inside.Blames.{blame_at, frame_there, looked_at, told_of, found_by, IsDecided}
 
 -- ---- A place more

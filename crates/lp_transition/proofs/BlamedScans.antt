@@ -11,25 +11,22 @@ use Rattle.lp_model.specs.declared.check.CheckKind.TheVariants as kind
 use Rattle.lp_model.specs.declared.check.Blame.{Blame}
 use Rattle.lp_model.specs.declared.check.Blame.TheVariants.{Unused, Frame as Held, Busy}
 use Rattle.lp_model.specs.declared.verdict.Verdict.{Verdict}
-use Rattle.lp_transition.specs.declared.engine.blames.StandingBlame.{StandingBlame}
+use Rattle.lp_machine.specs.declared.standing_blame.StandingBlame.{StandingBlame}
 use Rattle.lp_numbers.specs.Numbers.{Numbers, has}
-use Rattle.lp_transition.specs.Tasks.{Fate, on_live, first_of}
-use Rattle.lp_transition.specs.Leg.{Standing, State}
-use Rattle.lp_transition.specs.Sound.{IsSound}
-use Rattle.lp_transition.specs.Machine.{view_of}
-use Rattle.lp_transition.specs.Table.{slot, standings, fate_at, Engine, state_in}
+use Rattle.lp_definitions.specs.Tasks.{Fate, on_live, first_of}
+use Rattle.lp_definitions.specs.Leg.{Standing, State}
+use Rattle.lp_definitions.specs.Sound.{IsSound}
+use Rattle.lp_machine.specs.Machine.{view_of, refusal_of, affected, own_effect}
+use Rattle.lp_machine.specs.Table.{slot, standings, fate_at, Engine, state_in}
 use Rattle.lp_transition.specs.Scan.{verdicts_of, AreEnough, member_verdict, first_refused}
-use Rattle.lp_transition.specs.Blames.{frame_blame}
-use Rattle.lp_transition.specs.inside.Table.{is_in}
-use Rattle.lp_transition.specs.inside.Blames.{found_by, IsBlamed}
+use Rattle.lp_transition.specs.Blames.{frame_blame, while_there, or_blame, has_frame_in}
+use Rattle.lp_tasks.specs.inside.Table.{is_in}
+use Rattle.lp_transition.specs.inside.Blames.{found_by, IsBlamed, blame_at, AreBlamed}
 use Rattle.lp_transition.proofs.ScanLists.{verdict-is}
-use Rattle.lp_transition.specs.declared.event.Event.{Event}
-use Rattle.lp_transition.specs.declared.event.Event.TheVariants as event
-use Rattle.lp_transition.specs.Events.{is_scan, is_control}
-use Rattle.lp_transition.specs.Machine.{refusal_of, affected, own_effect}
+use Rattle.lp_definitions.specs.declared.event.Event.{Event}
+use Rattle.lp_definitions.specs.declared.event.Event.TheVariants as event
+use Rattle.lp_definitions.specs.Events.{is_scan, is_control}
 use Rattle.lp_transition.specs.Weigh.{Weighed, IsWeighed, AreVerdictsFor}
-use Rattle.lp_transition.specs.Blames.{while_there, or_blame, has_frame_in}
-use Rattle.lp_transition.specs.inside.Blames.{blame_at, AreBlamed}
 use Rattle.lp_transition.specs.inside.Invariant.{IsEngine}
 use Rattle.lp_transition.proofs.Admitted.{any-filter}
 use Rattle.lp_transition.proofs.Effects.{HasTaken}

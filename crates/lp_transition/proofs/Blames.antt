@@ -10,32 +10,32 @@ use Rattle.lp_model.specs.Rules.{Rules, IsLawful, SerialsRise}
 use Rattle.lp_model.specs.declared.check.CheckKind.{CheckKind}
 use Rattle.lp_model.specs.declared.check.Blame.{Blame}
 use Rattle.lp_model.specs.declared.check.Blame.TheVariants.{Frame as Held}
-use Rattle.lp_transition.specs.declared.engine.blames.StandingBlame.{StandingBlame}
-use Rattle.lp_transition.specs.declared.event.Event.{Event}
-use Rattle.lp_transition.specs.declared.refusal.Refusal.{Refusal}
+use Rattle.lp_machine.specs.declared.standing_blame.StandingBlame.{StandingBlame}
+use Rattle.lp_definitions.specs.declared.event.Event.{Event}
+use Rattle.lp_definitions.specs.declared.refusal.Refusal.{Refusal}
 use Rattle.lp_model.specs.declared.verdict.Verdict.{Verdict}
-use Rattle.lp_transition.specs.Events.{is_control}
-use Rattle.lp_transition.specs.declared.event.Event.TheVariants.{Ret, Fork, Die}
+use Rattle.lp_definitions.specs.Events.{is_control}
+use Rattle.lp_definitions.specs.declared.event.Event.TheVariants.{Ret, Fork, Die}
 use Rattle.lp_stack.specs.declared.number.TaskId.{TaskId}
 use Rattle.lp_model.specs.declared.check.ForkKind.{ForkKind}
 use Rattle.std.specs.Option.{option_map}
-use Rattle.lp_transition.specs.Tasks.{Fate, Live, on_live, map_live, change}
-use Rattle.lp_transition.specs.Leg.{Standing, State, check_by, if_used}
-use Rattle.lp_transition.specs.Sound.{IsSound}
-use Rattle.lp_transition.specs.Machine.{view_of, outlines_of, waits_in, admits_all, switches_at, own_effect, affected, returning, switched_task, with_switches, counted, refusal_of, next}
-use Rattle.lp_transition.specs.Table.{Table, Engine, slot, standings, state_in}
+use Rattle.lp_definitions.specs.Tasks.{Fate, Live, on_live, map_live, change}
+use Rattle.lp_definitions.specs.Leg.{Standing, State, check_by, if_used}
+use Rattle.lp_definitions.specs.Sound.{IsSound}
+use Rattle.lp_machine.specs.Machine.{view_of, outlines_of, waits_in, admits_all, switches_at, own_effect, affected, returning, switched_task, with_switches, counted, refusal_of, next}
+use Rattle.lp_machine.specs.Table.{Table, Engine, slot, standings, state_in}
 use Rattle.lp_transition.specs.Scan.{RefusesMember, MayLeaveOut, first_refused}
 use Rattle.lp_transition.specs.Blames.{blame_of, is_open, has_frame_in, while_there, or_blame, frame_blame, blame_by, AreBlamesAfter}
 use Rattle.lp_transition.specs.inside.Blames.{blame_at, frame_there, looked_at, IsBlamed, AreBlamed}
-use Rattle.lp_transition.specs.inside.Table.{is_in, is_off, changed}
+use Rattle.lp_tasks.specs.inside.Table.{is_in, is_off, changed}
 use Rattle.lp_transition.specs.inside.Invariant.{IsEngine}
-use Rattle.lp_transition.proofs.Accept.{fork-new, die-empty}
+use Rattle.lp_machine.proofs.Accept.{fork-new, die-empty}
 use Rattle.std.proofs.lemmas.List.Elements.{All-take, All-contains, All-contains_itself}
-use Rattle.lp_transition.proofs.EngineLemmas.{next-refused, next-accepted}
-use Rattle.lp_transition.proofs.Quantifiers.{each_live-at}
+use Rattle.lp_machine.proofs.EngineLemmas.{next-refused, next-accepted}
+use Rattle.lp_laws.proofs.Quantifiers.{each_live-at}
 use Rattle.lp_transition.proofs.Unchanged.{switched_not, touches, own_same}
 use Rattle.lp_transition.proofs.Effects.{HasTaken}
-use Rattle.lp_transition.proofs.TableLemmas.{slot_from_live, slot-changed}
+use Rattle.lp_tasks.proofs.TableLemmas.{slot_from_live, slot-changed}
 
 -- ---- Frames
 

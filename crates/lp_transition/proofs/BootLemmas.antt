@@ -14,19 +14,19 @@ use Rattle.lp_stack.specs.declared.view.Class.{Class}
 use Rattle.lp_patch.specs.Patches.{Patches}
 use Rattle.lp_model.specs.Rules.{Rules, IsLawful}
 use Rattle.lp_transition.specs.declared.engine.boot.BootFault.TheVariants.{TaskRange, TaskDoubled}
-use Rattle.lp_transition.specs.Tasks.{Fate, Unused, Live, on_live}
-use Rattle.lp_transition.specs.Leg.{Standing, State}
-use Rattle.lp_transition.specs.Run.{Run, at_boot, booted, AreInRange, start, leg_after}
-use Rattle.lp_transition.specs.Sound.{IsSound}
-use Rattle.lp_transition.specs.Steps.{StandsIn}
+use Rattle.lp_definitions.specs.Tasks.{Fate, Unused, Live, on_live}
+use Rattle.lp_definitions.specs.Leg.{Standing, State}
+use Rattle.lp_definitions.specs.Run.{Run, at_boot, booted, AreInRange, start, leg_after}
+use Rattle.lp_definitions.specs.Sound.{IsSound}
+use Rattle.lp_machine.specs.Steps.{StandsIn}
 use Rattle.lp_transition.specs.inside.Invariant.{IsEngine}
 use Rattle.lp_transition.specs.Boot.{boot_fault, boot_refusal}
-use Rattle.lp_transition.specs.declared.engine.blames.StandingBlame.{StandingBlame}
-use Rattle.lp_transition.specs.Table.{Table, Engine, state_in, bounds_of, slot, fate_at, standings, IsWide, LastScan}
-use Rattle.lp_transition.specs.inside.Table.{IsBlank, with_task, is_off}
-use Rattle.lp_transition.proofs.Runs.{started}
-use Rattle.lp_transition.proofs.WholeRun.{start_sound}
-use Rattle.lp_transition.proofs.TableLemmas.{standings-blank, standings-with_task, IsWide-with_task}
+use Rattle.lp_machine.specs.declared.standing_blame.StandingBlame.{StandingBlame}
+use Rattle.lp_machine.specs.Table.{Table, Engine, state_in, bounds_of, slot, fate_at, standings, IsWide, LastScan}
+use Rattle.lp_tasks.specs.inside.Table.{IsBlank, with_task, is_off}
+use Rattle.lp_machine.proofs.Runs.{started}
+use Rattle.lp_laws.proofs.WholeRun.{start_sound}
+use Rattle.lp_tasks.proofs.TableLemmas.{standings-blank, standings-with_task, IsWide-with_task}
 
 -- a boot task has the number
 abbrev pub has_number : ℕ → List (TaskId × Class) → Bool

@@ -4,16 +4,16 @@ use Rattle.std.proofs.lemmas.Bool.{cases_eq, cond-false}
 use Rattle.std.proofs.lemmas.List.{get_or-set_same, get_or-set_other}
 use Rattle.lp_numbers.specs.Numbers.{Numbers, has, IsEmpty}
 use Rattle.lp_model.specs.Rules.{Rules}
-use Rattle.lp_transition.specs.declared.event.Event.{Event}
-use Rattle.lp_transition.specs.declared.reply.Reply.{Reply}
-use Rattle.lp_transition.specs.Events.{is_control}
-use Rattle.lp_transition.specs.Leg.{State}
-use Rattle.lp_transition.specs.Machine.{complete_in, refusal_of, with_switches, next, told, answer}
-use Rattle.lp_transition.specs.Table.{Engine, state_in}
+use Rattle.lp_definitions.specs.declared.event.Event.{Event}
+use Rattle.lp_definitions.specs.declared.reply.Reply.{Reply}
+use Rattle.lp_definitions.specs.Events.{is_control}
+use Rattle.lp_definitions.specs.Leg.{State}
+use Rattle.lp_machine.specs.Machine.{complete_in, refusal_of, with_switches, next, told, answer}
+use Rattle.lp_machine.specs.Table.{Engine, state_in}
 use Rattle.lp_transition.specs.inside.Invariant.{IsEngine}
-use Rattle.lp_transition.proofs.EngineLemmas.{next-accepted, answer-accepted}
-use Rattle.lp_transition.proofs.TableLemmas.{slot-zero}
-use Rattle.lp_transition.proofs.MemberLemmas.{on_target}
+use Rattle.lp_machine.proofs.EngineLemmas.{next-accepted, answer-accepted}
+use Rattle.lp_tasks.proofs.TableLemmas.{slot-zero}
+use Rattle.lp_tasks.proofs.MemberLemmas.{on_target}
 
 -- nobody waits exactly where the transition is complete
 pub complete_is_empty : (e : Engine) (waiting : Numbers) → IsEngine e waiting → IsEmpty waiting ↔ IsTrue (complete_in (state_in e))

@@ -4,19 +4,19 @@ use Rattle.std.proofs.lemmas.Bool.{cases_eq}
 use Rattle.std.specs.Option.{option_map}
 use Rattle.lp_numbers.specs.Numbers.{Numbers}
 use Rattle.lp_model.specs.Rules.{Rules, IsLawful}
-use Rattle.lp_transition.specs.declared.event.Event.{Event}
-use Rattle.lp_transition.specs.declared.refusal.Refusal.{Refusal}
-use Rattle.lp_transition.specs.Events.{is_control}
-use Rattle.lp_transition.specs.Tasks.{Fate, change}
-use Rattle.lp_transition.specs.Leg.{Standing, State}
-use Rattle.lp_transition.specs.Sound.{IsSound}
-use Rattle.lp_transition.specs.Machine.{refusal_of, switches_at, affected, next, own_effect}
-use Rattle.lp_transition.specs.Table.{Table, Engine, LastScan, IsWide, slot, standings, state_in}
-use Rattle.lp_transition.specs.inside.Table.{changed, is_off}
+use Rattle.lp_definitions.specs.declared.event.Event.{Event}
+use Rattle.lp_definitions.specs.declared.refusal.Refusal.{Refusal}
+use Rattle.lp_definitions.specs.Events.{is_control}
+use Rattle.lp_definitions.specs.Tasks.{Fate, change}
+use Rattle.lp_definitions.specs.Leg.{Standing, State}
+use Rattle.lp_definitions.specs.Sound.{IsSound}
+use Rattle.lp_machine.specs.Machine.{refusal_of, switches_at, affected, next, own_effect}
+use Rattle.lp_machine.specs.Table.{Table, Engine, LastScan, IsWide, slot, standings, state_in}
+use Rattle.lp_tasks.specs.inside.Table.{changed, is_off}
 use Rattle.lp_transition.specs.inside.Invariant.{IsEngine}
-use Rattle.lp_transition.proofs.States.{next_keeps_sound}
-use Rattle.lp_transition.proofs.EngineLemmas.{is_quiet, quiet-control, quiet-stays, next-still, next-refused}
-use Rattle.lp_transition.proofs.TableLemmas.{standings-changed, slot-changed, slot-changed_other, IsWide-changed}
+use Rattle.lp_machine.proofs.States.{next_keeps_sound}
+use Rattle.lp_machine.proofs.EngineLemmas.{is_quiet, quiet-control, quiet-stays, next-still, next-refused}
+use Rattle.lp_tasks.proofs.TableLemmas.{standings-changed, slot-changed, slot-changed_other, IsWide-changed}
 
 -- one event more, and another table
 abbrev pub with_table : Table → Engine → Engine

@@ -3,9 +3,9 @@ use Rattle.std.proofs.Common.{◌≡◌, ℕ, zero, suc, ◌+◌, ◌-◌, ◌<�
 use Rattle.std.proofs.lemmas.Bool.{false≢true, cases_Bool, cases_eq, or_right, eq-eqb, ne_eqb}
 use Rattle.std.specs.List.{filter_map, cons_option}
 use Rattle.lp_numbers.proofs.Ascents.{none_in}
-use Rattle.lp_transition.specs.Tasks.{first_of}
-use Rattle.lp_transition.specs.Scan.{passing}
-use Rattle.lp_transition.proofs.Passing.{passes, skip_one, keep_one}
+use Rattle.lp_definitions.specs.Tasks.{first_of}
+use Rattle.lp_tasks.specs.Passing.{passing}
+use Rattle.lp_tasks.proofs.Passing.{passes, skip_one, keep_one}
 
 -- ---- One number more
 

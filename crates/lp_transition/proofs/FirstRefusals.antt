@@ -12,22 +12,23 @@ use Rattle.lp_model.specs.Rules.{Rules}
 use Rattle.lp_model.specs.declared.check.Blame.{Blame}
 use Rattle.lp_model.specs.declared.check.CheckKind.{CheckKind}
 use Rattle.lp_model.specs.declared.verdict.Verdict.{Verdict}
-use Rattle.lp_transition.specs.Tasks.{Live, on_live, first_of}
-use Rattle.lp_transition.specs.Leg.{Standing, State}
-use Rattle.lp_transition.specs.Machine.{view_of}
+use Rattle.lp_definitions.specs.Tasks.{Live, on_live, first_of}
+use Rattle.lp_definitions.specs.Leg.{Standing, State}
+use Rattle.lp_machine.specs.Machine.{view_of}
 use Rattle.lp_transition.specs.Blames.{TellOf}
-use Rattle.lp_transition.specs.Scan.{verdict_of, verdicts_of, verdicts_at, RefusesMember, MayLeaveOut, is_asked, AreEnough, passing, member_verdict, first_refused}
-use Rattle.lp_transition.specs.Table.{Engine, slot, standings, state_in}
-use Rattle.lp_transition.specs.inside.Table.{is_off}
+use Rattle.lp_transition.specs.Scan.{verdict_of, verdicts_of, verdicts_at, RefusesMember, MayLeaveOut, is_asked, AreEnough, member_verdict, first_refused}
+use Rattle.lp_tasks.specs.Passing.{passing}
+use Rattle.lp_machine.specs.Table.{Engine, slot, standings, state_in}
+use Rattle.lp_tasks.specs.inside.Table.{is_off}
 use Rattle.lp_transition.specs.inside.Invariant.{IsEngine}
 use Rattle.lp_transition.specs.inside.ScanSteps.{waiting_slot, is_found}
 use Rattle.lp_transition.specs.inside.FirstRefusals.{AdmitsOthers, SeesRefused, SeesRefusedBefore, HasAsked, AreTold}
 use Rattle.lp_transition.proofs.AskedScans.{among_views, any-filter, map-map, all-looked, among-is, asked-from}
 use Rattle.lp_transition.proofs.FirstKept.{named, passing-last, first-kept}
-use Rattle.lp_transition.proofs.MemberLemmas.{slot-below}
+use Rattle.lp_tasks.proofs.MemberLemmas.{slot-below}
 use Rattle.lp_transition.proofs.ScanLemmas.{views-asked}
 use Rattle.lp_transition.proofs.ScanLists.{verdict-from}
-use Rattle.lp_transition.proofs.TableLemmas.{live_from_slot, slot_from_live}
+use Rattle.lp_tasks.proofs.TableLemmas.{live_from_slot, slot_from_live}
 
 -- ---- Who waits
 

@@ -6,14 +6,15 @@ use Rattle.lp_numbers.specs.Ascending.{members_from}
 use Rattle.lp_model.specs.Rules.{Rules}
 use Rattle.lp_model.specs.declared.check.CheckKind.{CheckKind}
 use Rattle.lp_model.specs.declared.verdict.Verdict.{Verdict}
-use Rattle.lp_transition.specs.Leg.{Standing}
-use Rattle.lp_transition.specs.Machine.{view_of}
+use Rattle.lp_definitions.specs.Leg.{Standing}
+use Rattle.lp_machine.specs.Machine.{view_of}
 use Rattle.lp_transition.specs.Scan.{verdict_of}
-use Rattle.lp_transition.specs.Table.{Table, Engine, state_in}
+use Rattle.lp_machine.specs.Table.{Table, Engine, state_in}
 use Rattle.lp_transition.specs.inside.Invariant.{IsEngine}
 use Rattle.lp_transition.specs.inside.ScanSteps.{waiting_slot, task_switches, is_found}
-use Rattle.lp_transition.specs.inside.FirstRefusals.{asked_slot, place_of, HasAsked}
-use Rattle.lp_transition.proofs.AscendingLemmas.{IsBefore, members-before}
+use Rattle.lp_transition.specs.inside.FirstRefusals.{asked_slot, HasAsked}
+use Rattle.lp_tasks.specs.Passing.{place_of}
+use Rattle.lp_tasks.proofs.AscendingLemmas.{IsBefore, members-before}
 use Rattle.lp_transition.proofs.FirstRefusals.{pass-begins, pass-ends, pass-over, pass-asks}
 
 module _ (table : Table) (waiting may_refuse unrefused : Numbers) (t : ℕ) where

@@ -6,19 +6,19 @@ use Rattle.lp_numbers.specs.Numbers.{Numbers, has, IsEmpty}
 use Rattle.lp_model.specs.Rules.{Rules}
 use Rattle.lp_model.specs.declared.check.CheckKind.{CheckKind}
 use Rattle.lp_model.specs.declared.check.CheckKind.TheVariants as kind
-use Rattle.lp_transition.specs.declared.event.Event.{Event}
-use Rattle.lp_transition.specs.declared.event.Event.TheVariants.{Call, Ret, Sleep, Wake, Enter, Exit, Idle, Fork, Die, Walk, Stop, Enable, Disable, Reverse}
-use Rattle.lp_transition.specs.declared.refusal.Refusal.{Refusal}
-use Rattle.lp_transition.specs.Events.{is_control}
-use Rattle.lp_transition.specs.Tasks.{Live, change}
-use Rattle.lp_transition.specs.Leg.{Standing, State}
-use Rattle.lp_transition.specs.Machine.{own_effect, switches_at, switched_task, refusal_of, affected, with_switches, next}
-use Rattle.lp_transition.specs.Table.{Engine, LastScan, standings, state_in}
+use Rattle.lp_definitions.specs.declared.event.Event.{Event}
+use Rattle.lp_definitions.specs.declared.event.Event.TheVariants.{Call, Ret, Sleep, Wake, Enter, Exit, Idle, Fork, Die, Walk, Stop, Enable, Disable, Reverse}
+use Rattle.lp_definitions.specs.declared.refusal.Refusal.{Refusal}
+use Rattle.lp_definitions.specs.Events.{is_control}
+use Rattle.lp_definitions.specs.Tasks.{Live, change}
+use Rattle.lp_definitions.specs.Leg.{Standing, State}
+use Rattle.lp_machine.specs.Machine.{own_effect, switches_at, switched_task, refusal_of, affected, with_switches, next}
+use Rattle.lp_machine.specs.Table.{Engine, LastScan, standings, state_in}
 use Rattle.lp_transition.specs.Scan.{is_scan_kind, scan_event}
 use Rattle.lp_transition.specs.LastScan.{used_kind, used_scan, AreSameMembers, IsLastScanAfter}
 use Rattle.lp_transition.specs.inside.Invariant.{KeptScan, told_scan}
-use Rattle.lp_transition.specs.inside.Points.{point_event}
-use Rattle.lp_transition.proofs.EngineLemmas.{is_quiet, next-refused, next-accepted}
+use Rattle.lp_tasks.specs.inside.Points.{point_event}
+use Rattle.lp_machine.proofs.EngineLemmas.{is_quiet, next-refused, next-accepted}
 use Rattle.lp_transition.proofs.Effects.{HasTaken}
 use Rattle.lp_transition.proofs.Unchanged.{touches, live_from, none_some, own_same, switched_not, left, stands_still, TakesIn, stays_in, scan_touches, scan_free, scan_plain, Notes, changes_in}
 

@@ -7,19 +7,19 @@ use mathlib.Core.Path.{fun_ext}
 use Rattle.lp_numbers.specs.Numbers.{Numbers, has}
 use Rattle.lp_model.specs.Rules.{Rules, IsLawful}
 use Rattle.lp_model.specs.declared.check.CheckKind.{CheckKind}
-use Rattle.lp_transition.specs.declared.event.Event.{Event}
-use Rattle.lp_transition.specs.Events.{is_control}
-use Rattle.lp_transition.specs.Tasks.{Fate, Unused, Live, Dead, map_live, change}
-use Rattle.lp_transition.specs.Leg.{Standing, State, is_alone}
-use Rattle.lp_transition.specs.Machine.{Standings, outlines_of, view_of, waits_in, switches_at, switched_task, refusal_of, affected, next, own_effect}
-use Rattle.lp_transition.specs.Table.{Table, Engine, slot, standings, state_in, bounds_of}
-use Rattle.lp_transition.specs.inside.Table.{changed, is_off}
+use Rattle.lp_definitions.specs.declared.event.Event.{Event}
+use Rattle.lp_definitions.specs.Events.{is_control}
+use Rattle.lp_definitions.specs.Tasks.{Fate, Unused, Live, Dead, map_live, change}
+use Rattle.lp_definitions.specs.Leg.{Standing, State, is_alone}
+use Rattle.lp_machine.specs.Machine.{Standings, outlines_of, view_of, waits_in, switches_at, switched_task, refusal_of, affected, next, own_effect}
+use Rattle.lp_machine.specs.Table.{Table, Engine, slot, standings, state_in, bounds_of}
+use Rattle.lp_tasks.specs.inside.Table.{changed, is_off}
 use Rattle.lp_transition.specs.inside.Invariant.{IsEngine}
-use Rattle.lp_transition.proofs.EngineLemmas.{next-accepted}
-use Rattle.lp_transition.proofs.TableLemmas.{standings-changed, slot-changed, slot-changed_other, IsWide-changed, slot-zero, live_from_slot}
-use Rattle.lp_transition.proofs.MemberLemmas.{Member, IsLone, slot-positive, lone-told, behind}
+use Rattle.lp_machine.proofs.EngineLemmas.{next-accepted}
+use Rattle.lp_tasks.proofs.TableLemmas.{standings-changed, slot-changed, slot-changed_other, IsWide-changed, slot-zero, live_from_slot}
+use Rattle.lp_tasks.proofs.MemberLemmas.{Member, IsLone, slot-positive, lone-told, behind}
 use Rattle.lp_transition.proofs.Effects.{HasTaken, with_table, state-with_table, sound_next}
-use Rattle.lp_transition.proofs.Alone.{ChecksAlone, behind-same, alone-same, alone-other, alone-stays, other-stays, calm-stays, alone-switches}
+use Rattle.lp_machine.proofs.Alone.{ChecksAlone, behind-same, alone-same, alone-other, alone-stays, other-stays, calm-stays, alone-switches}
 
 -- the state in which a task is changed and asked
 abbrev pub asked : Engine → ℕ → (Standing → Standing) → State

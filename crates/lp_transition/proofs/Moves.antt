@@ -2,14 +2,13 @@
 use Rattle.std.specs.Prelude.{◌≡◌, ℕ, true, nat_eq}
 use Rattle.std.proofs.Common.{refl}
 use Rattle.lp_stack.specs.declared.number.TaskId.{TaskId}
-use Rattle.lp_transition.specs.Tasks.{Grouping}
+use Rattle.lp_definitions.specs.Tasks.{Grouping, Fate, change}
 use Rattle.lp_transition.specs.declared.engine.moves.Move.{Move}
 use Rattle.lp_transition.specs.declared.engine.moves.Move.TheVariants.{Sleep, Wake, Enter}
-use Rattle.lp_transition.specs.Tasks.{Fate, change}
-use Rattle.lp_transition.specs.Leg.{Standing}
-use Rattle.lp_transition.specs.Machine.{own_effect, put_in}
+use Rattle.lp_definitions.specs.Leg.{Standing}
+use Rattle.lp_machine.specs.Machine.{own_effect, put_in}
 use Rattle.lp_transition.specs.inside.Moves.{mode_after, move_event}
-use Rattle.lp_transition.proofs.EngineLemmas.{is_quiet}
+use Rattle.lp_machine.proofs.EngineLemmas.{is_quiet}
 use Rattle.lp_transition.proofs.Unchanged.{touches}
 
 pub move_quiet : (kind : Move) (t : TaskId) → is_quiet (move_event kind t) ≡ true

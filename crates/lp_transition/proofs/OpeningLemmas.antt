@@ -2,14 +2,14 @@
 use Rattle.std.proofs.Common.{◌≡◌, ℕ, true, [], sym, ap, ap₂, ◌∙◌, add-zero}
 use Rattle.std.proofs.lemmas.Bool.{cond-true}
 use Rattle.lp_model.specs.Rules.{Rules}
-use Rattle.lp_transition.specs.declared.event.Event.{Event}
-use Rattle.lp_transition.specs.Tasks.{Fate}
-use Rattle.lp_transition.specs.Leg.{Standing, State, Leg}
-use Rattle.lp_transition.specs.Run.{plus, first_leg, leg_of, next_leg, opens, opened, and_then}
-use Rattle.lp_transition.specs.Machine.{state_of}
-use Rattle.lp_transition.specs.Steps.{OpensLegs}
-use Rattle.lp_transition.proofs.Steps.{open_shown}
-use Rattle.lp_transition.proofs.Runs.{leg_after-plus}
+use Rattle.lp_definitions.specs.declared.event.Event.{Event}
+use Rattle.lp_definitions.specs.Tasks.{Fate}
+use Rattle.lp_definitions.specs.Leg.{Standing, State, Leg}
+use Rattle.lp_definitions.specs.Run.{plus, first_leg, leg_of, next_leg, opens, opened, and_then}
+use Rattle.lp_machine.specs.Machine.{state_of}
+use Rattle.lp_machine.specs.Steps.{OpensLegs}
+use Rattle.lp_machine.proofs.Steps.{open_shown}
+use Rattle.lp_machine.proofs.Runs.{leg_after-plus}
 
 -- ---- Openings of legs
 

@@ -3,18 +3,19 @@ use Rattle.std.proofs.Common.{◌≡◌, ℕ, ◌<◌, true, false, Some, None, 
 use Rattle.std.proofs.lemmas.Bool.{eqb-true, eq-eqb}
 use Rattle.std.specs.List.{list_any}
 use Rattle.lp_numbers.specs.Numbers.{Numbers, has}
-use Rattle.lp_transition.specs.Tasks.{Live, on_live}
-use Rattle.lp_transition.specs.Leg.{Standing}
-use Rattle.lp_transition.specs.Table.{Table, Engine, slot, standings, state_in}
-use Rattle.lp_transition.specs.inside.Table.{is_in}
+use Rattle.lp_definitions.specs.Tasks.{Live, on_live}
+use Rattle.lp_definitions.specs.Leg.{Standing}
+use Rattle.lp_machine.specs.Table.{Table, Engine, slot, standings, state_in}
+use Rattle.lp_tasks.specs.inside.Table.{is_in}
 use Rattle.lp_transition.specs.inside.Invariant.{IsEngine}
-use Rattle.lp_transition.specs.Scan.{is_asked, passing}
+use Rattle.lp_transition.specs.Scan.{is_asked}
+use Rattle.lp_tasks.specs.Passing.{passing}
 use Rattle.lp_transition.specs.inside.ScanSteps.{IsOwnGroup}
-use Rattle.lp_transition.proofs.MemberLemmas.{IsLone, slot-below}
-use Rattle.lp_transition.proofs.Passing.{passing-both_is, passing-both_from}
-use Rattle.lp_transition.proofs.ScanGroups.{same_bool}
+use Rattle.lp_tasks.proofs.MemberLemmas.{IsLone, slot-below}
+use Rattle.lp_tasks.proofs.Passing.{passing-both_is, passing-both_from}
+use Rattle.lp_laws.proofs.Quantifiers.{same_bool}
 use Rattle.lp_transition.proofs.ScanTakes.{group_fits}
-use Rattle.lp_transition.proofs.TableLemmas.{slot_from_live}
+use Rattle.lp_tasks.proofs.TableLemmas.{slot_from_live}
 
 -- the only member of a group has its number
 pub own-lone : (table : Table) (number : ℕ) → IsLone table number number → IsOwnGroup table number

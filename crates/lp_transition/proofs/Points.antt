@@ -4,15 +4,15 @@ use Rattle.lp_stack.specs.declared.number.TaskId.{TaskId}
 use Rattle.lp_model.specs.declared.check.CheckKind.{CheckKind}
 use Rattle.lp_model.specs.declared.check.CheckKind.TheVariants.{KernelExit, IdlePoint, Walk, Stop}
 use Rattle.lp_model.specs.Rules.{Rules}
-use Rattle.lp_transition.specs.Events.{is_control}
-use Rattle.lp_transition.specs.Tasks.{Bounds, Grouping, change}
-use Rattle.lp_transition.specs.Leg.{Standing, State}
-use Rattle.lp_transition.specs.Run.{switched}
-use Rattle.lp_transition.specs.Machine.{Standings, refusal_of, own_effect, affected, told, switched_groups}
-use Rattle.lp_transition.specs.Table.{Engine, state_in}
-use Rattle.lp_transition.specs.inside.Points.{is_point_kind, point_event, at_point}
-use Rattle.lp_transition.proofs.Accept.{IsLive, exit-live, idle-live}
-use Rattle.lp_transition.proofs.Alone.{ChecksAlone}
+use Rattle.lp_definitions.specs.Events.{is_control}
+use Rattle.lp_definitions.specs.Tasks.{Bounds, Grouping, change}
+use Rattle.lp_definitions.specs.Leg.{Standing, State}
+use Rattle.lp_definitions.specs.Run.{switched}
+use Rattle.lp_machine.specs.Machine.{Standings, refusal_of, own_effect, affected, told, switched_groups}
+use Rattle.lp_machine.specs.Table.{Engine, state_in}
+use Rattle.lp_tasks.specs.inside.Points.{is_point_kind, point_event, at_point}
+use Rattle.lp_machine.proofs.Accept.{IsLive, exit-live, idle-live}
+use Rattle.lp_machine.proofs.Alone.{ChecksAlone}
 use Rattle.lp_transition.proofs.LoneChecks.{same-after_nothing}
 
 pub point-level : (kind : CheckKind) (x : Standing) → (at_point kind x).level ≡ x.level

@@ -7,17 +7,18 @@ use Rattle.lp_model.specs.Rules.{Rules, IsLawful}
 use Rattle.lp_model.specs.declared.check.CheckKind.{CheckKind}
 use Rattle.lp_model.specs.declared.check.CheckKind.TheVariants as kind
 use Rattle.lp_model.specs.declared.verdict.Verdict.{Verdict}
-use Rattle.lp_transition.specs.declared.reply.What.TheVariants.{Done}
-use Rattle.lp_transition.specs.declared.reply.Reply.{Reply}
-use Rattle.lp_transition.specs.declared.engine.blames.StandingBlame.{StandingBlame}
-use Rattle.lp_transition.specs.Events.{is_scan}
-use Rattle.lp_transition.specs.Run.{switched}
-use Rattle.lp_transition.specs.Sound.{IsSound}
-use Rattle.lp_transition.specs.Steps.{IsStep}
+use Rattle.lp_definitions.specs.declared.reply.What.TheVariants.{Done}
+use Rattle.lp_definitions.specs.declared.reply.Reply.{Reply}
+use Rattle.lp_machine.specs.declared.standing_blame.StandingBlame.{StandingBlame}
+use Rattle.lp_definitions.specs.Events.{is_scan}
+use Rattle.lp_definitions.specs.Run.{switched}
+use Rattle.lp_definitions.specs.Sound.{IsSound}
+use Rattle.lp_machine.specs.Steps.{IsStep}
 use Rattle.lp_transition.specs.Blames.{or_blame, is_open, HasBlamesAfter}
-use Rattle.lp_transition.specs.Scan.{is_scan_kind, scan_event, verdicts_of, is_asked, verdicts_among, passing, MayLeaveOut}
+use Rattle.lp_transition.specs.Scan.{is_scan_kind, scan_event, verdicts_of, is_asked, verdicts_among, MayLeaveOut}
+use Rattle.lp_tasks.specs.Passing.{passing}
 use Rattle.lp_transition.specs.LastScan.{IsLastScanAfter}
-use Rattle.lp_transition.specs.Table.{Table, Engine, LastScan, state_in}
+use Rattle.lp_machine.specs.Table.{Table, Engine, LastScan, state_in}
 use Rattle.lp_transition.specs.Weigh.{Weighed, IsWeighed}
 use Rattle.lp_transition.specs.inside.Blames.{blame_at}
 use Rattle.lp_transition.specs.inside.Invariant.{KeptScan, IsNoted, IsWhole, told_scan}
@@ -26,10 +27,10 @@ use Rattle.lp_transition.proofs.AskedScans.{asked_none, among-enough, left-out, 
 use Rattle.lp_transition.proofs.Blames.{Leaves, blamed_out}
 use Rattle.lp_transition.proofs.BlamedScans.{leaves_scanned, blame_within}
 use Rattle.lp_transition.proofs.Effects.{HasTaken, with_table, with_scan}
-use Rattle.lp_transition.proofs.Runs.{is_step}
+use Rattle.lp_machine.proofs.Runs.{is_step}
 use Rattle.lp_transition.proofs.ScanAnswers.{answer-scan, born-scan, still, verdicts-scan}
 use Rattle.lp_transition.proofs.ScanTakes.{takes_scan, group_fits}
-use Rattle.lp_transition.proofs.TableLemmas.{slot_from_live}
+use Rattle.lp_tasks.proofs.TableLemmas.{slot_from_live}
 use Rattle.lp_transition.proofs.Unchanged.{core_scanned}
 use Rattle.lp_transition.proofs.LastScans.{last_scanned}
 

@@ -5,22 +5,22 @@ use mathlib.Core.Path.{fun_ext}
 use Rattle.lp_stack.specs.TaskView.{TaskView}
 use Rattle.lp_model.specs.Rules.{Rules, IsLawful}
 use Rattle.lp_numbers.specs.Numbers.{has}
-use Rattle.lp_transition.specs.declared.event.Event.{Event}
-use Rattle.lp_transition.specs.Events.{is_control}
-use Rattle.lp_transition.specs.Tasks.{Life, Fate, Unused, Live, Dead, on_live, map_live, is_unused, outlines}
-use Rattle.lp_transition.specs.Leg.{Standing, State, Leg, after, is_alone}
-use Rattle.lp_transition.specs.Schedule.{Schedule, level, view, standing, waits, first_check}
-use Rattle.lp_transition.specs.Run.{is_complete_now, refused_by, shown, next_leg}
-use Rattle.lp_transition.specs.Machine.{outlines_of, waits_in, switches_at, switched_task, affected, with_switches, state_of}
+use Rattle.lp_definitions.specs.declared.event.Event.{Event}
+use Rattle.lp_definitions.specs.Events.{is_control}
+use Rattle.lp_definitions.specs.Tasks.{Life, Fate, Unused, Live, Dead, on_live, map_live, is_unused, outlines}
+use Rattle.lp_definitions.specs.Leg.{Standing, State, Leg, after, is_alone}
+use Rattle.lp_definitions.specs.Schedule.{Schedule, level, view, standing, waits, first_check}
+use Rattle.lp_definitions.specs.Run.{is_complete_now, refused_by, shown, next_leg}
+use Rattle.lp_machine.specs.Machine.{outlines_of, waits_in, switches_at, switched_task, affected, with_switches, state_of}
 use Rattle.lp_transition.specs.Scan.{waiting_view, views_of}
-use Rattle.lp_transition.specs.Table.{Engine, slot, fate_at, standings, state_in}
+use Rattle.lp_machine.specs.Table.{Engine, slot, fate_at, standings, state_in}
 use Rattle.lp_transition.specs.Blames.{has_frame_in}
 use Rattle.lp_transition.specs.Laws.{TellsLeg, TellsTask, StatesTell}
-use Rattle.lp_transition.proofs.Quantifiers.{some_live-map}
-use Rattle.lp_transition.proofs.Cut.{outlines_same}
-use Rattle.lp_transition.proofs.Steps.{complete_is, refusal_is, new_target_same, does}
-use Rattle.lp_transition.proofs.EngineLemmas.{next-accepted}
-use Rattle.lp_transition.specs.Sound.{IsSound}
+use Rattle.lp_laws.proofs.Quantifiers.{some_live-map}
+use Rattle.lp_machine.proofs.Cut.{outlines_same}
+use Rattle.lp_machine.proofs.Steps.{complete_is, refusal_is, new_target_same, does}
+use Rattle.lp_machine.proofs.EngineLemmas.{next-accepted}
+use Rattle.lp_definitions.specs.Sound.{IsSound}
 
 -- ---- Frames
 

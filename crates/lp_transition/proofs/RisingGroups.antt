@@ -11,12 +11,12 @@ use Rattle.std.specs.Ordering.{nat_cmp, ordering_index}
 use Rattle.lp_numbers.proofs.Ascents.{none_in}
 use Rattle.lp_stack.specs.declared.number.GroupId.{GroupId}
 use Rattle.lp_model.specs.declared.verdict.Verdict.{Verdict}
-use Rattle.lp_transition.specs.Events.{group_numbers}
-use Rattle.lp_transition.specs.Scan.{passing}
-use Rattle.lp_transition.specs.Table.{Table, slot}
-use Rattle.lp_transition.specs.inside.Table.{is_in}
+use Rattle.lp_definitions.specs.Events.{group_numbers}
+use Rattle.lp_tasks.specs.Passing.{passing}
+use Rattle.lp_machine.specs.Table.{Table, slot}
+use Rattle.lp_tasks.specs.inside.Table.{is_in}
 use Rattle.lp_transition.specs.inside.ScanSteps.{is_found, switches_by, is_listed}
-use Rattle.lp_transition.proofs.Passing.{passes, keep_one, skip_one, passing-skip}
+use Rattle.lp_tasks.proofs.Passing.{passes, keep_one, skip_one, passing-skip}
 
 -- ---- Verdicts of greater and greater groups
 

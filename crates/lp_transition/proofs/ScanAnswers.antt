@@ -8,23 +8,24 @@ use Rattle.lp_model.specs.Rules.{Rules, IsLawful}
 use Rattle.lp_model.specs.declared.check.CheckKind.{CheckKind}
 use Rattle.lp_model.specs.declared.check.CheckKind.TheVariants.{KernelExit, IdlePoint, Walk, Stop}
 use Rattle.lp_model.specs.declared.verdict.Verdict.{Verdict}
-use Rattle.lp_transition.specs.declared.event.Event.{Event}
-use Rattle.lp_transition.specs.declared.event.Event.TheVariants.{Walk, Stop}
-use Rattle.lp_transition.specs.declared.reply.What.TheVariants.{Done}
-use Rattle.lp_transition.specs.declared.reply.Reply.{Reply}
-use Rattle.lp_transition.specs.Tasks.{Live}
-use Rattle.lp_transition.specs.Leg.{Standing, State}
-use Rattle.lp_transition.specs.Run.{switched}
-use Rattle.lp_transition.specs.Sound.{IsSound}
-use Rattle.lp_transition.specs.Machine.{switches_at, switched_groups, affected, refusal_of, answer}
-use Rattle.lp_transition.specs.Table.{Table, Engine, slot, state_in}
-use Rattle.lp_transition.specs.inside.Table.{is_in}
+use Rattle.lp_definitions.specs.declared.event.Event.{Event}
+use Rattle.lp_definitions.specs.declared.event.Event.TheVariants.{Walk, Stop}
+use Rattle.lp_definitions.specs.declared.reply.What.TheVariants.{Done}
+use Rattle.lp_definitions.specs.declared.reply.Reply.{Reply}
+use Rattle.lp_definitions.specs.Tasks.{Live}
+use Rattle.lp_definitions.specs.Leg.{Standing, State}
+use Rattle.lp_definitions.specs.Run.{switched}
+use Rattle.lp_definitions.specs.Sound.{IsSound}
+use Rattle.lp_machine.specs.Machine.{switches_at, switched_groups, affected, refusal_of, answer}
+use Rattle.lp_machine.specs.Table.{Table, Engine, slot, state_in}
+use Rattle.lp_tasks.specs.inside.Table.{is_in}
 use Rattle.lp_transition.specs.inside.Invariant.{IsEngine}
 use Rattle.lp_transition.specs.Weigh.{Weighed, IsWeighed, AreVerdictsFor, born_of}
-use Rattle.lp_transition.specs.Scan.{is_scan_kind, scan_event, verdicts_of, AreEnough, passing}
+use Rattle.lp_transition.specs.Scan.{is_scan_kind, scan_event, verdicts_of, AreEnough}
+use Rattle.lp_tasks.specs.Passing.{passing}
 use Rattle.lp_transition.specs.inside.ScanSteps.{tasks_of, is_found, switches_by, all_admit, groups_of}
-use Rattle.lp_transition.proofs.TableLemmas.{slot_from_live}
-use Rattle.lp_transition.proofs.Passing.{passing-none}
+use Rattle.lp_tasks.proofs.TableLemmas.{slot_from_live}
+use Rattle.lp_tasks.proofs.Passing.{passing-none}
 use Rattle.lp_transition.proofs.ScanGroups.{told, completes}
 use Rattle.lp_transition.proofs.AskedScans.{switches-among, completes-among, tasks-judged}
 

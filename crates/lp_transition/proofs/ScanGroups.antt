@@ -6,24 +6,18 @@ use Rattle.lp_model.specs.Rules.{Rules, IsLawful}
 use Rattle.lp_model.specs.declared.check.Blame.{Blame}
 use Rattle.lp_model.specs.declared.check.CheckKind.{CheckKind}
 use Rattle.lp_model.specs.declared.verdict.Verdict.{Verdict}
-use Rattle.lp_transition.specs.declared.event.Event.{Event}
-use Rattle.lp_transition.specs.Tasks.{Live, map_live}
-use Rattle.lp_transition.specs.Leg.{Standing, State, each_live, has_member, check_by, when, if_used}
-use Rattle.lp_transition.specs.Sound.{IsSound}
-use Rattle.lp_transition.specs.Machine.{view_of, outline_of, outlines_of, complete_in, waits_in, admits_all, switches_at}
-use Rattle.lp_transition.specs.Table.{Table, slot}
-use Rattle.lp_transition.specs.inside.Table.{is_in}
+use Rattle.lp_definitions.specs.declared.event.Event.{Event}
+use Rattle.lp_definitions.specs.Tasks.{Live, map_live}
+use Rattle.lp_definitions.specs.Leg.{Standing, State, each_live, has_member, check_by, when, if_used}
+use Rattle.lp_definitions.specs.Sound.{IsSound}
+use Rattle.lp_machine.specs.Machine.{view_of, outline_of, outlines_of, complete_in, waits_in, admits_all, switches_at}
+use Rattle.lp_machine.specs.Table.{Table, slot}
+use Rattle.lp_tasks.specs.inside.Table.{is_in}
 use Rattle.lp_transition.specs.Scan.{verdict_of, verdicts_of}
 use Rattle.lp_transition.specs.inside.ScanSteps.{is_found, switches_by, all_admit}
-use Rattle.lp_transition.proofs.Quantifiers.{each_live-at, each_live-from, some_live-is, some_live-from, some_live-map, each_live-map}
-use Rattle.lp_transition.proofs.States.{waiting_suffice}
+use Rattle.lp_laws.proofs.Quantifiers.{same_bool, each_live-at, each_live-from, some_live-is, some_live-from, some_live-map, each_live-map}
+use Rattle.lp_machine.proofs.States.{waiting_suffice}
 use Rattle.lp_transition.proofs.ScanLists.{verdict-is, verdict-from}
-
--- two tests that hold together are one
-pub same_bool : (a b : Bool) → (a ≡ true → b ≡ true) → (b ≡ true → a ≡ true) → a ≡ b
-same_bool true b h k = sym (h refl)
-same_bool false true h k = k refl
-same_bool false false h k = refl
 
 none_is : (o : Option Blame) → is_none o ≡ true → o ≡ None
 none_is None h = refl

@@ -6,18 +6,19 @@ use Rattle.std.specs.Option.{option_map}
 use mathlib.Core.Path.{fun_ext}
 use Rattle.lp_stack.specs.TaskView.{TaskView}
 use Rattle.lp_numbers.specs.Numbers.{Numbers, has}
-use Rattle.lp_transition.specs.Tasks.{Fate, Unused, Live, Dead}
-use Rattle.lp_transition.specs.Leg.{Standing, State}
-use Rattle.lp_transition.specs.Machine.{view_of, waits_in}
-use Rattle.lp_transition.specs.Table.{Engine, slot, fate_at, standings, state_in}
-use Rattle.lp_transition.specs.inside.Table.{is_off, is_in}
+use Rattle.lp_definitions.specs.Tasks.{Fate, Unused, Live, Dead}
+use Rattle.lp_definitions.specs.Leg.{Standing, State}
+use Rattle.lp_machine.specs.Machine.{view_of, waits_in}
+use Rattle.lp_machine.specs.Table.{Engine, slot, fate_at, standings, state_in}
+use Rattle.lp_tasks.specs.inside.Table.{is_off, is_in}
 use Rattle.lp_transition.specs.inside.Invariant.{IsEngine}
-use Rattle.lp_transition.specs.Scan.{waiting_view, views_of, passing}
+use Rattle.lp_transition.specs.Scan.{waiting_view, views_of}
+use Rattle.lp_tasks.specs.Passing.{passing}
 use Rattle.lp_transition.specs.inside.ScanSteps.{waiting_slot}
-use Rattle.lp_transition.proofs.Passing.{passing-skip, passing-both_is, passing-both_from}
-use Rattle.lp_transition.proofs.MemberLemmas.{slot-below, member-is, member-from, behind-is, behind-from}
-use Rattle.lp_transition.proofs.ScanGroups.{same_bool}
-use Rattle.lp_transition.proofs.TableLemmas.{slot-zero}
+use Rattle.lp_tasks.proofs.Passing.{passing-skip, passing-both_is, passing-both_from}
+use Rattle.lp_tasks.proofs.MemberLemmas.{slot-below, member-is, member-from, behind-is, behind-from}
+use Rattle.lp_laws.proofs.Quantifiers.{same_bool}
+use Rattle.lp_tasks.proofs.TableLemmas.{slot-zero}
 
 -- ---- The views of the waiting tasks
 

@@ -6,9 +6,9 @@ use Rattle.lp_stack.specs.TaskView.{TaskView}
 use Rattle.lp_model.specs.Rules.{Rules}
 use Rattle.lp_model.specs.declared.check.CheckKind.{CheckKind}
 use Rattle.lp_model.specs.declared.verdict.Verdict.{Verdict}
-use Rattle.lp_transition.specs.Tasks.{Fate, Unused, Live, Dead}
-use Rattle.lp_transition.specs.Leg.{Standing, State}
-use Rattle.lp_transition.specs.Machine.{view_of}
+use Rattle.lp_definitions.specs.Tasks.{Fate, Unused, Live, Dead}
+use Rattle.lp_definitions.specs.Leg.{Standing, State}
+use Rattle.lp_machine.specs.Machine.{view_of}
 use Rattle.lp_transition.specs.Scan.{waiting_view, views_of, verdict_of, verdicts_of}
 
 -- ---- What a function gives of a range of numbers

@@ -11,25 +11,25 @@ use Rattle.lp_model.specs.Rules.{Rules, IsLawful}
 use Rattle.lp_model.specs.declared.check.CheckKind.{CheckKind}
 use Rattle.lp_model.specs.declared.check.CheckKind.TheVariants as Check
 use Rattle.lp_model.specs.declared.verdict.Verdict.{Verdict}
-use Rattle.lp_transition.specs.declared.event.Event.{Event}
-use Rattle.lp_transition.specs.declared.event.Event.TheVariants.{Call, Ret, Sleep, Wake, Enter, Exit, Idle, Fork, Die, Walk, Stop, Enable, Disable, Reverse}
-use Rattle.lp_transition.specs.Events.{is_scan}
-use Rattle.lp_transition.specs.Tasks.{Unused, Live, map_live}
-use Rattle.lp_transition.specs.Leg.{Standing, State}
-use Rattle.lp_transition.specs.Sound.{IsSound}
-use Rattle.lp_transition.specs.Machine.{switches_at, switched_groups, affected, refusal_of, next, answer}
-use Rattle.lp_transition.specs.Table.{Table, Engine, IsWide, slot, fate_at, standings, state_in}
-use Rattle.lp_transition.specs.inside.Table.{is_off}
+use Rattle.lp_definitions.specs.declared.event.Event.{Event}
+use Rattle.lp_definitions.specs.declared.event.Event.TheVariants.{Call, Ret, Sleep, Wake, Enter, Exit, Idle, Fork, Die, Walk, Stop, Enable, Disable, Reverse}
+use Rattle.lp_definitions.specs.Events.{is_scan}
+use Rattle.lp_definitions.specs.Tasks.{Unused, Live, map_live}
+use Rattle.lp_definitions.specs.Leg.{Standing, State}
+use Rattle.lp_definitions.specs.Sound.{IsSound}
+use Rattle.lp_machine.specs.Machine.{switches_at, switched_groups, affected, refusal_of, next, answer}
+use Rattle.lp_machine.specs.Table.{Table, Engine, IsWide, slot, fate_at, standings, state_in}
+use Rattle.lp_tasks.specs.inside.Table.{is_off}
 use Rattle.lp_transition.specs.inside.Invariant.{IsEngine}
 use Rattle.lp_transition.specs.Weigh.{Weighed, IsWeighed, AreVerdictsFor}
 use Rattle.lp_transition.specs.Scan.{verdicts_of, AreEnough}
 use Rattle.lp_transition.specs.inside.ScanSteps.{is_judged, switches_by, switched_if, task_switches, AreSwitched, groups_of, is_listed}
-use Rattle.lp_transition.proofs.EngineLemmas.{next-accepted}
+use Rattle.lp_machine.proofs.EngineLemmas.{next-accepted}
 use Rattle.lp_transition.proofs.Effects.{HasTaken, with_table, state-with_table, sound_next}
-use Rattle.lp_transition.proofs.TableLemmas.{live_from_slot, slot_from_live}
+use Rattle.lp_tasks.proofs.TableLemmas.{live_from_slot, slot_from_live}
 use Rattle.lp_transition.proofs.ScanSwitches.{slot_stays}
 use Rattle.lp_transition.proofs.AskedScans.{judged-waits, switches-judged}
-use Rattle.lp_transition.proofs.Passing.{passing-any}
+use Rattle.lp_tasks.proofs.Passing.{passing-any}
 use Rattle.lp_transition.proofs.RisingGroups.{passes-rise}
 use Rattle.lp_transition.proofs.ScanAnswers.{groups_of-switched, switching_by, switches-walk, switches-stop}
 

@@ -4,20 +4,20 @@ use Rattle.std.proofs.lemmas.Bool.{cond-true, not-false}
 use Rattle.std.specs.Bool.{one_answer}
 use Rattle.lp_numbers.specs.Numbers.{Numbers, has}
 use Rattle.lp_model.specs.Rules.{Rules, IsLawful}
-use Rattle.lp_transition.specs.declared.event.Event.{Event}
-use Rattle.lp_transition.specs.declared.reply.What.TheVariants.{Done}
-use Rattle.lp_transition.specs.declared.reply.Reply.{Reply}
-use Rattle.lp_transition.specs.Events.{is_control}
-use Rattle.lp_transition.specs.Leg.{Standing, State, each_live}
-use Rattle.lp_transition.specs.Run.{new_target}
-use Rattle.lp_transition.specs.Machine.{refusal_of, next, answer}
-use Rattle.lp_transition.specs.Table.{Engine, slot, standings, state_in, bounds_of}
-use Rattle.lp_transition.specs.inside.Table.{is_off}
+use Rattle.lp_definitions.specs.declared.event.Event.{Event}
+use Rattle.lp_definitions.specs.declared.reply.What.TheVariants.{Done}
+use Rattle.lp_definitions.specs.declared.reply.Reply.{Reply}
+use Rattle.lp_definitions.specs.Events.{is_control}
+use Rattle.lp_definitions.specs.Leg.{Standing, State, each_live}
+use Rattle.lp_definitions.specs.Run.{new_target}
+use Rattle.lp_machine.specs.Machine.{refusal_of, next, answer}
+use Rattle.lp_machine.specs.Table.{Engine, slot, standings, state_in, bounds_of}
+use Rattle.lp_tasks.specs.inside.Table.{is_off}
 use Rattle.lp_transition.specs.inside.Invariant.{IsEngine}
-use Rattle.lp_transition.proofs.EngineLemmas.{next-turned, answer-accepted}
-use Rattle.lp_transition.proofs.Quantifiers.{each_live-at, each_live-from}
-use Rattle.lp_transition.proofs.TableLemmas.{slot-zero, slot_from_live, live_from_slot}
-use Rattle.lp_transition.proofs.MemberLemmas.{slot-positive, slot-below}
+use Rattle.lp_machine.proofs.EngineLemmas.{next-turned, answer-accepted}
+use Rattle.lp_laws.proofs.Quantifiers.{each_live-at, each_live-from}
+use Rattle.lp_tasks.proofs.TableLemmas.{slot-zero, slot_from_live, live_from_slot}
+use Rattle.lp_tasks.proofs.MemberLemmas.{slot-positive, slot-below}
 use Rattle.lp_transition.proofs.Effects.{HasTaken, sound_next}
 
 -- the engine turned to another level

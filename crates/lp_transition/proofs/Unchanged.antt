@@ -11,25 +11,25 @@ use Rattle.lp_model.specs.declared.check.CheckKind.{CheckKind}
 use Rattle.lp_model.specs.declared.check.ForkKind.{ForkKind}
 use Rattle.lp_model.specs.declared.check.CheckKind.TheVariants as kind
 use Rattle.lp_model.specs.declared.verdict.Verdict.{Verdict}
-use Rattle.lp_transition.specs.declared.event.Event.{Event}
-use Rattle.lp_transition.specs.declared.event.Event.TheVariants.{Call, Ret, Sleep, Wake, Enter, Exit, Idle, Fork, Die, Walk, Stop, Enable, Disable, Reverse}
-use Rattle.lp_transition.specs.declared.refusal.Refusal.{Refusal}
-use Rattle.lp_transition.specs.Events.{is_control}
-use Rattle.lp_transition.specs.Tasks.{Fate, Unused, Live, Dead, map_live, change}
-use Rattle.lp_transition.specs.Leg.{Standing, State}
-use Rattle.lp_transition.specs.Sound.{IsSound}
-use Rattle.lp_transition.specs.Machine.{view_of, put_in, calling, returning, bearing, own_effect, switches_at, switched_task, refusal_of, counted, affected, with_switches, next}
-use Rattle.lp_transition.specs.Table.{Table, Engine, IsWide, slot, standings, state_in}
+use Rattle.lp_definitions.specs.declared.event.Event.{Event}
+use Rattle.lp_definitions.specs.declared.event.Event.TheVariants.{Call, Ret, Sleep, Wake, Enter, Exit, Idle, Fork, Die, Walk, Stop, Enable, Disable, Reverse}
+use Rattle.lp_definitions.specs.declared.refusal.Refusal.{Refusal}
+use Rattle.lp_definitions.specs.Events.{is_control}
+use Rattle.lp_definitions.specs.Tasks.{Fate, Unused, Live, Dead, map_live, change}
+use Rattle.lp_definitions.specs.Leg.{Standing, State}
+use Rattle.lp_definitions.specs.Sound.{IsSound}
+use Rattle.lp_machine.specs.Machine.{view_of, put_in, calling, returning, bearing, own_effect, switches_at, switched_task, refusal_of, counted, affected, with_switches, next}
+use Rattle.lp_machine.specs.Table.{Table, Engine, IsWide, slot, standings, state_in}
 use Rattle.lp_transition.specs.Scan.{is_scan_kind, scan_event, verdicts_of, RefusesMember, MayLeaveOut, AreEnough}
 use Rattle.lp_transition.specs.Weigh.{child_of, born_by, born_of, AreVerdictsFor}
-use Rattle.lp_transition.specs.inside.Table.{changed, is_off, is_in, with_task}
+use Rattle.lp_tasks.specs.inside.Table.{changed, is_off, is_in, with_task}
 use Rattle.lp_transition.specs.inside.Invariant.{IsEngine, KeptScan, AreUnchanged, IsNoted, IsCore}
-use Rattle.lp_transition.specs.inside.Points.{point_event}
+use Rattle.lp_tasks.specs.inside.Points.{point_event}
 use Rattle.lp_transition.specs.inside.ScanSteps.{is_found, switches_by, admits_task}
-use Rattle.lp_transition.proofs.EngineLemmas.{next-refused, next-accepted}
+use Rattle.lp_machine.proofs.EngineLemmas.{next-refused, next-accepted}
 use Rattle.lp_transition.proofs.Effects.{HasTaken}
-use Rattle.lp_transition.proofs.TableLemmas.{slot_from_live, slot-changed, slot-with_task}
-use Rattle.lp_transition.proofs.Accept.{fork-new}
+use Rattle.lp_tasks.proofs.TableLemmas.{slot_from_live, slot-changed, slot-with_task}
+use Rattle.lp_machine.proofs.Accept.{fork-new}
 use Rattle.lp_transition.proofs.ScanAnswers.{switches-walk, switches-stop}
 use Rattle.lp_transition.proofs.ScanGroups.{found-from, found-is}
 use Rattle.lp_transition.proofs.Admitted.{admitted-is, enough_for}

@@ -9,29 +9,29 @@ use Rattle.lp_stack.specs.declared.view.Mode.TheVariants.{Kernel, Asleep}
 use Rattle.lp_model.specs.Rules.{Rules, IsLawful}
 use Rattle.lp_model.specs.declared.check.CheckKind.{CheckKind}
 use Rattle.lp_model.specs.declared.check.ForkKind.{ForkKind}
-use Rattle.lp_transition.specs.declared.event.Event.{Event}
-use Rattle.lp_transition.specs.declared.event.Event.TheVariants.{Call, Ret, Sleep, Wake, Enter, Exit, Idle, Fork, Die, Walk, Stop, Enable, Disable, Reverse}
-use Rattle.lp_transition.specs.declared.refusal.Refusal.{Refusal}
-use Rattle.lp_transition.specs.declared.reply.What.{What}
-use Rattle.lp_transition.specs.declared.reply.What.TheVariants.{Done}
-use Rattle.lp_transition.specs.declared.reply.Reply.{Reply}
-use Rattle.lp_transition.specs.Events.{is_control, is_scan}
-use Rattle.lp_transition.specs.Tasks.{Unused, Live, Dead, change}
-use Rattle.lp_transition.specs.Leg.{Standing, State}
-use Rattle.lp_transition.specs.Run.{switched}
-use Rattle.lp_transition.specs.Machine.{complete_in, switches_at, switched_groups, bearing, refusal_of, affected, own_effect, calling, returning, put_in, told, answer_by, answer}
-use Rattle.lp_transition.specs.Table.{Engine, slot, fate_at, standings, state_in, bounds_of}
-use Rattle.lp_transition.specs.inside.Table.{changed, is_off}
+use Rattle.lp_definitions.specs.declared.event.Event.{Event}
+use Rattle.lp_definitions.specs.declared.event.Event.TheVariants.{Call, Ret, Sleep, Wake, Enter, Exit, Idle, Fork, Die, Walk, Stop, Enable, Disable, Reverse}
+use Rattle.lp_definitions.specs.declared.refusal.Refusal.{Refusal}
+use Rattle.lp_definitions.specs.declared.reply.What.{What}
+use Rattle.lp_definitions.specs.declared.reply.What.TheVariants.{Done}
+use Rattle.lp_definitions.specs.declared.reply.Reply.{Reply}
+use Rattle.lp_definitions.specs.Events.{is_control, is_scan}
+use Rattle.lp_definitions.specs.Tasks.{Unused, Live, Dead, change}
+use Rattle.lp_definitions.specs.Leg.{Standing, State}
+use Rattle.lp_definitions.specs.Run.{switched}
+use Rattle.lp_machine.specs.Machine.{complete_in, switches_at, switched_groups, bearing, refusal_of, affected, own_effect, calling, returning, put_in, told, answer_by, answer}
+use Rattle.lp_machine.specs.Table.{Engine, slot, fate_at, standings, state_in, bounds_of}
+use Rattle.lp_tasks.specs.inside.Table.{changed, is_off}
 use Rattle.lp_transition.specs.inside.Invariant.{IsEngine}
 use Rattle.lp_transition.specs.Weigh.{Weighed, IsWeighed, AreVerdictsFor, is_silent, silent_task, child_of, born_by, born_of, is_switched, refusal_in}
-use Rattle.lp_transition.proofs.EngineLemmas.{is_quiet, quiet-control, quiet-stays, switched-still, answer-accepted}
-use Rattle.lp_transition.proofs.Quantifiers.{each_live-at, each_live-from}
-use Rattle.lp_transition.proofs.Accept.{fork-new}
-use Rattle.lp_transition.proofs.TableLemmas.{slot-zero, slot_from_live, live_from_slot}
+use Rattle.lp_machine.proofs.EngineLemmas.{is_quiet, quiet-control, quiet-stays, switched-still, answer-accepted}
+use Rattle.lp_laws.proofs.Quantifiers.{each_live-at, each_live-from}
+use Rattle.lp_machine.proofs.Accept.{fork-new}
+use Rattle.lp_tasks.proofs.TableLemmas.{slot-zero, slot_from_live, live_from_slot}
 use Rattle.lp_transition.proofs.Effects.{with_table, takes_change_still}
-use Rattle.lp_transition.proofs.MemberLemmas.{slot-positive, slot-below}
+use Rattle.lp_tasks.proofs.MemberLemmas.{slot-positive, slot-below}
 use Rattle.lp_transition.proofs.SwitchedGroups.{switched-none, switched-one-group}
-use Rattle.lp_transition.proofs.Alone.{ChecksAlone}
+use Rattle.lp_machine.proofs.Alone.{ChecksAlone}
 use Rattle.lp_transition.proofs.LoneChecks.{put_on, takes_switch, none-switches_now, others-stay_now}
 use Rattle.lp_transition.proofs.Completes.{answer-taken, not-completed, completed_by, completed}
 

@@ -6,11 +6,12 @@ use Rattle.lp_numbers.specs.Numbers.{Numbers, has}
 use Rattle.lp_model.specs.Rules.{Rules}
 use Rattle.lp_model.specs.declared.check.CheckKind.{CheckKind}
 use Rattle.lp_model.specs.declared.verdict.Verdict.{Verdict}
-use Rattle.lp_transition.specs.Tasks.{Live, on_live}
-use Rattle.lp_transition.specs.Leg.{Standing}
-use Rattle.lp_transition.specs.Scan.{verdict_of, verdicts_of, verdicts_at, is_asked, passing}
-use Rattle.lp_transition.specs.Table.{Engine, slot, standings, state_in}
-use Rattle.lp_transition.specs.inside.Table.{is_in}
+use Rattle.lp_definitions.specs.Tasks.{Live, on_live}
+use Rattle.lp_definitions.specs.Leg.{Standing}
+use Rattle.lp_transition.specs.Scan.{verdict_of, verdicts_of, verdicts_at, is_asked}
+use Rattle.lp_tasks.specs.Passing.{passing}
+use Rattle.lp_machine.specs.Table.{Engine, slot, standings, state_in}
+use Rattle.lp_tasks.specs.inside.Table.{is_in}
 use Rattle.lp_transition.specs.inside.Invariant.{IsEngine}
 use Rattle.lp_transition.specs.inside.ScanSteps.{IsOwnGroup, is_found, is_judged}
 use Rattle.lp_transition.specs.inside.FirstRefusals.{AdmitsOthers, HasAsked, AreTold}

@@ -4,13 +4,13 @@ use Rattle.lp_numbers.specs.Numbers.{has, IsEmpty}
 use Rattle.lp_model.specs.Rules.{Rules}
 use Rattle.lp_model.specs.declared.check.CheckKind.{CheckKind}
 use Rattle.lp_model.specs.declared.check.CheckKind.TheVariants as check
-use Rattle.lp_transition.specs.declared.event.Event.{Event}
-use Rattle.lp_transition.specs.declared.event.Event.TheVariants.{Walk, Stop}
-use Rattle.lp_transition.specs.Events.{is_control}
-use Rattle.lp_transition.specs.Tasks.{Live}
-use Rattle.lp_transition.specs.Leg.{Standing, State}
-use Rattle.lp_transition.specs.Machine.{refusal_of}
-use Rattle.lp_transition.specs.Table.{Engine, state_in}
+use Rattle.lp_definitions.specs.declared.event.Event.{Event}
+use Rattle.lp_definitions.specs.declared.event.Event.TheVariants.{Walk, Stop}
+use Rattle.lp_definitions.specs.Events.{is_control}
+use Rattle.lp_definitions.specs.Tasks.{Live}
+use Rattle.lp_definitions.specs.Leg.{Standing, State}
+use Rattle.lp_machine.specs.Machine.{refusal_of}
+use Rattle.lp_machine.specs.Table.{Engine, state_in}
 
 -- the kind of scan that the model uses, if it is one
 abbrev pub used_kind : Rules → CheckKind → Option CheckKind

@@ -1,5 +1,5 @@
 -- Scans, which look at the stacks of all waiting tasks: what they look at, and what they find.
-use Rattle.std.specs.Prelude.{◌≡◌, ℕ, ◌-◌, Bool, true, false, List, [], map, Option, Some, None, is_some, if◌then◌else◌, nat_eq}
+use Rattle.std.specs.Prelude.{◌≡◌, ℕ, Bool, true, false, List, [], map, Option, Some, None, is_some, if◌then◌else◌, nat_eq}
 use Rattle.std.specs.List.{filter, filter_map, list_any, range_with_len}
 use Rattle.std.specs.Option.{option_map}
 use Rattle.lp_stack.specs.TaskView.{TaskView}
@@ -9,11 +9,11 @@ use Rattle.lp_model.specs.declared.check.Blame.{Blame}
 use Rattle.lp_model.specs.declared.check.CheckKind.{CheckKind}
 use Rattle.lp_model.specs.declared.check.CheckKind.TheVariants.{Walk, Stop}
 use Rattle.lp_model.specs.declared.verdict.Verdict.{Verdict}
-use Rattle.lp_transition.specs.declared.event.Event.{Event}
-use Rattle.lp_transition.specs.declared.event.Event.TheVariants.{Walk, Stop}
-use Rattle.lp_transition.specs.Tasks.{Fate, Unused, Live, Dead, on_live, first_of}
-use Rattle.lp_transition.specs.Leg.{Standing, State}
-use Rattle.lp_transition.specs.Machine.{view_of}
+use Rattle.lp_definitions.specs.declared.event.Event.{Event}
+use Rattle.lp_definitions.specs.declared.event.Event.TheVariants.{Walk, Stop}
+use Rattle.lp_definitions.specs.Tasks.{Fate, Unused, Live, Dead, on_live, first_of}
+use Rattle.lp_definitions.specs.Leg.{Standing, State}
+use Rattle.lp_machine.specs.Machine.{view_of}
 
 -- ---- Kinds of scans
 
@@ -124,9 +124,3 @@ pub record AreEnough (model : Rules) (kind : CheckKind) (s : State) (verdicts : 
   pub first :
       (group : ℕ) → list_any (is_of s group) verdicts ≡ true →
       first_refused s group verdicts ≡ first_refused s group (verdicts_of model kind s)
-
--- ---- Numbers in increasing order
-
--- the numbers from a first one to below a limit that pass a test
-unfoldable pub passing : ℕ → ℕ → (ℕ → Bool) → List ℕ
-passing first limit test = filter test (range_with_len first (limit - first))

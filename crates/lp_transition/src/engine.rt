@@ -2,25 +2,22 @@
 ghost use Rattle.std.specs.Prelude.{◌≡◌, ◌≤◌, None, not, is_some, false};
 ghost use Rattle.std.specs.Option.{ForSome, option_map};
 ghost use Rattle.lp_patch.specs.Aimed.{aimed};
-ghost use Rattle.lp_transition.specs.Scan.{passing, MayLeaveOut};
-ghost use Rattle.lp_transition.specs.Sound.{IsSound};
-ghost use Rattle.lp_transition.specs.Table.{IsWide, slot, standings, bounds_of, state_in};
+ghost use Rattle.lp_tasks.specs.Passing.{passing};
+ghost use Rattle.lp_transition.specs.Scan.{MayLeaveOut};
+ghost use Rattle.lp_definitions.specs.Sound.{IsSound};
+ghost use Rattle.lp_machine.specs.Table.{IsWide, slot, standings, bounds_of, state_in};
 ghost use Rattle.lp_transition.specs.Blames.{blame_of, has_frame_in, is_open};
 ghost use Rattle.lp_model.specs.declared.check.CheckKind.{CheckKind};
-ghost use Rattle.lp_transition.specs.Leg.{is_alone};
+ghost use Rattle.lp_definitions.specs.Leg.{is_alone};
 ghost use Rattle.lp_stack.specs.TaskView.{seen};
-ghost use Rattle.lp_transition.specs.Machine.{complete_in, outlines_of, view_of};
+ghost use Rattle.lp_machine.specs.Machine.{complete_in, outlines_of, view_of};
 
 mod blame_table;
 mod blames;
 mod boot;
 mod control;
-mod deep_stack;
-mod deep_stacks;
 mod dispatch;
 mod first_refusals;
-mod live_task;
-mod live_view;
 mod moves;
 mod open_scan;
 mod opening;
@@ -31,26 +28,21 @@ mod refuse;
 mod scan;
 mod step;
 mod take;
-mod task_table;
 mod unchanged;
 mod weigh;
 
 use blames::Blames;
-pub use blames::StandingBlame;
 pub use boot::BootFault;
 pub use dispatch::verdicts;
+use lp_machine::StandingBlame;
 use lp_model::Consistency;
 use lp_numbers::{Ascending, NumberSet};
 use lp_patch::{Aim, PatchStack};
 use lp_stack::{GroupId, Level, TaskId, View};
-pub use opening::Opening;
+use lp_tasks::TaskTable;
 use std::marker::Model;
 pub use step::{Halt, Step};
-use task_table::TaskTable;
 use unchanged::Unchanged;
-
-/// The most events that are numbered.
-pub const MOST_EVENTS: u32 = 1_000_000;
 
 /// The engine over a consistency model: it decides at each event which tasks switch.
 ///
@@ -70,7 +62,7 @@ pub struct Core<M: Consistency> {
     blames: Blames,
 }
 
-/// In one step for who owns one: docs/GATE.md says why.
+/// By hand, so that the proof of who owns one lets go of it in one step, not field by field.
 impl<M: Consistency> Drop for Core<M> {
     fn drop(self) {
         let Core {
@@ -88,7 +80,7 @@ impl<M: Consistency> Drop for Core<M> {
 }
 
 impl<M: Consistency> Model for Core<M> {
-    ghost use Rattle.lp_transition.specs.Table.{Engine};
+    ghost use Rattle.lp_machine.specs.Table.{Engine};
     ghost use Rattle.lp_transition.specs.inside.Invariant.{IsWhole, told_scan};
 
     ghost Value = { Engine };

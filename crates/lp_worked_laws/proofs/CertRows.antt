@@ -2,14 +2,14 @@
 use Rattle.std.proofs.Common.{refl}
 use Rattle.std.specs.Fmt.{digits}
 use Rattle.lp_patch.specs.Patches.{version}
-use Rattle.lp_transition.specs.Tasks.{refusal, effect}
-use Rattle.lp_transition.specs.Leg.{tasks_after, each_live, some_live, check}
-use Rattle.lp_transition.specs.Schedule.{level_by, waits, allowed, complete, first_checks}
-use Rattle.lp_transition.specs.Run.{is_complete_now, refused_by, shown, next_leg}
+use Rattle.lp_definitions.specs.Tasks.{refusal, effect}
+use Rattle.lp_definitions.specs.Leg.{tasks_after, each_live, some_live, check}
+use Rattle.lp_definitions.specs.Schedule.{level_by, waits, allowed, complete, first_checks}
+use Rattle.lp_definitions.specs.Run.{is_complete_now, refused_by, shown, next_leg}
 use Rattle.lp_model.specs.Row.{rules_of}
 use Rattle.lp_models.specs.Models.{hybrid, leave_kernel, all_at_once, immediate}
 use Rattle.lp_process.specs.Models.{process_group}
-use Rattle.lp_cert.specs.Certificates.{lines, completion, legs}
+use Rattle.lp_definitions.specs.Certificates.{lines, completion, legs}
 use Rattle.lp_worked_laws.specs.CertRows.{CertificatesCompute}
 
 pub certificates_compute :

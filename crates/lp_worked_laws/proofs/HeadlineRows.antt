@@ -10,25 +10,24 @@ use Rattle.lp_model.specs.Rules.{Rules}
 use Rattle.lp_model.specs.Row.{rules_of}
 use Rattle.lp_models.specs.Models.{hybrid}
 use Rattle.lp_models.specs.inside.ModelLaws.{hybrid_lawful}
-use Rattle.lp_transition.specs.declared.event.Event.{Event}
-use Rattle.lp_transition.specs.declared.reply.Reply.{Reply}
+use Rattle.lp_definitions.specs.declared.event.Event.{Event}
+use Rattle.lp_definitions.specs.declared.reply.Reply.{Reply}
 use Rattle.lp_worked_laws.specs.Rows.{normal}
-use Rattle.lp_transition.specs.Sound.{IsSound}
-use Rattle.lp_transition.specs.Tasks.{refusal, effect}
-use Rattle.lp_transition.specs.Leg.{Leg, tasks_after, each_live, some_live, check}
-use Rattle.lp_transition.specs.Schedule.{Schedule, level_by, waits, allowed, complete, first_checks, first_check}
-use Rattle.lp_transition.specs.Run.{AreInRange, first_leg, leg_of, switched_at, is_complete_now, refused_by, shown, next_leg, reply, replies, leg_after}
-use Rattle.lp_transition.specs.Stays.{moments, stays, all_stays}
-use Rattle.lp_transition.proofs.First.{first_check_is}
-use Rattle.lp_transition.proofs.NoEarlier.{one_first_check}
-use Rattle.lp_transition.proofs.WholeRun.{run_sound, start_sound}
-use Rattle.lp_cert.specs.declared.leg_end.LegEnd.{LegEnd}
-use Rattle.lp_cert.specs.Certificates.{lines, completion, legs}
-use Rattle.lp_replay.specs.declared.outcome.Outcome.{Outcome}
-use Rattle.lp_replay.specs.Headline.{Headline, HeadlineOfLeg, SwitchAtFirstChecks, switched_groups, replies_in}
+use Rattle.lp_definitions.specs.Sound.{IsSound}
+use Rattle.lp_definitions.specs.Tasks.{refusal, effect}
+use Rattle.lp_definitions.specs.Leg.{Leg, tasks_after, each_live, some_live, check}
+use Rattle.lp_definitions.specs.Schedule.{Schedule, level_by, waits, allowed, complete, first_checks, first_check}
+use Rattle.lp_definitions.specs.Run.{AreInRange, first_leg, leg_of, switched_at, is_complete_now, refused_by, shown, next_leg, reply, replies, leg_after}
+use Rattle.lp_definitions.specs.Stays.{moments, stays, all_stays}
+use Rattle.lp_laws.proofs.First.{first_check_is}
+use Rattle.lp_laws.proofs.NoEarlier.{one_first_check}
+use Rattle.lp_laws.proofs.WholeRun.{run_sound, start_sound}
+use Rattle.lp_definitions.specs.Ends.{LegEnd}
+use Rattle.lp_definitions.specs.Certificates.{lines, completion, legs}
+use Rattle.lp_definitions.specs.Outcome.{Outcome, IsOutcome}
+use Rattle.lp_definitions.specs.Headline.{Headline, HeadlineOfLeg, SwitchAtFirstChecks, switched_groups, replies_in}
 use Rattle.lp_worked_laws.specs.HeadlineRows.{HeadlineRefuses, of_task_1, leaves_twice, sleeps_above_a_changed_function, forks_and_leaves, dies_before_a_walk}
-use Rattle.lp_replay.specs.Outcome.{IsOutcome}
-use Rattle.lp_replay.proofs.Headline.{headline_holds}
+use Rattle.lp_laws.proofs.Headline.{headline_holds}
 
 abbrev rules : Rules
 rules = rules_of hybrid

@@ -1,12 +1,12 @@
 -- The worked rows compute at the models as they are built.
 use Rattle.std.proofs.Common.{refl}
 use Rattle.lp_patch.specs.Patches.{version}
-use Rattle.lp_transition.specs.Tasks.{refusal, effect}
-use Rattle.lp_transition.specs.Leg.{tasks_after, each_live, some_live, check}
-use Rattle.lp_transition.specs.Schedule.{level_by, waits, allowed, complete, first_checks}
-use Rattle.lp_transition.specs.Stays.{moments, stays, all_stays}
-use Rattle.lp_transition.specs.Run.{is_complete_now, refused_by, shown, next_leg, reply, replies, leg_after}
-use Rattle.lp_transition.specs.Machine.{switches_at, switched_groups, refusal_of, next, answer, answers}
+use Rattle.lp_definitions.specs.Tasks.{refusal, effect}
+use Rattle.lp_definitions.specs.Leg.{tasks_after, each_live, some_live, check}
+use Rattle.lp_definitions.specs.Schedule.{level_by, waits, allowed, complete, first_checks}
+use Rattle.lp_definitions.specs.Stays.{moments, stays, all_stays}
+use Rattle.lp_definitions.specs.Run.{is_complete_now, refused_by, shown, next_leg, reply, replies, leg_after}
+use Rattle.lp_machine.specs.Machine.{switches_at, switched_groups, refusal_of, next, answer, answers}
 use Rattle.lp_model.specs.Row.{rules_of}
 use Rattle.lp_models.specs.Models.{hybrid, leave_kernel, all_at_once, immediate}
 use Rattle.lp_process.specs.Models.{process_group}

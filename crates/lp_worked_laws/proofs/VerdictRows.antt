@@ -4,11 +4,11 @@ use Rattle.lp_patch.specs.Patches.{version}
 use Rattle.lp_model.specs.Row.{rules_of}
 use Rattle.lp_models.specs.Models.{hybrid, all_at_once}
 use Rattle.lp_process.specs.Models.{process_group}
-use Rattle.lp_transition.specs.Tasks.{refusal, effect}
-use Rattle.lp_transition.specs.Leg.{tasks_after, each_live, some_live, check}
-use Rattle.lp_transition.specs.Schedule.{level_by, waits, allowed, complete, first_checks}
-use Rattle.lp_transition.specs.Run.{is_complete_now, refused_by, shown, next_leg, leg_after}
-use Rattle.lp_checker.specs.Verdict.{first_bad, verdict_on}
+use Rattle.lp_definitions.specs.Tasks.{refusal, effect}
+use Rattle.lp_definitions.specs.Leg.{tasks_after, each_live, some_live, check}
+use Rattle.lp_definitions.specs.Schedule.{level_by, waits, allowed, complete, first_checks}
+use Rattle.lp_definitions.specs.Run.{is_complete_now, refused_by, shown, next_leg, leg_after}
+use Rattle.lp_definitions.specs.Verdict.{first_bad, verdict_on}
 use Rattle.lp_worked_laws.specs.VerdictRows.{verdict, VerdictsCompute}
 
 pub verdicts_compute : VerdictsCompute (rules_of hybrid) (rules_of all_at_once) (rules_of process_group)

@@ -3,12 +3,12 @@ use Rattle.std.specs.Prelude.{◌≡◌, ℕ, List, [], ◌∷◌, map, codes}
 use Rattle.std.specs.List.{flat_map, join_with_byte}
 use Rattle.lp_model.specs.Rules.{Rules}
 use Rattle.lp_model.specs.declared.check.ForkKind.TheVariants.{Own, Share}
-use Rattle.lp_transition.specs.declared.event.Event.TheVariants.{Walk, Stop, Enable}
-use Rattle.lp_transition.specs.Events.{fork}
-use Rattle.lp_transition.specs.Run.{Run, first_leg}
+use Rattle.lp_definitions.specs.declared.event.Event.TheVariants.{Walk, Stop, Enable}
+use Rattle.lp_definitions.specs.Events.{fork}
+use Rattle.lp_definitions.specs.Run.{Run, first_leg}
 use Rattle.lp_worked_laws.specs.Rows.{a, c, normal, call, ret, sleep, enter, exit, patch_a, leaves_the_kernel, sleeps_in_a_changed_function, sleeps_elsewhere, stops_twice, forks_after_it_switched, forks_while_it_waits, reverses_at_once, reverses_later, dies_while_it_waits, controls_out_of_turn, nobody_is_there, stacked, a_thread_sleeps}
-use Rattle.lp_cert.specs.Certificates.{certs_of, opened_legs}
-use Rattle.lp_cert.specs.Text.{cert_lines}
+use Rattle.lp_definitions.specs.Certificates.{certs_of, opened_legs}
+use Rattle.lp_text.specs.CertTexts.{cert_lines}
 
 -- ---- Runs
 

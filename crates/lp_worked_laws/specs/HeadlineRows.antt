@@ -2,21 +2,21 @@
 use Rattle.std.specs.Prelude.{ℕ, List, [], ◌∷◌, Some, None}
 use Rattle.lp_model.specs.Rules.{Rules}
 use Rattle.lp_model.specs.declared.check.ForkKind.TheVariants.{Own}
-use Rattle.lp_transition.specs.declared.event.Event.{Event}
-use Rattle.lp_transition.specs.declared.event.Event.TheVariants.{Walk, Enable}
-use Rattle.lp_transition.specs.declared.reply.Reply.{Reply}
-use Rattle.lp_transition.specs.Events.{fork}
-use Rattle.lp_transition.specs.Run.{Run}
+use Rattle.lp_definitions.specs.declared.event.Event.{Event}
+use Rattle.lp_definitions.specs.declared.event.Event.TheVariants.{Walk, Enable}
+use Rattle.lp_definitions.specs.declared.reply.Reply.{Reply}
+use Rattle.lp_definitions.specs.Events.{fork}
+use Rattle.lp_definitions.specs.Run.{Run}
 use Rattle.lp_worked_laws.specs.Rows.{a, c, task, normal, call, sleep, enter, exit, die, done, ran, over, complete, patch_a}
-use Rattle.lp_cert.specs.declared.line.Line.{Line}
-use Rattle.lp_cert.specs.declared.line.Line.TheVariants.{Hold, Born}
-use Rattle.lp_cert.specs.declared.cert.Claim.{Claim}
-use Rattle.lp_cert.specs.declared.cert.Claim.TheVariants.{Waiting, Floor}
-use Rattle.lp_cert.specs.declared.cert.Cert.{Cert}
-use Rattle.lp_cert.specs.declared.leg_end.LegEnd.{LegEnd}
-use Rattle.lp_cert.specs.Certificates.{group_id}
-use Rattle.lp_replay.specs.declared.outcome.Outcome.{Outcome}
-use Rattle.lp_replay.specs.Headline.{Headline}
+use Rattle.lp_definitions.specs.declared.line.Line.{Line}
+use Rattle.lp_definitions.specs.declared.line.Line.TheVariants.{Hold, Born}
+use Rattle.lp_definitions.specs.declared.cert.Claim.{Claim}
+use Rattle.lp_definitions.specs.declared.cert.Claim.TheVariants.{Waiting, Floor}
+use Rattle.lp_definitions.specs.declared.cert.Cert.{Cert}
+use Rattle.lp_definitions.specs.Ends.{LegEnd}
+use Rattle.lp_definitions.specs.Certificates.{group_id}
+use Rattle.lp_definitions.specs.Outcome.{Outcome}
+use Rattle.lp_definitions.specs.Headline.{Headline}
 
 -- ---- Words of the rows
 

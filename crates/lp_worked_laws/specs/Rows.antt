@@ -5,16 +5,16 @@ use Rattle.lp_stack.specs.declared.view.Class.{Class}
 use Rattle.lp_stack.specs.declared.view.Class.TheVariants.{Normal, Idle}
 use Rattle.lp_model.specs.declared.check.ForkKind.TheVariants.{Own, Share}
 use Rattle.lp_model.specs.Rules.{Rules}
-use Rattle.lp_transition.specs.declared.event.Event.{Event}
-use Rattle.lp_transition.specs.declared.event.Event.TheVariants.{Call, Ret, Sleep, Wake, Enter, Exit, Idle, Die, Walk, Stop, Enable, Disable, Reverse}
-use Rattle.lp_transition.specs.declared.refusal.Refusal.{Refusal}
-use Rattle.lp_transition.specs.declared.refusal.Refusal.TheVariants.{StackNotEmpty, InTransition, NotInTransition, AlreadyThere}
-use Rattle.lp_transition.specs.declared.reply.What.TheVariants.{Ran, Done, Switched, Refused}
-use Rattle.lp_transition.specs.declared.reply.Reply.{Reply}
-use Rattle.lp_transition.specs.Events.{fork}
-use Rattle.lp_transition.specs.Run.{Run, first_leg, leg_of, replies}
-use Rattle.lp_transition.specs.Machine.{answers}
-use Rattle.lp_transition.specs.Stays.{stack, stay_count, mixed_count}
+use Rattle.lp_definitions.specs.declared.event.Event.{Event}
+use Rattle.lp_definitions.specs.declared.event.Event.TheVariants.{Call, Ret, Sleep, Wake, Enter, Exit, Idle, Die, Walk, Stop, Enable, Disable, Reverse}
+use Rattle.lp_definitions.specs.declared.refusal.Refusal.{Refusal}
+use Rattle.lp_definitions.specs.declared.refusal.Refusal.TheVariants.{StackNotEmpty, InTransition, NotInTransition, AlreadyThere}
+use Rattle.lp_definitions.specs.declared.reply.What.TheVariants.{Ran, Done, Switched, Refused}
+use Rattle.lp_definitions.specs.declared.reply.Reply.{Reply}
+use Rattle.lp_definitions.specs.Events.{fork}
+use Rattle.lp_definitions.specs.Run.{Run, first_leg, leg_of, replies}
+use Rattle.lp_machine.specs.Machine.{answers}
+use Rattle.lp_definitions.specs.Stays.{stack, stay_count, mixed_count}
 
 -- ---- Words of the rows
 

@@ -4,18 +4,18 @@ use Rattle.lp_stack.specs.declared.number.TaskId.{TaskId}
 use Rattle.lp_stack.specs.declared.view.Class.{Class}
 use Rattle.lp_model.specs.declared.check.ForkKind.TheVariants.{Own, Share}
 use Rattle.lp_model.specs.Rules.{Rules}
-use Rattle.lp_transition.specs.declared.event.Event.{Event}
-use Rattle.lp_transition.specs.declared.event.Event.TheVariants.{Walk, Stop, Enable, Reverse}
-use Rattle.lp_transition.specs.Events.{fork}
+use Rattle.lp_definitions.specs.declared.event.Event.{Event}
+use Rattle.lp_definitions.specs.declared.event.Event.TheVariants.{Walk, Stop, Enable, Reverse}
+use Rattle.lp_definitions.specs.Events.{fork}
 use Rattle.lp_worked_laws.specs.Rows.{a, c, normal, call, ret, sleep, wake, enter, exit, die, patch_a}
-use Rattle.lp_transition.specs.Run.{leg_of}
-use Rattle.lp_cert.specs.declared.cert.Claim.{Claim}
-use Rattle.lp_cert.specs.declared.cert.Claim.TheVariants.{Waiting, Floor}
-use Rattle.lp_cert.specs.declared.line.Line.{Line}
-use Rattle.lp_cert.specs.declared.line.Line.TheVariants.{Hold, Busy, Born}
-use Rattle.lp_checker.specs.declared.fault.CertFault.{CertFault}
-use Rattle.lp_checker.specs.declared.fault.CertFault.TheVariants.{NoSuchGroup, NotOnStack, NoBlame, Gap, BadBirth, NoLeg}
-use Rattle.lp_checker.specs.Verdict.{verdict_on}
+use Rattle.lp_definitions.specs.Run.{leg_of}
+use Rattle.lp_definitions.specs.declared.cert.Claim.{Claim}
+use Rattle.lp_definitions.specs.declared.cert.Claim.TheVariants.{Waiting, Floor}
+use Rattle.lp_definitions.specs.declared.line.Line.{Line}
+use Rattle.lp_definitions.specs.declared.line.Line.TheVariants.{Hold, Busy, Born}
+use Rattle.lp_definitions.specs.declared.cert_fault.CertFault.{CertFault}
+use Rattle.lp_definitions.specs.declared.cert_fault.CertFault.TheVariants.{NoSuchGroup, NotOnStack, NoBlame, Gap, BadBirth, NoLeg}
+use Rattle.lp_definitions.specs.Verdict.{verdict_on}
 
 -- ---- Words of the rows
 

@@ -4,12 +4,12 @@ use Rattle.std.specs.List.{list_any, filter_map}
 use Rattle.lp_stack.specs.declared.number.Level.{Level}
 use Rattle.lp_stack.specs.declared.number.TaskId.{TaskId}
 use Rattle.lp_model.specs.declared.verdict.Verdict.{Verdict}
-use Rattle.lp_transition.specs.declared.event.Event.{Event}
-use Rattle.lp_transition.specs.declared.event.Event.TheVariants.{Exit, Idle, Fork, Die, Enable, Disable, Reverse}
-use Rattle.lp_transition.specs.declared.reply.What.{What}
-use Rattle.lp_transition.specs.declared.reply.What.TheVariants.{Done, Switched, Refused}
-use Rattle.lp_transition.specs.declared.reply.Reply.{Reply}
-use Rattle.lp_transition.specs.Table.{Engine, standings, slot}
+use Rattle.lp_definitions.specs.declared.event.Event.{Event}
+use Rattle.lp_definitions.specs.declared.event.Event.TheVariants.{Exit, Idle, Fork, Die, Enable, Disable, Reverse}
+use Rattle.lp_definitions.specs.declared.reply.What.{What}
+use Rattle.lp_definitions.specs.declared.reply.What.TheVariants.{Done, Switched, Refused}
+use Rattle.lp_definitions.specs.declared.reply.Reply.{Reply}
+use Rattle.lp_machine.specs.Table.{Engine, standings, slot}
 use Rattle.lp_transition.specs.inside.ScanSteps.{task_switches}
 use Rattle.lp_board.specs.declared.sheet.Heading.{Heading}
 use Rattle.lp_board.specs.Pages.{level_of}

@@ -1,7 +1,7 @@
 -- What holds of a publisher between two events.
 use Rattle.std.specs.Prelude.{◌≡◌, List, []}
 use Rattle.logbook.specs.Pages.{Named}
-use Rattle.lp_transition.specs.declared.event.Event.{Event}
+use Rattle.lp_definitions.specs.declared.event.Event.{Event}
 use Rattle.lp_board.specs.declared.sheet.Page.{Page}
 use Rattle.lp_board.specs.declared.sheet.Sheet.{Sheet}
 use Rattle.lp_board.specs.Names.{Name}

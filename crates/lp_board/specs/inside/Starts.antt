@@ -4,9 +4,9 @@ use Rattle.std.specs.List.{range_with_len}
 use Rattle.logbook.specs.Pages.{Named}
 use Rattle.lp_stack.specs.declared.number.Level.{Level}
 use Rattle.lp_patch.specs.Patches.{Patches}
-use Rattle.lp_transition.specs.declared.event.Event.{Event}
-use Rattle.lp_transition.specs.Steps.{StandsIn}
-use Rattle.lp_transition.specs.Table.{Engine, standings, state_in}
+use Rattle.lp_definitions.specs.declared.event.Event.{Event}
+use Rattle.lp_machine.specs.Steps.{StandsIn}
+use Rattle.lp_machine.specs.Table.{Engine, standings, state_in}
 use Rattle.lp_board.specs.declared.sheet.Page.{Page}
 use Rattle.lp_board.specs.Names.{Name, run_of}
 use Rattle.lp_board.specs.Pages.{IsPageOf, level_of}

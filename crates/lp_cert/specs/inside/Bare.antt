@@ -1,8 +1,8 @@
 -- Certificates without lines.
 use Rattle.std.specs.Prelude.{ℕ, List, [], map}
 use Rattle.lp_stack.specs.declared.number.GroupId.{GroupId}
-use Rattle.lp_cert.specs.declared.cert.Claim.{Claim}
-use Rattle.lp_cert.specs.declared.cert.Cert.{Cert}
+use Rattle.lp_definitions.specs.declared.cert.Claim.{Claim}
+use Rattle.lp_definitions.specs.declared.cert.Cert.{Cert}
 use Rattle.lp_cert.specs.declared.cert_list.BareHead.{BareHead}
 
 abbrev pub bare_cert : Claim → (leg upto : ℕ) → GroupId → Cert

@@ -5,7 +5,7 @@ use Rattle.lp_stack.specs.declared.number.GroupId.{GroupId}
 use Rattle.lp_stack.specs.declared.number.TaskId.{TaskId}
 use Rattle.lp_model.specs.declared.check.Blame.{Blame}
 use Rattle.lp_model.specs.declared.check.Blame.TheVariants as blame
-use Rattle.lp_cert.specs.declared.line.Line.TheVariants as line
+use Rattle.lp_definitions.specs.declared.line.Line.TheVariants as line
 use Rattle.lp_cert.specs.declared.reason.Reason.{Reason}
 use Rattle.lp_cert.specs.declared.reason.Reason.TheVariants as reason
 use Rattle.lp_cert.specs.declared.ongoing.Ongoing.{Ongoing}
@@ -13,7 +13,7 @@ use Rattle.lp_cert.specs.declared.ongoing.Ongoing.TheVariants.{Nothing, Hold, Bu
 use Rattle.lp_cert.specs.declared.head.Head.{Head}
 use Rattle.lp_cert.specs.declared.head.Refused.{Refused}
 use Rattle.lp_cert.specs.declared.head.OwnFork.{OwnFork}
-use Rattle.lp_cert.specs.Certificates.{after_refusal, birth_line}
+use Rattle.lp_definitions.specs.Certificates.{after_refusal, birth_line}
 use Rattle.lp_cert.specs.Heads.{head_lines}
 
 -- a reason speaks of no more than so many scans, of one at least where it speaks of scans

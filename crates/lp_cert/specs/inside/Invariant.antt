@@ -5,12 +5,12 @@ use Rattle.lp_stack.specs.declared.number.GroupId.{GroupId}
 use Rattle.lp_numbers.specs.Numbers.{has, IsNextFrom}
 use Rattle.lp_model.specs.Rules.{Rules}
 use Rattle.lp_model.specs.declared.verdict.Verdict.{Verdict}
-use Rattle.lp_transition.specs.Events.{is_scan}
-use Rattle.lp_transition.specs.Table.{Engine, state_in}
+use Rattle.lp_definitions.specs.Events.{is_scan}
+use Rattle.lp_machine.specs.Table.{Engine, state_in}
 use Rattle.lp_transition.specs.Weigh.{Weighed, AreVerdictsFor, refusal_in}
-use Rattle.lp_cert.specs.declared.cert.Claim.{Claim}
-use Rattle.lp_cert.specs.declared.cert.Cert.{Cert}
-use Rattle.lp_cert.specs.declared.line.Line.{Line}
+use Rattle.lp_definitions.specs.declared.cert.Claim.{Claim}
+use Rattle.lp_definitions.specs.declared.cert.Cert.{Cert}
+use Rattle.lp_definitions.specs.declared.line.Line.{Line}
 use Rattle.lp_cert.specs.declared.open_leg.Completion.{Completion}
 use Rattle.lp_cert.specs.declared.open_leg.OpenLeg.{OpenLeg}
 use Rattle.lp_cert.specs.declared.maker.Ready.{Ready}

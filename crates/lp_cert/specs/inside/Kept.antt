@@ -1,6 +1,6 @@
 -- The certificates of a leg as they are kept.
 use Rattle.std.specs.Prelude.{ℕ, List, [], map}
-use Rattle.lp_cert.specs.declared.cert.Cert.{Cert}
+use Rattle.lp_definitions.specs.declared.cert.Cert.{Cert}
 use Rattle.lp_cert.specs.declared.cert_list.Kept.{Kept}
 use Rattle.lp_cert.specs.declared.cert_list.Kept.TheVariants as kept
 use Rattle.lp_cert.specs.declared.cert_list.KeptRef.{KeptRef}

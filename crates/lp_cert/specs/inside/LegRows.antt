@@ -1,10 +1,10 @@
 -- Ends of legs as they are kept.
 use Rattle.std.specs.Prelude.{◌≡◌, ℕ, ◌+◌, ◌<◌, ◌≤◌, Bool, true, false, List, [], drop, length, take, Option, Some, None, slice_index_or}
 use Rattle.lp_stack.specs.declared.number.GroupId.{GroupId}
-use Rattle.lp_cert.specs.declared.cert.Claim.{Claim}
-use Rattle.lp_cert.specs.declared.cert.Claim.TheVariants as claim
-use Rattle.lp_cert.specs.declared.cert.Cert.{Cert}
-use Rattle.lp_cert.specs.declared.leg_end.LegEnd.{LegEnd}
+use Rattle.lp_definitions.specs.declared.cert.Claim.{Claim}
+use Rattle.lp_definitions.specs.declared.cert.Claim.TheVariants as claim
+use Rattle.lp_definitions.specs.declared.cert.Cert.{Cert}
+use Rattle.lp_definitions.specs.Ends.{LegEnd}
 use Rattle.lp_cert.specs.declared.leg_rows.LegRow.{LegRow}
 use Rattle.lp_cert.specs.declared.leg_rows.RowKind.{RowKind}
 use Rattle.lp_cert.specs.declared.leg_rows.RowKind.TheVariants.{Complete, Other}

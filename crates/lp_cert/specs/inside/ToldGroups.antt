@@ -5,13 +5,13 @@ use Rattle.lp_numbers.specs.Numbers.{has}
 use Rattle.lp_model.specs.Rules.{Rules}
 use Rattle.lp_model.specs.declared.check.CheckKind.{CheckKind}
 use Rattle.lp_model.specs.declared.verdict.Verdict.{Verdict}
-use Rattle.lp_transition.specs.declared.event.Event.{Event}
-use Rattle.lp_transition.specs.Tasks.{Live}
-use Rattle.lp_transition.specs.Leg.{Standing, State}
+use Rattle.lp_definitions.specs.declared.event.Event.{Event}
+use Rattle.lp_definitions.specs.Tasks.{Live}
+use Rattle.lp_definitions.specs.Leg.{Standing, State}
 use Rattle.lp_transition.specs.LastScan.{used_scan}
 use Rattle.lp_transition.specs.Scan.{is_of, verdicts_of}
-use Rattle.lp_transition.specs.Table.{Engine, LastScan, slot, state_in}
-use Rattle.lp_transition.specs.inside.Table.{is_in}
+use Rattle.lp_machine.specs.Table.{Engine, LastScan, slot, state_in}
+use Rattle.lp_tasks.specs.inside.Table.{is_in}
 use Rattle.lp_cert.specs.declared.ongoing.Ongoing.{Ongoing}
 use Rattle.lp_cert.specs.declared.ongoing.Ongoing.TheVariants.{Nothing, Hold, Busy}
 use Rattle.lp_cert.specs.Waiters.{LegReasons, WaitingGroups, head_of}

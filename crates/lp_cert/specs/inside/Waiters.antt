@@ -10,18 +10,18 @@ use Rattle.lp_model.specs.declared.check.Blame.{Blame}
 use Rattle.lp_model.specs.declared.verdict.Verdict.{Verdict}
 use Rattle.lp_model.specs.declared.check.CheckKind.{CheckKind}
 use Rattle.lp_model.specs.declared.check.CheckKind.TheVariants as check
-use Rattle.lp_transition.specs.declared.event.Event.{Event}
-use Rattle.lp_transition.specs.declared.event.Event.TheVariants.{Walk, Stop, Fork, Die}
-use Rattle.lp_transition.specs.Tasks.{on_live}
-use Rattle.lp_transition.specs.Leg.{Standing, State, some_live, is_alone}
-use Rattle.lp_transition.specs.Machine.{outlines_of}
-use Rattle.lp_transition.specs.Table.{Table, Engine, slot, standings, bounds_of, state_in}
-use Rattle.lp_transition.specs.inside.Table.{is_in, is_off}
-use Rattle.lp_cert.specs.declared.line.Line.{Line}
+use Rattle.lp_definitions.specs.declared.event.Event.{Event}
+use Rattle.lp_definitions.specs.declared.event.Event.TheVariants.{Walk, Stop, Fork, Die}
+use Rattle.lp_definitions.specs.Tasks.{on_live}
+use Rattle.lp_definitions.specs.Leg.{Standing, State, some_live, is_alone}
+use Rattle.lp_machine.specs.Machine.{outlines_of}
+use Rattle.lp_machine.specs.Table.{Table, Engine, slot, standings, bounds_of, state_in}
+use Rattle.lp_tasks.specs.inside.Table.{is_in, is_off}
+use Rattle.lp_definitions.specs.declared.line.Line.{Line}
 use Rattle.lp_cert.specs.declared.reason.Reason.{Reason}
 use Rattle.lp_cert.specs.declared.head.OwnFork.{OwnFork}
 use Rattle.lp_cert.specs.declared.head.Waiter.{Waiter}
-use Rattle.lp_cert.specs.Certificates.{after_refusal, birth_line, group_id}
+use Rattle.lp_definitions.specs.Certificates.{after_refusal, birth_line, group_id}
 use Rattle.lp_cert.specs.Heads.{head_lines}
 use Rattle.lp_cert.specs.inside.Heads.{IsHead, IsUsed, Keeps}
 use Rattle.lp_transition.specs.Blames.{has_frame_in}

@@ -5,7 +5,7 @@ use Rattle.lp_numbers.specs.Numbers.{Numbers, has}
 use Rattle.lp_model.specs.Rules.{Rules}
 use Rattle.lp_model.specs.declared.check.CheckKind.{CheckKind}
 use Rattle.lp_model.specs.declared.verdict.Verdict.{Verdict}
-use Rattle.lp_transition.specs.Leg.{State}
+use Rattle.lp_definitions.specs.Leg.{State}
 use Rattle.lp_transition.specs.Scan.{verdict_of, waiting_view}
 use Rattle.lp_cert.specs.Waiters.{LegReasons}
 use Rattle.lp_cert.specs.inside.Waiters.{IsJudged, is_left}

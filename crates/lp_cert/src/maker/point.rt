@@ -1,7 +1,7 @@
 //! Exits and idle points while no transition is under way.
 ghost use Rattle.std.specs.Prelude.{◌≡◌, ◌<◌, true, false, IsTrue};
-ghost use Rattle.lp_transition.specs.Plain.{is_point};
-ghost use Rattle.lp_transition.specs.declared.event.Event.{Event};
+ghost use Rattle.lp_definitions.specs.Plain.{is_point};
+ghost use Rattle.lp_definitions.specs.declared.event.Event.{Event};
 ghost use Rattle.lp_cert.specs.Ends.{IsMadeFurther};
 ghost use Rattle.lp_cert.specs.inside.Invariant.{is_settled};
 

@@ -2,7 +2,7 @@
 ghost use Rattle.std.specs.Prelude.{◌≡◌, ◌<◌, ℕ, true, false, Some, IsTrue};
 ghost use Rattle.lp_numbers.specs.Numbers.{has};
 ghost use Rattle.lp_transition.specs.Scan.{is_scan_kind, scan_event, MayLeaveOut};
-ghost use Rattle.lp_transition.specs.Table.{state_in};
+ghost use Rattle.lp_machine.specs.Table.{state_in};
 ghost use Rattle.lp_cert.specs.Ends.{IsMadeFurther};
 ghost use Rattle.lp_cert.specs.inside.ToldGroups.{IsHeld};
 

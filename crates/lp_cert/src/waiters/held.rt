@@ -4,7 +4,7 @@ ghost use Rattle.std.specs.List.{AllByRecursion};
 ghost use Rattle.lp_numbers.specs.Ascending.{members_from};
 ghost use Rattle.lp_numbers.specs.Numbers.{has};
 ghost use Rattle.lp_transition.specs.Blames.{has_frame_in};
-ghost use Rattle.lp_transition.specs.Table.{state_in};
+ghost use Rattle.lp_machine.specs.Table.{state_in};
 ghost use Rattle.lp_cert.specs.Waiters.{head_of};
 ghost use Rattle.lp_cert.specs.inside.ToldGroups.{IsHeld, is_held};
 
@@ -22,6 +22,7 @@ impl Waiters {
     pub(crate) fn are_held<M: Consistency>(&self, core: &Core<M>, groups: &NumberSet) -> bool
         ensures { IsTrue result → (group : ℕ) → group < 65536 → has groups.now group ≡ true → is_held (has_frame_in (state_in core.now)) (head_of self.now.reasons group).ongoing ≡ true }
     {
+        // For the proof alone, which knows what every value keeps once a field is read.
         let _ = &self.groups;
         each_is_held(core, groups, &self.reasons)
     }

@@ -4,7 +4,7 @@ ghost use Rattle.std.specs.List.{AllByRecursion};
 ghost use Rattle.lp_numbers.specs.Ascending.{members_from};
 ghost use Rattle.lp_numbers.specs.Numbers.{has};
 ghost use Rattle.lp_transition.specs.Scan.{verdicts_of};
-ghost use Rattle.lp_transition.specs.Table.{state_in};
+ghost use Rattle.lp_machine.specs.Table.{state_in};
 ghost use Rattle.lp_cert.specs.inside.Waiters.{AreJudged, AreStanding, HasHeads, IsUsedVerdict, StandsAt, is_left, lines_at, scanned_lines};
 ghost use Rattle.lp_cert.specs.inside.WholeScans.{IsLookedAt, IsTold, count_below, found_of};
 

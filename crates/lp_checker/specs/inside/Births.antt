@@ -2,9 +2,9 @@
 use Rattle.std.specs.Prelude.{ℕ, Bool, false, ◌&&◌, Option, Some, None, nat_eq}
 use Rattle.lp_stack.specs.declared.number.GroupId.{GroupId}
 use Rattle.lp_model.specs.Rules.{Rules}
-use Rattle.lp_transition.specs.declared.event.Event.{Event}
-use Rattle.lp_transition.specs.declared.event.Event.TheVariants.{Fork}
-use Rattle.lp_transition.specs.Tasks.{Life, Fate, on_live}
+use Rattle.lp_definitions.specs.declared.event.Event.{Event}
+use Rattle.lp_definitions.specs.declared.event.Event.TheVariants.{Fork}
+use Rattle.lp_definitions.specs.Tasks.{Life, Fate, on_live}
 
 -- the group of a live task
 abbrev pub group_in : Fate Life → Option ℕ

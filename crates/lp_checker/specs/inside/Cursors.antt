@@ -1,9 +1,9 @@
 -- Where a cursor in a leg stands.
 use Rattle.std.specs.Prelude.{◌≡◌, ℕ, ◌+◌, ◌<◌, ◌≤◌, pred, length, List, Option}
 use Rattle.lp_model.specs.Rules.{Rules}
-use Rattle.lp_transition.specs.declared.event.Event.{Event}
-use Rattle.lp_transition.specs.Leg.{Leg, accepted}
-use Rattle.lp_transition.specs.Table.{Engine}
+use Rattle.lp_definitions.specs.declared.event.Event.{Event}
+use Rattle.lp_definitions.specs.Leg.{Leg, accepted}
+use Rattle.lp_machine.specs.Table.{Engine}
 use Rattle.lp_checker.specs.declared.fold.Fold.{Fold}
 use Rattle.lp_checker.specs.Folds.{leg_with}
 use Rattle.lp_checker.specs.inside.Folds.{IsAt}

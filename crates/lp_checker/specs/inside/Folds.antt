@@ -1,10 +1,10 @@
 -- Where the fold of a leg stands.
 use Rattle.std.specs.Prelude.{◌≡◌, ℕ, ◌+◌, List}
 use Rattle.lp_model.specs.Rules.{Rules}
-use Rattle.lp_transition.specs.declared.event.Event.{Event}
-use Rattle.lp_transition.specs.inside.Unswitched.{unswitched}
-use Rattle.lp_transition.specs.Openings.{IsOpening}
-use Rattle.lp_transition.specs.Table.{Engine, standings}
+use Rattle.lp_definitions.specs.declared.event.Event.{Event}
+use Rattle.lp_machine.specs.inside.Unswitched.{unswitched}
+use Rattle.lp_tasks.specs.Openings.{IsOpening}
+use Rattle.lp_machine.specs.Table.{Engine, standings}
 use Rattle.lp_checker.specs.declared.fold.Fold.{Fold}
 use Rattle.lp_checker.specs.Folds.{leg_with}
 

@@ -1,9 +1,9 @@
 -- How the check keeps the sections of a certificate.
 use Rattle.std.specs.Prelude.{◌≡◌, ℕ, ◌-◌, ◌<◌, ◌≤◌, Bool, false, not, ◌&&◌, Option, Some, None, nat_eq, List, [], ◌∷◌, slice_range}
-use Rattle.lp_cert.specs.declared.line.Line.{Line}
-use Rattle.lp_transition.specs.Leg.{Leg, Standing}
+use Rattle.lp_definitions.specs.declared.line.Line.{Line}
+use Rattle.lp_definitions.specs.Leg.{Leg, Standing}
 use Rattle.lp_checker.specs.declared.sections.Section.{Section as Part}
-use Rattle.lp_checker.specs.Verdict.{Birth, Section}
+use Rattle.lp_definitions.specs.Verdict.{Birth, Section}
 
 -- its group and its time, with these lines
 abbrev pub with_lines : List Line → Part → Section

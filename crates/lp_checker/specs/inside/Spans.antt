@@ -1,8 +1,8 @@
 -- How the check keeps which events a section's lines cover.
 use Rattle.std.specs.Prelude.{◌≡◌, ℕ, ◌-◌, ◌<◌, ◌≤◌, Bool, false, ◌&&◌, List, Option, Some, None, nat_le, slice_index}
 use Rattle.std.specs.List.{list_any}
-use Rattle.lp_cert.specs.declared.line.Line.{Line}
-use Rattle.lp_cert.specs.declared.line.Line.TheVariants.{Hold, Busy, Born}
+use Rattle.lp_definitions.specs.declared.line.Line.{Line}
+use Rattle.lp_definitions.specs.declared.line.Line.TheVariants.{Hold, Busy, Born}
 use Rattle.lp_checker.specs.declared.gaps.Span.{Span}
 
 -- the events that a line tells of, as the run numbers them

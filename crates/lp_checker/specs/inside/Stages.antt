@@ -2,13 +2,13 @@
 use Rattle.std.specs.Prelude.{ℕ, ◌∷◌, ◌++◌, List, Option, map}
 use Rattle.std.specs.List.{flat_map}
 use Rattle.lp_model.specs.Rules.{Rules}
-use Rattle.lp_transition.specs.Leg.{Leg}
-use Rattle.lp_transition.specs.Tasks.{fits}
-use Rattle.lp_cert.specs.declared.line.Line.{Line}
-use Rattle.lp_checker.specs.declared.fault.CertFault.{CertFault}
-use Rattle.lp_checker.specs.declared.fault.CertFault.TheVariants.{NoSuchGroup}
+use Rattle.lp_definitions.specs.Leg.{Leg}
+use Rattle.lp_definitions.specs.Tasks.{fits}
+use Rattle.lp_definitions.specs.declared.line.Line.{Line}
+use Rattle.lp_definitions.specs.declared.cert_fault.CertFault.{CertFault}
+use Rattle.lp_definitions.specs.declared.cert_fault.CertFault.TheVariants.{NoSuchGroup}
 use Rattle.lp_checker.specs.inside.Cursors.{Range, leg_in}
-use Rattle.lp_checker.specs.Verdict.{Section, births, birth_tests, first_group, first_lines, gap_test, line_tests, no_such_group, sections}
+use Rattle.lp_definitions.specs.Verdict.{Section, births, birth_tests, first_group, first_lines, gap_test, line_tests, no_such_group, sections}
 
 -- C3 and C2, then C4
 abbrev pub part_tests : Rules → Leg → List Section → List (Option CertFault)

@@ -1,9 +1,9 @@
 -- How the fold keeps the tasks.
 use Rattle.std.specs.Prelude.{◌≡◌, ℕ, ◌-◌, ◌<◌, ◌≤◌, ◌++◌, true, List, Option, None, length, count_by, slice_index, is_some, replicate}
 use Rattle.lp_numbers.specs.Numbers.{Numbers, has}
-use Rattle.lp_transition.specs.Leg.{Standing}
-use Rattle.lp_transition.specs.Table.{Table, IsWide, slot}
-use Rattle.lp_transition.specs.inside.Table.{is_in}
+use Rattle.lp_definitions.specs.Leg.{Standing}
+use Rattle.lp_machine.specs.Table.{Table, IsWide, slot}
+use Rattle.lp_tasks.specs.inside.Table.{is_in}
 
 -- a slot for each number: those behind the ones that there are have no task
 unfoldable pub all_slots : List (Option Standing) → List (Option Standing)

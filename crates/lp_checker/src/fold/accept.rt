@@ -1,14 +1,15 @@
 //! Which events are accepted. Control events are: in a leg they change nothing.
 ghost use Rattle.std.specs.Prelude.{◌≡◌, [], ◌∷◌, is_none};
-ghost use Rattle.lp_transition.specs.Table.{task_numbers, standings};
-ghost use Rattle.lp_transition.specs.Tasks.{first_of, tests, unknown_task, not_of, not_in, stack_not_empty};
-ghost use Rattle.lp_transition.specs.Machine.{outlines_of};
+ghost use Rattle.lp_machine.specs.Table.{standings};
+ghost use Rattle.lp_definitions.specs.Run.{task_numbers};
+ghost use Rattle.lp_definitions.specs.Tasks.{first_of, tests, unknown_task, not_of, not_in, stack_not_empty};
+ghost use Rattle.lp_machine.specs.Machine.{outlines_of};
 
 use super::table::FoldedTable;
+use lp_definitions::Event;
 use lp_model::ForkKind;
 use lp_stack::{Class, MOST_FRAMES, Mode, TaskId};
 use lp_symbols::SymId;
-use lp_transition::Event;
 
 /// Whether an event is accepted, with this many symbols.
 pub(crate) fn accepts(tasks: &FoldedTable, symbols: usize, event: Event) -> bool

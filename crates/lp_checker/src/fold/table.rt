@@ -3,8 +3,8 @@ ghost use Rattle.std.specs.Prelude.{◌≡◌, ℕ, ◌<◌, ◌≤◌, None, no
 ghost use Rattle.std.specs.Option.{ForSome, option_map};
 ghost use Rattle.lp_numbers.specs.Numbers.{has};
 ghost use Rattle.lp_checker.specs.inside.Tables.{all_slots};
-ghost use Rattle.lp_transition.specs.Tasks.{is_unused, change, Live, Dead};
-ghost use Rattle.lp_transition.specs.Machine.{put_in, calling, returning};
+ghost use Rattle.lp_definitions.specs.Tasks.{is_unused, change, Live, Dead};
+ghost use Rattle.lp_machine.specs.Machine.{put_in, calling, returning};
 
 use super::task::FoldedTask;
 use lp_numbers::NumberSet;
@@ -23,7 +23,7 @@ pub(crate) struct FoldedTable {
     members: Vec<u32>,
 }
 
-/// In one step for who owns one: docs/GATE.md says why.
+/// By hand, so that the proof of who owns one lets go of it in one step, not field by field.
 impl Drop for FoldedTable {
     fn drop(self) {
         let FoldedTable {
@@ -35,7 +35,7 @@ impl Drop for FoldedTable {
 }
 
 impl Model for FoldedTable {
-    ghost use Rattle.lp_transition.specs.Table.{Table};
+    ghost use Rattle.lp_machine.specs.Table.{Table};
     ghost use Rattle.lp_checker.specs.inside.Tables.{all_slots, IsKept};
 
     ghost Value = { Table };
@@ -46,9 +46,9 @@ impl Model for FoldedTable {
 }
 
 impl FoldedTable {
-    ghost use Rattle.lp_transition.specs.Leg.{Standing};
-    ghost use Rattle.lp_transition.specs.Table.{slot, standings, IsWide};
-    ghost use Rattle.lp_transition.specs.inside.Table.{is_in, IsKnown, IsBlank};
+    ghost use Rattle.lp_definitions.specs.Leg.{Standing};
+    ghost use Rattle.lp_machine.specs.Table.{slot, standings, IsWide};
+    ghost use Rattle.lp_tasks.specs.inside.Table.{is_in, IsKnown, IsBlank};
 
     /// A table without tasks.
     pub(crate) fn new(alloc: Global) -> Result<Self, AllocError>

@@ -20,7 +20,7 @@ pub(crate) struct FoldedTask {
 
 impl Model for FoldedTask {
     ghost use Rattle.std.specs.Prelude.{◌≤◌, length};
-    ghost use Rattle.lp_transition.specs.Leg.{Standing};
+    ghost use Rattle.lp_definitions.specs.Leg.{Standing};
 
     ghost Value = { Standing };
 
@@ -31,7 +31,7 @@ impl Model for FoldedTask {
 
 impl FoldedTask {
     ghost use Rattle.lp_stack.specs.TaskView.{seen};
-    ghost use Rattle.lp_transition.specs.Machine.{view_of, put_in, calling, returning};
+    ghost use Rattle.lp_machine.specs.Machine.{view_of, put_in, calling, returning};
 
     /// A task with an empty stack.
     pub(crate) fn new(alloc: Global, class: Class, mode: Mode, group: GroupId, level: Level) -> Self

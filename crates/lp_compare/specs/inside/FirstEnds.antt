@@ -1,7 +1,7 @@
 -- What is kept of the end of a trace's first leg.
 use Rattle.std.specs.Prelude.{◌<◌, ◌^◌, All, Option, Some, None, map}
 use Rattle.lp_models.specs.declared.name.ModelName.{ModelName}
-use Rattle.lp_cert.specs.declared.leg_end.LegEnd.{LegEnd}
+use Rattle.lp_definitions.specs.Ends.{LegEnd}
 use Rattle.lp_compare.specs.declared.comparison.Row.{Row}
 use Rattle.lp_compare.specs.declared.first_end.FirstEnd.{FirstEnd}
 use Rattle.lp_compare.specs.Comparison.{waiting_by, births_in, greatest}

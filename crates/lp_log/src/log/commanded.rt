@@ -2,10 +2,10 @@
 ghost use Rattle.std.specs.Prelude.{◌≡◌, ◌≢◌, ◌≤◌, ◌<◌, ◌↔◌, [], ◌∷◌, ◌++◌, true, None, Err, IfOk, IfErr, IfSome, IsTrue, OnErr, OnOk, length};
 ghost use Rattle.lp_transition.specs.Blames.{is_open};
 ghost use Rattle.lp_transition.specs.Scan.{is_scan_kind, scan_event, verdicts_among};
-ghost use Rattle.lp_transition.specs.Table.{state_in};
+ghost use Rattle.lp_machine.specs.Table.{state_in};
 ghost use Rattle.lp_transition.specs.Weigh.{IsWeighed};
 ghost use Rattle.lp_transition.specs.declared.engine.step.Halt.TheVariants.{JournalFull};
-ghost use Rattle.lp_transition.specs.declared.event.Event.TheVariants.{Walk};
+ghost use Rattle.lp_definitions.specs.declared.event.Event.TheVariants.{Walk};
 ghost use Rattle.lp_log.specs.declared.seat.Cause.TheVariants.{NotYours, JournalFull as Full};
 ghost use Rattle.lp_log.specs.Journals.{IsReplayed, next_entry, reply_to, and_entry};
 ghost use Rattle.lp_log.specs.Logs.{AreSame};

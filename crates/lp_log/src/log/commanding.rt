@@ -1,6 +1,6 @@
 //! An event of the control between its weighing and its place in the journal.
 ghost use Rattle.std.specs.Prelude.{◌≡◌, ◌≢◌, ◌≤◌, ◌<◌, ◌↔◌, ◌∷◌, ◌++◌, [], None, IfOk, IfErr, IfSome, OnOk, length, vec_len, vec_capacity};
-ghost use Rattle.lp_transition.specs.declared.event.Event.TheVariants.{Walk};
+ghost use Rattle.lp_definitions.specs.declared.event.Event.TheVariants.{Walk};
 ghost use Rattle.lp_log.specs.declared.seat.Cause.TheVariants.{NotYours, JournalFull as Full};
 ghost use Rattle.lp_log.specs.Journals.{IsReplayed, next_entry, reply_to, and_entry};
 ghost use Rattle.lp_log.specs.Logs.{AreSame, IsReady};
@@ -93,6 +93,7 @@ impl<M: Consistency + Sync> Log<M> {
         ensures not_yours { IfErr result (λ turned. (turned.cause ≡ NotYours) ↔ (owner event ≢ None)) }
         ensures full { IfErr result (λ turned. (turned.cause ≡ Full) ↔ ((owner event ≡ None) × (1000000 ≤ length self.old.journal.entries))) }
     {
+        // For the proof alone, which knows what every value keeps once a field is read.
         let _ = &self.core;
         let Control { mut entries } = control;
         match self.prepare_order(rt, alloc, workers, gate, judged, &mut entries, event) {

@@ -1,12 +1,12 @@
 //! Walks that are judged over copies of the tasks, while the tasks run on.
 ghost use Rattle.std.specs.Prelude.{◌≡◌, ◌≢◌, ◌≤◌, ◌↔◌, map, Err, IfOk, IfErr, IfSome, OnErr, IsTrue, length};
 ghost use Rattle.lp_stack.specs.TaskView.{seen};
-ghost use Rattle.lp_transition.specs.declared.event.Event.TheVariants.{Walk};
+ghost use Rattle.lp_definitions.specs.declared.event.Event.TheVariants.{Walk};
 ghost use Rattle.lp_transition.specs.declared.engine.step.Halt.TheVariants.{JournalFull};
 ghost use Rattle.std.specs.List.{filter};
 ghost use Rattle.lp_transition.specs.Blames.{is_open};
 ghost use Rattle.lp_transition.specs.Scan.{is_asked, views_of};
-ghost use Rattle.lp_transition.specs.Table.{state_in};
+ghost use Rattle.lp_machine.specs.Table.{state_in};
 ghost use Rattle.lp_transition.specs.Weigh.{IsWeighed};
 ghost use Rattle.lp_log.specs.declared.seat.Cause.TheVariants.{NotYours, JournalFull as Full};
 ghost use Rattle.lp_log.specs.Journals.{reply_to, and_entry};

@@ -2,7 +2,7 @@
 ghost use Rattle.std.specs.Prelude.{◌≡◌, ◌≤◌, ◌<◌, ◌↔◌, true, Err, IfOk, IfErr, OnErr, OnOk, length, vec_len, vec_capacity};
 ghost use Rattle.lp_transition.specs.Scan.{is_scan_kind, scan_event, verdicts_among, verdicts_of};
 ghost use Rattle.lp_transition.specs.Blames.{is_open};
-ghost use Rattle.lp_transition.specs.Table.{state_in};
+ghost use Rattle.lp_machine.specs.Table.{state_in};
 ghost use Rattle.lp_transition.specs.Weigh.{IsWeighed};
 ghost use Rattle.lp_transition.specs.declared.engine.step.Halt.TheVariants.{JournalFull};
 ghost use Rattle.lp_log.specs.declared.seat.Cause.TheVariants.{NoMemory};

@@ -86,6 +86,7 @@ impl<M: Consistency> Log<M> {
         ensures not_yours { IfErr result (λ turned. (turned.cause ≡ NotYours) ↔ (owner event ≢ Some seat.task)) }
         ensures full { IfErr result (λ turned. (turned.cause ≡ Full) ↔ ((owner event ≡ Some seat.task) × (1000000 ≤ length self.old.journal.entries))) }
     {
+        // For the proof alone, which knows what every value keeps once a field is read.
         let _ = &self.core;
         let Seat { task, mut entries } = seat;
         match self.prepare_from(alloc, task, &mut entries, event) {

@@ -5,7 +5,7 @@ ghost use Rattle.lp_log.specs.Journals.{IsReplayed, next_entry, reply_to, and_en
 ghost use Rattle.lp_log.specs.Logs.{AreSame, IsReady};
 ghost use Rattle.lp_log.specs.Seats.{owner, and_sent, child_seat};
 ghost use Rattle.lp_log.specs.inside.Plain.{is_calm};
-ghost use Rattle.lp_transition.specs.Table.{state_in};
+ghost use Rattle.lp_machine.specs.Table.{state_in};
 
 use super::{Log, Ready};
 use crate::Entry;
@@ -68,6 +68,7 @@ impl<M: Consistency> Log<M> {
         ensures yours { IfErr result (λ turned. turned.cause ≢ NotYours) }
         ensures full { IfErr result (λ turned. (turned.cause ≡ Full) ↔ (1000000 ≤ length self.old.journal.entries)) }
     {
+        // For the proof alone, which knows what every value keeps once a field is read.
         let _ = &self.core;
         match self.step_into(alloc, event, &mut seat.entries) {
             Ok(reply) => {

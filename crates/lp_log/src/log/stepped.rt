@@ -5,9 +5,9 @@ ghost use Rattle.lp_transition.specs.Weigh.{is_switched};
 ghost use Rattle.lp_log.specs.declared.seat.Cause.TheVariants.{NotYours, JournalFull as Full};
 ghost use Rattle.lp_log.specs.Journals.{next_entry, reply_to, and_entry};
 ghost use Rattle.lp_log.specs.Logs.{AreSame};
-ghost use Rattle.lp_transition.specs.Table.{state_in};
+ghost use Rattle.lp_machine.specs.Table.{state_in};
 ghost use Rattle.lp_log.specs.inside.Plain.{is_calm};
-ghost use Rattle.lp_transition.specs.Plain.{is_point};
+ghost use Rattle.lp_definitions.specs.Plain.{is_point};
 
 use super::Log;
 use crate::Entry;

@@ -1,7 +1,7 @@
 -- Lists of groups in one store.
 use Rattle.std.specs.Prelude.{◌≡◌, ℕ, zero, suc, ◌≤◌, List, [], ◌∷◌, slice_range}
 use Rattle.lp_stack.specs.declared.number.GroupId.{GroupId}
-use Rattle.lp_transition.specs.Events.{group_numbers}
+use Rattle.lp_definitions.specs.Events.{group_numbers}
 
 -- the lists that end at these places, the first of which starts at a place
 unfoldable pub lists_from : (start : ℕ) → (ends : List ℕ) → List GroupId → List (List ℕ)

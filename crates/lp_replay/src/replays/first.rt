@@ -1,10 +1,11 @@
 //! The first leg of a trace alone.
 ghost use Rattle.std.specs.Prelude.{◌≡◌, ◌≤◌, ◌+◌, ◌++◌, length, option_to_list, slice_get, IfOk, OnOk};
-ghost use Rattle.lp_transition.specs.Run.{Run, first_leg};
-ghost use Rattle.lp_transition.specs.Steps.{StandsIn};
-ghost use Rattle.lp_transition.specs.Table.{state_in};
+ghost use Rattle.lp_definitions.specs.Run.{Run, first_leg};
+ghost use Rattle.lp_machine.specs.Steps.{StandsIn};
+ghost use Rattle.lp_machine.specs.Table.{state_in};
 ghost use Rattle.lp_cert.specs.Ends.{IsMadeWith};
-ghost use Rattle.lp_replay.specs.Outcome.{leg_ends, run_of};
+ghost use Rattle.lp_definitions.specs.Outcome.{leg_ends};
+ghost use Rattle.lp_replay.specs.Outcome.{run_of};
 ghost use Rattle.lp_replay.specs.inside.Recording.{first_made};
 
 use super::fault::ReplayFault;

@@ -2,9 +2,9 @@
 ghost use Rattle.std.specs.Prelude.{◌≡◌, ◌≤◌, ◌<◌, ◌+◌, ◌++◌, length, take, IfOk, OnOk};
 ghost use Rattle.std.specs.Option.{option_map};
 ghost use Rattle.lp_checker.specs.Folds.{leg_with};
-ghost use Rattle.lp_transition.specs.Run.{Run, leg_of, opens, plus};
-ghost use Rattle.lp_transition.specs.Steps.{StandsIn};
-ghost use Rattle.lp_transition.specs.Table.{state_in};
+ghost use Rattle.lp_definitions.specs.Run.{Run, leg_of, opens, plus};
+ghost use Rattle.lp_machine.specs.Steps.{StandsIn};
+ghost use Rattle.lp_machine.specs.Table.{state_in};
 ghost use Rattle.lp_replay.specs.Legs.{leg_numbered, opened_by, to_end};
 ghost use Rattle.lp_replay.specs.inside.Recording.{is_opened};
 

@@ -1,15 +1,16 @@
 //! What a run comes to, event by event.
 ghost use Rattle.std.specs.Prelude.{◌≡◌, ◌≤◌, ◌<◌, ◌+◌, ◌++◌, true, length, IfOk, OnOk};
-ghost use Rattle.lp_transition.specs.Run.{Run, leg_of, plus};
+ghost use Rattle.lp_definitions.specs.Run.{Run, leg_of, plus};
 ghost use Rattle.lp_stack.specs.declared.number.TaskId.{TaskId};
-ghost use Rattle.lp_transition.specs.Plain.{is_point};
+ghost use Rattle.lp_definitions.specs.Plain.{is_point};
 ghost use Rattle.lp_stays.specs.Counts.{top_of};
 ghost use Rattle.lp_transition.specs.Scan.{is_scan_kind, scan_event};
-ghost use Rattle.lp_transition.specs.Stays.{stack};
-ghost use Rattle.lp_transition.specs.Steps.{IsStep, StandsIn};
-ghost use Rattle.lp_transition.specs.Table.{state_in};
+ghost use Rattle.lp_definitions.specs.Stays.{stack};
+ghost use Rattle.lp_machine.specs.Steps.{IsStep, StandsIn};
+ghost use Rattle.lp_machine.specs.Table.{state_in};
 ghost use Rattle.lp_cert.specs.Ends.{IsMadeWith};
-ghost use Rattle.lp_replay.specs.Outcome.{run_of, IsOutcome};
+ghost use Rattle.lp_replay.specs.Outcome.{run_of};
+ghost use Rattle.lp_definitions.specs.Outcome.{IsOutcome};
 ghost use Rattle.lp_replay.specs.inside.Recording.{IsRecorded};
 
 use super::fault::ReplayFault;
@@ -33,7 +34,7 @@ pub(super) struct Recorder<M: Consistency> {
     stays: StayCount,
 }
 
-/// In one step for who owns one: docs/GATE.md says why.
+/// By hand, so that the proof of who owns one lets go of it in one step, not field by field.
 impl<M: Consistency> Drop for Recorder<M> {
     fn drop(self) {
         let Recorder {

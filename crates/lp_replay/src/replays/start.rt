@@ -2,8 +2,8 @@
 ghost use Rattle.std.specs.Prelude.{◌≡◌, length, map, None, IfOk};
 ghost use Rattle.std.specs.List.{AllByRecursion};
 ghost use Rattle.lp_patch.specs.Patches.{patch_refusal};
-ghost use Rattle.lp_transition.specs.Steps.{StandsIn};
-ghost use Rattle.lp_transition.specs.Table.{state_in};
+ghost use Rattle.lp_machine.specs.Steps.{StandsIn};
+ghost use Rattle.lp_machine.specs.Table.{state_in};
 ghost use Rattle.lp_text.specs.Traces.{functions};
 ghost use Rattle.lp_replay.specs.Outcome.{patch_of, run_of};
 

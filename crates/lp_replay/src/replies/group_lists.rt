@@ -1,6 +1,6 @@
 //! The groups that the events of a run switched.
 ghost use Rattle.std.specs.Prelude.{◌≡◌, ◌<◌, ◌∷◌, ◌++◌, [], drop, length, OnErr, OnOk};
-ghost use Rattle.lp_transition.specs.Events.{group_numbers};
+ghost use Rattle.lp_definitions.specs.Events.{group_numbers};
 ghost use Rattle.lp_replay.specs.Replies.{first_groups};
 ghost use Rattle.lp_replay.specs.inside.GroupLists.{start_of};
 
@@ -18,7 +18,7 @@ pub struct GroupLists {
     ends: Vec<usize>,
 }
 
-/// In one step for who owns one: docs/GATE.md says why.
+/// By hand, so that the proof of who owns one lets go of it in one step, not field by field.
 impl Drop for GroupLists {
     fn drop(self) {
         let GroupLists { groups: _, ends: _ } = self;

@@ -3,10 +3,10 @@
 use Rattle.std.specs.Prelude.{ℕ, zero, suc, ◌+◌, ◌-◌, min, Bool, not, ◌&&◌, ◌||◌, length, Option, Some, None, if◌then◌else◌, nat_eq, nat_le, slice_set}
 use Rattle.lp_symbols.specs.declared.sym_id.SymId.{SymId}
 use Rattle.lp_patch.specs.Patches.{patch_has}
-use Rattle.lp_transition.specs.declared.event.Event.{Event}
-use Rattle.lp_transition.specs.declared.event.Event.TheVariants.{Call, Ret}
-use Rattle.lp_transition.specs.declared.reply.What.{What}
-use Rattle.lp_transition.specs.declared.reply.What.TheVariants.{Ran, Refused}
+use Rattle.lp_definitions.specs.declared.event.Event.{Event}
+use Rattle.lp_definitions.specs.declared.event.Event.TheVariants.{Call, Ret}
+use Rattle.lp_definitions.specs.declared.reply.What.{What}
+use Rattle.lp_definitions.specs.declared.reply.What.TheVariants.{Ran, Refused}
 use Rattle.lp_stays.specs.Invariant.{Ongoing, Counted, outside, place, kept}
 
 -- ---- The stay that one task is in, for one patch

@@ -81,7 +81,7 @@ struct Hands<N: DeskName> {
     told: Option<Told<N>>,
 }
 
-/// In one step for who owns one: docs/GATE.md says why.
+/// By hand, so that the proof of who owns one lets go of it in one step, not field by field.
 impl<N: DeskName> Drop for Hands<N> {
     fn drop(self) {
         let Hands {

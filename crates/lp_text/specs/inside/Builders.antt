@@ -1,7 +1,7 @@
 -- What is built of parts so far, and its helpers.
 use Rattle.std.specs.Prelude.{◌≡◌, ℕ, ◌+◌, ◌≤◌, ◌⊎◌, length, Ok}
-use Rattle.lp_transition.specs.declared.event.Event.{Event}
-use Rattle.lp_transition.specs.declared.event.Event.TheVariants.{Call, Ret, Sleep, Wake, Enter, Exit, Idle, Fork, Die, Walk, Stop, Enable, Disable, Reverse}
+use Rattle.lp_definitions.specs.declared.event.Event.{Event}
+use Rattle.lp_definitions.specs.declared.event.Event.TheVariants.{Call, Ret, Sleep, Wake, Enter, Exit, Idle, Fork, Die, Walk, Stop, Enable, Disable, Reverse}
 use Rattle.lp_text.specs.declared.fault.LineFault.{LineFault}
 use Rattle.lp_text.specs.declared.fault.LineFault.TheVariants as line
 use Rattle.lp_text.specs.declared.of.OfFault.{OfFault}

@@ -1,6 +1,6 @@
 -- Lines that are read without a look at each word.
 use Rattle.std.specs.Prelude.{◌≡◌, ℕ, ◌+◌, ◌<◌, List, ◌++◌, length}
-use Rattle.lp_transition.specs.declared.event.Event.{Event}
+use Rattle.lp_definitions.specs.declared.event.Event.{Event}
 use Rattle.lp_text.specs.Words.{line_of, lines}
 use Rattle.lp_text.specs.Traces.{TraceValue, IsEvent, event_words}
 use Rattle.lp_text.specs.Reading.{reading_from}

@@ -1,6 +1,6 @@
 -- How the events of a trace are dealt out. Only private clauses cite this file.
 use Rattle.std.specs.Prelude.{◌≡◌, ℕ, ◌<◌, Vec, List, [], ◌∷◌, ◌++◌, length, slice_index_or}
-use Rattle.lp_transition.specs.declared.event.Event.{Event}
+use Rattle.lp_definitions.specs.declared.event.Event.{Event}
 use Rattle.lp_threads.specs.Plays.{events_of, events_of_control}
 
 -- each task's script has its events, and the control's has all others

@@ -1,9 +1,9 @@
 -- The births that are kept, and their text.
 use Rattle.std.specs.Prelude.{◌≡◌, ℕ, ◌+◌, List, [], ◌∷◌, length, map}
 use Rattle.std.specs.List.{flat_map}
-use Rattle.lp_cert.specs.declared.line.Line.{Line}
-use Rattle.lp_cert.specs.declared.line.Line.TheVariants.{Born}
-use Rattle.lp_cert.specs.Text.{reason_words}
+use Rattle.lp_definitions.specs.declared.line.Line.{Line}
+use Rattle.lp_definitions.specs.declared.line.Line.TheVariants.{Born}
+use Rattle.lp_text.specs.CertTexts.{reason_words}
 use Rattle.lp_text.specs.Words.{line_of}
 use Rattle.lp_trace.specs.declared.report.births.KeptBirth.{KeptBirth}
 

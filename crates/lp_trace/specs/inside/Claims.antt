@@ -1,7 +1,7 @@
 -- The first lines of certificates, and what certificates of one leg have in common of them.
 use Rattle.std.specs.Prelude.{◌≡◌, ℕ, List, [], ◌∷◌, ◌++◌, map, decimal}
-use Rattle.lp_cert.specs.declared.cert.CertHead.{CertHead}
-use Rattle.lp_cert.specs.Text.{claim_word}
+use Rattle.lp_cert.specs.declared.cert_head.CertHead.{CertHead}
+use Rattle.lp_text.specs.CertTexts.{claim_word}
 use Rattle.lp_text.specs.inside.Writing.{line_rest}
 
 -- the first line of a certificate that begins so

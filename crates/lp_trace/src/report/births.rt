@@ -49,7 +49,7 @@ pub(crate) struct KeptBirths {
     text: Page,
 }
 
-/// In one step for who owns one: docs/GATE.md says why.
+/// By hand, so that the proof of who owns one lets go of it in one step, not field by field.
 impl Drop for KeptBirths {
     fn drop(self) {
         let KeptBirths { births: _, text: _ } = self;
@@ -58,7 +58,7 @@ impl Drop for KeptBirths {
 
 impl Model for KeptBirths {
     ghost use Rattle.std.specs.Prelude.{List, map};
-    ghost use Rattle.lp_cert.specs.declared.line.Line.{Line};
+    ghost use Rattle.lp_definitions.specs.declared.line.Line.{Line};
     ghost use Rattle.lp_trace.specs.inside.Births.{IsKept, birth_line};
 
     ghost Value = { List Line };

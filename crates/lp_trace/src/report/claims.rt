@@ -1,6 +1,6 @@
 //! Writing the first lines of certificates.
 ghost use Rattle.std.specs.Prelude.{◌≡◌, ◌≤◌, ◌∷◌, ◌++◌, [], decimal, length, IsFalse, IsTrue};
-ghost use Rattle.lp_cert.specs.Text.{claim_word};
+ghost use Rattle.lp_text.specs.CertTexts.{claim_word};
 ghost use Rattle.lp_text.specs.Words.{line_of};
 ghost use Rattle.lp_text.specs.inside.Writing.{Puts, seen_of};
 ghost use Rattle.lp_trace.specs.inside.Claims.{head_words};
@@ -26,7 +26,7 @@ pub(super) struct ClaimText {
 }
 
 impl Model for ClaimText {
-    ghost use Rattle.lp_cert.specs.declared.cert.CertHead.{CertHead};
+    ghost use Rattle.lp_cert.specs.declared.cert_head.CertHead.{CertHead};
     ghost use Rattle.lp_trace.specs.inside.Claims.{IsAround};
 
     ghost Value = { CertHead };

@@ -1,9 +1,9 @@
 //! Writing how the legs of a run ended, with their certificates.
 ghost use Rattle.std.specs.Prelude.{◌≡◌, ◌≤◌, ◌<◌, ◌∷◌, ◌++◌, [], decimal, length, map, slice_get, take, IfSome, IsFalse, IsTrue, Some};
 ghost use Rattle.std.specs.List.{flat_map};
-ghost use Rattle.lp_cert.specs.declared.cert.Cert.{Cert};
+ghost use Rattle.lp_definitions.specs.declared.cert.Cert.{Cert};
 ghost use Rattle.lp_cert.specs.Ends.{end_in};
-ghost use Rattle.lp_cert.specs.Text.{cert_lines, end_words};
+ghost use Rattle.lp_text.specs.CertTexts.{cert_lines, end_words};
 ghost use Rattle.lp_text.specs.Words.{line_of};
 ghost use Rattle.lp_trace.specs.Report.{leg_line, leg_lines, target_words};
 ghost use Rattle.lp_text.specs.inside.Writing.{Puts, line_rest, seen_of};

@@ -1,6 +1,6 @@
 //! Writing the reasons of certificates, a line each.
 ghost use Rattle.std.specs.Prelude.{◌≡◌, ◌≤◌, ◌∷◌, ◌++◌, [], decimal, map, option_to_list, take, IfNone, IsFalse, IsTrue};
-ghost use Rattle.lp_cert.specs.Text.{reason_words};
+ghost use Rattle.lp_text.specs.CertTexts.{reason_words};
 ghost use Rattle.lp_text.specs.Words.{line_of};
 ghost use Rattle.lp_text.specs.inside.Writing.{Puts, seen_of};
 ghost use Rattle.lp_trace.specs.inside.Births.{text_of};

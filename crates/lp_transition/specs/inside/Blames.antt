@@ -10,11 +10,11 @@ use Rattle.lp_model.specs.declared.check.Blame.{Blame}
 use Rattle.lp_model.specs.declared.check.Blame.TheVariants.{Frame as Held}
 use Rattle.lp_model.specs.declared.verdict.Verdict.{Verdict}
 use Rattle.lp_model.specs.Rules.{Rules, SerialsRise}
-use Rattle.lp_transition.specs.declared.engine.blames.StandingBlame.{StandingBlame}
-use Rattle.lp_transition.specs.Tasks.{Live, first_of}
-use Rattle.lp_transition.specs.Leg.{Standing, State}
-use Rattle.lp_transition.specs.Table.{Table, slot}
-use Rattle.lp_transition.specs.inside.Table.{is_in}
+use Rattle.lp_machine.specs.declared.standing_blame.StandingBlame.{StandingBlame}
+use Rattle.lp_definitions.specs.Tasks.{Live, first_of}
+use Rattle.lp_definitions.specs.Leg.{Standing, State}
+use Rattle.lp_machine.specs.Table.{Table, slot}
+use Rattle.lp_tasks.specs.inside.Table.{is_in}
 use Rattle.lp_transition.specs.Blames.{frame_blame, or_blame}
 
 -- the standing blame of a group

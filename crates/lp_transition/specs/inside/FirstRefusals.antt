@@ -1,26 +1,21 @@
 -- Whom a scan asks that wants to know of each group the first member that it refuses, and what its verdicts then tell.
-use Rattle.std.specs.Prelude.{◌≡◌, ℕ, ◌<◌, Bool, true, false, not, ◌&&◌, List, [], ◌∷◌, Option, None, is_some, if◌then◌else◌, nat_eq}
+use Rattle.std.specs.Prelude.{◌≡◌, ℕ, ◌<◌, Bool, true, false, not, ◌&&◌, List, Option, None, is_some, if◌then◌else◌, nat_eq}
 use Rattle.std.specs.List.{list_any}
 use Rattle.lp_numbers.specs.Numbers.{Numbers, has}
 use Rattle.lp_model.specs.declared.check.CheckKind.{CheckKind}
 use Rattle.lp_model.specs.declared.verdict.Verdict.{Verdict}
 use Rattle.lp_model.specs.Rules.{Rules}
-use Rattle.lp_transition.specs.Tasks.{Live}
-use Rattle.lp_transition.specs.Leg.{Standing, State}
-use Rattle.lp_transition.specs.Machine.{view_of}
+use Rattle.lp_definitions.specs.Tasks.{Live}
+use Rattle.lp_definitions.specs.Leg.{Standing, State}
+use Rattle.lp_machine.specs.Machine.{view_of}
 use Rattle.lp_transition.specs.Scan.{RefusesMember, verdicts_at}
-use Rattle.lp_transition.specs.Table.{Table, Engine, state_in}
+use Rattle.lp_machine.specs.Table.{Table, Engine, state_in}
 use Rattle.lp_transition.specs.inside.ScanSteps.{is_found, task_switches, waiting_slot}
 
 -- the task of a number, where it waits, may be refused, and is of a group that isn't refused so far
 abbrev pub asked_slot : Table → (waiting may_refuse unrefused : Numbers) → ℕ → Option Standing
 asked_slot table waiting may_refuse unrefused t =
     if has may_refuse t && task_switches (has unrefused) (waiting_slot table waiting t) then waiting_slot table waiting t else None
-
--- the place to which a loop has come that has these numbers left
-abbrev pub place_of : List ℕ → ℕ
-place_of [] = 65536
-place_of (n ∷ ns) = n
 
 -- a scan of this kind would admit each waiting task that fails a test
 abbrev pub AdmitsOthers : Rules → CheckKind → State → (may_refuse : ℕ → Bool) → Type 0

@@ -6,11 +6,11 @@ use Rattle.lp_numbers.specs.Numbers.{Numbers, has, IsEmpty}
 use Rattle.lp_model.specs.Rules.{Rules}
 use Rattle.lp_model.specs.declared.check.CheckKind.{CheckKind}
 use Rattle.lp_model.specs.declared.verdict.Verdict.{Verdict}
-use Rattle.lp_transition.specs.Leg.{State}
+use Rattle.lp_definitions.specs.Leg.{State}
 use Rattle.lp_transition.specs.Scan.{MayLeaveOut}
-use Rattle.lp_transition.specs.Sound.{IsSound}
-use Rattle.lp_transition.specs.Table.{Engine, LastScan, IsWide, state_in, slot}
-use Rattle.lp_transition.specs.inside.Table.{is_off}
+use Rattle.lp_definitions.specs.Sound.{IsSound}
+use Rattle.lp_machine.specs.Table.{Engine, LastScan, IsWide, state_in, slot}
+use Rattle.lp_tasks.specs.inside.Table.{is_off}
 use Rattle.lp_transition.specs.inside.ScanSteps.{admits_task}
 use Rattle.lp_transition.specs.inside.Blames.{AreBlamed}
 use Rattle.lp_transition.specs.inside.FirstRefusals.{AdmitsOthers}

@@ -2,8 +2,8 @@
 use Rattle.lp_stack.specs.declared.number.TaskId.{TaskId}
 use Rattle.lp_stack.specs.declared.view.Mode.{Mode}
 use Rattle.lp_stack.specs.declared.view.Mode.TheVariants.{Asleep, Kernel}
-use Rattle.lp_transition.specs.declared.event.Event.{Event}
-use Rattle.lp_transition.specs.declared.event.Event.TheVariants as event
+use Rattle.lp_definitions.specs.declared.event.Event.{Event}
+use Rattle.lp_definitions.specs.declared.event.Event.TheVariants as event
 use Rattle.lp_transition.specs.declared.engine.moves.Move.{Move}
 use Rattle.lp_transition.specs.declared.engine.moves.Move.TheVariants.{Sleep, Wake, Enter}
 

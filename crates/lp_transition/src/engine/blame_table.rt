@@ -2,7 +2,7 @@
 ghost use Rattle.std.specs.Prelude.{◌≡◌, ◌<◌, ◌≤◌, ℕ, [], None, if◌then◌else◌, length, nat_eq, vec_capacity, IfOk};
 ghost use Rattle.lp_transition.specs.inside.Blames.{blame_at};
 
-use super::blames::StandingBlame;
+use lp_machine::StandingBlame;
 use lp_numbers::NUMBERS;
 use lp_stack::GroupId;
 use std::alloc::{AllocError, Global};
@@ -19,7 +19,7 @@ pub(super) struct BlameTable {
 
 impl Model for BlameTable {
     ghost use Rattle.std.specs.Prelude.{List, Option, length, vec_capacity};
-    ghost use Rattle.lp_transition.specs.declared.engine.blames.StandingBlame.{StandingBlame};
+    ghost use Rattle.lp_machine.specs.declared.standing_blame.StandingBlame.{StandingBlame};
     ghost use Rattle.lp_transition.specs.inside.Blames.{HasPlaces};
 
     ghost Value = { List (Option StandingBlame) };

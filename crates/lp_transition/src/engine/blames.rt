@@ -2,27 +2,18 @@
 ghost use Rattle.std.specs.Prelude.{◌≡◌, ◌<◌, ◌≤◌, ℕ, List, Option, None, false, if◌then◌else◌, length, nat_eq, slice_index_or, IfOk};
 ghost use Rattle.std.specs.List.{list_any};
 ghost use Rattle.lp_numbers.specs.Numbers.{has};
-ghost use Rattle.lp_transition.specs.Table.{slot};
+ghost use Rattle.lp_machine.specs.Table.{slot};
 ghost use Rattle.lp_transition.specs.Blames.{or_blame};
 ghost use Rattle.lp_transition.specs.inside.Blames.{blame_at, looked_at, found_by, told_of, IsDecided};
 
 use super::blame_table::BlameTable;
-use super::task_table::TaskTable;
+use lp_machine::StandingBlame;
 use lp_model::{Blame, Verdict};
 use lp_numbers::NumberSet;
 use lp_stack::{GroupId, TaskId};
+use lp_tasks::TaskTable;
 use std::alloc::{AllocError, Global};
 use std::marker::Model;
-
-/// A frame on the stack of a waiting task. Until it is popped or the leg ends, every check of the
-/// task's group is refused.
-#[derive(Clone, Copy, Debug, PartialEq, Eq)]
-pub struct StandingBlame {
-    /// The task.
-    pub task: TaskId,
-    /// The serial of the frame.
-    pub serial: u64,
-}
 
 /// For each group its standing blame, if it has one. Only `new` allocates.
 pub(super) struct Blames {
@@ -33,7 +24,7 @@ pub(super) struct Blames {
     decided: NumberSet,
 }
 
-/// In one step for who owns one: docs/GATE.md says why.
+/// By hand, so that the proof of who owns one lets go of it in one step, not field by field.
 impl Drop for Blames {
     fn drop(self) {
         let Blames {
@@ -46,7 +37,7 @@ impl Drop for Blames {
 
 impl Model for Blames {
     ghost use Rattle.std.specs.Prelude.{List, Option};
-    ghost use Rattle.lp_transition.specs.declared.engine.blames.StandingBlame.{StandingBlame};
+    ghost use Rattle.lp_machine.specs.declared.standing_blame.StandingBlame.{StandingBlame};
     ghost use Rattle.lp_transition.specs.inside.Blames.{AreNoted};
 
     ghost Value = { List (Option StandingBlame) };
@@ -92,6 +83,7 @@ impl Blames {
         ensures blames { (group : ℕ) → blame_at self.new group ≡ (if has waiting.now task.0 then looked_at tasks.now task.0 group (blame_at self.old group) else blame_at self.old group) }
         ensures groups { length self.new ≤ 65536 }
     {
+        // For the proof alone, which knows what every value keeps once a field is read.
         let _ = &self.of_group;
         if !waiting.is_empty() && waiting.contains(task.0) {
             self.look_again(tasks, task);
@@ -103,6 +95,7 @@ impl Blames {
         ensures blames { (group : ℕ) → blame_at self.new group ≡ looked_at tasks.now task.0 group (blame_at self.old group) }
         ensures groups { length self.new ≤ 65536 }
     {
+        // For the proof alone, which knows what every value keeps once a field is read.
         let _ = &self.of_group;
         let Some(live) = tasks.get(task) else {
             return;

@@ -1,22 +1,21 @@
 //! The start of an engine.
 ghost use Rattle.std.specs.Prelude.{◌≡◌, ℕ, ◌<◌, ◌≤◌, [], Err, None, length, All, IfSome, IfOk, OnOk, OnErr};
-ghost use Rattle.lp_transition.specs.Run.{start, booted, at_boot, first_mode};
-ghost use Rattle.lp_transition.specs.Steps.{StandsIn};
+ghost use Rattle.lp_definitions.specs.Run.{start, booted, at_boot, first_mode};
+ghost use Rattle.lp_machine.specs.Steps.{StandsIn};
 ghost use Rattle.lp_transition.specs.Boot.{boot_refusal};
-ghost use Rattle.lp_transition.specs.Table.{IsWide, standings, state_in, bounds_of};
+ghost use Rattle.lp_machine.specs.Table.{IsWide, standings, state_in, bounds_of};
 ghost use Rattle.lp_transition.specs.Blames.{blame_of};
-ghost use Rattle.lp_transition.specs.inside.Table.{IsBlank};
+ghost use Rattle.lp_tasks.specs.inside.Table.{IsBlank};
 ghost use Rattle.lp_transition.specs.declared.engine.boot.BootFault.TheVariants.{NoMemory};
 
 use super::Core;
 use super::blames::Blames;
-use super::live_task::LiveTask;
-use super::task_table::TaskTable;
 use super::unchanged::Unchanged;
 use lp_model::Consistency;
 use lp_numbers::{NUMBERS, NumberSet};
 use lp_patch::PatchStack;
 use lp_stack::{Class, Level, Mode, TaskId};
+use lp_tasks::{LiveTask, TaskTable};
 use std::alloc::{AllocError, AllocFailed, Global};
 use thiserror::Error;
 

@@ -1,21 +1,21 @@
 //! The events that begin a transition or turn it round.
 ghost use Rattle.std.specs.Prelude.{◌≡◌, [], ◌≤◌, ◌<◌, ◌↔◌, ℕ, None, true, false, IsTrue, if◌then◌else◌, length, nat_eq};
 ghost use Rattle.lp_numbers.specs.Numbers.{has};
-ghost use Rattle.lp_transition.specs.Events.{is_control};
-ghost use Rattle.lp_transition.specs.Tasks.{first_of};
-ghost use Rattle.lp_transition.specs.Run.{control_tests, new_target};
+ghost use Rattle.lp_definitions.specs.Events.{is_control};
+ghost use Rattle.lp_definitions.specs.Tasks.{first_of};
+ghost use Rattle.lp_definitions.specs.Run.{control_tests, new_target};
 ghost use Rattle.lp_transition.specs.Blames.{AreBlamesAfter};
 ghost use Rattle.lp_transition.specs.LastScan.{IsLastScanAfter};
-ghost use Rattle.lp_transition.specs.Table.{slot, state_in};
-ghost use Rattle.lp_transition.specs.inside.Table.{is_off};
-ghost use Rattle.lp_transition.specs.Machine.{complete_in, refusal_of, answer, next};
+ghost use Rattle.lp_machine.specs.Table.{slot, state_in};
+ghost use Rattle.lp_tasks.specs.inside.Table.{is_off};
+ghost use Rattle.lp_machine.specs.Machine.{complete_in, refusal_of, answer, next};
 
 use super::Core;
-use super::task_table::TaskTable;
 use crate::{Event, Refusal, Reply, What};
 use lp_model::Consistency;
 use lp_numbers::NumberSet;
 use lp_stack::{Level, TaskId};
+use lp_tasks::TaskTable;
 
 impl<M: Consistency> Core<M> {
     /// Why the enabling of the next patch is refused.

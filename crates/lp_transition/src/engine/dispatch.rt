@@ -4,28 +4,28 @@ ghost use Rattle.std.specs.Option.{option_map};
 ghost use Rattle.lp_stack.specs.TaskView.{seen};
 ghost use Rattle.lp_patch.specs.Aimed.{aimed};
 ghost use Rattle.lp_transition.specs.declared.engine.step.Halt.TheVariants.{NoMemory, JournalFull};
-ghost use Rattle.lp_transition.specs.Events.{is_scan};
+ghost use Rattle.lp_definitions.specs.Events.{is_scan};
 ghost use Rattle.lp_transition.specs.Scan.{is_scan_kind, scan_event, verdict_of, verdicts_of, verdicts_used};
-ghost use Rattle.lp_transition.specs.Steps.{IsReply, IsStep};
+ghost use Rattle.lp_machine.specs.Steps.{IsReply, IsStep};
 ghost use Rattle.lp_transition.specs.Blames.{AreBlamesAfter, HasBlamesAfter};
 ghost use Rattle.lp_transition.specs.LastScan.{IsLastScanAfter};
-ghost use Rattle.lp_transition.specs.Table.{state_in};
+ghost use Rattle.lp_machine.specs.Table.{state_in};
 ghost use Rattle.lp_transition.specs.Weigh.{IsWeighed, born_of, is_switched, may_allocate, refusal_in, verdicts_for};
-ghost use Rattle.lp_transition.specs.Machine.{refusal_of, answer, next};
+ghost use Rattle.lp_machine.specs.Machine.{refusal_of, answer, next};
 
-use super::live_task::LiveTask;
+use super::Core;
 use super::step::{Halt, Step};
-use super::{Core, MOST_EVENTS};
-use crate::{Event, Refusal, Reply, What};
+use crate::{Event, MOST_EVENTS, Refusal, Reply, What};
 use lp_model::{CheckKind, Consistency, Verdict};
 use lp_patch::Aim;
 use lp_stack::{TaskId, View};
+use lp_tasks::LiveTask;
 use std::alloc::{AllocError, Global};
 
 impl<M: Consistency> Core<M> {
     ghost use Rattle.std.specs.Prelude.{Box};
     ghost use Rattle.std.specs.Global.{Global};
-    ghost use Rattle.lp_transition.specs.Leg.{Standing};
+    ghost use Rattle.lp_definitions.specs.Leg.{Standing};
 
     /// One event: answers and takes it. Where it fails the engine is as it was: NoMemory where an
     /// allocation failed, which may be at scans, at accepted forks, and at exits and idle points
@@ -169,6 +169,7 @@ impl<M: Consistency> Core<M> {
         ensures blames { AreBlamesAfter M.rules self.old event [] self.new }
         ensures last_scan { IsLastScanAfter M.rules self.old event self.new }
     {
+        // For the proof alone, which knows what every value keeps once a field is read.
         let _ = &self.tasks;
         match event {
             Event::Call(..) | Event::Ret(_) | Event::Sleep(_) | Event::Wake(_) | Event::Enter(_) =>

@@ -3,22 +3,22 @@ ghost use Rattle.std.specs.Prelude.{◌≡◌, ◌↔◌, ◌≤◌, ◌&&◌, �
 ghost use Rattle.lp_numbers.specs.Numbers.{has};
 ghost use Rattle.lp_transition.specs.Blames.{TellOf};
 ghost use Rattle.lp_transition.specs.Scan.{is_asked, is_scan_kind, scan_event, verdicts_at, MayLeaveOut};
-ghost use Rattle.lp_transition.specs.Steps.{IsReply};
-ghost use Rattle.lp_transition.specs.Table.{state_in};
+ghost use Rattle.lp_machine.specs.Steps.{IsReply};
+ghost use Rattle.lp_machine.specs.Table.{state_in};
 ghost use Rattle.lp_transition.specs.Weigh.{IsWeighed};
 ghost use Rattle.lp_transition.specs.declared.engine.step.Halt.TheVariants.{JournalFull};
 ghost use Rattle.lp_transition.specs.inside.FirstRefusals.{asked_slot, AdmitsOthers, AreTold, HasAsked};
 ghost use Rattle.lp_transition.specs.inside.ScanSteps.{is_found, is_judged};
 
-use super::live_view::LiveView;
+use super::Core;
 use super::open_scan::members_of;
 use super::scan::{remove_group, waiting_task};
 use super::step::{Halt, Step};
-use super::task_table::TaskTable;
-use super::{Core, MOST_EVENTS};
+use crate::MOST_EVENTS;
 use lp_model::{CheckKind, Consistency, Verdict};
 use lp_numbers::NumberSet;
 use lp_stack::{GroupId, TaskId};
+use lp_tasks::{LiveView, TaskTable};
 use std::alloc::{AllocError, Global};
 
 /// The most members of a group whose members are gone over one by one.
@@ -63,6 +63,7 @@ impl<M: Consistency> Core<M> {
         requires { IfSome may_refuse (λ some. AdmitsOthers M.rules kind (state_in self.now) (has some.now)) }
         ensures { IfOk result (λ told. AreTold M.rules kind (state_in self.now) (has groups.now) told.items) }
     {
+        // For the proof alone, which knows what every value keeps once a field is read.
         let _ = &self.tasks;
         let Some(may_refuse) = may_refuse else {
             return self.asked_verdicts(alloc, kind, groups);
@@ -85,6 +86,7 @@ impl<M: Consistency> Core<M> {
         requires { AdmitsOthers M.rules kind (state_in self.now) (has may_refuse.now) }
         ensures { IfOk result (λ told. AreTold M.rules kind (state_in self.now) (has groups.now) told.items) }
     {
+        // For the proof alone, which knows what every value keeps once a field is read.
         let _ = &self.tasks;
         let mut unrefused = groups.copy(alloc)?;
         let found = self.ask_members(alloc, kind, may_refuse, &mut unrefused)?;

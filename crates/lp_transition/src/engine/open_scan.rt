@@ -4,23 +4,24 @@ ghost use Rattle.std.specs.Prelude.{◌≡◌, ◌<◌, ◌≤◌, ◌↔◌, �
 ghost use Rattle.std.specs.List.{filter, list_any};
 ghost use Rattle.lp_stack.specs.TaskView.{seen};
 ghost use Rattle.lp_numbers.specs.Numbers.{has};
-ghost use Rattle.lp_transition.specs.Table.{slot, state_in};
+ghost use Rattle.lp_machine.specs.Table.{slot, state_in};
 ghost use Rattle.lp_transition.specs.Blames.{is_open};
 ghost use Rattle.lp_transition.specs.Weigh.{IsWeighed, may_allocate};
-ghost use Rattle.lp_transition.specs.Steps.{IsReply};
-ghost use Rattle.lp_transition.specs.Scan.{is_asked, is_scan_kind, scan_event, MayLeaveOut, passing, verdicts_among, views_of};
+ghost use Rattle.lp_machine.specs.Steps.{IsReply};
+ghost use Rattle.lp_transition.specs.Scan.{is_asked, is_scan_kind, scan_event, MayLeaveOut, verdicts_among, views_of};
+ghost use Rattle.lp_tasks.specs.Passing.{passing};
 ghost use Rattle.lp_transition.specs.inside.ScanSteps.{IsOwnGroup, tasks_of};
-ghost use Rattle.lp_transition.specs.inside.Table.{is_in};
+ghost use Rattle.lp_tasks.specs.inside.Table.{is_in};
 ghost use Rattle.lp_transition.specs.declared.engine.step.Halt.TheVariants.{NoMemory, JournalFull};
-ghost use Rattle.lp_transition.specs.Machine.{answer};
+ghost use Rattle.lp_machine.specs.Machine.{answer};
 
+use super::Core;
 use super::step::{Halt, Step};
-use super::task_table::TaskTable;
-use super::{Core, MOST_EVENTS};
-use crate::Event;
+use crate::{Event, MOST_EVENTS};
 use lp_model::{CheckKind, Consistency, Verdict};
 use lp_numbers::NumberSet;
 use lp_stack::{GroupId, TaskId, View};
+use lp_tasks::TaskTable;
 use std::alloc::{AllocError, Global};
 
 impl<M: Consistency> Core<M> {
@@ -74,6 +75,7 @@ impl<M: Consistency> Core<M> {
     ) -> Result<Vec<Verdict>, AllocError>
         ensures { IfOk result (λ found. found.items ≡ verdicts_among M.rules kind (state_in self.now) (has groups.now)) }
     {
+        // For the proof alone, which knows what every value keeps once a field is read.
         let _ = &self.tasks;
         if self.are_own(groups) {
             return self.verdicts_in(alloc, kind, groups);
@@ -158,7 +160,7 @@ impl<M: Consistency> Core<M> {
 }
 
 /// The live tasks of some groups, at the cost of the groups and of these tasks.
-#[tactic(auto, using(crate::proofs::AscendingLemmas::in_order))]
+#[tactic(auto, using(lp_tasks::proofs::AscendingLemmas::in_order))]
 pub(super) fn members_of(
     alloc: Global,
     tasks: &TaskTable,

@@ -1,12 +1,12 @@
 //! Plain events of one task, which never allocate: each is weighed and taken in one, as no step has
 //! to stand between. They are nearly all events of a recording.
 ghost use Rattle.std.specs.Prelude.{◌≡◌, [], ◌<◌, true, None};
-ghost use Rattle.lp_transition.specs.Plain.{is_plain};
-ghost use Rattle.lp_transition.specs.Steps.{IsStep};
+ghost use Rattle.lp_definitions.specs.Plain.{is_plain};
+ghost use Rattle.lp_machine.specs.Steps.{IsStep};
 ghost use Rattle.lp_transition.specs.Blames.{AreBlamesAfter};
 ghost use Rattle.lp_transition.specs.LastScan.{IsLastScanAfter};
-ghost use Rattle.lp_transition.specs.Table.{state_in};
-ghost use Rattle.lp_transition.specs.Machine.{refusal_of, answer, next};
+ghost use Rattle.lp_machine.specs.Table.{state_in};
+ghost use Rattle.lp_machine.specs.Machine.{refusal_of, answer, next};
 
 use super::Core;
 use super::moves::Move;
@@ -25,6 +25,7 @@ impl<M: Consistency> Core<M> {
         ensures blames { AreBlamesAfter M.rules self.old event [] self.new }
         ensures last_scan { IsLastScanAfter M.rules self.old event self.new }
     {
+        // For the proof alone, which knows what every value keeps once a field is read.
         let _ = &self.tasks;
         match event {
             Event::Call(task, func) => self.step_alike(Event::Call(task, func)),
@@ -83,6 +84,7 @@ impl<M: Consistency> Core<M> {
         ensures blames { AreBlamesAfter M.rules self.old event [] self.new }
         ensures last_scan { IsLastScanAfter M.rules self.old event self.new }
     {
+        // For the proof alone, which knows what every value keeps once a field is read.
         let _ = &self.tasks;
         match event {
             Event::Call(task, func) => self.take_call(task, func),

@@ -4,11 +4,11 @@ ghost use Rattle.std.specs.Option.{ForSome};
 ghost use Rattle.lp_transition.specs.Weigh.{is_switched};
 ghost use Rattle.lp_transition.specs.Blames.{AreBlamesAfter};
 ghost use Rattle.lp_transition.specs.LastScan.{IsLastScanAfter};
-ghost use Rattle.lp_transition.specs.Plain.{is_point};
-ghost use Rattle.lp_transition.specs.Steps.{IsStep};
-ghost use Rattle.lp_transition.specs.Table.{slot, state_in};
-ghost use Rattle.lp_transition.specs.Machine.{affected, switches_at, refusal_of, answer, next};
-ghost use Rattle.lp_transition.specs.inside.Points.{is_point_kind, point_event, point_mode};
+ghost use Rattle.lp_definitions.specs.Plain.{is_point};
+ghost use Rattle.lp_machine.specs.Steps.{IsStep};
+ghost use Rattle.lp_machine.specs.Table.{slot, state_in};
+ghost use Rattle.lp_machine.specs.Machine.{affected, switches_at, refusal_of, answer, next};
+ghost use Rattle.lp_tasks.specs.inside.Points.{is_point_kind, point_event, point_mode};
 
 use super::Core;
 use super::dispatch::is_switched;
@@ -16,6 +16,7 @@ use super::weigh::{done, group_of, is_only, one_group, refused};
 use crate::{Event, Reply, What};
 use lp_model::{CheckKind, Consistency};
 use lp_stack::{Mode, TaskId, View};
+use lp_tasks::point_mode;
 use std::alloc::{AllocError, Global};
 
 impl<M: Consistency> Core<M> {
@@ -30,6 +31,7 @@ impl<M: Consistency> Core<M> {
         ensures last_scan { OnOk result (IsLastScanAfter M.rules self.old event self.new) }
         ensures unchanged { OnErr result (self.new ≡ self.old) }
     {
+        // For the proof alone, which knows what every value keeps once a field is read.
         let _ = &self.tasks;
         match event {
             Event::Exit(task) => self.step_kind(alloc, CheckKind::KernelExit, task, event),
@@ -137,15 +139,5 @@ impl<M: Consistency> Core<M> {
         self.waiting.remove(task.0);
         self.tasks.set_level(task, self.target);
         self.unchanged.reset_if_done(&self.waiting);
-    }
-}
-
-/// The mode in which a check that a task makes alone finds it.
-pub(super) fn point_mode(kind: CheckKind, mode: Mode) -> Mode
-    ensures { result ≡ point_mode kind mode }
-{
-    match kind {
-        CheckKind::KernelExit => Mode::User,
-        _ => mode,
     }
 }

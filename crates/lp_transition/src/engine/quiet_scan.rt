@@ -4,8 +4,8 @@ ghost use Rattle.lp_numbers.specs.Numbers.{has};
 ghost use Rattle.lp_transition.specs.Blames.{is_open, HasBlamesAfter};
 ghost use Rattle.lp_transition.specs.LastScan.{IsLastScanAfter};
 ghost use Rattle.lp_transition.specs.Scan.{is_scan_kind, scan_event, MayLeaveOut};
-ghost use Rattle.lp_transition.specs.Steps.{IsStep};
-ghost use Rattle.lp_transition.specs.Table.{state_in};
+ghost use Rattle.lp_machine.specs.Steps.{IsStep};
+ghost use Rattle.lp_machine.specs.Table.{state_in};
 
 use super::Core;
 use super::weigh::done;
@@ -21,6 +21,7 @@ impl<M: Consistency> Core<M> {
         ensures last { IsTrue result → self.now.last_scan.kind ≡ Some kind }
         ensures quiet { IsTrue result → MayLeaveOut M.rules kind (state_in self.now) (λ group. false) }
     {
+        // For the proof alone, which knows what every value keeps once a field is read.
         let _ = &self.tasks;
         match self.changed_since(kind) {
             Some(changed) => self.are_blamed(changed),

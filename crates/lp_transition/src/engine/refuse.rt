@@ -1,19 +1,20 @@
 //! Which events are refused.
 ghost use Rattle.std.specs.Prelude.{◌≡◌, [], ◌∷◌, None, not};
-ghost use Rattle.lp_transition.specs.Table.{state_in, task_numbers, standings};
-ghost use Rattle.lp_transition.specs.Tasks.{first_of, tests, unknown_task, not_of, not_in, stack_not_empty};
-ghost use Rattle.lp_transition.specs.Machine.{refusal_of, outlines_of};
+ghost use Rattle.lp_machine.specs.Table.{state_in, standings};
+ghost use Rattle.lp_definitions.specs.Run.{task_numbers};
+ghost use Rattle.lp_definitions.specs.Tasks.{first_of, tests, unknown_task, not_of, not_in, stack_not_empty};
+ghost use Rattle.lp_machine.specs.Machine.{refusal_of, outlines_of};
 
 use super::Core;
-use super::task_table::TaskTable;
 use crate::{Event, Refusal};
 use lp_model::{Consistency, ForkKind};
 use lp_stack::{Class, MOST_FRAMES, Mode, TaskId};
 use lp_symbols::SymId;
+use lp_tasks::TaskTable;
 
 impl<M: Consistency> Core<M> {
     /// Why an event is refused: the first refusal that fits; None where it is accepted.
-    #[tactic(auto, unfolding(crate::specs::Machine::refusal_of))]
+    #[tactic(auto, unfolding(lp_machine::specs::Machine::refusal_of))]
     #[inline(always)]
     pub(super) fn refusal(&self, event: Event) -> Option<Refusal>
         ensures { result ≡ refusal_of M.rules (state_in self.now) event }

@@ -8,27 +8,27 @@ ghost use Rattle.lp_patch.specs.Aimed.{aimed};
 ghost use Rattle.lp_numbers.specs.Numbers.{has};
 ghost use Rattle.lp_transition.specs.Blames.{AreBlamesAfter};
 ghost use Rattle.lp_transition.specs.LastScan.{IsLastScanAfter};
-ghost use Rattle.lp_transition.specs.Table.{state_in, slot};
-ghost use Rattle.lp_transition.specs.inside.Table.{is_in};
-ghost use Rattle.lp_transition.specs.Machine.{view_of, waits_in, next};
-ghost use Rattle.lp_transition.specs.Events.{is_scan, group_numbers};
-ghost use Rattle.lp_transition.specs.Run.{switched};
+ghost use Rattle.lp_machine.specs.Table.{state_in, slot};
+ghost use Rattle.lp_tasks.specs.inside.Table.{is_in};
+ghost use Rattle.lp_machine.specs.Machine.{view_of, waits_in, next};
+ghost use Rattle.lp_definitions.specs.Events.{is_scan, group_numbers};
+ghost use Rattle.lp_definitions.specs.Run.{switched};
 ghost use Rattle.lp_transition.specs.Weigh.{IsWeighed};
-ghost use Rattle.lp_transition.specs.Steps.{IsReply};
-ghost use Rattle.lp_transition.specs.Scan.{is_scan_kind, scan_event, views_of, verdict_of, verdicts_of, verdicts_at, AreEnough, passing};
+ghost use Rattle.lp_machine.specs.Steps.{IsReply};
+ghost use Rattle.lp_transition.specs.Scan.{is_scan_kind, scan_event, views_of, verdict_of, verdicts_of, verdicts_at, AreEnough};
+ghost use Rattle.lp_tasks.specs.Passing.{passing};
 ghost use Rattle.lp_transition.specs.inside.ScanSteps.{waiting_slot, tasks_of, is_judged, is_found, switches_by, all_admit, groups_of, is_listed, IsTaskSwitched, AreSwitched};
 ghost use Rattle.lp_transition.specs.declared.engine.step.Halt.TheVariants.{JournalFull};
 
-use super::live_view::LiveView;
+use super::Core;
 use super::open_scan::looks_at_all;
 use super::step::{Halt, Step};
-use super::task_table::TaskTable;
-use super::{Core, MOST_EVENTS};
-use crate::{Event, GroupList, Reply, What};
+use crate::{Event, GroupList, MOST_EVENTS, Reply, What};
 use lp_model::{CheckKind, Consistency, Verdict};
 use lp_numbers::NumberSet;
 use lp_patch::Aim;
 use lp_stack::{GroupId, Level, TaskId, View};
+use lp_tasks::{LiveView, TaskTable};
 use std::alloc::{AllocError, Global};
 
 impl<M: Consistency> Core<M> {
@@ -158,7 +158,7 @@ impl<M: Consistency> Core<M> {
 }
 
 /// The tasks of a waiting set as checks see them, by increasing number.
-#[tactic(auto, using(crate::proofs::AscendingLemmas::in_order))]
+#[tactic(auto, using(lp_tasks::proofs::AscendingLemmas::in_order))]
 fn views_in<'a>(
     alloc: Global,
     tasks: &'a TaskTable,
@@ -177,7 +177,7 @@ fn views_in<'a>(
 }
 
 /// What a check finds of the waiting tasks of a set, by increasing number.
-#[tactic(auto, using(crate::proofs::AscendingLemmas::in_order))]
+#[tactic(auto, using(lp_tasks::proofs::AscendingLemmas::in_order))]
 fn found_in<M: Consistency>(
     alloc: Global,
     model: &M,
@@ -214,7 +214,7 @@ pub(super) fn waiting_task<'a>(
 }
 
 /// The members of a set as groups, in increasing order.
-#[tactic(auto, using(crate::proofs::AscendingLemmas::in_order))]
+#[tactic(auto, using(lp_tasks::proofs::AscendingLemmas::in_order))]
 fn group_list(alloc: Global, set: &NumberSet) -> Result<GroupList, AllocError>
     ensures { IfOk result (λ list. list ≡ passing 0 65536 (has set.now)) }
 {
@@ -359,7 +359,7 @@ fn remove_refused(groups: &mut NumberSet, tasks: &TaskTable, verdicts: &[Verdict
 }
 
 /// The groups of the live tasks of a set.
-#[tactic(auto, using(crate::proofs::AscendingLemmas::in_order))]
+#[tactic(auto, using(lp_tasks::proofs::AscendingLemmas::in_order))]
 pub(super) fn groups_in(
     alloc: Global,
     tasks: &TaskTable,

@@ -3,9 +3,9 @@ ghost use Rattle.std.specs.Prelude.{◌≡◌, [], Some, None};
 ghost use Rattle.std.specs.Option.{option_map};
 ghost use Rattle.lp_transition.specs.declared.engine.step.Halt.TheVariants.{NoMemory};
 
-use super::live_task::LiveTask;
 use crate::{Event, Reply};
 use lp_model::Verdict;
+use lp_tasks::LiveTask;
 use std::alloc::{AllocError, AllocFailed, Global};
 use std::marker::Model;
 use thiserror::Error;
@@ -46,7 +46,7 @@ pub struct Step {
     born: Option<Box<LiveTask>>,
 }
 
-/// In one step for who owns one: docs/GATE.md says why.
+/// By hand, so that the proof of who owns one lets go of it in one step, not field by field.
 impl Drop for Step {
     fn drop(self) {
         let Step {
@@ -62,7 +62,7 @@ impl Model for Step {
     ghost use Rattle.std.specs.Prelude.{Box};
     ghost use Rattle.std.specs.Global.{Global};
     ghost use Rattle.std.specs.Option.{option_map};
-    ghost use Rattle.lp_transition.specs.Leg.{Standing};
+    ghost use Rattle.lp_definitions.specs.Leg.{Standing};
     ghost use Rattle.lp_transition.specs.Weigh.{Weighed};
 
     ghost Value = { Weighed };
@@ -73,7 +73,7 @@ impl Model for Step {
 impl Step {
     ghost use Rattle.std.specs.Prelude.{Box};
     ghost use Rattle.std.specs.Global.{Global};
-    ghost use Rattle.lp_transition.specs.Leg.{Standing};
+    ghost use Rattle.lp_definitions.specs.Leg.{Standing};
     ghost use Rattle.lp_transition.specs.Weigh.{Weighed};
 
     /// The event.

@@ -6,18 +6,18 @@ ghost use Rattle.std.specs.Prelude.{◌≡◌, [], ◌<◌, None, Some};
 ghost use Rattle.lp_transition.specs.Weigh.{born_of};
 ghost use Rattle.lp_transition.specs.Blames.{AreBlamesAfter};
 ghost use Rattle.lp_transition.specs.LastScan.{IsLastScanAfter};
-ghost use Rattle.lp_transition.specs.Table.{state_in};
-ghost use Rattle.lp_transition.specs.Machine.{refusal_of, next};
+ghost use Rattle.lp_machine.specs.Table.{state_in};
+ghost use Rattle.lp_machine.specs.Machine.{refusal_of, next};
 ghost use Rattle.lp_transition.specs.inside.Moves.{move_event};
 
 use super::Core;
 use super::control::put_number;
-use super::live_task::LiveTask;
 use super::moves::Move;
 use crate::Event;
 use lp_model::{Consistency, ForkKind};
 use lp_stack::TaskId;
 use lp_symbols::SymId;
+use lp_tasks::LiveTask;
 
 impl<M: Consistency> Core<M> {
     /// The event's number is the frame's serial, so no serial comes twice in a run.

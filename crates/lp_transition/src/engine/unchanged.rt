@@ -2,16 +2,16 @@
 ghost use Rattle.std.specs.Prelude.{◌≡◌, ◌⊎◌, ◌&&◌, ◌||◌, not, ℕ, None, Some, is_some, nat_eq, false, IfOk, IfSome, IsTrue};
 ghost use Rattle.std.specs.List.{list_any};
 ghost use Rattle.lp_numbers.specs.Numbers.{has, IsEmpty};
-ghost use Rattle.lp_transition.specs.Table.{slot};
+ghost use Rattle.lp_machine.specs.Table.{slot};
 ghost use Rattle.lp_transition.specs.inside.Invariant.{IsNoted};
 ghost use Rattle.lp_transition.specs.inside.ScanSteps.{admits_task};
-ghost use Rattle.lp_transition.specs.inside.Table.{is_in};
+ghost use Rattle.lp_tasks.specs.inside.Table.{is_in};
 
 use super::scan::add_group;
-use super::task_table::TaskTable;
 use lp_model::{CheckKind, Verdict};
 use lp_numbers::NumberSet;
 use lp_stack::TaskId;
+use lp_tasks::TaskTable;
 use std::alloc::{AllocError, Global};
 use std::marker::Model;
 
@@ -29,7 +29,7 @@ pub(super) struct Unchanged {
     may_refuse: NumberSet,
 }
 
-/// In one step for who owns one: docs/GATE.md says why.
+/// By hand, so that the proof of who owns one lets go of it in one step, not field by field.
 impl Drop for Unchanged {
     fn drop(self) {
         let Unchanged {

@@ -1,24 +1,23 @@
 //! The answers to events that are no scans.
 ghost use Rattle.std.specs.Prelude.{◌≡◌, ◌≢◌, ◌≤◌, ◌<◌, ◌↔◌, ℕ, [], ◌∷◌, true, false, None, Some, Err, IfOk, IsErr, IsTrue};
 ghost use Rattle.lp_transition.specs.declared.engine.step.Halt.TheVariants.{NoMemory, JournalFull};
-ghost use Rattle.lp_transition.specs.Events.{is_scan};
+ghost use Rattle.lp_definitions.specs.Events.{is_scan};
 ghost use Rattle.std.specs.Option.{ForSome};
 ghost use Rattle.lp_numbers.specs.Numbers.{has};
-ghost use Rattle.lp_transition.specs.Tasks.{on_live};
-ghost use Rattle.lp_transition.specs.Table.{slot, standings, state_in};
+ghost use Rattle.lp_definitions.specs.Tasks.{on_live};
+ghost use Rattle.lp_machine.specs.Table.{slot, standings, state_in};
 ghost use Rattle.lp_transition.specs.Weigh.{IsWeighed, born_of, may_allocate, is_silent, silent_task, is_fork};
-ghost use Rattle.lp_transition.specs.Steps.{IsReply};
-ghost use Rattle.lp_transition.specs.Machine.{refusal_of, answer};
+ghost use Rattle.lp_machine.specs.Steps.{IsReply};
+ghost use Rattle.lp_machine.specs.Machine.{refusal_of, answer};
 
-use super::live_task::LiveTask;
+use super::Core;
 use super::step::{Halt, Step};
-use super::task_table::TaskTable;
-use super::{Core, MOST_EVENTS};
-use crate::{Event, GroupList, Refusal, Reply, What};
+use crate::{Event, GroupList, MOST_EVENTS, Refusal, Reply, What};
 use lp_model::{CheckKind, Consistency, ForkKind};
 use lp_numbers::NumberSet;
 use lp_stack::{Class, GroupId, Level, Mode, TaskId};
 use lp_symbols::SymId;
+use lp_tasks::{LiveTask, TaskTable};
 use std::alloc::{AllocError, Global};
 
 impl<M: Consistency> Core<M> {
@@ -91,6 +90,7 @@ impl<M: Consistency> Core<M> {
         requires task { silent_task event ≡ task.0 }
         ensures { result ≡ answer M.rules (state_in self.now) event }
     {
+        // For the proof alone, which knows what every value keeps once a field is read.
         let _ = &self.tasks;
         done()
     }

@@ -1,5 +1,5 @@
 use Rattle.std.proofs.Common.{rules, ◌≡◌, ◌∷◌, ◌++◌, [], ◌∙◌, arith}
-use Rattle.lp_transition.specs.Table.{standings}
+use Rattle.lp_machine.specs.Table.{standings}
 use Rattle.lp_board.specs.Pages.{level_of}
 use Rattle.lp_board.proofs.BlankLemmas.{map-more, all_levels, levels_wide}
 use Rattle.lp_board.proofs.levels.list_of.Goals as goal

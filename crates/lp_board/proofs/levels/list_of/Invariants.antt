@@ -1,6 +1,6 @@
 use Rattle.std.proofs.Common.{◌≡◌, map}
 use Rattle.std.specs.List.{range_with_len}
-use Rattle.lp_transition.specs.Table.{standings}
+use Rattle.lp_machine.specs.Table.{standings}
 use Rattle.lp_board.specs.Pages.{level_of}
 use Rattle.lp_board.proofs.levels.list_of.Given as goal
 

@@ -1,7 +1,7 @@
 use Rattle.std.proofs.Common.{refl, sym, ◌∙◌}
-use Rattle.lp_transition.specs.declared.event.Event.TheVariants.{Fork}
-use Rattle.lp_transition.proofs.Steps.{plain_refusal}
-use Rattle.lp_cert.proofs.Past.{lines_past}
+use Rattle.lp_definitions.specs.declared.event.Event.TheVariants.{Fork}
+use Rattle.lp_laws.proofs.OneMore.{plain_refusal}
+use Rattle.lp_laws.proofs.Past.{lines_past}
 use Rattle.lp_cert.proofs.NextLines.{lines_at_scan, lines_at_unused_scan, lines_at_fork}
 use Rattle.lp_cert.proofs.VerdictLines.{verdicts_tell}
 use Rattle.lp_cert.proofs.OtherEvents.{lines_at_others, lines_at_refused}

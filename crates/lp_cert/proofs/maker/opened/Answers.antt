@@ -1,9 +1,9 @@
 use Rattle.std.proofs.Common.{◌≡◌, is_none, sym, ap, ◌∙◌}
 use Rattle.std.proofs.lemmas.Bool.{and_parts}
-use Rattle.lp_transition.specs.Events.{is_control}
-use Rattle.lp_transition.specs.declared.reply.Reply.{Reply}
-use Rattle.lp_transition.specs.Machine.{refusal_of}
-use Rattle.lp_transition.specs.Table.{state_in}
+use Rattle.lp_definitions.specs.Events.{is_control}
+use Rattle.lp_definitions.specs.declared.reply.Reply.{Reply}
+use Rattle.lp_machine.specs.Machine.{refusal_of}
+use Rattle.lp_machine.specs.Table.{state_in}
 use Rattle.lp_transition.specs.Weigh.{refusal_in}
 use Rattle.lp_transition.proofs.Weighing.{refused-as}
 use Rattle.lp_cert.proofs.Making.{none_is}

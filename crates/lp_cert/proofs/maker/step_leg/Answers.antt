@@ -2,9 +2,9 @@ use Rattle.std.proofs.Common.{◌≡◌, Some, None, IsNone, false, refl, sym, a
 use Rattle.std.proofs.lemmas.Grind.{common_steps}
 use Rattle.std.proofs.lemmas.Bool.{false≢true}
 use Rattle.lp_model.specs.declared.check.CheckKind.{CheckKind}
-use Rattle.lp_transition.specs.declared.reply.Reply.{Reply}
+use Rattle.lp_definitions.specs.declared.reply.Reply.{Reply}
 use Rattle.lp_transition.specs.Scan.{verdicts_of}
-use Rattle.lp_transition.specs.Table.{state_in}
+use Rattle.lp_machine.specs.Table.{state_in}
 use Rattle.lp_cert.proofs.Asked.{not_some}
 use Rattle.lp_cert.proofs.NotedBy.{enough_all}
 use Rattle.lp_cert.proofs.maker.step_leg.Goals as goal

@@ -3,7 +3,7 @@ use Rattle.std.proofs.lemmas.Grind.{common_steps}
 use Rattle.lp_cert.specs.declared.head.Head.{Head}
 use Rattle.lp_cert.specs.inside.Heads.{HasFrameAs}
 use Rattle.lp_transition.specs.Blames.{has_frame_in}
-use Rattle.lp_transition.specs.Table.{state_in}
+use Rattle.lp_machine.specs.Table.{state_in}
 use Rattle.lp_cert.specs.inside.Waiters.{is_left}
 use Rattle.lp_cert.proofs.WholeScans.{count_less}
 use Rattle.lp_cert.proofs.HeadLemmas.{frame_as}

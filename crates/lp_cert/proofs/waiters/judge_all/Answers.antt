@@ -2,7 +2,7 @@ use Rattle.std.proofs.Common.{◌≡◌, ◌+◌, ◌<◌, List, [], ◌∷◌, 
 use Rattle.std.proofs.lemmas.Grind.{common_steps}
 use Rattle.std.proofs.Math.Seq.{take-suc}
 use Rattle.lp_model.specs.declared.verdict.Verdict.{Verdict}
-use Rattle.lp_transition.specs.Table.{state_in}
+use Rattle.lp_machine.specs.Table.{state_in}
 use Rattle.lp_cert.specs.inside.Waiters.{AreJudged, is_left}
 use Rattle.lp_cert.proofs.WaiterLemmas.{one_judged, still_standing}
 use Rattle.lp_cert.proofs.waiters.judge_all.Goals as goal

@@ -3,7 +3,7 @@ use Rattle.std.proofs.lemmas.Grind.{common_steps}
 use Rattle.std.proofs.lemmas.Bool.{eqb-true}
 use Rattle.std.proofs.lemmas.List.{nil_from_length}
 use Rattle.lp_numbers.specs.Numbers.{has}
-use Rattle.lp_transition.specs.Table.{state_in}
+use Rattle.lp_machine.specs.Table.{state_in}
 use Rattle.lp_cert.specs.inside.Waiters.{is_left}
 use Rattle.lp_cert.proofs.WaiterLemmas.{none_judged, judged_as, all_left}
 use Rattle.lp_cert.proofs.waiters.judge_waiting.Goals as goal

@@ -1,6 +1,6 @@
 use Rattle.std.proofs.Common.{◌≡◌, map, ◌++◌}
 use Rattle.lp_numbers.specs.Numbers.{has}
-use Rattle.lp_transition.specs.Scan.{passing}
+use Rattle.lp_tasks.specs.Passing.{passing}
 use Rattle.lp_cert.specs.Waiters.{waiter_in}
 use Rattle.lp_cert.proofs.waiters.listed.Given as goal
 

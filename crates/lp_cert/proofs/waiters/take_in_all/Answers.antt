@@ -1,8 +1,8 @@
 use Rattle.std.proofs.Common.{◌≡◌, ◌+◌, ◌<◌, ℕ, Bool, ◌∷◌, is_some, sym, ◌∙◌, arith}
-use Rattle.lp_transition.specs.Scan.{passing}
-use Rattle.lp_transition.specs.Table.{slot}
-use Rattle.lp_transition.proofs.AscendingLemmas.{passing-least, passing-rest}
-use Rattle.lp_transition.proofs.LiveTasks.{none_live}
+use Rattle.lp_tasks.specs.Passing.{passing}
+use Rattle.lp_machine.specs.Table.{slot}
+use Rattle.lp_tasks.proofs.AscendingLemmas.{passing-least, passing-rest}
+use Rattle.lp_tasks.proofs.LiveTasks.{none_live}
 use Rattle.lp_cert.proofs.MoreWaiters.{none_taken, more_taken, all_taken, taken_are}
 use Rattle.lp_cert.proofs.waiters.take_in_all.Goals as goal
 

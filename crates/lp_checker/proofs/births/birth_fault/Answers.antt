@@ -2,9 +2,9 @@ use Rattle.std.proofs.Common.{◌≡◌, ℕ, suc, pred, ◌+◌, ◌-◌, ◌&&
 use Rattle.std.proofs.lemmas.Grind.{common_steps}
 use Rattle.std.proofs.Math.Seq.{drop-cons}
 use Rattle.std.proofs.lemmas.List.{drop_all}
-use Rattle.lp_cert.specs.declared.line.Line.{Line}
-use Rattle.lp_cert.specs.declared.line.Line.TheVariants.{Born}
-use Rattle.lp_transition.specs.Leg.{accepted, after}
+use Rattle.lp_definitions.specs.declared.line.Line.{Line}
+use Rattle.lp_definitions.specs.declared.line.Line.TheVariants.{Born}
+use Rattle.lp_definitions.specs.Leg.{accepted, after}
 use Rattle.lp_checker.specs.inside.Births.{group_in, group_or_0, is_own_fork, group_now}
 use Rattle.lp_checker.specs.inside.Cursors.{leg_in}
 use Rattle.lp_checker.proofs.BirthLines.{Passed, moment_between, pass_birth, late_birth, no_birth, all_passed, fits_some, fits_none}

@@ -1,7 +1,7 @@
 use Rattle.std.proofs.Common.{◌≡◌, Some, Err, arith, ap, inr, sym, ◌∙◌}
-use Rattle.lp_checker.specs.declared.fault.CertFault.{CertFault}
+use Rattle.lp_definitions.specs.declared.cert_fault.CertFault.{CertFault}
 use Rattle.lp_checker.specs.Folds.{leg_with}
-use Rattle.lp_checker.proofs.LawProofs.{holds}
+use Rattle.lp_laws.proofs.CertLawProofs.{holds}
 use Rattle.lp_checker.proofs.NoLeg.{found_by_first}
 use Rattle.lp_checker.proofs.check.check.Goals as goal
 

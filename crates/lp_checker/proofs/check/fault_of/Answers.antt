@@ -1,11 +1,11 @@
 use Rattle.std.proofs.Common.{◌≡◌, Option, sym, ◌∙◌, arith}
 use Rattle.std.proofs.lemmas.Grind.{common_steps}
 use Rattle.std.proofs.lemmas.Result.{IfOk-weaker}
-use Rattle.lp_transition.specs.Tasks.{first_of}
-use Rattle.lp_checker.specs.declared.fault.CertFault.{CertFault}
+use Rattle.lp_definitions.specs.Tasks.{first_of}
+use Rattle.lp_definitions.specs.declared.cert_fault.CertFault.{CertFault}
 use Rattle.lp_checker.specs.Folds.{leg_with}
 use Rattle.lp_checker.specs.inside.Stages.{later_tests}
-use Rattle.lp_checker.specs.Verdict.{verdict_on}
+use Rattle.lp_definitions.specs.Verdict.{verdict_on}
 use Rattle.lp_checker.proofs.Stages.{at_no_leg, past_no_leg}
 use Rattle.lp_checker.proofs.check.fault_of.Goals as goal
 

@@ -1,11 +1,11 @@
 use Rattle.std.proofs.Common.{◌≡◌, ℕ, zero, Option, sym, ap, ◌∙◌, arith}
 use Rattle.std.proofs.lemmas.Result.{IfOk-weaker}
-use Rattle.lp_transition.specs.Tasks.{first_of}
-use Rattle.lp_checker.specs.declared.fault.CertFault.{CertFault}
+use Rattle.lp_definitions.specs.Tasks.{first_of}
+use Rattle.lp_definitions.specs.declared.cert_fault.CertFault.{CertFault}
 use Rattle.lp_checker.specs.inside.Cursors.{leg_in}
 use Rattle.lp_checker.specs.inside.Stages.{chain_tests, later_tests}
-use Rattle.lp_checker.specs.Verdict.{births, birth_tests, first_group}
-use Rattle.lp_checker.proofs.FirstBad.{first_of_append}
+use Rattle.lp_definitions.specs.Verdict.{births, birth_tests, first_group}
+use Rattle.lp_laws.proofs.FirstBad.{first_of_append}
 use Rattle.lp_checker.proofs.PartLines.{none_is}
 use Rattle.lp_checker.proofs.Stages.{in_order, found_first}
 use Rattle.lp_checker.proofs.check.later_fault.Goals as goal

@@ -2,12 +2,12 @@ use Rattle.std.proofs.Common.{◌≡◌, ◌++◌, map, Option, sym, ◌∙◌, 
 use Rattle.std.proofs.lemmas.Grind.{common_steps}
 use Rattle.std.specs.List.{flat_map}
 use Rattle.std.proofs.lemmas.Result.{IfOk-weaker}
-use Rattle.lp_transition.specs.Tasks.{first_of}
-use Rattle.lp_checker.specs.declared.fault.CertFault.{CertFault}
+use Rattle.lp_definitions.specs.Tasks.{first_of}
+use Rattle.lp_definitions.specs.declared.cert_fault.CertFault.{CertFault}
 use Rattle.lp_checker.specs.inside.Cursors.{leg_in}
 use Rattle.lp_checker.specs.inside.Sections.{section_of}
-use Rattle.lp_checker.specs.Verdict.{gap_test, line_tests}
-use Rattle.lp_checker.proofs.FirstBad.{first_of_append}
+use Rattle.lp_definitions.specs.Verdict.{gap_test, line_tests}
+use Rattle.lp_laws.proofs.FirstBad.{first_of_append}
 use Rattle.lp_checker.proofs.PartLines.{none_is}
 use Rattle.lp_checker.proofs.Stages.{found_first}
 use Rattle.lp_checker.proofs.check.part_fault.Goals as goal

@@ -1,8 +1,8 @@
 use Rattle.std.proofs.Common.{◌≡◌, if◌then◌else◌, nat_eq, sym, ◌∙◌}
 use Rattle.std.proofs.lemmas.Result.{on_ok_weaker}
-use Rattle.lp_transition.specs.Tasks.{Live, Dead}
-use Rattle.lp_transition.specs.Table.{standings}
-use Rattle.lp_transition.proofs.TableLemmas.{live_from_slot}
+use Rattle.lp_definitions.specs.Tasks.{Live, Dead}
+use Rattle.lp_machine.specs.Table.{standings}
+use Rattle.lp_tasks.proofs.TableLemmas.{live_from_slot}
 use Rattle.lp_checker.proofs.OpeningTasks.{positive, one_set, dead_at}
 use Rattle.lp_checker.proofs.fold.put_from.Goals as goal
 

@@ -1,8 +1,8 @@
 use Rattle.std.proofs.Common.{◌≡◌, ℕ, suc, ◌+◌, ◌-◌, ◌<◌, ◌≤◌, ◌||◌, true, is_none, is_some, nat_le, slice_index, add-one, sym, ap, ◌∙◌, subst, arith}
 use Rattle.std.proofs.lemmas.Grind.{common_steps}
-use Rattle.lp_transition.specs.Leg.{check}
+use Rattle.lp_definitions.specs.Leg.{check}
 use Rattle.lp_checker.specs.inside.Cursors.{Range, leg_in}
-use Rattle.lp_checker.proofs.FirstBad.{none_bad, bad_here, good_here}
+use Rattle.lp_laws.proofs.FirstBad.{none_bad, bad_here, good_here}
 use Rattle.lp_checker.proofs.GapLines.{no_check, ends_later, ends_before}
 use Rattle.lp_checker.proofs.gaps.first_gap.Goals as goal
 use Rattle.lp_checker.proofs.gaps.first_gap.Goals.{else-is_some-via-then-is_some+else-ends-place, else-is_some-via-else-is_some}

@@ -2,14 +2,14 @@ use Rattle.std.proofs.Common.{◌≡◌, ℕ, suc, pred, ◌-◌, ◌∷◌, dro
 use Rattle.std.proofs.lemmas.Grind.{common_steps}
 use Rattle.std.proofs.lemmas.Result.{IfOk-weaker}
 use Rattle.lp_stack.specs.declared.number.GroupId.{GroupId}
-use Rattle.lp_transition.specs.Leg.{after}
+use Rattle.lp_definitions.specs.Leg.{after}
 use Rattle.lp_checker.specs.inside.Births.{group_or_0}
 use Rattle.std.proofs.Math.Seq.{drop-cons}
-use Rattle.lp_cert.specs.declared.line.Line.{Line}
-use Rattle.lp_cert.specs.declared.line.Line.TheVariants.{Born}
+use Rattle.lp_definitions.specs.declared.line.Line.{Line}
+use Rattle.lp_definitions.specs.declared.line.Line.TheVariants.{Born}
 use Rattle.lp_checker.specs.inside.Cursors.{leg_in}
 use Rattle.lp_checker.specs.inside.Sections.{AreInOrder}
-use Rattle.lp_checker.specs.Verdict.{births, first_group}
+use Rattle.lp_definitions.specs.Verdict.{births, first_group}
 use Rattle.lp_checker.proofs.SectionLines.{ends_in_time}
 use Rattle.lp_checker.proofs.groups.first_group.Goals as goal
 

@@ -1,12 +1,12 @@
 use Rattle.std.proofs.Common.{◌≡◌, true, false, not, ◌||◌, nat_eq, Bool, refl, sym, ◌∙◌}
 use Rattle.std.specs.List.{list_any}
 use Rattle.std.proofs.lemmas.Bool.{eq-eqb}
-use Rattle.lp_transition.specs.Chain.{nobody}
-use Rattle.lp_transition.specs.Leg.{after, has_member}
-use Rattle.lp_transition.specs.Schedule.{waits}
-use Rattle.lp_transition.specs.Tasks.{outlines}
+use Rattle.lp_definitions.specs.Chain.{nobody}
+use Rattle.lp_definitions.specs.Leg.{after, has_member}
+use Rattle.lp_definitions.specs.Schedule.{waits}
+use Rattle.lp_definitions.specs.Tasks.{outlines}
 use Rattle.lp_checker.specs.inside.Cursors.{leg_in}
-use Rattle.lp_checker.specs.Verdict.{births, first_lines, has_stray, last_group, sections}
+use Rattle.lp_definitions.specs.Verdict.{births, first_lines, has_stray, last_group, sections}
 use Rattle.lp_checker.proofs.groups.is_no_such_group.Goals as goal
 
 -- the four tests, where the first ones pass

@@ -1,5 +1,5 @@
 use Rattle.std.proofs.Common.{◌≡◌, ℕ, ◌<◌, false}
-use Rattle.lp_transition.specs.Table.{slot}
+use Rattle.lp_machine.specs.Table.{slot}
 use Rattle.lp_checker.specs.inside.Sections.{is_waiting_member}
 use Rattle.lp_checker.proofs.groups.waits_at_opening.Given as goal
 

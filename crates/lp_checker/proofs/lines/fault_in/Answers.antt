@@ -1,11 +1,11 @@
 use Rattle.std.proofs.Common.{List, map, add-one, sym, ap, ◌∙◌, arith}
 use Rattle.std.proofs.lemmas.List.{drop_all}
-use Rattle.lp_transition.specs.Tasks.{first_of}
-use Rattle.lp_cert.specs.declared.line.Line.{Line}
-use Rattle.lp_cert.specs.declared.line.Line.TheVariants.{Hold}
+use Rattle.lp_definitions.specs.Tasks.{first_of}
+use Rattle.lp_definitions.specs.declared.line.Line.{Line}
+use Rattle.lp_definitions.specs.declared.line.Line.TheVariants.{Hold}
 use Rattle.lp_checker.specs.inside.Cursors.{leg_in}
 use Rattle.lp_checker.specs.inside.Sections.{timed}
-use Rattle.lp_checker.specs.Verdict.{line_test}
+use Rattle.lp_definitions.specs.Verdict.{line_test}
 use Rattle.lp_checker.proofs.MarkLines.{line_here, line_passed, passes_sound}
 use Rattle.lp_checker.proofs.lines.fault_in.Goals as goal
 

@@ -1,11 +1,11 @@
 use Rattle.std.proofs.Common.{◌≡◌, Option}
 use Rattle.std.proofs.lemmas.Result.{IfOk-weaker}
 use Rattle.lp_stack.specs.declared.number.GroupId.{GroupId}
-use Rattle.lp_cert.specs.declared.line.Line.TheVariants.{Hold, Busy}
-use Rattle.lp_checker.specs.declared.fault.CertFault.{CertFault}
+use Rattle.lp_definitions.specs.declared.line.Line.TheVariants.{Hold, Busy}
+use Rattle.lp_definitions.specs.declared.cert_fault.CertFault.{CertFault}
 use Rattle.lp_checker.specs.inside.Cursors.{leg_in}
 use Rattle.lp_checker.specs.inside.Sections.{timed}
-use Rattle.lp_checker.specs.Verdict.{line_test}
+use Rattle.lp_definitions.specs.Verdict.{line_test}
 use Rattle.lp_checker.proofs.lines.fault_of.Goals as goal
 
 pub returns-in-Hold-clause-fault : goal.returns-in-Hold-clause-fault

@@ -1,8 +1,9 @@
 use Rattle.std.proofs.Common.{refl, sym, ◌∙◌}
 use Rattle.std.specs.Prelude.{slice_get}
 use Rattle.lp_cert.specs.Ends.{end_in, ends_left}
-use Rattle.lp_transition.specs.Run.{first_leg}
-use Rattle.lp_replay.specs.Outcome.{leg_ends, run_of}
+use Rattle.lp_definitions.specs.Run.{first_leg}
+use Rattle.lp_definitions.specs.Outcome.{leg_ends}
+use Rattle.lp_replay.specs.Outcome.{run_of}
 use Rattle.lp_compare.proofs.FirstLegs.{few_in_first, only_one}
 use Rattle.lp_compare.proofs.first_end.first_end.Goals as goal
 

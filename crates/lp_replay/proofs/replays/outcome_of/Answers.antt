@@ -1,10 +1,9 @@
 use Rattle.std.proofs.Common.{arith, ap, length, subst, List}
-use Rattle.lp_transition.specs.declared.event.Event.{Event}
-use Rattle.lp_transition.specs.Run.{Run}
+use Rattle.lp_definitions.specs.declared.event.Event.{Event}
+use Rattle.lp_definitions.specs.Run.{Run}
 use Rattle.lp_text.specs.Traces.{IsTrace}
-use Rattle.lp_replay.specs.declared.outcome.Outcome.{Outcome}
-use Rattle.lp_replay.specs.Headline.{whole_run}
-use Rattle.lp_replay.specs.Outcome.{IsOutcome, run_of}
+use Rattle.lp_definitions.specs.Outcome.{Outcome, IsOutcome}
+use Rattle.lp_replay.specs.Outcome.{whole_run, run_of}
 use Rattle.lp_replay.specs.inside.Recording.{IsRecorded}
 use Rattle.lp_replay.proofs.Recording.{ok_weaker}
 use Rattle.lp_replay.proofs.replays.outcome_of.Goals as goal

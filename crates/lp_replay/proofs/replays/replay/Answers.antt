@@ -1,10 +1,10 @@
 use Rattle.std.proofs.Common.{◌≡◌, IsTrue}
-use Rattle.lp_transition.specs.Run.{first_leg, replies}
-use Rattle.lp_transition.specs.Stays.{mixed_count, stay_count}
+use Rattle.lp_definitions.specs.Run.{first_leg, replies}
+use Rattle.lp_definitions.specs.Stays.{mixed_count, stay_count}
 use Rattle.lp_text.specs.Traces.{IsTrace}
-use Rattle.lp_replay.specs.declared.outcome.Outcome.{Outcome}
-use Rattle.lp_replay.specs.Headline.{Headline, whole_run}
-use Rattle.lp_replay.specs.Outcome.{leg_ends, run_of, IsOutcome}
+use Rattle.lp_definitions.specs.Outcome.{Outcome, leg_ends, IsOutcome}
+use Rattle.lp_definitions.specs.Headline.{Headline}
+use Rattle.lp_replay.specs.Outcome.{whole_run, run_of}
 use Rattle.lp_replay.proofs.Headline.{headline_of_trace}
 use Rattle.lp_replay.proofs.Recording.{ok_weaker}
 use Rattle.lp_replay.proofs.replays.replay.Goals as goal

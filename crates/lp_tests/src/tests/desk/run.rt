@@ -17,7 +17,7 @@ pub(super) struct Run<'a, M: Consistency, N: DeskName, R: Wait> {
     pub(super) journal: Option<Journal>,
 }
 
-/// In one step for who owns one: docs/GATE.md says why.
+/// By hand, so that the proof of who owns one lets go of it in one step, not field by field.
 impl<'a, M: Consistency, N: DeskName, R: Wait> Drop for Run<'a, M, N, R> {
     fn drop(self) {
         let Run {
@@ -64,8 +64,8 @@ impl<'a, M: Consistency, N: DeskName, R: Wait> Run<'a, M, N, R> {
         let desk = self.desk.take()?;
         let seats = self.hands.all_seats(self.alloc);
         match desk.close(self.rt, self.alloc, seats, control) {
-            Ok(journal) => {
-                self.journal = Some(journal);
+            Ok(closed) => {
+                self.journal = Some(closed.journal);
                 Some(Ok(()))
             }
             Err(unclosed) => Some(Err(self.take_unclosed(unclosed))),
@@ -73,9 +73,10 @@ impl<'a, M: Consistency, N: DeskName, R: Wait> Run<'a, M, N, R> {
     }
 
     /// Takes what is handed back, and says why.
-    fn take_unclosed(&mut self, unclosed: Unclosed) -> CloseCause {
+    fn take_unclosed(&mut self, unclosed: Unclosed<N>) -> CloseCause {
         let Unclosed {
             journal,
+            told: _,
             seats,
             control,
             cause,
@@ -211,7 +212,7 @@ pub(super) struct Parts {
     pub(super) control: Option<Control>,
 }
 
-/// In one step for who owns one: docs/GATE.md says why.
+/// By hand, so that the proof of who owns one lets go of it in one step, not field by field.
 impl Drop for Parts {
     fn drop(self) {
         let Parts {

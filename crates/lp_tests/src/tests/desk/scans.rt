@@ -2,7 +2,7 @@
 ghost use Rattle.std.specs.Prelude.{◌≡◌, IfOk};
 ghost use Rattle.lp_model.specs.declared.check.CheckKind.TheVariants.{Walk};
 ghost use Rattle.lp_transition.specs.Scan.{verdicts_of};
-ghost use Rattle.lp_transition.specs.Table.{state_in};
+ghost use Rattle.lp_machine.specs.Table.{state_in};
 ghost use Rattle.lp_board.specs.Blanks.{name_of};
 
 use super::*;

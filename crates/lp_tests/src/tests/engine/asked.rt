@@ -1,10 +1,10 @@
 //! Walks that leave out who would be refused.
 ghost use Rattle.std.specs.Prelude.{◌≡◌, ℕ, true, false, Some, IsTrue, IfOk, is_some, nat_eq};
 ghost use Rattle.lp_numbers.specs.Numbers.{has};
-ghost use Rattle.lp_transition.specs.Leg.{Standing};
-ghost use Rattle.lp_transition.specs.Machine.{view_of};
+ghost use Rattle.lp_definitions.specs.Leg.{Standing};
+ghost use Rattle.lp_machine.specs.Machine.{view_of};
 ghost use Rattle.lp_transition.specs.Scan.{MayLeaveOut};
-ghost use Rattle.lp_transition.specs.Table.{slot, state_in};
+ghost use Rattle.lp_machine.specs.Table.{slot, state_in};
 
 use super::*;
 use lp_model::{CheckKind, Verdict};

@@ -4,7 +4,7 @@ ghost use Rattle.lp_model.specs.Row.{rules_of};
 ghost use Rattle.lp_model.specs.declared.check.CheckKind.TheVariants.{Walk};
 ghost use Rattle.lp_models.specs.Models.{hybrid};
 ghost use Rattle.lp_transition.specs.Scan.{verdicts_of};
-ghost use Rattle.lp_transition.specs.Table.{state_in};
+ghost use Rattle.lp_machine.specs.Table.{state_in};
 
 use super::*;
 use lp_model::{CheckKind, Verdict};

@@ -4,7 +4,7 @@
 ghost use Rattle.lp_model.specs.Row.{rules_of};
 ghost use Rattle.lp_models.specs.Models.{hybrid, leave_kernel, all_at_once, immediate};
 ghost use Rattle.lp_process.specs.Models.{process_group};
-ghost use Rattle.lp_transition.specs.Order.{IsAtLeastAsPermissive};
+ghost use Rattle.lp_definitions.specs.Order.{IsAtLeastAsPermissive};
 ghost use Rattle.lp_tests.specs.ModelLaws.{IsNeverLaterThan, KeepsAllLaws};
 
 use lp_model::Consistency;

@@ -1,6 +1,6 @@
 use Rattle.std.proofs.Common.{◌≡◌, ◌++◌, ap, subst, List, ℕ, Option, None, arith}
 use Rattle.std.proofs.lemmas.Grind.{common_steps}
-use Rattle.lp_checker.specs.declared.fault.CertFault.{CertFault}
+use Rattle.lp_definitions.specs.declared.cert_fault.CertFault.{CertFault}
 use Rattle.lp_text.specs.Words.{line_of}
 use Rattle.lp_text.specs.Writing.{AppendsPrefix}
 use Rattle.lp_text.proofs.CheckInputs.{none_is}

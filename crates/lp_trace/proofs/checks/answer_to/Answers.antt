@@ -1,6 +1,6 @@
 use Rattle.std.proofs.Common.{Option, ap, arith}
 use Rattle.std.proofs.lemmas.Grind.{common_steps}
-use Rattle.lp_transition.specs.Leg.{Leg}
+use Rattle.lp_definitions.specs.Leg.{Leg}
 use Rattle.lp_trace.specs.Answer.{verdict_in}
 use Rattle.lp_trace.proofs.checks.answer_to.Goals as goal
 

@@ -1,7 +1,7 @@
 use Rattle.std.proofs.Common.{ap, sym, ◌∷◌, decimal}
 use Rattle.std.specs.Fmt.{digits}
-use Rattle.lp_checker.specs.Faults.{fault_number}
-use Rattle.lp_checker.specs.declared.fault.CertFault.{CertFault}
+use Rattle.lp_definitions.specs.Faults.{fault_number}
+use Rattle.lp_definitions.specs.declared.cert_fault.CertFault.{CertFault}
 use Rattle.lp_trace.proofs.checks.fault_name.Goals as goal
 
 pub returns-in-NoSuchGroup : goal.returns-in-NoSuchGroup

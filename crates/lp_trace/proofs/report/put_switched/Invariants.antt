@@ -1,6 +1,6 @@
 use Rattle.std.proofs.Common.{◌++◌, ◌∷◌, drop, codes, decimal}
 use Rattle.std.specs.List.{flat_map}
-use Rattle.lp_transition.specs.Events.{group_numbers}
+use Rattle.lp_definitions.specs.Events.{group_numbers}
 use Rattle.lp_text.specs.inside.Writing.{Left, seen_of}
 use Rattle.lp_trace.proofs.report.put_switched.Given as goal
 

@@ -1,6 +1,6 @@
 use Rattle.std.proofs.Common.{[], refl, ap, sym, ◌∙◌, subst}
-use Rattle.lp_transition.specs.Table.{bounds_of, state_in}
-use Rattle.lp_transition.specs.Steps.{StandsIn}
+use Rattle.lp_machine.specs.Table.{bounds_of, state_in}
+use Rattle.lp_machine.specs.Steps.{StandsIn}
 use Rattle.lp_patch.specs.Patches.{Patches}
 use Rattle.lp_board.specs.declared.sheet.Heading.{Heading}
 use Rattle.lp_board.specs.declared.sheet.Page.{Page}

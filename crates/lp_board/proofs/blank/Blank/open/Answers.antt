@@ -1,7 +1,7 @@
 use Rattle.std.proofs.Common.{◌≡◌, [], ap, ◌∙◌, subst, arith}
 use Rattle.std.proofs.lemmas.Grind.{common_steps}
-use Rattle.lp_transition.specs.Table.{state_in}
-use Rattle.lp_transition.specs.Steps.{StandsIn}
+use Rattle.lp_machine.specs.Table.{state_in}
+use Rattle.lp_machine.specs.Steps.{StandsIn}
 use Rattle.lp_board.specs.Names.{Name, run_of, state_after}
 use Rattle.lp_board.specs.Blanks.{name_of}
 use Rattle.lp_board.proofs.BlankLemmas.{stands-after, start-page}

@@ -1,6 +1,6 @@
 use Rattle.std.proofs.Common.{◌≤◌, ap, subst, arith, length, List}
 use mathlib.Core.List.{IsPrefix}
-use Rattle.lp_transition.specs.declared.event.Event.{Event}
+use Rattle.lp_definitions.specs.declared.event.Event.{Event}
 use Rattle.lp_board.proofs.Prefixes.{prefix_shorter}
 use Rattle.lp_board.proofs.history.Prefix.longer.Goals as goal
 

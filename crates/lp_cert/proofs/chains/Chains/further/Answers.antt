@@ -1,5 +1,4 @@
-use Rattle.std.proofs.Common.{ap, arith}
-use Rattle.std.proofs.Common.{length}
+use Rattle.std.proofs.Common.{ap, arith, length}
 use Rattle.lp_cert.proofs.ChainLemmas.{place_below, linked_at, one_on, one_less, some_place, tail_of_tail}
 use Rattle.lp_cert.proofs.chains.Chains.further.Goals as goal
 

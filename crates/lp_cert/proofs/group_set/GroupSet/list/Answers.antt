@@ -1,4 +1,4 @@
-use Rattle.lp_cert.specs.Certificates.{group_id}
+use Rattle.lp_definitions.specs.Certificates.{group_id}
 use Rattle.lp_cert.proofs.Listed.{all_listed, none_listed, one_listed}
 use Rattle.lp_cert.proofs.group_set.GroupSet.list.Goals as goal
 

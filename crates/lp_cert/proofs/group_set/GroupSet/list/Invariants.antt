@@ -1,7 +1,7 @@
 use Rattle.std.proofs.Common.{◌≡◌, map, ◌++◌}
 use Rattle.lp_numbers.specs.Numbers.{has}
-use Rattle.lp_transition.specs.Scan.{passing}
-use Rattle.lp_cert.specs.Certificates.{group_id}
+use Rattle.lp_tasks.specs.Passing.{passing}
+use Rattle.lp_definitions.specs.Certificates.{group_id}
 use Rattle.lp_cert.proofs.group_set.GroupSet.list.Given as goal
 
 -- the members so far, and those still to come

@@ -1,7 +1,7 @@
 use Rattle.std.proofs.Common.{◌≡◌, ℕ, List, ◌∷◌, [], ◌++◌, map, length, All, ap, ap₂, sym, subst, ◌∙◌, arith}
 use Rattle.std.proofs.lemmas.Grind.{common_steps}
 use Rattle.lp_stack.specs.declared.number.GroupId.{GroupId}
-use Rattle.lp_cert.specs.declared.leg_end.LegEnd.{LegEnd}
+use Rattle.lp_definitions.specs.Ends.{LegEnd}
 use Rattle.lp_cert.specs.declared.leg_rows.LegRow.{LegRow}
 use Rattle.lp_cert.specs.inside.LegRows.{IsFitting, IsRowOf, KeptEnds, row_end}
 use Rattle.lp_cert.proofs.LegRows.{other_pushed, own_fitting, own_pushed}

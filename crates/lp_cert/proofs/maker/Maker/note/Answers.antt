@@ -1,9 +1,9 @@
 use Rattle.std.proofs.Common.{Bool, ◌≡◌, ◌+◌, [], Some, None, true, false, if◌then◌else◌, refl, sym, ap, subst, ◌∙◌, arith}
 use Rattle.std.proofs.lemmas.Grind.{common_steps}
 use Rattle.std.specs.Option.{option_map}
-use Rattle.lp_transition.specs.declared.event.Event.{Event}
-use Rattle.lp_transition.specs.Events.{is_scan}
-use Rattle.lp_transition.specs.Table.{state_in}
+use Rattle.lp_definitions.specs.declared.event.Event.{Event}
+use Rattle.lp_definitions.specs.Events.{is_scan}
+use Rattle.lp_machine.specs.Table.{state_in}
 use Rattle.lp_cert.specs.declared.open_leg.OpenLeg.{OpenLeg}
 use Rattle.lp_cert.specs.Ends.{Made, Room, IsMadeWith, is_opening, room_for}
 use Rattle.lp_cert.specs.Invariant.{open_end, room_of}

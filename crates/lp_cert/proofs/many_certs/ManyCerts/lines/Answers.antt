@@ -1,7 +1,7 @@
 use Rattle.std.proofs.Common.{Some, sym, ap, ◌∙◌, arith}
 use Rattle.std.proofs.lemmas.Grind.{common_steps}
 use Rattle.std.specs.Option.{option_map}
-use Rattle.lp_cert.specs.declared.cert.Cert.{Cert}
+use Rattle.lp_definitions.specs.declared.cert.Cert.{Cert}
 use Rattle.lp_cert.specs.Waiters.{kept_cert}
 use Rattle.lp_cert.proofs.Listed.{mapped_at}
 use Rattle.lp_cert.proofs.many_certs.ManyCerts.lines.Goals as goal

@@ -3,8 +3,8 @@ use Rattle.std.proofs.lemmas.Grind.{common_steps}
 use Rattle.std.specs.List.{AllByRecursion}
 use Rattle.lp_model.specs.declared.verdict.Verdict.{Verdict}
 use Rattle.lp_model.specs.declared.check.CheckKind.TheVariants as kind
-use Rattle.lp_transition.specs.declared.event.Event.{Event}
-use Rattle.lp_transition.specs.Table.{state_in}
+use Rattle.lp_definitions.specs.declared.event.Event.{Event}
+use Rattle.lp_machine.specs.Table.{state_in}
 use Rattle.lp_transition.specs.Weigh.{AreVerdictsFor}
 use Rattle.lp_cert.specs.inside.Waiters.{HasHeadFor, IsUsedVerdict}
 use Rattle.lp_cert.proofs.MoreWaiters.{used_enough}

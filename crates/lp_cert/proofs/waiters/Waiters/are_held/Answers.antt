@@ -1,4 +1,4 @@
-use Rattle.lp_transition.specs.Table.{state_in}
+use Rattle.lp_machine.specs.Table.{state_in}
 use Rattle.lp_cert.specs.inside.ToldGroups.{IsHeld}
 use Rattle.lp_cert.proofs.WholeScans.{all_members}
 use Rattle.lp_cert.proofs.waiters.Waiters.are_held.Goals as goal

@@ -1,5 +1,5 @@
 use Rattle.std.proofs.Common.{◌∙◌}
-use Rattle.lp_transition.specs.Table.{state_in}
+use Rattle.lp_machine.specs.Table.{state_in}
 use Rattle.lp_cert.specs.inside.Waiters.{has_off}
 use Rattle.lp_cert.proofs.MoreWaiters.{calm_head, calm_lines, opened_lines}
 use Rattle.lp_cert.proofs.waiters.Waiters.open.Goals as goal

@@ -1,4 +1,4 @@
-use Rattle.lp_transition.specs.Table.{state_in}
+use Rattle.lp_machine.specs.Table.{state_in}
 use Rattle.lp_cert.proofs.WaiterLemmas.{after_all, all_stand}
 use Rattle.lp_cert.proofs.waiters.Waiters.scan.Goals as goal
 

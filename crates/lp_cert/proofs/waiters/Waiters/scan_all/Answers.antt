@@ -1,7 +1,7 @@
 use Rattle.std.proofs.Common.{sym, ◌∙◌}
 use Rattle.lp_numbers.specs.Numbers.{has}
 use Rattle.lp_transition.specs.Scan.{verdicts_of}
-use Rattle.lp_transition.specs.Table.{state_in}
+use Rattle.lp_machine.specs.Table.{state_in}
 use Rattle.lp_cert.specs.inside.Waiters.{is_left}
 use Rattle.lp_cert.proofs.WaiterLemmas.{after_all, all_left, all_stand, judged_as}
 use Rattle.lp_cert.proofs.waiters.Waiters.scan_all.Goals as goal

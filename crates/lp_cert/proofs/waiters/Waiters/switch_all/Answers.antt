@@ -2,7 +2,7 @@ use Rattle.std.proofs.Common.{◌≡◌, ◌+◌, ◌<◌, [], ◌∷◌, ◌++�
 use Rattle.std.proofs.Math.Seq.{take-suc}
 use Rattle.std.proofs.lemmas.List.{map-append}
 use Rattle.lp_stack.specs.declared.number.GroupId.{GroupId}
-use Rattle.lp_transition.specs.Events.{group_numbers}
+use Rattle.lp_definitions.specs.Events.{group_numbers}
 use Rattle.lp_cert.specs.inside.Waiters.{after_switch, lines_at}
 use Rattle.lp_cert.proofs.MoreWaiters.{one_left}
 use Rattle.lp_cert.proofs.waiters.Waiters.switch_all.Goals as goal

@@ -1,5 +1,5 @@
 use Rattle.std.proofs.Common.{◌≡◌, ℕ, take}
-use Rattle.lp_transition.specs.Events.{group_numbers}
+use Rattle.lp_definitions.specs.Events.{group_numbers}
 use Rattle.lp_cert.specs.inside.Waiters.{after_switch, lines_at}
 use Rattle.lp_cert.proofs.waiters.Waiters.switch_all.Given as goal
 

@@ -1,6 +1,6 @@
 use Rattle.std.specs.List.{AllByRecursion}
 use Rattle.lp_numbers.specs.Ascending.{members_from}
-use Rattle.lp_transition.specs.Table.{state_in}
+use Rattle.lp_machine.specs.Table.{state_in}
 use Rattle.lp_cert.specs.inside.ToldGroups.{IsHeld}
 use Rattle.lp_cert.proofs.waiters.held.each_is_held.Given as goal
 

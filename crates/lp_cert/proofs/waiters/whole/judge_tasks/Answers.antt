@@ -1,10 +1,10 @@
 use Rattle.std.proofs.Common.{◌≡◌, ◌+◌, ◌-◌, ◌<◌, ◌≤◌, ℕ, suc, Bool, List, ◌∷◌, ◌++◌, length, option_to_list, is_some, refl, sym, ap, subst, ◌∙◌, arith}
 use Rattle.lp_model.specs.declared.verdict.Verdict.{Verdict}
-use Rattle.lp_transition.specs.Scan.{passing}
-use Rattle.lp_transition.specs.Table.{slot, state_in}
-use Rattle.lp_transition.proofs.AscendingLemmas.{passing-least, passing-rest}
-use Rattle.lp_transition.proofs.LiveTasks.{none_live}
-use Rattle.lp_transition.proofs.TableLemmas.{positive_of_live}
+use Rattle.lp_tasks.specs.Passing.{passing}
+use Rattle.lp_machine.specs.Table.{slot, state_in}
+use Rattle.lp_tasks.proofs.AscendingLemmas.{passing-least, passing-rest}
+use Rattle.lp_tasks.proofs.LiveTasks.{none_live}
+use Rattle.lp_tasks.proofs.TableLemmas.{positive_of_live}
 use Rattle.lp_cert.specs.inside.Waiters.{AreJudged, is_left}
 use Rattle.lp_cert.specs.inside.WholeScans.{found_of, found_up_to}
 use Rattle.lp_cert.proofs.WaiterLemmas.{none_judged}

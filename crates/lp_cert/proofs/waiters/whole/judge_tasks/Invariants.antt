@@ -1,6 +1,6 @@
 use Rattle.std.proofs.Common.{◌≡◌, ◌≤◌, ◌-◌, ℕ, true, is_some, length}
-use Rattle.lp_transition.specs.Scan.{passing}
-use Rattle.lp_transition.specs.Table.{slot, state_in}
+use Rattle.lp_tasks.specs.Passing.{passing}
+use Rattle.lp_machine.specs.Table.{slot, state_in}
 use Rattle.lp_cert.specs.inside.Waiters.{AreJudged, StandsAt, is_left}
 use Rattle.lp_cert.specs.inside.WholeScans.{count_below, found_up_to}
 use Rattle.lp_cert.proofs.waiters.whole.judge_tasks.Given as goal

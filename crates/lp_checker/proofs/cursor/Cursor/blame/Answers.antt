@@ -1,12 +1,12 @@
 use Rattle.std.proofs.Common.{◌≡◌, ℕ, Option, None, if◌then◌else◌, nat_eq, sym, ap, ap₂, ◌∙◌}
 use Rattle.lp_model.specs.declared.check.CheckKind.{CheckKind}
 use Rattle.lp_patch.specs.Patches.{Goal, Patches}
-use Rattle.lp_transition.specs.Leg.{after}
-use Rattle.lp_transition.specs.Tasks.{on_live}
-use Rattle.lp_transition.specs.Machine.{Standings, view_of}
-use Rattle.lp_transition.specs.Table.{standings}
+use Rattle.lp_definitions.specs.Leg.{after}
+use Rattle.lp_definitions.specs.Tasks.{on_live}
+use Rattle.lp_machine.specs.Machine.{Standings, view_of}
+use Rattle.lp_machine.specs.Table.{standings}
 use Rattle.lp_checker.specs.Folds.{leg_with}
-use Rattle.lp_checker.specs.Verdict.{blame_by}
+use Rattle.lp_definitions.specs.Verdict.{blame_by}
 use Rattle.lp_checker.proofs.Folding.{blame_is}
 use Rattle.lp_checker.proofs.cursor.Cursor.blame.Goals as goal
 

@@ -1,8 +1,8 @@
 use Rattle.std.proofs.Common.{ℕ, ◌<◌, suc, pred, sym, ap, ◌∙◌, subst}
 use Rattle.lp_patch.specs.Patches.{Patches}
-use Rattle.lp_transition.specs.Leg.{check_by, if_used}
-use Rattle.lp_transition.specs.Machine.{Standings, outlines_of}
-use Rattle.lp_transition.specs.Table.{bounds_of, standings}
+use Rattle.lp_definitions.specs.Leg.{check_by, if_used}
+use Rattle.lp_machine.specs.Machine.{Standings, outlines_of}
+use Rattle.lp_machine.specs.Table.{bounds_of, standings}
 use Rattle.lp_checker.specs.Folds.{leg_with}
 use Rattle.lp_checker.specs.inside.Folds.{IsAt}
 use Rattle.lp_checker.proofs.Folding.{now, check_is}

@@ -1,6 +1,6 @@
 use Rattle.std.proofs.Common.{Some, None, ap, ◌∙◌}
-use Rattle.lp_transition.specs.Tasks.{on_live}
-use Rattle.lp_transition.specs.Machine.{Standings}
+use Rattle.lp_definitions.specs.Tasks.{on_live}
+use Rattle.lp_machine.specs.Machine.{Standings}
 use Rattle.lp_checker.specs.Folds.{leg_with}
 use Rattle.lp_checker.proofs.Folding.{group_is}
 use Rattle.lp_checker.proofs.cursor.Cursor.group_of.Goals as goal

@@ -1,8 +1,8 @@
 use Rattle.std.proofs.Common.{false, nat_eq, ap, ◌∙◌, arith}
 use Rattle.std.proofs.lemmas.Grind.{common_steps}
 use Rattle.std.specs.List.{list_any}
-use Rattle.lp_transition.specs.Tasks.{on_live}
-use Rattle.lp_transition.specs.Machine.{Standings}
+use Rattle.lp_definitions.specs.Tasks.{on_live}
+use Rattle.lp_machine.specs.Machine.{Standings}
 use Rattle.lp_checker.specs.Folds.{leg_with}
 use Rattle.lp_checker.proofs.Folding.{frame_is}
 use Rattle.lp_checker.proofs.cursor.Cursor.has_frame.Goals as goal

@@ -1,8 +1,8 @@
 use Rattle.std.proofs.Common.{ap, ◌∙◌}
 use Rattle.lp_patch.specs.Patches.{Patches}
-use Rattle.lp_transition.specs.Leg.{has_member}
-use Rattle.lp_transition.specs.Machine.{Standings, outlines_of}
-use Rattle.lp_transition.specs.Table.{bounds_of, standings}
+use Rattle.lp_definitions.specs.Leg.{has_member}
+use Rattle.lp_machine.specs.Machine.{Standings, outlines_of}
+use Rattle.lp_machine.specs.Table.{bounds_of, standings}
 use Rattle.lp_checker.specs.Folds.{leg_with}
 use Rattle.lp_checker.proofs.Folding.{outlines_are}
 use Rattle.lp_checker.proofs.cursor.Cursor.has_member.Goals as goal

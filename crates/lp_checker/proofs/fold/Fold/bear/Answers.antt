@@ -3,11 +3,11 @@ use Rattle.std.proofs.lemmas.Grind.{common_steps}
 use Rattle.std.proofs.lemmas.Result.{on_ok_weaker}
 use Rattle.lp_stack.specs.declared.view.Class.TheVariants.{Normal}
 use Rattle.lp_stack.specs.declared.view.Mode.TheVariants.{Kernel}
-use Rattle.lp_transition.specs.Tasks.{Fate, Live, map_live}
-use Rattle.lp_transition.specs.Leg.{Standing}
-use Rattle.lp_transition.specs.Machine.{bearing}
-use Rattle.lp_transition.specs.Table.{standings}
-use Rattle.lp_transition.proofs.TableLemmas.{live_from_slot}
+use Rattle.lp_definitions.specs.Tasks.{Fate, Live, map_live}
+use Rattle.lp_definitions.specs.Leg.{Standing}
+use Rattle.lp_machine.specs.Machine.{bearing}
+use Rattle.lp_machine.specs.Table.{standings}
+use Rattle.lp_tasks.proofs.TableLemmas.{live_from_slot}
 use Rattle.lp_checker.proofs.fold.Fold.bear.Goals as goal
 
 pub returns-clause-tasks : goal.returns-clause-tasks

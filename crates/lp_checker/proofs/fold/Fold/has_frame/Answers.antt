@@ -1,9 +1,9 @@
 use Rattle.std.proofs.Common.{false, nat_eq, sym, ap, ◌∙◌}
 use Rattle.std.specs.List.{list_any}
 use Rattle.lp_stack.specs.TaskView.{TaskView}
-use Rattle.lp_transition.specs.Tasks.{Fate, on_live}
-use Rattle.lp_transition.specs.Leg.{Standing}
-use Rattle.lp_transition.proofs.TableLemmas.{live_from_slot}
+use Rattle.lp_definitions.specs.Tasks.{Fate, on_live}
+use Rattle.lp_definitions.specs.Leg.{Standing}
+use Rattle.lp_tasks.proofs.TableLemmas.{live_from_slot}
 use Rattle.lp_checker.proofs.fold.Fold.has_frame.Goals as goal
 
 pub returns : goal.returns

@@ -1,6 +1,6 @@
 use Rattle.std.proofs.Common.{◌≡◌, subst, arith}
 use Rattle.std.proofs.lemmas.Grind.{common_steps}
-use Rattle.lp_transition.specs.Table.{standings}
+use Rattle.lp_machine.specs.Table.{standings}
 use Rattle.lp_checker.proofs.OpeningTasks.{IsPutBelow, put_more, put_all}
 use Rattle.lp_checker.proofs.fold.Fold.of.Goals as goal
 

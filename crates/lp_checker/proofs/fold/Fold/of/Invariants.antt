@@ -1,5 +1,5 @@
-use Rattle.lp_transition.specs.Openings.{IsOpening}
-use Rattle.lp_transition.specs.Table.{standings}
+use Rattle.lp_tasks.specs.Openings.{IsOpening}
+use Rattle.lp_machine.specs.Table.{standings}
 use Rattle.lp_checker.proofs.OpeningTasks.{IsPutBelow}
 use Rattle.lp_checker.proofs.fold.Fold.of.Given as goal
 

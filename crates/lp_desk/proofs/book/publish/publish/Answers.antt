@@ -1,10 +1,10 @@
 use Rattle.std.proofs.Common.{◌≡◌, ◌∷◌, ◌++◌, [], List, arith, subst, sym, length}
 use Rattle.std.proofs.lemmas.Grind.{common_steps}
-use Rattle.lp_transition.specs.declared.event.Event.{Event}
-use Rattle.lp_transition.specs.Leg.{State}
-use Rattle.lp_transition.specs.Machine.{next}
-use Rattle.lp_transition.specs.Steps.{StandsIn}
-use Rattle.lp_transition.specs.Table.{Engine, state_in}
+use Rattle.lp_definitions.specs.declared.event.Event.{Event}
+use Rattle.lp_definitions.specs.Leg.{State}
+use Rattle.lp_machine.specs.Machine.{next}
+use Rattle.lp_machine.specs.Steps.{StandsIn}
+use Rattle.lp_machine.specs.Table.{Engine, state_in}
 use Rattle.lp_board.specs.Names.{state_after}
 use Rattle.lp_board.specs.Pages.{IsHeading, Leads}
 use Rattle.lp_log.specs.Journals.{Written, run_of}

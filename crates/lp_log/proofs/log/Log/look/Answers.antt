@@ -3,7 +3,7 @@ use Rattle.std.proofs.lemmas.Result.{IfOk-weaker}
 use Rattle.lp_stack.specs.TaskView.{seen}
 use Rattle.lp_transition.specs.Blames.{is_open}
 use Rattle.lp_transition.specs.Scan.{verdicts_among}
-use Rattle.lp_transition.specs.Table.{state_in}
+use Rattle.lp_machine.specs.Table.{state_in}
 use Rattle.lp_transition.proofs.AskedScans.{asked-among}
 use Rattle.lp_log.specs.Logs.{Logged}
 use Rattle.lp_log.proofs.log.Log.look.Goals as goal

@@ -4,8 +4,8 @@ use Rattle.lp_log.specs.Entries.{Entry}
 use Rattle.lp_log.specs.Journals.{Written, next_entry, reply_to, run_of}
 use Rattle.lp_log.specs.Logs.{IsLogged, Logged}
 use Rattle.lp_transition.specs.declared.engine.step.Halt.{Halt}
-use Rattle.lp_transition.specs.Machine.{answer}
-use Rattle.lp_transition.specs.Table.{state_in}
+use Rattle.lp_machine.specs.Machine.{answer}
+use Rattle.lp_machine.specs.Table.{state_in}
 use Rattle.lp_log.specs.inside.Plain.{is_calm}
 use Rattle.lp_log.proofs.Longer.{number_of, logged_longer}
 use Rattle.lp_log.proofs.Plain.{calm_allocates, calm_reply, calm_taken}

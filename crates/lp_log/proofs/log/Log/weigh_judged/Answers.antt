@@ -4,7 +4,7 @@ use Rattle.lp_model.specs.declared.check.CheckKind.TheVariants.{Walk}
 use Rattle.lp_stack.specs.TaskView.{seen}
 use Rattle.lp_transition.specs.Blames.{is_open}
 use Rattle.lp_transition.specs.Scan.{verdicts_among}
-use Rattle.lp_transition.specs.Table.{state_in}
+use Rattle.lp_machine.specs.Table.{state_in}
 use Rattle.lp_transition.proofs.AskedScans.{asked-among}
 use Rattle.lp_log.specs.Logs.{Logged}
 use Rattle.lp_log.proofs.log.Log.weigh_judged.Goals as goal

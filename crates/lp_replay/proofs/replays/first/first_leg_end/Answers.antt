@@ -1,10 +1,11 @@
 use Rattle.std.proofs.Common.{◌≡◌, arith, ap, length, subst, List, refl, ◌∙◌}
 use Rattle.std.specs.Prelude.{option_to_list, slice_get}
-use Rattle.lp_transition.specs.declared.event.Event.{Event}
-use Rattle.lp_transition.specs.Run.{first_leg}
-use Rattle.lp_cert.specs.declared.leg_end.LegEnd.{LegEnd}
+use Rattle.lp_definitions.specs.declared.event.Event.{Event}
+use Rattle.lp_definitions.specs.Run.{first_leg}
+use Rattle.lp_definitions.specs.Ends.{LegEnd}
 use Rattle.lp_cert.proofs.Tellings.{begun_with}
-use Rattle.lp_replay.specs.Outcome.{leg_ends, run_of}
+use Rattle.lp_definitions.specs.Outcome.{leg_ends}
+use Rattle.lp_replay.specs.Outcome.{run_of}
 use Rattle.lp_replay.specs.inside.Recording.{first_made}
 use Rattle.lp_replay.proofs.Recording.{ok_weaker}
 use Rattle.lp_replay.proofs.replays.first.first_leg_end.Goals as goal

@@ -1,5 +1,5 @@
 use Rattle.std.proofs.Common.{arith, take, subst, sym, length, List, ◌+◌, ◌<◌, ◌∙◌}
-use Rattle.lp_cert.specs.declared.leg_end.LegEnd.{LegEnd}
+use Rattle.lp_definitions.specs.Ends.{LegEnd}
 use Rattle.lp_cert.specs.Ends.{IsMadeWith, ends_left}
 use Rattle.lp_replay.proofs.FirstEnd.{complete_early, ended_early, ended_last, made_more, passed_first, passed_more, passed_other, some_there}
 use Rattle.lp_replay.proofs.Legs.{longer, numbered}

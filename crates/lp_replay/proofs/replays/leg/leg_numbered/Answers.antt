@@ -1,7 +1,7 @@
 use Rattle.std.proofs.Common.{arith, ◌≡◌, ◌≤◌, ◌-◌, ◌∙◌, sym, ap, ap₂, List, take, drop, length}
 use Rattle.std.proofs.lemmas.Result.{IfOk-weaker}
-use Rattle.lp_transition.specs.declared.event.Event.{Event}
-use Rattle.lp_transition.specs.Run.{leg_of}
+use Rattle.lp_definitions.specs.declared.event.Event.{Event}
+use Rattle.lp_definitions.specs.Run.{leg_of}
 use Rattle.lp_replay.specs.Legs.{leg_numbered, opened_by}
 use Rattle.lp_replay.specs.Outcome.{run_of}
 use Rattle.lp_replay.proofs.Legs.{longer, nowhere, too_late, numbered_at}

@@ -1,8 +1,8 @@
 use Rattle.std.proofs.Common.{arith, ◌≡◌, ◌∷◌, ◌∙◌, sym, ap, length, length-append, subst, []}
 use Rattle.std.proofs.lemmas.Grind.{common_steps}
-use Rattle.lp_transition.specs.Run.{leg_of, plus}
-use Rattle.lp_transition.specs.Steps.{StandsIn}
-use Rattle.lp_transition.specs.Table.{Engine, state_in}
+use Rattle.lp_definitions.specs.Run.{leg_of, plus}
+use Rattle.lp_machine.specs.Steps.{StandsIn}
+use Rattle.lp_machine.specs.Table.{Engine, state_in}
 use Rattle.lp_replay.specs.Legs.{opened_by}
 use Rattle.lp_replay.proofs.Legs.{none_opened, opened_at}
 use Rattle.lp_replay.proofs.Recording.{number_is}

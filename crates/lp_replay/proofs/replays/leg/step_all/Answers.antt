@@ -1,8 +1,8 @@
 use Rattle.std.proofs.Common.{arith, List, subst}
 use Rattle.std.proofs.lemmas.List.{take_all}
-use Rattle.lp_transition.specs.declared.event.Event.{Event}
-use Rattle.lp_transition.specs.Steps.{StandsIn}
-use Rattle.lp_transition.specs.Table.{state_in}
+use Rattle.lp_definitions.specs.declared.event.Event.{Event}
+use Rattle.lp_machine.specs.Steps.{StandsIn}
+use Rattle.lp_machine.specs.Table.{state_in}
 use Rattle.lp_replay.proofs.Legs.{at_first, at_more, longer, numbered}
 use Rattle.lp_replay.proofs.replays.leg.step_all.Goals as goal
 

@@ -1,6 +1,6 @@
-use Rattle.lp_transition.specs.Run.{Run}
-use Rattle.lp_transition.specs.Steps.{StandsIn}
-use Rattle.lp_transition.specs.Table.{state_in}
+use Rattle.lp_definitions.specs.Run.{Run}
+use Rattle.lp_machine.specs.Steps.{StandsIn}
+use Rattle.lp_machine.specs.Table.{state_in}
 use Rattle.lp_replay.proofs.Legs.{StandsAfter}
 use Rattle.lp_replay.proofs.replays.leg.step_all.Given as goal
 

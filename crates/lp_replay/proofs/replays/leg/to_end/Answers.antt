@@ -1,9 +1,9 @@
 use Rattle.std.proofs.Common.{arith, subst, sym, take, ◌∙◌, ◌+◌, ◌++◌, ap, List, length, get_or}
 use Rattle.std.proofs.lemmas.List.{take_all}
-use Rattle.lp_transition.specs.declared.event.Event.{Event}
-use Rattle.lp_transition.specs.declared.event.Event.TheVariants.{Walk}
-use Rattle.lp_transition.specs.Leg.{Leg}
-use Rattle.lp_transition.specs.Run.{leg_of}
+use Rattle.lp_definitions.specs.declared.event.Event.{Event}
+use Rattle.lp_definitions.specs.declared.event.Event.TheVariants.{Walk}
+use Rattle.lp_definitions.specs.Leg.{Leg}
+use Rattle.lp_definitions.specs.Run.{leg_of}
 use Rattle.lp_replay.proofs.Legs.{GoesOn, at_first, at_more, ends_last, ends_opened, goes_first, goes_more, leg_first, leg_longer, longer, numbered}
 use Rattle.lp_replay.proofs.replays.leg.to_end.Goals as goal
 

@@ -1,7 +1,7 @@
 use Rattle.std.proofs.Common.{take}
-use Rattle.lp_transition.specs.Run.{Run, leg_of}
-use Rattle.lp_transition.specs.Steps.{StandsIn}
-use Rattle.lp_transition.specs.Table.{state_in}
+use Rattle.lp_definitions.specs.Run.{Run, leg_of}
+use Rattle.lp_machine.specs.Steps.{StandsIn}
+use Rattle.lp_machine.specs.Table.{state_in}
 use Rattle.lp_replay.proofs.Legs.{GoesOn, StandsAfter, longer}
 use Rattle.lp_replay.proofs.replays.leg.to_end.Given as goal
 

@@ -1,8 +1,8 @@
 use Rattle.std.proofs.Common.{subst, ◌∙◌}
-use Rattle.lp_transition.specs.declared.event.Event.{Event}
-use Rattle.lp_transition.specs.Run.{plus}
-use Rattle.lp_transition.specs.Steps.{IsStep}
-use Rattle.lp_transition.specs.Table.{state_in}
+use Rattle.lp_definitions.specs.declared.event.Event.{Event}
+use Rattle.lp_definitions.specs.Run.{plus}
+use Rattle.lp_machine.specs.Steps.{IsStep}
+use Rattle.lp_machine.specs.Table.{state_in}
 use Rattle.lp_cert.specs.Ends.{IsMadeWith}
 use Rattle.lp_replay.proofs.replays.recorder.take_weighed.Goals as goal
 

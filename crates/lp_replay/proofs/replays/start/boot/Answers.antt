@@ -1,7 +1,7 @@
 use Rattle.std.proofs.Common.{◌≡◌, ◌∙◌, ap, subst, None}
 use Rattle.lp_transition.specs.Boot.{boot_refusal}
-use Rattle.lp_transition.specs.Steps.{StandsIn}
-use Rattle.lp_transition.specs.Table.{state_in}
+use Rattle.lp_machine.specs.Steps.{StandsIn}
+use Rattle.lp_machine.specs.Table.{state_in}
 use Rattle.lp_replay.proofs.Starting.{boots_well, starts}
 use Rattle.lp_replay.proofs.replays.start.boot.Goals as goal
 

@@ -1,10 +1,10 @@
 use Rattle.std.proofs.Common.{ℕ, List, [], ◌∷◌, ◌++◌, refl, sym, ap, ◌∙◌, arith}
 use Rattle.std.proofs.lemmas.Grind.{common_steps}
-use Rattle.lp_transition.specs.declared.reply.What.{What}
-use Rattle.lp_transition.specs.declared.reply.Reply.{Reply}
+use Rattle.lp_definitions.specs.declared.reply.What.{What}
+use Rattle.lp_definitions.specs.declared.reply.Reply.{Reply}
 use Rattle.lp_replay.specs.declared.replies.ShortReply.{ShortReply}
 use Rattle.lp_replay.specs.declared.replies.ShortWhat.TheVariants.{Ran, Done, Refused}
-use Rattle.lp_transition.specs.declared.reply.What.TheVariants as what
+use Rattle.lp_definitions.specs.declared.reply.What.TheVariants as what
 use Rattle.lp_replay.proofs.ReplyLists.{pushed-plain, pushed-over}
 use Rattle.lp_replay.proofs.replies.ReplyList.push.Goals as goal
 use Rattle.lp_replay.proofs.replies.ReplyList.push.Goals.{in-Ran, in-Done, in-Refused, in-Switched+in_ok-push-in-Switched}

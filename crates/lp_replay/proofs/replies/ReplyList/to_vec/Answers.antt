@@ -1,8 +1,8 @@
 use Rattle.std.proofs.Common.{◌++◌, ◌∷◌, [], ℕ, List, drop, sym, ap, ◌∙◌, arith}
 use Rattle.std.proofs.lemmas.List.{append-nil}
-use Rattle.lp_transition.specs.Events.{group_numbers}
-use Rattle.lp_transition.specs.declared.reply.Reply.{Reply}
-use Rattle.lp_transition.specs.declared.reply.What.{What}
+use Rattle.lp_definitions.specs.Events.{group_numbers}
+use Rattle.lp_definitions.specs.declared.reply.Reply.{Reply}
+use Rattle.lp_definitions.specs.declared.reply.What.{What}
 use Rattle.lp_replay.specs.declared.replies.ShortReply.{ShortReply}
 use Rattle.lp_replay.specs.Replies.{lists_in, replies_of, what_of}
 use Rattle.lp_replay.proofs.ReplyLists.{told-next, replies-end}

@@ -1,5 +1,5 @@
 use Rattle.std.proofs.Common.{◌≡◌, ◌*◌, length, ap, sym, ◌∙◌, subst}
-use Rattle.lp_transition.specs.Run.{plus}
+use Rattle.lp_definitions.specs.Run.{plus}
 use Rattle.lp_stays.specs.Invariant.{IsKept}
 use Rattle.lp_stays.specs.Counts.{Counts}
 use Rattle.lp_stays.proofs.Keeping.{once_more}

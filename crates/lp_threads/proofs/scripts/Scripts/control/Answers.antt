@@ -1,5 +1,5 @@
 use Rattle.std.proofs.Common.{◌≡◌, ◌∙◌, List, All, None, subst, sym}
-use Rattle.lp_transition.specs.declared.event.Event.{Event}
+use Rattle.lp_definitions.specs.declared.event.Event.{Event}
 use Rattle.lp_log.specs.Seats.{owner}
 use Rattle.lp_threads.proofs.Dealt.{unowned}
 use Rattle.lp_threads.proofs.scripts.Scripts.control.Goals as goal

@@ -1,7 +1,7 @@
 use Rattle.std.proofs.Common.{◌≡◌, ◌∙◌, ◌++◌, ◌+◌, List, Vec, Global, ap, arith, length, subst, sym, take, drop}
 use Rattle.std.proofs.lemmas.Grind.{common_steps}
 use Rattle.std.proofs.lemmas.List.{take_more}
-use Rattle.lp_transition.specs.declared.event.Event.{Event}
+use Rattle.lp_definitions.specs.declared.event.Event.{Event}
 use Rattle.lp_threads.specs.inside.Dealt.{IsDealt}
 use Rattle.lp_threads.proofs.Dealt.{dealt_more, written}
 use Rattle.lp_threads.proofs.scripts.Scripts.deal.Goals as goal

@@ -1,5 +1,5 @@
 use Rattle.std.proofs.Common.{◌≡◌, ◌∙◌, ◌<◌, ℕ, List, Vec, Global, All, Some, ap, arith, length, subst, sym}
-use Rattle.lp_transition.specs.declared.event.Event.{Event}
+use Rattle.lp_definitions.specs.declared.event.Event.{Event}
 use Rattle.lp_log.specs.Seats.{owner}
 use Rattle.lp_threads.specs.Plays.{events_of}
 use Rattle.lp_threads.proofs.Dealt.{owned}

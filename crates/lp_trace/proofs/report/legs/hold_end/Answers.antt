@@ -1,6 +1,6 @@
 use Rattle.std.proofs.Common.{◌∷◌, ◌++◌, ◌∙◌, ap, codes, decimal, length, sym, List, ℕ}
 use Rattle.lp_text.proofs.Writing.{line_split}
-use Rattle.lp_cert.specs.Text.{end_words}
+use Rattle.lp_text.specs.CertTexts.{end_words}
 use Rattle.lp_trace.specs.Report.{target_words}
 use Rattle.lp_trace.proofs.report.legs.hold_end.Goals as goal
 

@@ -1,9 +1,9 @@
 use Rattle.std.proofs.Common.{◌≡◌, ◌++◌, List, ℕ, Some, ap, sym, subst, refl, ◌∙◌}
 use Rattle.std.specs.List.{flat_map}
 use Rattle.std.specs.Option.{option_map}
-use Rattle.lp_cert.specs.declared.cert.Cert.{Cert}
+use Rattle.lp_definitions.specs.declared.cert.Cert.{Cert}
 use Rattle.lp_cert.specs.Ends.{cert_head}
-use Rattle.lp_cert.specs.Text.{cert_lines}
+use Rattle.lp_text.specs.CertTexts.{cert_lines}
 use Rattle.lp_text.specs.Words.{line_of}
 use Rattle.lp_text.specs.inside.Writing.{Left, TakesPrefix, seen_of}
 use Rattle.lp_trace.specs.inside.Births.{text_of}

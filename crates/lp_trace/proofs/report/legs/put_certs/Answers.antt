@@ -1,7 +1,7 @@
 use Rattle.std.specs.List.{flat_map}
 use Rattle.std.proofs.lemmas.List.{at_drop_all}
-use Rattle.lp_cert.specs.declared.cert.Cert.{Cert}
-use Rattle.lp_cert.specs.Text.{cert_lines}
+use Rattle.lp_definitions.specs.declared.cert.Cert.{Cert}
+use Rattle.lp_text.specs.CertTexts.{cert_lines}
 use Rattle.lp_text.specs.Words.{line_of}
 use Rattle.lp_trace.proofs.Pages.{puts_err, held_err, held_end, held_next, only_held}
 use Rattle.lp_trace.proofs.Reports.{block_of}

@@ -1,6 +1,6 @@
 use Rattle.std.proofs.Common.{◌++◌, drop}
 use Rattle.std.specs.List.{flat_map}
-use Rattle.lp_cert.specs.Text.{cert_lines}
+use Rattle.lp_text.specs.CertTexts.{cert_lines}
 use Rattle.lp_text.specs.Words.{line_of}
 use Rattle.lp_text.specs.inside.Writing.{Left, seen_of}
 use Rattle.lp_trace.proofs.report.legs.put_certs.Given as goal

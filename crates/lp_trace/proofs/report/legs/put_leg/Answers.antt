@@ -1,7 +1,7 @@
 use Rattle.std.proofs.Common.{List, ℕ, refl}
 use Rattle.std.specs.List.{flat_map}
 use Rattle.lp_cert.specs.Ends.{end_in}
-use Rattle.lp_cert.specs.Text.{cert_lines}
+use Rattle.lp_text.specs.CertTexts.{cert_lines}
 use Rattle.lp_text.specs.Words.{line_of}
 use Rattle.lp_trace.specs.Report.{leg_line, leg_lines}
 use Rattle.lp_trace.proofs.Pages.{puts_err, puts_both, held_prefix}

@@ -1,5 +1,5 @@
 use Rattle.std.proofs.Common.{◌++◌, List, None, ℕ, option_to_list, refl, subst, sym}
-use Rattle.lp_cert.specs.Text.{reason_words}
+use Rattle.lp_text.specs.CertTexts.{reason_words}
 use Rattle.lp_text.specs.Words.{line_of}
 use Rattle.lp_text.specs.inside.Writing.{Left, seen_of}
 use Rattle.lp_trace.specs.inside.Births.{text_of}

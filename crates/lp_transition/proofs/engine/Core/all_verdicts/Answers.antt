@@ -1,7 +1,7 @@
 use Rattle.std.proofs.Common.{◌≡◌, Result, Ok, Err, IfOk, subst, ◌∙◌}
 use Rattle.lp_numbers.specs.Numbers.{has}
 use Rattle.lp_transition.specs.Scan.{verdicts_of, verdicts_at}
-use Rattle.lp_transition.specs.Table.{Engine, state_in}
+use Rattle.lp_machine.specs.Table.{Engine, state_in}
 use Rattle.lp_transition.proofs.WholeGroups.{all-listed}
 use Rattle.lp_transition.specs.inside.Invariant.{told_scan}
 use Rattle.lp_transition.proofs.engine.Core.all_verdicts.Goals as goal

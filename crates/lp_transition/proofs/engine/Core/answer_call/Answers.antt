@@ -1,6 +1,6 @@
 use Rattle.std.proofs.Common.{◌<◌, ℕ, false, sym, ap, ◌∙◌, arith}
-use Rattle.lp_transition.specs.declared.reply.Reply.{Reply}
-use Rattle.lp_transition.specs.declared.reply.What.TheVariants.{Ran}
+use Rattle.lp_definitions.specs.declared.reply.Reply.{Reply}
+use Rattle.lp_definitions.specs.declared.reply.What.TheVariants.{Ran}
 use Rattle.lp_transition.proofs.Weighing.{answer-call}
 use Rattle.lp_transition.specs.inside.Invariant.{told_scan}
 use Rattle.lp_transition.proofs.engine.Core.answer_call.Goals as goal

@@ -1,9 +1,9 @@
 use Rattle.std.proofs.Common.{◌≡◌, ℕ, ◌<◌, List, [], ◌∷◌, Some, sym, ap, ◌∙◌, arith}
-use Rattle.lp_transition.specs.declared.reply.What.TheVariants.{Switched}
-use Rattle.lp_transition.specs.declared.reply.Reply.{Reply}
-use Rattle.lp_transition.specs.Table.{slot}
+use Rattle.lp_definitions.specs.declared.reply.What.TheVariants.{Switched}
+use Rattle.lp_definitions.specs.declared.reply.Reply.{Reply}
+use Rattle.lp_machine.specs.Table.{slot}
 use Rattle.lp_transition.proofs.Weighing.{answer-stays, answer-switches, switched-where_switches}
-use Rattle.lp_transition.specs.inside.Points.{point_event, at_point}
+use Rattle.lp_tasks.specs.inside.Points.{point_event, at_point}
 use Rattle.lp_transition.proofs.Points.{point-level, point-group, point-plain, point-checks, point-own, point-live, point-told}
 use Rattle.lp_transition.specs.inside.Invariant.{told_scan}
 use Rattle.lp_transition.proofs.engine.Core.answer_point.Goals as goal

@@ -1,4 +1,4 @@
-use Rattle.lp_transition.proofs.AscendingLemmas.{members-any}
+use Rattle.lp_tasks.proofs.AscendingLemmas.{members-any}
 use Rattle.lp_transition.proofs.engine.Core.are_blamed.Goals as goal
 
 pub loop-number-init : goal.loop-number-init

@@ -4,11 +4,12 @@ use Rattle.lp_stack.specs.declared.number.TaskId.{TaskId}
 use Rattle.lp_numbers.specs.Numbers.{has}
 use Rattle.lp_model.specs.declared.check.Blame.{Blame}
 use Rattle.lp_model.specs.declared.verdict.Verdict.{Verdict}
-use Rattle.lp_transition.specs.Machine.{view_of}
+use Rattle.lp_machine.specs.Machine.{view_of}
 use Rattle.lp_transition.specs.Scan.{verdict_of}
-use Rattle.lp_transition.specs.Table.{Engine, state_in}
-use Rattle.lp_transition.specs.inside.FirstRefusals.{HasAsked, place_of}
-use Rattle.lp_transition.proofs.AscendingLemmas.{members-rest}
+use Rattle.lp_machine.specs.Table.{Engine, state_in}
+use Rattle.lp_transition.specs.inside.FirstRefusals.{HasAsked}
+use Rattle.lp_tasks.specs.Passing.{place_of}
+use Rattle.lp_tasks.proofs.AscendingLemmas.{members-rest}
 use Rattle.lp_transition.proofs.InTurn.{turn-begins, turn-ends, turn-over, turn-asks}
 use Rattle.lp_transition.specs.inside.Invariant.{told_scan}
 use Rattle.lp_transition.proofs.engine.Core.ask_in_turn.Goals as goal

@@ -1,7 +1,8 @@
 use Rattle.std.proofs.Common.{◌≡◌, ℕ}
 use Rattle.lp_numbers.specs.Numbers.{has}
 use Rattle.lp_numbers.specs.Ascending.{members_from}
-use Rattle.lp_transition.specs.inside.FirstRefusals.{HasAsked, place_of}
+use Rattle.lp_transition.specs.inside.FirstRefusals.{HasAsked}
+use Rattle.lp_tasks.specs.Passing.{place_of}
 use Rattle.lp_transition.proofs.engine.Core.ask_in_turn.Given as goal
 
 -- the candidates that aren't still to come were asked, where they had to be

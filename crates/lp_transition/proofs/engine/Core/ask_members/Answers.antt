@@ -1,8 +1,8 @@
 use Rattle.std.proofs.Common.{Result, Ok, Err, IfOk, ◌≡◌, ℕ, true, subst}
 use Rattle.lp_numbers.specs.Numbers.{has}
-use Rattle.lp_transition.specs.Tasks.{Live}
-use Rattle.lp_transition.specs.Leg.{Standing}
-use Rattle.lp_transition.specs.Table.{Engine, standings}
+use Rattle.lp_definitions.specs.Tasks.{Live}
+use Rattle.lp_definitions.specs.Leg.{Standing}
+use Rattle.lp_machine.specs.Table.{Engine, standings}
 use Rattle.lp_transition.proofs.FirstRefusals.{pass-covers}
 use Rattle.lp_transition.proofs.WholeGroups.{members-cover}
 use Rattle.lp_transition.specs.inside.Invariant.{told_scan}

@@ -1,11 +1,11 @@
 use Rattle.std.proofs.Common.{ℕ, [], Option, Some, ap, ap₂, ◌∙◌}
 use Rattle.lp_stack.specs.declared.view.Class.TheVariants.{Normal}
 use Rattle.lp_stack.specs.declared.view.Mode.TheVariants.{Kernel}
-use Rattle.lp_transition.specs.Tasks.{on_live}
-use Rattle.lp_transition.specs.Leg.{Standing}
-use Rattle.lp_transition.specs.Table.{Engine}
-use Rattle.lp_transition.proofs.TableLemmas.{live_from_slot}
-use Rattle.lp_transition.proofs.Accept.{fork-live}
+use Rattle.lp_definitions.specs.Tasks.{on_live}
+use Rattle.lp_definitions.specs.Leg.{Standing}
+use Rattle.lp_machine.specs.Table.{Engine}
+use Rattle.lp_tasks.proofs.TableLemmas.{live_from_slot}
+use Rattle.lp_machine.proofs.Accept.{fork-live}
 use Rattle.lp_transition.proofs.Weighing.{born-child}
 use Rattle.lp_transition.specs.inside.Invariant.{told_scan}
 use Rattle.lp_transition.proofs.engine.Core.child.Goals as goal

@@ -1,7 +1,7 @@
 use Rattle.std.proofs.Common.{◌≡◌, ℕ, ◌<◌, true, Result, Ok, Err, IfOk, subst, ◌∙◌}
 use Rattle.lp_numbers.specs.Numbers.{has}
 use Rattle.lp_transition.specs.Scan.{verdicts_at, is_asked}
-use Rattle.lp_transition.specs.Table.{Engine, state_in}
+use Rattle.lp_machine.specs.Table.{Engine, state_in}
 use Rattle.lp_transition.specs.inside.ScanSteps.{IsOwnGroup}
 use Rattle.lp_transition.proofs.FirstRefusals.{among-told}
 use Rattle.lp_transition.proofs.WholeGroups.{own-listed}

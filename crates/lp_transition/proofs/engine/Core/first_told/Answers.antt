@@ -2,7 +2,7 @@ use Rattle.std.proofs.Common.{◌≡◌, ◌||◌, true, List, Result, Ok, Err, 
 use Rattle.lp_numbers.specs.Numbers.{has}
 use Rattle.lp_model.specs.declared.verdict.Verdict.{Verdict}
 use Rattle.lp_transition.specs.Scan.{verdicts_at, is_asked}
-use Rattle.lp_transition.specs.Table.{Engine, state_in}
+use Rattle.lp_machine.specs.Table.{Engine, state_in}
 use Rattle.lp_transition.specs.inside.FirstRefusals.{AdmitsOthers, HasAsked, AreTold}
 use Rattle.lp_transition.specs.inside.ScanSteps.{is_judged}
 use Rattle.lp_transition.proofs.WholeGroups.{told-refused, told-whole}

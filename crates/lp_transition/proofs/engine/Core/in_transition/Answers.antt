@@ -1,9 +1,9 @@
 use Rattle.std.proofs.Common.{ap, not}
 use Rattle.std.specs.Bool.{one_answer}
-use Rattle.lp_transition.specs.Table.{state_in}
-use Rattle.lp_transition.specs.Machine.{complete_in}
-use Rattle.lp_transition.proofs.TableLemmas.{slot-zero}
-use Rattle.lp_transition.proofs.MemberLemmas.{on_target}
+use Rattle.lp_machine.specs.Table.{state_in}
+use Rattle.lp_machine.specs.Machine.{complete_in}
+use Rattle.lp_tasks.proofs.TableLemmas.{slot-zero}
+use Rattle.lp_tasks.proofs.MemberLemmas.{on_target}
 use Rattle.lp_transition.specs.inside.Invariant.{told_scan}
 use Rattle.lp_transition.proofs.engine.Core.in_transition.Goals as goal
 

@@ -1,8 +1,8 @@
 use Rattle.std.proofs.Common.{◌≡◌, Some, refl, ap, ◌∙◌}
-use Rattle.lp_transition.specs.Leg.{Standing}
-use Rattle.lp_transition.specs.Table.{Engine, slot}
-use Rattle.lp_transition.proofs.MemberLemmas.{lone-told}
-use Rattle.lp_transition.proofs.TableLemmas.{slot-zero}
+use Rattle.lp_definitions.specs.Leg.{Standing}
+use Rattle.lp_machine.specs.Table.{Engine, slot}
+use Rattle.lp_tasks.proofs.MemberLemmas.{lone-told}
+use Rattle.lp_tasks.proofs.TableLemmas.{slot-zero}
 use Rattle.lp_transition.specs.inside.Invariant.{told_scan}
 use Rattle.lp_transition.proofs.engine.Core.is_alone.Goals as goal
 

@@ -1,5 +1,5 @@
 use Rattle.std.proofs.Common.{◌≡◌, None, sym, ◌∙◌}
-use Rattle.lp_transition.specs.Table.{slot}
+use Rattle.lp_machine.specs.Table.{slot}
 use Rattle.lp_transition.proofs.OwnGroups.{own-lone, own-none}
 use Rattle.lp_transition.proofs.engine.Core.is_own.Goals as goal
 

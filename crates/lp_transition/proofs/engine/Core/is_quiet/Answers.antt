@@ -1,6 +1,6 @@
 use Rattle.std.proofs.Common.{arith}
 use Rattle.std.proofs.lemmas.Grind.{common_steps}
-use Rattle.lp_transition.specs.Table.{Engine}
+use Rattle.lp_machine.specs.Table.{Engine}
 use Rattle.lp_transition.proofs.QuietScans.{blamed_quiet}
 use Rattle.lp_transition.specs.inside.Invariant.{told_scan}
 use Rattle.lp_transition.proofs.engine.Core.is_quiet.Goals as goal

@@ -1,5 +1,5 @@
 use Rattle.std.proofs.Common.{arith}
-use Rattle.lp_transition.proofs.Accept.{enable-below}
+use Rattle.lp_machine.proofs.Accept.{enable-below}
 use Rattle.lp_transition.specs.inside.Invariant.{told_scan}
 use Rattle.lp_transition.proofs.engine.Core.new_level.Goals as goal
 

@@ -1,7 +1,7 @@
 use Rattle.std.proofs.Common.{◌≡◌, map, take}
 use Rattle.std.specs.List.{filter}
 use Rattle.lp_stack.specs.TaskView.{seen}
-use Rattle.lp_transition.specs.Table.{state_in}
+use Rattle.lp_machine.specs.Table.{state_in}
 use Rattle.lp_transition.specs.Blames.{is_open}
 use Rattle.lp_transition.specs.Scan.{is_asked}
 use Rattle.lp_transition.proofs.engine.Core.open_views.Given as goal

@@ -4,11 +4,11 @@ use Rattle.lp_stack.specs.declared.view.Mode.{Mode}
 use Rattle.lp_stack.specs.TaskView.{TaskView, seen}
 use Rattle.lp_patch.specs.Aimed.{aimed}
 use Rattle.lp_patch.specs.Patches.{Goal}
-use Rattle.lp_transition.specs.Leg.{Standing}
-use Rattle.lp_transition.specs.Machine.{view_of}
-use Rattle.lp_transition.specs.Table.{Engine, slot}
+use Rattle.lp_definitions.specs.Leg.{Standing}
+use Rattle.lp_machine.specs.Machine.{view_of}
+use Rattle.lp_machine.specs.Table.{Engine, slot}
 use Rattle.lp_transition.proofs.LoneChecks.{asks}
-use Rattle.lp_transition.specs.inside.Points.{point_event, point_mode, at_point}
+use Rattle.lp_tasks.specs.inside.Points.{point_event, point_mode, at_point}
 use Rattle.lp_transition.proofs.Points.{point-level, point-group, point-checks, point-own}
 use Rattle.lp_transition.specs.inside.Invariant.{told_scan}
 use Rattle.lp_transition.proofs.engine.Core.point_switches.Goals as goal

@@ -1,7 +1,7 @@
 use Rattle.std.proofs.Common.{subst}
 use Rattle.lp_transition.specs.Blames.{is_open}
 use Rattle.lp_transition.specs.Scan.{MayLeaveOut}
-use Rattle.lp_transition.specs.Table.{Engine, state_in}
+use Rattle.lp_machine.specs.Table.{Engine, state_in}
 use Rattle.lp_transition.specs.inside.Invariant.{told_scan}
 use Rattle.lp_transition.proofs.Blames.{blamed_out}
 use Rattle.lp_transition.proofs.engine.Core.standing_blame.Goals as goal

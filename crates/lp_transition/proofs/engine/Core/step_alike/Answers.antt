@@ -1,7 +1,7 @@
 use Rattle.std.proofs.Common.{sym, ◌∙◌}
-use Rattle.lp_transition.specs.Table.{state_in}
-use Rattle.lp_transition.proofs.Runs.{is_step}
-use Rattle.lp_transition.proofs.EngineLemmas.{answer-refused}
+use Rattle.lp_machine.specs.Table.{state_in}
+use Rattle.lp_machine.proofs.Runs.{is_step}
+use Rattle.lp_machine.proofs.EngineLemmas.{answer-refused}
 use Rattle.lp_transition.proofs.engine.Core.step_alike.Goals as goal
 
 pub returns-in-Some-clause-step : goal.returns-in-Some-clause-step

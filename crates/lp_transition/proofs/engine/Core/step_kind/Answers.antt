@@ -1,9 +1,9 @@
 use Rattle.std.proofs.Common.{sym, ◌∙◌, arith}
 use Rattle.std.proofs.lemmas.Grind.{common_steps}
-use Rattle.lp_transition.specs.Table.{state_in}
-use Rattle.lp_transition.specs.inside.Points.{point_event}
-use Rattle.lp_transition.proofs.Runs.{is_step}
-use Rattle.lp_transition.proofs.EngineLemmas.{answer-refused}
+use Rattle.lp_machine.specs.Table.{state_in}
+use Rattle.lp_tasks.specs.inside.Points.{point_event}
+use Rattle.lp_machine.proofs.Runs.{is_step}
+use Rattle.lp_machine.proofs.EngineLemmas.{answer-refused}
 use Rattle.lp_transition.proofs.engine.Core.step_kind.Goals as goal
 
 pub returns-in-Some-clause-step : goal.returns-in-Some-clause-step

@@ -1,10 +1,10 @@
 use Rattle.std.proofs.Common.{[], sym, subst, arith}
 use Rattle.std.proofs.lemmas.Grind.{common_steps}
-use Rattle.lp_transition.specs.declared.event.Event.{Event}
+use Rattle.lp_definitions.specs.declared.event.Event.{Event}
 use Rattle.lp_transition.specs.Blames.{AreBlamesAfter}
 use Rattle.lp_transition.specs.LastScan.{IsLastScanAfter}
-use Rattle.lp_transition.specs.Steps.{IsStep}
-use Rattle.lp_transition.specs.Table.{state_in}
+use Rattle.lp_machine.specs.Steps.{IsStep}
+use Rattle.lp_machine.specs.Table.{state_in}
 use Rattle.lp_transition.proofs.engine.Core.step_plain.Goals as goal
 
 pub returns-in-Ret-clause-step : goal.returns-in-Ret-clause-step

@@ -1,5 +1,5 @@
 use Rattle.std.proofs.Common.{refl}
-use Rattle.lp_transition.specs.Table.{Engine}
+use Rattle.lp_machine.specs.Table.{Engine}
 use Rattle.lp_transition.proofs.QuietScans.{quiet_whole, quiet_steps, quiet_blames, quiet_last}
 use Rattle.lp_transition.specs.inside.Invariant.{told_scan}
 use Rattle.lp_transition.proofs.engine.Core.step_quiet.Goals as goal

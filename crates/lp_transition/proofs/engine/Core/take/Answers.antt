@@ -1,13 +1,13 @@
 use Rattle.std.proofs.Common.{◌≡◌, false, [], sym, ap, subst, ◌∙◌}
-use Rattle.lp_transition.specs.Events.{is_scan}
+use Rattle.lp_definitions.specs.Events.{is_scan}
 use Rattle.lp_transition.specs.Blames.{AreBlamesAfter}
 use Rattle.lp_transition.specs.LastScan.{IsLastScanAfter}
 use Rattle.lp_transition.proofs.BlamedScans.{no_verdicts}
-use Rattle.lp_transition.specs.declared.reply.Reply.{Reply}
-use Rattle.lp_transition.specs.Table.{state_in}
+use Rattle.lp_definitions.specs.declared.reply.Reply.{Reply}
+use Rattle.lp_machine.specs.Table.{state_in}
 use Rattle.lp_transition.specs.Weigh.{refusal_in}
-use Rattle.lp_transition.specs.Machine.{next}
-use Rattle.lp_transition.proofs.Runs.{is_step}
+use Rattle.lp_machine.specs.Machine.{next}
+use Rattle.lp_machine.proofs.Runs.{is_step}
 use Rattle.lp_transition.proofs.Weighing.{refused-as}
 use Rattle.lp_transition.proofs.engine.Core.take.Goals as goal
 use Rattle.lp_transition.proofs.engine.Core.take.Goals.{in-Some, in-None}

@@ -1,7 +1,7 @@
 use Rattle.std.proofs.Common.{◌≡◌, None, Some, sym, ◌∙◌, arith}
 use Rattle.std.proofs.lemmas.Grind.{common_steps}
-use Rattle.lp_transition.specs.Table.{Engine}
-use Rattle.lp_transition.proofs.Accept.{fork-live}
+use Rattle.lp_machine.specs.Table.{Engine}
+use Rattle.lp_machine.proofs.Accept.{fork-live}
 use Rattle.lp_transition.proofs.Weighing.{born-child}
 use Rattle.lp_transition.specs.inside.Invariant.{told_scan}
 use Rattle.lp_transition.proofs.engine.Core.take_accepted.Goals as goal

@@ -1,9 +1,9 @@
 use Rattle.std.proofs.Common.{◌<◌, ◌+◌, refl, ap, sym, add-one, arith}
-use Rattle.lp_transition.specs.declared.event.Event.TheVariants.{Call}
-use Rattle.lp_transition.specs.Tasks.{change}
-use Rattle.lp_transition.specs.Table.{Engine, standings}
-use Rattle.lp_transition.specs.Machine.{calling}
-use Rattle.lp_transition.proofs.Accept.{call-room}
+use Rattle.lp_definitions.specs.declared.event.Event.TheVariants.{Call}
+use Rattle.lp_definitions.specs.Tasks.{change}
+use Rattle.lp_machine.specs.Table.{Engine, standings}
+use Rattle.lp_machine.specs.Machine.{calling}
+use Rattle.lp_machine.proofs.Accept.{call-room}
 use Rattle.lp_transition.proofs.Effects.{takes_change, with_scan}
 use Rattle.lp_transition.proofs.Unchanged.{core_changes, notes_before}
 use Rattle.std.proofs.lemmas.List.Elements.{Contains-append_left}

@@ -1,5 +1,5 @@
 use Rattle.std.proofs.Common.{◌≤◌, length, sym, subst}
-use Rattle.lp_transition.specs.Table.{Engine}
+use Rattle.lp_machine.specs.Table.{Engine}
 use Rattle.lp_transition.proofs.Turning.{takes_turn}
 use Rattle.lp_transition.proofs.Unchanged.{core_forgets}
 use Rattle.lp_transition.proofs.Blames.{with_blames, leaves_clear}

@@ -1,8 +1,8 @@
 use Rattle.std.proofs.Common.{refl, ◌<◌, is_some, ap, arith}
-use Rattle.lp_transition.specs.declared.event.Event.TheVariants.{Die}
-use Rattle.lp_transition.proofs.Accept.{die-live}
+use Rattle.lp_definitions.specs.declared.event.Event.TheVariants.{Die}
+use Rattle.lp_machine.proofs.Accept.{die-live}
 use Rattle.lp_transition.proofs.Births.{takes_death}
-use Rattle.lp_transition.specs.Table.{Engine}
+use Rattle.lp_machine.specs.Table.{Engine}
 use Rattle.lp_transition.proofs.Unchanged.{core_rests, core_takes, dies_in}
 use Rattle.lp_transition.proofs.Blames.{leaves_apart, death_apart}
 use Rattle.lp_transition.proofs.Effects.{with_scan, with_table}

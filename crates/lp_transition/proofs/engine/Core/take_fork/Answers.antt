@@ -1,10 +1,10 @@
 use Rattle.std.proofs.Common.{refl, ◌≡◌, ◌<◌, if◌then◌else◌, nat_eq, not, ap, ◌∙◌, arith}
 use Rattle.lp_numbers.specs.Numbers.{has}
-use Rattle.lp_transition.specs.declared.event.Event.TheVariants.{Fork}
-use Rattle.lp_transition.specs.Leg.{Standing}
-use Rattle.lp_transition.proofs.Accept.{fork-new, fork-positive}
+use Rattle.lp_definitions.specs.declared.event.Event.TheVariants.{Fork}
+use Rattle.lp_definitions.specs.Leg.{Standing}
+use Rattle.lp_machine.proofs.Accept.{fork-new, fork-positive}
 use Rattle.lp_transition.proofs.Births.{takes_birth}
-use Rattle.lp_transition.specs.Table.{Engine}
+use Rattle.lp_machine.specs.Table.{Engine}
 use Rattle.lp_transition.proofs.Unchanged.{core_takes, bears_in}
 use Rattle.lp_transition.proofs.Blames.{leaves_apart, birth_apart}
 use Rattle.lp_transition.proofs.Effects.{with_scan}

@@ -1,9 +1,9 @@
 use Rattle.std.proofs.Common.{◌≡◌, refl, ◌<◌, suc, arith}
-use Rattle.lp_transition.specs.Machine.{own_effect, put_in}
-use Rattle.lp_transition.specs.Table.{Engine, standings}
-use Rattle.lp_transition.specs.Tasks.{change}
+use Rattle.lp_machine.specs.Machine.{own_effect, put_in}
+use Rattle.lp_machine.specs.Table.{Engine, standings}
+use Rattle.lp_definitions.specs.Tasks.{change}
 use Rattle.lp_transition.specs.inside.Moves.{move_event}
-use Rattle.lp_transition.proofs.EngineLemmas.{quiet-control}
+use Rattle.lp_machine.proofs.EngineLemmas.{quiet-control}
 use Rattle.lp_transition.proofs.Effects.{takes_change, with_scan}
 use Rattle.lp_transition.proofs.Moves.{move_effect, move_quiet, move_touches}
 use Rattle.lp_transition.proofs.Unchanged.{core_changes, notes_before}

@@ -1,11 +1,11 @@
 use Rattle.std.proofs.Common.{◌<◌, refl, sym, ap, ◌∙◌, arith}
-use Rattle.lp_transition.specs.Machine.{affected, switches_at}
-use Rattle.lp_transition.specs.Table.{Engine, state_in}
-use Rattle.lp_transition.specs.inside.Table.{changed}
+use Rattle.lp_machine.specs.Machine.{affected, switches_at}
+use Rattle.lp_machine.specs.Table.{Engine, state_in}
+use Rattle.lp_tasks.specs.inside.Table.{changed}
 use Rattle.lp_transition.proofs.Effects.{takes_change_still, with_scan, with_table}
 use Rattle.lp_transition.proofs.LoneChecks.{none-switches_now, put_on, takes_switch}
 use Rattle.lp_transition.proofs.Weighing.{switches-reported, group-below}
-use Rattle.lp_transition.specs.inside.Points.{point_event, at_point}
+use Rattle.lp_tasks.specs.inside.Points.{point_event, at_point}
 use Rattle.lp_transition.proofs.Points.{point-level, point-group, point-plain, point-checks, point-own, point-live, point-told}
 use Rattle.lp_transition.proofs.Unchanged.{core_changes, core_rests, point_touches}
 use Rattle.lp_transition.proofs.Blames.{leaves_changed}

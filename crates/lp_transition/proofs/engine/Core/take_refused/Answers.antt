@@ -1,6 +1,6 @@
 use Rattle.std.proofs.Common.{refl}
 use Rattle.lp_transition.proofs.Effects.{takes_refused}
-use Rattle.lp_transition.specs.Table.{Engine}
+use Rattle.lp_machine.specs.Table.{Engine}
 use Rattle.lp_transition.proofs.Unchanged.{core_counts}
 use Rattle.lp_transition.proofs.Blames.{leaves_refused}
 use Rattle.lp_transition.proofs.LastScans.{last_counts}

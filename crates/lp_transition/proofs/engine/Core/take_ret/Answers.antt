@@ -1,7 +1,7 @@
 use Rattle.std.proofs.Common.{refl, ◌<◌, arith}
-use Rattle.lp_transition.specs.declared.event.Event.TheVariants.{Ret}
-use Rattle.lp_transition.specs.Machine.{returning}
-use Rattle.lp_transition.specs.Table.{Engine}
+use Rattle.lp_definitions.specs.declared.event.Event.TheVariants.{Ret}
+use Rattle.lp_machine.specs.Machine.{returning}
+use Rattle.lp_machine.specs.Table.{Engine}
 use Rattle.lp_transition.proofs.Effects.{takes_change, with_scan}
 use Rattle.lp_transition.proofs.Unchanged.{core_changes, notes_before}
 use Rattle.lp_transition.proofs.Blames.{with_blames, leaves_returned}

@@ -1,10 +1,10 @@
 use Rattle.std.proofs.Common.{refl, sym, ap, subst, ◌∙◌}
 use Rattle.std.specs.List.Sorted.{IsNonDecreasing}
-use Rattle.lp_transition.specs.declared.reply.Reply.{Reply}
-use Rattle.lp_transition.specs.Events.{group_numbers}
+use Rattle.lp_definitions.specs.declared.reply.Reply.{Reply}
+use Rattle.lp_definitions.specs.Events.{group_numbers}
 use Rattle.lp_transition.specs.inside.ScanSteps.{groups_of, is_listed}
 use Rattle.lp_transition.proofs.ScanTakes.{takes_scan, scan-rises}
-use Rattle.lp_transition.specs.Table.{Engine, state_in}
+use Rattle.lp_machine.specs.Table.{Engine, state_in}
 use Rattle.lp_transition.proofs.Unchanged.{core_rests, core_scanned}
 use Rattle.lp_transition.proofs.BlamedScans.{leaves_scanned, blame_within}
 use Rattle.lp_transition.proofs.Blames.{with_blames}

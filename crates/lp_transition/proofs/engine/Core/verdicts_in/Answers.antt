@@ -4,10 +4,11 @@ use Rattle.std.specs.List.{filter_map}
 use Rattle.std.specs.Option.{option_map}
 use Rattle.lp_numbers.specs.Numbers.{has}
 use Rattle.lp_model.specs.declared.verdict.Verdict.{Verdict}
-use Rattle.lp_transition.specs.Scan.{verdict_of, verdicts_at, passing}
-use Rattle.lp_transition.specs.Machine.{view_of}
+use Rattle.lp_transition.specs.Scan.{verdict_of, verdicts_at}
+use Rattle.lp_tasks.specs.Passing.{passing}
+use Rattle.lp_machine.specs.Machine.{view_of}
 use Rattle.lp_transition.specs.inside.ScanSteps.{waiting_slot}
-use Rattle.lp_transition.specs.Table.{Engine, state_in}
+use Rattle.lp_machine.specs.Table.{Engine, state_in}
 use Rattle.lp_transition.proofs.AskedScans.{among_views}
 use Rattle.lp_transition.proofs.ScanLemmas.{views-asked}
 use Rattle.lp_transition.specs.inside.Invariant.{told_scan}

@@ -1,14 +1,15 @@
 use Rattle.std.proofs.Common.{◌<◌, Option, None, Some, is_none, refl, sym, ap, ◌∙◌, arith}
 use Rattle.std.proofs.lemmas.Grind.{common_steps}
-use Rattle.lp_transition.specs.declared.event.Event.{Event}
-use Rattle.lp_transition.specs.declared.event.Event.TheVariants.{Fork}
-use Rattle.lp_transition.specs.Leg.{Standing}
-use Rattle.lp_transition.specs.Machine.{refusal_of, answer}
+use Rattle.lp_definitions.specs.declared.event.Event.{Event}
+use Rattle.lp_definitions.specs.declared.event.Event.TheVariants.{Fork}
+use Rattle.lp_definitions.specs.Leg.{Standing}
+use Rattle.lp_machine.specs.Machine.{refusal_of, answer}
 use Rattle.lp_transition.specs.Weigh.{Weighed, may_allocate}
-use Rattle.lp_transition.specs.Table.{Engine, state_in}
-use Rattle.lp_transition.proofs.EngineLemmas.{answer-refused}
+use Rattle.lp_machine.specs.Table.{Engine, state_in}
+use Rattle.lp_machine.proofs.EngineLemmas.{answer-refused}
 use Rattle.lp_transition.proofs.Weighing.{answer-fork, born-refused, refused-as, weighed-as}
-use Rattle.lp_transition.proofs.Runs.{weighed_reply, is_reply}
+use Rattle.lp_transition.proofs.Replies.{weighed_reply}
+use Rattle.lp_machine.proofs.Runs.{is_reply}
 use Rattle.lp_transition.specs.inside.Invariant.{told_scan}
 use Rattle.lp_transition.proofs.engine.Core.weigh.Goals as goal
 

@@ -1,6 +1,6 @@
 use Rattle.std.proofs.Common.{sym, ◌∙◌, arith}
 use Rattle.std.proofs.lemmas.Grind.{common_steps}
-use Rattle.lp_transition.specs.Table.{state_in}
+use Rattle.lp_machine.specs.Table.{state_in}
 use Rattle.lp_transition.proofs.AskedScans.{none-enough, all-enough}
 use Rattle.lp_transition.proofs.engine.Core.weigh_check.Goals as goal
 

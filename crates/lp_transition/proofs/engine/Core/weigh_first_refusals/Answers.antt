@@ -3,7 +3,7 @@ use Rattle.lp_numbers.specs.Numbers.{has}
 use Rattle.lp_model.specs.declared.verdict.Verdict.{Verdict}
 use Rattle.lp_transition.specs.Blames.{TellOf}
 use Rattle.lp_transition.specs.Scan.{MayLeaveOut, AreEnough}
-use Rattle.lp_transition.specs.Table.{Engine, state_in}
+use Rattle.lp_machine.specs.Table.{Engine, state_in}
 use Rattle.lp_transition.specs.inside.FirstRefusals.{AreTold}
 use Rattle.lp_transition.proofs.FirstRefusals.{told-enough, told-tells}
 use Rattle.lp_transition.specs.inside.Invariant.{told_scan}

@@ -2,7 +2,7 @@ use Rattle.std.proofs.Common.{◌<◌, ap, ◌∙◌, arith}
 use Rattle.lp_transition.specs.Weigh.{Weighed}
 use Rattle.lp_transition.specs.Scan.{scan_event}
 use Rattle.lp_transition.proofs.ScanAnswers.{weighs}
-use Rattle.lp_transition.proofs.Runs.{weighed_reply}
+use Rattle.lp_transition.proofs.Replies.{weighed_reply}
 use Rattle.lp_transition.specs.inside.Invariant.{told_scan}
 use Rattle.lp_transition.proofs.engine.Core.weigh_found.Goals as goal
 

@@ -2,7 +2,7 @@ use Rattle.std.proofs.Common.{◌∙◌, subst, arith}
 use Rattle.std.proofs.lemmas.Grind.{common_steps}
 use Rattle.lp_transition.specs.Blames.{is_open}
 use Rattle.lp_transition.specs.Scan.{MayLeaveOut}
-use Rattle.lp_transition.specs.Table.{Engine, state_in}
+use Rattle.lp_machine.specs.Table.{Engine, state_in}
 use Rattle.lp_transition.proofs.AskedScans.{among-enough}
 use Rattle.lp_transition.proofs.Blames.{blamed_out}
 use Rattle.lp_transition.specs.inside.Invariant.{told_scan}

@@ -3,7 +3,7 @@ use Rattle.std.specs.Global.{Global}
 use Rattle.lp_numbers.specs.Numbers.{has}
 use Rattle.lp_model.specs.declared.verdict.Verdict.{Verdict}
 use Rattle.lp_transition.specs.Scan.{verdicts_at, is_asked}
-use Rattle.lp_transition.specs.Table.{Engine, state_in}
+use Rattle.lp_machine.specs.Table.{Engine, state_in}
 use Rattle.lp_transition.specs.inside.ScanSteps.{is_judged}
 use Rattle.lp_transition.proofs.WholeGroups.{members-judged}
 use Rattle.lp_transition.specs.inside.Invariant.{told_scan}

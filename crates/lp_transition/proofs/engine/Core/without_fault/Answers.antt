@@ -1,5 +1,5 @@
 use Rattle.std.proofs.Common.{◌≡◌, None, Some, sym, ◌∙◌}
-use Rattle.lp_transition.specs.declared.engine.blames.StandingBlame.{StandingBlame}
+use Rattle.lp_machine.specs.declared.standing_blame.StandingBlame.{StandingBlame}
 use Rattle.lp_transition.proofs.BootLemmas.{ArePut, starts}
 use Rattle.lp_transition.proofs.Unchanged.{core_starts}
 use Rattle.lp_transition.specs.inside.Invariant.{told_scan}

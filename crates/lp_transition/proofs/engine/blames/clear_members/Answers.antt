@@ -1,7 +1,7 @@
 use Rattle.std.proofs.Common.{◌≤◌, inl, inr, None, length, sym, ◌∙◌, arith, rules}
 use Rattle.std.proofs.lemmas.Bool.{cases_lt}
 use Rattle.std.proofs.lemmas.List.{get_or_past}
-use Rattle.lp_transition.proofs.AscendingLemmas.{members-any}
+use Rattle.lp_tasks.proofs.AscendingLemmas.{members-any}
 use Rattle.lp_transition.proofs.engine.blames.clear_members.Goals as goal
 
 pub loop-number-init : goal.loop-number-init

@@ -1,6 +1,6 @@
 use Rattle.std.proofs.Common.{◌≡◌, ◌<◌, ◌≤◌, ℕ, None, false, is_some, map, take, length}
 use Rattle.lp_numbers.specs.Numbers.{has}
-use Rattle.lp_transition.specs.Tasks.{first_of}
+use Rattle.lp_definitions.specs.Tasks.{first_of}
 use Rattle.lp_transition.specs.Blames.{or_blame}
 use Rattle.lp_transition.specs.inside.Blames.{blame_at, found_by, told_of}
 use Rattle.lp_transition.proofs.engine.blames.decide_all.Given as goal

@@ -3,9 +3,9 @@ use Rattle.std.proofs.lemmas.List.{take_all, get_or_default}
 use Rattle.lp_stack.specs.declared.number.TaskId.{TaskId}
 use Rattle.lp_stack.specs.declared.view.Class.{Class}
 use Rattle.lp_stack.specs.declared.view.Class.TheVariants.{Normal}
-use Rattle.lp_transition.specs.Leg.{Standing}
-use Rattle.lp_transition.specs.Run.{at_boot, booted}
-use Rattle.lp_transition.specs.Table.{standings}
+use Rattle.lp_definitions.specs.Leg.{Standing}
+use Rattle.lp_definitions.specs.Run.{at_boot, booted}
+use Rattle.lp_machine.specs.Table.{standings}
 use Rattle.lp_transition.proofs.BootLemmas.{none_put, next_free, one_put}
 use Rattle.lp_transition.proofs.engine.boot.put_all.Goals as goal
 

@@ -1,9 +1,9 @@
 use Rattle.std.proofs.Common.{◌≡◌, ◌+◌, ◌<◌, ◌≤◌, ℕ, Bool, ◌∷◌, is_some, refl, sym, ◌∙◌, ⊎_elim, arith}
 use Rattle.std.proofs.lemmas.Bool.{cases_lt}
-use Rattle.lp_transition.specs.Scan.{passing}
-use Rattle.lp_transition.specs.Table.{slot}
-use Rattle.lp_transition.proofs.AscendingLemmas.{passing-least, passing-rest}
-use Rattle.lp_transition.proofs.LiveTasks.{none_below, none_off}
+use Rattle.lp_tasks.specs.Passing.{passing}
+use Rattle.lp_machine.specs.Table.{slot}
+use Rattle.lp_tasks.proofs.AscendingLemmas.{passing-least, passing-rest}
+use Rattle.lp_tasks.proofs.LiveTasks.{none_below, none_off}
 use Rattle.lp_transition.proofs.engine.control.all_on.Goals as goal
 
 pub loop-number-preserved : goal.loop-number-preserved

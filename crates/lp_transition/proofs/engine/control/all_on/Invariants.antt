@@ -1,7 +1,7 @@
 use Rattle.std.proofs.Common.{◌≡◌, ◌<◌, ◌≤◌, ℕ, false, is_some}
-use Rattle.lp_transition.specs.Scan.{passing}
-use Rattle.lp_transition.specs.Table.{slot}
-use Rattle.lp_transition.specs.inside.Table.{is_off}
+use Rattle.lp_tasks.specs.Passing.{passing}
+use Rattle.lp_machine.specs.Table.{slot}
+use Rattle.lp_tasks.specs.inside.Table.{is_off}
 use Rattle.lp_transition.proofs.engine.control.all_on.Given as goal
 
 -- no task below the numbers that are left is off the level

@@ -1,8 +1,8 @@
 use Rattle.std.proofs.Common.{length, ◌≡◌, ◌<◌, ◌≤◌, ℕ, false, is_some}
 use Rattle.lp_numbers.specs.Numbers.{has}
-use Rattle.lp_transition.specs.Scan.{passing}
-use Rattle.lp_transition.specs.Table.{slot}
-use Rattle.lp_transition.specs.inside.Table.{is_off}
+use Rattle.lp_tasks.specs.Passing.{passing}
+use Rattle.lp_machine.specs.Table.{slot}
+use Rattle.lp_tasks.specs.inside.Table.{is_off}
 use Rattle.lp_transition.proofs.engine.control.collect_off.Given as goal
 
 -- the set is right below the numbers that are left, and empty from there on

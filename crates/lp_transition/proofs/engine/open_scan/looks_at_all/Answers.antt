@@ -3,7 +3,7 @@ use Rattle.std.proofs.lemmas.Grind.{common_steps}
 use Rattle.std.proofs.lemmas.Bool.{not-true}
 use Rattle.std.proofs.lemmas.List.{take_all}
 use Rattle.lp_transition.specs.inside.ScanSteps.{tasks_of}
-use Rattle.lp_transition.proofs.AscendingLemmas.{members-passing, next_differs, none_left}
+use Rattle.lp_tasks.proofs.AscendingLemmas.{members-passing, next_differs, none_left}
 use Rattle.lp_transition.proofs.AskedScans.{task-at}
 use Rattle.lp_transition.proofs.engine.open_scan.looks_at_all.Goals as goal
 

@@ -1,6 +1,6 @@
 use Rattle.std.proofs.Common.{◌≡◌, take, ◌++◌}
 use Rattle.lp_numbers.specs.Numbers.{has}
-use Rattle.lp_transition.specs.Scan.{passing}
+use Rattle.lp_tasks.specs.Passing.{passing}
 use Rattle.lp_transition.specs.inside.ScanSteps.{tasks_of}
 use Rattle.lp_transition.proofs.engine.open_scan.looks_at_all.Given as goal
 

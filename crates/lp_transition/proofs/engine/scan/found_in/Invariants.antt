@@ -3,8 +3,9 @@ use Rattle.std.specs.List.{filter_map}
 use Rattle.std.specs.Option.{option_map}
 use Rattle.lp_patch.specs.Aimed.{aimed}
 use Rattle.lp_numbers.specs.Numbers.{has}
-use Rattle.lp_transition.specs.Machine.{view_of}
-use Rattle.lp_transition.specs.Scan.{passing, verdict_of}
+use Rattle.lp_machine.specs.Machine.{view_of}
+use Rattle.lp_tasks.specs.Passing.{passing}
+use Rattle.lp_transition.specs.Scan.{verdict_of}
 use Rattle.lp_transition.specs.inside.ScanSteps.{waiting_slot}
 use Rattle.lp_transition.proofs.engine.scan.found_in.Given as goal
 

@@ -1,7 +1,7 @@
 use Rattle.std.proofs.Common.{◌≡◌, ◌++◌}
 use Rattle.lp_numbers.specs.Numbers.{has}
-use Rattle.lp_transition.specs.Events.{group_numbers}
-use Rattle.lp_transition.specs.Scan.{passing}
+use Rattle.lp_definitions.specs.Events.{group_numbers}
+use Rattle.lp_tasks.specs.Passing.{passing}
 use Rattle.lp_transition.proofs.engine.scan.group_list.Given as goal
 
 -- the groups so far, and those still to come

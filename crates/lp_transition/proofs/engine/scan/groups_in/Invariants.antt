@@ -1,9 +1,9 @@
 use Rattle.std.proofs.Common.{◌≡◌, ℕ, ◌||◌}
 use Rattle.std.specs.List.{list_any}
 use Rattle.lp_numbers.specs.Numbers.{has}
-use Rattle.lp_transition.specs.Table.{slot}
-use Rattle.lp_transition.specs.inside.Table.{is_in}
-use Rattle.lp_transition.specs.Scan.{passing}
+use Rattle.lp_machine.specs.Table.{slot}
+use Rattle.lp_tasks.specs.inside.Table.{is_in}
+use Rattle.lp_tasks.specs.Passing.{passing}
 use Rattle.lp_transition.proofs.engine.scan.groups_in.Given as goal
 
 -- the groups so far, and those still to come

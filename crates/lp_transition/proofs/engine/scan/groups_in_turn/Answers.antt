@@ -3,7 +3,7 @@ use Rattle.std.proofs.lemmas.List.{append-nil, map-append, take_all, take_more}
 use Rattle.std.specs.Global.{Global}
 use Rattle.lp_stack.specs.declared.number.GroupId.{GroupId}
 use Rattle.lp_model.specs.declared.verdict.Verdict.{Verdict}
-use Rattle.lp_transition.specs.Events.{group_numbers}
+use Rattle.lp_definitions.specs.Events.{group_numbers}
 use Rattle.lp_transition.proofs.RisingGroups.{AreInTurn, turn-none, turn-more, turn-all}
 use Rattle.lp_transition.proofs.engine.scan.groups_in_turn.Goals as goal
 use Rattle.lp_transition.proofs.engine.scan.groups_in_turn.Goals.{then-is_none+in_ok-push, else-is_none}

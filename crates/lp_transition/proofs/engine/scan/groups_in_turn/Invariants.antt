@@ -1,5 +1,5 @@
 use Rattle.std.proofs.Common.{take}
-use Rattle.lp_transition.specs.Events.{group_numbers}
+use Rattle.lp_definitions.specs.Events.{group_numbers}
 use Rattle.lp_transition.proofs.RisingGroups.{AreInTurn}
 use Rattle.lp_transition.proofs.engine.scan.groups_in_turn.Given as goal
 

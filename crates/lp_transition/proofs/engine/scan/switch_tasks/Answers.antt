@@ -3,7 +3,7 @@ use Rattle.std.proofs.lemmas.List.{map_more}
 use Rattle.std.proofs.lemmas.List.Folds.{list_any-append}
 use Rattle.std.specs.List.{list_any}
 use Rattle.lp_model.specs.declared.verdict.Verdict.{Verdict}
-use Rattle.lp_transition.specs.Events.{group_numbers}
+use Rattle.lp_definitions.specs.Events.{group_numbers}
 use Rattle.lp_transition.specs.inside.ScanSteps.{tasks_of, is_judged, is_listed}
 use Rattle.lp_transition.proofs.ScanSwitches.{moving_more}
 use Rattle.lp_transition.proofs.engine.scan.switch_tasks.Goals as goal

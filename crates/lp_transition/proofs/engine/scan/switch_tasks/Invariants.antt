@@ -1,5 +1,5 @@
 use Rattle.std.proofs.Common.{take}
-use Rattle.lp_transition.specs.Events.{group_numbers}
+use Rattle.lp_definitions.specs.Events.{group_numbers}
 use Rattle.lp_transition.specs.inside.ScanSteps.{is_judged, is_listed, AreSwitched}
 use Rattle.lp_transition.proofs.engine.scan.switch_tasks.Given as goal
 

@@ -1,5 +1,5 @@
 use Rattle.std.proofs.Common.{◌<◌, ◌≤◌, length, Some, refl, ap, ◌∙◌, arith}
-use Rattle.lp_transition.specs.Machine.{calling}
+use Rattle.lp_machine.specs.Machine.{calling}
 use Rattle.lp_checker.proofs.Tables.{slot-here, where_ok, where_ok-is, where_ok-group, where_ok-on, where_ok-off, kept-changed, standings-kept, standings-absent}
 use Rattle.lp_checker.proofs.fold.table.FoldedTable.call.Goals.{in-Some, in-None}
 use Rattle.lp_checker.proofs.fold.table.FoldedTable.call.Goals as goal

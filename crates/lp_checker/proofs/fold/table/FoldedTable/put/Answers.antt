@@ -1,8 +1,8 @@
 use Rattle.std.proofs.Common.{◌≡◌, ◌<◌, ◌+◌, true, length, List, Option, Some, None, if◌then◌else◌, nat_eq, get_or, set, sym, ap, ◌∙◌, subst, arith}
-use Rattle.lp_transition.specs.Leg.{Standing}
-use Rattle.lp_transition.specs.Table.{standings}
-use Rattle.lp_transition.specs.Tasks.{Live}
-use Rattle.lp_transition.proofs.Births.{value_at}
+use Rattle.lp_definitions.specs.Leg.{Standing}
+use Rattle.lp_machine.specs.Table.{standings}
+use Rattle.lp_definitions.specs.Tasks.{Live}
+use Rattle.lp_tasks.proofs.TableLemmas.{value_at}
 use Rattle.lp_checker.specs.inside.Tables.{all_slots, IsKept}
 use Rattle.lp_checker.proofs.Tables.{counted-few, kept-same, kept-put, standings-put}
 use Rattle.lp_checker.proofs.fold.table.FoldedTable.put.Goals as goal

@@ -1,6 +1,6 @@
 use Rattle.std.proofs.Common.{◌≡◌, ◌<◌, ◌+◌, ◌-◌, ◌≤◌, length, None, get_or, set, sym, ◌∙◌, subst, arith}
-use Rattle.lp_transition.specs.Table.{Table}
-use Rattle.lp_transition.proofs.Births.{value_at}
+use Rattle.lp_machine.specs.Table.{Table}
+use Rattle.lp_tasks.proofs.TableLemmas.{value_at}
 use Rattle.lp_checker.specs.inside.Tables.{all_slots, IsKept}
 use Rattle.lp_checker.proofs.Tables.{group-there, within, one_there, group_within, kept-remove, standings-remove}
 use Rattle.lp_checker.proofs.fold.table.FoldedTable.remove.Goals as goal

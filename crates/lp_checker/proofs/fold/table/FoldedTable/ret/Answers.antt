@@ -1,5 +1,5 @@
 use Rattle.std.proofs.Common.{◌<◌, ◌≤◌, length, Some, refl, ap, arith}
-use Rattle.lp_transition.specs.Machine.{returning}
+use Rattle.lp_machine.specs.Machine.{returning}
 use Rattle.lp_checker.proofs.Tables.{kept-changed, standings-kept, standings-absent}
 use Rattle.lp_checker.proofs.fold.table.FoldedTable.ret.Goals.{in-Some, in_default}
 use Rattle.lp_checker.proofs.fold.table.FoldedTable.ret.Goals as goal

@@ -1,6 +1,6 @@
 use Rattle.std.proofs.Common.{arith, List, subst, ◌++◌, take}
 use Rattle.std.proofs.lemmas.List.{take_all}
-use Rattle.lp_transition.specs.declared.event.Event.{Event}
+use Rattle.lp_definitions.specs.declared.event.Event.{Event}
 use Rattle.lp_replay.specs.inside.Recording.{IsRecorded}
 use Rattle.lp_replay.proofs.Recording.{recorded_first, recorded_more, room_left}
 use Rattle.lp_replay.proofs.replays.recorder.Recorder.record_all.Goals as goal

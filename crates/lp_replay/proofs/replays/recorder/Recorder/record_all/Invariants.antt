@@ -1,5 +1,5 @@
 use Rattle.std.proofs.Common.{take, ◌++◌}
-use Rattle.lp_transition.specs.Run.{Run}
+use Rattle.lp_definitions.specs.Run.{Run}
 use Rattle.lp_replay.specs.inside.Recording.{IsRecorded}
 use Rattle.lp_replay.proofs.replays.recorder.Recorder.record_all.Given as goal
 

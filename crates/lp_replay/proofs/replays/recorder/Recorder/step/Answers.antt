@@ -1,9 +1,9 @@
 use Rattle.std.proofs.Common.{List, subst, sym, arith}
 use Rattle.std.proofs.lemmas.Grind.{common_steps}
 use Rattle.lp_stays.specs.Counts.{Counts, IsNext}
-use Rattle.lp_transition.specs.Run.{plus}
-use Rattle.lp_transition.specs.Table.{Engine}
-use Rattle.lp_transition.specs.declared.reply.Reply.{Reply}
+use Rattle.lp_definitions.specs.Run.{plus}
+use Rattle.lp_machine.specs.Table.{Engine}
+use Rattle.lp_definitions.specs.declared.reply.Reply.{Reply}
 use Rattle.lp_cert.specs.Ends.{Made}
 use Rattle.lp_replay.specs.inside.Recording.{IsRecorded, Recorded}
 use Rattle.lp_replay.proofs.Recording.{recorded}

@@ -1,7 +1,7 @@
 use Rattle.std.proofs.Common.{◌≡◌, ◌+◌, ◌≤◌, [], ◌∷◌, ◌++◌, length, ap, ap₂, ◌∙◌, arith}
 use Rattle.std.proofs.lemmas.Grind.{common_steps}
 use Rattle.std.proofs.lemmas.List.{length-append}
-use Rattle.lp_transition.specs.Events.{group_numbers}
+use Rattle.lp_definitions.specs.Events.{group_numbers}
 use Rattle.lp_replay.specs.inside.GroupLists.{lists_from}
 use Rattle.lp_replay.proofs.ListsOfGroups.{ends_added, lists_added}
 use Rattle.lp_replay.proofs.replies.group_lists.GroupLists.push.Goals as goal

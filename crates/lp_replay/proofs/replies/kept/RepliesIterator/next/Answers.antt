@@ -1,5 +1,5 @@
 use Rattle.std.proofs.Common.{◌≡◌, drop, ℕ, length, List, ◌∷◌, arith, rules, ap, sym, ◌∙◌}
-use Rattle.lp_transition.specs.declared.reply.Reply.{Reply}
+use Rattle.lp_definitions.specs.declared.reply.Reply.{Reply}
 use Rattle.lp_replay.specs.declared.replies.ShortReply.{ShortReply}
 use Rattle.lp_replay.specs.declared.replies.kept.Replies.{Replies}
 use Rattle.lp_replay.specs.Replies.{replies_of, kept_reply, lists_in}

@@ -1,5 +1,5 @@
 use Rattle.std.proofs.Common.{refl}
-use Rattle.lp_transition.specs.Table.{slot}
+use Rattle.lp_machine.specs.Table.{slot}
 use Rattle.lp_tests.proofs.Asked.{none_out, one_out, member}
 use Rattle.lp_tests.proofs.tests.engine.asked.all_but.Goals as goal
 use Rattle.lp_tests.proofs.tests.engine.asked.all_but.Goals.{in-Some+then-is_refused, in-Some+else-is_refused, in_default}

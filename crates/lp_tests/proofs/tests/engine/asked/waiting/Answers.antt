@@ -1,8 +1,8 @@
 use Rattle.std.proofs.Common.{◌≡◌, ◌+◌, ◌<◌, ℕ, Bool, ◌∷◌, is_some, sym, ◌∙◌, arith}
-use Rattle.lp_transition.specs.Scan.{passing}
-use Rattle.lp_transition.specs.Table.{slot}
-use Rattle.lp_transition.proofs.AscendingLemmas.{passing-least, passing-rest}
-use Rattle.lp_transition.proofs.LiveTasks.{none_live}
+use Rattle.lp_tasks.specs.Passing.{passing}
+use Rattle.lp_machine.specs.Table.{slot}
+use Rattle.lp_tasks.proofs.AscendingLemmas.{passing-least, passing-rest}
+use Rattle.lp_tasks.proofs.LiveTasks.{none_live}
 use Rattle.lp_tests.proofs.Asked.{more_in, all_in}
 use Rattle.lp_tests.proofs.tests.engine.asked.waiting.Goals as goal
 

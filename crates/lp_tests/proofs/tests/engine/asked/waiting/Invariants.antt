@@ -1,6 +1,6 @@
 use Rattle.std.proofs.Common.{◌≡◌, ℕ, ◌≤◌, is_some}
-use Rattle.lp_transition.specs.Scan.{passing}
-use Rattle.lp_transition.specs.Table.{slot}
+use Rattle.lp_tasks.specs.Passing.{passing}
+use Rattle.lp_machine.specs.Table.{slot}
 use Rattle.lp_tests.proofs.Asked.{AreIn}
 use Rattle.lp_tests.proofs.tests.engine.asked.waiting.Given as goal
 

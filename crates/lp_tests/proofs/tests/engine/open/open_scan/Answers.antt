@@ -1,7 +1,7 @@
 use Rattle.std.proofs.Common.{map}
 use Rattle.lp_stack.specs.TaskView.{seen}
 use Rattle.lp_transition.specs.Blames.{is_open}
-use Rattle.lp_transition.specs.Table.{state_in}
+use Rattle.lp_machine.specs.Table.{state_in}
 use Rattle.lp_transition.proofs.AskedScans.{asked-among}
 use Rattle.lp_tests.proofs.tests.engine.open.open_scan.Goals as goal
 

@@ -1,6 +1,6 @@
 use Rattle.std.proofs.Common.{◌≡◌, List, Option, Some, sym, ap, ◌∙◌, arith}
 use Rattle.std.proofs.lemmas.Grind.{common_steps}
-use Rattle.lp_transition.specs.declared.engine.blames.StandingBlame.{StandingBlame}
+use Rattle.lp_machine.specs.declared.standing_blame.StandingBlame.{StandingBlame}
 use Rattle.lp_transition.specs.inside.Blames.{blame_at, looked_at}
 use Rattle.lp_transition.proofs.BlameLists.{looked-there, looked-gone}
 use Rattle.lp_transition.proofs.engine.blames.Blames.look_again.Goals as goal

@@ -1,0 +1,3 @@
+pub mod OpensBy
+pub mod Keeping
+pub mod Accepting

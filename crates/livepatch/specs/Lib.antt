@@ -1,0 +1,3 @@
+pub mod Simulated
+pub mod Named
+pub mod inside

@@ -1,0 +1,3 @@
+-- What code and proofs share and no public contract names.
+pub mod OpenedBy
+pub mod Chosen

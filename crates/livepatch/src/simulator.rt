@@ -1,0 +1,287 @@
+//! One engine, with the run so far and why each group waits.
+ghost use Rattle.std.specs.Prelude.{◌≡◌, ◌⊎◌, ◌≤◌, ◌<◌, ◌↔◌, [], true, false, None, Some, Err, drop, length, vec_len, vec_capacity, IfOk, IfSome, IsSome, OnErr, OnOk, MatchResult};
+ghost use Rattle.std.specs.Option.{option_map};
+ghost use Rattle.lp_transition.specs.Blames.{blame_of, HasBlamesAfter};
+ghost use Rattle.lp_transition.specs.Boot.{boot_refusal};
+ghost use Rattle.lp_definitions.specs.Run.{Run, leg_of, plus, reply};
+ghost use Rattle.lp_machine.specs.Steps.{StandsIn};
+ghost use Rattle.lp_machine.specs.Table.{state_in};
+ghost use Rattle.lp_transition.specs.declared.engine.boot.BootFault.TheVariants.{NoMemory};
+ghost use Rattle.lp_transition.specs.declared.engine.step.Halt.TheVariants.{JournalFull};
+ghost use Rattle.lp_cert.specs.Ends.{Made, floor_in, leg_under_way, waiting_in};
+ghost use Rattle.lp_definitions.specs.Ends.{end_of};
+ghost use Rattle.lp_checker.specs.Folds.{leg_with};
+ghost use Rattle.lp_definitions.specs.Holds.{Holds};
+ghost use Rattle.lp_definitions.specs.Verdict.{verdict_on};
+ghost use Rattle.livepatch.specs.Simulated.{IsKept, run_with};
+ghost use Rattle.livepatch.specs.inside.OpenedBy.{is_opened};
+
+use crate::explained;
+use lp_cert::{Cert, Claim, Maker};
+use lp_checker::{CertFault, check_floor, check_waiting};
+use lp_model::Consistency;
+use lp_patch::PatchStack;
+use lp_stack::{Class, GroupId, TaskId};
+use lp_transition::{
+    BootFault, Core, Event, Halt, MOST_EVENTS, Opening, Reply, StandingBlame, What,
+};
+use std::alloc::{AllocError, Global};
+use std::marker::Model;
+
+/// An engine with the run so far, which knows why each group waits.
+///
+/// Contracts see the run, and the engine that stands where the run does.
+pub struct Simulator<M: Consistency> {
+    core: Box<Core<M>>,
+    maker: Maker,
+    patches: PatchStack,
+    boots: Vec<(TaskId, Class)>,
+    events: Vec<Event>,
+    /// The opening of the leg that the run is in. While it is None the engine itself stands there: the copy is made when
+    /// the next event comes, so that a failed allocation leaves all as it was.
+    opening: Option<Opening>,
+}
+
+/// In one step for who owns one: docs/GATE.md says why.
+impl<M: Consistency> Drop for Simulator<M> {
+    fn drop(self) {
+        let Simulator {
+            core: _,
+            maker: _,
+            patches: _,
+            boots: _,
+            events: _,
+            opening: _,
+        } = self;
+    }
+}
+
+impl<M: Consistency> Model for Simulator<M> {
+    ghost use Rattle.livepatch.specs.Simulated.{Simulated, IsKept, run_with};
+
+    ghost Value = { Simulated };
+
+    ghost view = { λ s. record { core = s.core.value; run = run_with s.patches s.boots.items s.events.items } };
+
+    ghost invariant = { λ s. IsKept M.rules (run_with s.patches s.boots.items s.events.items) s.core.value s.maker s.opening };
+}
+
+impl<M: Consistency> Simulator<M> {
+    /// A run with these patches and these tasks, each on level 0 with an empty stack, before its first event.
+    ///
+    /// Refused for the first task at fault, as T1 or T2, else T3 where an allocation failed.
+    pub fn new(
+        alloc: Global,
+        model: M,
+        patches: PatchStack,
+        boots: &[(TaskId, Class)],
+    ) -> Result<Simulator<M>, BootFault>
+        ensures refused { IfSome (boot_refusal boots.now) (λ fault. result ≡ Err fault) }
+        ensures memory { boot_refusal boots.now ≡ None → OnErr result (result ≡ Err NoMemory) }
+        ensures run { IfOk result (λ simulator. simulator.run ≡ run_with patches boots.now []) }
+    {
+        let copied = patches.copy(alloc);
+        match Core::boot(alloc, model, patches, boots) {
+            Ok(core) => match Simulator::over(alloc, core, copied, boots) {
+                Ok(simulator) => Ok(simulator),
+                Err(_) => Err(BootFault::NoMemory),
+            },
+            Err(fault) => {
+                drop(copied);
+                Err(fault)
+            }
+        }
+    }
+
+    /// The run of an engine that has taken no event, with a copy of its patches, if one could be made.
+    fn over(
+        alloc: Global,
+        core: Core<M>,
+        copied: Result<PatchStack, AllocError>,
+        boots: &[(TaskId, Class)],
+    ) -> Result<Simulator<M>, AllocError>
+        requires patches { IfOk copied (λ patches. patches ≡ core.patches) }
+        requires stands { StandsIn M.rules (run_with core.patches boots.now []) (state_in core) }
+        requires unscanned { core.last_scan.kind ≡ None }
+        ensures { IfOk result (λ simulator. simulator.run ≡ run_with core.patches boots.now []) }
+    {
+        let core = Box::new(alloc, core)?;
+        let patches = copied?;
+        let boots = Vec::from_slice(alloc, boots)?;
+        let maker = Maker::new(alloc)?;
+        Ok(Simulator {
+            core,
+            maker,
+            patches,
+            boots,
+            events: Vec::new(alloc),
+            opening: None,
+        })
+    }
+
+    /// Takes one event, and answers it. Where it fails all is as it was: NoMemory where an allocation failed, JournalFull
+    /// where no event is left.
+    pub fn step(&mut self, alloc: Global, event: Event) -> Result<Reply, Halt>
+        ensures full { (result ≡ Err JournalFull) ↔ (1000000 ≤ length self.old.run.events) }
+        ensures reply { IfOk result (λ given. given ≡ reply M.rules (leg_of M.rules self.old.run) event) }
+        ensures run { OnOk result (self.new.run ≡ plus self.old.run event) }
+        ensures blames { OnOk result (HasBlamesAfter M.rules self.old.core event self.new.core) }
+        ensures unchanged { OnErr result (self.new ≡ self.old) }
+    {
+        if self.core.events() >= u64::from(MOST_EVENTS) {
+            return Err(Halt::JournalFull);
+        }
+        self.events.reserve(1)?;
+        keep_opening(alloc, &self.core, &mut self.opening)?;
+        let reply = explained::take(alloc, &mut self.core, &mut self.maker, event)?;
+        self.events.push_reserved(event);
+        give_up_opening(event, &reply.what, &mut self.opening);
+        Ok(reply)
+    }
+
+    /// The engine, which tells how its tasks stand.
+    pub fn core(&self) -> &Core<M>
+        ensures value { result.now ≡ self.now.core }
+        ensures stands { StandsIn M.rules self.now.run (state_in self.now.core) }
+    {
+        &self.core
+    }
+
+    /// How many events are numbered.
+    pub fn count(&self) -> u64
+        ensures value { result ≡ length self.now.run.events }
+        ensures fits { result ≤ 1000000 }
+    {
+        let _ = &self.maker;
+        self.core.events()
+    }
+
+    /// The events so far, in their order.
+    pub fn events(&self) -> &[Event]
+        ensures { result.now ≡ self.now.run.events }
+    {
+        self.events.as_slice()
+    }
+
+    /// The standing blame of a group: a frame by which every check of it is refused until the frame is popped or the leg
+    /// ends. None where there is none.
+    pub fn blame(&self, group: GroupId) -> Option<StandingBlame>
+        ensures { result ≡ blame_of self.now.core group.0 }
+    {
+        self.core.standing_blame(group)
+    }
+
+    /// The certificate that a group waits in the leg under way; None where it doesn't wait. AllocError where an allocation
+    /// failed.
+    pub fn certificate(&self, alloc: Global, group: GroupId) -> Result<Option<Cert>, AllocError>
+        ensures value { IfOk result (λ found. found ≡ waiting_in (option_map (end_of M.rules) (leg_under_way M.rules self.now.run)) group.0) }
+        ensures accepted { IfOk result (λ found. IfSome found (λ cert. verdict_on M.rules (leg_of M.rules self.now.run) cert.claim cert ≡ None)) }
+    {
+        let _ = self.core.events();
+        self.maker.waiting(alloc, group)
+    }
+
+    /// The certificate that the leg under way isn't complete, that of the least group that waits; None where it is
+    /// complete, or there is none. AllocError where an allocation failed.
+    pub fn floor(&self, alloc: Global) -> Result<Option<Cert>, AllocError>
+        ensures value { IfOk result (λ found. found ≡ floor_in (option_map (end_of M.rules) (leg_under_way M.rules self.now.run))) }
+        ensures accepted { IfOk result (λ found. IfSome found (λ cert. verdict_on M.rules (leg_of M.rules self.now.run) cert.claim cert ≡ None)) }
+    {
+        let _ = self.core.events();
+        self.maker.floor(alloc)
+    }
+
+    /// Checks a certificate against the leg that the run is in, for the claim that it makes.
+    ///
+    /// # Errors
+    /// As `check_waiting` has them.
+    pub fn check(&self, alloc: Global, cert: &Cert) -> Result<(), CertFault>
+        ensures answer { MatchResult result (λ _. verdict_on M.rules (leg_of M.rules self.now.run) cert.now.claim cert.now ≡ None) (λ fault. fault ≡ CertFault.NoMemory ⊎ verdict_on M.rules (leg_of M.rules self.now.run) cert.now.claim cert.now ≡ Some fault) }
+        ensures sound { IfOk result (λ _. Holds M.rules (leg_of M.rules self.now.run) cert.now) }
+    {
+        match &self.opening {
+            Some(opening) => self.check_since(alloc, opening, cert),
+            None => self.check_here(alloc, cert),
+        }
+    }
+
+    /// Where the engine itself stands at the opening: no event came since.
+    fn check_here(&self, alloc: Global, cert: &Cert) -> Result<(), CertFault>
+        requires { (leg_of M.rules self.now.run).events ≡ [] }
+        ensures answer { MatchResult result (λ _. verdict_on M.rules (leg_of M.rules self.now.run) cert.now.claim cert.now ≡ None) (λ fault. fault ≡ CertFault.NoMemory ⊎ verdict_on M.rules (leg_of M.rules self.now.run) cert.now.claim cert.now ≡ Some fault) }
+        ensures sound { IfOk result (λ _. Holds M.rules (leg_of M.rules self.now.run) cert.now) }
+    {
+        let opening = self.core.standing(alloc)?;
+        check_by(alloc, self.core.model(), &opening, &[], cert)
+    }
+
+    /// With the opening, and the events that came since.
+    fn check_since(&self, alloc: Global, opening: &Opening, cert: &Cert) -> Result<(), CertFault>
+        requires { state_in opening.now ≡ (leg_of M.rules self.now.run).opening }
+        ensures answer { MatchResult result (λ _. verdict_on M.rules (leg_of M.rules self.now.run) cert.now.claim cert.now ≡ None) (λ fault. fault ≡ CertFault.NoMemory ⊎ verdict_on M.rules (leg_of M.rules self.now.run) cert.now.claim cert.now ≡ Some fault) }
+        ensures sound { IfOk result (λ _. Holds M.rules (leg_of M.rules self.now.run) cert.now) }
+    {
+        let events = since(self.events.as_slice(), opening);
+        check_by(alloc, self.core.model(), opening, events, cert)
+    }
+}
+
+/// Keeps the opening of a leg, before the first event after it: the engine stands there until then.
+#[inline(always)]
+fn keep_opening<M: Consistency>(
+    alloc: Global,
+    core: &Core<M>,
+    opening: &mut Option<Opening>,
+) -> Result<(), AllocError>
+    ensures kept { (run : Run) (made : Made) → IsKept M.rules run core.now made opening.old → IsKept M.rules run core.now made opening.new }
+    ensures some { OnOk result (IsSome opening.new) }
+{
+    if opening.is_none() {
+        *opening = Some(core.standing(alloc)?);
+    }
+    Ok(())
+}
+
+/// Where an event opened a leg, the opening of the one before is of no more use.
+#[inline(always)]
+fn give_up_opening(event: Event, what: &What, opening: &mut Option<Opening>)
+    ensures opened { is_opened event what.now ≡ true → opening.new ≡ None }
+    ensures other { is_opened event what.now ≡ false → opening.new ≡ opening.old }
+{
+    if opens(event, what) {
+        *opening = None;
+    }
+}
+
+/// The events that came after an opening.
+fn since<'a>(events: &'a [Event], opening: &Opening) -> &'a [Event]
+    requires { opening.now.number ≤ length events.now }
+    ensures { result.now ≡ drop opening.now.number events.now }
+{
+    &events[opening.number() as usize..]
+}
+
+/// Checks a certificate of the leg with this opening and these events, for the claim that it makes.
+fn check_by<M: Consistency>(
+    alloc: Global,
+    model: M,
+    opening: &Opening,
+    events: &[Event],
+    cert: &Cert,
+) -> Result<(), CertFault>
+    ensures answer { MatchResult result (λ _. verdict_on M.rules (leg_with opening.now events.now) cert.now.claim cert.now ≡ None) (λ fault. fault ≡ CertFault.NoMemory ⊎ verdict_on M.rules (leg_with opening.now events.now) cert.now.claim cert.now ≡ Some fault) }
+    ensures sound { IfOk result (λ _. Holds M.rules (leg_with opening.now events.now) cert.now) }
+{
+    match cert.claim {
+        Claim::Waiting => check_waiting(alloc, model, opening, events, cert),
+        Claim::Floor => check_floor(alloc, model, opening, events, cert),
+    }
+}
+
+/// Whether an event opened a leg: it is a control event, and was accepted.
+#[inline(always)]
+fn opens(event: Event, what: &What) -> bool
+    ensures { result ≡ is_opened event what.now }
+{
+    event.is_control() && !matches!(what, What::Refused(_))
+}

@@ -1,0 +1,4 @@
+pub mod Parts
+pub mod SlotSteps
+pub mod Listed
+pub mod Flat

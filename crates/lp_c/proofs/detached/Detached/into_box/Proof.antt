@@ -1,0 +1,85 @@
+-- `into_box` calls `from_raw` with the two parts.
+use Rattle.std.proofs.Common.{◌≡◌, List, [], ◌∷◌, ◌++◌, refl, sym, ap, subst}
+use mir.Syntax.{a_type, dcons, dnil}
+use mir.Val.{Val, vptr}
+use mir.MapTy.{inst_fn}
+use base.Logic.{SProp, ent, id⊢}
+use base.Fml.{ftrue, flft}
+use prog.Wp.{WpFn}
+use types.Kit.{‵, raw, ◌⊛◌, some, later, at_ret, ◌$◌, ◌∵◌, !, qed, by, move, keep, drop, split, split3, join, fsplit, fjoin, pick, suffices, use1, await, rewrite, feq_i}
+use types.Run.{stop, fld, of_opd, no_more, and_then, first, blocks, exec, returns, enter}
+use types.ByLocal.{alloc_all, pass_all, free_all, look_at, get, get_in, sets, lands_last, env}
+use types.Part.{sub, whole}
+use contract.Monad.{fact}
+use contract.BorrowLft.{◌⊑◌}
+use contract.Running.{tables}
+use denote.Exit.{no}
+use denote.RattleType.{RattleType, owns}
+use denote.Signature.{types_at, plain}
+use denote.RawPtr.{block_ptr}
+use denote.Steps.{nothing, only}
+use denote.Param.{param, layout, bounded}
+use denote.Param.Laws.{param_laws}
+use denote.Triple.Clauses.{Lasts, lasts}
+use denote.Triple.Spec.{triple_of}
+use denote.Triple.Call.{calls_at_last}
+use denote.Triple.Walked.{Stays, stay_dropped, walk_of}
+use Rattle.core.proofs.alloc.Calls.{Goes-blank}
+use Rattle.core.proofs.alloc.Shapes.{after}
+use Rattle.core.proofs.atomic.Steps.{fm}
+use Rattle.core.proofs.cell.Inside.{Good}
+use Rattle.std_alloc.proofs.BoxSteps.Form as box
+use Rattle.std_alloc.proofs.BoxSteps.Steps.{box_out, box_in}
+use Rattle.std.proofs.raw_atomic.Walks.{proved_at, leaves}
+use Rattle.std_alloc.specs.contracts.boxed.Box.from_raw as joining
+use Rattle.std_alloc.proofs.boxed.Box.from_raw.Met.{met}
+use Rattle.lp_c.proofs.Parts.{two, D, two_good, apart}
+use Rattle.lp_c.specs.contracts.detached.Detached.into_box.{ended, clauses}
+use Rattle.lp_c.specs.contracts.detached.Detached.into_box.Key.{name as #self}
+use Rattle.lp_c.proofs.detached.Detached.into_box.Statement.{statement}
+use Rattle.lp_c.proofs.detached.Detached.into_box.Code as code
+
+pub into_box_spec : {M : Type 1} → statement M
+into_box_spec 𝓤 𝓛 𝓜 𝓡 wired T A laws handle_laws g d dx dd allocator glue glued =
+    let H = 𝓛.H in
+    let 𝓣 = tables 𝓤 H 𝓜 𝓡 𝓡.env in
+    let R : RattleType = param 0 T in
+    let Z : RattleType = param 1 A in
+    let LZ = param_laws 1 A handle_laws in
+    let dicts = dcons d (dcons dx (dcons dd dnil)) in
+    let types = bounded (a_type ∷ a_type ∷ []) (T, (A, tt)) dicts in
+    let contract = ended T A g d dx dd in
+    let c = clauses T A g d dx dd 𝓛 𝓜.mem 𝓡.returns in
+    let B : box.Bx = record { row = T; laws = laws; al = record { row = A; laws = handle_laws; g = g; d = d; drops = dd } } in
+    let Boxed : RattleType = box.B B in
+    let fn = inst_fn types code.function in
+    let stays : Stays contract.signature.params contract.kept = (stay_dropped (plain (λ _. D R Z LZ g)) no, tt) in
+    proved_at 𝓛 contract stays c 𝓜 𝓡 (Goes-blank 𝓛 2 (plain (λ _. D R Z LZ g)) no (λ κs x f. tt), tt) (#self types) fn (code.unfolded 𝓤 H 𝓜 𝓡 wired (T, (A, tt)) d dx dd) (λ z are.
+    let κs = z.0.0 in
+    let parts = z.0.3.0 in
+    let a = parts.alloc in
+    let Post : Val → SProp 𝓤 = (walk_of 𝓛 contract stays c).post z in
+    let Run : List Val → SProp 𝓤 = λ ws. WpFn 𝓤 H 𝓣.C 𝓣.Λ fn ws Post in
+    let tokens = ‵ (flft κs.0 z.0.1.0) ⊛ ‵ (flft κs.1.0 z.0.1.1.0) ⊛ ‵ ftrue in
+    qed 𝓛 ((tokens ⊛ ‵ (owns (types_at contract.signature.params κs) z.0.3 z.0.4)) ∷ raw ((c κs z.0.3).requires z.1) ∷ []) ∵
+    split ! $ move ! (1 ∷ []) $ fsplit ! $ apart R Z LZ g ! parts z.0.4.0 (λ b o handle there ws good.
+    let word : Val = two (vptr b o) handle in
+    let typed = two_good R Z LZ g b o handle good in
+    let call = triple_of 𝓛 (joining.signature T A g d dd) (joining.spec T A g d dd 𝓛 𝓜.mem 𝓡.returns) in
+    let ghost : call.Ghost = ((κs, z.0.1, tt, (a, (block_ptr b o, tt)), (handle ∷ [], (vptr b o ∷ [], tt))), parts.value) in
+    move ! (4 ∷ []) $ use1 𝓛 (raw (fact 𝓤 (κs.0 ⊑ T.lives)) ⊛ raw (fact 𝓤 (κs.1.0 ⊑ A.lives)) ⊛ ‵ ftrue) (id⊢ 𝓤 _) $ split3 ! $ move ! (2 ∷ []) $ drop ! $
+    move ! (1 ∷ 2 ∷ []) $ join ! $ move ! (1 ∷ 0 ∷ []) $ join ! $
+    move ! (2 ∷ []) $ feq_i ! (List Val) (vptr b o ∷ []) (vptr b o ∷ []) refl $ fjoin ! $ move ! (2 ∷ 0 ∷ []) $ fjoin ! $
+    move ! (2 ∷ 0 ∷ []) $ join ! $ join ! $ use1 𝓛 (raw (call.pre ghost)) (id⊢ 𝓤 _) $
+    suffices ! (Run (word ∷ [])) (subst (λ (us : List Val). ent 𝓤 (Run (word ∷ [])) (Run us)) (sym (λ i. ws i ++ [])) (id⊢ 𝓤 (Run (word ∷ [])))) $
+    enter ! 𝓣.C 𝓣.Λ fn (word ∷ []) Post $ alloc_all ! (λ l. pass_all ! refl (typed, tt) $ let Ev = env fn.locals l in
+    sets ! (of_opd ! (get_in ! (fld ! refl (stop !)) (sub ! 0 refl (whole !)))) refl (tt, tt) $
+    sets ! (of_opd ! (get_in ! (fld ! refl (stop !)) (sub ! 1 refl (whole !)))) refl good $
+    first ! $ blocks ! $ sets ! (of_opd ! (get ! refl)) refl good $
+    calls_at_last ! (fm 𝓛 𝓜 𝓡) call (met 𝓤 𝓛 𝓜 𝓡 (code.calls-std_alloc::boxed::Box::from_raw 𝓡.env wired) T A laws handle_laws g d dd allocator glued) ghost (and_then ! (get ! refl) (and_then ! (get ! refl) (no_more !))) (λ u.
+    use1 𝓛 (later (some (λ (r : Boxed.Denot). (tokens ⊛ ‵ (Boxed.own_val r (u ∷ []))) ⊛ some (λ (ls : Lasts (joining.ended T A g d dd) κs ghost.0.3). ‵ (lasts (joining.ended T A g d dd) κs ghost.0.3 ls) ⊛ (raw (fact 𝓤 (r.value ≡ parts.value)) ⊛ raw (fact 𝓤 (r.alloc ≡ a))))))) (id⊢ 𝓤 (call.post ghost u)) $
+    await ! tt $ pick ! (λ r. split ! $ move ! (1 ∷ []) $ pick ! (λ _. split3 ! $ drop ! $ move ! (2 ∷ []) $ split ! $ move ! (1 ∷ []) $
+    box_out B ! r (u ∷ []) (λ b' o' handle' there' us good'. box_in B ! r b' o' r.value there' refl $ rewrite ! 0 (λ (xs : List Val). ‵ (Boxed.own_val r xs)) (sym us) refl $
+    let made : Good (layout Boxed) u = subst (Good (layout Boxed)) (sym (ap only us)) (two_good R Z LZ g b' o' handle' good') in
+    lands_last ! refl made $ exec ! 𝓣.C 𝓣.Λ Ev (after 3 fn.body) (at_ret Ev Post) $ sets ! (of_opd ! (get ! refl)) refl made $ nothing ! $ nothing ! $ fjoin ! $
+    returns ! (look_at ! 0 refl) $ free_all ! refl $ keep ! (2 ∷ 0 ∷ 1 ∷ 3 ∷ []) $ by ! (leaves 𝓛 contract stays c z u r ((tt, (tt, tt)), tt) (tt, tt)))))))))

@@ -1,0 +1,4 @@
+pub mod Codes
+pub mod Arrays
+pub mod Held
+pub mod Slot

@@ -1,5 +1,0 @@
-use Rattle.lp_checker.proofs.LawProofs.{trusts_certificates}
-use Rattle.lp_checker.proofs.laws.accepted_certificates_hold.Goals as goal
-
-pub returns : goal.returns
-returns g c = trusts_certificates g.M.Consistency.rules g.met.M.Consistency.lawful

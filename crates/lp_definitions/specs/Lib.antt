@@ -1,0 +1,17 @@
+pub mod Events
+pub mod Plain
+pub mod Tasks
+pub mod Leg
+pub mod Schedule
+pub mod Sound
+pub mod Order
+pub mod Chain
+pub mod Run
+pub mod Stays
+pub mod Certificates
+pub mod Faults
+pub mod Verdict
+pub mod Holds
+pub mod Ends
+pub mod Outcome
+pub mod Headline

@@ -1,0 +1,13 @@
+pub mod Loops
+pub mod Stacks
+pub mod Own
+pub mod Phases
+pub mod Plain
+pub mod Controls
+pub mod Moves
+pub mod Steps
+pub mod AnyEvent
+pub mod Told
+pub mod Laws
+pub mod Following
+pub mod Rows

@@ -1,0 +1,27 @@
+//! The procedure of Linux livepatch (kernel/livepatch/transition.c of Linux 6.1), the laws that tie it to the model `hybrid`,
+//! and the procedure run on an engine. A law is the contract of a function that does nothing.
+#![tactic(auto)]
+
+mod follow;
+
+ghost use Rattle.lp_linux.specs.Followed.{StartsSettled};
+ghost use Rattle.lp_linux.specs.Laws.{DecidesAsHybrid};
+ghost use Rattle.lp_linux.specs.Rows.{LinuxComputes};
+
+pub use follow::{TargetState, heard, next_target, step};
+
+/// Linux decides as `hybrid`: after each list of events its tasks stand as the definitions say, each event switches the
+/// same tasks, and the kernel completes a transition at the first walk after the leg is complete.
+pub fn linux_decides_as_hybrid()
+    ensures { DecidesAsHybrid }
+{}
+
+/// Short runs of the kernel's procedure whose states are known, computed from the definition.
+pub fn linux_computes()
+    ensures { LinuxComputes }
+{}
+
+/// Before the first event no transition is under way.
+pub fn linux_starts_settled()
+    ensures { StartsSettled }
+{}

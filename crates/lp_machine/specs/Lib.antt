@@ -1,0 +1,5 @@
+pub mod Machine
+pub mod Steps
+pub mod Table
+pub mod Laws
+pub mod inside

@@ -1,5 +1,0 @@
-use Rattle.lp_replay.proofs.Headline.{headline_holds}
-use Rattle.lp_replay.proofs.laws.headline_holds.Goals as goal
-
-pub returns : goal.returns
-returns g c = headline_holds g.M.Consistency.rules g.met.M.Consistency.lawful

@@ -1,0 +1,10 @@
+pub mod Positions
+pub mod Passing
+pub mod AscendingLemmas
+pub mod TableLemmas
+pub mod CountLemmas
+pub mod MemberLemmas
+pub mod SlotLemmas
+pub mod DeepLemmas
+pub mod KeptLemmas
+pub mod LiveTasks

@@ -1,0 +1,228 @@
+-- A table of boxes, and the live tasks that the boxes hold.
+use Rattle.std.proofs.Common.{◌≡◌, ℕ, zero, suc, [], ◌∷◌, ◌++◌, ◌+◌, ◌-◌, ◌<◌, ◌≤◌, replicate, append_assoc, Bool, true, false, not, ◌&&◌, ◌||◌, nat_eq, List, length, get_or, set, Option, Some, None, is_some, IfSome, IfNone, refl, sym, ap, ap₂, subst, ◌∙◌, ⊎_elim, arith}
+use Rattle.std.proofs.lemmas.Bool.{cases_eq, eq-eqb, ne_eqb, and_right}
+use Rattle.std.proofs.lemmas.List.{map-set, map-append, get_or-map, get_or_append_left, get_or-append_right, set-append_left, length-map, length-append, length-replicate, length-set, get_or-set_same, get_or-set_other}
+use Rattle.std.specs.Global.{Box}
+use Rattle.std.specs.Option.{option_map}
+use Rattle.lp_stack.specs.declared.number.GroupId.{GroupId}
+use Rattle.lp_numbers.specs.Numbers.{Numbers, has}
+use Rattle.lp_numbers.specs.Groups.{Groups, is_member}
+use Rattle.lp_definitions.specs.Leg.{Standing}
+use Rattle.lp_tasks.specs.inside.Slots.{slots_of, padded, IsTable}
+use Rattle.lp_tasks.specs.inside.Table.{is_in}
+
+-- the live task in a box
+abbrev pub boxed : Option (Box Standing) → Option Standing
+boxed o = option_map (λ (b : Box Standing). b.value) o
+
+-- the live task that a slot's box holds
+pub slot-boxed : (boxes : List (Option (Box Standing))) (i : ℕ) (box : Option (Box Standing)) → i < length boxes → box ≡ get_or boxes i box → get_or (slots_of boxes) i None ≡ boxed box
+slot-boxed boxes i box h e = get_or-map boxed boxes i box None h ∙ ap boxed (sym e)
+
+-- another box stands in a slot
+pub slots_of-set : (boxes : List (Option (Box Standing))) (i : ℕ) (box : Option (Box Standing)) → slots_of (set boxes i box) ≡ set (slots_of boxes) i (boxed box)
+slots_of-set boxes i box = map-set boxed boxes i box
+
+-- ---- Slots that aren't made yet
+
+pub length-padded : (boxes : List (Option (Box Standing))) → length boxes ≤ 65536 → length (slots_of (padded boxes)) ≡ 65536
+unfolding padded
+length-padded boxes few = length-map (boxes ++ replicate (65536 - length boxes) None) boxed ∙ length-append boxes (replicate (65536 - length boxes) None) ∙ ap (λ n. length boxes + n) (length-replicate (65536 - length boxes) None) ∙ omega arith
+
+-- what a made slot holds
+pub padded-made : (boxes : List (Option (Box Standing))) (i : ℕ) (box : Option (Box Standing)) → i < length boxes → box ≡ get_or boxes i box → box ≡ get_or (padded boxes) i box
+unfolding padded
+padded-made boxes i box h e = e ∙ sym (get_or_append_left boxes (replicate (65536 - length boxes) None) box i h)
+
+-- another box stands in a made slot
+pub padded-set : (boxes : List (Option (Box Standing))) (i : ℕ) (box : Option (Box Standing)) → i < length boxes → padded (set boxes i box) ≡ set (padded boxes) i box
+unfolding padded
+padded-set boxes i box h = rw length-set (sym (set-append_left boxes (replicate (65536 - length boxes) None) i box h))
+
+-- one more slot is made
+pub padded-more : (boxes : List (Option (Box Standing))) → length boxes < 65536 → padded (boxes ++ None ∷ []) ≡ padded boxes
+unfolding padded
+padded-more boxes h =
+    let one : 65536 - length boxes ≡ suc (65536 - length (boxes ++ None ∷ [])) = omega (arith, length-append boxes (None ∷ [])) in
+    append_assoc boxes (None ∷ []) (replicate (65536 - length (boxes ++ None ∷ [])) None) ∙ ap (λ n. boxes ++ replicate n None) (sym one)
+
+-- no task is past the made slots
+none-replicate : (n i : ℕ) → get_or (slots_of (replicate n None)) i None ≡ None
+none-replicate zero i = refl
+none-replicate (suc n) zero = refl
+none-replicate (suc n) (suc i) = none-replicate n i
+
+pub padded-past : (boxes : List (Option (Box Standing))) (i : ℕ) → length boxes ≤ i → get_or (slots_of (padded boxes)) i None ≡ None
+unfolding padded
+padded-past boxes i h =
+    ap (λ (slots : List (Option Standing)). get_or slots i None) (map-append boxed boxes (replicate (65536 - length boxes) None))
+    ∙ get_or-append_right (slots_of boxes) (slots_of (replicate (65536 - length boxes) None)) (length boxes) i None (length-map boxes boxed) h
+    ∙ none-replicate (65536 - length boxes) (i - length boxes)
+
+-- what stands for the boxes stands for the slots
+pub padded-same : (boxes others : List (Option (Box Standing))) → slots_of boxes ≡ slots_of others → slots_of (padded boxes) ≡ slots_of (padded others)
+unfolding padded
+padded-same boxes others same =
+    let long : length boxes ≡ length others = sym (length-map boxes boxed) ∙ ap length same ∙ length-map others boxed in
+    map-append boxed boxes (replicate (65536 - length boxes) None)
+    ∙ ap₂ (λ (slots : List (Option Standing)) n. slots ++ slots_of (replicate (65536 - n) None)) same long
+    ∙ sym (map-append boxed others (replicate (65536 - length others) None))
+
+-- ---- What holds of a table still holds after a change
+
+is_some-map : (f : Standing → Standing) (o : Option Standing) → is_some (option_map f o) ≡ is_some o
+is_some-map f None = refl
+is_some-map f (Some x) = refl
+
+-- a change leaves the live tasks alive
+some-changed : (slots : List (Option Standing)) (i : ℕ) (f : Standing → Standing) → i < length slots → (u : ℕ) → is_some (get_or (set slots i (option_map f (get_or slots i None))) u None) ≡ is_some (get_or slots u None)
+some-changed slots i f h u =
+    ⊎_elim
+    (λ (e : u ≡ i). subst (λ v. is_some (get_or (set slots i (option_map f (get_or slots i None))) v None) ≡ is_some (get_or slots v None)) (sym e) (ap is_some (get_or-set_same slots i (option_map f (get_or slots i None)) None h) ∙ is_some-map f (get_or slots i None)))
+    (λ (ne : u ≡ i → ⊥). ap is_some (get_or-set_other slots i u (option_map f (get_or slots i None)) None ne))
+    (cases_eq u i)
+
+is_in-map : (f : Standing → Standing) (group : ℕ) (o : Option Standing) → ((x : Standing) → (f x).group ≡ x.group) → is_in group (option_map f o) ≡ is_in group o
+is_in-map f group None stays = refl
+is_in-map f group (Some x) stays = ap (λ g. nat_eq g group) (stays x)
+
+-- a change that leaves the groups as they are
+group-changed : (slots : List (Option Standing)) (i : ℕ) (f : Standing → Standing) → ((x : Standing) → (f x).group ≡ x.group) → i < length slots → (group u : ℕ) → is_in group (get_or (set slots i (option_map f (get_or slots i None))) u None) ≡ is_in group (get_or slots u None)
+group-changed slots i f stays h group u =
+    ⊎_elim
+    (λ (e : u ≡ i). subst (λ v. is_in group (get_or (set slots i (option_map f (get_or slots i None))) v None) ≡ is_in group (get_or slots v None)) (sym e) (ap (is_in group) (get_or-set_same slots i (option_map f (get_or slots i None)) None h) ∙ is_in-map f group (get_or slots i None) stays))
+    (λ (ne : u ≡ i → ⊥). ap (is_in group) (get_or-set_other slots i u (option_map f (get_or slots i None)) None ne))
+    (cases_eq u i)
+
+-- where one live task is changed
+pub IsTable-change : (slots : List (Option Standing)) (live used : Numbers) (members : Groups) (i : ℕ) (f : Standing → Standing) → ((x : Standing) → (f x).group ≡ x.group) → i < 65536 → IsTable slots live used members → IsTable (set slots i (option_map f (get_or slots i None))) live used members
+IsTable-change slots live used members i f stays h table =
+    let within : i < length slots = omega (arith, table.slots_wide) in
+    record {
+      slots_wide = length-set slots i (option_map f (get_or slots i None)) ∙ table.slots_wide;
+      used_wide = table.used_wide;
+      living = λ u. table.living u ∙ sym (some-changed slots i f within u);
+      known = λ u e. table.known u (sym (some-changed slots i f within u) ∙ e);
+      grouped = λ group u. table.grouped group u ∙ sym (group-changed slots i f stays within group u);
+    }
+
+nat_eq-swap : (a b : ℕ) → nat_eq a b ≡ nat_eq b a
+nat_eq-swap a b =
+    ⊎_elim
+    (λ (e : a ≡ b). eq-eqb a b e ∙ sym (eq-eqb b a (sym e)))
+    (λ (ne : a ≡ b → ⊥). ne_eqb a b ne ∙ sym (ne_eqb b a (λ e. ne (sym e))))
+    (cases_eq a b)
+
+and-true : (b : Bool) → (b && true) ≡ b
+and-true true = refl
+and-true false = refl
+
+or-and_false : (a b : Bool) → (a || (b && false)) ≡ a
+or-and_false true b = refl
+or-and_false false true = refl
+or-and_false false false = refl
+
+-- who is a member once a live task stands in an empty slot
+grouped-put : (slots : List (Option Standing)) (members members_new : Groups) (i : ℕ) (x : Standing) → i < length slots → get_or slots i None ≡ None → ((group n : ℕ) → is_member members_new group n ≡ (is_member members group n || (nat_eq group x.group && nat_eq n i))) → ((group t : ℕ) → is_member members group t ≡ is_in group (get_or slots t None)) → (group t : ℕ) → is_member members_new group t ≡ is_in group (get_or (set slots i (Some x)) t None)
+grouped-put slots members members_new i x within empty put grouped group t =
+    ⊎_elim
+    (λ (e : t ≡ i).
+    let was : is_member members group t ≡ false = grouped group t ∙ ap (λ u. is_in group (get_or slots u None)) e ∙ ap (is_in group) empty in
+    put group t
+    ∙ ap₂ (λ a b. a || (nat_eq group x.group && b)) was (eq-eqb t i e)
+    ∙ and-true (nat_eq group x.group)
+    ∙ nat_eq-swap group x.group
+    ∙ sym (ap (λ u. is_in group (get_or (set slots i (Some x)) u None)) e ∙ ap (is_in group) (get_or-set_same slots i (Some x) None within)))
+    (λ (ne : t ≡ i → ⊥).
+    put group t
+    ∙ ap (λ b. is_member members group t || (nat_eq group x.group && b)) (ne_eqb t i ne)
+    ∙ or-and_false (is_member members group t) (nat_eq group x.group)
+    ∙ grouped group t
+    ∙ sym (ap (is_in group) (get_or-set_other slots i t (Some x) None ne)))
+    (cases_eq t i)
+
+-- who is a member once a slot is empty
+grouped-remove : (slots : List (Option Standing)) (members members_new : Groups) (i : ℕ) → i < length slots → ((group n : ℕ) → is_member members_new group n ≡ (is_member members group n && not (nat_eq n i))) → ((group t : ℕ) → is_member members group t ≡ is_in group (get_or slots t None)) → (group t : ℕ) → is_member members_new group t ≡ is_in group (get_or (set slots i None) t None)
+grouped-remove slots members members_new i within removed grouped group t =
+    ⊎_elim
+    (λ (e : t ≡ i).
+    removed group t
+    ∙ and_right (is_member members group t) (not (nat_eq t i)) (ap not (eq-eqb t i e))
+    ∙ sym (ap (λ u. is_in group (get_or (set slots i None) u None)) e ∙ ap (is_in group) (get_or-set_same slots i None None within)))
+    (λ (ne : t ≡ i → ⊥).
+    removed group t
+    ∙ ap (λ b. is_member members group t && not b) (ne_eqb t i ne)
+    ∙ and-true (is_member members group t)
+    ∙ grouped group t
+    ∙ sym (ap (is_in group) (get_or-set_other slots i t None None ne)))
+    (cases_eq t i)
+
+-- where a slot gets a live task, and its number is used
+pub IsTable-put : (slots : List (Option Standing)) (live used : Numbers) (members members_new : Groups) (i : ℕ) (x : Standing) → i < 65536 → length (set live i true) ≡ 65536 → get_or slots i None ≡ None → ((group n : ℕ) → is_member members_new group n ≡ (is_member members group n || (nat_eq group x.group && nat_eq n i))) → IsTable slots live used members → IsTable (set slots i (Some x)) (set live i true) (set used i true) members_new
+IsTable-put slots live used members members_new i x h wide empty put table = record {
+  slots_wide = length-set slots i (Some x) ∙ table.slots_wide;
+  used_wide = length-set used i true ∙ table.used_wide;
+  living = λ u. ⊎_elim
+      (λ (e : u ≡ i). subst (λ v. has (set live i true) v ≡ is_some (get_or (set slots i (Some x)) v None)) (sym e) (get_or-set_same live i true false live_within ∙ sym (ap is_some (get_or-set_same slots i (Some x) None within))))
+      (λ (ne : u ≡ i → ⊥). get_or-set_other live i u true false ne ∙ table.living u ∙ sym (ap is_some (get_or-set_other slots i u (Some x) None ne)))
+      (cases_eq u i);
+  known = λ u some. ⊎_elim
+      (λ (e : u ≡ i). subst (λ v. has (set used i true) v ≡ true) (sym e) (get_or-set_same used i true false (omega (arith, table.used_wide))))
+      (λ (ne : u ≡ i → ⊥). get_or-set_other used i u true false ne ∙ table.known u (ap is_some (sym (get_or-set_other slots i u (Some x) None ne)) ∙ some))
+      (cases_eq u i);
+  grouped = grouped-put slots members members_new i x within empty put table.grouped;
+}
+  where
+    within : i < length slots
+    within = omega (arith, table.slots_wide)
+
+    live_within : i < length live
+    live_within = omega (arith, length-set live i true, wide)
+
+-- where a slot's task is live no longer
+pub IsTable-remove : (slots : List (Option Standing)) (live used : Numbers) (members members_new : Groups) (i : ℕ) → i < 65536 → length (set live i false) ≡ 65536 → ((group n : ℕ) → is_member members_new group n ≡ (is_member members group n && not (nat_eq n i))) → IsTable slots live used members → IsTable (set slots i None) (set live i false) used members_new
+IsTable-remove slots live used members members_new i h wide removed table = record {
+  slots_wide = length-set slots i None ∙ table.slots_wide;
+  used_wide = table.used_wide;
+  living = λ u. ⊎_elim
+      (λ (e : u ≡ i). subst (λ v. has (set live i false) v ≡ is_some (get_or (set slots i None) v None)) (sym e) (get_or-set_same live i false false live_within ∙ sym (ap is_some empty)))
+      (λ (ne : u ≡ i → ⊥). get_or-set_other live i u false false ne ∙ table.living u ∙ sym (ap is_some (get_or-set_other slots i u None None ne)))
+      (cases_eq u i);
+  known = λ u some. ⊎_elim
+      (λ (e : u ≡ i). let dead : is_some (get_or (set slots i None) u None) ≡ false = subst (λ v. is_some (get_or (set slots i None) v None) ≡ false) (sym e) (ap is_some empty) in absurd (cc))
+      (λ (ne : u ≡ i → ⊥). table.known u (ap is_some (sym (get_or-set_other slots i u None None ne)) ∙ some))
+      (cases_eq u i);
+  grouped = grouped-remove slots members members_new i (omega (arith, table.slots_wide)) removed table.grouped;
+}
+  where
+    live_within : i < length live
+    live_within = omega (arith, length-set live i false, wide)
+
+    empty : get_or (set slots i None) i None ≡ None
+    empty = get_or-set_same slots i None None (omega (arith, table.slots_wide))
+
+-- ---- No task is there yet
+
+-- a table without tasks
+pub IsTable-empty : (slots : List (Option Standing)) (live used : Numbers) (members : Groups) → length slots ≡ 65536 → length used ≡ 65536 → ((t : ℕ) → get_or slots t None ≡ None) → ((t : ℕ) → has live t ≡ false) → ((group t : ℕ) → is_member members group t ≡ false) → IsTable slots live used members
+IsTable-empty slots live used members wide used_wide empty none memberless = record {
+  slots_wide = wide;
+  used_wide = used_wide;
+  living = λ t. none t ∙ sym (ap is_some (empty t));
+  known = λ t some. let dead = ap is_some (empty t) in absurd (cc);
+  grouped = λ group t. memberless group t ∙ sym (ap (is_in group) (empty t));
+}
+
+-- ---- The group of a live task
+
+-- whoever has a group is a member of it
+pub group-member : (members : Groups) (t : ℕ) (group : Option GroupId) (o : Option Standing) → option_map (λ (g : GroupId). g.0) group ≡ option_map (λ (x : Standing). x.group) o → ((other : ℕ) → is_member members other t ≡ is_in other o) → IfSome group (λ own. is_member members own.0 t ≡ true)
+group-member members t None o e grouped = tt
+group-member members t (Some own) None e grouped = absurd (cc)
+group-member members t (Some own) (Some x) e grouped = let same : x.group ≡ own.0 = cc in grouped own.0 ∙ eq-eqb x.group own.0 same
+
+-- whoever has none is in none
+pub group-stranger : (members : Groups) (t : ℕ) (group : Option GroupId) (o : Option Standing) → option_map (λ (g : GroupId). g.0) group ≡ option_map (λ (x : Standing). x.group) o → ((other : ℕ) → is_member members other t ≡ is_in other o) → IfNone group ((other : ℕ) → is_member members other t ≡ false)
+group-stranger members t (Some own) o e grouped = tt
+group-stranger members t None None e grouped = grouped
+group-stranger members t None (Some x) e grouped = absurd (cc)

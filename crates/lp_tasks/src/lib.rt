@@ -1,0 +1,19 @@
+//! The tasks of an engine by their numbers, and what an engine was when a leg opened.
+#![tactic(auto)]
+
+mod deep_stack;
+mod deep_stacks;
+mod live_task;
+mod live_view;
+mod opening;
+mod point;
+mod task_table;
+
+pub use live_task::LiveTask;
+pub use live_view::LiveView;
+pub use lp_numbers::{Ascending, NumberSet};
+pub use lp_patch::PatchStack;
+pub use lp_stack::{Class, GroupId, Level, Mode, TaskId, View};
+pub use opening::Opening;
+pub use point::point_mode;
+pub use task_table::TaskTable;

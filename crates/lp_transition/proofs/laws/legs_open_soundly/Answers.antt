@@ -1,5 +1,0 @@
-use Rattle.lp_transition.proofs.LawProofs.{opens_soundly}
-use Rattle.lp_transition.proofs.laws.legs_open_soundly.Goals as goal
-
-pub returns : goal.returns
-returns g c = opens_soundly g.M.Consistency.rules g.met.M.Consistency.lawful

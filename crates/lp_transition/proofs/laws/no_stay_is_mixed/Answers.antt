@@ -1,5 +1,0 @@
-use Rattle.lp_transition.proofs.LawProofs.{mixes_no_stay}
-use Rattle.lp_transition.proofs.laws.no_stay_is_mixed.Goals as goal
-
-pub returns : goal.returns
-returns g c = mixes_no_stay g.M.Consistency.rules g.met.M.Consistency.lawful
