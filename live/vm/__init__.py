@@ -1,0 +1,1 @@
+"""Real kernels in QEMU: what `try-in-vm` does, step by step."""
