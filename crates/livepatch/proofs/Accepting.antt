@@ -14,7 +14,7 @@ use Rattle.lp_cert.specs.Ends.{Made, IsMadeOf, leg_under_way, waiting_in, floor_
 use Rattle.lp_definitions.specs.Ends.{end_of}
 use Rattle.lp_cert.proofs.Floors.{current_made, floor_made, is_leg_of}
 use Rattle.lp_cert.proofs.Tellings.{complete_told}
-use Rattle.lp_definitions.specs.Verdict.{verdict_on}
+use Rattle.lp_definitions.specs.Judgement.{cert_fault}
 use Rattle.lp_laws.proofs.MadeOfRuns.{accepts_what_is_made}
 
 -- ---- Options
@@ -40,7 +40,7 @@ if_holds P false o holds = tt
 
 module _ (model : Rules) (lawful : IsLawful model) (run : Run) (in_range : AreInRange run.bounds run.boots) (room : (leg_of model run).number + length (leg_of model run).events ≤ 1000000) where
   abbrev IsAccepted : Cert → Type 0
-  IsAccepted made = verdict_on model (leg_of model run) made.claim made ≡ None
+  IsAccepted made = cert_fault model (leg_of model run) made.claim made ≡ None
 
   sound : IsSound (leg_of model run).opening
   sound = run_sound model lawful (first_leg model run) run.events (start_sound model lawful run.bounds run.patches run.boots in_range)
@@ -65,8 +65,8 @@ module _ (model : Rules) (lawful : IsLawful model) (run : Run) (in_range : AreIn
           let floor = floor_made model run made is lawful in_range leg now still in
           let k = length leg.events in
           let at : leg ≡ leg_of model run = here leg now in
-          let good : verdict_on model leg Floor (cert model leg Floor k floor.0) ≡ None = (accepts_what_is_made model lawful).accepted leg (subst (λ (l : Leg). IsSound l.opening) (sym at) sound) Floor k floor.0 (omega arith) (subst (λ (l : Leg). l.number + length l.events ≤ 1000000) (sym at) room) floor.1.waiting in
-          subst (λ o. IfSome o IsAccepted) (sym floor.2) (subst (λ (l : Leg). verdict_on model l Floor (cert model leg Floor k floor.0) ≡ None) at good)
+          let good : cert_fault model leg Floor (cert model leg Floor k floor.0) ≡ None = (accepts_what_is_made model lawful).accepted leg (subst (λ (l : Leg). IsSound l.opening) (sym at) sound) Floor k floor.0 (omega arith) (subst (λ (l : Leg). l.number + length l.events ≤ 1000000) (sym at) room) floor.1.waiting in
+          subst (λ o. IfSome o IsAccepted) (sym floor.2) (subst (λ (l : Leg). cert_fault model l Floor (cert model leg Floor k floor.0) ≡ None) at good)
       by_moment leg now (Some k) done =
           subst (λ o. IfSome o IsAccepted) (sym (ap floor_in (current_made model run made is ∙ ap (option_map (end_of model)) now) ∙ (complete_told model leg k 0 done).1)) tt
 

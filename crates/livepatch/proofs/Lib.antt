@@ -1,3 +1,2 @@
-pub mod OpensBy
 pub mod Keeping
 pub mod Accepting

@@ -6,9 +6,8 @@ use Rattle.lp_patch.specs.Patches.{Patches}
 use Rattle.lp_model.specs.Rules.{Rules}
 use Rattle.lp_definitions.specs.declared.event.Event.{Event}
 use Rattle.lp_definitions.specs.Run.{Run, leg_of}
-use Rattle.lp_machine.specs.Steps.{StandsIn}
 use Rattle.lp_machine.specs.Table.{Engine, bounds_of, state_in}
-use Rattle.lp_cert.specs.Ends.{Made, IsMadeWith}
+use Rattle.lp_cert.specs.Explained.{Explained, IsExplained}
 
 -- the engine, and the run so far: how it started, and its events
 pub record Simulated : Type 0 where
@@ -27,9 +26,9 @@ module _ (model : Rules) where
 
   -- the engine stands where the run stands, what is made is that of the run, and the leg that it is in has its opening and
   -- the events since
-  pub record IsKept (run : Run) (core : Engine) (made : Made) (opening : Option Engine) : Type 0 where
-    pub stands : StandsIn model run (state_in core)
-    pub explained : IsMadeWith model run core.last_scan made
+  pub record IsKept (run : Run) (known : Explained) (opening : Option Engine) : Type 0 where
+    pub explained : IsExplained model run known
+    pub open explained use {stands, made}
     pub opened : OpensWith run opening
     pub since : (leg_of model run).events ≡ drop (leg_of model run).number run.events
     pub count : (leg_of model run).number + length (leg_of model run).events ≡ length run.events

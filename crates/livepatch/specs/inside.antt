@@ -1,3 +1,2 @@
 -- What code and proofs share and no public contract names.
-pub mod OpenedBy
 pub mod Chosen

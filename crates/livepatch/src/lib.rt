@@ -1,15 +1,18 @@
 //! The livepatch transition engine under one name: all that a program over the engine needs.
 //!
 //! `Simulator` is one engine with why its groups wait; the crates below it are here by their names.
+//!
+//! Costs: `step` is the engine's and the maker's. The first event of each leg copies the tasks, and every event takes
+//! its place in the journal.
 #![tactic(auto)]
 
 mod any;
-mod explained;
 mod simulator;
 
 pub use any::AnySimulator;
 pub use lp_cert::{
-    Cert, CertLines, Claim, LegEnd, LegEndRef, LegEnds, LegList, Line, LineList, Maker,
+    Cert, CertLines, Claim, ExplainedCore, LegEnd, LegEndRef, LegEnds, LegList, Line, LineList,
+    Maker,
 };
 pub use lp_checker::{CertFault, check_floor, check_waiting};
 pub use lp_model::{Blame, CheckKind, Consistency, ForkKind, Verdict};

@@ -1,5 +1,5 @@
 //! One engine, with the run so far and why each group waits.
-ghost use Rattle.std.specs.Prelude.{◌≡◌, ◌⊎◌, ◌≤◌, ◌<◌, ◌↔◌, [], true, false, None, Some, Err, drop, length, vec_len, vec_capacity, IfOk, IfSome, IsSome, OnErr, OnOk, MatchResult};
+ghost use Rattle.std.specs.Prelude.{◌≡◌, ◌⊎◌, ◌≤◌, ◌<◌, ◌↔◌, [], true, false, None, Some, Err, drop, is_some, length, vec_len, vec_capacity, IfOk, IfSome, IsSome, OnErr, OnOk, MatchResult};
 ghost use Rattle.std.specs.Option.{option_map};
 ghost use Rattle.lp_transition.specs.Blames.{blame_of, HasBlamesAfter};
 ghost use Rattle.lp_transition.specs.Boot.{boot_refusal};
@@ -8,16 +8,15 @@ ghost use Rattle.lp_machine.specs.Steps.{StandsIn};
 ghost use Rattle.lp_machine.specs.Table.{state_in};
 ghost use Rattle.lp_transition.specs.declared.engine.boot.BootFault.TheVariants.{NoMemory};
 ghost use Rattle.lp_transition.specs.declared.engine.step.Halt.TheVariants.{JournalFull};
-ghost use Rattle.lp_cert.specs.Ends.{Made, floor_in, leg_under_way, waiting_in};
+ghost use Rattle.lp_cert.specs.Ends.{floor_in, is_opened, leg_under_way, waiting_in};
+ghost use Rattle.lp_cert.specs.Explained.{Explained};
 ghost use Rattle.lp_definitions.specs.Ends.{end_of};
 ghost use Rattle.lp_checker.specs.Folds.{leg_with};
 ghost use Rattle.lp_definitions.specs.Holds.{Holds};
-ghost use Rattle.lp_definitions.specs.Verdict.{verdict_on};
+ghost use Rattle.lp_definitions.specs.Judgement.{cert_fault};
 ghost use Rattle.livepatch.specs.Simulated.{IsKept, run_with};
-ghost use Rattle.livepatch.specs.inside.OpenedBy.{is_opened};
 
-use crate::explained;
-use lp_cert::{Cert, Claim, Maker};
+use lp_cert::{Cert, Claim, ExplainedCore, opens_leg};
 use lp_checker::{CertFault, check_floor, check_waiting};
 use lp_model::Consistency;
 use lp_patch::PatchStack;
@@ -32,8 +31,7 @@ use std::marker::Model;
 ///
 /// Contracts see the run, and the engine that stands where the run does.
 pub struct Simulator<M: Consistency> {
-    core: Box<Core<M>>,
-    maker: Maker,
+    explained: ExplainedCore<M>,
     patches: PatchStack,
     boots: Vec<(TaskId, Class)>,
     events: Vec<Event>,
@@ -46,8 +44,7 @@ pub struct Simulator<M: Consistency> {
 impl<M: Consistency> Drop for Simulator<M> {
     fn drop(self) {
         let Simulator {
-            core: _,
-            maker: _,
+            explained: _,
             patches: _,
             boots: _,
             events: _,
@@ -61,9 +58,9 @@ impl<M: Consistency> Model for Simulator<M> {
 
     ghost Value = { Simulated };
 
-    ghost view = { λ s. record { core = s.core.value; run = run_with s.patches s.boots.items s.events.items } };
+    ghost view = { λ s. record { core = s.explained.core; run = run_with s.patches s.boots.items s.events.items } };
 
-    ghost invariant = { λ s. IsKept M.rules (run_with s.patches s.boots.items s.events.items) s.core.value s.maker s.opening };
+    ghost invariant = { λ s. IsKept M.rules (run_with s.patches s.boots.items s.events.items) s.explained s.opening };
 }
 
 impl<M: Consistency> Simulator<M> {
@@ -108,10 +105,9 @@ impl<M: Consistency> Simulator<M> {
         let core = Box::new(alloc, core)?;
         let patches = copied?;
         let boots = Vec::from_slice(alloc, boots)?;
-        let maker = Maker::new(alloc)?;
+        let explained = ExplainedCore::new(alloc, core)?;
         Ok(Simulator {
-            core,
-            maker,
+            explained,
             patches,
             boots,
             events: Vec::new(alloc),
@@ -128,12 +124,12 @@ impl<M: Consistency> Simulator<M> {
         ensures blames { OnOk result (HasBlamesAfter M.rules self.old.core event self.new.core) }
         ensures unchanged { OnErr result (self.new ≡ self.old) }
     {
-        if self.core.events() >= u64::from(MOST_EVENTS) {
+        if self.explained.core().events() >= u64::from(MOST_EVENTS) {
             return Err(Halt::JournalFull);
         }
         self.events.reserve(1)?;
-        keep_opening(alloc, &self.core, &mut self.opening)?;
-        let reply = explained::take(alloc, &mut self.core, &mut self.maker, event)?;
+        keep_opening(alloc, self.explained.core(), &mut self.opening)?;
+        let reply = self.explained.step(alloc, event)?;
         self.events.push_reserved(event);
         give_up_opening(event, &reply.what, &mut self.opening);
         Ok(reply)
@@ -144,7 +140,7 @@ impl<M: Consistency> Simulator<M> {
         ensures value { result.now ≡ self.now.core }
         ensures stands { StandsIn M.rules self.now.run (state_in self.now.core) }
     {
-        &self.core
+        self.explained.core()
     }
 
     /// How many events are numbered.
@@ -152,8 +148,7 @@ impl<M: Consistency> Simulator<M> {
         ensures value { result ≡ length self.now.run.events }
         ensures fits { result ≤ 1000000 }
     {
-        let _ = &self.maker;
-        self.core.events()
+        self.explained.core().events()
     }
 
     /// The events so far, in their order.
@@ -168,27 +163,34 @@ impl<M: Consistency> Simulator<M> {
     pub fn blame(&self, group: GroupId) -> Option<StandingBlame>
         ensures { result ≡ blame_of self.now.core group.0 }
     {
-        self.core.standing_blame(group)
+        self.explained.core().standing_blame(group)
+    }
+
+    /// Whether a group waits in the leg under way: whether `certificate` has one of it. Never allocates.
+    pub fn is_waiting(&self, group: GroupId) -> bool
+        ensures { result ≡ is_some (waiting_in (option_map (end_of M.rules) (leg_under_way M.rules self.now.run)) group.0) }
+    {
+        self.explained.is_waiting(group)
     }
 
     /// The certificate that a group waits in the leg under way; None where it doesn't wait. AllocError where an allocation
     /// failed.
     pub fn certificate(&self, alloc: Global, group: GroupId) -> Result<Option<Cert>, AllocError>
         ensures value { IfOk result (λ found. found ≡ waiting_in (option_map (end_of M.rules) (leg_under_way M.rules self.now.run)) group.0) }
-        ensures accepted { IfOk result (λ found. IfSome found (λ cert. verdict_on M.rules (leg_of M.rules self.now.run) cert.claim cert ≡ None)) }
+        ensures accepted { IfOk result (λ found. IfSome found (λ cert. cert_fault M.rules (leg_of M.rules self.now.run) cert.claim cert ≡ None)) }
     {
-        let _ = self.core.events();
-        self.maker.waiting(alloc, group)
+        let _ = self.explained.core().events();
+        self.explained.waiting(alloc, group)
     }
 
     /// The certificate that the leg under way isn't complete, that of the least group that waits; None where it is
     /// complete, or there is none. AllocError where an allocation failed.
     pub fn floor(&self, alloc: Global) -> Result<Option<Cert>, AllocError>
         ensures value { IfOk result (λ found. found ≡ floor_in (option_map (end_of M.rules) (leg_under_way M.rules self.now.run))) }
-        ensures accepted { IfOk result (λ found. IfSome found (λ cert. verdict_on M.rules (leg_of M.rules self.now.run) cert.claim cert ≡ None)) }
+        ensures accepted { IfOk result (λ found. IfSome found (λ cert. cert_fault M.rules (leg_of M.rules self.now.run) cert.claim cert ≡ None)) }
     {
-        let _ = self.core.events();
-        self.maker.floor(alloc)
+        let _ = self.explained.core().events();
+        self.explained.floor(alloc)
     }
 
     /// Checks a certificate against the leg that the run is in, for the claim that it makes.
@@ -196,7 +198,7 @@ impl<M: Consistency> Simulator<M> {
     /// # Errors
     /// As `check_waiting` has them.
     pub fn check(&self, alloc: Global, cert: &Cert) -> Result<(), CertFault>
-        ensures answer { MatchResult result (λ _. verdict_on M.rules (leg_of M.rules self.now.run) cert.now.claim cert.now ≡ None) (λ fault. fault ≡ CertFault.NoMemory ⊎ verdict_on M.rules (leg_of M.rules self.now.run) cert.now.claim cert.now ≡ Some fault) }
+        ensures answer { MatchResult result (λ _. cert_fault M.rules (leg_of M.rules self.now.run) cert.now.claim cert.now ≡ None) (λ fault. fault ≡ CertFault.NoMemory ⊎ cert_fault M.rules (leg_of M.rules self.now.run) cert.now.claim cert.now ≡ Some fault) }
         ensures sound { IfOk result (λ _. Holds M.rules (leg_of M.rules self.now.run) cert.now) }
     {
         match &self.opening {
@@ -208,21 +210,22 @@ impl<M: Consistency> Simulator<M> {
     /// Where the engine itself stands at the opening: no event came since.
     fn check_here(&self, alloc: Global, cert: &Cert) -> Result<(), CertFault>
         requires { (leg_of M.rules self.now.run).events ≡ [] }
-        ensures answer { MatchResult result (λ _. verdict_on M.rules (leg_of M.rules self.now.run) cert.now.claim cert.now ≡ None) (λ fault. fault ≡ CertFault.NoMemory ⊎ verdict_on M.rules (leg_of M.rules self.now.run) cert.now.claim cert.now ≡ Some fault) }
+        ensures answer { MatchResult result (λ _. cert_fault M.rules (leg_of M.rules self.now.run) cert.now.claim cert.now ≡ None) (λ fault. fault ≡ CertFault.NoMemory ⊎ cert_fault M.rules (leg_of M.rules self.now.run) cert.now.claim cert.now ≡ Some fault) }
         ensures sound { IfOk result (λ _. Holds M.rules (leg_of M.rules self.now.run) cert.now) }
     {
-        let opening = self.core.standing(alloc)?;
-        check_by(alloc, self.core.model(), &opening, &[], cert)
+        let core = self.explained.core();
+        let opening = core.standing(alloc)?;
+        check_by(alloc, core.model(), &opening, &[], cert)
     }
 
     /// With the opening, and the events that came since.
     fn check_since(&self, alloc: Global, opening: &Opening, cert: &Cert) -> Result<(), CertFault>
         requires { state_in opening.now ≡ (leg_of M.rules self.now.run).opening }
-        ensures answer { MatchResult result (λ _. verdict_on M.rules (leg_of M.rules self.now.run) cert.now.claim cert.now ≡ None) (λ fault. fault ≡ CertFault.NoMemory ⊎ verdict_on M.rules (leg_of M.rules self.now.run) cert.now.claim cert.now ≡ Some fault) }
+        ensures answer { MatchResult result (λ _. cert_fault M.rules (leg_of M.rules self.now.run) cert.now.claim cert.now ≡ None) (λ fault. fault ≡ CertFault.NoMemory ⊎ cert_fault M.rules (leg_of M.rules self.now.run) cert.now.claim cert.now ≡ Some fault) }
         ensures sound { IfOk result (λ _. Holds M.rules (leg_of M.rules self.now.run) cert.now) }
     {
         let events = since(self.events.as_slice(), opening);
-        check_by(alloc, self.core.model(), opening, events, cert)
+        check_by(alloc, self.explained.core().model(), opening, events, cert)
     }
 }
 
@@ -233,12 +236,29 @@ fn keep_opening<M: Consistency>(
     core: &Core<M>,
     opening: &mut Option<Opening>,
 ) -> Result<(), AllocError>
-    ensures kept { (run : Run) (made : Made) → IsKept M.rules run core.now made opening.old → IsKept M.rules run core.now made opening.new }
+    ensures kept { (run : Run) (explained : Explained) → explained.core ≡ core.now → IsKept M.rules run explained opening.old → IsKept M.rules run explained opening.new }
     ensures some { OnOk result (IsSome opening.new) }
 {
     if opening.is_none() {
-        *opening = Some(core.standing(alloc)?);
+        return copy_opening(alloc, core, opening);
     }
+    Ok(())
+}
+
+/// Copies the tasks as the opening of a leg. Out of line, since the events that need no copy would else pay for the room of
+/// one.
+#[cold]
+#[inline(never)]
+fn copy_opening<M: Consistency>(
+    alloc: Global,
+    core: &Core<M>,
+    opening: &mut Option<Opening>,
+) -> Result<(), AllocError>
+    requires none { opening.old ≡ None }
+    ensures kept { (run : Run) (explained : Explained) → explained.core ≡ core.now → IsKept M.rules run explained opening.old → IsKept M.rules run explained opening.new }
+    ensures some { OnOk result (IsSome opening.new) }
+{
+    *opening = Some(core.standing(alloc)?);
     Ok(())
 }
 
@@ -248,9 +268,18 @@ fn give_up_opening(event: Event, what: &What, opening: &mut Option<Opening>)
     ensures opened { is_opened event what.now ≡ true → opening.new ≡ None }
     ensures other { is_opened event what.now ≡ false → opening.new ≡ opening.old }
 {
-    if opens(event, what) {
-        *opening = None;
+    if opens_leg(event, what) {
+        forget(opening);
     }
+}
+
+/// Frees the opening of a leg that ended. Out of line, since few events end one.
+#[cold]
+#[inline(never)]
+fn forget(opening: &mut Option<Opening>)
+    ensures { opening.new ≡ None }
+{
+    *opening = None;
 }
 
 /// The events that came after an opening.
@@ -269,19 +298,11 @@ fn check_by<M: Consistency>(
     events: &[Event],
     cert: &Cert,
 ) -> Result<(), CertFault>
-    ensures answer { MatchResult result (λ _. verdict_on M.rules (leg_with opening.now events.now) cert.now.claim cert.now ≡ None) (λ fault. fault ≡ CertFault.NoMemory ⊎ verdict_on M.rules (leg_with opening.now events.now) cert.now.claim cert.now ≡ Some fault) }
+    ensures answer { MatchResult result (λ _. cert_fault M.rules (leg_with opening.now events.now) cert.now.claim cert.now ≡ None) (λ fault. fault ≡ CertFault.NoMemory ⊎ cert_fault M.rules (leg_with opening.now events.now) cert.now.claim cert.now ≡ Some fault) }
     ensures sound { IfOk result (λ _. Holds M.rules (leg_with opening.now events.now) cert.now) }
 {
     match cert.claim {
         Claim::Waiting => check_waiting(alloc, model, opening, events, cert),
         Claim::Floor => check_floor(alloc, model, opening, events, cert),
     }
-}
-
-/// Whether an event opened a leg: it is a control event, and was accepted.
-#[inline(always)]
-fn opens(event: Event, what: &What) -> bool
-    ensures { result ≡ is_opened event what.now }
-{
-    event.is_control() && !matches!(what, What::Refused(_))
 }

@@ -7,20 +7,20 @@ use Rattle.lp_stack.specs.declared.number.TaskId.{TaskId}
 use Rattle.lp_model.specs.Rules.{Rules, IsLawful}
 use Rattle.lp_model.specs.declared.verdict.Verdict.{Verdict}
 use Rattle.lp_definitions.specs.declared.event.Event.{Event}
-use Rattle.lp_definitions.specs.declared.event.Event.TheVariants.{Call, Ret, Sleep, Wake, Enter, Exit, Idle, Fork, Die, Walk, Stop, Enable, Disable, Reverse}
+use Rattle.lp_definitions.specs.declared.event.Event.TheVariants.{Call, Ret, Sleep, Wake, Enter, Exit, Idle, Resched, Fork, Die, Walk, Stop, Enable, Disable, Reverse}
 use Rattle.lp_definitions.specs.declared.refusal.Refusal.{Refusal}
 use Rattle.lp_definitions.specs.declared.reply.What.{What}
 use Rattle.lp_definitions.specs.declared.reply.What.TheVariants.{Ran, Done, Switched, Refused}
 use Rattle.lp_definitions.specs.Events.{is_control}
 use Rattle.lp_definitions.specs.Tasks.{Fate, Unused, Live, Dead}
-use Rattle.lp_definitions.specs.Leg.{Standing, State}
+use Rattle.lp_definitions.specs.Leg.{LegTask, State}
 use Rattle.lp_definitions.specs.Sound.{IsSound}
 use Rattle.lp_definitions.specs.Run.{switched}
 use Rattle.lp_machine.specs.Machine.{complete_in, affected, switched_groups, with_switches, refusal_of, next, answer, next_by, answer_by}
-use Rattle.lp_machine.specs.Table.{Engine, IsWide, slot, standings, state_in}
+use Rattle.lp_machine.specs.Table.{Engine, IsWide, slot, leg_tasks, state_in}
 use Rattle.lp_transition.specs.Weigh.{Weighed, IsWeighed, AreVerdictsFor}
 use Rattle.lp_transition.specs.inside.ScanSteps.{task_switches}
-use Rattle.lp_laws.proofs.Quantifiers.{each_live-at, each_live-from}
+use Rattle.lp_definitions.proofs.Quantifiers.{each_live-at, each_live-from}
 use Rattle.lp_board.specs.declared.sheet.Heading.{Heading}
 use Rattle.lp_board.specs.declared.sheet.Update.{Update}
 use Rattle.lp_board.specs.Pages.{level_of, level_by, IsHeading, Leads}
@@ -53,7 +53,7 @@ level-on e switches (v ∷ vs) = by (level-on e switches vs) (task_switches swit
     by rest true is = subst (AllOn e.target) (ap (λ o. cons_option o (filter_map (target_if e switches) vs)) (sym (cond-true _ _ _ is))) (refl, rest)
     by rest false is = subst (AllOn e.target) (ap (λ o. cons_option o (filter_map (target_if e switches) vs)) (sym (cond-false _ _ _ is))) rest
 
-done-on : (e : Engine) (event : Event) → ((u : ℕ) → IsOn e.target (level_of (standings e.table u))) → AllOn e.target (levels_done e event)
+done-on : (e : Engine) (event : Event) → ((u : ℕ) → IsOn e.target (level_of (leg_tasks e.table u))) → AllOn e.target (levels_done e event)
 done-on e (Call t f) on = tt
 done-on e (Ret t) on = tt
 done-on e (Sleep t) on = tt
@@ -61,6 +61,7 @@ done-on e (Wake t) on = tt
 done-on e (Enter t) on = tt
 done-on e (Exit t) on = tt
 done-on e (Idle t) on = tt
+done-on e (Resched t) on = tt
 done-on e (Fork p c how) on = (on p.0, tt)
 done-on e (Die t) on = (tt, tt)
 done-on e Walk on = tt
@@ -77,6 +78,7 @@ switched-on e (Wake t) groups vs = level-on e (λ n. list_any (nat_eq n) groups)
 switched-on e (Enter t) groups vs = level-on e (λ n. list_any (nat_eq n) groups) vs
 switched-on e (Exit t) groups vs = (refl, tt)
 switched-on e (Idle t) groups vs = (refl, tt)
+switched-on e (Resched t) groups vs = (refl, tt)
 switched-on e (Fork p c how) groups vs = level-on e (λ n. list_any (nat_eq n) groups) vs
 switched-on e (Die t) groups vs = level-on e (λ n. list_any (nat_eq n) groups) vs
 switched-on e Walk groups vs = level-on e (λ n. list_any (nat_eq n) groups) vs
@@ -85,18 +87,18 @@ switched-on e Enable groups vs = level-on e (λ n. list_any (nat_eq n) groups) v
 switched-on e Disable groups vs = level-on e (λ n. list_any (nat_eq n) groups) vs
 switched-on e Reverse groups vs = level-on e (λ n. list_any (nat_eq n) groups) vs
 
-levels-on : (e : Engine) (event : Event) (what : What) (vs : List Verdict) → ((u : ℕ) → IsOn e.target (level_of (standings e.table u))) → AllOn e.target (levels_by e event what vs)
+levels-on : (e : Engine) (event : Event) (what : What) (vs : List Verdict) → ((u : ℕ) → IsOn e.target (level_of (leg_tasks e.table u))) → AllOn e.target (levels_by e event what vs)
 levels-on e event (Ran l) vs on = tt
 levels-on e event Done vs on = done-on e event on
 levels-on e event (Switched groups) vs on = switched-on e event groups vs
 levels-on e event (Refused why) vs on = tt
 
-on_fate : (target u : ℕ) (fate : Fate Standing) → ((x : Standing) → fate ≡ Live x → x.level ≡ target) → IsOn target (level_of fate)
+on_fate : (target u : ℕ) (fate : Fate LegTask) → ((x : LegTask) → fate ≡ Live x → x.level ≡ target) → IsOn target (level_of fate)
 on_fate target u Unused h = tt
 on_fate target u (Live x) h = h x refl
 on_fate target u Dead h = tt
 
-fate_on : (target : ℕ) (fate : Fate Standing) (x : Standing) → fate ≡ Live x → IsOn target (level_of fate) → x.level ≡ target
+fate_on : (target : ℕ) (fate : Fate LegTask) (x : LegTask) → fate ≡ Live x → IsOn target (level_of fate) → x.level ≡ target
 fate_on target fate x is on = let h : IsOn target (level_of (Live x)) = subst (λ f. IsOn target (level_of f)) is on in h
 
 -- ---- What is complete stays complete
@@ -105,8 +107,8 @@ module _ (model : Rules) (lawful : IsLawful model) (e : Engine) (sound : IsSound
   abbrev s : State
   s = state_in e
 
-  all_on : IsTrue (complete_in s) → (u : ℕ) → IsOn e.target (level_of (standings e.table u))
-  all_on rest u = on_fate e.target u (standings e.table u) (λ x live. let b = sound.numbered u x live in eqb-true x.level e.target (each_live-at s.bounds s.tasks (λ t y. nat_eq y.level s.target) rest u x b.0 b.1 live))
+  all_on : IsTrue (complete_in s) → (u : ℕ) → IsOn e.target (level_of (leg_tasks e.table u))
+  all_on rest u = on_fate e.target u (leg_tasks e.table u) (λ x live. let b = sound.numbered u x live in eqb-true x.level e.target (each_live-at s.bounds s.tasks (λ t y. nat_eq y.level s.target) rest u x b.0 b.1 live))
 
   complete-stays : (event : Event) → AreVerdictsFor model s event vs → refusal_of model s event ≡ None → is_control event ≡ false → IsTrue (complete_in s) → IsTrue (complete_in (with_switches model s event))
   complete-stays event given accepted plain rest =
@@ -114,7 +116,7 @@ module _ (model : Rules) (lawful : IsLawful model) (e : Engine) (sound : IsSound
       let is : next_by model s event None ≡ after = cond-false _ _ _ plain in
       each_live-from after.bounds after.tasks (λ t y. nat_eq y.level after.target) (λ u x positive within live.
       let moved = levels-lead model lawful e sound wide vs event given None u in
-      let on : IsOn e.target (level_by (levels_by e event (answer_by model s event None).what vs) u (level_of (standings e.table u))) = by-on e.target (levels_by e event (answer_by model s event None).what vs) u (level_of (standings e.table u)) (levels-on e event (answer_by model s event None).what vs (all_on rest)) (all_on rest u) in
+      let on : IsOn e.target (level_by (levels_by e event (answer_by model s event None).what vs) u (level_of (leg_tasks e.table u))) = by-on e.target (levels_by e event (answer_by model s event None).what vs) u (level_of (leg_tasks e.table u)) (levels-on e event (answer_by model s event None).what vs (all_on rest)) (all_on rest u) in
       let there : IsOn e.target (level_of (after.tasks u)) = subst (IsOn e.target) (moved ∙ ap (λ (n : State). level_of (n.tasks u)) is) on in
       eq-eqb x.level e.target (fate_on e.target (after.tasks u) x live there))
 
@@ -165,6 +167,7 @@ module _ (model : Rules) (lawful : IsLawful model) (e : Engine) (sound : IsSound
   heading-leads (Enter t) heading target aims given was None is = told-heading (Enter t) heading target given is refl was refl
   heading-leads (Exit t) heading target aims given was None is = told-heading (Exit t) heading target given is refl was refl
   heading-leads (Idle t) heading target aims given was None is = told-heading (Idle t) heading target given is refl was refl
+  heading-leads (Resched t) heading target aims given was None is = told-heading (Resched t) heading target given is refl was refl
   heading-leads (Fork p c how) heading target aims given was None is = told-heading (Fork p c how) heading target given is refl was refl
   heading-leads (Die t) heading target aims given was None is = told-heading (Die t) heading target given is refl was refl
   heading-leads Walk heading target aims given was None is = told-heading Walk heading target given is refl was refl
@@ -178,6 +181,6 @@ module _ (model : Rules) (lawful : IsLawful model) (e : Engine) (sound : IsSound
   update-leads step target heading verdicts aims weighed was levels now update levels_are now_is items head =
       let given : AreVerdictsFor model s step.event vs = subst (AreVerdictsFor model s step.event) verdicts weighed.verdicts in
       record {
-        levels = λ t h. ap (λ ms. level_by ms t (level_of (standings e.table t))) (items ∙ levels_are ∙ ap₂ (λ r v. levels_by e step.event r.what v) weighed.reply verdicts) ∙ levels-lead model lawful e sound wide vs step.event given (refusal_of model s step.event) t;
+        levels = λ t h. ap (λ ms. level_by ms t (level_of (leg_tasks e.table t))) (items ∙ levels_are ∙ ap₂ (λ r v. levels_by e step.event r.what v) weighed.reply verdicts) ∙ levels-lead model lawful e sound wide vs step.event given (refusal_of model s step.event) t;
         heading = subst (λ h. IsHeading h (next model s step.event)) (sym (head ∙ now_is ∙ ap (λ r. heading_by target step.event r heading) weighed.reply)) (heading-leads step.event heading target aims given was (refusal_of model s step.event) refl);
       }

@@ -10,18 +10,18 @@ use Rattle.lp_model.specs.declared.check.CheckKind.{CheckKind}
 use Rattle.lp_model.specs.declared.check.CheckKind.TheVariants as Check
 use Rattle.lp_model.specs.declared.verdict.Verdict.{Verdict}
 use Rattle.lp_definitions.specs.declared.event.Event.{Event}
-use Rattle.lp_definitions.specs.declared.event.Event.TheVariants.{Call, Ret, Sleep, Wake, Enter, Exit, Idle, Fork, Die, Walk, Stop, Enable, Disable, Reverse}
+use Rattle.lp_definitions.specs.declared.event.Event.TheVariants.{Call, Ret, Sleep, Wake, Enter, Exit, Idle, Resched, Fork, Die, Walk, Stop, Enable, Disable, Reverse}
 use Rattle.lp_definitions.specs.declared.refusal.Refusal.{Refusal}
 use Rattle.lp_definitions.specs.Tasks.{Fate, Unused, Live, Dead, on_live, map_live, change}
-use Rattle.lp_definitions.specs.Leg.{Standing, State, each_live, is_alone, check_by, when, if_used}
+use Rattle.lp_definitions.specs.Leg.{LegTask, State, each_live, is_alone, check_by, when, if_used}
 use Rattle.lp_definitions.specs.Sound.{IsSound}
-use Rattle.lp_machine.specs.Machine.{Standings, outline_of, outlines_of, put_in, calling, returning, bearing, waits_in, admits_all, switches_at, switched_groups, switched_task, affected, next_by, answer_by}
+use Rattle.lp_machine.specs.Machine.{LegTasks, outline_of, outlines_of, put_in, calling, returning, bearing, waits_in, admits_all, switches_at, switched_groups, switched_task, affected, next_by, answer_by}
 use Rattle.lp_definitions.specs.Run.{switched}
-use Rattle.lp_machine.specs.Table.{Engine, IsWide, slot, standings, state_in}
+use Rattle.lp_machine.specs.Table.{Engine, IsWide, slot, leg_tasks, state_in}
 use Rattle.lp_transition.specs.Weigh.{AreVerdictsFor}
 use Rattle.lp_transition.specs.Scan.{verdicts_of, AreEnough}
 use Rattle.lp_transition.specs.inside.ScanSteps.{is_judged, switches_by, task_switches}
-use Rattle.lp_machine.proofs.EngineLemmas.{and-false, is_quiet, quiet-stays}
+use Rattle.lp_machine.proofs.EngineLemmas.{and-false, is_unchecked, unchecked-stays}
 use Rattle.lp_tasks.proofs.TableLemmas.{slot_from_live, live_from_slot}
 use Rattle.lp_machine.proofs.Alone.{ChecksAlone, alone-other}
 use Rattle.lp_transition.proofs.AskedScans.{switches-judged}
@@ -36,12 +36,12 @@ some_level l = Some (record { 0 = l })
 
 -- ---- One task
 
-level-map : (f : Standing → Standing) → ((x : Standing) → (f x).level ≡ x.level) → (fate : Fate Standing) → level_of (map_live f fate) ≡ level_of fate
+level-map : (f : LegTask → LegTask) → ((x : LegTask) → (f x).level ≡ x.level) → (fate : Fate LegTask) → level_of (map_live f fate) ≡ level_of fate
 level-map f keeps Unused = refl
 level-map f keeps (Live x) = ap some_level (keeps x)
 level-map f keeps Dead = refl
 
-level-change : (t : ℕ) (f : Standing → Standing) → ((x : Standing) → (f x).level ≡ x.level) → (now : Standings) (u : ℕ) → level_of (change t f now u) ≡ level_of (now u)
+level-change : (t : ℕ) (f : LegTask → LegTask) → ((x : LegTask) → (f x).level ≡ x.level) → (now : LegTasks) (u : ℕ) → level_of (change t f now u) ≡ level_of (now u)
 level-change t f keeps now u =
     ⊎_elim
     (λ (e : nat_eq u t ≡ true). ap level_of (cond-true _ _ _ e) ∙ level-map f keeps (now u))
@@ -49,17 +49,17 @@ level-change t f keeps now u =
     (cases_Bool (nat_eq u t))
 
 -- where a live task comes from
-record Origin (was : Standings) (u : ℕ) (y : Standing) : Type 0 where
-  task : Standing
+record Origin (was : LegTasks) (u : ℕ) (y : LegTask) : Type 0 where
+  task : LegTask
   there : was u ≡ Live task
   grouped : task.group ≡ y.group
 
-origin-map : (f : Standing → Standing) → ((x : Standing) → (f x).group ≡ x.group) → (was : Standings) (u : ℕ) (y : Standing) (fate : Fate Standing) → was u ≡ fate → map_live f fate ≡ Live y → Origin was u y
+origin-map : (f : LegTask → LegTask) → ((x : LegTask) → (f x).group ≡ x.group) → (was : LegTasks) (u : ℕ) (y : LegTask) (fate : Fate LegTask) → was u ≡ fate → map_live f fate ≡ Live y → Origin was u y
 origin-map f groups was u y Unused at e = absurd cc
-origin-map f groups was u y (Live z) at e = let same : f z ≡ y = cc in record { task = z; there = at; grouped = sym (groups z) ∙ ap (λ (w : Standing). w.group) same }
+origin-map f groups was u y (Live z) at e = let same : f z ≡ y = cc in record { task = z; there = at; grouped = sym (groups z) ∙ ap (λ (w : LegTask). w.group) same }
 origin-map f groups was u y Dead at e = absurd cc
 
-origin-change : (t : ℕ) (f : Standing → Standing) → ((x : Standing) → (f x).group ≡ x.group) → (was : Standings) (u : ℕ) (y : Standing) → change t f was u ≡ Live y → Origin was u y
+origin-change : (t : ℕ) (f : LegTask → LegTask) → ((x : LegTask) → (f x).group ≡ x.group) → (was : LegTasks) (u : ℕ) (y : LegTask) → change t f was u ≡ Live y → Origin was u y
 origin-change t f groups was u y at =
     ⊎_elim
     (λ (e : nat_eq u t ≡ true). origin-map f groups was u y (was u) refl (sym (cond-true _ _ _ e) ∙ at))
@@ -79,13 +79,13 @@ other-level t u level old ne = cond-false _ _ _ (ne_eqb t u (λ e. ne (sym e)))
 -- ---- Who switches
 
 module _ (model : Rules) where
-  level-stays : (now : State) (event : Event) (fate : Fate Standing) → ((x : Standing) → fate ≡ Live x → switches_at model now event x.group ≡ false) → level_of (map_live (switched_task model now event) fate) ≡ level_of fate
+  level-stays : (now : State) (event : Event) (fate : Fate LegTask) → ((x : LegTask) → fate ≡ Live x → switches_at model now event x.group ≡ false) → level_of (map_live (switched_task model now event) fate) ≡ level_of fate
   level-stays now event Unused none = refl
-  level-stays now event (Live x) none = ap (λ (y : Standing). some_level y.level) (cond-false _ _ _ (none x refl))
+  level-stays now event (Live x) none = ap (λ (y : LegTask). some_level y.level) (cond-false _ _ _ (none x refl))
   level-stays now event Dead none = refl
 
-  level-switches : (now : State) (event : Event) (x : Standing) → switches_at model now event x.group ≡ true → level_of (map_live (switched_task model now event) (Live x)) ≡ some_level now.target
-  level-switches now event x switches = ap (λ (y : Standing). some_level y.level) (cond-true _ _ _ switches)
+  level-switches : (now : State) (event : Event) (x : LegTask) → switches_at model now event x.group ≡ true → level_of (map_live (switched_task model now event) (Live x)) ≡ some_level now.target
+  level-switches now event x switches = ap (λ (y : LegTask). some_level y.level) (cond-true _ _ _ switches)
 
   switched-none : (now : State) (event : Event) → ((g : ℕ) → switches_at model now event g ≡ false) → switched_groups model now event ≡ []
   unfolding switched_groups
@@ -95,11 +95,11 @@ module _ (model : Rules) where
   has_switched now event g wide h =
       ap (list_any (nat_eq g)) (switching_by model 65536 now event (switches_at model now event) wide (λ group. refl)) ∙ passing-any 65536 (switches_at model now event) g h
 
-  quiet-none : (now : State) (event : Event) → is_quiet event ≡ true → switched_groups model now event ≡ []
-  quiet-none now event quiet = switched-none now event (λ g. quiet-stays model now event g quiet)
+  quiet-none : (now : State) (event : Event) → is_unchecked event ≡ true → switched_groups model now event ≡ []
+  quiet-none now event quiet = switched-none now event (λ g. unchecked-stays model now event g quiet)
 
-  quiet-level : (now : State) (event : Event) (fate : Fate Standing) → is_quiet event ≡ true → level_of (map_live (switched_task model now event) fate) ≡ level_of fate
-  quiet-level now event fate quiet = level-stays now event fate (λ x e. quiet-stays model now event x.group quiet)
+  quiet-level : (now : State) (event : Event) (fate : Fate LegTask) → is_unchecked event ≡ true → level_of (map_live (switched_task model now event) fate) ≡ level_of fate
+  quiet-level now event fate quiet = level-stays now event fate (λ x e. unchecked-stays model now event x.group quiet)
 
   -- ---- A check of a task that is alone
 
@@ -110,7 +110,7 @@ module _ (model : Rules) where
       ap (λ o. waits_in now group && admits_all model now o group) none ∙ and-false (waits_in now group)
 
   -- the group isn't the task's
-  not_alone : (now : State) (t group : ℕ) (fate : Fate Standing) → now.tasks t ≡ fate → ((x : Standing) → fate ≡ Live x → x.group ≢ group) → is_alone now.bounds (outlines_of now.tasks) group t ≡ false
+  not_alone : (now : State) (t group : ℕ) (fate : Fate LegTask) → now.tasks t ≡ fate → ((x : LegTask) → fate ≡ Live x → x.group ≢ group) → is_alone now.bounds (outlines_of now.tasks) group t ≡ false
   not_alone now t group Unused at ne = ap (λ f. on_live false (λ y. nat_eq y.group group) (map_live outline_of f) && each_live now.bounds (outlines_of now.tasks) (λ other y. not (nat_eq y.group group) || nat_eq other t)) at
   not_alone now t group (Live x) at ne =
       ap (λ f. on_live false (λ y. nat_eq y.group group) (map_live outline_of f) && each_live now.bounds (outlines_of now.tasks) (λ other y. not (nat_eq y.group group) || nat_eq other t)) at
@@ -118,11 +118,11 @@ module _ (model : Rules) where
   not_alone now t group Dead at ne = ap (λ f. on_live false (λ y. nat_eq y.group group) (map_live outline_of f) && each_live now.bounds (outlines_of now.tasks) (λ other y. not (nat_eq y.group group) || nat_eq other t)) at
 
   module _ (e : Engine) (sound : IsSound (state_in e)) (wide : IsWide e.table) (now : State) (event : Event) (t : ℕ) (kind : CheckKind) (checks : ChecksAlone now.bounds now.tasks event t kind) (tasks_wide : suc now.bounds.tasks ≡ 65536) (aims : now.target ≡ e.target)
-      (origin : (u : ℕ) (y : Standing) → now.tasks u ≡ Live y → Origin (standings e.table) u y) (changes : List ℕ → List (TaskId × Option Level)) (no_changes : changes [] ≡ []) (task : TaskId) (is_task : task.0 ≡ t) (one_change : (g : ℕ) (gs : List ℕ) → changes (g ∷ gs) ≡ (task, some_level e.target) ∷ []) where
-    fits : (u : ℕ) (y : Standing) → now.tasks u ≡ Live y → y.group < 65536
+      (origin : (u : ℕ) (y : LegTask) → now.tasks u ≡ Live y → Origin (leg_tasks e.table) u y) (changes : List ℕ → List (TaskId × Option Level)) (no_changes : changes [] ≡ []) (task : TaskId) (is_task : task.0 ≡ t) (one_change : (g : ℕ) (gs : List ℕ) → changes (g ∷ gs) ≡ (task, some_level e.target) ∷ []) where
+    fits : (u : ℕ) (y : LegTask) → now.tasks u ≡ Live y → y.group < 65536
     fits u y at = let o = origin u y at in subst (λ n. n < 65536) o.grouped (group_fits e u o.task sound wide (slot_from_live e.table u o.task o.there))
 
-    numbered : (u : ℕ) (y : Standing) → now.tasks u ≡ Live y → (0 < u) × (u ≤ now.bounds.tasks)
+    numbered : (u : ℕ) (y : LegTask) → now.tasks u ≡ Live y → (0 < u) × (u ≤ now.bounds.tasks)
     numbered u y at = let o = origin u y at in let b = sound.numbered u o.task o.there in (b.0, omega (arith, b.1, tasks_wide))
 
     -- where no group switches
@@ -132,7 +132,7 @@ module _ (model : Rules) where
         ∙ sym (level-stays now event (now.tasks u) (λ x at. none x.group))
 
     -- where the task's group switches
-    one_switches : (x : Standing) → now.tasks t ≡ Live x → switches_at model now event x.group ≡ true → (u : ℕ) → level_by (changes (switched_groups model now event)) u (level_of (now.tasks u)) ≡ level_of (map_live (switched_task model now event) (now.tasks u))
+    one_switches : (x : LegTask) → now.tasks t ≡ Live x → switches_at model now event x.group ≡ true → (u : ℕ) → level_by (changes (switched_groups model now event)) u (level_of (now.tasks u)) ≡ level_of (map_live (switched_task model now event) (now.tasks u))
     one_switches x at switches u = ap (λ ms. level_by ms u (level_of (now.tasks u))) (listed (switched_groups model now event) refl) ∙ ⊎_elim here there (cases_eq u t)
       where
         listed : (gs : List ℕ) → switched_groups model now event ≡ gs → changes (switched_groups model now event) ≡ (task, some_level e.target) ∷ []
@@ -150,17 +150,17 @@ module _ (model : Rules) where
         lone true is = is
         lone false is = let stays : false ≡ true = sym (crowd-stays now event t kind checks x.group is) ∙ switches in absurd (false≢true stays)
 
-        apart : u ≢ t → (y : Standing) → now.tasks u ≡ Live y → switches_at model now event y.group ≡ false
+        apart : u ≢ t → (y : LegTask) → now.tasks u ≡ Live y → switches_at model now event y.group ≡ false
         apart ne y live =
             let differ : x.group ≢ y.group = λ same. let b = numbered u y live in ne (alone-other now.bounds now.tasks x.group t x at refl (lone (is_alone now.bounds (outlines_of now.tasks) x.group t) refl) u y b.0 b.1 live (sym same)) in
-            crowd-stays now event t kind checks y.group (not_alone now t y.group (Live x) at (λ z e same. differ (ap (λ (w : Standing). w.group) (let inside : x ≡ z = cc in inside) ∙ same)))
+            crowd-stays now event t kind checks y.group (not_alone now t y.group (Live x) at (λ z e same. differ (ap (λ (w : LegTask). w.group) (let inside : x ≡ z = cc in inside) ∙ same)))
 
         there : u ≢ t → level_by ((task, some_level e.target) ∷ []) u (level_of (now.tasks u)) ≡ level_of (map_live (switched_task model now event) (now.tasks u))
         there ne =
             other-level task.0 u (some_level e.target) (level_of (now.tasks u)) (λ same. ne (same ∙ is_task))
             ∙ sym (level-stays now event (now.tasks u) (apart ne))
 
-    alone-leads : (fate : Fate Standing) → now.tasks t ≡ fate → (u : ℕ) → level_by (changes (switched_groups model now event)) u (level_of (now.tasks u)) ≡ level_of (map_live (switched_task model now event) (now.tasks u))
+    alone-leads : (fate : Fate LegTask) → now.tasks t ≡ fate → (u : ℕ) → level_by (changes (switched_groups model now event)) u (level_of (now.tasks u)) ≡ level_of (map_live (switched_task model now event) (now.tasks u))
     alone-leads Unused at u = all_stay (λ g. crowd-stays now event t kind checks g (not_alone now t g Unused at (λ x e. absurd cc))) u
     alone-leads Dead at u = all_stay (λ g. crowd-stays now event t kind checks g (not_alone now t g Dead at (λ x e. absurd cc))) u
     alone-leads (Live x) at u = by (switches_at model now event x.group) refl
@@ -169,7 +169,7 @@ module _ (model : Rules) where
         by true switches = one_switches x at switches u
         by false stays = all_stay (λ g. ⊎_elim
             (λ (same : x.group ≡ g). subst (λ n. switches_at model now event n ≡ false) same stays)
-            (λ (ne : x.group ≡ g → ⊥). crowd-stays now event t kind checks g (not_alone now t g (Live x) at (λ z e same. ne (ap (λ (w : Standing). w.group) (let inside : x ≡ z = cc in inside) ∙ same))))
+            (λ (ne : x.group ≡ g → ⊥). crowd-stays now event t kind checks g (not_alone now t g (Live x) at (λ z e same. ne (ap (λ (w : LegTask). w.group) (let inside : x ≡ z = cc in inside) ∙ same))))
             (cases_eq x.group g)) u
 
   -- ---- A scan
@@ -206,20 +206,20 @@ module _ (model : Rules) where
           sym (ap (λ a. if (a || is_judged vs u) && task_switches switches (slot e.table u) then some_level e.target else old) (ne_eqb u v.task.0 ne)))
           (cases_eq u v.task.0)
 
-  module _ (lawful : IsLawful model) (e : Engine) (sound : IsSound (state_in e)) (wide : IsWide e.table) (vs : List Verdict) (kind : CheckKind) (event : Event) (enough : AreEnough model kind (state_in e) vs) (now : State) (same_tasks : now.tasks ≡ standings e.table) (tasks_wide : suc now.bounds.tasks ≡ 65536) (aims : now.target ≡ e.target)
+  module _ (lawful : IsLawful model) (e : Engine) (sound : IsSound (state_in e)) (wide : IsWide e.table) (vs : List Verdict) (kind : CheckKind) (event : Event) (enough : AreEnough model kind (state_in e) vs) (now : State) (same_tasks : now.tasks ≡ leg_tasks e.table) (tasks_wide : suc now.bounds.tasks ≡ 65536) (aims : now.target ≡ e.target)
       (switches : (g : ℕ) → switches_at model now event g ≡ switches_by e.table (verdicts_of model kind (state_in e)) g) where
     abbrev in_switched : ℕ → Bool
     in_switched n = list_any (nat_eq n) (switched_groups model now event)
 
-    scan-leads : (u : ℕ) (o : Option Standing) → slot e.table u ≡ o → level_by (target_among e (switched_groups model now event) vs) u (level_of (standings e.table u)) ≡ level_of (map_live (switched_task model now event) (standings e.table u))
+    scan-leads : (u : ℕ) (o : Option LegTask) → slot e.table u ≡ o → level_by (target_among e (switched_groups model now event) vs) u (level_of (leg_tasks e.table u)) ≡ level_of (map_live (switched_task model now event) (leg_tasks e.table u))
     scan-leads u None at =
-        target-level e in_switched vs u (level_of (standings e.table u))
-        ∙ ap (λ o. if is_judged vs u && task_switches in_switched o then some_level e.target else level_of (standings e.table u)) at
-        ∙ ap (λ b. if b then some_level e.target else level_of (standings e.table u)) (and-false (is_judged vs u))
-        ∙ sym (level-stays now event (standings e.table u) (λ x live. let none : None ≡ Some x = sym at ∙ slot_from_live e.table u x live in absurd cc))
-    scan-leads u (Some x) at = target-level e in_switched vs u (level_of (standings e.table u)) ∙ ap (λ o. if is_judged vs u && task_switches in_switched o then some_level e.target else level_of (standings e.table u)) at ∙ by (switches_at model now event x.group) refl
+        target-level e in_switched vs u (level_of (leg_tasks e.table u))
+        ∙ ap (λ o. if is_judged vs u && task_switches in_switched o then some_level e.target else level_of (leg_tasks e.table u)) at
+        ∙ ap (λ b. if b then some_level e.target else level_of (leg_tasks e.table u)) (and-false (is_judged vs u))
+        ∙ sym (level-stays now event (leg_tasks e.table u) (λ x live. let none : None ≡ Some x = sym at ∙ slot_from_live e.table u x live in absurd cc))
+    scan-leads u (Some x) at = target-level e in_switched vs u (level_of (leg_tasks e.table u)) ∙ ap (λ o. if is_judged vs u && task_switches in_switched o then some_level e.target else level_of (leg_tasks e.table u)) at ∙ by (switches_at model now event x.group) refl
       where
-        live : standings e.table u ≡ Live x
+        live : leg_tasks e.table u ≡ Live x
         live = live_from_slot e.table u x at
 
         listed : in_switched x.group ≡ switches_at model now event x.group
@@ -229,20 +229,20 @@ module _ (model : Rules) where
         on true = refl
         on false = refl
 
-        by : (b : Bool) → switches_at model now event x.group ≡ b → (if is_judged vs u && in_switched x.group then some_level e.target else level_of (standings e.table u)) ≡ level_of (map_live (switched_task model now event) (standings e.table u))
+        by : (b : Bool) → switches_at model now event x.group ≡ b → (if is_judged vs u && in_switched x.group then some_level e.target else level_of (leg_tasks e.table u)) ≡ level_of (map_live (switched_task model now event) (leg_tasks e.table u))
         by false stays =
-            ap (λ b. if is_judged vs u && b then some_level e.target else level_of (standings e.table u)) (listed ∙ stays)
-            ∙ ap (λ b. if b then some_level e.target else level_of (standings e.table u)) (and-false (is_judged vs u))
-            ∙ sym (level-stays now event (standings e.table u) (λ y there. let inside : Live x ≡ Live y = sym live ∙ there in let same : x ≡ y = cc in subst (λ (z : Standing). switches_at model now event z.group ≡ false) same stays))
+            ap (λ b. if is_judged vs u && b then some_level e.target else level_of (leg_tasks e.table u)) (listed ∙ stays)
+            ∙ ap (λ b. if b then some_level e.target else level_of (leg_tasks e.table u)) (and-false (is_judged vs u))
+            ∙ sym (level-stays now event (leg_tasks e.table u) (λ y there. let inside : Live x ≡ Live y = sym live ∙ there in let same : x ≡ y = cc in subst (λ (z : LegTask). switches_at model now event z.group ≡ false) same stays))
         by true does =
-            let end : level_of (map_live (switched_task model now event) (standings e.table u)) ≡ some_level e.target = ap (λ f. level_of (map_live (switched_task model now event) f)) live ∙ level-switches now event x does ∙ ap some_level aims in
+            let end : level_of (map_live (switched_task model now event) (leg_tasks e.table u)) ≡ some_level e.target = ap (λ f. level_of (map_live (switched_task model now event) f)) live ∙ level-switches now event x does ∙ ap some_level aims in
             ⊎_elim
             (λ (here : nat_eq x.level e.target ≡ true).
-            let old : level_of (standings e.table u) ≡ some_level e.target = ap level_of live ∙ ap some_level (eqb-true x.level e.target here) in
+            let old : level_of (leg_tasks e.table u) ≡ some_level e.target = ap level_of live ∙ ap some_level (eqb-true x.level e.target here) in
             ap (λ l. if is_judged vs u && in_switched x.group then some_level e.target else l) old ∙ on (is_judged vs u && in_switched x.group) ∙ sym end)
             (λ (off : nat_eq x.level e.target ≡ false).
             let judged : is_judged vs u ≡ true = switches-judged model lawful kind (state_in e) sound vs enough e.table (λ t y there. slot_from_live e.table t y there) u x live off (sym (switches x.group) ∙ does) in
-            ap₂ (λ a b. if a && b then some_level e.target else level_of (standings e.table u)) judged (listed ∙ does) ∙ sym end)
+            ap₂ (λ a b. if a && b then some_level e.target else level_of (leg_tasks e.table u)) judged (listed ∙ does) ∙ sym end)
             (cases_Bool (nat_eq x.level e.target))
 
   -- ---- Any event
@@ -251,7 +251,7 @@ module _ (model : Rules) where
   target-none e [] = refl
   target-none e (v ∷ vs) = ap (λ o. cons_option o (target_among e [] vs)) (cond-false _ _ _ (no_group (slot e.table v.task.0))) ∙ target-none e vs
     where
-      no_group : (o : Option Standing) → task_switches (λ n. list_any (nat_eq n) []) o ≡ false
+      no_group : (o : Option LegTask) → task_switches (λ n. list_any (nat_eq n) []) o ≡ false
       no_group None = refl
       no_group (Some x) = refl
 
@@ -268,15 +268,15 @@ module _ (model : Rules) where
     s = state_in e
 
     abbrev Leading : Event → Option Refusal → ℕ → Type 0
-    Leading event refusal u = level_by (levels_by e event (answer_by model s event refusal).what vs) u (level_of (standings e.table u)) ≡ level_of ((next_by model s event refusal).tasks u)
+    Leading event refusal u = level_by (levels_by e event (answer_by model s event refusal).what vs) u (level_of (leg_tasks e.table u)) ≡ level_of ((next_by model s event refusal).tasks u)
 
     -- a quiet event that brings and ends no task
-    quiet-leads : (event : Event) (t : ℕ) (f : Standing → Standing) → is_quiet event ≡ true → ((x : Standing) → (f x).level ≡ x.level) → (affected model s event).tasks ≡ change t f (standings e.table) → levels_by e event (switched []) vs ≡ []
-        → (u : ℕ) → level_by (levels_by e event (switched (switched_groups model (affected model s event) event)) vs) u (level_of (standings e.table u)) ≡ level_of (map_live (switched_task model (affected model s event) event) ((affected model s event).tasks u))
+    quiet-leads : (event : Event) (t : ℕ) (f : LegTask → LegTask) → is_unchecked event ≡ true → ((x : LegTask) → (f x).level ≡ x.level) → (affected model s event).tasks ≡ change t f (leg_tasks e.table) → levels_by e event (switched []) vs ≡ []
+        → (u : ℕ) → level_by (levels_by e event (switched (switched_groups model (affected model s event) event)) vs) u (level_of (leg_tasks e.table u)) ≡ level_of (map_live (switched_task model (affected model s event) event) ((affected model s event).tasks u))
     quiet-leads event t f quiet keeps own none u =
-        ap (λ gs. level_by (levels_by e event (switched gs) vs) u (level_of (standings e.table u))) (quiet-none (affected model s event) event quiet)
-        ∙ ap (λ ms. level_by ms u (level_of (standings e.table u))) none
-        ∙ sym (quiet-level (affected model s event) event ((affected model s event).tasks u) quiet ∙ ap (λ (now : Standings). level_of (now u)) own ∙ level-change t f keeps (standings e.table) u)
+        ap (λ gs. level_by (levels_by e event (switched gs) vs) u (level_of (leg_tasks e.table u))) (quiet-none (affected model s event) event quiet)
+        ∙ ap (λ ms. level_by ms u (level_of (leg_tasks e.table u))) none
+        ∙ sym (quiet-level (affected model s event) event ((affected model s event).tasks u) quiet ∙ ap (λ (now : LegTasks). level_of (now u)) own ∙ level-change t f keeps (leg_tasks e.table) u)
 
     leads : (event : Event) → AreVerdictsFor model s event vs → (refusal : Option Refusal) → (u : ℕ) → Leading event refusal u
     leads event given (Some why) u = refl
@@ -285,26 +285,26 @@ module _ (model : Rules) where
     leads Reverse given None u = refl
     leads (Call t f) given None u =
         let now = affected model s (Call t f) in
-        sym (quiet-level now (Call t f) (now.tasks u) refl ∙ level-change t.0 (calling (suc e.number) f) (λ x. refl) (standings e.table) u)
+        sym (quiet-level now (Call t f) (now.tasks u) refl ∙ level-change t.0 (calling (suc e.number) f) (λ x. refl) (leg_tasks e.table) u)
     leads (Ret t) given None u = quiet-leads (Ret t) t.0 returning refl (λ x. refl) refl refl u
     leads (Sleep t) given None u = quiet-leads (Sleep t) t.0 (put_in Asleep) refl (λ x. refl) refl refl u
     leads (Wake t) given None u = quiet-leads (Wake t) t.0 (put_in Kernel) refl (λ x. refl) refl refl u
     leads (Enter t) given None u = quiet-leads (Enter t) t.0 (put_in Kernel) refl (λ x. refl) refl refl u
     leads (Fork p c how) given None u =
         let now = affected model s (Fork p c how) in
-        let old = level_of (standings e.table u) in
+        let old = level_of (leg_tasks e.table u) in
         ap (λ gs. level_by (levels_by e (Fork p c how) (switched gs) vs) u old) (quiet-none now (Fork p c how) refl)
         ∙ ⊎_elim
         (λ (same : u ≡ c.0).
-        one-level c.0 u (level_of (standings e.table p.0)) old same
-        ∙ sym (quiet-level now (Fork p c how) (now.tasks u) refl ∙ ap level_of (cond-true _ _ _ (eq-eqb u c.0 same)) ∙ level-map (bearing model.child_group c.0 how) (λ x. refl) (standings e.table p.0)))
+        one-level c.0 u (level_of (leg_tasks e.table p.0)) old same
+        ∙ sym (quiet-level now (Fork p c how) (now.tasks u) refl ∙ ap level_of (cond-true _ _ _ (eq-eqb u c.0 same)) ∙ level-map (bearing model.child_group c.0 how) (λ x. refl) (leg_tasks e.table p.0)))
         (λ (ne : u ≡ c.0 → ⊥).
-        other-level c.0 u (level_of (standings e.table p.0)) old ne
+        other-level c.0 u (level_of (leg_tasks e.table p.0)) old ne
         ∙ sym (quiet-level now (Fork p c how) (now.tasks u) refl ∙ ap level_of (cond-false _ _ _ (ne_eqb u c.0 ne))))
         (cases_eq u c.0)
     leads (Die t) given None u =
         let now = affected model s (Die t) in
-        let old = level_of (standings e.table u) in
+        let old = level_of (leg_tasks e.table u) in
         ap (λ gs. level_by (levels_by e (Die t) (switched gs) vs) u old) (quiet-none now (Die t) refl)
         ∙ ⊎_elim
         (λ (same : u ≡ t.0). one-level t.0 u None old same ∙ sym (quiet-level now (Die t) (now.tasks u) refl ∙ ap level_of (cond-true _ _ _ (eq-eqb u t.0 same))))
@@ -312,22 +312,26 @@ module _ (model : Rules) where
         (cases_eq u t.0)
     leads (Exit t) given None u =
         let now = affected model s (Exit t) in
-        ap (λ l. level_by (levels_by e (Exit t) (switched (switched_groups model now (Exit t))) vs) u l) (sym (level-change t.0 (put_in User) (λ x. refl) (standings e.table) u))
-        ∙ alone-leads e sound wide now (Exit t) t.0 Check.KernelExit (λ group. refl) refl refl (λ v y at. origin-change t.0 (put_in User) (λ x. refl) (standings e.table) v y at)
+        ap (λ l. level_by (levels_by e (Exit t) (switched (switched_groups model now (Exit t))) vs) u l) (sym (level-change t.0 (put_in User) (λ x. refl) (leg_tasks e.table) u))
+        ∙ alone-leads e sound wide now (Exit t) t.0 Check.KernelExit (λ group. refl) refl refl (λ v y at. origin-change t.0 (put_in User) (λ x. refl) (leg_tasks e.table) v y at)
         (λ gs. levels_by e (Exit t) (switched gs) vs) refl t refl (λ g gs. refl) (now.tasks t.0) refl u
     leads (Idle t) given None u =
         let now = affected model s (Idle t) in
         alone-leads e sound wide now (Idle t) t.0 Check.IdlePoint (λ group. refl) refl refl (λ v y at. record { task = y; there = at; grouped = refl })
         (λ gs. levels_by e (Idle t) (switched gs) vs) refl t refl (λ g gs. refl) (now.tasks t.0) refl u
+    leads (Resched t) given None u =
+        let now = affected model s (Resched t) in
+        alone-leads e sound wide now (Resched t) t.0 Check.Resched (λ group. refl) refl refl (λ v y at. record { task = y; there = at; grouped = refl })
+        (λ gs. levels_by e (Resched t) (switched gs) vs) refl t refl (λ g gs. refl) (now.tasks t.0) refl u
     leads Walk given None u =
         let now = affected model s Walk in
-        ap (λ ms. level_by ms u (level_of (standings e.table u))) (walk-levels e (switched_groups model now Walk) vs)
+        ap (λ ms. level_by ms u (level_of (leg_tasks e.table u))) (walk-levels e (switched_groups model now Walk) vs)
         ∙ scan-leads lawful e sound wide vs Check.Walk Walk given now refl refl refl (switches-walk model lawful 65536 s refl sound e.table (λ t y there. slot_from_live e.table t y there)) u (slot e.table u) refl
     leads Stop given None u =
         let now = affected model s Stop in
-        ap (λ ms. level_by ms u (level_of (standings e.table u))) (stop-levels e (switched_groups model now Stop) vs)
+        ap (λ ms. level_by ms u (level_of (leg_tasks e.table u))) (stop-levels e (switched_groups model now Stop) vs)
         ∙ scan-leads lawful e sound wide vs Check.Stop Stop given now refl refl refl (switches-stop model lawful 65536 s refl sound e.table (λ t y there. slot_from_live e.table t y there)) u (slot e.table u) refl
 
     -- what the answer tells leads to the next state's levels
-    pub levels-lead : (event : Event) → AreVerdictsFor model s event vs → (refusal : Option Refusal) → (u : ℕ) → level_by (levels_by e event (answer_by model s event refusal).what vs) u (level_of (standings e.table u)) ≡ level_of ((next_by model s event refusal).tasks u)
+    pub levels-lead : (event : Event) → AreVerdictsFor model s event vs → (refusal : Option Refusal) → (u : ℕ) → level_by (levels_by e event (answer_by model s event refusal).what vs) u (level_of (leg_tasks e.table u)) ≡ level_of ((next_by model s event refusal).tasks u)
     levels-lead = leads

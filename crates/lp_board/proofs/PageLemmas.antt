@@ -9,7 +9,7 @@ use Rattle.lp_stack.specs.declared.number.Level.{Level}
 use Rattle.lp_stack.specs.declared.number.TaskId.{TaskId}
 use Rattle.lp_definitions.specs.declared.event.Event.{Event}
 use Rattle.lp_definitions.specs.Tasks.{Fate, Unused, Live, Dead}
-use Rattle.lp_definitions.specs.Leg.{Standing, State}
+use Rattle.lp_definitions.specs.Leg.{LegTask, State}
 use Rattle.lp_board.specs.declared.shown.Shown.{Shown}
 use Rattle.lp_board.specs.declared.sheet.Heading.{Heading}
 use Rattle.lp_board.specs.declared.sheet.Page.{Page}
@@ -21,7 +21,7 @@ use Rattle.lp_board.specs.Pages.{level_of, IsPageOf, IsPage, shown_by, shown_at,
 
 -- ---- What is shown
 
-shown-fate : (heading : Heading) (in_transition : Bool) (lower : ℕ) (fate : Fate Standing) → heading.in_transition ≡ in_transition → heading.lower.0 ≡ lower → shown_by heading (level_of fate) ≡ shown_of in_transition lower fate
+shown-fate : (heading : Heading) (in_transition : Bool) (lower : ℕ) (fate : Fate LegTask) → heading.in_transition ≡ in_transition → heading.lower.0 ≡ lower → shown_by heading (level_of fate) ≡ shown_of in_transition lower fate
 shown-fate heading in_transition lower Unused m l = refl
 shown-fate heading in_transition lower (Live x) m l = rw (m, l) refl
 shown-fate heading in_transition lower Dead m l = refl

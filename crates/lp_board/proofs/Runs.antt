@@ -5,7 +5,7 @@ use Rattle.lp_definitions.specs.declared.event.Event.{Event}
 use Rattle.lp_definitions.specs.Leg.{State}
 use Rattle.lp_machine.specs.Steps.{StandsIn}
 use Rattle.lp_machine.specs.Machine.{next}
-use Rattle.lp_machine.proofs.Runs.{steps_as_defined}
+use Rattle.lp_machine_laws.proofs.Runs.{steps_as_defined}
 use Rattle.lp_board.specs.Names.{Name, run_of, state_after}
 
 -- where a run of this model stands is the state after its events

@@ -3,7 +3,7 @@ use Rattle.std.specs.Prelude.{◌≡◌, ℕ, ◌<◌, List, [], ◌∷◌, leng
 use Rattle.lp_stack.specs.declared.number.Level.{Level}
 use Rattle.lp_stack.specs.declared.number.TaskId.{TaskId}
 use Rattle.lp_definitions.specs.Tasks.{Fate, Unused, Live, Dead}
-use Rattle.lp_definitions.specs.Leg.{Standing, State}
+use Rattle.lp_definitions.specs.Leg.{LegTask, State}
 use Rattle.lp_board.specs.declared.shown.Shown.{Shown}
 use Rattle.lp_board.specs.declared.shown.Shown.TheVariants.{Absent}
 use Rattle.lp_board.specs.declared.sheet.Heading.{Heading}
@@ -16,7 +16,7 @@ use Rattle.lp_board.specs.Names.{Name, state_after}
 -- ---- What is kept of a state
 
 -- the level of a live task
-abbrev pub level_of : Fate Standing → Option Level
+abbrev pub level_of : Fate LegTask → Option Level
 level_of Unused = None
 level_of (Live x) = Some (record { 0 = x.level })
 level_of Dead = None

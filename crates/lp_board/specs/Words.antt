@@ -3,7 +3,7 @@ use Rattle.std.specs.Prelude.{ℕ, Bool, not, min, List, Option, Some, None, if�
 use Rattle.std.specs.List.{filter_map, range_with_len}
 use Rattle.lp_stack.specs.declared.number.TaskId.{TaskId}
 use Rattle.lp_definitions.specs.Tasks.{Fate, Unused, Live, Dead}
-use Rattle.lp_definitions.specs.Leg.{Standing, State}
+use Rattle.lp_definitions.specs.Leg.{LegTask, State}
 use Rattle.lp_machine.specs.Machine.{complete_in}
 use Rattle.lp_board.specs.declared.shown.Shown.{Shown}
 use Rattle.lp_board.specs.declared.shown.Shown.TheVariants.{Absent, Settled, Unpatched, Patched}
@@ -13,7 +13,7 @@ abbrev pub shown_on : (in_transition : Bool) → (lower : ℕ) → (level : ℕ)
 shown_on in_transition lower level = if in_transition then (if nat_lt lower level then Patched else Unpatched) else Settled
 
 -- what is shown of a task number of this fate
-abbrev pub shown_of : (in_transition : Bool) → (lower : ℕ) → Fate Standing → Shown
+abbrev pub shown_of : (in_transition : Bool) → (lower : ℕ) → Fate LegTask → Shown
 shown_of in_transition lower Unused = Absent
 shown_of in_transition lower (Live x) = shown_on in_transition lower x.level
 shown_of in_transition lower Dead = Absent

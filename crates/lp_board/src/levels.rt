@@ -1,7 +1,7 @@
 //! The level of each task number.
 ghost use Rattle.std.specs.Prelude.{◌≡◌, ◌≤◌, ◌&&◌, ◌||◌, ℕ, None, IfOk, length, nat_eq, slice_index_or, slice_set};
 ghost use Rattle.lp_numbers.specs.Numbers.{has};
-ghost use Rattle.lp_machine.specs.Table.{standings};
+ghost use Rattle.lp_machine.specs.Table.{leg_tasks};
 ghost use Rattle.lp_board.specs.inside.Starts.{levels_of};
 ghost use Rattle.lp_board.specs.inside.Levels.{AreLive};
 ghost use Rattle.lp_board.specs.Pages.{level_of, shown_by, written};
@@ -139,7 +139,7 @@ fn list_of<M: Consistency>(alloc: Global, core: &Core<M>) -> Result<Vec<Option<L
 
 /// The level of a live task; None for any other.
 pub(crate) fn level_now<M: Consistency>(core: &Core<M>, task: TaskId) -> Option<Level>
-    ensures { result ≡ level_of (standings core.now.table task.0) }
+    ensures { result ≡ level_of (leg_tasks core.now.table task.0) }
 {
     core.side_of(task)
 }

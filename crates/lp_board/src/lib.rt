@@ -1,4 +1,7 @@
 //! A board on which a desk publishes, an event at a time, where its tasks stand, and which readers read without waiting.
+//!
+//! Costs: a publication costs what the event changed, and a look at each reader's place; a snapshot costs the live
+//! tasks. The two copies take 65,536 levels each.
 #![tactic(auto)]
 
 mod blank;

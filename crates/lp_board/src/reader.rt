@@ -1,10 +1,11 @@
 //! Readers of the board, and what they are told.
-ghost use Rattle.std.specs.Prelude.{◌≡◌, ◌⊎◌, ◌↔◌, ◌∷◌, [], length, slice_index_or, IfSome, IfNone, IfOk, IsTrue, OnOk, OnErr};
+ghost use Rattle.std.specs.Prelude.{◌≡◌, ◌⊎◌, ◌↔◌, ◌∷◌, [], length, slice_index_or, IfSome, IfNone, IfOk, IsTrue, OnOk, OnErr, Err};
 ghost use mathlib.Core.List.{IsPrefix};
 ghost use Rattle.lp_board.specs.Words.{shown_word, all_shown};
 ghost use Rattle.lp_board.specs.Names.{state_after};
 ghost use Rattle.lp_board.specs.Pages.{IsPage};
 ghost use Rattle.lp_board.specs.inside.Publishers.{page_of};
+ghost use Rattle.lp_board.specs.declared.reader.BoardFault.TheVariants.{Shut};
 
 use crate::history::Prefix;
 use crate::name::DeskName;
@@ -242,7 +243,8 @@ fn read_all<N: DeskName>(
     }
 }
 
-/// Where each live task stands on a sheet, and after which events.
+/// Where each live task stands on a sheet, and after which events. Shut only where the sheet doesn't begin with what is
+/// known, else NoMemory where an allocation failed.
 fn read_sheet<N: DeskName>(
     sheet: &Sheet<N>,
     known: &Prefix<N>,
@@ -251,6 +253,7 @@ fn read_sheet<N: DeskName>(
     requires { IsPage N.desk (page_of sheet.now) }
     ensures shown { IfOk result (λ r. r.0.items ≡ all_shown (shown_word (state_after N.desk r.1))) }
     ensures later { IfOk result (λ r. IsPrefix known.now r.1) }
+    ensures shut { (result ≡ Err Shut) ↔ (IsPrefix known.now sheet.now.prefix → ⊥) }
 {
     if !sheet.prefix.begins_with(known) {
         return Err(BoardFault::Shut);

@@ -3,7 +3,7 @@ ghost use Rattle.std.specs.Prelude.{◌≡◌, ◌||◌, ℕ, ◌∷◌, [], IfO
 ghost use Rattle.std.specs.List.{list_any, filter_map};
 ghost use Rattle.lp_numbers.specs.Numbers.{has};
 ghost use Rattle.lp_machine.specs.Machine.{next};
-ghost use Rattle.lp_machine.specs.Table.{standings, state_in};
+ghost use Rattle.lp_machine.specs.Table.{leg_tasks, state_in};
 ghost use Rattle.lp_transition.specs.Weigh.{IsWeighed};
 ghost use Rattle.lp_definitions.specs.Events.{group_numbers};
 ghost use Rattle.lp_board.specs.Pages.{IsHeading, Leads, level_of};
@@ -50,7 +50,9 @@ fn levels_by<M: Consistency>(
 {
     match what {
         What::Switched(groups) => match event {
-            Event::Exit(task) | Event::Idle(task) => one(alloc, task, Some(core.target())),
+            Event::Exit(task) | Event::Idle(task) | Event::Resched(task) => {
+                one(alloc, task, Some(core.target()))
+            }
             _ => levels_of_groups(alloc, core, groups.as_slice(), verdicts),
         },
         What::Done => match event {

@@ -1,4 +1,4 @@
--- Patches in flat arrays: the functions of all, one patch behind the other, and how many each has.
+-- Patches in flat arrays: the functions of all, one patch after the other, and how many each has.
 use Rattle.std.specs.Prelude.{◌≡◌, ◌==◌, ℕ, List, [], ◌∷◌, ◌++◌, map, length, take, drop}
 use Rattle.std.specs.List.{list_any}
 use Rattle.lp_symbols.specs.declared.sym_id.SymId.{SymId}

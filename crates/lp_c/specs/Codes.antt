@@ -7,8 +7,6 @@ use Rattle.lp_stack.specs.declared.view.Class.TheVariants as class
 use Rattle.lp_stack.specs.declared.view.Mode.{Mode}
 use Rattle.lp_stack.specs.declared.view.Mode.TheVariants.{User, Kernel, Asleep}
 use Rattle.lp_model.specs.declared.check.ForkKind.TheVariants.{Own, Share}
-use Rattle.lp_models.specs.declared.name.ModelName.{ModelName}
-use Rattle.lp_models.specs.declared.name.ModelName.TheVariants as called
 use Rattle.lp_definitions.specs.declared.event.Event.{Event}
 use Rattle.lp_definitions.specs.declared.event.Event.TheVariants as event
 use Rattle.lp_definitions.specs.declared.reply.What.{What}
@@ -23,17 +21,13 @@ use Rattle.lp_c.specs.declared.codes.CertCode.{CertCode}
 use Rattle.lp_c.specs.declared.codes.LineCode.{LineCode}
 use Rattle.lp_c.specs.declared.codes.Told.{Told}
 
--- the models, by their numbers
-abbrev pub models : List ModelName
-models = called.Hybrid ∷ called.LeaveKernel ∷ called.AllAtOnce ∷ called.Immediate ∷ called.ProcessGroup ∷ []
-
 -- the events of a task and another number, by their kinds
 abbrev pub events_of : (task other : ℕ) → List Event
 events_of t other =
     let task : TaskId = record { 0 = t } in
     let func : SymId = record { 0 = other } in
     let child : TaskId = record { 0 = other } in
-    event.Call task func ∷ event.Ret task ∷ event.Sleep task ∷ event.Wake task ∷ event.Enter task ∷ event.Exit task ∷ event.Idle task ∷ event.Fork task child Own ∷ event.Fork task child Share ∷ event.Die task ∷ event.Walk ∷ event.Stop ∷ event.Enable ∷ event.Disable ∷ event.Reverse ∷ []
+    event.Call task func ∷ event.Ret task ∷ event.Sleep task ∷ event.Wake task ∷ event.Enter task ∷ event.Exit task ∷ event.Idle task ∷ event.Fork task child Own ∷ event.Fork task child Share ∷ event.Die task ∷ event.Walk ∷ event.Stop ∷ event.Enable ∷ event.Disable ∷ event.Reverse ∷ event.Resched task ∷ []
 
 -- an idle task has any other number than 0
 abbrev pub class_of : ℕ → Class

@@ -6,7 +6,7 @@ use Rattle.lp_stack.specs.declared.view.Class.{Class}
 use Rattle.lp_patch.specs.Patches.{Patches}
 use Rattle.lp_definitions.specs.declared.event.Event.{Event}
 use Rattle.lp_definitions.specs.declared.reply.Reply.{Reply}
-use Rattle.lp_definitions.specs.Leg.{Standing}
+use Rattle.lp_definitions.specs.Leg.{LegTask}
 use Rattle.lp_machine.specs.Machine.{complete_in}
 use Rattle.lp_definitions.specs.Run.{leg_of, plus, reply}
 use Rattle.lp_machine.specs.Table.{state_in}
@@ -14,10 +14,12 @@ use Rattle.lp_definitions.specs.declared.cert.Cert.{Cert}
 use Rattle.lp_definitions.specs.declared.line.Line.{Line}
 use Rattle.lp_definitions.specs.Ends.{end_of}
 use Rattle.lp_cert.specs.Ends.{leg_under_way, waiting_in}
-use Rattle.livepatch.specs.Named.{NamedRun, rules_named}
+use Rattle.lp_models.specs.Names.{rules_named}
+use Rattle.livepatch.specs.Named.{NamedRun}
 use Rattle.livepatch.specs.Simulated.{run_with}
 use Rattle.lp_c.specs.Arrays.{AreSets}
-use Rattle.lp_c.specs.Codes.{cert_code, events_of, flag, groups_in, mode_number, models, told_of}
+use Rattle.lp_models.specs.Names.{models}
+use Rattle.lp_c.specs.Codes.{cert_code, events_of, flag, groups_in, mode_number, told_of}
 use Rattle.lp_c.specs.declared.codes.CertCode.{CertCode}
 use Rattle.lp_c.specs.declared.codes.EngineState.{EngineState}
 use Rattle.lp_c.specs.declared.codes.EventCode.{EventCode}
@@ -86,7 +88,7 @@ pub record TellsState (held : Held) (state : EngineState) : Type 0 where
   pub in_transition : state.in_transition ≡ flag (not (complete_in (state_in held.named.simulated.core)))
 
 -- a live task as it stands
-pub record TellsTask (x : Standing) (state : TaskState) : Type 0 where
+pub record TellsTask (x : LegTask) (state : TaskState) : Type 0 where
   pub level : state.level ≡ x.level
   pub group : state.group ≡ x.group
   pub mode : state.mode ≡ mode_number x.mode

@@ -1,6 +1,7 @@
 //! The numbers by which C names what it cannot see.
 ghost use Rattle.std.specs.Prelude.{◌≡◌, slice_get};
-ghost use Rattle.lp_c.specs.Codes.{boot_of, cert_code as code_of_cert, events_of, line_code as code_of_line, mode_number as mode_code, models, told_of};
+ghost use Rattle.lp_models.specs.Names.{models};
+ghost use Rattle.lp_c.specs.Codes.{boot_of, cert_code as code_of_cert, events_of, line_code as code_of_line, mode_number as mode_code, told_of};
 
 use livepatch::{Cert, Class, Event, ForkKind, Line, Mode, ModelName, Reply, SymId, TaskId, What};
 
@@ -140,13 +141,7 @@ pub struct LineCode {
 pub(crate) fn model_of(number: u32) -> Option<ModelName>
     ensures { result ≡ slice_get models number }
 {
-    let all = [
-        ModelName::Hybrid,
-        ModelName::LeaveKernel,
-        ModelName::AllAtOnce,
-        ModelName::Immediate,
-        ModelName::ProcessGroup,
-    ];
+    let all = ModelName::all();
     all.get(number as usize).copied()
 }
 
@@ -155,24 +150,26 @@ pub(crate) fn event_of(code: EventCode) -> Option<Event>
     ensures { result ≡ slice_get (events_of code.task code.other) code.kind }
 {
     let task = TaskId(code.task);
-    let all = [
-        Event::Call(task, SymId(code.other)),
-        Event::Ret(task),
-        Event::Sleep(task),
-        Event::Wake(task),
-        Event::Enter(task),
-        Event::Exit(task),
-        Event::Idle(task),
-        Event::Fork(task, TaskId(code.other), ForkKind::Own),
-        Event::Fork(task, TaskId(code.other), ForkKind::Share),
-        Event::Die(task),
-        Event::Walk,
-        Event::Stop,
-        Event::Enable,
-        Event::Disable,
-        Event::Reverse,
-    ];
-    all.get(code.kind as usize).copied()
+    let event = match code.kind {
+        0 => Event::Call(task, SymId(code.other)),
+        1 => Event::Ret(task),
+        2 => Event::Sleep(task),
+        3 => Event::Wake(task),
+        4 => Event::Enter(task),
+        5 => Event::Exit(task),
+        6 => Event::Idle(task),
+        7 => Event::Fork(task, TaskId(code.other), ForkKind::Own),
+        8 => Event::Fork(task, TaskId(code.other), ForkKind::Share),
+        9 => Event::Die(task),
+        10 => Event::Walk,
+        11 => Event::Stop,
+        12 => Event::Enable,
+        13 => Event::Disable,
+        14 => Event::Reverse,
+        15 => Event::Resched(task),
+        _ => return None,
+    };
+    Some(event)
 }
 
 /// A boot task with its class.

@@ -5,7 +5,8 @@ ghost use Rattle.lp_transition.specs.Blames.{blame_of};
 ghost use Rattle.lp_machine.specs.Table.{slot as live_in};
 ghost use Rattle.lp_definitions.specs.declared.cert.Cert.{Cert};
 ghost use Rattle.livepatch.specs.Simulated.{run_with};
-ghost use Rattle.lp_c.specs.Codes.{boot_of, line_code as code_of_line, models};
+ghost use Rattle.lp_models.specs.Names.{models};
+ghost use Rattle.lp_c.specs.Codes.{boot_of, line_code as code_of_line};
 ghost use Rattle.lp_c.specs.Held.{IsCertified, IsCreated, IsFirst, IsStep, IsTaken, TellsState, TellsTask, cert_of, lines_in};
 
 use crate::codes::{

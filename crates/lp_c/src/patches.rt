@@ -60,7 +60,7 @@ fn patch_sets(
     Ok(sets)
 }
 
-/// One patch, behind the others.
+/// One patch, after the others.
 fn push_set(
     alloc: Global,
     symbols: &SymbolCount,

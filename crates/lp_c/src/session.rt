@@ -60,8 +60,10 @@ impl Session {
     {
         let reply = self.simulator.step(alloc, event)?;
         let told = told_of(&reply);
-        self.groups = groups_of(alloc, reply);
-        self.cert = None;
+        keep_groups(alloc, reply, &mut self.groups);
+        if self.cert.is_some() {
+            forget(&mut self.cert);
+        }
         Ok(told)
     }
 
@@ -102,12 +104,35 @@ impl Session {
     }
 }
 
-/// The groups of a reply, moved.
-fn groups_of(alloc: Global, reply: Reply) -> Vec<GroupId>
-    ensures { group_numbers result.items ≡ groups_in reply.what }
+/// Keeps the groups of a reply in place of those of the one before. Most events have none, and come after one that had none.
+#[inline(always)]
+fn keep_groups(alloc: Global, reply: Reply, groups: &mut Vec<GroupId>)
+    ensures { group_numbers groups.new.items ≡ groups_in reply.what }
 {
     match reply.what {
-        What::Switched(groups) => groups.into_vec(),
-        _ => Vec::new(alloc),
+        What::Switched(switched) => *groups = switched.into_vec(),
+        _ => {
+            if !groups.is_empty() {
+                forget_groups(alloc, groups);
+            }
+        }
     }
+}
+
+/// Frees the groups of an event. Out of line, since most events find none.
+#[cold]
+#[inline(never)]
+fn forget_groups(alloc: Global, groups: &mut Vec<GroupId>)
+    ensures { groups.new.items ≡ [] }
+{
+    *groups = Vec::new(alloc);
+}
+
+/// Frees the certificate that was asked for. Out of line, since most events find none.
+#[cold]
+#[inline(never)]
+fn forget(cert: &mut Option<Cert>)
+    ensures { cert.new ≡ None }
+{
+    *cert = None;
 }

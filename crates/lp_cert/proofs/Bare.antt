@@ -1,5 +1,5 @@
 -- Groups that wait without a line.
-use Rattle.std.proofs.Common.{◌≡◌, ℕ, zero, suc, ◌-◌, ◌<◌, Bool, true, false, List, [], ◌∷◌, length, map, filter, reverse, get_or, slice_get, Option, Some, None, refl, sym, ap, ap₂, subst, ◌∙◌, arith}
+use Rattle.std.proofs.Common.{◌≡◌, ℕ, zero, suc, ◌-◌, ◌<◌, ◌⊎◌, ⊎_elim, Bool, true, false, List, [], ◌∷◌, length, map, filter, reverse, get_or, slice_get, Option, Some, None, refl, sym, ap, ap₂, subst, ◌∙◌, arith}
 use Rattle.std.specs.List.{range_with_len}
 use Rattle.std.specs.Option.{option_map}
 use Rattle.std.proofs.lemmas.Bool.{cond-true, cond-false}
@@ -20,7 +20,7 @@ use Rattle.lp_definitions.specs.Certificates.{group_id}
 use Rattle.lp_cert.specs.Heads.{head_lines}
 use Rattle.lp_cert.specs.Invariant.{claim_of, end_waiters, upto_of}
 use Rattle.lp_cert.specs.Waiters.{LegReasons, WaitingGroups, head_of, kept_cert, waiter_in, waiters_of}
-use Rattle.lp_cert.specs.inside.Heads.{ContinuesIn, IsHead}
+use Rattle.lp_cert.specs.inside.Heads.{IsKnown, IsHead}
 use Rattle.lp_cert.specs.inside.Invariant.{certs_at}
 use Rattle.lp_cert.specs.declared.cert_list.BareHead.{BareHead}
 use Rattle.lp_cert.specs.inside.Bare.{bare_cert, bare_certs as certs_of}
@@ -30,16 +30,19 @@ use Rattle.lp_cert.proofs.Ending.{bare_lines}
 
 -- ---- Before any scan and any birth
 
-nothing_yet : (n : ℕ) (o : Ongoing) → n ≡ 0 → ContinuesIn n o → o ≡ Nothing
-nothing_yet n Nothing none goes = refl
-nothing_yet n (Hold task serial from) none goes = absurd (omega arith)
-nothing_yet n (Busy task first) none goes = absurd (omega arith)
+none_known : (lists n : ℕ) → lists ≡ 1 → n ≡ 0 → (0 < n) ⊎ (1 < lists) → ⊥
+none_known lists n one none some = ⊎_elim (λ (h : 0 < n). omega (arith, h, none)) (λ (h : 1 < lists). omega (arith, h, one)) some
+
+nothing_yet : (lists n : ℕ) (o : Ongoing) → lists ≡ 1 → n ≡ 0 → IsKnown lists n o → o ≡ Nothing
+nothing_yet lists n Nothing one none some = refl
+nothing_yet lists n (Hold task serial from last) one none some = absurd (none_known lists n one none some)
+nothing_yet lists n (Busy task first) one none some = absurd (none_known lists n one none some)
 
 untold : (lists : List (List Reason)) (scans : List ℕ) (head : Head) (group : GroupId) → IsHead lists (length scans) head → lists ≡ [] ∷ [] → scans ≡ []
     → head_lines lists scans group head ≡ []
 untold lists scans head group is one none =
     let first : head.older.0 ≡ 0 = omega (arith, is.known, ap length one) in
-    bare_lines lists head (nothing_yet (length scans) head.ongoing (ap length none) is.continues) (ap₂ (λ (ls : List (List Reason)) (n : ℕ). length (get_or ls n [])) one first) scans group
+    bare_lines lists head (nothing_yet (length lists) (length scans) head.ongoing (ap length one) (ap length none) is.some_list) (ap₂ (λ (ls : List (List Reason)) (n : ℕ). length (get_or ls n [])) one first) scans group
 
 -- no group that waits has a line
 pub all_bare : (w : WaitingGroups) → AreStanding w → w.reasons.lists ≡ [] ∷ [] → w.reasons.scans ≡ [] → AreBare w

@@ -52,7 +52,7 @@ pub ended_so : (leg : OpenLeg) (w : WaitingGroups) (noted : ℕ) (certs : List C
 ended_so leg w noted certs end is same =
     is ∙ ap (λ (cs : List Cert). record { opened = leg.opened; target = leg.target; completed = option_map (λ done. done.at) leg.completed; certs = cs }) same
 
--- a group behind which none waits
+-- a group after which none waits
 pub one_passes : (set : Numbers) (n : ℕ) (left : List ℕ) → members_from 0 set ≡ n ∷ left → left ≡ [] → passing 0 65536 (has set) ≡ n ∷ []
 one_passes set n left first none = sym (members-passing set) ∙ (first ∙ ap (λ (l : List ℕ). n ∷ l) none)
 

@@ -9,8 +9,8 @@ use Rattle.lp_definitions.specs.Leg.{Leg, after}
 use Rattle.lp_definitions.specs.Run.{Run, AreInRange, first_leg, leg_of, is_complete_now}
 use Rattle.lp_definitions.specs.Schedule.{level, waits, complete, first_check}
 use Rattle.lp_definitions.specs.Sound.{IsSound}
-use Rattle.lp_laws.proofs.Plain.{numbered}
-use Rattle.lp_laws.proofs.Quantifiers.{each_live-not}
+use Rattle.lp_laws.proofs.NextTasks.{numbered}
+use Rattle.lp_definitions.proofs.Quantifiers.{each_live-not}
 use Rattle.lp_laws.proofs.Waiting.{waits-is, waits-from}
 use Rattle.lp_laws.proofs.WholeRun.{run_sound, start_sound}
 use Rattle.lp_definitions.specs.declared.cert.Claim.TheVariants.{Floor}

@@ -4,11 +4,11 @@ use Rattle.std.proofs.lemmas.Bool.{cond-true, cond-false, eq-eqb}
 use Rattle.lp_numbers.specs.Numbers.{has}
 use Rattle.lp_model.specs.Rules.{Rules, IsLawful}
 use Rattle.lp_definitions.specs.Tasks.{Live}
-use Rattle.lp_definitions.specs.Leg.{Standing, State, Leg}
+use Rattle.lp_definitions.specs.Leg.{LegTask, State, Leg}
 use Rattle.lp_definitions.specs.Sound.{IsSound}
 use Rattle.lp_machine.specs.Machine.{waits_in, state_of}
-use Rattle.lp_laws.proofs.Quantifiers.{some_live-from}
-use Rattle.lp_machine.proofs.States.{state_sound}
+use Rattle.lp_definitions.proofs.Quantifiers.{some_live-from}
+use Rattle.lp_machine_laws.proofs.States.{state_sound}
 use Rattle.lp_definitions.specs.Certificates.{lines}
 use Rattle.lp_cert.specs.Waiters.{WaitingGroups}
 use Rattle.lp_cert.specs.inside.Waiters.{lines_at, lines_in}
@@ -22,13 +22,13 @@ module _ (model : Rules) (lawful : IsLawful model) (leg : Leg) (leg_sound : IsSo
   present = state_of model leg
 
   -- a group with a task that waits has its lines
-  pub lines_held : (t : ℕ) (x : Standing) → present.tasks t ≡ Live x → nat_eq x.level present.target ≡ false → x.group < 65536 → (has later.groups x.group ≡ true) × (lines model leg n x.group ≡ lines_in later.reasons x.group)
+  pub lines_held : (t : ℕ) (x : LegTask) → present.tasks t ≡ Live x → nat_eq x.level present.target ≡ false → x.group < 65536 → (has later.groups x.group ≡ true) × (lines model leg n x.group ≡ lines_in later.reasons x.group)
   lines_held t x live off few =
       let bounds = (state_sound model lawful leg leg_sound).numbered t x live in
-      let behind : waits_in present x.group ≡ true =
+      let it_waits : waits_in present x.group ≡ true =
       some_live-from present.bounds present.tasks (λ u y. nat_eq y.group x.group && not (nat_eq y.level present.target))
       (record { task = t; life = x; positive = bounds.0; within = bounds.1; live = live; passed = ap₂ (λ c d. c && not d) (eq-eqb x.group x.group refl) off }) in
-      frame_stands x.group (told x.group few ∙ cond-true (waits_in present x.group) (Some (lines model leg n x.group)) None behind)
+      frame_stands x.group (told x.group few ∙ cond-true (waits_in present x.group) (Some (lines model leg n x.group)) None it_waits)
     where
       frame_stands : (g : ℕ) → lines_at later g ≡ Some (lines model leg n g) → (has later.groups g ≡ true) × (lines model leg n g ≡ lines_in later.reasons g)
       frame_stands g h = by (has later.groups g) refl

@@ -10,11 +10,11 @@ use Rattle.lp_model.specs.Rules.{Rules}
 use Rattle.lp_definitions.specs.declared.event.Event.{Event}
 use Rattle.lp_definitions.specs.declared.event.Event.TheVariants.{Fork}
 use Rattle.lp_definitions.specs.Tasks.{Life, Fate, Unused, Live, Dead, map_live, on_live, first_of}
-use Rattle.lp_definitions.specs.Leg.{Standing, State, Leg, after, accepted, check}
-use Rattle.lp_definitions.specs.Schedule.{standing, view, first_check}
+use Rattle.lp_definitions.specs.Leg.{LegTask, State, Leg, after, accepted, check}
+use Rattle.lp_definitions.specs.Schedule.{leg_task, view, first_check}
 use Rattle.lp_definitions.specs.Run.{shown}
 use Rattle.lp_machine.specs.Machine.{state_of}
-use Rattle.lp_laws.proofs.Plain.{Came, Stayed, Born, came, changed_group, unused_before}
+use Rattle.lp_laws.proofs.NextTasks.{Came, Stayed, Born, came, changed_group, unused_before}
 use Rattle.lp_definitions.specs.declared.line.Line.{Line}
 use Rattle.lp_definitions.specs.declared.line.Line.TheVariants as line
 use Rattle.lp_definitions.specs.Certificates.{after_check, after_refusal, refusal_line, birth_line, with_birth, has_frame, member_blame, first_blamed, lines}
@@ -42,7 +42,7 @@ none_some a e = absurd (cc)
 
 -- the task that a newest line names that is a hold is a member of the group, if it lives
 abbrev pub NamesMember : State → (group : ℕ) → List Line → Type 0
-NamesMember s group (line.Hold g task serial from to ∷ older) = (x : Standing) → s.tasks task.0 ≡ Live x → x.group ≡ group
+NamesMember s group (line.Hold g task serial from to ∷ older) = (x : LegTask) → s.tasks task.0 ≡ Live x → x.group ≡ group
 NamesMember s group _ = Unit {0}
 
 module _ (model : Rules) (leg : Leg) where
@@ -150,12 +150,12 @@ module _ (model : Rules) (leg : Leg) where
   unfolding shown
   lines_name g = by (lines model leg (length leg.events) g) (names (length leg.events) g)
     where
-      live_of : (fate : Fate Life) (x : Standing) → map_live (standing leg (first_check model leg) (length leg.events)) fate ≡ Live x → (y : Life) × (fate ≡ Live y) × (y.group ≡ x.group)
+      live_of : (fate : Fate Life) (x : LegTask) → map_live (leg_task leg (first_check model leg) (length leg.events)) fate ≡ Live x → (y : Life) × (fate ≡ Live y) × (y.group ≡ x.group)
       live_of Unused x e = absurd (cc)
       live_of Dead x e = absurd (cc)
-      live_of (Live y) x e = let same : standing leg (first_check model leg) (length leg.events) y ≡ x = cc in (y, refl, ap (λ z. z.group) same)
+      live_of (Live y) x e = let same : leg_task leg (first_check model leg) (length leg.events) y ≡ x = cc in (y, refl, ap (λ z. z.group) same)
 
-      shown_of : (t : ℕ) (x : Standing) → shown model leg t ≡ Live x → (y : Life) × (after model leg (length leg.events) t ≡ Live y) × (y.group ≡ x.group)
+      shown_of : (t : ℕ) (x : LegTask) → shown model leg t ≡ Live x → (y : Life) × (after model leg (length leg.events) t ≡ Live y) × (y.group ≡ x.group)
       shown_of t x e = live_of (after model leg (length leg.events) t) x e
 
       by : (ls : List Line) → Names (length leg.events) g ls → NamesMember (state_of model leg) g ls

@@ -12,13 +12,17 @@ pub mod VerdictLines
 pub mod WaiterLemmas
 pub mod WholeScans
 pub mod MoreWaiters
-pub mod Behind
-pub mod BehindTasks
+pub mod Taken
+pub mod Waits
+pub mod TasksThatWait
 pub mod ScanTold
 pub mod Settled
 pub mod UnchangedSteps
 pub mod StepLines
+pub mod StillStanding
 pub mod HoldNames
+pub mod OwnChecks
+pub mod UnchangedChecks
 pub mod UnchangedEvents
 pub mod HeldLines
 pub mod UnchangedScans
@@ -35,3 +39,5 @@ pub mod QuietScans
 pub mod Asked
 pub mod Tellings
 pub mod Floors
+pub mod Explaining
+pub mod Opened

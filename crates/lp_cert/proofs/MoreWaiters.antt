@@ -6,11 +6,11 @@ use Rattle.std.proofs.lemmas.Bool.{false≢true, cases_lt, cond-true, cond-false
 use Rattle.std.proofs.lemmas.List.{get_or-set_same, get_or-set_other, length-set, get_or_past}
 use Rattle.lp_stack.specs.declared.number.GroupId.{GroupId}
 use Rattle.lp_numbers.specs.Numbers.{Numbers, has, IsEmpty, IsLeastFrom}
-use Rattle.lp_definitions.specs.Leg.{Standing, State}
+use Rattle.lp_definitions.specs.Leg.{LegTask, State}
 use Rattle.lp_definitions.specs.Sound.{IsSound}
 use Rattle.lp_machine.specs.Table.{Table, Engine, slot, state_in}
 use Rattle.lp_tasks.specs.inside.Table.{is_in, is_off}
-use Rattle.lp_laws.proofs.Quantifiers.{some_live-is, some_live-from}
+use Rattle.lp_definitions.proofs.Quantifiers.{some_live-is, some_live-from}
 use Rattle.lp_tasks.proofs.TableLemmas.{slot_from_live, live_from_slot}
 use Rattle.lp_definitions.specs.declared.line.Line.{Line}
 use Rattle.lp_cert.specs.declared.reason.Reason.{Reason}
@@ -20,8 +20,8 @@ use Rattle.lp_definitions.specs.Certificates.{group_id, birth_line}
 use Rattle.lp_cert.specs.Heads.{head_lines, lines_of}
 use Rattle.lp_cert.specs.inside.Heads.{IsHead, IsBornBy, IsUsed}
 use Rattle.lp_cert.specs.Waiters.{WaitingGroups, LegReasons, no_head, head_of}
-use Rattle.lp_cert.specs.inside.Waiters.{is_off_here, has_off, IsTakenIn, AreTakenIn, lines_in, StandsAt, lines_at, after_birth, after_switch, IsUsedVerdict}
-use Rattle.lp_patch.specs.Patches.{Goal}
+use Rattle.lp_cert.specs.inside.Waiters.{lines_in, StandsAt, lines_at, after_birth, after_switch, IsUsedVerdict}
+use Rattle.lp_patch.specs.Patches.{Aim}
 use Rattle.lp_model.specs.Rules.{Rules, IsLawful}
 use Rattle.lp_model.specs.declared.check.CheckKind.{CheckKind}
 use Rattle.lp_model.specs.declared.check.Blame.{Blame}
@@ -87,116 +87,27 @@ module _ (birth : OwnFork) (parent : GroupId) (groups left : Numbers) (old new :
 
 -- ---- An opening
 
-off_none : (o : Option Standing) (level g : ℕ) → is_some o ≡ false → (is_in g o && is_off level o) ≡ false
-off_none None level g e = refl
-off_none (Some x) level g e = absurd (false≢true (sym e))
-
-off_some : (o : Option Standing) (level g : ℕ) → (is_in g o && is_off level o) ≡ true → (x : Standing) × (o ≡ Some x) × ((nat_eq x.group g && not (nat_eq x.level level)) ≡ true)
-off_some None level g e = absurd (false≢true e)
-off_some (Some x) level g e = (x, refl, e)
-
-pub none_taken : (table : Table) (level : ℕ) (groups : Numbers) (old : LegReasons) → IsEmpty groups → AreTakenIn table level 0 groups old old
-none_taken table level groups old none = record {
-  all = λ g t below p. absurd (omega arith);
-  only = λ g there. absurd (false≢true (sym (none g) ∙ there));
-  calm = λ g there. absurd (false≢true (sym (none g) ∙ there));
-  lists = refl;
-  scans = refl;
-}
-
-module _ (table : Table) (level from n : ℕ) (groups left : Numbers) (old mid new : LegReasons)
-    (so_far : AreTakenIn table level from groups old mid) (next : IsLeastFrom (λ t. is_some (slot table t)) from n) (one : IsTakenIn table level n groups left mid new) where
-  taken-stays : (g : ℕ) → has groups g ≡ true → (b : Bool) → is_off_here table level g n ≡ b → has left g ≡ true
-  taken-stays g there true e = (one.taken g e).0
-  taken-stays g there false e = (one.others g e).0 ∙ there
-
-  taken-all : (g t : ℕ) → t < n + 1 → is_off_here table level g t ≡ true → (t < from) ⊎ (from ≤ t) → (t < n) ⊎ (n ≤ t) → has left g ≡ true
-  taken-all g t below p (inl early) other = taken-stays g (so_far.all g t early p) (is_off_here table level g n) refl
-  taken-all g t below p (inr late) (inl before) = absurd (false≢true (sym (off_none (slot table t) level g (next.least t late before)) ∙ p))
-  taken-all g t below p (inr late) (inr after) =
-      let same : t ≡ n = omega arith in
-      (one.taken g (ap (is_off_here table level g) (sym same) ∙ p)).0
-
-  taken-only : (g : ℕ) → has left g ≡ true → (b : Bool) → is_off_here table level g n ≡ b → (task : ℕ) × (is_off_here table level g task ≡ true)
-  taken-only g there true e = (n, e)
-  taken-only g there false e = so_far.only g (sym (one.others g e).0 ∙ there)
-
-  taken-calm : (g : ℕ) → has left g ≡ true → (b : Bool) → is_off_here table level g n ≡ b → head_of new g ≡ no_head
-  taken-calm g there true e = (one.taken g e).1
-  taken-calm g there false e = (one.others g e).1 ∙ so_far.calm g (sym (one.others g e).0 ∙ there)
-
-  pub more_taken : AreTakenIn table level (n + 1) left old new
-  more_taken = record {
-    all = λ g t below p. taken-all g t below p (cases_lt t from) (cases_lt t n);
-    only = λ g there. taken-only g there (is_off_here table level g n) refl;
-    calm = λ g there. taken-calm g there (is_off_here table level g n) refl;
-    lists = one.lists ∙ so_far.lists;
-    scans = one.scans ∙ so_far.scans;
-  }
-
-pub all_taken : (table : Table) (level from bound : ℕ) (groups : Numbers) (old new : LegReasons) → AreTakenIn table level from groups old new → ((t : ℕ) → from ≤ t → is_some (slot table t) ≡ false) → AreTakenIn table level bound groups old new
-all_taken table level from bound groups old new so_far none = record {
-  all = λ g t below p. by g t p (cases_lt t from);
-  only = so_far.only;
-  calm = so_far.calm;
-  lists = so_far.lists;
-  scans = so_far.scans;
-}
-  where
-    by : (g t : ℕ) → is_off_here table level g t ≡ true → (t < from) ⊎ (from ≤ t) → has groups g ≡ true
-    by g t p (inl early) = so_far.all g t early p
-    by g t p (inr late) = absurd (false≢true (sym (off_none (slot table t) level g (none t late)) ∙ p))
-
-pub taken_are : (e : Engine) (level : ℕ) (groups : Numbers) (old new : LegReasons) → AreTakenIn e.table level 65536 groups old new → IsSound (state_in e) → (g : ℕ) → has groups g ≡ has_off (state_in e) level g
-taken_are e level groups old new taken sound g = by (has groups g) refl (has_off (state_in e) level g) refl
-  where
-    test : ℕ → Standing → Bool
-    test t x = nat_eq x.group g && not (nat_eq x.level level)
-
-    there_off : has groups g ≡ true → has_off (state_in e) level g ≡ true
-    there_off there =
-        let one = taken.only g there in
-        let live = off_some (slot e.table one.0) level g one.1 in
-        let x = live.0 in
-        let is = live_from_slot e.table one.0 x live.1 in
-        let range = sound.numbered one.0 x is in
-        some_live-from (state_in e).bounds (state_in e).tasks (λ t x. nat_eq x.group g && not (nat_eq x.level level))
-        (record { task = one.0; life = x; positive = range.0; within = range.1; live = is; passed = live.2 })
-
-    off_there : has_off (state_in e) level g ≡ true → has groups g ≡ true
-    off_there off =
-        let w = some_live-is (state_in e).bounds (state_in e).tasks (λ t x. nat_eq x.group g && not (nat_eq x.level level)) off in
-        let there : slot e.table w.task ≡ Some w.life = slot_from_live e.table w.task w.life w.live in
-        let within : w.task < 65536 = omega (arith, w.within) in
-        taken.all g w.task within (ap (λ o. is_in g o && is_off level o) there ∙ w.passed)
-
-    by : (a : Bool) → has groups g ≡ a → (b : Bool) → has_off (state_in e) level g ≡ b → has groups g ≡ has_off (state_in e) level g
-    by true a true b = a ∙ sym b
-    by true a false b = absurd (false≢true (sym b ∙ there_off a))
-    by false a true b = absurd (false≢true (sym a ∙ off_there b))
-    by false a false b = a ∙ sym b
-
 -- a group without any reason
-pub calm_head : (lists : List (List Reason)) (scans : List ℕ) (h : Head) → lists ≡ [] ∷ [] → scans ≡ [] → h ≡ no_head → IsHead lists (length scans) h
-calm_head lists scans h one none calm =
+pub headless_head : (lists : List (List Reason)) (scans : List ℕ) (h : Head) → lists ≡ [] ∷ [] → scans ≡ [] → h ≡ no_head → IsHead lists (length scans) h
+headless_head lists scans h one none headless =
     subst (λ ls. IsHead ls (length scans) h) (sym one)
     (subst (λ (xs : List ℕ). IsHead ([] ∷ []) (length xs) h) (sym none)
-    (subst (IsHead ([] ∷ []) 0) (sym calm) (record { known = omega arith; fits = tt; continues = tt; unchecked = λ e. tt })))
+    (subst (IsHead ([] ∷ []) 0) (sym headless) (record { known = omega arith; fits = tt; continues = tt; some_list = tt; fits_older = tt })))
 
-calm_nothing : (g : GroupId) → head_lines ([] ∷ []) [] g no_head ≡ []
+headless_nothing : (g : GroupId) → head_lines ([] ∷ []) [] g no_head ≡ []
 unfolding lines_of
-calm_nothing g = refl
+headless_nothing g = refl
 
-pub calm_lines : (reasons : LegReasons) (g : ℕ) → reasons.lists ≡ [] ∷ [] → reasons.scans ≡ [] → head_of reasons g ≡ no_head → lines_in reasons g ≡ []
-calm_lines reasons g one none calm =
+pub headless_lines : (reasons : LegReasons) (g : ℕ) → reasons.lists ≡ [] ∷ [] → reasons.scans ≡ [] → head_of reasons g ≡ no_head → lines_in reasons g ≡ []
+headless_lines reasons g one none headless =
     ap (λ ls. head_lines ls reasons.scans (group_id g) (head_of reasons g)) one
     ∙ (ap (λ xs. head_lines ([] ∷ []) xs (group_id g) (head_of reasons g)) none
-    ∙ (ap (head_lines ([] ∷ []) [] (group_id g)) calm ∙ calm_nothing (group_id g)))
+    ∙ (ap (head_lines ([] ∷ []) [] (group_id g)) headless ∙ headless_nothing (group_id g)))
 
 pub opened_lines : (groups : Numbers) (reasons : LegReasons) (g : ℕ) (waits : Bool) → has groups g ≡ waits → (has groups g ≡ true → lines_in reasons g ≡ [])
     → lines_at (record { groups = groups; reasons = reasons }) g ≡ (if waits then Some [] else None)
-opened_lines groups reasons g true e calm = cond-true (has groups g) (Some (lines_in reasons g)) None e ∙ ap {A = List Line} {B = Option (List Line)} Some (calm e)
-opened_lines groups reasons g false e calm = cond-false (has groups g) (Some (lines_in reasons g)) None e
+opened_lines groups reasons g true e headless = cond-true (has groups g) (Some (lines_in reasons g)) None e ∙ ap {A = List Line} {B = Option (List Line)} Some (headless e)
+opened_lines groups reasons g false e headless = cond-false (has groups g) (Some (lines_in reasons g)) None e
 
 -- ---- Groups that switch
 
@@ -248,7 +159,7 @@ used_blame (Some (blame.Frame serial)) never = tt
 used_blame (Some blame.Busy) never = tt
 used_blame (Some blame.Unused) never = absurd (never refl)
 
-used_found : (model : Rules) → IsLawful model → (kind : CheckKind) (aim : Goal) → IsTrue (model.uses kind) → (views : List TaskView) → AllByRecursion IsUsedVerdict (map (verdict_of model kind aim) views)
+used_found : (model : Rules) → IsLawful model → (kind : CheckKind) (aim : Aim) → IsTrue (model.uses kind) → (views : List TaskView) → AllByRecursion IsUsedVerdict (map (verdict_of model kind aim) views)
 used_found model lawful kind aim used [] = tt
 used_found model lawful kind aim used (view ∷ views) =
     (used_blame (model.blame kind view aim) (λ e. let unused = lawful.blames_used kind view aim e in absurd (cc)), used_found model lawful kind aim used views)

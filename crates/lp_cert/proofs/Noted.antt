@@ -9,20 +9,20 @@ use Rattle.lp_definitions.specs.declared.event.Event.{Event}
 use Rattle.lp_definitions.specs.declared.reply.Reply.{Reply}
 use Rattle.lp_definitions.specs.Events.{is_control}
 use Rattle.lp_definitions.specs.Leg.{State, Leg, after}
-use Rattle.lp_definitions.specs.Schedule.{standing, waits, first_check}
+use Rattle.lp_definitions.specs.Schedule.{leg_task, waits, first_check}
 use Rattle.lp_definitions.specs.Run.{Run, plus, first_leg, leg_of, and_then, is_complete_now, opened, opens, next_leg, reply, new_target, shown, leg_after, refused_by as why_refused}
 use Rattle.lp_definitions.specs.Sound.{IsSound}
 use Rattle.lp_machine.specs.Steps.{StandsIn}
-use Rattle.lp_machine.proofs.Runs.{leg_after-plus}
-use Rattle.lp_machine.proofs.States.{state_sound}
+use Rattle.lp_machine_laws.proofs.Runs.{leg_after-plus}
+use Rattle.lp_machine_laws.proofs.States.{state_sound}
 use Rattle.lp_laws.proofs.WholeRun.{run_sound, start_sound}
 use Rattle.std.proofs.lemmas.List.{map-append}
 use Rattle.lp_machine.specs.Machine.{waits_in, next, turned, answer, refusal_of, state_of}
 use Rattle.lp_machine.specs.Table.{Engine, state_in}
 use Rattle.lp_transition.specs.Weigh.{Weighed, IsWeighed, refusal_in}
 use Rattle.lp_machine.proofs.EngineLemmas.{next-turned}
-use Rattle.lp_laws.proofs.Quantifiers.{some_live-map}
-use Rattle.lp_machine.proofs.Steps.{refusal_is, does}
+use Rattle.lp_definitions.proofs.Quantifiers.{some_live-map}
+use Rattle.lp_machine_laws.proofs.Steps.{refusal_is, does}
 use Rattle.lp_transition.proofs.Weighing.{refused-as}
 use Rattle.lp_definitions.specs.declared.cert.Claim.TheVariants.{Waiting, Floor}
 use Rattle.lp_definitions.specs.declared.cert.Cert.{Cert}
@@ -48,9 +48,9 @@ use Rattle.lp_cert.proofs.StepLines.{IsFew, step_lines}
 
 -- ---- Who waits in a leg, and its certificates
 
-behind_waits : (model : Rules) (leg : Leg) (g : ℕ) → waits_in (state_of model leg) g ≡ waits model leg (first_check model leg) (length leg.events) g
+waits_same : (model : Rules) (leg : Leg) (g : ℕ) → waits_in (state_of model leg) g ≡ waits model leg (first_check model leg) (length leg.events) g
 unfolding shown waits
-behind_waits model leg g = some_live-map leg.bounds (standing leg (first_check model leg) (length leg.events)) (after model leg (length leg.events)) (λ t y. nat_eq y.group g && not (nat_eq y.level leg.target))
+waits_same model leg g = some_live-map leg.bounds (leg_task leg (first_check model leg) (length leg.events)) (after model leg (length leg.events)) (λ t y. nat_eq y.group g && not (nat_eq y.level leg.target))
 
 module _ (model : Rules) (leg : Leg) (tasks : leg.bounds.tasks ≡ 65535) where
   abbrev n : ℕ
@@ -58,7 +58,7 @@ module _ (model : Rules) (leg : Leg) (tasks : leg.bounds.tasks ≡ 65535) where
 
   groups_are : waiting_groups model leg n ≡ filter (waits_in (state_of model leg)) (range_with_len 0 65536)
   groups_are =
-      ap₂ (λ test m. filter test (range_with_len 0 (suc m))) (fun_ext (λ g. sym (behind_waits model leg g))) tasks
+      ap₂ (λ test m. filter test (range_with_len 0 (suc m))) (fun_ext (λ g. sym (waits_same model leg g))) tasks
 
   waiting_are : waiting_certs model leg n ≡ map (cert_for Waiting leg.number (leg.number + n) (lines model leg n)) (filter (waits_in (state_of model leg)) (range_with_len 0 65536))
   waiting_are = ap (map (cert_for Waiting leg.number (leg.number + n) (lines model leg n))) groups_are
@@ -152,10 +152,10 @@ module _ (model : Rules) (lawful : IsLawful model) (e : Engine) (sound : IsSound
 
     completes_is : is_complete_now model leg ≡ false → step.reply.completed ≡ is_complete_now model (and_then leg event)
     unfolding reply
-    completes_is calm =
+    completes_is quiet =
         ap (λ (r : Reply). r.completed) reply_is
         ∙ (ap₂ (λ (l : Leg) (b : Bool). is_complete_now model l && (b || not (is_complete_now model leg))) next_is stays
-        ∙ (ap (λ b. is_complete_now model (and_then leg event) && not b) calm ∙ and_one (is_complete_now model (and_then leg event))))
+        ∙ (ap (λ b. is_complete_now model (and_then leg event) && not b) quiet ∙ and_one (is_complete_now model (and_then leg event))))
       where
         and_one : (b : Bool) → (b && true) ≡ b
         and_one true = refl

@@ -8,7 +8,7 @@ use Rattle.lp_model.specs.declared.check.CheckKind.{CheckKind}
 use Rattle.lp_model.specs.declared.verdict.Verdict.{Verdict}
 use Rattle.lp_definitions.specs.declared.event.Event.{Event}
 use Rattle.lp_definitions.specs.Tasks.{Live, on_live}
-use Rattle.lp_definitions.specs.Leg.{Standing, State}
+use Rattle.lp_definitions.specs.Leg.{LegTask, State}
 use Rattle.lp_machine.specs.Machine.{waits_in}
 use Rattle.lp_definitions.specs.Run.{Run, leg_of, plus}
 use Rattle.lp_transition.specs.Scan.{is_of, verdicts_of}
@@ -44,7 +44,7 @@ told_of_all model s sound on last_scan t x live off =
       task = x;
       live = live;
       off = off;
-      passed = ap (on_live false (λ (y : Standing). nat_eq y.group x.group)) live ∙ eq-eqb x.group x.group refl;
+      passed = ap (on_live false (λ (y : LegTask). nat_eq y.group x.group)) live ∙ eq-eqb x.group x.group refl;
     }) bounds.0 bounds.1)
 
 -- it may be answered by them
@@ -56,7 +56,7 @@ enough_all model s event on is =
 -- ---- Verdicts of the groups that have changed
 
 suffices_from : (model : Rules) (e : Engine) (event : Event) (before : WaitingGroups) (vs : List Verdict) → IsSound (state_in e) → IsWide e.table
-    → ((t : ℕ) (x : Standing) → (state_in e).tasks t ≡ Live x → nat_eq x.level e.target ≡ false → x.group < 65536 → has before.groups x.group ≡ true)
+    → ((t : ℕ) (x : LegTask) → (state_in e).tasks t ≡ Live x → nat_eq x.level e.target ≡ false → x.group < 65536 → has before.groups x.group ≡ true)
     → AreToldOf model e event before vs → TellOfChanged (state_in e) (used_scan model event) vs e.last_scan
 suffices_from model e event before vs sound wide waits told = by (used_scan model event) refl
   where
@@ -81,7 +81,7 @@ module _ (model : Rules) (lawful : IsLawful model) (run : Run) (e : Engine) (sta
   sound = engine_sound model lawful run e stands
 
   -- who waits is kept
-  waits_kept : leg.completed ≡ None → (t : ℕ) (x : Standing) → (state_in e).tasks t ≡ Live x → nat_eq x.level e.target ≡ false → x.group < 65536 → has before.groups x.group ≡ true
+  waits_kept : leg.completed ≡ None → (t : ℕ) (x : LegTask) → (state_in e).tasks t ≡ Live x → nat_eq x.level e.target ≡ false → x.group < 65536 → has before.groups x.group ≡ true
   waits_kept unended t x live off few =
       let present = leg_of model run in
       let was = some_before model _ present (open_end noted before leg) (sym old ∙ is.current) in

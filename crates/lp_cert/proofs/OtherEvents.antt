@@ -1,4 +1,4 @@
--- An event that is no scan and no fork brings no line: a check of a task alone finds an empty stack, which each model admits.
+-- An event that is no scan, no fork and no own check in the kernel brings no line: a check of a task alone finds an empty stack, which each model admits.
 use Rattle.std.proofs.Common.{◌≡◌, ℕ, suc, ◌+◌, Bool, true, false, not, ◌||◌, List, [], ◌∷◌, length, map, Option, Some, None, IsTrue, if◌then◌else◌, nat_eq, refl, sym, ap, subst, ◌∙◌, arith}
 use Rattle.std.specs.List.{range_with_len}
 use Rattle.std.specs.Option.{option_map}
@@ -9,10 +9,10 @@ use Rattle.lp_stack.specs.declared.view.Mode.TheVariants.{User, Kernel, Asleep}
 use Rattle.lp_model.specs.declared.check.CheckKind.{CheckKind}
 use Rattle.lp_model.specs.declared.check.CheckKind.TheVariants as kind
 use Rattle.lp_model.specs.declared.check.Blame.{Blame}
-use Rattle.lp_model.specs.Rules.{Rules, IsLawful, IsCalmAt}
+use Rattle.lp_model.specs.Rules.{Rules, IsLawful, AdmitsEmptyIn}
 use Rattle.lp_stack.specs.declared.number.TaskId.{TaskId}
 use Rattle.lp_definitions.specs.declared.event.Event.{Event}
-use Rattle.lp_definitions.specs.declared.event.Event.TheVariants.{Call, Ret, Sleep, Wake, Enter, Exit, Idle, Fork, Die, Walk, Stop, Enable, Disable, Reverse}
+use Rattle.lp_definitions.specs.declared.event.Event.TheVariants.{Call, Ret, Sleep, Wake, Enter, Exit, Idle, Resched, Fork, Die, Walk, Stop, Enable, Disable, Reverse}
 use Rattle.lp_definitions.specs.declared.refusal.Refusal.{Refusal}
 use Rattle.lp_definitions.specs.Events.{is_scan}
 use Rattle.lp_definitions.specs.Tasks.{Pushed, Life, Fate, Unused, Live, Dead, Tasks, on_live, map_live, same_mode, outline, outlines, first_of, unknown_task, not_of, not_in, stack_not_empty, depth, refusal, change, in_mode, effect}
@@ -21,12 +21,13 @@ use Rattle.lp_definitions.specs.Schedule.{frame_of, view, first_check}
 use Rattle.lp_definitions.specs.Run.{and_then}
 use Rattle.lp_definitions.specs.Sound.{IsSound}
 use Rattle.lp_transition.specs.Weigh.{is_fork}
-use Rattle.lp_laws.proofs.Quantifiers.{each_live-at}
-use Rattle.lp_laws.proofs.Plain.{none_first, unfit, numbered}
+use Rattle.lp_definitions.proofs.Quantifiers.{each_live-at}
+use Rattle.lp_laws.proofs.NextTasks.{none_first, unfit, numbered}
 use Rattle.lp_laws.proofs.OneMore.{accepted_is, after_is, check_is}
 use Rattle.lp_definitions.specs.declared.line.Line.{Line}
 use Rattle.lp_definitions.specs.Certificates.{after_check, has_frame, first_blamed, member_blame, with_birth, lines}
 use Rattle.lp_laws.proofs.Past.{lines_past}
+use Rattle.lp_cert.specs.EventLines.{is_resched}
 
 -- ---- What an accepted exit and an accepted idle point tell
 
@@ -105,7 +106,7 @@ module _ (model : Rules) (lawful : IsLawful model) (leg : Leg) (sound : IsSound 
 
   -- ---- A check of a task alone
 
-  module _ (t : ℕ) (on : CheckKind) (calm : (x : Life) → later t ≡ Live x → IsCalmAt on x.mode × (x.calls ≡ [])) where
+  module _ (t : ℕ) (on : CheckKind) (in_mode : (x : Life) → later t ≡ Live x → AdmitsEmptyIn on x.mode × (x.calls ≡ [])) where
     none_at : (group u : ℕ) → is_alone leg.bounds (outlines later) group t ≡ true → IsTrue (model.uses on) → member_blame model longer on (suc k) group u ≡ None
     none_at group u alone used = at (later u) refl
       where
@@ -116,7 +117,7 @@ module _ (model : Rules) (lawful : IsLawful model) (leg : Leg) (sound : IsSound 
             let range = numbered model.child_group longer sound (suc k) u x e in
             let h = each_live-at leg.bounds (outlines later) (λ other y. not (nat_eq y.group group) || nat_eq other t) parts.1 u (outline x) range.0 range.1 (ap (map_live outline) e) in
             let same : u ≡ t = eqb-true u t (subst (λ b. (not b || nat_eq u t) ≡ true) m h) in
-            let is = calm x (subst (λ v. later v ≡ Live x) same e) in
+            let is = in_mode x (subst (λ v. later v ≡ Live x) same e) in
             let seen = view longer (first_check model longer) u x in
             lawful.blames_none on seen leg.aim (lawful.empties on seen leg.aim used is.0 (ap (map (frame_of longer (first_check model longer) x)) is.1))
 
@@ -144,9 +145,9 @@ module _ (model : Rules) (lawful : IsLawful model) (leg : Leg) (sound : IsSound 
   abbrev before : Tasks
   before = after model leg n
 
-  exit_calm : (a : TaskId) → refusal leg.bounds before (Exit a) ≡ None → (x : Life) → after model (and_then leg (Exit a)) (suc n) a.0 ≡ Live x → IsCalmAt kind.KernelExit x.mode × (x.calls ≡ [])
+  exit_mode : (a : TaskId) → refusal leg.bounds before (Exit a) ≡ None → (x : Life) → after model (and_then leg (Exit a)) (suc n) a.0 ≡ Live x → AdmitsEmptyIn kind.KernelExit x.mode × (x.calls ≡ [])
   unfolding refusal effect
-  exit_calm a ok x live =
+  exit_mode a ok x live =
       let seen = outlines before in
       let late : after model (and_then leg (Exit a)) (suc n) ≡ change a.0 (in_mode User) before =
       after_is model leg (Exit a) ∙ ap (λ r. take_effect model.child_group n (unless_refused r (Exit a)) before) ok in
@@ -156,9 +157,9 @@ module _ (model : Rules) (lawful : IsLawful model) (leg : Leg) (sound : IsSound 
       let tests = last_tests (unknown_task seen a.0) (not_of class.Normal seen a.0) (not_in Kernel seen a.0) (stack_not_empty seen a.0) ok in
       (sym (ap (λ (y : Life). y.mode) w.2), sym (ap (λ (y : Life). y.calls) w.2) ∙ empty_stack before a.0 w.0 w.1 tests.1)
 
-  idle_calm : (a : TaskId) → refusal leg.bounds before (Idle a) ≡ None → (x : Life) → after model (and_then leg (Idle a)) (suc n) a.0 ≡ Live x → IsCalmAt kind.IdlePoint x.mode × (x.calls ≡ [])
+  idle_mode : (a : TaskId) → refusal leg.bounds before (Idle a) ≡ None → (x : Life) → after model (and_then leg (Idle a)) (suc n) a.0 ≡ Live x → AdmitsEmptyIn kind.IdlePoint x.mode × (x.calls ≡ [])
   unfolding refusal effect
-  idle_calm a ok x live =
+  idle_mode a ok x live =
       let seen = outlines before in
       let late : after model (and_then leg (Idle a)) (suc n) ≡ before =
       after_is model leg (Idle a) ∙ ap (λ r. take_effect model.child_group n (unless_refused r (Idle a)) before) ok in
@@ -186,35 +187,36 @@ module _ (model : Rules) (lawful : IsLawful model) (leg : Leg) (sound : IsSound 
       (λ ls. ap (λ o. with_birth model (and_then leg event) n group o ls) told_is ∙ no_birth ls)
 
   -- an accepted one
-  accepted_quiet : (event : Event) (group : ℕ) → is_scan event ≡ false → is_fork event ≡ false → refusal leg.bounds before event ≡ None → lines model (and_then leg event) (suc n) group ≡ lines model leg n group
-  accepted_quiet (Exit a) group s f ok =
+  accepted_quiet : (event : Event) (group : ℕ) → is_scan event ≡ false → is_fork event ≡ false → is_resched event ≡ false → refusal leg.bounds before event ≡ None → lines model (and_then leg event) (suc n) group ≡ lines model leg n group
+  accepted_quiet (Exit a) group s f o ok =
       let told_is = ap (λ r. unless_refused r (Exit a)) ok in
       quiet model lawful leg sound (Exit a) group
-      (lone_check model lawful leg sound (Exit a) a.0 kind.KernelExit (exit_calm a ok) group (ap (λ o. check_by leg.bounds (outlines (after model (and_then leg (Exit a)) (suc n))) o group) told_is))
+      (lone_check model lawful leg sound (Exit a) a.0 kind.KernelExit (exit_mode a ok) group (ap (λ o. check_by leg.bounds (outlines (after model (and_then leg (Exit a)) (suc n))) o group) told_is))
       (λ ls. ap (λ o. with_birth model (and_then leg (Exit a)) n group o ls) told_is)
-  accepted_quiet (Idle a) group s f ok =
+  accepted_quiet (Idle a) group s f o ok =
       let told_is = ap (λ r. unless_refused r (Idle a)) ok in
       quiet model lawful leg sound (Idle a) group
-      (lone_check model lawful leg sound (Idle a) a.0 kind.IdlePoint (idle_calm a ok) group (ap (λ o. check_by leg.bounds (outlines (after model (and_then leg (Idle a)) (suc n))) o group) told_is))
+      (lone_check model lawful leg sound (Idle a) a.0 kind.IdlePoint (idle_mode a ok) group (ap (λ o. check_by leg.bounds (outlines (after model (and_then leg (Idle a)) (suc n))) o group) told_is))
       (λ ls. ap (λ o. with_birth model (and_then leg (Idle a)) n group o ls) told_is)
-  accepted_quiet (Fork p c how) group s f ok = absurd (cc)
-  accepted_quiet Walk group s f ok = absurd (cc)
-  accepted_quiet Stop group s f ok = absurd (cc)
-  accepted_quiet (Call t f) group s fork ok = plain_quiet (Call t f) group ok refl (λ ls. refl)
-  accepted_quiet (Ret t) group s f ok = plain_quiet (Ret t) group ok refl (λ ls. refl)
-  accepted_quiet (Sleep t) group s f ok = plain_quiet (Sleep t) group ok refl (λ ls. refl)
-  accepted_quiet (Wake t) group s f ok = plain_quiet (Wake t) group ok refl (λ ls. refl)
-  accepted_quiet (Enter t) group s f ok = plain_quiet (Enter t) group ok refl (λ ls. refl)
-  accepted_quiet (Die t) group s f ok = plain_quiet (Die t) group ok refl (λ ls. refl)
-  accepted_quiet Enable group s f ok = plain_quiet Enable group ok refl (λ ls. refl)
-  accepted_quiet Disable group s f ok = plain_quiet Disable group ok refl (λ ls. refl)
-  accepted_quiet Reverse group s f ok = plain_quiet Reverse group ok refl (λ ls. refl)
+  accepted_quiet (Resched a) group s f o ok = absurd (cc)
+  accepted_quiet (Fork p c how) group s f o ok = absurd (cc)
+  accepted_quiet Walk group s f o ok = absurd (cc)
+  accepted_quiet Stop group s f o ok = absurd (cc)
+  accepted_quiet (Call t f) group s fork o ok = plain_quiet (Call t f) group ok refl (λ ls. refl)
+  accepted_quiet (Ret t) group s f o ok = plain_quiet (Ret t) group ok refl (λ ls. refl)
+  accepted_quiet (Sleep t) group s f o ok = plain_quiet (Sleep t) group ok refl (λ ls. refl)
+  accepted_quiet (Wake t) group s f o ok = plain_quiet (Wake t) group ok refl (λ ls. refl)
+  accepted_quiet (Enter t) group s f o ok = plain_quiet (Enter t) group ok refl (λ ls. refl)
+  accepted_quiet (Die t) group s f o ok = plain_quiet (Die t) group ok refl (λ ls. refl)
+  accepted_quiet Enable group s f o ok = plain_quiet Enable group ok refl (λ ls. refl)
+  accepted_quiet Disable group s f o ok = plain_quiet Disable group ok refl (λ ls. refl)
+  accepted_quiet Reverse group s f o ok = plain_quiet Reverse group ok refl (λ ls. refl)
 
-  pub lines_at_others : (event : Event) (group : ℕ) → is_scan event ≡ false → is_fork event ≡ false → lines model (and_then leg event) (suc n) group ≡ lines model leg n group
-  lines_at_others event group s f = by (refusal leg.bounds before event) refl
+  pub lines_at_others : (event : Event) (group : ℕ) → is_scan event ≡ false → is_fork event ≡ false → is_resched event ≡ false → lines model (and_then leg event) (suc n) group ≡ lines model leg n group
+  lines_at_others event group s f o = by (refusal leg.bounds before event) refl
     where
       by : (r : Option Refusal) → refusal leg.bounds before event ≡ r → lines model (and_then leg event) (suc n) group ≡ lines model leg n group
-      by None ok = accepted_quiet event group s f ok
+      by None ok = accepted_quiet event group s f o ok
       by (Some why) e = refused_quiet event group why e
 
   pub lines_at_refused : (event : Event) (group : ℕ) (why : Refusal) → refusal leg.bounds before event ≡ Some why → lines model (and_then leg event) (suc n) group ≡ lines model leg n group

@@ -11,9 +11,9 @@ use Rattle.lp_definitions.specs.declared.event.Event.TheVariants.{Call, Ret, Sle
 use Rattle.lp_definitions.specs.declared.refusal.Refusal.{Refusal}
 use Rattle.lp_definitions.specs.declared.reply.Reply.{Reply}
 use Rattle.lp_definitions.specs.Events.{is_control}
-use Rattle.lp_definitions.specs.Plain.{is_plain}
+use Rattle.lp_definitions.specs.TaskEvents.{is_quiet}
 use Rattle.lp_definitions.specs.Tasks.{change}
-use Rattle.lp_definitions.specs.Leg.{Standing, State, each_live, each_task}
+use Rattle.lp_definitions.specs.Leg.{LegTask, State, each_live, each_task}
 use Rattle.lp_definitions.specs.Run.{Run, leg_of, switched, plus}
 use Rattle.lp_machine.specs.Machine.{complete_in, affected, answer, calling, switches_at, put_in, refusal_of, returning, with_switches, told}
 use Rattle.lp_transition.specs.inside.ScanSteps.{groups_of}
@@ -21,7 +21,7 @@ use Rattle.lp_machine.specs.Steps.{StandsIn}
 use Rattle.lp_machine.specs.Table.{Engine, state_in}
 use Rattle.lp_transition.specs.Weigh.{Weighed, IsWeighed, born_of, refusal_in, AreVerdictsFor}
 use Rattle.lp_machine.proofs.Alone.{same-after}
-use Rattle.lp_machine.proofs.EngineLemmas.{answer-refused, answer-accepted, is_quiet, quiet-control, quiet-stays, switched-still}
+use Rattle.lp_machine.proofs.EngineLemmas.{answer-refused, answer-accepted, is_unchecked, unchecked-control, unchecked-stays, switched-still}
 use Rattle.lp_transition.proofs.SwitchedGroups.{switched-none}
 use Rattle.lp_model.specs.declared.check.CheckKind.{CheckKind}
 use Rattle.lp_definitions.specs.declared.line.Line.{Line}
@@ -37,7 +37,7 @@ use Rattle.lp_transition.specs.LastScan.{IsLastScanAfter, used_scan}
 use Rattle.lp_cert.proofs.ScanTold.{TellsOrUnchanged}
 use Rattle.lp_cert.proofs.Noted.{none_made, still_made}
 
-quiet : (event : Event) → is_plain event ≡ true → is_quiet event ≡ true
+quiet : (event : Event) → is_quiet event ≡ true → is_unchecked event ≡ true
 quiet (Call t f) h = refl
 quiet (Ret t) h = refl
 quiet (Sleep t) h = refl
@@ -51,14 +51,14 @@ and_not false = refl
 
 module _ (model : Rules) (s : State) where
   -- who is off the target stays so
-  rests : (t : ℕ) (f : Standing → Standing) → ((x : Standing) → (f x).level ≡ x.level) → ((x : Standing) → (f x).group ≡ x.group) → complete_in (record s { number = suc s.number; tasks = change t f s.tasks }) ≡ complete_in s
+  rests : (t : ℕ) (f : LegTask → LegTask) → ((x : LegTask) → (f x).level ≡ x.level) → ((x : LegTask) → (f x).group ≡ x.group) → complete_in (record s { number = suc s.number; tasks = change t f s.tasks }) ≡ complete_in s
   unfolding each_live
   rests t f levels groups = ap (each_task s.bounds.tasks) (fun_ext (same-after t f levels groups true (λ u level group. nat_eq level s.target) s.tasks))
 
-  stays : (event : Event) → is_plain event ≡ true → (group : ℕ) → switches_at model (affected model s event) event group ≡ false
-  stays event plain group = quiet-stays model (affected model s event) event group (quiet event plain)
+  stays : (event : Event) → is_quiet event ≡ true → (group : ℕ) → switches_at model (affected model s event) event group ≡ false
+  stays event plain group = unchecked-stays model (affected model s event) event group (quiet event plain)
 
-  rests_after : (event : Event) → is_plain event ≡ true → complete_in (affected model s event) ≡ complete_in s
+  rests_after : (event : Event) → is_quiet event ≡ true → complete_in (affected model s event) ≡ complete_in s
   rests_after (Call t f) plain = rests t.0 (calling (suc s.number) f) (λ x. refl) (λ x. refl)
   rests_after (Ret t) plain = rests t.0 returning (λ x. refl) (λ x. refl)
   rests_after (Sleep t) plain = rests t.0 (put_in Asleep) (λ x. refl) (λ x. refl)
@@ -66,7 +66,7 @@ module _ (model : Rules) (s : State) where
   rests_after (Enter t) plain = rests t.0 (put_in Kernel) (λ x. refl) (λ x. refl)
   rests_after _ plain = cc
 
-  no_groups : (event : Event) → is_plain event ≡ true → groups_of (told model s event) ≡ []
+  no_groups : (event : Event) → is_quiet event ≡ true → groups_of (told model s event) ≡ []
   no_groups (Call t f) plain = refl
   no_groups (Ret t) plain = ap (λ gs. groups_of (switched gs)) (switched-none model (affected model s (Ret t)) (Ret t) (stays (Ret t) plain))
   no_groups (Sleep t) plain = ap (λ gs. groups_of (switched gs)) (switched-none model (affected model s (Sleep t)) (Sleep t) (stays (Sleep t) plain))
@@ -78,18 +78,18 @@ module _ (model : Rules) (s : State) where
   abbrev IsStill : Reply → Type 0
   IsStill given = (given.completed ≡ false) × (groups_of given.what ≡ [])
 
-  still_by : (event : Event) → is_plain event ≡ true → (r : Option Refusal) → refusal_of model s event ≡ r → IsStill (answer model s event)
+  still_by : (event : Event) → is_quiet event ≡ true → (r : Option Refusal) → refusal_of model s event ≡ r → IsStill (answer model s event)
   still_by event plain (Some why) e = rw (answer-refused model s event why e) (refl, refl)
   still_by event plain None e =
-      let control : is_control event ≡ false = quiet-control model event (quiet event plain) in
+      let control : is_control event ≡ false = unchecked-control model event (quiet event plain) in
       let is : answer model s event ≡ record { what = told model s event; completed = complete_in (with_switches model s event) && not (complete_in s) } = answer-accepted model s event e ∙ cond-false _ _ _ control in
       let same : complete_in (with_switches model s event) ≡ complete_in s = ap complete_in (switched-still model s event (stays event plain)) ∙ rests_after event plain in
       rw is (ap (λ b. b && not (complete_in s)) same ∙ and_not (complete_in s), no_groups event plain)
 
-  pub still : (event : Event) → is_plain event ≡ true → IsStill (answer model s event)
+  pub still : (event : Event) → is_quiet event ≡ true → IsStill (answer model s event)
   still event plain = still_by event plain (refusal_of model s event) refl
 
-own_same : (model : Rules) (e : Engine) (event : Event) → is_plain event ≡ true → (lines : ℕ → Option (List Line)) (group : ℕ) → own_lines model e event [] lines group ≡ lines group
+own_same : (model : Rules) (e : Engine) (event : Event) → is_quiet event ≡ true → (lines : ℕ → Option (List Line)) (group : ℕ) → own_lines model e event [] lines group ≡ lines group
 own_same model e (Call t f) plain lines group = refl
 own_same model e (Ret t) plain lines group = refl
 own_same model e (Sleep t) plain lines group = refl
@@ -97,7 +97,7 @@ own_same model e (Wake t) plain lines group = refl
 own_same model e (Enter t) plain lines group = refl
 own_same model e _ plain lines group = cc
 
-few : (e : Engine) (event : Event) → is_plain event ≡ true → HasFewGroups e event
+few : (e : Engine) (event : Event) → is_quiet event ≡ true → HasFewGroups e event
 few e (Call t f) plain = tt
 few e (Ret t) plain = tt
 few e (Sleep t) plain = tt
@@ -105,7 +105,7 @@ few e (Wake t) plain = tt
 few e (Enter t) plain = tt
 few e _ plain = cc
 
-no_verdicts : (model : Rules) (s : State) (event : Event) → is_plain event ≡ true → AreVerdictsFor model s event []
+no_verdicts : (model : Rules) (s : State) (event : Event) → is_quiet event ≡ true → AreVerdictsFor model s event []
 no_verdicts model s (Call t f) plain = refl
 no_verdicts model s (Ret t) plain = refl
 no_verdicts model s (Sleep t) plain = refl
@@ -113,7 +113,7 @@ no_verdicts model s (Wake t) plain = refl
 no_verdicts model s (Enter t) plain = refl
 no_verdicts model s _ plain = cc
 
-no_used : (model : Rules) (event : Event) → is_plain event ≡ true → used_scan model event ≡ None
+no_used : (model : Rules) (event : Event) → is_quiet event ≡ true → used_scan model event ≡ None
 no_used model (Call t f) plain = refl
 no_used model (Ret t) plain = refl
 no_used model (Sleep t) plain = refl
@@ -121,7 +121,7 @@ no_used model (Wake t) plain = refl
 no_used model (Enter t) plain = refl
 no_used model _ plain = cc
 
-module _ (model : Rules) (lawful : IsLawful model) (run : Run) (e : Engine) (stands : StandsIn model run (state_in e)) (event : Event) (plain : is_plain event ≡ true) (room : e.number < 1000000) where
+module _ (model : Rules) (lawful : IsLawful model) (run : Run) (e : Engine) (stands : StandsIn model run (state_in e)) (event : Event) (plain : is_quiet event ≡ true) (room : e.number < 1000000) where
   abbrev step : Weighed
   step = record { event = event; reply = answer model (state_in e) event; verdicts = []; born = born_of model (state_in e) event }
 
@@ -129,7 +129,7 @@ module _ (model : Rules) (lawful : IsLawful model) (run : Run) (e : Engine) (sta
   weighed = record { room = room; reply = refl; born = refl; verdicts = no_verdicts model (state_in e) event plain }
 
   opens_none : is_opening step ≡ false
-  opens_none = ap (λ b. b && is_none (refusal_in step.reply.what)) (quiet-control model event (quiet event plain))
+  opens_none = ap (λ b. b && is_none (refusal_in step.reply.what)) (unchecked-control model event (quiet event plain))
 
   suffices : TellsOrUnchanged model (state_in e) (lines model (leg_of model run) (length (leg_of model run).events)) (used_scan model event) []
   suffices = subst (λ (o : Option CheckKind). TellsOrUnchanged model (state_in e) (lines model (leg_of model run) (length (leg_of model run).events)) o []) (sym (no_used model event plain)) tt

@@ -5,7 +5,7 @@ use Rattle.lp_numbers.specs.Numbers.{has}
 use Rattle.lp_model.specs.Rules.{Rules, IsLawful}
 use Rattle.lp_model.specs.declared.check.CheckKind.{CheckKind}
 use Rattle.lp_model.specs.declared.check.CheckKind.TheVariants as kind
-use Rattle.lp_definitions.specs.Leg.{Standing, State}
+use Rattle.lp_definitions.specs.Leg.{LegTask, State}
 use Rattle.lp_definitions.specs.Run.{Run, leg_of, plus}
 use Rattle.lp_definitions.specs.Sound.{IsSound}
 use Rattle.lp_definitions.specs.Tasks.{Live}
@@ -40,18 +40,21 @@ used_is model kind.Walk scan used = cond-true (model.uses kind.Walk) (Some kind.
 used_is model kind.Stop scan used = cond-true (model.uses kind.Stop) (Some kind.Stop) None used
 used_is model kind.KernelExit scan used = absurd (false≢true scan)
 used_is model kind.IdlePoint scan used = absurd (false≢true scan)
+used_is model kind.Resched scan used = absurd (false≢true scan)
 
 opens_none : (on : CheckKind) → is_opening (quiet_step on) ≡ false
 opens_none kind.Walk = refl
 opens_none kind.Stop = refl
 opens_none kind.KernelExit = refl
 opens_none kind.IdlePoint = refl
+opens_none kind.Resched = refl
 
 few : (e : Engine) (on : CheckKind) → HasFewGroups e (scan_event on)
 few e kind.Walk = tt
 few e kind.Stop = tt
 few e kind.KernelExit = tt
 few e kind.IdlePoint = tt
+few e kind.Resched = tt
 
 none_some : {A : Type 0} (a : A) → None ≡ Some a → ⊥
 none_some a e = absurd (cc)
@@ -88,7 +91,7 @@ module _ (model : Rules) (lawful : IsLawful model) (run : Run) (e : Engine) (sta
   sound = engine_sound model lawful run e stands
 
   -- a group that waits has its lines
-  lines_there : (t : ℕ) (x : Standing) → (state_in e).tasks t ≡ Live x → nat_eq x.level e.target ≡ false → x.group < 65536 → lines model (leg_of model run) (length (leg_of model run).events) x.group ≡ lines_in before.reasons x.group
+  lines_there : (t : ℕ) (x : LegTask) → (state_in e).tasks t ≡ Live x → nat_eq x.level e.target ≡ false → x.group < 65536 → lines model (leg_of model run) (length (leg_of model run).events) x.group ≡ lines_in before.reasons x.group
   lines_there t x live off few =
       let was = some_before model _ (leg_of model run) (open_end noted before leg) (sym old ∙ is.current) in
       (lines_held model lawful (leg_of model run) (present_sound model lawful run e stands) before (length (leg_of model run).events)

@@ -8,12 +8,12 @@ use Rattle.lp_model.specs.Rules.{Rules}
 use Rattle.lp_model.specs.declared.check.Blame.{Blame}
 use Rattle.lp_model.specs.declared.check.CheckKind.{CheckKind}
 use Rattle.lp_model.specs.declared.verdict.Verdict.{Verdict}
-use Rattle.lp_definitions.specs.Leg.{Standing, State}
+use Rattle.lp_definitions.specs.Leg.{LegTask, State}
 use Rattle.lp_machine.specs.Machine.{waits_in}
 use Rattle.lp_transition.specs.Scan.{verdicts_of, is_of, member_verdict, first_refused, AreEnough}
 use Rattle.lp_definitions.specs.Sound.{IsSound}
 use Rattle.lp_definitions.specs.Tasks.{Live, first_of}
-use Rattle.lp_laws.proofs.Quantifiers.{some_live-is}
+use Rattle.lp_definitions.proofs.Quantifiers.{some_live-is}
 use Rattle.lp_definitions.specs.declared.line.Line.{Line}
 use Rattle.lp_definitions.specs.Certificates.{group_id, after_refusal}
 use Rattle.lp_cert.specs.Unchanged.{IsUnchanged, AreUnchangedBy, AreUnchangedSince}
@@ -44,7 +44,7 @@ none_refused_of s g (v ∷ vs) none =
 -- of the group of each waiting task a verdict is of a member, or it is unchanged
 abbrev pub ToldOrUnchanged : Rules → State → (lines : ℕ → List Line) → CheckKind → List Verdict → Type 0
 ToldOrUnchanged model s lines on vs =
-    (t : ℕ) (x : Standing) → s.tasks t ≡ Live x → nat_eq x.level s.target ≡ false → (list_any (is_of s x.group) vs ≡ true) ⊎ IsUnchanged model on s x.group (lines x.group)
+    (t : ℕ) (x : LegTask) → s.tasks t ≡ Live x → nat_eq x.level s.target ≡ false → (list_any (is_of s x.group) vs ≡ true) ⊎ IsUnchanged model on s x.group (lines x.group)
 
 -- if it is a scan that the model uses
 abbrev pub TellsOrUnchanged : Rules → State → (lines : ℕ → List Line) → Option CheckKind → List Verdict → Type 0
@@ -52,26 +52,26 @@ TellsOrUnchanged model s lines None vs = Unit {0}
 TellsOrUnchanged model s lines (Some on) vs = ToldOrUnchanged model s lines on vs
 
 told_unchanged : (model : Rules) (s : State) (lines : ℕ → List Line) (last_scan : LastScan) → AreUnchangedBy model s lines last_scan → (on : CheckKind) (vs : List Verdict) → TellOfChanged s (Some on) vs last_scan → ToldOrUnchanged model s lines on vs
-told_unchanged model s lines last_scan calm on vs told t x live off =
+told_unchanged model s lines last_scan quiet on vs told t x live off =
     ⊎_elim
     (λ (some : list_any (is_of s x.group) vs ≡ true). inl some)
-    (λ (left : (last_scan.kind ≡ Some on) × (has last_scan.changed x.group ≡ false)). inr (subst (λ (k : Option CheckKind). AreUnchangedSince model s lines k (has last_scan.changed)) left.0 calm t x live off left.1))
+    (λ (left : (last_scan.kind ≡ Some on) × (has last_scan.changed x.group ≡ false)). inr (subst (λ (k : Option CheckKind). AreUnchangedSince model s lines k (has last_scan.changed)) left.0 quiet t x live off left.1))
     (told t x live off)
 
 -- where what wasn't told of is unchanged since the last scan
 pub tells_unchanged : (model : Rules) (s : State) (lines : ℕ → List Line) (last_scan : LastScan) → AreUnchangedBy model s lines last_scan → (o : Option CheckKind) (vs : List Verdict) → TellOfChanged s o vs last_scan → TellsOrUnchanged model s lines o vs
-tells_unchanged model s lines last_scan calm None vs told = tt
-tells_unchanged model s lines last_scan calm (Some on) vs told = told_unchanged model s lines last_scan calm on vs told
+tells_unchanged model s lines last_scan quiet None vs told = tt
+tells_unchanged model s lines last_scan quiet (Some on) vs told = told_unchanged model s lines last_scan quiet on vs told
 
 module _ (model : Rules) (s : State) (sound : IsSound s) (on : CheckKind) (lines : ℕ → List Line) (vs : List Verdict) (enough : AreEnough model on s vs)
-    (told : ToldOrUnchanged model s lines on vs) (waiters : WaitingGroups) (stand : AreStanding waiters) (at g : ℕ) (there : has waiters.groups g ≡ true) (same : lines_in waiters.reasons g ≡ lines g) (behind : IsTrue (waits_in s g))
+    (told : ToldOrUnchanged model s lines on vs) (waiters : WaitingGroups) (stand : AreStanding waiters) (at g : ℕ) (there : has waiters.groups g ≡ true) (same : lines_in waiters.reasons g ≡ lines g) (it_waits : IsTrue (waits_in s g))
     (blamed : ℕ × Blame) (first : first_refused s g (verdicts_of model on s) ≡ Some blamed) where
   abbrev Told : Type 0
   Told = after_verdict s at (first_refused s g vs) waiters.reasons g ≡ after_refusal (has_frame_in s) g at blamed (lines_in waiters.reasons g)
 
   told_here : (list_any (is_of s g) vs ≡ true) ⊎ IsUnchanged model on s g (lines g)
   told_here =
-      let w = some_live-is s.bounds s.tasks (λ u y. nat_eq y.group g && not (nat_eq y.level s.target)) behind in
+      let w = some_live-is s.bounds s.tasks (λ u y. nat_eq y.group g && not (nat_eq y.level s.target)) it_waits in
       let both = and_parts (nat_eq w.life.group g) (not (nat_eq w.life.level s.target)) w.passed in
       subst (λ k. (list_any (is_of s k) vs ≡ true) ⊎ IsUnchanged model on s k (lines k)) (eqb-true w.life.group g both.0)
       (told w.task w.life w.live (not-true (nat_eq w.life.level s.target) both.1))
@@ -85,7 +85,7 @@ module _ (model : Rules) (s : State) (sound : IsSound s) (on : CheckKind) (lines
   by_itself none kept =
       ap (λ o. after_verdict s at o waiters.reasons g) (none_refused_of s g vs none)
       ∙ unchanged_refused model s on blamed waiters.reasons.lists waiters.reasons.scans (group_id g) (head_of waiters.reasons g) (stand g there)
-      (sym (verdicts_tell model s sound on g behind) ∙ first) (subst (IsUnchanged model on s g) (sym same) kept) at
+      (sym (verdicts_tell model s sound on g it_waits) ∙ first) (subst (IsUnchanged model on s g) (sym same) kept) at
 
   -- the lines of the group are those after a scan of all
   pub scan_told : Told

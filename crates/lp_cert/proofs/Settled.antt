@@ -1,19 +1,20 @@
--- An exit and an idle point change nothing of a leg that is complete.
+-- An own check changes nothing of a leg that is complete.
 use Rattle.std.proofs.Common.{◌≡◌, ◌<◌, ◌+◌, ℕ, true, false, [], ◌&&◌, Option, Some, None, is_some, is_none, refl, sym, ap, ◌∙◌}
 use Rattle.std.specs.Option.{option_map}
 use Rattle.std.proofs.lemmas.Bool.{false≢true}
 use Rattle.lp_model.specs.Rules.{Rules, IsLawful}
 use Rattle.lp_definitions.specs.declared.event.Event.{Event}
-use Rattle.lp_definitions.specs.declared.event.Event.TheVariants.{Exit, Idle}
+use Rattle.lp_definitions.specs.declared.event.Event.TheVariants.{Exit, Idle, Resched}
 use Rattle.lp_definitions.specs.Events.{is_control}
 use Rattle.lp_transition.specs.LastScan.{IsLastScanAfter}
 use Rattle.lp_definitions.specs.Leg.{State}
 use Rattle.lp_machine.specs.Machine.{answer}
-use Rattle.lp_definitions.specs.Plain.{is_point}
+use Rattle.lp_definitions.specs.TaskEvents.{is_own_check}
 use Rattle.lp_definitions.specs.Run.{Run, plus}
 use Rattle.lp_machine.specs.Steps.{StandsIn}
 use Rattle.lp_machine.specs.Table.{Engine, state_in}
 use Rattle.lp_transition.specs.Weigh.{Weighed, IsWeighed, AreVerdictsFor, born_of, refusal_in}
+use Rattle.lp_cert.specs.declared.open_leg.Completion.{Completion}
 use Rattle.lp_cert.specs.declared.open_leg.OpenLeg.{OpenLeg}
 use Rattle.lp_cert.specs.Ends.{Made, IsMadeWith, is_opening}
 use Rattle.lp_cert.specs.Invariant.{open_end}
@@ -27,25 +28,36 @@ pub open_leg : (current : Option OpenLeg) → is_settled current ≡ false → (
 open_leg None settled = absurd (false≢true (sym settled))
 open_leg (Some leg) settled = (leg, refl, not_some leg.completed settled)
 
-no_control : (event : Event) → is_point event ≡ true → is_control event ≡ false
-no_control (Exit t) point = refl
-no_control (Idle t) point = refl
-no_control _ point = cc
+end_stays : (noted number : ℕ) (w : WaitingGroups) (leg : OpenLeg) (done : Option Completion) → is_some done ≡ true → open_end number w (record leg { completed = done }) ≡ open_end noted w (record leg { completed = done })
+end_stays noted number w leg None settled = absurd (false≢true settled)
+end_stays noted number w leg (Some done) settled = refl
 
-no_verdicts : (model : Rules) (s : State) (event : Event) → is_point event ≡ true → AreVerdictsFor model s event []
-no_verdicts model s (Exit t) point = refl
-no_verdicts model s (Idle t) point = refl
-no_verdicts model s _ point = cc
+-- and the end of one that is complete doesn't tell how many events were noted
+pub ends_stay : (noted number : ℕ) (w : WaitingGroups) (current : Option OpenLeg) → is_settled current ≡ true → option_map (open_end number w) current ≡ option_map (open_end noted w) current
+ends_stay noted number w None settled = refl
+ends_stay noted number w (Some leg) settled = ap Some (end_stays noted number w leg leg.completed settled)
 
-module _ (model : Rules) (lawful : IsLawful model) (run : Run) (e : Engine) (stands : StandsIn model run (state_in e)) (event : Event) (point : is_point event ≡ true) (room : e.number < 1000000) where
+no_control : (event : Event) → is_own_check event ≡ true → is_control event ≡ false
+no_control (Exit t) own_check = refl
+no_control (Idle t) own_check = refl
+no_control (Resched t) own_check = refl
+no_control _ own_check = cc
+
+no_verdicts : (model : Rules) (s : State) (event : Event) → is_own_check event ≡ true → AreVerdictsFor model s event []
+no_verdicts model s (Exit t) own_check = refl
+no_verdicts model s (Idle t) own_check = refl
+no_verdicts model s (Resched t) own_check = refl
+no_verdicts model s _ own_check = cc
+
+module _ (model : Rules) (lawful : IsLawful model) (run : Run) (e : Engine) (stands : StandsIn model run (state_in e)) (event : Event) (own_check : is_own_check event ≡ true) (room : e.number < 1000000) where
   abbrev step : Weighed
   step = record { event = event; reply = answer model (state_in e) event; verdicts = []; born = born_of model (state_in e) event }
 
   weighed : IsWeighed model e step
-  weighed = record { room = room; reply = refl; born = refl; verdicts = no_verdicts model (state_in e) event point }
+  weighed = record { room = room; reply = refl; born = refl; verdicts = no_verdicts model (state_in e) event own_check }
 
   opens_none : is_opening step ≡ false
-  opens_none = ap (λ b. b && is_none (refusal_in step.reply.what)) (no_control event point)
+  opens_none = ap (λ b. b && is_none (refusal_in step.reply.what)) (no_control event own_check)
 
   unfinished_not : (leg : OpenLeg) → is_some leg.completed ≡ true → leg.completed ≡ None → ⊥
   unfinished_not leg settled unfinished = false≢true (sym (ap is_some unfinished) ∙ settled)

@@ -1,8 +1,9 @@
 -- Who waits after an event of a leg, and with which lines.
 use Rattle.std.proofs.Common.{◌≡◌, ℕ, suc, ◌<◌, Bool, true, false, not, ◌&&◌, List, [], ◌∷◌, length, Option, Some, None, IsSome, is_none, if◌then◌else◌, nat_eq, refl, sym, ap, ap₂, subst, ◌∙◌, ⊎_elim}
 use Rattle.std.specs.List.{list_any}
+use Rattle.std.specs.Option.{option_map}
 use Rattle.lp_numbers.specs.Numbers.{has}
-use Rattle.std.proofs.lemmas.Bool.{false≢true, cond-true, cond-false, cases_Bool}
+use Rattle.std.proofs.lemmas.Bool.{false≢true, cond-true, cond-false, and_parts, eq-eqb, eqb-true, cases_Bool}
 use Rattle.lp_stack.specs.declared.number.TaskId.{TaskId}
 use Rattle.lp_model.specs.Rules.{Rules, IsLawful}
 use Rattle.lp_model.specs.declared.check.CheckKind.{CheckKind}
@@ -11,41 +12,42 @@ use Rattle.lp_model.specs.declared.check.Blame.{Blame}
 use Rattle.lp_model.specs.declared.check.ForkKind.{ForkKind}
 use Rattle.lp_model.specs.declared.verdict.Verdict.{Verdict}
 use Rattle.lp_definitions.specs.declared.event.Event.{Event}
-use Rattle.lp_definitions.specs.declared.event.Event.TheVariants.{Call, Ret, Sleep, Wake, Enter, Exit, Idle, Fork, Die, Walk, Stop, Enable, Disable, Reverse}
+use Rattle.lp_definitions.specs.declared.event.Event.TheVariants.{Call, Ret, Sleep, Wake, Enter, Exit, Idle, Resched, Fork, Die, Walk, Stop, Enable, Disable, Reverse}
 use Rattle.lp_definitions.specs.declared.refusal.Refusal.{Refusal}
 use Rattle.lp_definitions.specs.declared.reply.What.{What}
 use Rattle.lp_definitions.specs.declared.reply.Reply.{Reply}
 use Rattle.lp_definitions.specs.Events.{is_control, is_scan}
-use Rattle.lp_definitions.specs.Tasks.{Fate, Unused, Live, on_live, change}
-use Rattle.lp_definitions.specs.Leg.{Standing, State, Leg, some_live}
+use Rattle.lp_definitions.specs.Tasks.{Fate, Unused, Live, on_live, map_live, change}
+use Rattle.lp_definitions.specs.Leg.{LegTask, State, Leg, some_live, is_alone}
 use Rattle.lp_definitions.specs.Run.{and_then}
 use Rattle.lp_definitions.specs.Sound.{IsSound}
 use Rattle.lp_transition.specs.Scan.{verdicts_of, first_refused, AreEnough}
 use Rattle.lp_transition.specs.inside.ScanSteps.{switches_by, groups_of}
-use Rattle.lp_machine.specs.Machine.{waits_in, switches_at, affected, next, told, state_of, refusal_of, calling, returning, put_in}
+use Rattle.lp_machine.specs.Machine.{outline_of, outlines_of, view_of, waits_in, switches_at, affected, next, told, state_of, refusal_of, calling, returning, put_in}
 use Rattle.lp_machine.specs.Table.{Engine, slot, fate_at, state_in}
 use Rattle.lp_transition.specs.Weigh.{Weighed, IsWeighed, AreVerdictsFor, is_fork, refusal_in}
 use Rattle.lp_stack.specs.declared.view.Mode.TheVariants.{User, Kernel, Asleep}
-use Rattle.lp_machine.proofs.Accept.{fork-live, fork-new, fork-positive, fork-within, die-live}
+use Rattle.lp_machine.proofs.Accept.{fork-live, fork-new, fork-positive, fork-within, resched-live, die-live}
 use Rattle.lp_machine.proofs.EngineLemmas.{and-false, answer-accepted, next-accepted, next-refused}
 use Rattle.lp_transition.proofs.ScanAnswers.{switches-walk, switches-stop}
 use Rattle.lp_laws.proofs.OneMore.{plain_refusal}
-use Rattle.lp_machine.proofs.Steps.{refusal_is}
+use Rattle.lp_machine_laws.proofs.Steps.{refusal_is}
 use Rattle.lp_tasks.proofs.TableLemmas.{live_from_slot, slot_from_live}
 use Rattle.lp_transition.proofs.Weighing.{refused-as}
 use Rattle.lp_definitions.specs.declared.line.Line.{Line}
-use Rattle.lp_definitions.specs.Certificates.{lines, birth_line, after_refusal}
-use Rattle.lp_cert.specs.EventLines.{lines_after_fork}
+use Rattle.lp_definitions.specs.Certificates.{lines, birth_line, after_refusal, after_check}
+use Rattle.lp_cert.specs.EventLines.{lines_after_scan, lines_after_own_check, is_resched, lines_after_fork}
 use Rattle.lp_cert.specs.inside.StepLines.{stepped_lines, noted_by, noted_lines}
 use Rattle.lp_transition.specs.LastScan.{used_kind, used_scan}
 use Rattle.lp_transition.specs.Blames.{has_frame_in}
 use Rattle.lp_cert.specs.Waiters.{WaitingGroups}
-use Rattle.lp_cert.specs.inside.Waiters.{AreStanding, own_lines, after_scan, after_scan_of, after_switch, after_verdict, after_fork, after_death, is_lone, lines_at, lines_in, scanned_lines}
-use Rattle.lp_cert.proofs.NextLines.{lines_at_fork}
+use Rattle.lp_cert.specs.inside.Waiters.{AreStanding, own_lines, own_blame, after_own_check, after_scan, after_scan_of, after_switch, after_verdict, after_fork, after_death, is_lone, lines_at, lines_in, scanned_lines}
+use Rattle.lp_cert.proofs.NextLines.{lines_at_fork, lines_at_own_check}
+use Rattle.lp_cert.proofs.OwnChecks.{lone_blamed}
 use Rattle.lp_cert.proofs.OtherEvents.{lines_at_refused, lines_at_others}
-use Rattle.lp_cert.proofs.Behind.{and_true, behind_after, none_refused, told_switched, same_own, others, changed_own, scan_own}
+use Rattle.lp_cert.proofs.Waits.{and_true, waits_after, none_refused, told_switched, same_own, others, changed_own, scan_own}
 use Rattle.lp_cert.proofs.ScanTold.{ToldOrUnchanged, TellsOrUnchanged, scan_told}
-use Rattle.lp_cert.proofs.BehindTasks.{fork_lines, die_lines}
+use Rattle.lp_cert.proofs.TasksThatWait.{fork_lines, die_lines}
 
 -- what a scan finds of all waiting tasks
 abbrev all_for : Rules → State → Event → List Verdict
@@ -66,7 +68,7 @@ module _ (model : Rules) (lawful : IsLawful model) (e : Engine) (sound : IsSound
 
   -- a parent's group is a number below 65,536
   abbrev pub IsFew : Event → Type 0
-  IsFew event = (p c : TaskId) (how : ForkKind) → event ≡ Fork p c how → (x : Standing) → slot e.table p.0 ≡ Some x → x.group < 65536
+  IsFew event = (p c : TaskId) (how : ForkKind) → event ≡ Fork p c how → (x : LegTask) → slot e.table p.0 ≡ Some x → x.group < 65536
 
   -- ---- The event's own effect
 
@@ -85,7 +87,7 @@ module _ (model : Rules) (lawful : IsLawful model) (e : Engine) (sound : IsSound
       let law : lines model (and_then leg (Fork p c how)) (suc n) g ≡ (if nat_eq g c.0 && nat_eq g (model.child_group x.group c.0 how) then birth_line g p (suc e.number) ∷ lines model leg n x.group else lines model leg n g) =
       lines_at_fork model leg p c how g told
       ∙ (ap (λ (st : State). lines_after_fork model st p c how (lines model leg n) g) (sym there)
-      ∙ ap (λ (fate : Fate Standing). let parents = on_live 0 (λ y. y.group) fate in if nat_eq g c.0 && nat_eq g (model.child_group parents c.0 how) then birth_line g p (suc e.number) ∷ lines model leg n parents else lines model leg n g) parent) in
+      ∙ ap (λ (fate : Fate LegTask). let parents = on_live 0 (λ y. y.group) fate in if nat_eq g c.0 && nat_eq g (model.child_group parents c.0 how) then birth_line g p (suc e.number) ∷ lines model leg n parents else lines model leg n g) parent) in
       ap (on_live (old g) (λ y. after_fork model p c how (suc e.number) y.group old g)) parent
       ∙ fork_lines model s sound p c how x parent (fork-positive model e p c how ok) (fork-within model e p c how ok) fresh lawful (suc e.number) g (lines model leg n) (lines model (and_then leg (Fork p c how)) (suc n)) old (is g below) (is x.group (few p c how refl x live.there)) law
 
@@ -95,23 +97,101 @@ module _ (model : Rules) (lawful : IsLawful model) (e : Engine) (sound : IsSound
       let x = live.task in
       let dying : s.tasks t.0 ≡ Live x = live_from_slot e.table t.0 x live.there in
       ap (on_live (old g) (λ y. after_death y.group (is_lone e t.0 y.group) old g)) dying
-      ∙ die_lines model s sound t x dying g (lines model leg n) (lines model (and_then leg (Die t)) (suc n)) old (is g below) (others model lawful e sound leg leg_sound there g (old g) (is g below) (Die t) refl refl)
+      ∙ die_lines model s sound t x dying g (lines model leg n) (lines model (and_then leg (Die t)) (suc n)) old (is g below) (others model lawful e sound leg leg_sound there g (old g) (is g below) (Die t) refl refl refl)
 
-  change_own : (event : Event) (t : ℕ) (f : Standing → Standing) (g : ℕ) → g < 65536 → ((x : Standing) → (f x).level ≡ x.level) → ((x : Standing) → (f x).group ≡ x.group)
+  change_own : (event : Event) (t : ℕ) (f : LegTask → LegTask) (g : ℕ) → g < 65536 → ((x : LegTask) → (f x).level ≡ x.level) → ((x : LegTask) → (f x).group ≡ x.group)
       → waits_in (affected model s event) g ≡ some_live s.bounds (change t f s.tasks) (λ u x. nat_eq x.group g && not (nat_eq x.level s.target))
-      → is_scan event ≡ false → is_fork event ≡ false → IsOwn event g (old g)
-  change_own event t f g below levels groups changed scan fork = changed_own model lawful e sound leg leg_sound there g (old g) (is g below) event t f levels groups changed scan fork
+      → is_scan event ≡ false → is_fork event ≡ false → is_resched event ≡ false → IsOwn event g (old g)
+  change_own event t f g below levels groups changed scan fork own = changed_own model lawful e sound leg leg_sound there g (old g) (is g below) event t f levels groups changed scan fork own
+
+  -- an own check in the kernel leaves who waits, and adds a reason where it refuses the only member of its group
+  resched_own : (t : TaskId) (vs : List Verdict) (g : ℕ) → g < 65536 → refusal_of model s (Resched t) ≡ None → IsOwn (Resched t) g (own_lines model e (Resched t) vs old g)
+  resched_own t vs g below ok =
+      ap (on_live (old g) (λ y. after_own_check s t.0 y.group (is_lone e t.0 y.group) (own_blame model e t.0) old g)) there_is
+      ∙ by (model.uses kind.Resched) refl (is_alone s.bounds (outlines_of s.tasks) g t.0) refl
+    where
+      x : LegTask
+      x = (resched-live model e t ok).task
+
+      there_is : s.tasks t.0 ≡ Live x
+      there_is = live_from_slot e.table t.0 x (resched-live model e t ok).there
+
+      lone : Bool
+      lone = is_lone e t.0 x.group
+
+      before : List Line
+      before = lines model leg n g
+
+      new : List Line
+      new = lines model (and_then leg (Resched t)) (suc n) g
+
+      after_lines : Bool → List Line
+      after_lines b = if b then lines_after_scan model s kind.Resched g before else before
+
+      law : new ≡ after_lines (model.uses kind.Resched && is_alone s.bounds (outlines_of s.tasks) g t.0)
+      law =
+          lines_at_own_check model leg t g (sym (refusal_is model leg (Resched t)) ∙ (ap (λ (st : State). refusal_of model st (Resched t)) (sym there) ∙ ok))
+          ∙ ap (λ (st : State). lines_after_own_check model st t g before) (sym there)
+
+      blame_is : own_blame model e t.0 ≡ (if model.uses kind.Resched then model.blame kind.Resched (view_of t.0 x) s.aim else None)
+      blame_is = ap (λ (fate : Fate LegTask). if model.uses kind.Resched then on_live None (λ y. model.blame kind.Resched (view_of t.0 y) s.aim) fate else None) there_is
+
+      remain : new ≡ before → old g ≡ (if waits_in s g then Some new else None)
+      remain h = same_own model lawful e sound leg leg_sound there g (old g) (is g below) (Resched t) refl h
+
+      untouched : (nat_eq g x.group && lone) ≡ false → (o : Option Blame) → after_own_check s t.0 x.group lone o old g ≡ old g
+      untouched out None = refl
+      untouched out (Some b) = cond-false (nat_eq g x.group && lone) _ (old g) out
+
+      -- where the check is of another group, or of one with other members, it isn't this group's
+      other_group : is_alone s.bounds (outlines_of s.tasks) g t.0 ≡ false → (b : Bool) → nat_eq g x.group ≡ b → (nat_eq g x.group && lone) ≡ false
+      other_group out false e2 = ap (λ b. b && lone) e2
+      other_group out true e2 =
+          ap (λ b. b && lone) e2 ∙ subst (λ k. is_alone s.bounds (outlines_of s.tasks) k t.0 ≡ false) (eqb-true g x.group e2) out
+
+      own_group : is_alone s.bounds (outlines_of s.tasks) g t.0 ≡ true → x.group ≡ g
+      own_group a =
+          eqb-true x.group g (sym (ap (λ (fate : Fate LegTask). on_live false (λ y. nat_eq y.group g) (map_live outline_of fate)) there_is) ∙ (and_parts _ _ a).0)
+
+      taken : (b : Blame) → is_alone s.bounds (outlines_of s.tasks) g t.0 ≡ true → (nat_eq g x.group && lone) ≡ true
+      taken b a = ap₂ (λ c d. c && d) (eq-eqb g x.group (sym (own_group a))) (subst (λ k. is_alone s.bounds (outlines_of s.tasks) k t.0 ≡ true) (sym (own_group a)) a)
+
+      lifted : (f : List Line → List Line) → new ≡ f before → (w : Bool) → option_map f (if w then Some before else None) ≡ (if w then Some new else None)
+      lifted f h true = ap {A = List Line} {B = Option (List Line)} Some (sym h)
+      lifted f h false = refl
+
+      found : is_alone s.bounds (outlines_of s.tasks) g t.0 ≡ true → (o : Option Blame) → model.blame kind.Resched (view_of t.0 x) s.aim ≡ o → new ≡ lines_after_scan model s kind.Resched g before
+          → after_own_check s t.0 x.group lone o old g ≡ (if waits_in s g then Some new else None)
+      found a None e2 h = remain (h ∙ ap (λ first. after_check (has_frame_in s) g (suc s.number) first before) (lone_blamed model s sound kind.Resched t.0 x there_is g (own_group a) a ∙ ap (option_map (λ why. (t.0, why))) e2))
+      found a (Some b) e2 h =
+          let first = lone_blamed model s sound kind.Resched t.0 x there_is g (own_group a) a ∙ ap (option_map (λ why. (t.0, why))) e2 in
+          cond-true (nat_eq g x.group && lone) _ (old g) (taken b a)
+          ∙ (ap (option_map (after_refusal (has_frame_in s) g (suc s.number) (t.0, b))) (is g below)
+          ∙ lifted (after_refusal (has_frame_in s) g (suc s.number) (t.0, b)) (h ∙ ap (λ o. after_check (has_frame_in s) g (suc s.number) o before) first) (waits_in s g))
+
+      by : (u : Bool) → model.uses kind.Resched ≡ u → (a : Bool) → is_alone s.bounds (outlines_of s.tasks) g t.0 ≡ a
+          → after_own_check s t.0 x.group lone (own_blame model e t.0) old g ≡ (if waits_in s g then Some new else None)
+      by false unused a is_a =
+          ap (λ o. after_own_check s t.0 x.group lone o old g) (blame_is ∙ cond-false (model.uses kind.Resched) _ None unused)
+          ∙ remain (law ∙ ap (λ b. after_lines (b && is_alone s.bounds (outlines_of s.tasks) g t.0)) unused)
+      by true used false out =
+          untouched (other_group out (nat_eq g x.group) refl) (own_blame model e t.0)
+          ∙ remain (law ∙ ap₂ (λ b c. after_lines (b && c)) used out)
+      by true used true a =
+          ap (λ o. after_own_check s t.0 x.group lone o old g) (blame_is ∙ cond-true (model.uses kind.Resched) _ None used)
+          ∙ found a (model.blame kind.Resched (view_of t.0 x) s.aim) refl (law ∙ ap₂ (λ b c. after_lines (b && c)) used a)
 
   own_step : (event : Event) (g : ℕ) → g < 65536 → IsFew event → refusal_of model s event ≡ None → is_control event ≡ false → switches_at model (affected model s event) event g ≡ false
       → IsOwn event g (own_lines model e event (all_for model s event) old g)
-  own_step (Call t f) g below few ok plain stays = change_own (Call t f) t.0 (calling (suc e.number) f) g below (λ x. refl) (λ x. refl) refl refl refl
-  own_step (Ret t) g below few ok plain stays = change_own (Ret t) t.0 returning g below (λ x. refl) (λ x. refl) refl refl refl
-  own_step (Sleep t) g below few ok plain stays = change_own (Sleep t) t.0 (put_in Asleep) g below (λ x. refl) (λ x. refl) refl refl refl
-  own_step (Wake t) g below few ok plain stays = change_own (Wake t) t.0 (put_in Kernel) g below (λ x. refl) (λ x. refl) refl refl refl
-  own_step (Enter t) g below few ok plain stays = change_own (Enter t) t.0 (put_in Kernel) g below (λ x. refl) (λ x. refl) refl refl refl
-  own_step (Exit t) g below few ok plain stays = change_own (Exit t) t.0 (put_in User) g below (λ x. refl) (λ x. refl) refl refl refl
+  own_step (Call t f) g below few ok plain stays = change_own (Call t f) t.0 (calling (suc e.number) f) g below (λ x. refl) (λ x. refl) refl refl refl refl
+  own_step (Ret t) g below few ok plain stays = change_own (Ret t) t.0 returning g below (λ x. refl) (λ x. refl) refl refl refl refl
+  own_step (Sleep t) g below few ok plain stays = change_own (Sleep t) t.0 (put_in Asleep) g below (λ x. refl) (λ x. refl) refl refl refl refl
+  own_step (Wake t) g below few ok plain stays = change_own (Wake t) t.0 (put_in Kernel) g below (λ x. refl) (λ x. refl) refl refl refl refl
+  own_step (Enter t) g below few ok plain stays = change_own (Enter t) t.0 (put_in Kernel) g below (λ x. refl) (λ x. refl) refl refl refl refl
+  own_step (Exit t) g below few ok plain stays = change_own (Exit t) t.0 (put_in User) g below (λ x. refl) (λ x. refl) refl refl refl refl
   own_step (Idle t) g below few ok plain stays =
-      same_own model lawful e sound leg leg_sound there g (old g) (is g below) (Idle t) refl (others model lawful e sound leg leg_sound there g (old g) (is g below) (Idle t) refl refl)
+      same_own model lawful e sound leg leg_sound there g (old g) (is g below) (Idle t) refl (others model lawful e sound leg leg_sound there g (old g) (is g below) (Idle t) refl refl refl)
+  own_step (Resched t) g below few ok plain stays = resched_own t [] g below ok
   own_step (Fork p c how) g below few ok plain stays = fork_own p c how [] g below few ok
   own_step (Die t) g below few ok plain stays = die_own t [] g below ok
   own_step Walk g below few ok plain stays =
@@ -135,6 +215,7 @@ module _ (model : Rules) (lawful : IsLawful model) (e : Engine) (sound : IsSound
   scan_accepted (Enter t) scan = absurd (false≢true scan)
   scan_accepted (Exit t) scan = absurd (false≢true scan)
   scan_accepted (Idle t) scan = absurd (false≢true scan)
+  scan_accepted (Resched t) scan = absurd (false≢true scan)
   scan_accepted (Fork p c how) scan = absurd (false≢true scan)
   scan_accepted (Die t) scan = absurd (false≢true scan)
   scan_accepted Enable scan = absurd (false≢true scan)
@@ -150,6 +231,7 @@ module _ (model : Rules) (lawful : IsLawful model) (e : Engine) (sound : IsSound
   is_fork-control (Enter t) fork = absurd (false≢true fork)
   is_fork-control (Exit t) fork = absurd (false≢true fork)
   is_fork-control (Idle t) fork = absurd (false≢true fork)
+  is_fork-control (Resched t) fork = absurd (false≢true fork)
   is_fork-control (Die t) fork = absurd (false≢true fork)
   is_fork-control Walk fork = absurd (false≢true fork)
   is_fork-control Stop fork = absurd (false≢true fork)
@@ -157,19 +239,30 @@ module _ (model : Rules) (lawful : IsLawful model) (e : Engine) (sound : IsSound
   is_fork-control Disable fork = absurd (false≢true fork)
   is_fork-control Reverse fork = absurd (false≢true fork)
 
+  is_resched-control : (event : Event) → is_resched event ≡ true → is_control event ≡ false
+  is_resched-control (Resched t) own = refl
+  is_resched-control _ own = absurd (false≢true own)
+
   refused_same : (event : Event) (g : ℕ) (why : Refusal) → refusal_of model s event ≡ Some why → lines model (and_then leg event) (suc n) g ≡ lines model leg n g
   refused_same event g why turned_down =
       ⊎_elim
       (λ (scan : is_scan event ≡ true). absurd (some_none why (sym turned_down ∙ scan_accepted event scan)))
       (λ (plain : is_scan event ≡ false).
       ⊎_elim
-      (λ (fork : is_fork event ≡ true).
-      let told = sym (refusal_is model leg event) ∙ (ap (λ (st : State). refusal_of model st event) (sym there) ∙ turned_down) in
-      lines_at_refused model lawful leg leg_sound event g why (sym (plain_refusal model leg event (is_fork-control event fork)) ∙ told))
-      (λ (other : is_fork event ≡ false). lines_at_others model lawful leg leg_sound event g plain other)
+      (λ (fork : is_fork event ≡ true). by_tests (is_fork-control event fork))
+      (λ (other : is_fork event ≡ false).
+      ⊎_elim
+      (λ (own : is_resched event ≡ true). by_tests (is_resched-control event own))
+      (λ (rest : is_resched event ≡ false). lines_at_others model lawful leg leg_sound event g plain other rest)
+      (cases_Bool (is_resched event)))
       (cases_Bool (is_fork event)))
       (cases_Bool (is_scan event))
     where
+      by_tests : is_control event ≡ false → lines model (and_then leg event) (suc n) g ≡ lines model leg n g
+      by_tests plain =
+          let told = sym (refusal_is model leg event) ∙ (ap (λ (st : State). refusal_of model st event) (sym there) ∙ turned_down) in
+          lines_at_refused model lawful leg leg_sound event g why (sym (plain_refusal model leg event plain) ∙ told)
+
       some_none : {A : Type 0} (a : A) → Some a ≡ None → ⊥
       some_none a e = absurd (cc)
 
@@ -187,6 +280,7 @@ module _ (model : Rules) (lawful : IsLawful model) (e : Engine) (sound : IsSound
   own_any (Enter t) vs ws g none = refl
   own_any (Exit t) vs ws g none = refl
   own_any (Idle t) vs ws g none = refl
+  own_any (Resched t) vs ws g none = refl
   own_any (Fork p c how) vs ws g none = refl
   own_any (Die t) vs ws g none = refl
   own_any Enable vs ws g none = refl
@@ -208,8 +302,8 @@ module _ (model : Rules) (lawful : IsLawful model) (e : Engine) (sound : IsSound
     -- the group is refused
     refused_case : has waiters.groups g ≡ true → waits_in s g ≡ true → lines_in waiters.reasons g ≡ lines model leg n g → (blamed : ℕ × Blame) → first_refused s g (verdicts_of model on s) ≡ Some blamed
         → after_verdict s (suc e.number) (first_refused s g vs) waiters.reasons g ≡ after_refusal (has_frame_in s) g (suc e.number) blamed (lines_in waiters.reasons g)
-    refused_case there behind same blamed first =
-        scan_told model s sound on (lines model leg n) vs enough told waiters stand (suc e.number) g there same behind blamed first
+    refused_case there it_waits same blamed first =
+        scan_told model s sound on (lines model leg n) vs enough told waiters stand (suc e.number) g there same it_waits blamed first
 
     scan_noted : scanned_lines s (suc e.number) vs waiters g ≡ after_scan (has_frame_in s) g (suc e.number) (first_refused s g (verdicts_of model on s)) (old g)
     scan_noted = by (has waiters.groups g) refl (waits_in s g) refl (first_refused s g (verdicts_of model on s)) refl
@@ -220,18 +314,18 @@ module _ (model : Rules) (lawful : IsLawful model) (e : Engine) (sound : IsSound
 
         by : (w : Bool) → has waiters.groups g ≡ w → (b : Bool) → waits_in s g ≡ b → (o : Option (ℕ × Blame)) → first_refused s g (verdicts_of model on s) ≡ o
             → scanned_lines s (suc e.number) vs waiters g ≡ after_scan (has_frame_in s) g (suc e.number) (first_refused s g (verdicts_of model on s)) (old g)
-        by false out b behind o first =
+        by false out b it_waits o first =
             cond-false (has waiters.groups g) _ None out
             ∙ (sym (nothing (first_refused s g (verdicts_of model on s)))
             ∙ ap (after_scan (has_frame_in s) g (suc e.number) (first_refused s g (verdicts_of model on s))) (sym (cond-false (has waiters.groups g) (Some (lines_in waiters.reasons g)) None out)))
-        by true there false behind o first =
-            absurd (some_none (lines_in waiters.reasons g) (sym (cond-true (has waiters.groups g) (Some (lines_in waiters.reasons g)) None there) ∙ (is g below ∙ cond-false (waits_in s g) _ None behind)))
-        by true there true behind None first = absurd (false≢true (sym not_switched ∙ none_refused model lawful e sound on g behind first))
-        by true there true behind (Some blamed) first =
-            let frame_stands : Some (lines_in waiters.reasons g) ≡ Some (lines model leg n g) = sym (cond-true (has waiters.groups g) (Some (lines_in waiters.reasons g)) None there) ∙ (is g below ∙ cond-true (waits_in s g) _ None behind) in
+        by true there false it_waits o first =
+            absurd (some_none (lines_in waiters.reasons g) (sym (cond-true (has waiters.groups g) (Some (lines_in waiters.reasons g)) None there) ∙ (is g below ∙ cond-false (waits_in s g) _ None it_waits)))
+        by true there true it_waits None first = absurd (false≢true (sym not_switched ∙ none_refused model lawful e sound on g it_waits first))
+        by true there true it_waits (Some blamed) first =
+            let frame_stands : Some (lines_in waiters.reasons g) ≡ Some (lines model leg n g) = sym (cond-true (has waiters.groups g) (Some (lines_in waiters.reasons g)) None there) ∙ (is g below ∙ cond-true (waits_in s g) _ None it_waits) in
             let same : lines_in waiters.reasons g ≡ lines model leg n g = cc in
             cond-true (has waiters.groups g) _ None there
-            ∙ (ap {A = List Line} {B = Option (List Line)} Some (refused_case there behind same blamed first)
+            ∙ (ap {A = List Line} {B = Option (List Line)} Some (refused_case there it_waits same blamed first)
             ∙ ap₂ (after_scan (has_frame_in s) g (suc e.number)) (sym first) (sym (cond-true (has waiters.groups g) (Some (lines_in waiters.reasons g)) None there)))
 
   -- the lines that a scan leaves by what it found of those that it looked at are those that it leaves by what it finds of all
@@ -264,6 +358,7 @@ module _ (model : Rules) (lawful : IsLawful model) (e : Engine) (sound : IsSound
     noted_is (Enter t) vs enough told stand stays = refl
     noted_is (Exit t) vs enough told stand stays = refl
     noted_is (Idle t) vs enough told stand stays = refl
+    noted_is (Resched t) vs enough told stand stays = refl
     noted_is (Fork p c how) vs enough told stand stays = refl
     noted_is (Die t) vs enough told stand stays = refl
     noted_is Enable vs enough told stand stays = refl
@@ -290,12 +385,12 @@ module _ (model : Rules) (lawful : IsLawful model) (e : Engine) (sound : IsSound
           → after_switch (groups_of step.reply.what) (noted_lines model e event step.verdicts waiters) g ≡ (if waits_in (next model s event) g then Some (new g) else None)
       gone ok true goes told =
           cond-true (list_any (nat_eq g) (groups_of step.reply.what)) None (noted_lines model e event step.verdicts waiters g) told
-          ∙ sym (cond-false (waits_in (next model s event) g) (Some (new g)) None (ap (λ (st : State). waits_in st g) (next-accepted model s event ok (plain ok)) ∙ (behind_after model s event g ∙ (ap (λ b. waits_in (affected model s event) g && not b) goes ∙ and-false (waits_in (affected model s event) g)))))
+          ∙ sym (cond-false (waits_in (next model s event) g) (Some (new g)) None (ap (λ (st : State). waits_in st g) (next-accepted model s event ok (plain ok)) ∙ (waits_after model s event g ∙ (ap (λ b. waits_in (affected model s event) g && not b) goes ∙ and-false (waits_in (affected model s event) g)))))
       gone ok false goes told =
           cond-false (list_any (nat_eq g) (groups_of step.reply.what)) None (noted_lines model e event step.verdicts waiters g) told
           ∙ (noted_is g below event step.verdicts weighed.verdicts enough (λ used. stand used (refused_is ∙ ok)) goes
           ∙ (own_step event g below (few ok) ok (plain ok) goes
-          ∙ ap (λ b. if b then Some (new g) else None) (sym (ap (λ (st : State). waits_in st g) (next-accepted model s event ok (plain ok)) ∙ (behind_after model s event g ∙ (ap (λ b. waits_in (affected model s event) g && not b) goes ∙ and_true (waits_in (affected model s event) g)))))))
+          ∙ ap (λ b. if b then Some (new g) else None) (sym (ap (λ (st : State). waits_in st g) (next-accepted model s event ok (plain ok)) ∙ (waits_after model s event g ∙ (ap (λ b. waits_in (affected model s event) g && not b) goes ∙ and_true (waits_in (affected model s event) g)))))))
 
       by : (why : Option Refusal) → refusal_of model s event ≡ why → stepped_lines model e step waiters g ≡ (if waits_in (next model s event) g then Some (new g) else None)
       by (Some why) turned_down =

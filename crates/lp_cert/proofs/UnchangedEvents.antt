@@ -12,65 +12,67 @@ use Rattle.lp_model.specs.declared.check.CheckKind.TheVariants as kind
 use Rattle.lp_model.specs.declared.check.ForkKind.{ForkKind}
 use Rattle.lp_model.specs.declared.check.Blame.{Blame}
 use Rattle.lp_model.specs.Rules.{Rules, IsLawful}
-use Rattle.lp_patch.specs.Patches.{Goal}
+use Rattle.lp_patch.specs.Patches.{Aim}
 use Rattle.lp_definitions.specs.declared.event.Event.{Event}
-use Rattle.lp_definitions.specs.declared.event.Event.TheVariants.{Call, Ret, Sleep, Wake, Enter, Exit, Idle, Fork, Die, Walk, Stop, Enable, Disable, Reverse}
+use Rattle.lp_definitions.specs.declared.event.Event.TheVariants.{Call, Ret, Sleep, Wake, Enter, Exit, Idle, Resched, Fork, Die, Walk, Stop, Enable, Disable, Reverse}
 use Rattle.lp_definitions.specs.declared.refusal.Refusal.{Refusal}
 use Rattle.lp_definitions.specs.declared.refusal.Refusal.TheVariants.{TaskRange, TaskUsed}
 use Rattle.lp_definitions.specs.Events.{is_control}
 use Rattle.lp_transition.specs.LastScan.{AreSameMembers}
 use Rattle.lp_definitions.specs.Tasks.{Fate, Unused, Live, Dead, on_live, map_live, is_unused, unknown_task, out_of_range, used, not_of, not_in, first_of}
-use Rattle.lp_definitions.specs.Leg.{Standing, State, Leg}
+use Rattle.lp_definitions.specs.Leg.{LegTask, State, Leg}
 use Rattle.lp_definitions.specs.Run.{and_then, opened, opens, next_leg}
 use Rattle.lp_transition.specs.Scan.{is_scan_kind, scan_event}
 use Rattle.lp_definitions.specs.Sound.{IsSound}
 use Rattle.lp_machine.specs.Machine.{outline_of, outlines_of, view_of, refusal_of, with_switches, next, state_of}
 use Rattle.lp_machine.proofs.EngineLemmas.{next-accepted}
-use Rattle.lp_laws.proofs.Plain.{none_first, unfit}
-use Rattle.lp_machine.proofs.States.{state_sound}
+use Rattle.lp_laws.proofs.NextTasks.{none_first, unfit}
+use Rattle.lp_machine_laws.proofs.States.{state_sound}
 use Rattle.lp_laws.proofs.OneMore.{plain_refusal}
-use Rattle.lp_machine.proofs.Steps.{refusal_is, does}
+use Rattle.lp_machine_laws.proofs.Steps.{refusal_is, does}
 use Rattle.lp_transition.specs.Blames.{has_frame_in, first_blamed_in}
 use Rattle.lp_definitions.specs.declared.line.Line.{Line}
 use Rattle.lp_definitions.specs.declared.line.Line.TheVariants as line
 use Rattle.lp_definitions.specs.Certificates.{lines, birth_line}
 use Rattle.lp_cert.specs.Unchanged.{IsUnchanged, AreUnchanged}
 use Rattle.lp_cert.proofs.HoldNames.{NamesMember, lines_name}
+use Rattle.lp_cert.specs.EventLines.{is_resched}
+use Rattle.lp_cert.proofs.UnchangedChecks.{GoesOnStill, goes_on_still}
 use Rattle.lp_cert.proofs.NextLines.{lines_at_fork, lines_at_unused_scan}
 use Rattle.lp_cert.proofs.OtherEvents.{lines_at_others, lines_at_refused}
 
 -- ---- Members that stand as they stood
 
 -- what is asked of the members of a group alone is the same of two fates, if whichever is a live member's is the other too
-fate_as : (g : ℕ) (f : Standing → Option Blame) (a b : Fate Standing) → ((x : Standing) → x.group ≡ g → (a ≡ Live x) ↔ (b ≡ Live x))
+fate_as : (g : ℕ) (f : LegTask → Option Blame) (a b : Fate LegTask) → ((x : LegTask) → x.group ≡ g → (a ≡ Live x) ↔ (b ≡ Live x))
     → on_live None (λ x. if nat_eq x.group g then f x else None) a ≡ on_live None (λ x. if nat_eq x.group g then f x else None) b
 fate_as g f a b same = by a refl
   where
-    asked : Fate Standing → Option Blame
+    asked : Fate LegTask → Option Blame
     asked fate = on_live None (λ x. if nat_eq x.group g then f x else None) fate
 
     -- of a fate that is no live member's nothing is asked
-    nothing : (fate : Fate Standing) → ((y : Standing) → fate ≡ Live y → y.group ≡ g → ⊥) → asked fate ≡ None
+    nothing : (fate : Fate LegTask) → ((y : LegTask) → fate ≡ Live y → y.group ≡ g → ⊥) → asked fate ≡ None
     nothing Unused never = refl
     nothing Dead never = refl
     nothing (Live y) never = cond-false (nat_eq y.group g) (f y) None (ne_eqb y.group g (λ mine. never y refl mine))
 
-    live_live : (x y : Standing) → Live x ≡ Live y → x ≡ y
+    live_live : (x y : LegTask) → Live x ≡ Live y → x ≡ y
     live_live x y e = cc
 
-    unused_live : (y : Standing) → Unused ≡ Live y → ⊥
+    unused_live : (y : LegTask) → Unused ≡ Live y → ⊥
     unused_live y e = absurd (cc)
 
-    dead_live : (y : Standing) → Dead ≡ Live y → ⊥
+    dead_live : (y : LegTask) → Dead ≡ Live y → ⊥
     dead_live y e = absurd (cc)
 
-    by_group : (x : Standing) → a ≡ Live x → (mine : Bool) → nat_eq x.group g ≡ mine → asked (Live x) ≡ asked b
+    by_group : (x : LegTask) → a ≡ Live x → (mine : Bool) → nat_eq x.group g ≡ mine → asked (Live x) ≡ asked b
     by_group x is true mine = ap asked (sym ((same x (eqb-true x.group g mine)).0 is))
     by_group x is false mine =
         cond-false (nat_eq x.group g) (f x) None mine
         ∙ sym (nothing b (λ y there its. eqb-false x.group g mine (ap (λ z. z.group) (live_live x y (sym is ∙ (same y its).1 there)) ∙ its)))
 
-    by : (fate : Fate Standing) → a ≡ fate → asked a ≡ asked b
+    by : (fate : Fate LegTask) → a ≡ fate → asked a ≡ asked b
     by Unused is = ap asked is ∙ sym (nothing b (λ y there its. unused_live y (sym is ∙ (same y its).1 there)))
     by Dead is = ap asked is ∙ sym (nothing b (λ y there its. dead_live y (sym is ∙ (same y its).1 there)))
     by (Live x) is = ap asked is ∙ by_group x is (nat_eq x.group g) refl
@@ -79,18 +81,18 @@ module _ (model : Rules) (s after : State) (bounds : after.bounds.tasks ≡ s.bo
   -- a scan refuses the same member first
   pub first_blamed_as : first_blamed_in model after on g ≡ first_blamed_in model s on g
   first_blamed_as =
-      ap₂ (λ (n : ℕ) (goal : Goal). first_of (map (λ t. option_map (λ why. (t, why)) (on_live None (λ (x : Standing). if nat_eq x.group g then model.blame on (view_of t x) goal else None) (after.tasks t))) (range_with_len 1 n))) bounds aim
+      ap₂ (λ (n : ℕ) (aim : Aim). first_of (map (λ t. option_map (λ why. (t, why)) (on_live None (λ (x : LegTask). if nat_eq x.group g then model.blame on (view_of t x) aim else None) (after.tasks t))) (range_with_len 1 n))) bounds aim
       ∙ ap {A = ℕ → Option Blame} (λ at. first_of (map (λ t. option_map (λ why. (t, why)) (at t)) (range_with_len 1 s.bounds.tasks)))
       (fun_ext (λ t. sym (fate_as g (λ x. model.blame on (view_of t x) s.aim) (s.tasks t) (after.tasks t) (same t))))
 
   -- a frame of a member is still on its stack
-  frame_as : (t serial : ℕ) → ((x : Standing) → s.tasks t ≡ Live x → x.group ≡ g) → has_frame_in s t serial ≡ true → has_frame_in after t serial ≡ true
+  frame_as : (t serial : ℕ) → ((x : LegTask) → s.tasks t ≡ Live x → x.group ≡ g) → has_frame_in s t serial ≡ true → has_frame_in after t serial ≡ true
   frame_as t serial named there = by (s.tasks t) refl
     where
-      holds : Fate Standing → Bool
+      holds : Fate LegTask → Bool
       holds fate = on_live false (λ x. list_any (λ frame. nat_eq frame.serial serial) x.frames) fate
 
-      by : (fate : Fate Standing) → s.tasks t ≡ fate → has_frame_in after t serial ≡ true
+      by : (fate : Fate LegTask) → s.tasks t ≡ fate → has_frame_in after t serial ≡ true
       by Unused is = absurd (false≢true (sym (ap holds is) ∙ there))
       by Dead is = absurd (false≢true (sym (ap holds is) ∙ there))
       by (Live x) is = ap holds ((same t x (named x is)).0 is) ∙ (sym (ap holds is) ∙ there)
@@ -105,7 +107,7 @@ module _ (model : Rules) (s after : State) (bounds : after.bounds.tasks ≡ s.bo
 -- ---- The lines of who is unchanged
 
 module _ (model : Rules) (s : State) where
-  unused_is : (f : Fate Standing) → not (is_unused (map_live outline_of f)) ≡ false → f ≡ Unused
+  unused_is : (f : Fate LegTask) → not (is_unused (map_live outline_of f)) ≡ false → f ≡ Unused
   unused_is Unused e = refl
   unused_is (Live x) e = absurd (cc)
   unused_is Dead e = absurd (cc)
@@ -123,7 +125,7 @@ module _ (model : Rules) (s : State) where
       (eqb-false c.0 0 range.0, unused_is (s.tasks c.0) (unfit (not (is_unused (seen c.0))) TaskUsed d.0))
 
   -- nobody is in the group of a child that isn't born yet
-  not_the_childs : IsSound s → (t : ℕ) (x : Standing) → s.tasks t ≡ Live x → (p c : TaskId) (how : ForkKind) → refusal_of model s (Fork p c how) ≡ None → x.group ≢ c.0
+  not_the_childs : IsSound s → (t : ℕ) (x : LegTask) → s.tasks t ≡ Live x → (p c : TaskId) (how : ForkKind) → refusal_of model s (Fork p c how) ≡ None → x.group ≢ c.0
   not_the_childs sound t x live p c how ok same =
       let new = fork_new p c how ok in
       ⊎_elim
@@ -142,10 +144,10 @@ module _ (model : Rules) (lawful : IsLawful model) (leg : Leg) (leg_sound : IsSo
   abbrev n : ℕ
   n = length leg.events
 
-  fork_lines_same : (p c : TaskId) (how : ForkKind) (t : ℕ) (x : Standing) → s.tasks t ≡ Live x → (why : Option Refusal) → refusal_of model s (Fork p c how) ≡ why → lines model (and_then leg (Fork p c how)) (suc n) x.group ≡ lines model leg n x.group
+  fork_lines_same : (p c : TaskId) (how : ForkKind) (t : ℕ) (x : LegTask) → s.tasks t ≡ Live x → (why : Option Refusal) → refusal_of model s (Fork p c how) ≡ why → lines model (and_then leg (Fork p c how)) (suc n) x.group ≡ lines model leg n x.group
   fork_lines_same p c how t x live None ok =
       let other = not_the_childs model s (state_sound model lawful leg leg_sound) t x live p c how ok in
-      let parents = on_live 0 (λ (y : Standing). y.group) (s.tasks p.0) in
+      let parents = on_live 0 (λ (y : LegTask). y.group) (s.tasks p.0) in
       lines_at_fork model leg p c how x.group (sym (refusal_is model leg (Fork p c how)) ∙ ok)
       ∙ cond-false (nat_eq x.group c.0 && nat_eq x.group (model.child_group parents c.0 how)) (birth_line x.group p (suc s.number) ∷ lines model leg n parents) (lines model leg n x.group)
       (ap (λ b. b && nat_eq x.group (model.child_group parents c.0 how)) (ne_eqb x.group c.0 other))
@@ -153,21 +155,38 @@ module _ (model : Rules) (lawful : IsLawful model) (leg : Leg) (leg_sound : IsSo
       lines_at_refused model lawful leg leg_sound (Fork p c how) x.group why
       (sym (plain_refusal model leg (Fork p c how) refl) ∙ (sym (refusal_is model leg (Fork p c how)) ∙ turned_down))
 
-  pub lines_same : (event : Event) → IsNoUsedScan model event → (t : ℕ) (x : Standing) → s.tasks t ≡ Live x → lines model (and_then leg event) (suc n) x.group ≡ lines model leg n x.group
-  lines_same Walk calm t x live = lines_at_unused_scan model leg kind.Walk x.group refl (calm kind.Walk refl refl)
-  lines_same Stop calm t x live = lines_at_unused_scan model leg kind.Stop x.group refl (calm kind.Stop refl refl)
-  lines_same (Fork p c how) calm t x live = fork_lines_same p c how t x live (refusal_of model s (Fork p c how)) refl
-  lines_same (Call a f) calm t x live = lines_at_others model lawful leg leg_sound (Call a f) x.group refl refl
-  lines_same (Ret a) calm t x live = lines_at_others model lawful leg leg_sound (Ret a) x.group refl refl
-  lines_same (Sleep a) calm t x live = lines_at_others model lawful leg leg_sound (Sleep a) x.group refl refl
-  lines_same (Wake a) calm t x live = lines_at_others model lawful leg leg_sound (Wake a) x.group refl refl
-  lines_same (Enter a) calm t x live = lines_at_others model lawful leg leg_sound (Enter a) x.group refl refl
-  lines_same (Exit a) calm t x live = lines_at_others model lawful leg leg_sound (Exit a) x.group refl refl
-  lines_same (Idle a) calm t x live = lines_at_others model lawful leg leg_sound (Idle a) x.group refl refl
-  lines_same (Die a) calm t x live = lines_at_others model lawful leg leg_sound (Die a) x.group refl refl
-  lines_same Enable calm t x live = lines_at_others model lawful leg leg_sound Enable x.group refl refl
-  lines_same Disable calm t x live = lines_at_others model lawful leg leg_sound Disable x.group refl refl
-  lines_same Reverse calm t x live = lines_at_others model lawful leg leg_sound Reverse x.group refl refl
+  pub lines_same : (event : Event) → IsNoUsedScan model event → is_resched event ≡ false → (t : ℕ) (x : LegTask) → s.tasks t ≡ Live x → lines model (and_then leg event) (suc n) x.group ≡ lines model leg n x.group
+  lines_same Walk quiet own t x live = lines_at_unused_scan model leg kind.Walk x.group refl (quiet kind.Walk refl refl)
+  lines_same Stop quiet own t x live = lines_at_unused_scan model leg kind.Stop x.group refl (quiet kind.Stop refl refl)
+  lines_same (Fork p c how) quiet own t x live = fork_lines_same p c how t x live (refusal_of model s (Fork p c how)) refl
+  lines_same (Call a f) quiet own t x live = lines_at_others model lawful leg leg_sound (Call a f) x.group refl refl refl
+  lines_same (Ret a) quiet own t x live = lines_at_others model lawful leg leg_sound (Ret a) x.group refl refl refl
+  lines_same (Sleep a) quiet own t x live = lines_at_others model lawful leg leg_sound (Sleep a) x.group refl refl refl
+  lines_same (Wake a) quiet own t x live = lines_at_others model lawful leg leg_sound (Wake a) x.group refl refl refl
+  lines_same (Enter a) quiet own t x live = lines_at_others model lawful leg leg_sound (Enter a) x.group refl refl refl
+  lines_same (Exit a) quiet own t x live = lines_at_others model lawful leg leg_sound (Exit a) x.group refl refl refl
+  lines_same (Idle a) quiet own t x live = lines_at_others model lawful leg leg_sound (Idle a) x.group refl refl refl
+  lines_same (Resched a) quiet own t x live = absurd (cc)
+  lines_same (Die a) quiet own t x live = lines_at_others model lawful leg leg_sound (Die a) x.group refl refl refl
+  lines_same Enable quiet own t x live = lines_at_others model lawful leg leg_sound Enable x.group refl refl refl
+  lines_same Disable quiet own t x live = lines_at_others model lawful leg leg_sound Disable x.group refl refl refl
+  lines_same Reverse quiet own t x live = lines_at_others model lawful leg leg_sound Reverse x.group refl refl refl
+
+  -- the newest line of a waiting group goes on after an event
+  goes_on : (event : Event) → IsNoUsedScan model event → (on : CheckKind) (g : ℕ) → NamesMember s g (lines model leg n g) → IsUnchanged model on s g (lines model leg n g)
+      → (t : ℕ) (x : LegTask) → x.group ≡ g → s.tasks t ≡ Live x → GoesOnStill model s on g (lines model (and_then leg event) (suc n) g)
+  goes_on event quiet on g named h t x mine live = by event quiet (is_resched event) refl
+    where
+      same : (e : Event) → IsNoUsedScan model e → is_resched e ≡ false → GoesOnStill model s on g (lines model (and_then leg e) (suc n) g)
+      same e quiet2 own =
+          subst (λ k. GoesOnStill model s on k (lines model (and_then leg e) (suc n) k)) mine
+          (subst (GoesOnStill model s on x.group) (sym (lines_same e quiet2 own t x live))
+          (subst (λ k. GoesOnStill model s on k (lines model leg n k)) (sym mine) (record { names = named; unchanged = h })))
+
+      by : (e : Event) → IsNoUsedScan model e → (b : Bool) → is_resched e ≡ b → GoesOnStill model s on g (lines model (and_then leg e) (suc n) g)
+      by (Resched a) quiet2 b own = goes_on_still model lawful leg leg_sound on a g named h
+      by e quiet2 false own = same e quiet2 own
+      by e quiet2 true own = absurd (cc)
 
   -- ---- The event
 
@@ -190,11 +209,11 @@ module _ (model : Rules) (lawful : IsLawful model) (leg : Leg) (leg_sound : IsSo
 
     -- who waits afterwards outside a set is unchanged, where it was so and where nothing happened to it
     pub unchanged_by : IsNoUsedScan model event → (on : CheckKind) (old new : ℕ → Bool) → AreUnchanged model s (lines model leg n) on old
-        → ((t : ℕ) (x : Standing) → (state_of model (and_then leg event)).tasks t ≡ Live x → nat_eq x.level (state_of model (and_then leg event)).target ≡ false → new x.group ≡ false
+        → ((t : ℕ) (x : LegTask) → (state_of model (and_then leg event)).tasks t ≡ Live x → nat_eq x.level (state_of model (and_then leg event)).target ≡ false → new x.group ≡ false
         → (old x.group ≡ false) × AreSameMembers s (state_of model (and_then leg event)) x.group)
         → AreUnchanged model (state_of model (and_then leg event)) (lines model (and_then leg event) (suc n)) on new
-    unchanged_by calm on old new before apart t x live off out =
+    unchanged_by quiet on old new before apart t x live off out =
         let told = apart t x live off out in
         let stood : s.tasks t ≡ Live x = (told.1 t x refl).1 live in
-        subst (IsUnchanged model on (state_of model (and_then leg event)) x.group) (sym (lines_same event calm t x stood))
-        (unchanged_as model s (state_of model (and_then leg event)) refl refl on x.group told.1 (lines model leg n x.group) (lines_name model leg x.group) (before t x stood off told.0))
+        let still = goes_on event quiet on x.group (lines_name model leg x.group) (before t x stood off told.0) t x refl stood in
+        unchanged_as model s (state_of model (and_then leg event)) refl refl on x.group told.1 (lines model (and_then leg event) (suc n) x.group) still.names still.unchanged

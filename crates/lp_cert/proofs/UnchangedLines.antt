@@ -1,6 +1,6 @@
 -- What a further refusal of an unchanged group makes of its lines.
-use Rattle.std.proofs.Common.{◌≡◌, ℕ, ◌<◌, Bool, true, List, [], ◌∷◌, ◌++◌, length, map, reverse, take, drop, Some, get_or, refl, sym, ap, subst, ◌∙◌, arith}
-use Rattle.std.proofs.lemmas.Bool.{false≢true, cond-true, eq-eqb}
+use Rattle.std.proofs.Common.{◌≡◌, ℕ, ◌<◌, ⊎_elim, Bool, true, false, nat_lt, List, [], ◌∷◌, ◌++◌, length, map, reverse, take, drop, Some, get_or, refl, sym, ap, subst, ◌∙◌, arith}
+use Rattle.std.proofs.lemmas.Bool.{false≢true, ltb-true, cond-true, eq-eqb}
 use Rattle.lp_stack.specs.declared.number.GroupId.{GroupId}
 use Rattle.lp_stack.specs.declared.number.TaskId.{TaskId}
 use Rattle.lp_model.specs.declared.check.CheckKind.{CheckKind}
@@ -21,8 +21,8 @@ use Rattle.lp_definitions.specs.Certificates.{after_refusal, task_id}
 use Rattle.lp_cert.specs.Heads.{lines_of, ongoing_reasons, head_lines}
 use Rattle.lp_cert.specs.Unchanged.{IsUnchanged}
 use Rattle.lp_cert.specs.inside.ToldGroups.{is_held}
-use Rattle.lp_cert.specs.inside.Heads.{ContinuesIn, IsUnchecked, IsHead, IsRefusedBy, HasFrameAs, continues_after}
-use Rattle.lp_cert.proofs.HeadLemmas.{busy_some, refused_on}
+use Rattle.lp_cert.specs.inside.Heads.{IsUnchecked, IsBusyInFront, FitsOlder, IsHead, IsRefusedBy, HasFrameAs, continues_after}
+use Rattle.lp_cert.proofs.HeadLemmas.{busy_some, busy_run, no_run, refused_on}
 
 -- ---- A line that continues
 
@@ -64,7 +64,7 @@ goes_on model s on g blamed (line.Born h2 p on_at ∷ older) first h = absurd h
 -- what continues of a head continues with this refusal of the task
 abbrev OngoingContinues : (has_frame : (task serial : ℕ) → Bool) → (task : ℕ) → Blame → Ongoing → Type 0
 OngoingContinues has_frame t why Nothing = ⊥
-OngoingContinues has_frame t why (Hold task serial from) = (task.0 ≡ t) × (has_frame t serial ≡ true)
+OngoingContinues has_frame t why (Hold task serial from last) = (task.0 ≡ t) × (has_frame t serial ≡ true)
 OngoingContinues has_frame t why (Busy task first) = (task.0 ≡ t) × (why ≡ blame.Busy)
 
 module _ (has_frame : (task serial : ℕ) → Bool) (t : ℕ) (why : Blame) where
@@ -75,20 +75,37 @@ module _ (has_frame : (task serial : ℕ) → Bool) (t : ℕ) (why : Blame) wher
 
   unchecked_first : (scans : List ℕ) (rs : List Reason) → IsUnchecked rs → Continues has_frame t why (lines_of scans rs) → ⊥
   unfolding lines_of
-  unchecked_first scans [] calm h = h
-  unchecked_first scans (reason.One (line.Born g p on) ∷ rs) calm h = h
-  unchecked_first scans (reason.One (line.Hold g task serial from to) ∷ rs) calm h = calm
-  unchecked_first scans (reason.One (line.Busy g task on) ∷ rs) calm h = calm
-  unchecked_first scans (reason.Busy g task first end ∷ rs) calm h = calm
+  unchecked_first scans [] quiet h = h
+  unchecked_first scans (reason.One (line.Born g p on) ∷ rs) quiet h = h
+  unchecked_first scans (reason.One (line.Hold g task serial from to) ∷ rs) quiet h = quiet
+  unchecked_first scans (reason.One (line.Busy g task on) ∷ rs) quiet h = quiet
+  unchecked_first scans (reason.Busy g task first end ∷ rs) quiet h = quiet
+
+  -- so does the line of a busy task that is no scan's
+  busy_front : (scans : List ℕ) (task : TaskId) (rs : List Reason) → IsBusyInFront task rs → Continues has_frame t why (lines_of scans rs) → (task.0 ≡ t) × (why ≡ blame.Busy)
+  unfolding lines_of
+  busy_front scans task [] front h = absurd front
+  busy_front scans task (reason.One (line.Born g p on) ∷ rs) front h = absurd front
+  busy_front scans task (reason.One (line.Hold g u serial from to) ∷ rs) front h = absurd front
+  busy_front scans task (reason.One (line.Busy g u on) ∷ rs) front h = (sym (ap (λ (k : TaskId). k.0) front) ∙ h.0, h.1)
+  busy_front scans task (reason.Busy g u first end ∷ rs) front h = absurd front
 
   -- the newest line tells what continues
-  ongoing_of : (scans : List ℕ) (g : GroupId) (o : Ongoing) (rs : List Reason) → ContinuesIn (length scans) o → (o ≡ Nothing → IsUnchecked rs)
+  ongoing_of : (scans : List ℕ) (g : GroupId) (o : Ongoing) (rs : List Reason) → FitsOlder (length scans) o rs
       → Continues has_frame t why (lines_of scans (ongoing_reasons scans g o ++ rs)) → OngoingContinues has_frame t why o
   unfolding lines_of
-  ongoing_of scans g Nothing rs goes unchecked h = unchecked_first scans rs (unchecked refl) h
-  ongoing_of scans g (Hold task serial from) rs goes unchecked h = h
-  ongoing_of scans g (Busy task first) rs goes unchecked h =
-      busy_first g task (reverse (drop first (take (length scans) scans))) (lines_of scans rs) (busy_some scans first goes) h
+  ongoing_of scans g Nothing rs older h = unchecked_first scans rs older h
+  ongoing_of scans g (Hold task serial from last) rs older h = h
+  ongoing_of scans g (Busy task first) rs older h = by (nat_lt first (length scans)) refl
+    where
+      ran : first < length scans → (task.0 ≡ t) × (why ≡ blame.Busy)
+      ran low =
+          busy_first g task (reverse (drop first (take (length scans) scans))) (lines_of scans rs) (busy_some scans first low)
+          (subst (λ os. Continues has_frame t why (lines_of scans (os ++ rs))) (busy_run scans g task first low) h)
+
+      by : (b : Bool) → nat_lt first (length scans) ≡ b → (task.0 ≡ t) × (why ≡ blame.Busy)
+      by true is = ran (ltb-true first (length scans) is)
+      by false is = ⊎_elim ran (λ front. busy_front scans task rs front (subst (λ os. Continues has_frame t why (lines_of scans (os ++ rs))) (no_run scans g task first is) h)) older
 
   -- a refusal of the task with the frame still there
   abbrev pub again : ℕ → Refused
@@ -96,18 +113,18 @@ module _ (has_frame : (task serial : ℕ) → Bool) (t : ℕ) (why : Blame) wher
 
   ongoing_held : (o : Ongoing) → OngoingContinues has_frame t why o → HasFrameAs has_frame o true
   ongoing_held Nothing h = absurd h
-  ongoing_held (Hold task serial from) h = ap (λ n. has_frame n serial) h.0 ∙ h.1
+  ongoing_held (Hold task serial from last) h = ap (λ n. has_frame n serial) h.0 ∙ h.1
   ongoing_held (Busy task first) h = tt
 
   ongoing_stays : (o : Ongoing) (at : ℕ) → OngoingContinues has_frame t why o → continues_after o (again at) ≡ true
   ongoing_stays Nothing at h = absurd h
-  ongoing_stays (Hold task serial from) at h = refl
+  ongoing_stays (Hold task serial from last) at h = refl
   ongoing_stays (Busy task first) at h = subst (λ b. continues_after (Busy task first) (record { at = at; task = task_id t; blame = b; frame_stands = true }) ≡ true) (sym h.1) (eq-eqb t task.0 (sym h.0))
 
   module _ (lists : List (List Reason)) (scans : List ℕ) (group : GroupId) (head : Head) (is_head : IsHead lists (length scans) head) where
     -- the lines of a head continue as what continues of it does
     head_ongoing : Continues has_frame t why (head_lines lists scans group head) → OngoingContinues has_frame t why head.ongoing
-    head_ongoing h = ongoing_of scans group head.ongoing (get_or lists head.older.0 []) is_head.continues is_head.unchecked h
+    head_ongoing h = ongoing_of scans group head.ongoing (get_or lists head.older.0 []) is_head.fits_older h
 
     -- a scan that refuses the task again leaves the head as it is
     refused_again : (at : ℕ) → Continues has_frame t why (head_lines lists scans group head) → IsRefusedBy (again at) group scans head head lists lists
@@ -132,5 +149,5 @@ held_unchanged model s on g lists scans group head held = by head.ongoing (get_o
   where
     by : (o : Ongoing) (rs : List Reason) → is_held (has_frame_in s) o ≡ true → IsUnchanged model on s g (lines_of scans (ongoing_reasons scans group o ++ rs))
     by Nothing rs h = absurd (false≢true h)
-    by (Hold task serial from) rs h = h
+    by (Hold task serial from last) rs h = h
     by (Busy task first) rs h = absurd (false≢true h)

@@ -12,7 +12,7 @@ use Rattle.lp_definitions.specs.declared.event.Event.{Event}
 use Rattle.lp_definitions.specs.declared.event.Event.TheVariants.{Walk, Stop}
 use Rattle.lp_transition.specs.LastScan.{IsLastScanAfter, AreSameMembers, used_kind, used_scan}
 use Rattle.lp_definitions.specs.Tasks.{on_live}
-use Rattle.lp_definitions.specs.Leg.{Standing, State, Leg}
+use Rattle.lp_definitions.specs.Leg.{LegTask, State, Leg}
 use Rattle.lp_definitions.specs.Run.{and_then, opens}
 use Rattle.lp_definitions.specs.Sound.{IsSound}
 use Rattle.lp_machine.specs.Machine.{state_of}
@@ -54,6 +54,7 @@ no_scan model event none kind.Walk scan is = used_none model kind.Walk (sym (ap 
 no_scan model event none kind.Stop scan is = used_none model kind.Stop (sym (ap (used_scan model) is) ∙ none)
 no_scan model event none kind.KernelExit scan is = absurd (false≢true scan)
 no_scan model event none kind.IdlePoint scan is = absurd (false≢true scan)
+no_scan model event none kind.Resched scan is = absurd (false≢true scan)
 
 -- a scan of a kind that the model uses
 pub record IsUsedScan (model : Rules) (event : Event) (on : CheckKind) : Type 0 where
@@ -71,7 +72,7 @@ scan_is model Stop on some =
 scan_is model _ on some = absurd (some_none on (sym some))
 
 -- a verdict is of a member of the group in the words of the machine and in those of the engine
-fate_is : (g : ℕ) (o : Option Standing) (used : Bool) → on_live false (λ y. nat_eq y.group g) (fate_at o used) ≡ is_in g o
+fate_is : (g : ℕ) (o : Option LegTask) (used : Bool) → on_live false (λ y. nat_eq y.group g) (fate_at o used) ≡ is_in g o
 fate_is g None true = refl
 fate_is g None false = refl
 fate_is g (Some x) used = refl

@@ -1,4 +1,4 @@
--- What is made, as it stands after so many events: plain events change nothing else of it.
+-- What is made, as it stands after so many events: quiet events change nothing else of it.
 use Rattle.std.proofs.Common.{◌≡◌, ◌+◌, ℕ, List, [], ◌∷◌, length, map, Option, Some, None, refl, sym, ap, subst, ◌∙◌}
 use Rattle.std.specs.Option.{option_map}
 use Rattle.lp_model.specs.Rules.{Rules}
@@ -12,14 +12,10 @@ use Rattle.lp_definitions.specs.Ends.{LegEnd, end_of}
 use Rattle.lp_cert.specs.declared.open_leg.Completion.{Completion}
 use Rattle.lp_cert.specs.declared.open_leg.OpenLeg.{OpenLeg}
 use Rattle.lp_definitions.specs.Certificates.{certs_by, completion, lines, waiting_groups}
-use Rattle.lp_cert.specs.Ends.{Made, IsMadeOf, IsMadeWith, end_upto, ended_legs, made_upto, under_way}
+use Rattle.lp_cert.specs.Ends.{Made, IsMadeOf, IsMadeWith, cert_upto, end_upto, ended_legs, made_upto, under_way}
 use Rattle.lp_cert.specs.Invariant.{claim_of, end_waiters, open_end, upto_of}
 use Rattle.lp_cert.specs.Waiters.{WaitingGroups, kept_cert}
 use Rattle.lp_cert.proofs.Making.{cert_for, map_twice}
-
--- a certificate up to another event
-abbrev cert_upto : ℕ → Cert → Cert
-cert_upto upto cert = record cert { upto = upto }
 
 -- ---- Of the leg under way as it is kept
 

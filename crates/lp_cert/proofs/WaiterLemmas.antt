@@ -1,5 +1,5 @@
 -- The groups that wait, as the verdicts of a scan are noted one by one.
-use Rattle.std.proofs.Common.{◌≡◌, ◌≢◌, ℕ, ◌+◌, ◌<◌, ◌≤◌, Bool, true, false, List, [], ◌∷◌, ◌++◌, length, map, set, get_or, not, ◌&&◌, Option, Some, None, if◌then◌else◌, nat_eq, refl, sym, ap, ap₂, subst, ◌∙◌, arith}
+use Rattle.std.proofs.Common.{◌≡◌, ◌≢◌, ℕ, ◌+◌, ◌<◌, ◌≤◌, inl, inr, ⊎_elim, Bool, true, false, List, [], ◌∷◌, ◌++◌, length, map, set, get_or, not, ◌&&◌, Option, Some, None, if◌then◌else◌, nat_eq, refl, sym, ap, ap₂, subst, ◌∙◌, arith}
 use Rattle.std.specs.List.{AllByRecursion}
 use Rattle.std.specs.Option.{option_map}
 use Rattle.std.proofs.lemmas.Bool.{false≢true, cond-true, cond-false, eqb-true, eqb-false}
@@ -9,15 +9,16 @@ use Rattle.lp_numbers.specs.Numbers.{Numbers, has, IsEmpty}
 use Rattle.lp_model.specs.declared.check.Blame.{Blame}
 use Rattle.lp_model.specs.declared.verdict.Verdict.{Verdict}
 use Rattle.lp_definitions.specs.Tasks.{on_live, first_of}
-use Rattle.lp_definitions.specs.Leg.{Standing, State}
-use Rattle.lp_machine.specs.Table.{Table, slot, fate_at, standings}
+use Rattle.lp_definitions.specs.Leg.{LegTask, State}
+use Rattle.lp_machine.specs.Table.{Table, slot, fate_at, leg_tasks}
 use Rattle.lp_definitions.specs.declared.line.Line.{Line}
 use Rattle.lp_cert.specs.declared.reason.Reason.{Reason}
 use Rattle.lp_cert.specs.declared.head.Head.{Head}
-use Rattle.lp_cert.specs.declared.ongoing.Ongoing.TheVariants.{Nothing}
+use Rattle.lp_cert.specs.declared.ongoing.Ongoing.{Ongoing}
+use Rattle.lp_cert.specs.declared.ongoing.Ongoing.TheVariants.{Nothing, Hold, Busy}
 use Rattle.lp_definitions.specs.Certificates.{group_id, after_refusal}
 use Rattle.lp_cert.specs.Heads.{ongoing_reasons, head_lines, lines_of}
-use Rattle.lp_cert.specs.inside.Heads.{FitsIn, IsUnchecked, IsHead, Keeps, HasFrameAs, IsRefusedBy}
+use Rattle.lp_cert.specs.inside.Heads.{FitsIn, FitsOlder, IsKnown, IsHead, Keeps, HasFrameAs, IsRefusedBy}
 use Rattle.lp_transition.specs.Blames.{has_frame_in}
 use Rattle.lp_transition.specs.Scan.{member_verdict, first_refused}
 use Rattle.lp_cert.specs.Waiters.{LegReasons, head_of}
@@ -32,6 +33,11 @@ keeps_trans a b c ab bc = record {
   same = λ i h. bc.same i (omega (arith, ab.no_less)) ∙ ab.same i h;
 }
 
+known_kept : (old new scans : ℕ) (o : Ongoing) → old ≤ new → IsKnown old scans o → IsKnown new scans o
+known_kept old new scans Nothing more h = tt
+known_kept old new scans (Hold task serial from last) more h = ⊎_elim inl (λ (some : 1 < old). inr (omega (arith, some, more))) h
+known_kept old new scans (Busy task first) more h = ⊎_elim inl (λ (some : 1 < old). inr (omega (arith, some, more))) h
+
 pub head_kept : (old new : List (List Reason)) (scans : ℕ) (h : Head) → Keeps old new → IsHead old scans h → IsHead new scans h
 head_kept old new scans h kept is =
     let e = kept.same h.older.0 is.known in
@@ -39,7 +45,8 @@ head_kept old new scans h kept is =
       known = omega (arith, is.known, kept.no_less);
       fits = subst (AllByRecursion (FitsIn scans)) (sym e) is.fits;
       continues = is.continues;
-      unchecked = λ (o : h.ongoing ≡ Nothing). subst IsUnchecked (sym e) (is.unchecked o);
+      fits_older = subst (FitsOlder scans h.ongoing) (sym e) is.fits_older;
+      some_list = known_kept (length old) (length new) scans h.ongoing kept.no_less is.some_list;
     }
 
 pub lines_kept : (old new : List (List Reason)) (scans : List ℕ) (g : GroupId) (h : Head) → Keeps old new → h.older.0 < length old → head_lines new scans g h ≡ head_lines old scans g h
@@ -55,10 +62,10 @@ is_group None group = false
 is_group (Some g) group = nat_eq g.0 group
 
 -- the group of a live task
-pub grouped : (table : Table) (t : ℕ) (g : GroupId) → Some g.0 ≡ option_map (λ (x : Standing). x.group) (slot table t) → (group : ℕ) → on_live false (λ x. nat_eq x.group group) (standings table t) ≡ nat_eq g.0 group
+pub grouped : (table : Table) (t : ℕ) (g : GroupId) → Some g.0 ≡ option_map (λ (x : LegTask). x.group) (slot table t) → (group : ℕ) → on_live false (λ x. nat_eq x.group group) (leg_tasks table t) ≡ nat_eq g.0 group
 grouped table t g e group = by (slot table t) (get_or table.used t false) e
   where
-    by : (s : Option Standing) (used : Bool) → Some g.0 ≡ option_map (λ (x : Standing). x.group) s → on_live false (λ x. nat_eq x.group group) (fate_at s used) ≡ nat_eq g.0 group
+    by : (s : Option LegTask) (used : Bool) → Some g.0 ≡ option_map (λ (x : LegTask). x.group) s → on_live false (λ x. nat_eq x.group group) (fate_at s used) ≡ nat_eq g.0 group
     by None used e = absurd (cc)
     by (Some x) used e =
         let same : g.0 ≡ x.group = cc in
@@ -230,10 +237,10 @@ module _ (s : State) (at : ℕ) (vs : List Verdict) (v : Verdict) (groups mid le
   at_last : (g : ℕ) (blamed : ℕ × Blame) → groups g ≡ true → first_refused s g vs ≡ None → member_verdict s g v ≡ Some blamed
       → (left g ≡ false) × IsRefusedOnce s at g blamed old new
   at_last g blamed there none is =
-      let calm = so_far.others g (cond-true (groups g) (first_refused s g vs) None there ∙ none) in
-      let last = next.judged g blamed (calm.0 ∙ there) is in
+      let quiet = so_far.others g (cond-true (groups g) (first_refused s g vs) None there ∙ none) in
+      let last = next.judged g blamed (quiet.0 ∙ there) is in
       let same : lines_in some g ≡ lines_in old g =
-      ap₂ (λ scans (h : Head). head_lines some.lists scans (group_id g) h) so_far.scans calm.1
+      ap₂ (λ scans (h : Head). head_lines some.lists scans (group_id g) h) so_far.scans quiet.1
       ∙ lines_kept old.lists some.lists old.scans (group_id g) (head_of old g) so_far.kept (stand g there).known in (
         last.0,
         record {
@@ -256,13 +263,13 @@ module _ (s : State) (at : ℕ) (vs : List Verdict) (v : Verdict) (groups mid le
       → (left g ≡ groups g) × (head_of new g ≡ head_of old g)
   others-more g true there none (Some b) e = absurd (some_none b (sym (first_some s g vs v b e) ∙ none))
   others-more g true there none None e =
-      let calm = so_far.others g (cond-true (groups g) (first_refused s g vs) None there ∙ e) in
-      let passed : Passed g = next.others g (cond-true (mid g) (member_verdict s g v) None (calm.0 ∙ there) ∙ (sym (first_none s g vs v e) ∙ none)) in
-      (passed.0 ∙ calm.0, passed.1 ∙ calm.1)
+      let quiet = so_far.others g (cond-true (groups g) (first_refused s g vs) None there ∙ e) in
+      let passed : Passed g = next.others g (cond-true (mid g) (member_verdict s g v) None (quiet.0 ∙ there) ∙ (sym (first_none s g vs v e) ∙ none)) in
+      (passed.0 ∙ quiet.0, passed.1 ∙ quiet.1)
   others-more g false there none first e =
-      let calm = so_far.others g (cond-false (groups g) (first_refused s g vs) None there) in
-      let passed : Passed g = next.others g (cond-false (mid g) (member_verdict s g v) None (calm.0 ∙ there)) in
-      (passed.0 ∙ calm.0, passed.1 ∙ calm.1)
+      let quiet = so_far.others g (cond-false (groups g) (first_refused s g vs) None there) in
+      let passed : Passed g = next.others g (cond-false (mid g) (member_verdict s g v) None (quiet.0 ∙ there)) in
+      (passed.0 ∙ quiet.0, passed.1 ∙ quiet.1)
 
   pub one_judged : AreJudged s at (vs ++ v ∷ []) groups left old new
   one_judged = record {
@@ -279,10 +286,10 @@ module _ (s : State) (at : ℕ) (vs : List Verdict) (v : Verdict) (groups mid le
   still_standing g there = by (groups g) refl (first_refused s g (vs ++ v ∷ [])) refl
     where
       stays : (left g ≡ groups g) × (head_of new g ≡ head_of old g) → StandsAt (length new.scans) new g
-      stays calm =
-          let known = stand g (sym calm.0 ∙ there) in
+      stays quiet =
+          let known = stand g (sym quiet.0 ∙ there) in
           subst (λ scans. StandsAt (length scans) new g) (sym one_judged.scans)
-          (subst (λ (h : Head). IsHead new.lists (length old.scans) h) (sym calm.1) (head_kept old.lists new.lists (length old.scans) (head_of old g) kept known))
+          (subst (λ (h : Head). IsHead new.lists (length old.scans) h) (sym quiet.1) (head_kept old.lists new.lists (length old.scans) (head_of old g) kept known))
 
       by : (b : Bool) → groups g ≡ b → (first : Option (ℕ × Blame)) → first_refused s g (vs ++ v ∷ []) ≡ first → StandsAt (length new.scans) new g
       by false e first is = stays (one_judged.others g (cond-false (groups g) _ None e))
@@ -294,7 +301,7 @@ pub judged_as : (s : State) (at : ℕ) (vs : List Verdict) (groups same left : �
     → AreJudged s at vs same left old new → AreJudged s at vs groups left old new
 judged_as s at vs groups same left old new is all = record {
   judged = λ g blamed there first. all.judged g blamed (is g ∙ there) first;
-  others = λ g none. (let calm = all.others g (ap (λ b. if b then first_refused s g vs else None) (is g) ∙ none) in (calm.0 ∙ is g, calm.1));
+  others = λ g none. (let quiet = all.others g (ap (λ b. if b then first_refused s g vs else None) (is g) ∙ none) in (quiet.0 ∙ is g, quiet.1));
   kept = all.kept;
   scans = all.scans;
   room = all.room;
@@ -322,9 +329,9 @@ module _ (s : State) (at : ℕ) (vs : List Verdict) (groups : Numbers) (left : �
       → lines_in new g ≡ after_verdict s at first old g
   noted-lines g e (Some b) is = new_lines g ∙ (all.judged g b e is).1.lines
   noted-lines g e None is =
-      let calm = (all.others g (cond-true (has groups g) _ None e ∙ is)).1 in
+      let quiet = (all.others g (cond-true (has groups g) _ None e ∙ is)).1 in
       new_lines g
-      ∙ (ap (λ (h : Head). head_lines some.lists (old.scans ++ at ∷ []) (group_id g) h) calm
+      ∙ (ap (λ (h : Head). head_lines some.lists (old.scans ++ at ∷ []) (group_id g) h) quiet
       ∙ lines_kept old.lists some.lists (old.scans ++ at ∷ []) (group_id g) (head_of old g) all.kept (stand g e).known)
 
   scanned-lines : (g : ℕ) (b : Bool) → has groups g ≡ b
@@ -341,6 +348,6 @@ module _ (s : State) (at : ℕ) (vs : List Verdict) (groups : Numbers) (left : �
       by : (first : Option (ℕ × Blame)) → first_refused s g vs ≡ first → StandsAt (length new.scans) new g
       by (Some b) is = new_stands g (all.judged g b there is).1.stands
       by None is =
-          let calm = (all.others g (cond-true (has groups g) _ None there ∙ is)).1 in
+          let quiet = (all.others g (cond-true (has groups g) _ None there ∙ is)).1 in
           let was = head_kept old.lists some.lists (length old.scans) (head_of old g) all.kept (stand g there) in
-          new_stands g (subst (λ (h : Head). IsHead some.lists (length old.scans + 1) h) (sym calm) (head_further some.lists (length old.scans) (head_of old g) was))
+          new_stands g (subst (λ (h : Head). IsHead some.lists (length old.scans + 1) h) (sym quiet) (head_further some.lists (length old.scans) (head_of old g) was))

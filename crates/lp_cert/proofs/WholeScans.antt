@@ -11,7 +11,7 @@ use Rattle.lp_numbers.specs.Numbers.{Numbers, has}
 use Rattle.lp_model.specs.Rules.{Rules}
 use Rattle.lp_model.specs.declared.check.CheckKind.{CheckKind}
 use Rattle.lp_model.specs.declared.verdict.Verdict.{Verdict}
-use Rattle.lp_definitions.specs.Leg.{Standing, State}
+use Rattle.lp_definitions.specs.Leg.{LegTask, State}
 use Rattle.lp_transition.specs.Scan.{verdict_of, verdicts_of, views_of, waiting_view}
 use Rattle.lp_machine.specs.Table.{Engine, slot, fate_at, state_in}
 use Rattle.lp_cert.specs.Waiters.{LegReasons}
@@ -67,7 +67,7 @@ module _ (model : Rules) (kind : CheckKind) (s : State) where
   unfolding views_of
   found_all = found_are s.bounds.tasks
 
-  -- nothing is found of those behind
+  -- nothing is found of those that follow
   pub found_same : (n k : ℕ) → ((t : ℕ) → n < t → t ≤ n + k → found_of model kind s t ≡ None) → found_up_to model kind s (n + k) ≡ found_up_to model kind s n
   unfolding found_up_to
   found_same n zero none =
@@ -84,7 +84,7 @@ module _ (model : Rules) (kind : CheckKind) (s : State) where
 pub found_none : (model : Rules) (kind : CheckKind) (e : Engine) (t : ℕ) → is_some (slot e.table t) ≡ false → found_of model kind (state_in e) t ≡ None
 found_none model kind e t none = by (slot e.table t) (has e.table.used t) none
   where
-    by : (o : Option Standing) (used : Bool) → is_some o ≡ false → option_map (verdict_of model kind (state_in e).aim) (waiting_view e.target t (fate_at o used)) ≡ None
+    by : (o : Option LegTask) (used : Bool) → is_some o ≡ false → option_map (verdict_of model kind (state_in e).aim) (waiting_view e.target t (fate_at o used)) ≡ None
     by None true h = refl
     by None false h = refl
     by (Some x) used h = absurd (false≢true (sym h))

@@ -4,6 +4,7 @@ use Rattle.std.specs.List.{find}
 use Rattle.std.specs.Option.{option_map}
 use Rattle.lp_model.specs.Rules.{Rules}
 use Rattle.lp_definitions.specs.declared.event.Event.{Event}
+use Rattle.lp_definitions.specs.declared.reply.What.{What}
 use Rattle.lp_definitions.specs.Events.{is_control}
 use Rattle.lp_transition.specs.Weigh.{Weighed, refusal_in}
 use Rattle.lp_definitions.specs.Leg.{Leg}
@@ -22,9 +23,13 @@ use Rattle.lp_cert.specs.declared.leg_list.LegEnds.{LegEnds}
 use Rattle.lp_definitions.specs.Certificates.{completion, certs_of, lines, opened_legs}
 use Rattle.lp_cert.specs.Unchanged.{AreUnchangedBy}
 
--- the event opens a leg: it is a control event, and was accepted
+-- an event of which this is told opens a leg: it is a control event, and was accepted
+abbrev pub is_opened : Event → What → Bool
+is_opened event what = is_control event && is_none (refusal_in what)
+
+-- so does one that was weighed
 abbrev pub is_opening : Weighed → Bool
-is_opening step = is_control step.event && is_none (refusal_in step.reply.what)
+is_opening step = is_opened step.event step.reply.what
 
 -- room for an event, with so many verdicts, that may open a leg
 pub record Room : Type 0 where
@@ -56,9 +61,13 @@ end_in end = record { opened = end.opened; target = end.target; completed = end.
 abbrev pub ends_left : LegEnds → List LegEnd
 ends_left ends = drop ends.passed ends.rows.now.ends
 
+-- a certificate up to another event
+abbrev pub cert_upto : ℕ → Cert → Cert
+cert_upto upto cert = record cert { upto = upto }
+
 -- the end of a leg under way as it stands after so many events, where only their number has changed
 abbrev pub end_upto : ℕ → LegEnd → LegEnd
-end_upto upto end = if is_none end.completed then record end { certs = map (λ (cert : Cert). record cert { upto = upto }) end.certs } else end
+end_upto upto end = if is_none end.completed then record end { certs = map (cert_upto upto) end.certs } else end
 
 -- and what is made
 abbrev pub made_upto : ℕ → Made → Made

@@ -6,7 +6,7 @@ use Rattle.lp_model.specs.declared.check.CheckKind.{CheckKind}
 use Rattle.lp_model.specs.declared.check.ForkKind.{ForkKind}
 use Rattle.lp_model.specs.Rules.{Rules}
 use Rattle.lp_definitions.specs.declared.event.Event.{Event}
-use Rattle.lp_definitions.specs.declared.event.Event.TheVariants.{Fork}
+use Rattle.lp_definitions.specs.declared.event.Event.TheVariants.{Resched, Fork}
 use Rattle.lp_definitions.specs.declared.refusal.Refusal.{Refusal}
 use Rattle.lp_definitions.specs.Events.{is_scan}
 use Rattle.lp_transition.specs.Weigh.{is_fork}
@@ -21,7 +21,7 @@ use Rattle.lp_definitions.specs.Certificates.{lines, cert, completion, floor_cer
 use Rattle.lp_cert.specs.Ends.{Made, IsFresh, IsMadeOf, IsLeastWaiting, leg_under_way, waiting_in, floor_in}
 use Rattle.lp_definitions.specs.Ends.{end_of}
 use Rattle.lp_transition.specs.Blames.{first_blamed_in}
-use Rattle.lp_cert.specs.EventLines.{lines_after_scan, lines_after_fork}
+use Rattle.lp_cert.specs.EventLines.{lines_after_scan, lines_after_own_check, is_resched, lines_after_fork}
 
 -- the lines of a group come with the events of its leg: each leaves those before it as they are, or goes by the state
 -- in which an engine is before it
@@ -55,9 +55,19 @@ pub record LinesComeWithEvents (model : Rules) : Type 0 where
       (leg : Leg) → IsSound leg.opening → (p c : TaskId) (how : ForkKind) (why : Refusal) (group : ℕ) →
       refused_by model leg (Fork p c how) ≡ Some why →
       lines model (and_then leg (Fork p c how)) (suc (length leg.events)) group ≡ lines model leg (length leg.events) group
+  -- an own check in the kernel that is accepted
+  pub own_check :
+      (leg : Leg) (t : TaskId) (group : ℕ) → refused_by model leg (Resched t) ≡ None →
+      lines model (and_then leg (Resched t)) (suc (length leg.events)) group
+      ≡ lines_after_own_check model (state_of model leg) t group (lines model leg (length leg.events) group)
+  -- and one that is refused
+  pub refused_own_check :
+      (leg : Leg) → IsSound leg.opening → (t : TaskId) (why : Refusal) (group : ℕ) →
+      refused_by model leg (Resched t) ≡ Some why →
+      lines model (and_then leg (Resched t)) (suc (length leg.events)) group ≡ lines model leg (length leg.events) group
   -- any other event: a task that returns to user space or is at its idle point has an empty stack, so that check goes well
   pub others :
-      (leg : Leg) → IsSound leg.opening → (event : Event) (group : ℕ) → is_scan event ≡ false → is_fork event ≡ false →
+      (leg : Leg) → IsSound leg.opening → (event : Event) (group : ℕ) → is_scan event ≡ false → is_fork event ≡ false → is_resched event ≡ false →
       lines model (and_then leg event) (suc (length leg.events)) group ≡ lines model leg (length leg.events) group
 
 -- what a maker holds

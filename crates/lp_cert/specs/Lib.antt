@@ -6,4 +6,5 @@ pub mod Waiters
 pub mod Ends
 pub mod Invariant
 pub mod Unchanged
+pub mod Explained
 pub mod inside

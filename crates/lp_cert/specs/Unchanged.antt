@@ -5,7 +5,7 @@ use Rattle.lp_model.specs.declared.check.CheckKind.{CheckKind}
 use Rattle.lp_model.specs.declared.check.Blame.TheVariants as blame
 use Rattle.lp_model.specs.Rules.{Rules}
 use Rattle.lp_definitions.specs.Tasks.{Live}
-use Rattle.lp_definitions.specs.Leg.{Standing, State}
+use Rattle.lp_definitions.specs.Leg.{LegTask, State}
 use Rattle.lp_machine.specs.Table.{LastScan}
 use Rattle.lp_transition.specs.Blames.{has_frame_in, first_blamed_in}
 use Rattle.lp_definitions.specs.declared.line.Line.{Line}
@@ -21,7 +21,7 @@ IsUnchanged model kind s group _ = ⊥
 -- the waiting groups outside this set are unchanged
 abbrev pub AreUnchanged : Rules → State → (lines : ℕ → List Line) → CheckKind → (changed : ℕ → Bool) → Type 0
 AreUnchanged model s lines kind changed =
-    (t : ℕ) (x : Standing) → s.tasks t ≡ Live x → nat_eq x.level s.target ≡ false → changed x.group ≡ false →
+    (t : ℕ) (x : LegTask) → s.tasks t ≡ Live x → nat_eq x.level s.target ≡ false → changed x.group ≡ false →
     IsUnchanged model kind s x.group (lines x.group)
 
 -- where there was a scan

@@ -1,5 +1,5 @@
 //! Lists of reasons that share their older parts.
-ghost use Rattle.std.specs.Prelude.{◌≡◌, ◌+◌, ◌<◌, ◌≤◌, [], ◌∷◌, ◌++◌, Some, drop, length, slice_get, slice_index_or, IfOk, IsTrue, OnOk};
+ghost use Rattle.std.specs.Prelude.{◌≡◌, ◌+◌, ◌<◌, ◌≤◌, [], ◌∷◌, ◌++◌, Some, false, drop, length, slice_get, slice_index_or, IfOk, IsTrue, OnOk};
 ghost use Rattle.lp_cert.specs.inside.Chains.{IsTail};
 ghost use Rattle.lp_cert.specs.inside.Parts.{AreWithout};
 
@@ -65,7 +65,8 @@ impl Chains {
 
     /// Whether there is the empty list alone.
     pub(crate) fn is_empty(&self) -> bool
-        ensures { IsTrue result → self.now.lists ≡ [] ∷ [] }
+        ensures alone { IsTrue result → self.now.lists ≡ [] ∷ [] }
+        ensures others { result ≡ false → 1 < length self.now.lists }
     {
         self.entries.is_empty()
     }
@@ -97,7 +98,7 @@ impl Chains {
         ensures room { self.new.room + 1 ≡ self.old.room }
     {
         let count = self.count(older) + 1;
-        let jump = self.jump_behind(older);
+        let jump = self.jump_after(older);
         self.entries.push_reserved(Entry {
             reason,
             older,
@@ -187,7 +188,7 @@ impl Chains {
 
     /// Where a list that has this one as its older part jumps to: as far again as the last two jumps
     /// from here where those are of one length, and here else.
-    fn jump_behind(&self, older: ChainId) -> ChainId
+    fn jump_after(&self, older: ChainId) -> ChainId
         requires { older.0 < length self.now.lists }
         ensures known { result.0 < length self.now.lists }
         ensures tail { IsTail (slice_index_or self.now.lists result.0 []) (slice_index_or self.now.lists older.0 []) }

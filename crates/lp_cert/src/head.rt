@@ -1,12 +1,13 @@
 //! The reasons of a group as it waits.
 ghost use Rattle.std.specs.Prelude.{◌≡◌, ◌+◌, ◌<◌, ◌≤◌, ℕ, List, [], ◌++◌, length, reverse, slice_index_or, option_to_list, IsTrue};
-ghost use Rattle.lp_cert.specs.Heads.{ongoing_reasons, head_lines};
-ghost use Rattle.lp_cert.specs.inside.Heads.{continues_after, reason_begun_by, IsHead, IsUsed, IsRefusedBy, IsBornBy, Keeps};
+ghost use Rattle.lp_cert.specs.Heads.{hold_end, ongoing_reasons, head_lines};
+ghost use Rattle.lp_cert.specs.declared.ongoing.Ongoing.TheVariants.{Busy};
+ghost use Rattle.lp_cert.specs.inside.Heads.{busy_reasons, continues_after, reason_begun_by, IsHead, IsUsed, IsRefusedBy, IsRefusedAlone, IsBornBy, Keeps};
 
 use crate::cert_lines::CertLines;
 use crate::chains::{ChainId, Chains};
 use crate::oldest_first::OldestFirst;
-use crate::ongoing::Ongoing;
+use crate::ongoing::{Checked, Ongoing};
 use crate::reason::Reason;
 use lp_definitions::Line;
 use lp_model::Blame;
@@ -19,10 +20,10 @@ pub(crate) struct Head {
     pub(crate) older: ChainId,
 }
 
-/// A scan that refuses a group.
+/// A check that refuses a group.
 #[derive(Clone, Copy)]
 pub(crate) struct Refused {
-    /// The event of the scan.
+    /// The event of the check.
     pub(crate) at: u32,
     /// The refused member of the least number.
     pub(crate) task: TaskId,
@@ -146,6 +147,75 @@ impl Head {
             older: self.close(chains, scans, group),
         }
     }
+
+    /// The reasons once the group's only member was refused by its own check, which is no scan: so no
+    /// other group's reasons continue with it. Never allocates.
+    pub(crate) fn refuse_alone(
+        self,
+        chains: &mut Chains,
+        scans: &[u32],
+        group: GroupId,
+        refused: &Refused,
+    ) -> Head
+        requires head { IsHead chains.old.lists (length scans.now) self }
+        requires room { 1 < chains.old.room }
+        requires used { IsUsed refused.now.blame }
+        ensures { IsRefusedAlone refused.now group scans.now self result chains.old.lists chains.new.lists }
+    {
+        let last = Checked {
+            at: refused.at,
+            scans: scans.len(),
+        };
+        if let Ongoing::Hold {
+            task,
+            serial,
+            from,
+            ..
+        } = self.ongoing
+        {
+            if refused.frame_stands {
+                return Head {
+                    ongoing: Ongoing::Hold {
+                        task,
+                        serial,
+                        from,
+                        last,
+                    },
+                    older: self.older,
+                };
+            }
+        }
+        let before = self.close(chains, scans, group);
+        Head {
+            ongoing: reason_begun(scans, refused),
+            older: with_own(chains, before, group, refused),
+        }
+    }
+}
+
+/// A list with the line of an own check that finds the task busy, where it is one: a run tells of scans
+/// alone. A hold is told by what continues; but a leg without any list counts as one without reasons,
+/// so that there has to be one.
+fn with_own(chains: &mut Chains, list: ChainId, group: GroupId, refused: &Refused) -> ChainId
+    requires known { list.0 < length chains.old.lists }
+    requires room { 0 < chains.old.room }
+    ensures list { slice_index_or chains.new.lists result.0 [] ≡ busy_reasons group refused.now ++ slice_index_or chains.old.lists list.0 [] }
+    ensures known { result.0 < length chains.new.lists }
+    ensures some { 1 < length chains.new.lists }
+    ensures kept { Keeps chains.old.lists chains.new.lists }
+{
+    let line = Reason::One(Line::Busy {
+        group,
+        task: refused.task,
+        at: u64::from(refused.at),
+    });
+    if refused.blame == Blame::Busy {
+        return chains.push(line, list);
+    }
+    if chains.is_empty() {
+        chains.push(line, list);
+    }
+    list
 }
 
 /// A hold continues while its frame stands, whoever is refused now: that frame alone keeps the group.
@@ -168,6 +238,10 @@ fn reason_begun(scans: &[u32], refused: &Refused) -> Ongoing
             task: refused.task,
             serial,
             from: refused.at,
+            last: Checked {
+                at: refused.at,
+                scans: scans.len(),
+            },
         },
         Blame::Busy => Ongoing::Busy {
             task: refused.task,
@@ -183,21 +257,43 @@ fn ongoing_reason(scans: &[u32], group: GroupId, ongoing: Ongoing) -> Option<Rea
 {
     match ongoing {
         Ongoing::Nothing => None,
-        Ongoing::Hold { task, serial, from } => {
-            let to = scans.last().copied().unwrap_or(0);
-            Some(Reason::One(Line::Hold {
-                group,
-                task,
-                serial,
-                from: u64::from(from),
-                to: u64::from(to),
-            }))
-        }
-        Ongoing::Busy { task, first } => Some(Reason::Busy {
+        Ongoing::Hold {
+            task,
+            serial,
+            from,
+            last,
+        } => Some(Reason::One(Line::Hold {
             group,
             task,
-            first,
-            end: scans.len(),
-        }),
+            serial,
+            from: u64::from(from),
+            to: u64::from(hold_end(scans, last)),
+        })),
+        Ongoing::Busy { task, first } => busy_reason(scans, group, task, first),
     }
+}
+
+/// The last check of a hold: the last scan, where one came after the check that is told.
+fn hold_end(scans: &[u32], last: Checked) -> u32
+    ensures { result ≡ hold_end scans.now last }
+{
+    match scans.last() {
+        Some(at) if last.scans < scans.len() => *at,
+        _ => last.at,
+    }
+}
+
+/// A member is busy at each scan from a place on, if there is one.
+fn busy_reason(scans: &[u32], group: GroupId, task: TaskId, first: usize) -> Option<Reason>
+    ensures { option_to_list result ≡ ongoing_reasons scans.now group (Busy task first) }
+{
+    if first >= scans.len() {
+        return None;
+    }
+    Some(Reason::Busy {
+        group,
+        task,
+        first,
+        end: scans.len(),
+    })
 }

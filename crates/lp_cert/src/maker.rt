@@ -1,7 +1,7 @@
 //! The maker of certificates.
 ghost use Rattle.std.specs.Prelude.{◌≡◌, ◌+◌, ◌<◌, [], ◌∷◌, ◌++◌, true, Some, None, IsTrue, ◌≤◌, length, option_to_list, is_some, IfOk, IfSome, OnOk};
-ghost use Rattle.lp_definitions.specs.Events.{is_control, is_scan};
-ghost use Rattle.lp_definitions.specs.Plain.{is_plain};
+ghost use Rattle.lp_definitions.specs.Events.{is_scan};
+ghost use Rattle.lp_definitions.specs.TaskEvents.{is_quiet};
 ghost use Rattle.lp_definitions.specs.Run.{new_target};
 ghost use Rattle.lp_definitions.specs.declared.event.Event.{Event};
 ghost use Rattle.lp_machine.specs.Table.{state_in};
@@ -14,22 +14,23 @@ ghost use Rattle.lp_cert.specs.inside.LegRows.{HasRoomFor};
 ghost use Rattle.lp_cert.specs.inside.Waiters.{HasHeadFor, HasHeads, lines_at};
 ghost use Rattle.std.specs.Option.{option_map};
 
+mod own_check;
 mod passed;
-mod point;
-mod quiet;
+mod quiet_scan;
 
 use crate::cert_list::CertList;
 use crate::leg_end::LegEnd;
 use crate::leg_list::{LegEnds, LegList};
 use crate::leg_rows::LegRows;
 use crate::open_leg::{Completion, OpenLeg};
+use crate::opening::opens_leg;
 use crate::waiter_steps::untold;
 use crate::waiters::Waiters;
 use lp_definitions::{Cert, Claim};
 use lp_model::Consistency;
 use lp_numbers::NumberSet;
 use lp_stack::GroupId;
-use lp_transition::{Core, Event, Step, What};
+use lp_transition::{Core, Event, Step};
 use std::alloc::{AllocError, Global};
 use std::marker::Model;
 
@@ -183,6 +184,19 @@ impl Maker {
         cert_of(alloc, Claim::Waiting, leg, self.noted, &self.waiters, group)
     }
 
+    /// Whether a group waits in the leg under way: whether `waiting` has a certificate of it. Never allocates.
+    pub fn is_waiting(&self, group: GroupId) -> bool
+        ensures { result ≡ is_some (waiting_in self.now.current group.0) }
+    {
+        let Some(leg) = self.current else {
+            return false;
+        };
+        if leg.completed.is_some() {
+            return false;
+        }
+        self.waiters.waits(group)
+    }
+
     /// The certificate that the leg under way isn't complete, if there is one that isn't: the least
     /// group that waits. AllocError where an allocation failed.
     pub fn floor(&self, alloc: Global) -> Result<Option<Cert>, AllocError>
@@ -203,9 +217,9 @@ impl Maker {
     /// Notes a call, a return, a sleep, a wake-up or an entry into the kernel, whichever it is, before the
     /// engine takes it. Such an event switches no group and is no check, so nothing has to be weighed.
     /// Never allocates.
-    pub fn note_plain<M: Consistency>(&mut self, core: &Core<M>)
+    pub fn note_quiet<M: Consistency>(&mut self, core: &Core<M>)
         requires room { core.now.number < 1000000 }
-        ensures made { (event : Event) → is_plain event ≡ true → IsMadeFurther M.rules core.now event self.old self.new }
+        ensures made { (event : Event) → is_quiet event ≡ true → IsMadeFurther M.rules core.now event self.old self.new }
         ensures ready { self.new.ready ≡ self.old.ready }
     {
         self.noted = core.events() as u32 + 1;
@@ -314,13 +328,6 @@ fn end_leg(ended: &mut LegRows, noted: u32, current: Option<OpenLeg>, closing: C
     ended.push_reserved(leg.end(certs));
 }
 
-/// A refused control event ends no leg: its tasks wait on as before.
-fn opens(step: &Step) -> bool
-    ensures { result ≡ is_opening step.now }
-{
-    step.event().is_control() && !matches!(step.reply().what, What::Refused(_))
-}
-
 /// The leg that an event opens.
 fn opened<M: Consistency>(core: &Core<M>, step: &Step, number: u32) -> OpenLeg
     requires weighed { IsWeighed M.rules core.now step.now }
@@ -359,7 +366,7 @@ fn close(
     ensures closing { IfOk result (λ opens. HasClosing current waiters.now opens closing.new) }
     ensures ended { ended.new.ends ≡ ended.old.ends }
 {
-    if !opens(step) {
+    if !opens_leg(step.event(), &step.reply().what) {
         return Ok(false);
     }
     let certs = closing_of(alloc, current, noted, waiters)?;

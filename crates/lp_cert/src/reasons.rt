@@ -1,6 +1,6 @@
 //! The reasons of each group in a leg.
 ghost use Rattle.std.specs.Prelude.{◌≡◌, ◌≢◌, ◌+◌, ◌<◌, ◌≤◌, ◌↔◌, ℕ, List, [], ◌∷◌, ◌++◌, length, reverse, slice_index_or, IfOk, IsTrue, OnOk};
-ghost use Rattle.lp_cert.specs.inside.Heads.{IsUsed, IsRefusedBy, IsBornBy};
+ghost use Rattle.lp_cert.specs.inside.Heads.{IsUsed, IsRefusedBy, IsRefusedAlone, IsBornBy};
 ghost use Rattle.lp_definitions.specs.Certificates.{group_id};
 ghost use Rattle.lp_cert.specs.Heads.{head_lines};
 ghost use Rattle.lp_cert.specs.Waiters.{no_head, head_of, waiter_in};
@@ -168,6 +168,21 @@ impl Reasons {
     {
         let head = self.head(group);
         let next = head.refuse(&mut self.chains, self.scans.as_slice(), group, refused);
+        self.heads[usize::from(group.0)] = next;
+    }
+
+    /// The own check of a group's only member has refused it. Never allocates.
+    pub(crate) fn refuse_alone(&mut self, group: GroupId, refused: &Refused)
+        requires head { StandsAt (length self.old.scans) self.old group.0 }
+        requires wide { group.0 < length self.old.heads }
+        requires room { 1 < self.old.room }
+        requires used { IsUsed refused.now.blame }
+        ensures refused { IsRefusedAlone refused.now group self.old.scans (head_of self.old group.0) (head_of self.new group.0) self.old.lists self.new.lists }
+        ensures others { (other : ℕ) → other ≢ group.0 → head_of self.new other ≡ head_of self.old other }
+        ensures scans { self.new.scans ≡ self.old.scans }
+    {
+        let head = self.head(group);
+        let next = head.refuse_alone(&mut self.chains, self.scans.as_slice(), group, refused);
         self.heads[usize::from(group.0)] = next;
     }
 

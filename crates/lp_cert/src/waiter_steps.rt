@@ -11,12 +11,13 @@ ghost use Rattle.lp_transition.specs.LastScan.{used_kind, used_scan};
 ghost use Rattle.lp_cert.specs.inside.ToldGroups.{AreToldOf, is_of_group};
 ghost use Rattle.lp_cert.specs.inside.Invariant.{with_verdicts};
 ghost use Rattle.lp_cert.specs.inside.StepLines.{stepped_lines, after_scan_kind, noted_lines};
-ghost use Rattle.lp_cert.specs.inside.Waiters.{AreStanding, HasFewGroups, HasHeadFor, HasHeads, IsUsedVerdict, after_switch, lines_at, own_lines};
+ghost use Rattle.lp_cert.specs.inside.Heads.{IsUsed};
+ghost use Rattle.lp_cert.specs.inside.Waiters.{AreStanding, own_blame, HasFewGroups, HasHeadFor, HasHeads, IsUsedVerdict, after_switch, lines_at, own_lines};
 
 use crate::head::OwnFork;
 use crate::told::{take_in_all, used_scan};
 use crate::waiters::Waiters;
-use lp_model::{CheckKind, Consistency, ForkKind, Verdict};
+use lp_model::{Blame, CheckKind, Consistency, ForkKind, Verdict};
 use lp_numbers::NumberSet;
 use lp_stack::{GroupId, TaskId};
 use lp_transition::{Core, Event, Step, What};
@@ -82,6 +83,7 @@ impl Waiters {
             Event::Stop => self.scan_of(core, CheckKind::Stop, at, step.verdicts()),
             Event::Fork(parent, child, how) => self.fork(core, parent, child, how, u64::from(at)),
             Event::Die(task) => self.die(core, task),
+            Event::Resched(task) => self.check_own(core, task, at),
             _ => {}
         }
     }
@@ -151,6 +153,25 @@ impl Waiters {
         }
     }
 
+    /// An accepted check that a task makes of itself with frames on its stack: where it is of its group, and refuses it, that is
+    /// a reason of the group. Never allocates.
+    fn check_own<M: Consistency>(&mut self, core: &Core<M>, task: TaskId, at: u32)
+        requires wide { HasHeads self.old }
+        requires room { 1 < self.old.reasons.room }
+        requires at { at ≡ suc core.now.number }
+        ensures lines { (group : ℕ) → lines_at self.new group ≡ own_lines M.rules core.now (Event.Resched task) [] (lines_at self.old) group }
+    {
+        let Some(group) = core.group_of(task) else {
+            return;
+        };
+        if !core.is_alone(task) || !self.waits(group) {
+            return;
+        }
+        if let Some(blame) = own_blame(core, task) {
+            self.refuse_alone(core, group, at, task, blame);
+        }
+    }
+
     /// The groups that an event switched wait no longer. Never allocates.
     fn switch(&mut self, what: &What)
         ensures { (group : ℕ) → lines_at self.new group ≡ after_switch (groups_of what.now) (lines_at self.old) group }
@@ -168,6 +189,19 @@ impl Waiters {
             self.switch_one(*group);
         }
     }
+}
+
+/// Why a task's own check doesn't admit it, if the model uses the check; None where it does.
+fn own_blame<M: Consistency>(core: &Core<M>, task: TaskId) -> Option<Blame>
+    ensures blame { result ≡ own_blame M.rules core.now task.0 }
+    ensures used { IfSome result IsUsed }
+{
+    let model = core.model();
+    if !model.uses(CheckKind::Resched) {
+        return None;
+    }
+    let view = core.task(task)?;
+    model.blame(CheckKind::Resched, &view, &core.aim())
 }
 
 /// The kind of a scan that the model uses, where a group waits of which the scan found nothing, and

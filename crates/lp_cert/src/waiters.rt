@@ -9,8 +9,11 @@ ghost use Rattle.lp_definitions.specs.Leg.{State};
 ghost use Rattle.lp_definitions.specs.Sound.{IsSound};
 ghost use Rattle.lp_tasks.specs.Passing.{passing};
 ghost use Rattle.lp_transition.specs.Scan.{first_refused};
-ghost use Rattle.lp_machine.specs.Table.{state_in};
-ghost use Rattle.lp_definitions.specs.Certificates.{group_id};
+ghost use Rattle.lp_machine.specs.Table.{slot, state_in};
+ghost use Rattle.lp_tasks.specs.inside.Table.{is_in};
+ghost use Rattle.lp_definitions.specs.Certificates.{after_refusal, group_id};
+ghost use Rattle.lp_transition.specs.Blames.{has_frame_in};
+ghost use Rattle.lp_cert.specs.inside.Heads.{IsUsed};
 ghost use Rattle.lp_cert.specs.Heads.{head_lines};
 ghost use Rattle.lp_cert.specs.Invariant.{floor_waiters};
 ghost use Rattle.lp_cert.specs.Waiters.{head_of, waiter_in, waiters_of};
@@ -25,7 +28,7 @@ use crate::chains::Chains;
 use crate::group_set::GroupSet;
 use crate::head::{OwnFork, Refused, Waiter};
 use crate::reasons::Reasons;
-use lp_model::{Consistency, Verdict};
+use lp_model::{Blame, Consistency, Verdict};
 use lp_numbers::NumberSet;
 use lp_stack::{GroupId, Level, TaskId};
 use lp_transition::{Core, Event};
@@ -225,7 +228,13 @@ impl Waiters {
     {
         self.reasons.clear_past();
         self.groups.clear();
-        take_in_all(core, level, &mut self.groups, &mut self.reasons);
+        take_in_all(
+            core,
+            level,
+            core.groups(),
+            &mut self.groups,
+            &mut self.reasons,
+        );
     }
 
     /// A scan, with what it found of the tasks that it looked at, by increasing number: the reasons
@@ -242,6 +251,30 @@ impl Waiters {
         let refused = &mut self.refused;
         judge_waiting(core, at, verdicts, &self.groups, refused, &mut self.reasons);
         self.reasons.scanned(at);
+    }
+
+    /// The own check of the only member of a group that waits refuses it. Never allocates.
+    pub(crate) fn refuse_alone<M: Consistency>(
+        &mut self,
+        core: &Core<M>,
+        group: GroupId,
+        at: u32,
+        task: TaskId,
+        blame: Blame,
+    )
+        requires waits { has self.old.groups group.0 ≡ true }
+        requires wide { group.0 < length self.old.reasons.heads }
+        requires room { 1 < self.old.reasons.room }
+        requires used { IsUsed blame }
+        ensures { (other : ℕ) → lines_at self.new other ≡ (if nat_eq other group.0 then option_map (after_refusal (has_frame_in (state_in core.now)) other at (task.0, blame)) (lines_at self.old other) else lines_at self.old other) }
+    {
+        let refused = Refused {
+            at,
+            task,
+            blame,
+            frame_stands: is_held(core, self.reasons.head(group).ongoing),
+        };
+        self.reasons.refuse_alone(group, &refused);
     }
 
     /// Whether one more scan can be noted that looks at nobody.
@@ -371,36 +404,43 @@ fn listed(alloc: Global, groups: &GroupSet, reasons: &Reasons) -> Result<Vec<Wai
     Ok(list)
 }
 
-/// The groups of the live tasks off a level begin to wait, without any reason.
+/// Of these groups, which are all that have a live task, those off a level begin to wait, without any reason. The members of a group are on one level, so one
+/// of them tells, and an opening costs no more where there are many.
 fn take_in_all<M: Consistency>(
     core: &Core<M>,
     level: Level,
+    named: &NumberSet,
     groups: &mut GroupSet,
     reasons: &mut Reasons,
 )
-    requires { IsEmpty groups.old }
-    ensures taken { AreTakenIn core.now.table level.0 65536 groups.new reasons.old reasons.new }
+    requires named { (group : ℕ) → has named.now group ≡ false → (t : ℕ) → is_in group (slot core.now.table t) ≡ false }
+    requires few { (group : ℕ) → has named.now group ≡ true → group < 65536 }
+    requires empty { IsEmpty groups.old }
+    requires numbers { length groups.old ≡ 65536 }
+    ensures taken { (bound : ℕ) → AreTakenIn core.now.table level.0 bound groups.new reasons.old reasons.new }
     ensures groups { IsSound (state_in core.now) → (group : ℕ) → has groups.new group ≡ has_off (state_in core.now) level.0 group }
 {
-    for number in core.live() {
-        take_in(core, level, TaskId(number), groups, reasons);
+    for number in named {
+        take_in(core, level, GroupId(number), groups, reasons);
     }
 }
 
-/// The group of a live task begins to wait, if the task is off a level.
+/// A group begins to wait, if its live tasks are off a level.
 fn take_in<M: Consistency>(
     core: &Core<M>,
     level: Level,
-    task: TaskId,
+    group: GroupId,
     groups: &mut GroupSet,
     reasons: &mut Reasons,
 )
-    ensures { IsTakenIn core.now.table level.0 task.0 groups.old groups.new reasons.old reasons.new }
+    requires { length groups.old ≡ 65536 }
+    ensures taken { IsTakenIn core.now.table level.0 group.0 groups.old groups.new reasons.old reasons.new }
+    ensures numbers { length groups.new ≡ 65536 }
 {
-    let Some(group) = core.group_of(task) else {
+    let Some(own) = core.group_level(group) else {
         return;
     };
-    if core.side_of(task) == Some(level) {
+    if own == level {
         return;
     }
     reasons.begin(group);

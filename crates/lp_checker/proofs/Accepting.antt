@@ -8,9 +8,9 @@ use Rattle.lp_model.specs.Rules.{Rules}
 use Rattle.lp_definitions.specs.declared.event.Event.{Event}
 use Rattle.lp_definitions.specs.declared.event.Event.TheVariants.{Call, Fork, Die}
 use Rattle.lp_definitions.specs.Tasks.{first_of, tests}
-use Rattle.lp_definitions.specs.Leg.{Standing}
+use Rattle.lp_definitions.specs.Leg.{LegTask}
 use Rattle.lp_machine.specs.Machine.{outlines_of, refusal_of}
-use Rattle.lp_machine.specs.Table.{Engine, Table, slot, standings, state_in, bounds_of, no_scan}
+use Rattle.lp_machine.specs.Table.{Engine, Table, slot, leg_tasks, state_in, bounds_of, no_scan}
 use Rattle.lp_machine.proofs.Accept.{IsLive, call-room, fork-live, fork-new, fork-positive, die-live}
 
 -- what an event finds is the same under every model: one that admits everybody stands for them
@@ -27,7 +27,7 @@ any_model =
 
 module _ (patches : Patches) (table : Table) where
   abbrev Accepts : Event → Type 0
-  Accepts event = first_of (tests (bounds_of patches) (outlines_of (standings table)) event) ≡ None
+  Accepts event = first_of (tests (bounds_of patches) (outlines_of (leg_tasks table)) event) ≡ None
 
   -- an engine with these tasks, of any model
   abbrev pub engine : Engine
@@ -45,7 +45,7 @@ module _ (patches : Patches) (table : Table) where
   unfolding refusal_of
   die_too t h = h
 
-  pub room : (t : TaskId) (f : SymId) (x : Standing) → Accepts (Call t f) → slot table t.0 ≡ Some x → length x.frames < 100
+  pub room : (t : TaskId) (f : SymId) (x : LegTask) → Accepts (Call t f) → slot table t.0 ≡ Some x → length x.frames < 100
   room t f x h there = call-room any_model engine t f x (call_too t f h) there
 
   pub parent_lives : (p c : TaskId) (how : ForkKind) → Accepts (Fork p c how) → IsLive engine p.0

@@ -14,7 +14,7 @@ use Rattle.lp_definitions.specs.declared.line.Line.TheVariants.{Born}
 use Rattle.lp_definitions.specs.declared.cert_fault.CertFault.{CertFault}
 use Rattle.lp_definitions.specs.declared.cert_fault.CertFault.TheVariants.{BadBirth}
 use Rattle.lp_checker.specs.inside.Births.{group_in, group_or_0, is_own_fork, group_now}
-use Rattle.lp_definitions.specs.Verdict.{Birth, births, first_lines, moment_of, forks_group, is_birth, birth_tests, first_group}
+use Rattle.lp_definitions.specs.Judgement.{Birth, births, first_lines, moment_of, forks_group, is_birth, birth_tests, first_group}
 
 -- a group as code has it, or 0
 pub own_as : (own : Option GroupId) (fate : Fate Life) → option_map (λ g. g.0) own ≡ group_in fate → group_now own 0 ≡ group_or_0 fate

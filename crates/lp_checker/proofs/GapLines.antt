@@ -10,7 +10,7 @@ use Rattle.lp_definitions.specs.declared.line.Line.{Line}
 use Rattle.lp_definitions.specs.declared.cert_fault.CertFault.TheVariants.{Gap}
 use Rattle.lp_checker.specs.declared.sections.Section.{Section as Part}
 use Rattle.lp_checker.specs.inside.Sections.{with_lines}
-use Rattle.lp_definitions.specs.Verdict.{covers, first_bad, gap_test, is_covered}
+use Rattle.lp_definitions.specs.Judgement.{covers, first_bad, gap_test, is_covered}
 use Rattle.lp_laws.proofs.FirstBad.{first_bad_same, bad_within}
 
 pub no_check : (o : Option CheckKind) (b : Bool) → false ≡ is_some o → (is_none o || b) ≡ true

@@ -11,7 +11,7 @@ use Rattle.lp_definitions.specs.declared.cert_fault.CertFault.{CertFault}
 use Rattle.lp_checker.specs.declared.marks.Mark.{Mark}
 use Rattle.lp_checker.specs.declared.marks.Mark.TheVariants.{Sound}
 use Rattle.lp_checker.specs.inside.Marks.{IsMarked, AreMarked}
-use Rattle.lp_definitions.specs.Verdict.{Section, line_test}
+use Rattle.lp_definitions.specs.Judgement.{Section, line_test}
 use Rattle.lp_laws.proofs.FirstBad.{first_none, first_some}
 
 module _ (model : Rules) (leg : Leg) (section : Section) (lines : List Line) where

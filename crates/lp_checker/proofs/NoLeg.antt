@@ -11,7 +11,7 @@ use Rattle.lp_definitions.specs.declared.line.Line.{Line}
 use Rattle.lp_definitions.specs.declared.line.Line.TheVariants.{Hold, Busy as OnCpu, Born}
 use Rattle.lp_definitions.specs.declared.cert_fault.CertFault.{CertFault}
 use Rattle.lp_definitions.specs.declared.cert_fault.CertFault.TheVariants.{NoSuchGroup, NotOnStack, NoBlame, Gap, BadBirth, NoLeg}
-use Rattle.lp_definitions.specs.Verdict.{Birth, Section, births, birth_tests, first_bad, first_group, first_lines, gap_test, is_birth, is_covered, is_held_by, is_busy, is_on_stack, blame_at, lies_in, line_test, line_tests, moment_of, no_leg, no_such_group, sections, verdict_on}
+use Rattle.lp_definitions.specs.Judgement.{Birth, Section, births, birth_tests, first_bad, first_group, first_lines, gap_test, is_birth, is_covered, is_held_by, is_busy, is_on_stack, blame_at, lies_in, line_test, line_tests, moment_of, no_leg, no_such_group, sections, cert_fault}
 
 -- a test that finds no other leg
 abbrev Other : Option CertFault → Type 0
@@ -84,8 +84,8 @@ module _ (model : Rules) (leg : Leg) where
         ∷ flat_map (line_tests model leg) parts
         ++ map (gap_test model leg) parts)
 
-    all_tests : verdict_on model leg claim cert ≡ first_of (fits (no_leg model leg claim cert) NoLeg ∷ later)
-    unfolding verdict_on
+    all_tests : cert_fault model leg claim cert ≡ first_of (fits (no_leg model leg claim cert) NoLeg ∷ later)
+    unfolding cert_fault
     all_tests = refl
 
     later_others : AllByRecursion Other later
@@ -95,14 +95,14 @@ module _ (model : Rules) (leg : Leg) where
         let first = first_group model leg cert.group.0 rest in
         let parts = sections model leg last first zero (first_lines cert.lines) rest in
         let grouped = no_such_group model leg last cert.group.0 first rest parts in
-        let behind = joined (flat_map (line_tests model leg) parts) (map (gap_test model leg) parts) (lines_other parts) (all_mapped (gap_test model leg) parts gap_other) in
+        let the_rest = joined (flat_map (line_tests model leg) parts) (map (gap_test model leg) parts) (lines_other parts) (all_mapped (gap_test model leg) parts gap_other) in
         joined (birth_tests model leg last first zero rest) (fits grouped NoSuchGroup ∷ flat_map (line_tests model leg) parts ++ map (gap_test model leg) parts) (birth_others last first zero rest)
-        (fits_other grouped NoSuchGroup (λ e. absurd (cc)), behind)
+        (fits_other grouped NoSuchGroup (λ e. absurd (cc)), the_rest)
 
     by_first : (b : Bool) → first_of (fits b NoLeg ∷ later) ≡ Some NoLeg → b ≡ true
     by_first true e = refl
     by_first false e = absurd (others later later_others e)
 
-    -- where the verdict is that of another leg, the first test finds it
-    pub found_by_first : verdict_on model leg claim cert ≡ Some NoLeg → no_leg model leg claim cert ≡ true
+    -- where the fault is that of another leg, the first test finds it
+    pub found_by_first : cert_fault model leg claim cert ≡ Some NoLeg → no_leg model leg claim cert ≡ true
     found_by_first e = by_first (no_leg model leg claim cert) (sym all_tests ∙ e)

@@ -9,11 +9,11 @@ use Rattle.lp_definitions.specs.declared.line.Line.{Line}
 use Rattle.lp_definitions.specs.declared.line.Line.TheVariants.{Hold, Busy as OnCpu, Born}
 use Rattle.lp_definitions.specs.declared.cert_fault.CertFault.{CertFault}
 use Rattle.lp_checker.specs.declared.sections.Section.{Section as Part}
-use Rattle.lp_definitions.specs.Verdict.{line_test, line_tests, gap_test}
+use Rattle.lp_definitions.specs.Judgement.{line_test, line_tests, gap_test}
 use Rattle.lp_checker.specs.inside.Sections.{section_of, timed, FollowOn}
 use Rattle.lp_laws.proofs.FirstBad.{first_of_append, first_of_found, first_none, first_some}
 
--- what comes behind the first of them
+-- what comes after the first of them
 pub follows : (size last : ℕ) (parts more : List Part) (part : Part) → parts ≡ part ∷ more → (begin : ℕ) × FollowOn size last begin parts → FollowOn size last part.until more
 follows size last parts more part here h = let first = subst (FollowOn size last h.0) here h.1 in first.5
 

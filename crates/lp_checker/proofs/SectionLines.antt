@@ -8,7 +8,7 @@ use Rattle.lp_definitions.specs.Leg.{Leg}
 use Rattle.lp_definitions.specs.declared.line.Line.{Line}
 use Rattle.lp_definitions.specs.declared.line.Line.TheVariants.{Hold, Busy as OnCpu, Born}
 use Rattle.lp_checker.specs.declared.sections.Section.{Section as Part}
-use Rattle.lp_definitions.specs.Verdict.{Birth, Section, births, first_lines, sections}
+use Rattle.lp_definitions.specs.Judgement.{Birth, Section, births, first_lines, sections}
 use Rattle.lp_checker.specs.inside.Sections.{section_of, AreInOrder, FollowOn}
 
 -- what is in order ends no later than the last moment

@@ -10,7 +10,7 @@ use Rattle.lp_definitions.specs.declared.line.Line.TheVariants.{Hold, Busy, Born
 use Rattle.lp_checker.specs.declared.gaps.Span.{Span}
 use Rattle.lp_checker.specs.inside.Spans.{span_of, spans_to, some_spans_to, AreEnds}
 use Rattle.lp_checker.proofs.Members.{same_answer}
-use Rattle.lp_definitions.specs.Verdict.{covers}
+use Rattle.lp_definitions.specs.Judgement.{covers}
 
 -- ---- The greatest so far
 

@@ -6,12 +6,12 @@ use Rattle.lp_definitions.specs.declared.event.Event.{Event}
 use Rattle.lp_definitions.specs.Leg.{Leg}
 use Rattle.lp_machine.specs.Table.{Engine}
 use Rattle.lp_definitions.specs.Tasks.{fits, first_of}
-use Rattle.lp_laws.proofs.Plain.{none_first, unfit}
+use Rattle.lp_laws.proofs.NextTasks.{none_first, unfit}
 use Rattle.lp_definitions.specs.declared.cert.Cert.{Cert}
 use Rattle.lp_definitions.specs.declared.cert.Claim.{Claim}
 use Rattle.lp_definitions.specs.declared.line.Line.{Line}
 use Rattle.lp_definitions.specs.declared.cert_fault.CertFault.TheVariants.{BadBirth, NoLeg}
-use Rattle.lp_definitions.specs.Verdict.{Birth, birth_tests, is_birth, moment_of, no_leg, verdict_on}
+use Rattle.lp_definitions.specs.Judgement.{Birth, birth_tests, is_birth, moment_of, no_leg, cert_fault}
 use Rattle.lp_checker.specs.Folds.{leg_with}
 use Rattle.lp_checker.specs.inside.Cursors.{Range}
 use Rattle.lp_checker.specs.inside.Sections.{AreInOrder}
@@ -47,14 +47,14 @@ module _ (model : Rules) (opening : Engine) (events : List Event) (claim : Claim
   abbrev up_to : ℕ → Range
   up_to end = record { opening = opening; events = events; end = end }
 
-  all_stages : verdict_on model leg claim cert ≡ first_of (fits (no_leg model leg claim cert) NoLeg ∷ later_tests model (up_to (moment_of model leg cert.upto)) cert.group.0 cert.lines)
-  unfolding verdict_on
+  all_stages : cert_fault model leg claim cert ≡ first_of (fits (no_leg model leg claim cert) NoLeg ∷ later_tests model (up_to (moment_of model leg cert.upto)) cert.group.0 cert.lines)
+  unfolding cert_fault
   all_stages = refl
 
-  pub at_no_leg : no_leg model leg claim cert ≡ true → verdict_on model leg claim cert ≡ Some NoLeg
+  pub at_no_leg : no_leg model leg claim cert ≡ true → cert_fault model leg claim cert ≡ Some NoLeg
   at_no_leg e = all_stages ∙ first_some (fits (no_leg model leg claim cert) NoLeg) (later_tests model (up_to (moment_of model leg cert.upto)) cert.group.0 cert.lines) NoLeg (fit_some _ NoLeg e)
 
-  pub past_no_leg : (last : ℕ) (range : Range) (lines : List Line) → no_leg model leg claim cert ≡ false → last ≡ moment_of model leg cert.upto → range ≡ up_to last → lines ≡ cert.lines → first_of (later_tests model range cert.group.0 lines) ≡ verdict_on model leg claim cert
+  pub past_no_leg : (last : ℕ) (range : Range) (lines : List Line) → no_leg model leg claim cert ≡ false → last ≡ moment_of model leg cert.upto → range ≡ up_to last → lines ≡ cert.lines → first_of (later_tests model range cert.group.0 lines) ≡ cert_fault model leg claim cert
   past_no_leg last range lines on is_last is_range is_lines =
       sym (
       all_stages

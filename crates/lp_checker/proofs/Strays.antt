@@ -8,7 +8,7 @@ use Rattle.lp_model.specs.Rules.{Rules}
 use Rattle.lp_definitions.specs.Leg.{Leg}
 use Rattle.lp_definitions.specs.declared.line.Line.{Line}
 use Rattle.lp_definitions.specs.declared.line.Line.TheVariants.{Hold, Busy as OnCpu, Born}
-use Rattle.lp_definitions.specs.Verdict.{Birth, births, first_lines, group_of, has_stray, moment_of, sections}
+use Rattle.lp_definitions.specs.Judgement.{Birth, births, first_lines, group_of, has_stray, moment_of, sections}
 
 -- a line names another group than its section's, the first section being that of a group
 abbrev pub strays : ℕ → List Line → Bool

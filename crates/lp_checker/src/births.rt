@@ -5,7 +5,7 @@ ghost use Rattle.lp_definitions.specs.Tasks.{first_of};
 ghost use Rattle.lp_definitions.specs.Leg.{accepted, after};
 ghost use Rattle.lp_checker.specs.inside.Births.{group_in, group_or_0, is_own_fork, group_now};
 ghost use Rattle.lp_checker.specs.inside.Cursors.{leg_in};
-ghost use Rattle.lp_definitions.specs.Verdict.{births, birth_tests, first_group};
+ghost use Rattle.lp_definitions.specs.Judgement.{births, birth_tests, first_group};
 
 use crate::cursor::Cursor;
 use lp_definitions::{CertFault, Event, Line};

@@ -4,7 +4,7 @@ ghost use Rattle.std.specs.Option.{option_map};
 ghost use Rattle.lp_definitions.specs.Leg.{accepted, after, check, has_member};
 ghost use Rattle.lp_machine.specs.Table.{slot};
 ghost use Rattle.lp_definitions.specs.Tasks.{fits, outlines};
-ghost use Rattle.lp_definitions.specs.Verdict.{blame_at, is_on_stack};
+ghost use Rattle.lp_definitions.specs.Judgement.{blame_at, is_on_stack};
 ghost use Rattle.lp_checker.specs.inside.Births.{group_in};
 ghost use Rattle.lp_checker.specs.inside.Folds.{IsAt};
 ghost use Rattle.lp_checker.specs.inside.Sections.{is_waiting_member};

@@ -6,9 +6,9 @@ ghost use Rattle.std.specs.Option.{option_map};
 ghost use Rattle.lp_definitions.specs.Tasks.{first_of, tests, on_live, Unused, Dead};
 ghost use Rattle.lp_definitions.specs.Leg.{check_by, if_used, is_alone, has_member};
 ghost use Rattle.lp_machine.specs.Machine.{view_of, outlines_of, own_effect};
-ghost use Rattle.lp_machine.specs.inside.Unswitched.{accept_standing, take_own_effect};
+ghost use Rattle.lp_machine.specs.inside.Unswitched.{accept_unswitched, take_own_effect};
 ghost use Rattle.lp_tasks.specs.Openings.{IsOpening};
-ghost use Rattle.lp_machine.specs.Table.{slot, standings, bounds_of};
+ghost use Rattle.lp_machine.specs.Table.{slot, leg_tasks, bounds_of};
 
 mod accept;
 mod table;
@@ -51,7 +51,7 @@ impl Fold {
         ensures number { IfOk result (λ fold. fold.number ≡ opening.now.number) }
         ensures target { IfOk result (λ fold. fold.target.0 ≡ opening.now.target) }
         ensures patches { IfOk result (λ fold. fold.patches ≡ opening.now.patches) }
-        ensures tasks { IfOk result (λ fold. standings fold.tasks ≡ standings opening.now.table) }
+        ensures tasks { IfOk result (λ fold. leg_tasks fold.tasks ≡ leg_tasks opening.now.table) }
     {
         let events = opening.number() as u32;
         let mut tasks = FoldedTable::new(alloc)?;
@@ -77,11 +77,11 @@ impl Fold {
         ensures number { OnOk result (self.new.number ≡ suc self.old.number) }
         ensures target { self.new.target ≡ self.old.target }
         ensures patches { self.new.patches ≡ self.old.patches }
-        ensures accepted { IfOk result (λ accepted. accepted ≡ accept_standing (bounds_of self.old.patches) (standings self.old.tasks) (Some event)) }
-        ensures tasks { OnOk result (standings self.new.tasks ≡ take_own_effect M.rules.child_group (suc self.old.number) (accept_standing (bounds_of self.old.patches) (standings self.old.tasks) (Some event)) (standings self.old.tasks)) }
+        ensures accepted { IfOk result (λ accepted. accepted ≡ accept_unswitched (bounds_of self.old.patches) (leg_tasks self.old.tasks) (Some event)) }
+        ensures tasks { OnOk result (leg_tasks self.new.tasks ≡ take_own_effect M.rules.child_group (suc self.old.number) (accept_unswitched (bounds_of self.old.patches) (leg_tasks self.old.tasks) (Some event)) (leg_tasks self.old.tasks)) }
         // A failed allocation leaves the fold where it was.
         ensures no_number { OnErr result (self.new.number ≡ self.old.number) }
-        ensures no_tasks { OnErr result (standings self.new.tasks ≡ standings self.old.tasks) }
+        ensures no_tasks { OnErr result (leg_tasks self.new.tasks ≡ leg_tasks self.old.tasks) }
     {
         let number = self.number + 1;
         if !accepts(&self.tasks, self.patches.symbols(), event) {
@@ -101,12 +101,12 @@ impl Fold {
         event: Event,
         number: u32,
     ) -> Result<(), AllocError>
-        requires { first_of (tests (bounds_of self.old.patches) (outlines_of (standings self.old.tasks)) event) ≡ None }
+        requires { first_of (tests (bounds_of self.old.patches) (outlines_of (leg_tasks self.old.tasks)) event) ≡ None }
         ensures number { self.new.number ≡ self.old.number }
         ensures target { self.new.target ≡ self.old.target }
         ensures patches { self.new.patches ≡ self.old.patches }
-        ensures tasks { OnOk result (standings self.new.tasks ≡ own_effect M.rules.child_group number event (standings self.old.tasks)) }
-        ensures no_tasks { OnErr result (standings self.new.tasks ≡ standings self.old.tasks) }
+        ensures tasks { OnOk result (leg_tasks self.new.tasks ≡ own_effect M.rules.child_group number event (leg_tasks self.old.tasks)) }
+        ensures no_tasks { OnErr result (leg_tasks self.new.tasks ≡ leg_tasks self.old.tasks) }
     {
         match event {
             Event::Call(task, func) => return self.tasks.call(task, func, number),
@@ -119,6 +119,7 @@ impl Fold {
             }
             Event::Die(task) => self.end(task),
             Event::Idle(_)
+            | Event::Resched(_)
             | Event::Walk
             | Event::Stop
             | Event::Enable
@@ -137,12 +138,12 @@ impl Fold {
         child: TaskId,
         how: ForkKind,
     ) -> Result<(), AllocError>
-        requires { first_of (tests (bounds_of self.old.patches) (outlines_of (standings self.old.tasks)) (Event.Fork parent child how)) ≡ None }
+        requires { first_of (tests (bounds_of self.old.patches) (outlines_of (leg_tasks self.old.tasks)) (Event.Fork parent child how)) ≡ None }
         ensures number { self.new.number ≡ self.old.number }
         ensures target { self.new.target ≡ self.old.target }
         ensures patches { self.new.patches ≡ self.old.patches }
-        ensures tasks { OnOk result (standings self.new.tasks ≡ own_effect M.rules.child_group self.old.number (Event.Fork parent child how) (standings self.old.tasks)) }
-        ensures no_tasks { OnErr result (standings self.new.tasks ≡ standings self.old.tasks) }
+        ensures tasks { OnOk result (leg_tasks self.new.tasks ≡ own_effect M.rules.child_group self.old.number (Event.Fork parent child how) (leg_tasks self.old.tasks)) }
+        ensures no_tasks { OnErr result (leg_tasks self.new.tasks ≡ leg_tasks self.old.tasks) }
     {
         let Some(live) = self.tasks.get(parent) else {
             unreachable!();
@@ -154,11 +155,11 @@ impl Fold {
 
     /// Takes an accepted end of a task.
     fn end(&mut self, task: TaskId)
-        requires { first_of (tests (bounds_of self.old.patches) (outlines_of (standings self.old.tasks)) (Event.Die task)) ≡ None }
+        requires { first_of (tests (bounds_of self.old.patches) (outlines_of (leg_tasks self.old.tasks)) (Event.Die task)) ≡ None }
         ensures number { self.new.number ≡ self.old.number }
         ensures target { self.new.target ≡ self.old.target }
         ensures patches { self.new.patches ≡ self.old.patches }
-        ensures tasks { standings self.new.tasks ≡ (λ t. if nat_eq t task.0 then Dead else standings self.old.tasks t) }
+        ensures tasks { leg_tasks self.new.tasks ≡ (λ t. if nat_eq t task.0 then Dead else leg_tasks self.old.tasks t) }
     {
         let Some(live) = self.tasks.get(task) else {
             unreachable!();
@@ -174,11 +175,12 @@ impl Fold {
         accepted: Option<Event>,
         group: GroupId,
     ) -> Option<CheckKind>
-        ensures { result ≡ if_used M.rules.uses (check_by (bounds_of self.now.patches) (outlines_of (standings self.now.tasks)) accepted group.0) }
+        ensures { result ≡ if_used M.rules.uses (check_by (bounds_of self.now.patches) (outlines_of (leg_tasks self.now.tasks)) accepted group.0) }
     {
         let kind = match accepted? {
             Event::Exit(task) if self.is_alone(task, group) => CheckKind::KernelExit,
             Event::Idle(task) if self.is_alone(task, group) => CheckKind::IdlePoint,
+            Event::Resched(task) if self.is_alone(task, group) => CheckKind::Resched,
             Event::Walk if self.has_member(group) => CheckKind::Walk,
             Event::Stop if self.has_member(group) => CheckKind::Stop,
             _ => return None,
@@ -188,7 +190,7 @@ impl Fold {
 
     /// The group of a live task; None for any other.
     pub(crate) fn group_of(&self, task: TaskId) -> Option<GroupId>
-        ensures { option_map (λ group. group.0) result ≡ on_live None (λ x. Some x.group) (standings self.now.tasks task.0) }
+        ensures { option_map (λ group. group.0) result ≡ on_live None (λ x. Some x.group) (leg_tasks self.now.tasks task.0) }
     {
         let live = self.tasks.get(task)?;
         Some(live.group())
@@ -202,7 +204,7 @@ impl Fold {
         group: GroupId,
         task: TaskId,
     ) -> Option<Blame>
-        ensures { result ≡ on_live None (λ x. if nat_eq x.group group.0 then M.rules.blame kind (view_of task.0 x) (record { patches = self.now.patches; target = self.now.target.0 }) else None) (standings self.now.tasks task.0) }
+        ensures { result ≡ on_live None (λ x. if nat_eq x.group group.0 then M.rules.blame kind (view_of task.0 x) (record { patches = self.now.patches; target = self.now.target.0 }) else None) (leg_tasks self.now.tasks task.0) }
     {
         let live = self.tasks.get(task)?;
         if live.group().0 != group.0 {
@@ -217,7 +219,7 @@ impl Fold {
 
     /// Whether a frame of a serial is on the stack of a live task.
     pub(crate) fn has_frame(&self, task: TaskId, serial: u64) -> bool
-        ensures { result ≡ on_live false (λ x. list_any (λ frame. nat_eq frame.serial serial) x.frames) (standings self.now.tasks task.0) }
+        ensures { result ≡ on_live false (λ x. list_any (λ frame. nat_eq frame.serial serial) x.frames) (leg_tasks self.now.tasks task.0) }
     {
         let Some(live) = self.tasks.get(task) else {
             return false;
@@ -227,7 +229,7 @@ impl Fold {
 
     /// Whether a task is the only live member of a group.
     fn is_alone(&self, task: TaskId, group: GroupId) -> bool
-        ensures { result ≡ is_alone (bounds_of self.now.patches) (outlines_of (standings self.now.tasks)) group.0 task.0 }
+        ensures { result ≡ is_alone (bounds_of self.now.patches) (outlines_of (leg_tasks self.now.tasks)) group.0 task.0 }
     {
         let Some(live) = self.tasks.get(task) else {
             return false;
@@ -240,7 +242,7 @@ impl Fold {
 
     /// Whether a group has a live member.
     pub(crate) fn has_member(&self, group: GroupId) -> bool
-        ensures { result ≡ has_member (bounds_of self.now.patches) (outlines_of (standings self.now.tasks)) group.0 }
+        ensures { result ≡ has_member (bounds_of self.now.patches) (outlines_of (leg_tasks self.now.tasks)) group.0 }
     {
         self.tasks.members(group) > 0
     }
@@ -278,8 +280,8 @@ fn put_from(
     tasks: &mut FoldedTable,
 ) -> Result<(), AllocError>
     requires opening { IsOpening opening.now }
-    requires free { standings tasks.old task.0 ≡ Unused }
-    ensures { OnOk result (standings tasks.new ≡ (λ t. if nat_eq t task.0 then standings opening.now.table t else standings tasks.old t)) }
+    requires free { leg_tasks tasks.old task.0 ≡ Unused }
+    ensures { OnOk result (leg_tasks tasks.new ≡ (λ t. if nat_eq t task.0 then leg_tasks opening.now.table t else leg_tasks tasks.old t)) }
 {
     match task_at(alloc, opening, task)? {
         Some(live) => return tasks.put(task, live),

@@ -5,7 +5,7 @@ ghost use Rattle.lp_model.specs.Rules.{Rules};
 ghost use Rattle.lp_definitions.specs.Tasks.{first_of};
 ghost use Rattle.lp_definitions.specs.Leg.{Leg, check};
 ghost use Rattle.lp_checker.specs.inside.Cursors.{leg_in};
-ghost use Rattle.lp_definitions.specs.Verdict.{covers, first_bad, gap_test};
+ghost use Rattle.lp_definitions.specs.Judgement.{covers, first_bad, gap_test};
 ghost use Rattle.lp_checker.specs.inside.Sections.{section_of, with_lines, FollowOn};
 ghost use Rattle.lp_checker.specs.inside.Spans.{span_of, AreEnds};
 

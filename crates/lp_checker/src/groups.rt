@@ -11,7 +11,7 @@ ghost use Rattle.lp_model.specs.Rules.{Rules};
 ghost use Rattle.lp_checker.specs.inside.Births.{group_or_0};
 ghost use Rattle.lp_checker.specs.inside.Cursors.{leg_in};
 ghost use Rattle.lp_checker.specs.inside.Sections.{AreInOrder, is_waiting_member};
-ghost use Rattle.lp_definitions.specs.Verdict.{births, first_group, first_lines, has_stray, last_group, no_such_group, sections};
+ghost use Rattle.lp_definitions.specs.Judgement.{births, first_group, first_lines, has_stray, last_group, no_such_group, sections};
 
 use crate::cursor::Cursor;
 use lp_definitions::Line;

@@ -3,7 +3,7 @@ ghost use Rattle.std.specs.Prelude.{◌≡◌, ℕ, true, suc, ◌+◌, ◌-◌,
 ghost use Rattle.std.specs.List.{flat_map};
 ghost use Rattle.lp_definitions.specs.Tasks.{first_of};
 ghost use Rattle.lp_definitions.specs.declared.line.Line.{Line};
-ghost use Rattle.lp_definitions.specs.Verdict.{first_bad, is_busy, is_held_by, is_on_stack, line_test, line_tests};
+ghost use Rattle.lp_definitions.specs.Judgement.{first_bad, is_busy, is_held_by, is_on_stack, line_test, line_tests};
 ghost use Rattle.lp_laws.specs.Blamed.{is_blamed};
 ghost use Rattle.lp_checker.specs.inside.Marks.{was_busy, AreMarked};
 ghost use Rattle.lp_checker.specs.inside.Cursors.{leg_in};

@@ -1,7 +1,7 @@
 //! The sections of a certificate: a group each, its time in the leg, and its lines.
 ghost use Rattle.std.specs.Prelude.{◌≡◌, map, length, IfOk};
 ghost use Rattle.lp_checker.specs.inside.Cursors.{leg_in};
-ghost use Rattle.lp_definitions.specs.Verdict.{births, first_lines, sections};
+ghost use Rattle.lp_definitions.specs.Judgement.{births, first_lines, sections};
 ghost use Rattle.lp_checker.specs.inside.Sections.{section_of, AreInOrder, FollowOn};
 
 use crate::cursor::Cursor;
@@ -20,7 +20,7 @@ pub(crate) struct Section {
     pub(crate) until: usize,
     /// The first of its lines.
     pub(crate) start: usize,
-    /// The place behind its last line.
+    /// The place after its last line.
     pub(crate) end: usize,
 }
 

@@ -10,7 +10,7 @@ use Rattle.lp_model.specs.declared.check.Blame.{Blame}
 use Rattle.lp_model.specs.declared.check.Blame.TheVariants as blame
 use Rattle.lp_model.specs.Rules.{Rules}
 use Rattle.lp_definitions.specs.declared.event.Event.{Event}
-use Rattle.lp_definitions.specs.declared.event.Event.TheVariants.{Call, Ret, Sleep, Wake, Enter, Exit, Idle, Fork, Die, Walk, Stop, Enable, Disable, Reverse}
+use Rattle.lp_definitions.specs.declared.event.Event.TheVariants.{Call, Ret, Sleep, Wake, Enter, Exit, Idle, Resched, Fork, Die, Walk, Stop, Enable, Disable, Reverse}
 use Rattle.lp_definitions.specs.Tasks.{on_live}
 use Rattle.lp_definitions.specs.Leg.{Leg, after, accepted, check}
 use Rattle.lp_definitions.specs.declared.line.Line.{Line}
@@ -60,6 +60,7 @@ module _ (model : Rules) (leg : Leg) where
   born_births k group (Some (Enter t)) ls h = omega (arith, h group)
   born_births k group (Some (Exit t)) ls h = omega (arith, h group)
   born_births k group (Some (Idle t)) ls h = omega (arith, h group)
+  born_births k group (Some (Resched t)) ls h = omega (arith, h group)
   born_births k group (Some (Die t)) ls h = omega (arith, h group)
   born_births k group (Some Walk) ls h = omega (arith, h group)
   born_births k group (Some Stop) ls h = omega (arith, h group)

@@ -8,7 +8,7 @@ use Rattle.lp_stack.specs.declared.number.TaskId.{TaskId}
 use Rattle.lp_stack.specs.declared.view.Class.{Class}
 use Rattle.lp_model.specs.Rules.{Rules, IsLawful}
 use Rattle.lp_models.specs.declared.name.ModelName.{ModelName}
-use Rattle.lp_models.specs.declared.name.ModelName.TheVariants.{Hybrid, LeaveKernel, AllAtOnce, Immediate, ProcessGroup}
+use Rattle.lp_models.specs.declared.name.ModelName.TheVariants.{Hybrid}
 use Rattle.lp_definitions.specs.declared.reply.Reply.{Reply}
 use Rattle.lp_definitions.specs.Leg.{Leg}
 use Rattle.lp_definitions.specs.Run.{AreInRange, first_leg, replies}
@@ -20,7 +20,7 @@ use Rattle.lp_laws.proofs.LegByLeg.{IsLeg, legs_of}
 use Rattle.lp_compare.specs.declared.comparison.Comparison.{Comparison}
 use Rattle.lp_compare.specs.declared.comparison.Row.{Row}
 use Rattle.lp_compare.specs.declared.first_end.FirstEnd.{FirstEnd}
-use Rattle.lp_compare.specs.Named.{rules_named}
+use Rattle.lp_models.specs.Names.{models, rules_named}
 use Rattle.lp_compare.specs.Comparison.{comparison, first_end, row_of}
 use Rattle.lp_compare.specs.inside.FirstEnds.{FewBirths, kept_end, row_with}
 use Rattle.lp_compare.proofs.Births.{few_births}
@@ -58,31 +58,22 @@ opened_kept : (o : Option LegEnd) → option_map (λ (end : FirstEnd). end.opene
 opened_kept None = refl
 opened_kept (Some end) = refl
 
-row_is : (model : ModelName) (rules : Rules) (trace : TraceValue) (row : Row) (kept : Option FirstEnd) → row ≡ row_with model kept → kept ≡ option_map kept_end (first_end rules trace) → row ≡ row_of model (first_end rules trace)
+pub row_is : (model : ModelName) (rules : Rules) (trace : TraceValue) (row : Row) (kept : Option FirstEnd) → row ≡ row_with model kept → kept ≡ option_map kept_end (first_end rules trace) → row ≡ row_of model (first_end rules trace)
 row_is model rules trace row kept is e = is ∙ (ap (row_with model) e ∙ row_kept model (first_end rules trace))
 
 abbrev with_parts : Option ℕ → List Row → Comparison
 with_parts leg rows = record { leg = leg; rows = rows }
 
--- an answer put together from the rows of the five models
-pub compared : (trace : TraceValue) (leg : Option ℕ) (rows : List Row) (a b c d e : Row) (k l m n o : Option FirstEnd)
-    → leg ≡ option_map (λ (end : FirstEnd). end.opened) k → rows ≡ a ∷ b ∷ c ∷ d ∷ e ∷ []
-    → a ≡ row_with Hybrid k → k ≡ option_map kept_end (first_end (rules_named Hybrid) trace)
-    → b ≡ row_with LeaveKernel l → l ≡ option_map kept_end (first_end (rules_named LeaveKernel) trace)
-    → c ≡ row_with AllAtOnce m → m ≡ option_map kept_end (first_end (rules_named AllAtOnce) trace)
-    → d ≡ row_with Immediate n → n ≡ option_map kept_end (first_end (rules_named Immediate) trace)
-    → e ≡ row_with ProcessGroup o → o ≡ option_map kept_end (first_end (rules_named ProcessGroup) trace)
+-- an answer put together from the end under `hybrid` and the rows of all models
+pub compared : (trace : TraceValue) (leg : Option ℕ) (rows : List Row) (all : List ModelName) (hybrid : Option FirstEnd)
+    → leg ≡ option_map (λ (end : FirstEnd). end.opened) hybrid → hybrid ≡ option_map kept_end (first_end (rules_named Hybrid) trace)
+    → all ≡ models → rows ≡ map (λ model. row_of model (first_end (rules_named model) trace)) all
     → with_parts leg rows ≡ comparison trace
 unfolding comparison
-compared trace leg rows a b c d e k l m n o leg_is rows_are a_is k_is b_is l_is c_is m_is d_is n_is e_is o_is =
+compared trace leg rows all hybrid leg_is hybrid_is all_is rows_are =
     ap₂ with_parts
-    (leg_is ∙ (ap (option_map (λ (end : FirstEnd). end.opened)) k_is ∙ opened_kept (first_end (rules_named Hybrid) trace)))
-    (rows_are
-    ∙ (ap₂ (λ x xs. x ∷ xs) (row_is Hybrid (rules_named Hybrid) trace a k a_is k_is)
-    (ap₂ (λ x xs. x ∷ xs) (row_is LeaveKernel (rules_named LeaveKernel) trace b l b_is l_is)
-    (ap₂ (λ x xs. x ∷ xs) (row_is AllAtOnce (rules_named AllAtOnce) trace c m c_is m_is)
-    (ap₂ (λ x xs. x ∷ xs) (row_is Immediate (rules_named Immediate) trace d n d_is n_is)
-    (ap (λ x. x ∷ []) (row_is ProcessGroup (rules_named ProcessGroup) trace e o e_is o_is)))))))
+    (leg_is ∙ (ap (option_map (λ (end : FirstEnd). end.opened)) hybrid_is ∙ opened_kept (first_end (rules_named Hybrid) trace)))
+    (rows_are ∙ ap (map (λ (model : ModelName). row_of model (first_end (rules_named model) trace))) all_is)
 
 -- ---- A list of at most one
 

@@ -3,9 +3,9 @@ use Rattle.std.proofs.Common.{true, not, ◌&&◌, Bool, false, List, [], ◌∷
 use Rattle.std.specs.List.{list_any}
 use Rattle.lp_stack.specs.declared.frame.Frame.{Frame}
 use Rattle.lp_stack.specs.TaskView.{TaskView}
-use Rattle.lp_patch.specs.Patches.{Goal, is_stale}
+use Rattle.lp_patch.specs.Patches.{Aim, is_stale}
 use Rattle.lp_model.specs.declared.check.CheckKind.{CheckKind}
-use Rattle.lp_model.specs.declared.check.CheckKind.TheVariants.{KernelExit, IdlePoint, Walk, Stop}
+use Rattle.lp_model.specs.declared.check.CheckKind.TheVariants.{KernelExit, IdlePoint, Resched, Walk, Stop}
 use Rattle.lp_model.specs.Row.{admits_of, rules_of}
 use Rattle.lp_models.specs.Models.{hybrid, leave_kernel, immediate}
 use Rattle.lp_models.specs.inside.ModelLaws.{admits_all}
@@ -16,9 +16,10 @@ no_frames : (test : Frame → Bool) (frames : List Frame) → IsTrue (true && no
 no_frames test [] empty = refl
 no_frames test (frame ∷ above) empty = absurd (cc)
 
-hybrid_admits : (kind : CheckKind) (view : TaskView) (aim : Goal) → IsTrue (admits_of leave_kernel kind view aim) → IsTrue (admits_of hybrid kind view aim)
+hybrid_admits : (kind : CheckKind) (view : TaskView) (aim : Aim) → IsTrue (admits_of leave_kernel kind view aim) → IsTrue (admits_of hybrid kind view aim)
 hybrid_admits KernelExit view aim e = no_frames (is_stale aim) view.frames e
 hybrid_admits IdlePoint view aim e = no_frames (is_stale aim) view.frames e
+hybrid_admits Resched view aim e = absurd (cc)
 hybrid_admits Walk view aim e = absurd (cc)
 hybrid_admits Stop view aim e = absurd (cc)
 

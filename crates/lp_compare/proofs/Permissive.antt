@@ -9,12 +9,12 @@ use Rattle.lp_stack.specs.declared.number.TaskId.{TaskId}
 use Rattle.lp_stack.specs.declared.view.Class.{Class}
 use Rattle.lp_model.specs.Rules.{Rules, IsLawful}
 use Rattle.lp_definitions.specs.declared.event.Event.{Event}
-use Rattle.lp_definitions.specs.declared.event.Event.TheVariants.{Call, Ret, Sleep, Wake, Enter, Exit, Idle, Fork, Die, Walk, Stop, Enable, Disable, Reverse}
+use Rattle.lp_definitions.specs.declared.event.Event.TheVariants.{Call, Ret, Sleep, Wake, Enter, Exit, Idle, Resched, Fork, Die, Walk, Stop, Enable, Disable, Reverse}
 use Rattle.lp_definitions.specs.declared.refusal.Refusal.TheVariants.{InTransition, NotInTransition, AlreadyThere}
 use Rattle.lp_definitions.specs.Events.{is_control}
 use Rattle.lp_definitions.specs.Tasks.{Fate, Unused, Live, Dead, Life, Stood, Grouping, map_live, fits, first_of, tests, outlines}
-use Rattle.lp_definitions.specs.Leg.{Leg, State, Standing, begin, tasks_after}
-use Rattle.lp_definitions.specs.Schedule.{Schedule, complete, first_check, level, level_by, standing, has_come}
+use Rattle.lp_definitions.specs.Leg.{Leg, State, LegTask, begin, tasks_after}
+use Rattle.lp_definitions.specs.Schedule.{Schedule, complete, first_check, level, level_by, leg_task, has_come}
 use Rattle.lp_definitions.specs.Order.{IsAtLeastAsPermissive}
 use Rattle.lp_definitions.specs.Sound.{IsSound}
 use Rattle.lp_definitions.specs.Run.{Run, AreInRange, and_then, at_boot, booted, control_tests, first_leg, first_mode, is_complete_now, new_target, next_leg, opened, opens, refused_by, shown}
@@ -36,7 +36,7 @@ same_some j k o e h = cc
 
 module _ (model : Rules) where
   -- the first leg of these events, to its end
-  abbrev first_opened : Leg → List Event → Option Leg
+  abbrev pub first_opened : Leg → List Event → Option Leg
   first_opened leg [] = None
   first_opened leg (event ∷ events) =
       if opens model leg event then Some (to_end model (opened model leg event) events) else first_opened (and_then leg event) events
@@ -68,7 +68,7 @@ module _ (model : Rules) where
       ap (λ (l : Leg). slice_get (drop 1 (legs model l events)) 0) (next_is leg event false e) ∙ h refl
 
   -- the first leg that the events open is this one
-  first_is : (leg : Leg) (events : List Event) → slice_get (opened_legs model leg events) 0 ≡ first_opened leg events
+  pub first_is : (leg : Leg) (events : List Event) → slice_get (opened_legs model leg events) 0 ≡ first_opened leg events
   unfolding legs
   first_is leg [] = refl
   first_is leg (event ∷ events) = first_by leg event events (opens model leg event) refl (λ e. first_is (and_then leg event) events)
@@ -87,7 +87,7 @@ module _ (model : Rules) where
   unfolding to_end
   end_last leg = refl
 
-  end_number : (leg : Leg) (events : List Event) → (to_end model leg events).number ≡ leg.number
+  pub end_number : (leg : Leg) (events : List Event) → (to_end model leg events).number ≡ leg.number
   end_number leg [] = ap (λ (l : Leg). l.number) (end_last leg)
   end_number leg (event ∷ events) =
       ⊎_elim
@@ -127,10 +127,10 @@ module _ (model : Rules) where
 -- ---- Before the first leg nothing is in transition
 
 -- each live task is on the target
-abbrev AtRest : State → Type 0
-AtRest s = (t : ℕ) (x : Standing) → s.tasks t ≡ Live x → x.level ≡ s.target
+abbrev pub AtRest : State → Type 0
+AtRest s = (t : ℕ) (x : LegTask) → s.tasks t ≡ Live x → x.level ≡ s.target
 
-begun : (f : Fate Standing) (life : Life) → map_live begin f ≡ Live life → (x : Standing) × (f ≡ Live x) × (begin x ≡ life)
+begun : (f : Fate LegTask) (life : Life) → map_live begin f ≡ Live life → (x : LegTask) × (f ≡ Live x) × (begin x ≡ life)
 begun Unused life e = absurd (cc)
 begun (Live x) life e = let same : begin x ≡ life = cc in (x, refl, same)
 begun Dead life e = absurd (cc)
@@ -150,7 +150,7 @@ module _ (model : Rules) (lawful : IsLawful model) (leg : Leg) (sound : IsSound 
   complete_at : (schedule : Schedule) (k : ℕ) → IsTrue (complete model leg schedule k)
   complete_at schedule k = complete_later model leg lawful sound schedule 0 k (omega arith) (complete_first schedule)
 
-  complete_now : is_complete_now model leg ≡ true
+  pub complete_now : is_complete_now model leg ≡ true
   unfolding is_complete_now
   complete_now = complete_at (first_check model leg) (length leg.events)
 
@@ -167,12 +167,12 @@ module _ (model : Rules) (lawful : IsLawful model) (leg : Leg) (sound : IsSound 
 
 -- ---- The start
 
-boot_level : (model : Rules) (boots : List (TaskId × Class)) (t : ℕ) (x : Standing) → booted model boots t ≡ Live x → x.level ≡ 0
+pub boot_level : (model : Rules) (boots : List (TaskId × Class)) (t : ℕ) (x : LegTask) → booted model boots t ≡ Live x → x.level ≡ 0
 boot_level model [] t x e = absurd (cc)
 boot_level model (boot ∷ boots) t x e = by_number (nat_eq t boot.0.0) e (boot_level model boots t x)
   where
     by_number : (c : Bool) → (if c then Live (at_boot model t boot.1) else booted model boots t) ≡ Live x → (booted model boots t ≡ Live x → x.level ≡ 0) → x.level ≡ 0
-    by_number true h rest = let same : at_boot model t boot.1 ≡ x = cc in sym (ap (λ (s : Standing). s.level) same)
+    by_number true h rest = let same : at_boot model t boot.1 ≡ x = cc in sym (ap (λ (s : LegTask). s.level) same)
     by_number false h rest = rest h
 
 -- the event at which a leg completed
@@ -265,6 +265,7 @@ module _ (a b : Rules) (lawful_a : IsLawful a) (lawful_b : IsLawful b) (more : I
   settles leg (Enter t) h n c = absurd (cc)
   settles leg (Exit t) h n c = absurd (cc)
   settles leg (Idle t) h n c = absurd (cc)
+  settles leg (Resched t) h n c = absurd (cc)
   settles leg (Fork p q how) h n c = absurd (cc)
   settles leg (Die t) h n c = absurd (cc)
   settles leg Walk h n c = absurd (cc)
@@ -316,9 +317,9 @@ module _ (a b : Rules) (lawful_a : IsLawful a) (lawful_b : IsLawful b) (more : I
     shown_same : (t : ℕ) → shown a leg t ≡ shown b leg t
     unfolding shown
     shown_same t =
-        ap₂ (λ (grouping : Grouping) (schedule : Schedule). map_live (standing leg schedule (length leg.events)) (tasks_after grouping leg (length leg.events) t)) groups_same schedules_same
+        ap₂ (λ (grouping : Grouping) (schedule : Schedule). map_live (leg_task leg schedule (length leg.events)) (tasks_after grouping leg (length leg.events) t)) groups_same schedules_same
 
-    abbrev opened_with : (ℕ → Fate Standing) → Leg
+    abbrev opened_with : (ℕ → Fate LegTask) → Leg
     opened_with tasks =
         record {
           opening = record {
@@ -366,11 +367,11 @@ module _ (a b : Rules) (lawful_a : IsLawful a) (lawful_b : IsLawful b) (more : I
   booted_same : (boots : List (TaskId × Class)) (t : ℕ) → booted a boots t ≡ booted b boots t
   booted_same [] t = refl
   booted_same (boot ∷ boots) t =
-      ap₂ (λ (group : ℕ) (rest : Fate Standing). if nat_eq t boot.0.0 then Live (record { class = boot.1; mode = first_mode boot.1; group = group; level = 0; frames = [] }) else rest) (more.first_group t) (booted_same boots t)
+      ap₂ (λ (group : ℕ) (rest : Fate LegTask). if nat_eq t boot.0.0 then Live (record { class = boot.1; mode = first_mode boot.1; group = group; level = 0; frames = [] }) else rest) (more.first_group t) (booted_same boots t)
 
   start_same : (run : Run) → first_leg a run ≡ first_leg b run
   start_same run =
-      ap (λ (tasks : ℕ → Fate Standing). record { opening = record { number = 0; bounds = run.bounds; from = 0; aim = record { patches = run.patches; target = 0 }; tasks = tasks }; events = [] }) (fun_ext (booted_same run.boots))
+      ap (λ (tasks : ℕ → Fate LegTask). record { opening = record { number = 0; bounds = run.bounds; from = 0; aim = record { patches = run.patches; target = 0 }; tasks = tasks }; events = [] }) (fun_ext (booted_same run.boots))
 
   -- where the second model completes the first leg of a run, the first does, at that event or before
   pub completes_earlier : (run : Run) → AreInRange run.bounds run.boots → (events : List Event) (n : ℕ)

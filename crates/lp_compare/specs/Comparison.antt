@@ -1,9 +1,12 @@
 -- What the first transition of a trace comes to under each model.
 use Rattle.std.specs.Prelude.{ℕ, Bool, true, false, max, List, [], ◌∷◌, map, length, Option, Some, None, slice_get, count_by}
+use Rattle.std.specs.List.{position_from}
 use Rattle.std.specs.Option.{option_map}
 use Rattle.lp_model.specs.Rules.{Rules}
 use Rattle.lp_models.specs.declared.name.ModelName.{ModelName}
 use Rattle.lp_models.specs.declared.name.ModelName.TheVariants.{Hybrid}
+use Rattle.lp_definitions.specs.declared.event.Event.{Event}
+use Rattle.lp_definitions.specs.declared.event.Event.TheVariants.{Enable}
 use Rattle.lp_definitions.specs.Run.{first_leg}
 use Rattle.lp_definitions.specs.declared.cert.Cert.{Cert}
 use Rattle.lp_definitions.specs.Ends.{LegEnd}
@@ -14,7 +17,7 @@ use Rattle.lp_definitions.specs.Outcome.{leg_ends}
 use Rattle.lp_replay.specs.Outcome.{run_of}
 use Rattle.lp_compare.specs.declared.comparison.Comparison.{Comparison}
 use Rattle.lp_compare.specs.declared.comparison.Row.{Row}
-use Rattle.lp_compare.specs.Named.{models, rules_named}
+use Rattle.lp_models.specs.Names.{models, rules_named}
 
 -- how the first leg ended that a control event of a trace opened, if one did
 abbrev pub first_end : Rules → TraceValue → Option LegEnd
@@ -52,6 +55,15 @@ row_of model (Some end) =
 -- the number of the event that opened the leg
 abbrev pub opening : Rules → TraceValue → Option ℕ
 opening model trace = option_map (λ end. end.opened) (first_end model trace)
+
+-- the number of the first `enable`. It is the event that opens a trace's first leg, under every model: before it all tasks are on
+-- level 0, which is the target, so no `disable` or `reverse` is accepted
+abbrev pub is_enable : Event → Bool
+is_enable Enable = true
+is_enable _ = false
+
+abbrev pub first_enable : TraceValue → Option ℕ
+first_enable trace = position_from is_enable 1 trace.events
 
 -- what a trace's first leg came to under each model
 unfoldable pub comparison : TraceValue → Comparison

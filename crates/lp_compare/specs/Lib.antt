@@ -1,4 +1,3 @@
-pub mod Named
 pub mod Comparison
 pub mod Permissive
 pub mod Text

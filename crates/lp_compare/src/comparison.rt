@@ -10,7 +10,7 @@ pub struct Comparison {
     /// The number of the event that opened it; None where none opened one. It is the same under each
     /// model, since before it nothing is in transition.
     pub leg: Option<u64>,
-    /// A row for each model: `hybrid`, `leave-kernel`, `all-at-once`, `immediate`, `process-group`.
+    /// A row for each model, in the order of `ModelName::all`.
     pub rows: RowList,
 }
 

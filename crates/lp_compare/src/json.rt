@@ -8,7 +8,7 @@ use serde_json::{Value, json};
 use std::alloc::{AllocError, Global};
 
 impl Comparison {
-    /// The JSON text, compact, with a line end behind it. AllocError where an allocation failed.
+    /// The JSON text, compact, with a line end after it. AllocError where an allocation failed.
     pub fn json(&self, alloc: Global) -> Result<String, AllocError>
         ensures { IfOk result (λ written. string_bytes written ≡ json self.now) }
     {

@@ -1,5 +1,8 @@
 //! A trace under each model: when its first transition completes, who waits, and how far births
 //! carry the wait.
+//!
+//! Costs: a replay under each model of the events up to the completion or the end of the first leg, one after the
+//! other; neither replies nor stays are kept.
 #![tactic(auto)]
 
 mod compares;

@@ -1,0 +1,2 @@
+pub mod Quantifiers
+pub mod Printed

@@ -2,14 +2,19 @@
 -- the model allows; no legal schedule from that leg's opening moves any group, or completes the leg, earlier; each waiting
 -- group has a certificate that the checker accepts, refusing every check so far; and under a whole-call model each stay in
 -- the patched set runs one version.
-use Rattle.std.specs.Prelude.{◌≡◌, ℕ, zero, suc, pred, ◌+◌, ◌≤◌, List, [], map, length, take, drop, All, Contains, Some, None, IsTrue, IsFalse}
+use Rattle.std.specs.Prelude.{◌≡◌, ℕ, zero, suc, pred, ◌+◌, ◌≤◌, List, [], map, length, take, drop, All, Contains, Some, None, IsTrue, IsFalse, slice_get}
 use Rattle.std.specs.List.{AllZip, range_with_len}
+use Rattle.std.specs.Option.{option_map}
+use Rattle.lp_symbols.specs.declared.sym_id.SymId.{SymId}
+use Rattle.lp_stack.specs.declared.number.TaskId.{TaskId}
 use Rattle.lp_model.specs.Rules.{Rules}
+use Rattle.lp_definitions.specs.declared.event.Event.TheVariants.{Call}
 use Rattle.lp_definitions.specs.declared.reply.What.{What}
-use Rattle.lp_definitions.specs.declared.reply.What.TheVariants.{Switched}
+use Rattle.lp_definitions.specs.declared.reply.What.TheVariants.{Ran, Switched}
 use Rattle.lp_definitions.specs.declared.reply.Reply.{Reply}
-use Rattle.lp_definitions.specs.Leg.{Leg}
-use Rattle.lp_definitions.specs.Schedule.{Schedule, waits, complete, IsLegal, IsFirstCheck, CompletesAt}
+use Rattle.lp_definitions.specs.Tasks.{Life, Live, Made}
+use Rattle.lp_definitions.specs.Leg.{Leg, accepted, after}
+use Rattle.lp_definitions.specs.Schedule.{Schedule, frame_of, waits, complete, IsLegal, IsFirstCheck, CompletesAt}
 use Rattle.lp_definitions.specs.Chain.{Chain, IsRefusedBetween}
 use Rattle.lp_definitions.specs.Run.{Run, AreInRange, first_leg, switched_at}
 use Rattle.lp_definitions.specs.Stays.{moments, stays, is_mixed}
@@ -18,7 +23,7 @@ use Rattle.lp_definitions.specs.declared.cert.Claim.{Claim}
 use Rattle.lp_definitions.specs.declared.cert.Claim.TheVariants.{Waiting, Floor}
 use Rattle.lp_definitions.specs.Ends.{LegEnd}
 use Rattle.lp_definitions.specs.Certificates.{opened_legs}
-use Rattle.lp_definitions.specs.Verdict.{verdict_on}
+use Rattle.lp_definitions.specs.Judgement.{cert_fault}
 use Rattle.lp_definitions.specs.Outcome.{Outcome, IsOutcome}
 
 -- the groups that switched, as a reply names them
@@ -38,6 +43,12 @@ module _ (model : Rules) (leg : Leg) (first : Schedule) where
   SwitchAtFirstChecks replies =
       map (λ reply. switched_groups reply.what) (replies_in leg replies)
       ≡ map (switched_at leg first) (range_with_len 0 (suc (length leg.events)))
+
+  -- the version that was answered to an accepted call is the level of the frame that the call pushes
+  abbrev pub CallsRunTheirFrames : List Reply → Type 0
+  CallsRunTheirFrames replies =
+      (k : ℕ) (t : TaskId) (f : SymId) (x : Life) → accepted model leg k ≡ Some (Call t f) → after model leg k t.0 ≡ Live x →
+      option_map (λ reply. reply.what) (slice_get (replies_in leg replies) (suc k)) ≡ Some (Ran (frame_of leg first x (Made f k)).level)
 
   -- no legal schedule switches any group, or completes the leg, earlier: who waits waits under each of them, and where one of
   -- them has completed the leg, the answer says that it was complete by then
@@ -63,7 +74,7 @@ module _ (model : Rules) (leg : Leg) (first : Schedule) where
     pub waiting : (group : ℕ) → IsTrue (waits model leg first (length leg.events) group) → HasCert end Waiting (length leg.events) group
     -- a leg that completed after its opening has one that it wasn't complete just before
     pub floor : (k : ℕ) → end.completed ≡ Some (leg.number + suc k) → (group : ℕ) × HasCert end Floor k group
-    pub accepted : All (λ made. verdict_on model leg made.claim made ≡ None) end.certs
+    pub accepted : All (λ made. cert_fault model leg made.claim made ≡ None) end.certs
     pub refused :
         (k group : ℕ) → IsTrue (waits model leg first k group) → IsRefusedBetween model leg first zero k group
     -- and it waited at the opening, or a chain of births leads to it from a group that did
@@ -72,12 +83,15 @@ module _ (model : Rules) (leg : Leg) (first : Schedule) where
 
 -- ---- The run
 
--- a leg, and the end that was answered for it
+-- a leg, and the end that was answered for it, which names the leg and where it took the tasks
 pub record HeadlineOfLeg (model : Rules) (replies : List Reply) (leg : Leg) (end : LegEnd) : Type 0 where
+  pub opened : end.opened ≡ leg.number
+  pub target : end.target.0 ≡ leg.target
   -- a leg has exactly one
   pub first : Schedule
   pub is_first : IsFirstCheck model leg first
   pub first_checks : SwitchAtFirstChecks model leg first replies
+  pub calls : CallsRunTheirFrames model leg first replies
   pub none_earlier : NoneIsEarlier model leg first end
   pub certified : AreCertified model leg first end
 

@@ -5,18 +5,18 @@ use Rattle.std.specs.Prelude.{ℕ, zero, suc, Bool, true, false, not, ◌&&◌, 
 use Rattle.lp_stack.specs.declared.view.Mode.{Mode}
 use Rattle.lp_stack.specs.declared.view.Class.{Class}
 use Rattle.lp_model.specs.declared.check.CheckKind.{CheckKind}
-use Rattle.lp_model.specs.declared.check.CheckKind.TheVariants.{KernelExit, IdlePoint, Walk, Stop}
+use Rattle.lp_model.specs.declared.check.CheckKind.TheVariants.{KernelExit, IdlePoint, Resched, Walk, Stop}
 use Rattle.lp_stack.specs.declared.frame.Frame.{Frame}
-use Rattle.lp_patch.specs.Patches.{Goal}
+use Rattle.lp_patch.specs.Patches.{Aim}
 use Rattle.lp_model.specs.Rules.{Rules}
 use Rattle.lp_definitions.specs.declared.event.Event.{Event}
-use Rattle.lp_definitions.specs.declared.event.Event.TheVariants.{Exit, Idle, Walk, Stop}
+use Rattle.lp_definitions.specs.declared.event.Event.TheVariants.{Exit, Idle, Resched, Walk, Stop}
 use Rattle.lp_definitions.specs.declared.refusal.Refusal.{Refusal}
 use Rattle.lp_definitions.specs.Tasks.{Stood, Kept, Life, Fate, Tasks, Outlines, outlines, on_live, map_live, Bounds, refusal, Grouping, effect}
 
 -- a live task as it stands, with its level: as many of the stacked patches apply to it, so level 0 is unpatched
 -- (Linux livepatch: its patch state). The frames stand in the order of their calls, the one made first in front
-pub record Standing : Type 0 where
+pub record LegTask : Type 0 where
   pub class : Class
   pub mode : Mode
   pub group : ℕ
@@ -29,9 +29,9 @@ pub record State : Type 0 where
   pub number : ℕ
   pub bounds : Bounds
   pub from : ℕ
-  pub aim : Goal
+  pub aim : Aim
   pub open aim use {target, patches}
-  pub tasks : ℕ → Fate Standing
+  pub tasks : ℕ → Fate LegTask
 
 -- the state that a control event left, which is the opening, and the events after it
 pub record Leg : Type 0 where
@@ -42,7 +42,7 @@ pub record Leg : Type 0 where
 -- ---- The tasks
 
 -- a task of the opening
-abbrev pub begin : Standing → Life
+abbrev pub begin : LegTask → Life
 begin task =
     record {
       class = task.class;
@@ -108,12 +108,13 @@ when true kind = Some kind
 when false kind = None
 
 -- the kind of check of the group that an accepted event is, whichever kinds a model uses. The event's own effect comes
--- first: the tasks are those after it. A return to user space and an idle task's point check the group of a lone task
--- (Linux livepatch: kernel exit switching and idle tasks), a walk and a stop check every group
--- (Linux livepatch: stack checking; Ksplice: stop_machine)
+-- first: the tasks are those after it. A return to user space, an idle task's point and a task's rescheduling point check the
+-- group of a lone task (Linux livepatch: kernel exit switching, idle tasks, `__klp_sched_try_switch`), a walk and a stop check
+-- every group (Linux livepatch: stack checking; Ksplice: stop_machine)
 abbrev pub check_by : Bounds → Outlines → Option Event → ℕ → Option CheckKind
 check_by bounds now (Some (Exit t)) group = when (is_alone bounds now group t.0) KernelExit
 check_by bounds now (Some (Idle t)) group = when (is_alone bounds now group t.0) IdlePoint
+check_by bounds now (Some (Resched t)) group = when (is_alone bounds now group t.0) Resched
 check_by bounds now (Some Walk) group = when (has_member bounds now group) Walk
 check_by bounds now (Some Stop) group = when (has_member bounds now group) Stop
 check_by bounds now (Some _) group = None

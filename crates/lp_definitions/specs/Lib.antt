@@ -1,5 +1,5 @@
 pub mod Events
-pub mod Plain
+pub mod TaskEvents
 pub mod Tasks
 pub mod Leg
 pub mod Schedule
@@ -10,8 +10,9 @@ pub mod Run
 pub mod Stays
 pub mod Certificates
 pub mod Faults
-pub mod Verdict
+pub mod Judgement
 pub mod Holds
 pub mod Ends
 pub mod Outcome
 pub mod Headline
+pub mod Printed

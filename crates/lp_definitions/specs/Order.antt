@@ -2,7 +2,7 @@
 use Rattle.std.specs.Prelude.{◌≡◌, ℕ, IsTrue}
 use Rattle.lp_model.specs.declared.check.CheckKind.{CheckKind}
 use Rattle.lp_model.specs.declared.check.ForkKind.{ForkKind}
-use Rattle.lp_patch.specs.Patches.{Goal}
+use Rattle.lp_patch.specs.Patches.{Aim}
 use Rattle.lp_stack.specs.TaskView.{TaskView}
 use Rattle.lp_model.specs.Rules.{Rules}
 
@@ -11,5 +11,5 @@ pub record IsAtLeastAsPermissive (a b : Rules) : Type 0 where
   pub first_group : (task : ℕ) → a.first_group task ≡ b.first_group task
   pub child_group : (group task : ℕ) (how : ForkKind) → a.child_group group task how ≡ b.child_group group task how
   pub admits :
-      (kind : CheckKind) (view : TaskView) (aim : Goal) →
+      (kind : CheckKind) (view : TaskView) (aim : Aim) →
       IsTrue (b.admits kind view aim) → IsTrue (a.admits kind view aim)

@@ -16,7 +16,7 @@ use Rattle.lp_definitions.specs.declared.reply.What.{What}
 use Rattle.lp_definitions.specs.declared.reply.What.TheVariants.{Ran, Done, Switched, Refused}
 use Rattle.lp_definitions.specs.declared.reply.Reply.{Reply}
 use Rattle.lp_definitions.specs.Tasks.{Fate, Unused, Live, on_live, fits, first_of, outlines, Bounds, tests}
-use Rattle.lp_definitions.specs.Leg.{Standing, State, Leg, after}
+use Rattle.lp_definitions.specs.Leg.{LegTask, State, Leg, after}
 use Rattle.lp_definitions.specs.Schedule.{Schedule, shown_after, complete, first_check}
 use Rattle.lp_stack.specs.declared.number.TaskId.{TaskId}
 use Rattle.lp_definitions.specs.Events.{is_control}
@@ -29,12 +29,12 @@ first_mode Normal = User
 first_mode Idle = Kernel
 
 -- a task that is there from the start
-abbrev pub at_boot : Rules → ℕ → Class → Standing
+abbrev pub at_boot : Rules → ℕ → Class → LegTask
 at_boot model t class =
     record { class = class; mode = first_mode class; group = model.first_group t; level = 0; frames = [] }
 
 -- the tasks that are there from the start, each by its number and class
-abbrev pub booted : Rules → List (TaskId × Class) → ℕ → Fate Standing
+abbrev pub booted : Rules → List (TaskId × Class) → ℕ → Fate LegTask
 booted model [] t = Unused
 booted model (boot ∷ boots) t = if nat_eq t boot.0.0 then Live (at_boot model t boot.1) else booted model boots t
 
@@ -109,7 +109,7 @@ module _ (model : Rules) where
       first_of (tests leg.bounds now event ++ control_tests leg.opening (is_complete_now leg) event)
 
   -- the present tasks with their levels
-  unfoldable pub shown : Leg → ℕ → Fate Standing
+  unfoldable pub shown : Leg → ℕ → Fate LegTask
   shown leg t = shown_after model leg (first_check model leg) (length leg.events) t
 
   -- the leg that an accepted control event opens

@@ -5,7 +5,7 @@ use Rattle.lp_stack.specs.declared.frame.Frame.{Frame}
 use Rattle.lp_stack.specs.TaskView.{TaskView}
 use Rattle.lp_model.specs.Rules.{Rules}
 use Rattle.lp_definitions.specs.Tasks.{Origin, Stood, Forked, Pushed, Kept, Made, Life, Fate, Tasks, map_live}
-use Rattle.lp_definitions.specs.Leg.{Leg, Standing, after, check, each_live, some_live}
+use Rattle.lp_definitions.specs.Leg.{Leg, LegTask, after, check, each_live, some_live}
 
 -- the moment at which each group switches to the target, if it does. Moment k is event k of the leg. Tasks switch group by group
 -- (Linux livepatch: a group of one; Ksplice: all tasks in one group)
@@ -40,8 +40,8 @@ abbrev pub view : Leg → Schedule → ℕ → Life → TaskView
 view leg schedule t x = record { task = t; class = x.class; mode = x.mode; frames = map (frame_of leg schedule x) x.calls }
 
 -- a task as it stands after the first k events
-abbrev pub standing : Leg → Schedule → ℕ → Life → Standing
-standing leg schedule k x =
+abbrev pub leg_task : Leg → Schedule → ℕ → Life → LegTask
+leg_task leg schedule k x =
     record {
       class = x.class;
       mode = x.mode;
@@ -52,8 +52,8 @@ standing leg schedule k x =
 
 module _ (model : Rules) (leg : Leg) (schedule : Schedule) where
   -- the tasks after the first k events, with their levels
-  abbrev pub shown_after : ℕ → ℕ → Fate Standing
-  shown_after k t = map_live (standing leg schedule k) (after model leg k t)
+  abbrev pub shown_after : ℕ → ℕ → Fate LegTask
+  shown_after k t = map_live (leg_task leg schedule k) (after model leg k t)
 
   -- after the first k events the group has a live member that is off the target
   -- (Linux livepatch: the task has TIF_PATCH_PENDING)

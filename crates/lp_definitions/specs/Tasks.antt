@@ -8,7 +8,7 @@ use Rattle.lp_stack.specs.declared.view.Class.TheVariants.{Normal, Idle}
 use Rattle.lp_model.specs.declared.check.ForkKind.{ForkKind}
 use Rattle.lp_stack.specs.declared.frame.Frame.{Frame}
 use Rattle.lp_definitions.specs.declared.event.Event.{Event}
-use Rattle.lp_definitions.specs.declared.event.Event.TheVariants.{Call, Ret, Sleep, Wake, Enter, Exit, Idle, Fork, Die, Walk, Stop, Enable, Disable, Reverse}
+use Rattle.lp_definitions.specs.declared.event.Event.TheVariants.{Call, Ret, Sleep, Wake, Enter, Exit, Idle, Resched, Fork, Die, Walk, Stop, Enable, Disable, Reverse}
 use Rattle.lp_definitions.specs.declared.refusal.Refusal.{Refusal}
 use Rattle.lp_definitions.specs.declared.refusal.Refusal.TheVariants.{UnknownTask, UnknownSymbol, TaskRange, TaskUsed, WrongClass, WrongMode, StackFull, StackEmpty, StackNotEmpty}
 use Rattle.lp_symbols.specs.declared.sym_id.SymId.{SymId}
@@ -160,6 +160,7 @@ tests bounds now (Wake t) = unknown_task now t.0 ∷ not_in Asleep now t.0 ∷ [
 tests bounds now (Enter t) = unknown_task now t.0 ∷ not_of Normal now t.0 ∷ not_in User now t.0 ∷ []
 tests bounds now (Exit t) = unknown_task now t.0 ∷ not_of Normal now t.0 ∷ not_in Kernel now t.0 ∷ stack_not_empty now t.0 ∷ []
 tests bounds now (Idle t) = unknown_task now t.0 ∷ not_of Idle now t.0 ∷ not_in Kernel now t.0 ∷ stack_not_empty now t.0 ∷ []
+tests bounds now (Resched t) = unknown_task now t.0 ∷ not_of Normal now t.0 ∷ not_in Kernel now t.0 ∷ []
 tests bounds now (Fork p c how) =
     unknown_task now p.0 ∷ out_of_range bounds c.0 ∷ used now c.0 ∷ not_of Normal now p.0 ∷ not_in Kernel now p.0 ∷ []
 tests bounds now (Die t) = unknown_task now t.0 ∷ not_of Normal now t.0 ∷ not_in Kernel now t.0 ∷ stack_not_empty now t.0 ∷ []
@@ -213,6 +214,7 @@ effect grouping place (Wake t) now = change t.0 (in_mode Kernel) now
 effect grouping place (Enter t) now = change t.0 (in_mode Kernel) now
 effect grouping place (Exit t) now = change t.0 (in_mode User) now
 effect grouping place (Idle t) now = now
+effect grouping place (Resched t) now = now
 effect grouping place (Fork p c how) now =
     λ x. if nat_eq x c.0 then map_live (child grouping place c.0 how) (now p.0) else now x
 effect grouping place (Die t) now = λ x. if nat_eq x t.0 then Dead else now x

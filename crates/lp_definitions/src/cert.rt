@@ -38,7 +38,7 @@ pub struct Cert {
     pub lines: LineList,
 }
 
-/// As `lpt check` reads it behind `lpcert 1`; the last line has no end.
+/// As `lpt check` reads it after `lpcert 1`; the last line has no end.
 impl fmt::Display for Cert {
     fn fmt<W: fmt::Write>(&self, f: &mut fmt::Formatter<W>) -> fmt::Result {
         let claim = self.claim;

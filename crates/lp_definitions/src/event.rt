@@ -1,7 +1,8 @@
 //! What happens to tasks and transitions.
-ghost use Rattle.std.specs.Prelude.{◌≡◌};
+ghost use Rattle.std.specs.Prelude.{◌≡◌, Some};
 ghost use Rattle.lp_definitions.specs.Events.{is_control, is_scan};
-ghost use Rattle.lp_definitions.specs.Plain.{is_plain};
+ghost use Rattle.lp_definitions.specs.Printed.{event_text, event_word};
+ghost use Rattle.lp_definitions.specs.TaskEvents.{is_quiet};
 
 use lp_model::ForkKind;
 use lp_stack::TaskId;
@@ -27,6 +28,9 @@ pub enum Event {
     /// The idle task is at the point in its loop where nothing runs, which checks it
     /// (Linux livepatch's switch of idle tasks).
     Idle(TaskId),
+    /// The task, in the kernel on a CPU, is at a point where it would let another run, which checks it
+    /// with the stack that it has (Linux livepatch from 6.4 on, at `cond_resched`).
+    Resched(TaskId),
     /// The first task forks the second, which starts on the level of the first
     /// (Linux livepatch's `klp_copy_process`).
     Fork(TaskId, TaskId, ForkKind),
@@ -62,8 +66,8 @@ impl Event {
     /// Whether the event is one of a single task at which no model checks it: Call, Ret, Sleep, Wake
     /// or Enter.
     #[inline(always)]
-    pub fn is_plain(&self) -> bool
-        ensures { result ≡ is_plain self.now }
+    pub fn is_quiet(&self) -> bool
+        ensures { result ≡ is_quiet self.now }
     {
         matches!(
             self,
@@ -74,7 +78,9 @@ impl Event {
 
 impl Event {
     /// The word that begins its line in a trace.
-    fn word(&self) -> &'static str {
+    fn word(&self) -> &'static str
+        ensures { result.now ≡ event_word self.now }
+    {
         match self {
             Event::Call(..) => "call",
             Event::Ret(_) => "ret",
@@ -83,6 +89,7 @@ impl Event {
             Event::Enter(_) => "enter",
             Event::Exit(_) => "exit",
             Event::Idle(_) => "idle",
+            Event::Resched(_) => "resched",
             Event::Fork(..) => "fork",
             Event::Die(_) => "die",
             Event::Walk => "walk",
@@ -96,6 +103,8 @@ impl Event {
 
 /// As the trace text writes it, but with a function's number, as an event doesn't know its name.
 impl fmt::Display for Event {
+    ghost output = { λ event. Some (event_text event) };
+
     fn fmt<W: fmt::Write>(&self, f: &mut fmt::Formatter<W>) -> fmt::Result {
         f.write_str(self.word())?;
         match self {
@@ -107,6 +116,7 @@ impl fmt::Display for Event {
             | Event::Enter(task)
             | Event::Exit(task)
             | Event::Idle(task)
+            | Event::Resched(task)
             | Event::Die(task) => write!(f, " {}", task.0),
             Event::Walk | Event::Stop | Event::Enable | Event::Disable | Event::Reverse => Ok(()),
         }

@@ -1,6 +1,7 @@
 //! Why an event is refused.
-ghost use Rattle.std.specs.Prelude.{◌≡◌};
+ghost use Rattle.std.specs.Prelude.{◌≡◌, Some};
 ghost use Rattle.lp_definitions.specs.Events.{refusal_number};
+ghost use Rattle.lp_definitions.specs.Printed.{refusal_text};
 
 use std::fmt;
 
@@ -57,6 +58,8 @@ impl Refusal {
 }
 
 impl fmt::Display for Refusal {
+    ghost output = { λ refusal. Some (refusal_text refusal) };
+
     fn fmt<W: fmt::Write>(&self, f: &mut fmt::Formatter<W>) -> fmt::Result {
         write!(f, "E{}", self.number())
     }

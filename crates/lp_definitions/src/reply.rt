@@ -1,9 +1,10 @@
 //! The answer to an event.
-ghost use Rattle.std.specs.Prelude.{◌≡◌, ◌↔◌, ◌<◌, ◌^◌, [], length, IsTrue, IfOk};
+ghost use Rattle.std.specs.Prelude.{◌≡◌, ◌↔◌, ◌<◌, ◌^◌, [], length, IsTrue, IfOk, Some};
 ghost use Rattle.std.specs.Iterator.Runs.{EveryRun, ItemsMapTo};
 ghost use Rattle.std.specs.Slice.Iter.{iter_rest, iter_steps};
 ghost use Rattle.lp_stack.specs.declared.number.GroupId.{GroupId};
 ghost use Rattle.lp_definitions.specs.Events.{group_numbers};
+ghost use Rattle.lp_definitions.specs.Printed.{groups_text, reply_text, what_text};
 
 use crate::Refusal;
 use lp_stack::{GroupId, Level};
@@ -13,7 +14,7 @@ use std::{fmt, slice};
 
 /// A list of groups. Contracts see the list of their numbers.
 ///
-/// The list stands behind a pointer, so that replies stay small.
+/// The list is hidden by a pointer, so that replies stay small.
 #[derive(Debug, Drop)]
 pub struct GroupList {
     groups: Box<Vec<GroupId>>,
@@ -78,12 +79,15 @@ impl GroupList {
 
 /// The groups, parted by a space.
 impl fmt::Display for GroupList {
+    ghost output = { λ groups. Some (groups_text groups) };
+
     fn fmt<W: fmt::Write>(&self, f: &mut fmt::Formatter<W>) -> fmt::Result {
-        for (place, group) in self.as_slice().iter().enumerate() {
-            if place > 0 {
-                f.write_str(" ")?;
-            }
-            write!(f, "{}", group.0)?;
+        let Some((first, rest)) = self.as_slice().split_first() else {
+            return Ok(());
+        };
+        write!(f, "{}", first.0)?;
+        for group in rest {
+            write!(f, " {}", group.0)?;
         }
         Ok(())
     }
@@ -131,6 +135,8 @@ impl What {
 
 /// As the report of a stack of patches writes it.
 impl fmt::Display for What {
+    ghost output = { λ what. Some (what_text what) };
+
     fn fmt<W: fmt::Write>(&self, f: &mut fmt::Formatter<W>) -> fmt::Result {
         match self {
             What::Ran(level) => write!(f, "ran {}", level.0),
@@ -162,8 +168,10 @@ impl Reply {
     }
 }
 
-/// As the report of a stack of patches writes it, behind the event's number.
+/// As the report of a stack of patches writes it, after the event's number.
 impl fmt::Display for Reply {
+    ghost output = { λ reply. Some (reply_text reply) };
+
     fn fmt<W: fmt::Write>(&self, f: &mut fmt::Formatter<W>) -> fmt::Result {
         let what = &self.what;
         write!(f, "{what}")?;

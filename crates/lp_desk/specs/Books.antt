@@ -21,7 +21,7 @@ pub record IsShown (name : Name) (rules : Rules) (journal : Written) (published 
 abbrev pub first_journal : Name → Written
 first_journal name = record { patches = name.patches; boots = name.boots; entries = [] }
 
--- the event came behind this journal, which had room for it: its answer is the one that the definitions give there, and what was told of it are
+-- the event came after this journal, which had room for it: its answer is the one that the definitions give there, and what was told of it are
 -- the events of the journal and itself
 pub record IsSent (name : Name) (rules : Rules) (before : Written) (event : Event) (given : Reply) (published : List Event) : Type 0 where
   pub named : IsOf name rules before

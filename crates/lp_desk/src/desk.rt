@@ -1,7 +1,7 @@
 //! One lock round a book.
 ghost use Rattle.std.specs.Prelude.{◌≡◌, ◌≢◌, ◌↔◌, ◌<◌, ◌≤◌, ◌∷◌, ◌++◌, [], IfOk, IfErr, IfSome, OnOk, Some, None};
 ghost use Rattle.lp_definitions.specs.declared.event.Event.TheVariants.{Walk};
-ghost use Rattle.lp_log.specs.declared.seat.Cause.TheVariants.{NotYours};
+ghost use Rattle.lp_log.specs.declared.seat.TurnedBy.TheVariants.{NotYours};
 ghost use mathlib.Core.List.{IsPrefix};
 ghost use Rattle.lp_log.specs.Journals.{Written, events_in, next_entry};
 ghost use Rattle.lp_log.specs.Seats.{and_sent, child_seat, owner};
@@ -10,7 +10,7 @@ ghost use Rattle.lp_desk.specs.Books.{IsSent, first_journal};
 use crate::held::Held;
 use crate::{Book, Commanded, Submitted};
 use lp_board::{DeskName, Told};
-use lp_log::{Cause, Control, Seat, Turned};
+use lp_log::{Control, Seat, Turned, TurnedBy};
 use lp_model::Consistency;
 use lp_scan::{Judged, ScanGate, judge};
 use lp_transition::Event;
@@ -18,7 +18,7 @@ use std::alloc::Global;
 use std::sync::{Mutex, Wait};
 use std::thread::Threads;
 
-/// A book behind a lock, with the number of workers of its walks and stops and the gate that they pass.
+/// A book under a lock, with the number of workers of its walks and stops and the gate that they pass.
 pub struct Desk<M: Consistency, N: DeskName, G: ScanGate + Drop, R: Wait + Drop> {
     held: Mutex<Held<M, N, R>>,
     model: M,
@@ -174,7 +174,7 @@ impl<M: Consistency + Sync, N: DeskName, G: ScanGate + Sync + Drop, R: Wait + Dr
         rt: &T,
         alloc: Global,
         event: Event,
-    ) -> Result<Option<Judged<M>>, Cause>
+    ) -> Result<Option<Judged<M>>, TurnedBy>
         ensures walk { IfOk result (λ judged. IfSome judged (λ _. event ≡ Walk)) }
         ensures yours { IfErr result (λ cause. (event ≡ Walk) × (cause ≢ NotYours)) }
     {
@@ -184,7 +184,7 @@ impl<M: Consistency + Sync, N: DeskName, G: ScanGate + Sync + Drop, R: Wait + Dr
         };
         match judge(rt, alloc, self.workers, &self.gate, self.model, batch) {
             Ok(judged) => Ok(Some(judged)),
-            Err(_) => Err(Cause::NoMemory),
+            Err(_) => Err(TurnedBy::NoMemory),
         }
     }
 

@@ -1,4 +1,7 @@
 //! The desk: one lock round a log and its board, to which threads send events from seats and from the control.
+//!
+//! Costs: a call is the log's, a lock and a publication. A walk takes the lock twice, and is judged between while
+//! other threads go on sending; of a model that doesn't use walks it takes no copies.
 #![tactic(auto)]
 
 mod book;

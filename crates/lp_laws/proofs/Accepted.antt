@@ -15,7 +15,7 @@ use Rattle.lp_definitions.specs.Leg.{Leg, has_member, accepted, after, check}
 use Rattle.lp_definitions.specs.Schedule.{view, waits}
 use Rattle.lp_definitions.specs.Sound.{IsSound}
 use Rattle.lp_definitions.specs.Chain.{nobody, IsRefused, IsRefusedBetween, IsBirth, Chain, FromOpening, FromBirth}
-use Rattle.lp_laws.proofs.Plain.{none_first, unfit, Came, Stayed, Born as BornNow, changed_group, came, unused_before}
+use Rattle.lp_laws.proofs.NextTasks.{none_first, unfit, Came, Stayed, Born as BornNow, changed_group, came, unused_before}
 use Rattle.lp_laws.proofs.Waiting.{live_same}
 use Rattle.lp_laws.proofs.Checks.{Member, one_there}
 use Rattle.lp_definitions.specs.declared.cert.Cert.{Cert}
@@ -23,7 +23,7 @@ use Rattle.lp_definitions.specs.declared.cert.Claim.{Claim}
 use Rattle.lp_definitions.specs.declared.line.Line.{Line}
 use Rattle.lp_definitions.specs.declared.line.Line.TheVariants.{Hold, Busy as OnCpu, Born}
 use Rattle.lp_definitions.specs.declared.cert_fault.CertFault.TheVariants.{NoSuchGroup, NotOnStack, NoBlame, Gap, BadBirth, NoLeg}
-use Rattle.lp_definitions.specs.Verdict.{Birth, first_lines, births, Section, last_group, first_bad, same_claim, is_held_by, is_busy, lies_in, moment_of, no_leg, forks_group, is_birth, birth_tests, first_group, sections, has_stray, no_such_group, blame_by, blame_at, is_on_stack, line_test, line_tests, covers, is_covered, gap_test, verdict_on}
+use Rattle.lp_definitions.specs.Judgement.{Birth, first_lines, births, Section, last_group, first_bad, same_claim, is_held_by, is_busy, lies_in, moment_of, no_leg, forks_group, is_birth, birth_tests, first_group, sections, has_stray, no_such_group, blame_by, blame_at, is_on_stack, line_test, line_tests, covers, is_covered, gap_test, cert_fault}
 use Rattle.lp_laws.proofs.Stacks.{rising, Stands, stands-is, same_frame}
 
 -- ---- Tests that fit nowhere
@@ -242,8 +242,8 @@ module _ (model : Rules) (leg : Leg) (lawful : IsLawful model) (sound : IsSound 
     pub chain : Chain model leg nobody cert.group.0 (moment_of model leg cert.upto)
     pub someone : Member (after model leg (moment_of model leg cert.upto)) cert.group.0
 
-  pub told : (claim : Claim) (cert : Cert) → verdict_on model leg claim cert ≡ None → Told cert
-  unfolding verdict_on
+  pub told : (claim : Claim) (cert : Cert) → cert_fault model leg claim cert ≡ None → Told cert
+  unfolding cert_fault
   told claim cert e =
       let last = moment_of model leg cert.upto in
       let rest = births cert.lines in

@@ -9,12 +9,12 @@ use Rattle.lp_laws.proofs.Waiting.{waits-is, complete-is, complete_later}
 use Rattle.lp_laws.proofs.Certified.{certified}
 use Rattle.lp_definitions.specs.declared.cert.Cert.{Cert}
 use Rattle.lp_definitions.specs.declared.cert.Claim.{Claim}
-use Rattle.lp_definitions.specs.Verdict.{moment_of, verdict_on}
+use Rattle.lp_definitions.specs.Judgement.{moment_of, cert_fault}
 use Rattle.lp_definitions.specs.Holds.{Holds}
 use Rattle.lp_laws.specs.CertLaws.{TrustsCertificates}
 use Rattle.lp_laws.proofs.Accepted.{told}
 
-module _ (model : Rules) (lawful : IsLawful model) (leg : Leg) (sound : IsSound leg.opening) (claim : Claim) (cert : Cert) (accepted : verdict_on model leg claim cert ≡ None) where
+module _ (model : Rules) (lawful : IsLawful model) (leg : Leg) (sound : IsSound leg.opening) (claim : Claim) (cert : Cert) (accepted : cert_fault model leg claim cert ≡ None) where
   abbrev last : ℕ
   last = moment_of model leg cert.upto
 

@@ -12,7 +12,7 @@ use Rattle.lp_definitions.specs.Schedule.{Schedule, has_come, level, waits, allo
 use Rattle.lp_definitions.specs.Sound.{IsSound}
 use Rattle.lp_definitions.specs.Chain.{nobody, IsRefused, IsRefusedBetween, IsBirth, Chain, FromOpening, FromBirth}
 use Rattle.lp_laws.proofs.Checks.{accepted-is}
-use Rattle.lp_laws.proofs.Plain.{Forks, forks, opens, numbered, grouped, IsKnown, known_later, made_before, no_member}
+use Rattle.lp_laws.proofs.NextTasks.{Forks, forks, opens, numbered, grouped, IsKnown, known_later, made_before, no_member}
 use Rattle.lp_laws.proofs.Waiting.{level_before, level_still, comes_now, none_at_zero, waits-is, waits-from, allowed-is, view_same, Descends, FromMember, FromParent, descends, live_same, level_waiting, fresh_still}
 use Rattle.lp_definitions.specs.Events.{fork}
 

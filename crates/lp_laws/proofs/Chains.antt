@@ -7,10 +7,10 @@ use Rattle.lp_definitions.specs.Leg.{Leg, accepted, after, check}
 use Rattle.lp_definitions.specs.Schedule.{Schedule, has_come, view, allowed, admits_each, IsLegal, IsFirstCheck}
 use Rattle.lp_definitions.specs.Sound.{IsSound}
 use Rattle.lp_definitions.specs.Chain.{IsRefused, IsRefusedBetween, Chain, FromOpening, FromBirth}
-use Rattle.lp_laws.proofs.Quantifiers.{each_live-not}
+use Rattle.lp_definitions.proofs.Quantifiers.{each_live-not}
 use Rattle.lp_laws.proofs.NoEarlier.{waits_too, allowed_back}
 use Rattle.lp_laws.proofs.Checks.{checked_member, check-is, accepted-is, fork_no_check}
-use Rattle.lp_laws.proofs.Plain.{forks, no_member}
+use Rattle.lp_laws.proofs.NextTasks.{forks, no_member}
 use Rattle.lp_laws.proofs.Waiting.{come_at, Waiter, waits-from, not_gone, Waited, InGroup, InParent, waited}
 use Rattle.lp_definitions.specs.Events.{fork}
 

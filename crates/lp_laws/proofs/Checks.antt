@@ -6,11 +6,11 @@ use Rattle.lp_model.specs.declared.check.CheckKind.TheVariants.{Walk, Stop}
 use Rattle.lp_model.specs.declared.check.ForkKind.{ForkKind}
 use Rattle.lp_model.specs.Rules.{Rules}
 use Rattle.lp_definitions.specs.declared.event.Event.{Event}
-use Rattle.lp_definitions.specs.declared.event.Event.TheVariants.{Exit, Idle, Walk, Stop}
+use Rattle.lp_definitions.specs.declared.event.Event.TheVariants.{Exit, Idle, Resched, Walk, Stop}
 use Rattle.lp_definitions.specs.declared.refusal.Refusal.{Refusal}
 use Rattle.lp_definitions.specs.Tasks.{Life, Fate, Unused, Live, Dead, Tasks, on_live, map_live, outline, outlines, Bounds, refusal}
 use Rattle.lp_definitions.specs.Leg.{Leg, unless_refused, accept, accepted, has_member, is_alone, when, check_by, after, if_used, check}
-use Rattle.lp_laws.proofs.Quantifiers.{some_live-is, some_live-map}
+use Rattle.lp_definitions.proofs.Quantifiers.{some_live-is, some_live-map}
 use Rattle.lp_definitions.specs.Events.{fork}
 
 -- a check has a live member to look at
@@ -45,6 +45,7 @@ module _ (bounds : Bounds) (now : Tasks) where
   pub checked_member : (event : Option Event) (group : ℕ) (kind : CheckKind) → check_by bounds (outlines now) event group ≡ Some kind → Member now group
   checked_member (Some (Exit t)) group kind e = one_alone group t.0 (when_true _ _ _ e)
   checked_member (Some (Idle t)) group kind e = one_alone group t.0 (when_true _ _ _ e)
+  checked_member (Some (Resched t)) group kind e = one_alone group t.0 (when_true _ _ _ e)
   checked_member (Some Walk) group kind e = one_there group (when_true _ _ _ e)
   checked_member (Some Stop) group kind e = one_there group (when_true _ _ _ e)
   checked_member (Some _) group kind e = absurd (cc)

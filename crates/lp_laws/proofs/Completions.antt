@@ -12,9 +12,9 @@ use Rattle.lp_definitions.specs.Schedule.{Schedule, complete, first_check, waits
 use Rattle.lp_definitions.specs.Sound.{IsSound}
 use Rattle.lp_definitions.specs.Run.{and_then, is_complete_now, opened}
 use Rattle.lp_laws.proofs.First.{Agree, agree_back, level_agrees, waits_agrees}
-use Rattle.lp_laws.proofs.Plain.{come_from, from_later}
+use Rattle.lp_laws.proofs.NextTasks.{come_from, from_later}
 use Rattle.lp_laws.proofs.Prefix.{complete_same, waits_same, past_same}
-use Rattle.lp_laws.proofs.Quantifiers.{same_bool}
+use Rattle.lp_definitions.proofs.Quantifiers.{same_bool}
 use Rattle.lp_laws.proofs.Waiting.{complete-is, complete-from}
 use Rattle.lp_definitions.specs.declared.cert.Claim.{Claim}
 use Rattle.lp_definitions.specs.declared.cert.Claim.TheVariants.{Floor}

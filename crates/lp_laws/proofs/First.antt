@@ -7,8 +7,8 @@ use Rattle.lp_model.specs.Rules.{Rules}
 use Rattle.lp_definitions.specs.Tasks.{Origin, Stood, Forked, Pushed, Kept, Made, Life, outlines}
 use Rattle.lp_definitions.specs.Leg.{Leg, accept, after, check_by, if_used, check}
 use Rattle.lp_definitions.specs.Schedule.{Schedule, has_come, level_by, frame_of, view, waits, allowed, IsFirstCheck, first_checks, first_check}
-use Rattle.lp_laws.proofs.Quantifiers.{map_same}
-use Rattle.lp_laws.proofs.Plain.{IsMadeBefore, IsFrom, from_later, come_from, made_before}
+use Rattle.lp_definitions.proofs.Quantifiers.{map_same}
+use Rattle.lp_laws.proofs.NextTasks.{IsMadeBefore, IsFrom, from_later, come_from, made_before}
 use Rattle.lp_laws.proofs.Waiting.{still_before, waits-is, waits-from, allowed-is, allowed-from, not_gone}
 
 -- two schedules that are one as far as k

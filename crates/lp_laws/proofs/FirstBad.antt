@@ -2,7 +2,7 @@
 use Rattle.std.proofs.Common.{◌≡◌, ℕ, zero, suc, ◌+◌, ◌<◌, ◌≤◌, Bool, true, false, List, [], ◌∷◌, ◌++◌, Option, Some, None, if◌then◌else◌, refl, sym, ap, ap₂, ◌∙◌, ⊎_elim, arith}
 use Rattle.std.proofs.lemmas.Bool.{cases_Bool, cond-true, cond-false}
 use Rattle.lp_definitions.specs.Tasks.{fits, first_of}
-use Rattle.lp_definitions.specs.Verdict.{first_bad}
+use Rattle.lp_definitions.specs.Judgement.{first_bad}
 
 pub none_bad : (n start : ℕ) (passes : ℕ → Bool) → n ≡ 0 → first_bad n start passes ≡ None
 unfolding first_bad

@@ -7,15 +7,15 @@ use Rattle.lp_patch.specs.Patches.{Patches}
 use Rattle.lp_model.specs.Rules.{Rules, IsLawful}
 use Rattle.lp_definitions.specs.declared.event.Event.{Event}
 use Rattle.lp_definitions.specs.Tasks.{Life, Fate, Unused, Live, Dead, Bounds, map_live}
-use Rattle.lp_definitions.specs.Leg.{Standing, Leg, State, after}
-use Rattle.lp_definitions.specs.Schedule.{first_check, standing}
+use Rattle.lp_definitions.specs.Leg.{LegTask, Leg, State, after}
+use Rattle.lp_definitions.specs.Schedule.{first_check, leg_task}
 use Rattle.lp_definitions.specs.Run.{at_boot, booted, start, and_then, shown, opened, opens, next_leg, leg_after}
 use Rattle.lp_definitions.specs.Sound.{IsSound}
-use Rattle.lp_laws.proofs.Plain.{changed_group, each_life}
+use Rattle.lp_laws.proofs.NextTasks.{changed_group, each_life}
 
 -- each live task is in a group whose number is in range
 abbrev pub GroupsAreInRange : State → Type 0
-GroupsAreInRange opening = (t : ℕ) (x : Standing) → opening.tasks t ≡ Live x → x.group ≤ opening.bounds.tasks
+GroupsAreInRange opening = (t : ℕ) (x : LegTask) → opening.tasks t ≡ Live x → x.group ≤ opening.bounds.tasks
 
 module _ (model : Rules) (lawful : IsLawful model) where
   pub group_in_range : (leg : Leg) → GroupsAreInRange leg.opening → (k t : ℕ) (x : Life) → after model leg k t ≡ Live x → x.group ≤ leg.bounds.tasks
@@ -29,9 +29,9 @@ module _ (model : Rules) (lawful : IsLawful model) where
       (λ (e : model.child_group y.group t how ≡ t). subst (λ g. g ≤ leg.bounds.tasks) (sym e) within)
       (lawful.child y.group t how))
 
-  shown_in_range : (leg : Leg) (k : ℕ) (f : Fate Life) (x : Standing) → ((y : Life) → f ≡ Live y → y.group ≤ leg.bounds.tasks) → map_live (standing leg (first_check model leg) k) f ≡ Live x → x.group ≤ leg.bounds.tasks
+  shown_in_range : (leg : Leg) (k : ℕ) (f : Fate Life) (x : LegTask) → ((y : Life) → f ≡ Live y → y.group ≤ leg.bounds.tasks) → map_live (leg_task leg (first_check model leg) k) f ≡ Live x → x.group ≤ leg.bounds.tasks
   shown_in_range leg k Unused x h e = absurd (cc)
-  shown_in_range leg k (Live y) x h e = let same : standing leg (first_check model leg) k y ≡ x = cc in subst (λ (z : Standing). z.group ≤ leg.bounds.tasks) same (h y refl)
+  shown_in_range leg k (Live y) x h e = let same : leg_task leg (first_check model leg) k y ≡ x = cc in subst (λ (z : LegTask). z.group ≤ leg.bounds.tasks) same (h y refl)
   shown_in_range leg k Dead x h e = absurd (cc)
 
   opened_in_range : (leg : Leg) (event : Event) → GroupsAreInRange leg.opening → GroupsAreInRange (opened model leg event).opening
@@ -59,11 +59,11 @@ module _ (model : Rules) (lawful : IsLawful model) where
       (λ (all : model.first_group t ≡ 0). subst (λ g. g ≤ bounds.tasks) (sym all) (omega arith))
       (lawful.first t)
 
-  one_boot_in_range : (bounds : Bounds) (boot : TaskId × Class) (t : ℕ) (x : Standing) (rest : Fate Standing) (b : Bool) → t ≤ bounds.tasks → (rest ≡ Live x → x.group ≤ bounds.tasks) → (if b then Live (at_boot model t boot.1) else rest) ≡ Live x → x.group ≤ bounds.tasks
-  one_boot_in_range bounds boot t x rest true within h e = let same : at_boot model t boot.1 ≡ x = cc in subst (λ (z : Standing). z.group ≤ bounds.tasks) same (boot_in_range bounds t boot.1 within)
+  one_boot_in_range : (bounds : Bounds) (boot : TaskId × Class) (t : ℕ) (x : LegTask) (rest : Fate LegTask) (b : Bool) → t ≤ bounds.tasks → (rest ≡ Live x → x.group ≤ bounds.tasks) → (if b then Live (at_boot model t boot.1) else rest) ≡ Live x → x.group ≤ bounds.tasks
+  one_boot_in_range bounds boot t x rest true within h e = let same : at_boot model t boot.1 ≡ x = cc in subst (λ (z : LegTask). z.group ≤ bounds.tasks) same (boot_in_range bounds t boot.1 within)
   one_boot_in_range bounds boot t x rest false within h e = h e
 
-  boots_in_range : (bounds : Bounds) (boots : List (TaskId × Class)) (t : ℕ) (x : Standing) → t ≤ bounds.tasks → booted model boots t ≡ Live x → x.group ≤ bounds.tasks
+  boots_in_range : (bounds : Bounds) (boots : List (TaskId × Class)) (t : ℕ) (x : LegTask) → t ≤ bounds.tasks → booted model boots t ≡ Live x → x.group ≤ bounds.tasks
   boots_in_range bounds [] t x within e = absurd (cc)
   boots_in_range bounds (boot ∷ boots) t x within e =
       one_boot_in_range bounds boot t x (booted model boots t) (nat_eq t boot.0.0) within (boots_in_range bounds boots t x within) e

@@ -171,7 +171,16 @@ module _ (model : Rules) (lawful : IsLawful model) (answered : List Reply) (leg 
 
   pub headline_of_leg : HeadlineOfLeg model answered leg (end_of model leg)
   headline_of_leg =
-      record { first = first; is_first = is_first; first_checks = is.named; none_earlier = none_is_earlier; certified = are_certified }
+      record {
+        opened = refl;
+        target = refl;
+        first = first;
+        is_first = is_first;
+        first_checks = is.named;
+        calls = is.calls;
+        none_earlier = none_is_earlier;
+        certified = are_certified;
+      }
 
 -- ---- The run
 

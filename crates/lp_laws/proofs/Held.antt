@@ -16,12 +16,12 @@ use Rattle.lp_definitions.specs.Schedule.{view}
 use Rattle.lp_definitions.specs.Sound.{IsSound}
 use Rattle.lp_definitions.specs.Chain.{nobody}
 use Rattle.lp_laws.proofs.OneVersion.{frames_of}
-use Rattle.lp_laws.proofs.Plain.{Came, Stayed, Born, came, unused_before}
+use Rattle.lp_laws.proofs.NextTasks.{Came, Stayed, Born, came, unused_before}
 use Rattle.lp_laws.proofs.SoundAfter.{serials}
 use Rattle.lp_definitions.specs.declared.line.Line.TheVariants.{Hold}
 use Rattle.lp_definitions.specs.declared.cert_fault.CertFault.TheVariants.{NotOnStack, NoBlame}
 use Rattle.lp_laws.specs.Blamed.{is_blamed}
-use Rattle.lp_definitions.specs.Verdict.{Section, blame_at, first_bad, is_held_by, is_on_stack, lies_in, line_test, moment_of}
+use Rattle.lp_definitions.specs.Judgement.{Section, blame_at, first_bad, is_held_by, is_on_stack, lies_in, line_test, moment_of}
 use Rattle.lp_laws.proofs.Accepted.{blamed-is, held-is}
 use Rattle.lp_laws.proofs.FirstBad.{all_good, first_none, first_some, fit_none}
 use Rattle.lp_laws.proofs.Stacks.{Stands, stands-is, were_there}

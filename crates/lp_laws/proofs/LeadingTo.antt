@@ -1,4 +1,4 @@
--- What the verdict reads in a certificate's lines, as a section more comes behind them.
+-- What the judgement reads in a certificate's lines, as a section more comes after them.
 use Rattle.std.proofs.Common.{◌≡◌, ℕ, zero, ◌<◌, ◌≤◌, Bool, true, false, not, ◌&&◌, ◌||◌, List, [], ◌∷◌, ◌++◌, map, All, None, nat_le, nat_lt, refl, sym, ap, ap₂, ◌∙◌, subst, arith}
 use Rattle.std.specs.List.{list_any, flat_map}
 use Rattle.std.proofs.lemmas.Bool.{and_from, le-leb, lt-ltb, not_from_true}
@@ -13,7 +13,7 @@ use Rattle.lp_definitions.specs.Tasks.{fits, first_of}
 use Rattle.lp_definitions.specs.declared.line.Line.{Line}
 use Rattle.lp_definitions.specs.declared.line.Line.TheVariants.{Hold, Busy as OnCpu, Born}
 use Rattle.lp_definitions.specs.declared.cert_fault.CertFault.TheVariants.{BadBirth}
-use Rattle.lp_definitions.specs.Verdict.{Birth, Section, births, first_lines, last_group, moment_of, is_birth, birth_tests, first_group, sections, has_stray, line_tests, gap_test}
+use Rattle.lp_definitions.specs.Judgement.{Birth, Section, births, first_lines, last_group, moment_of, is_birth, birth_tests, first_group, sections, has_stray, line_tests, gap_test}
 use Rattle.lp_laws.proofs.FirstBad.{first_of_append, first_none, fit_none}
 
 -- ---- Lines
@@ -43,7 +43,7 @@ first_before (Hold h task serial from to ∷ older) own g parent at = ap (λ mor
 first_before (OnCpu h task here ∷ older) own g parent at = ap (λ more. OnCpu h task here ∷ more) (first_before older own g parent at)
 first_before (Born h by here ∷ older) own g parent at = refl
 
--- one birth more, with the lines behind it
+-- one birth more, with the lines after it
 pub one_birth_more : (older own : List Line) (g : GroupId) (parent : TaskId) (at : ℕ) → All IsPlain own
     → births (older ++ Born g parent at ∷ own) ≡ births older ++ (record { group = g.0; parent = parent.0; at = at; lines = own }) ∷ []
 one_birth_more [] own g parent at plain =

@@ -15,8 +15,9 @@ use Rattle.lp_definitions.specs.Run.{Run, AreInRange, and_then, first_leg, switc
 use Rattle.lp_laws.proofs.WholeRun.{next_sound, start_sound}
 use Rattle.lp_definitions.specs.Certificates.{legs, opened_legs}
 use Rattle.lp_laws.proofs.GroupsInRange.{GroupsAreInRange, next_in_range, start_in_range}
-use Rattle.lp_definitions.specs.Headline.{switched_groups, replies_in}
+use Rattle.lp_definitions.specs.Headline.{switched_groups, replies_in, CallsRunTheirFrames}
 use Rattle.lp_laws.proofs.Switching.{control_switches_none, none_at_opening, past_switched, reply_names}
+use Rattle.lp_laws.proofs.Versions.{AreTold, told_at_opening, told_in_leg, told_longer as versions_longer}
 
 -- the groups that replies name
 abbrev names : List Reply → List (List ℕ)
@@ -37,6 +38,7 @@ module _ (model : Rules) (lawful : IsLawful model) where
     pub in_range : GroupsAreInRange leg.opening
     pub few : leg.number + length leg.events ≤ 1000000
     pub named : names (replies_in leg answered) ≡ switches leg
+    pub calls : CallsRunTheirFrames model leg (first_check model leg) answered
 
   -- the leg under way after these replies
   record IsUnderWay (before : List Reply) (leg : Leg) : Type 0 where
@@ -48,6 +50,7 @@ module _ (model : Rules) (lawful : IsLawful model) where
   record IsTold (before : List Reply) (leg : Leg) : Type 0 where
     opened : 0 < leg.number
     named : names (drop (pred leg.number) before) ≡ switches leg
+    versions : AreTold model before leg
 
   -- ---- One event more
 
@@ -82,6 +85,7 @@ module _ (model : Rules) (lawful : IsLawful model) where
             ap (λ n. names (drop n (and_reply before leg event))) place
             ∙ (ap names (drop_whole before (reply model leg event ∷ []))
             ∙ ap (λ groups. groups ∷ []) (reply_names model leg event ∙ (control_switches_none model leg event control ∙ sym (none_at_opening model (opened model leg event)))));
+        versions = told_at_opening model (and_reply before leg event) (opened model leg event) refl;
       })
 
   -- any other continues the leg
@@ -101,6 +105,7 @@ module _ (model : Rules) (lawful : IsLawful model) where
             ∙ (map-append (λ (reply : Reply). switched_groups reply.what) (drop at before) r
             ∙ (ap₂ (λ prefix last. prefix ++ last ∷ []) (told.named ∙ before_same 0 (suc n) (omega arith)) (reply_names model leg event)
             ∙ (sym (map-range_with_len_more f 0 (suc n) (suc n) (omega arith)) ∙ ap (λ m. map f (range_with_len 0 m)) same_end)));
+        versions = versions_longer model before leg event h.numbered told.versions;
       })
     where
       before_same : (a m : ℕ) → a + m ≤ suc (length leg.events) → map (switched_at leg (first_check model leg)) (range_with_len a m) ≡ map (switched_at (and_then leg event) (first_check model (and_then leg event))) (range_with_len a m)
@@ -122,15 +127,16 @@ module _ (model : Rules) (lawful : IsLawful model) where
         named =
             ap names (ap (take n) (drop-append-le at before after (omega (arith, h.numbered))) ∙ (take-append-le n (drop at before) after (omega (arith, long)) ∙ take_all n (drop at before) (omega (arith, long))))
             ∙ told.named;
+        calls = told_in_leg model before after leg told.opened h.numbered told.versions;
       }
 
   abbrev AreLegs : List Reply → Leg → List Event → List Leg → Type 0
   AreLegs before leg events = All (IsLeg (before ++ replies model leg events))
 
-  -- the replies to come, one of them put behind those before
-  put_behind : (before : List Reply) (leg : Leg) (event : Event) (events : List Event) (ls : List Leg) → AreLegs (and_reply before leg event) (next_leg model leg event) events ls → AreLegs before leg (event ∷ events) ls
+  -- the replies to come, one of them put after those before
+  put_after : (before : List Reply) (leg : Leg) (event : Event) (events : List Event) (ls : List Leg) → AreLegs (and_reply before leg event) (next_leg model leg event) events ls → AreLegs before leg (event ∷ events) ls
   unfolding replies
-  put_behind before leg event events ls h =
+  put_after before leg event events ls h =
       subst (λ answered. All (IsLeg answered) ls) (append_assoc before (reply model leg event ∷ []) (replies model (next_leg model leg event) events)) h
 
   count : (before : List Reply) (leg : Leg) (event : Event) (events : List Event) → length before + length (event ∷ events) ≤ 1000000 → length (and_reply before leg event) + length events ≤ 1000000
@@ -141,7 +147,7 @@ module _ (model : Rules) (lawful : IsLawful model) where
   all_legs before leg [] h told few = All-cons (IsLeg _) leg [] (of_leg before _ leg h told (omega (arith, few))) (All-nil (IsLeg _))
   all_legs before leg (event ∷ events) h told few =
       let rest = legs model (next_leg model leg event) events in
-      let more : IsTold (and_reply before leg event) (next_leg model leg event) → AreLegs before leg (event ∷ events) rest = λ t. put_behind before leg event events rest (all_legs (and_reply before leg event) (next_leg model leg event) events (one_more before leg event h) t (count before leg event events few)) in
+      let more : IsTold (and_reply before leg event) (next_leg model leg event) → AreLegs before leg (event ∷ events) rest = λ t. put_after before leg event events rest (all_legs (and_reply before leg event) (next_leg model leg event) events (one_more before leg event h) t (count before leg event events few)) in
       cond_both (opens model leg event) (leg ∷ []) [] (λ prefix. AreLegs before leg (event ∷ events) (prefix ++ rest))
       (λ e. All-cons (IsLeg _) leg rest (of_leg before _ leg h told (omega (arith, few))) (more (told_opened before leg event h e)))
       (λ e. more (told_longer before leg event h told e))
@@ -155,8 +161,8 @@ module _ (model : Rules) (lawful : IsLawful model) where
       let u = one_more before leg event h in
       let c = count before leg event events few in
       cond_both (opens model leg event) (leg ∷ []) [] (λ prefix. AreLegs before leg (event ∷ events) (drop 1 (prefix ++ legs model next events)))
-      (λ e. put_behind before leg event events (legs model next events) (all_legs (and_reply before leg event) next events u (told_opened before leg event h e) c))
-      (λ e. put_behind before leg event events (opened_legs model next events) (all_opened (and_reply before leg event) next events u c))
+      (λ e. put_after before leg event events (legs model next events) (all_legs (and_reply before leg event) next events u (told_opened before leg event h e) c))
+      (λ e. put_after before leg event events (opened_legs model next events) (all_opened (and_reply before leg event) next events u c))
 
   pub legs_of : (run : Run) → AreInRange run.bounds run.boots → length run.events ≤ 1000000 → All (IsLeg (replies model (first_leg model run) run.events)) (opened_legs model (first_leg model run) run.events)
   legs_of run in_range few =

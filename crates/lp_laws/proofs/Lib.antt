@@ -1,5 +1,4 @@
-pub mod Quantifiers
-pub mod Plain
+pub mod NextTasks
 pub mod Waiting
 pub mod Checks
 pub mod NoEarlier
@@ -29,8 +28,9 @@ pub mod LeadingTo
 pub mod MadeParts
 pub mod MadeSteps
 pub mod MadeLines
-pub mod MadeVerdicts
+pub mod MadeFaultless
 pub mod MadeOfRuns
 pub mod Switching
+pub mod Versions
 pub mod LegByLeg
 pub mod Headline

@@ -18,11 +18,11 @@ use Rattle.lp_definitions.specs.Tasks.{Life, on_live}
 use Rattle.lp_laws.proofs.Checks.{accepted-is, fork_no_check}
 use Rattle.lp_laws.proofs.First.{first_check_is}
 use Rattle.lp_laws.proofs.NoEarlier.{waits_too}
-use Rattle.lp_laws.proofs.Plain.{forks, no_member}
+use Rattle.lp_laws.proofs.NextTasks.{forks, no_member}
 use Rattle.lp_laws.proofs.Waiting.{Waiter, waits-from, Waited, InGroup, InParent, waited}
 use Rattle.lp_definitions.specs.declared.line.Line.{Line}
 use Rattle.lp_definitions.specs.Certificates.{group_id, task_id, birth_line, refusal_line, after_refusal, after_check, has_frame, first_blamed, with_birth, lines}
-use Rattle.lp_definitions.specs.Verdict.{Birth, births, first_lines, first_group, is_birth, forks_group, moment_of}
+use Rattle.lp_definitions.specs.Judgement.{Birth, births, first_lines, first_group, is_birth, forks_group, moment_of}
 use Rattle.lp_laws.proofs.LeadingTo.{IsFaultless, plain_lines, plain_births, first_before, one_birth_more, Leads, leads_first, leads_on}
 use Rattle.lp_laws.proofs.MadeParts.{IsRight, IsPart, part_plain, part_well, part_later}
 use Rattle.lp_laws.proofs.MadeSteps.{none_goes, someone, blamed_well, next}
@@ -75,7 +75,7 @@ module _ (model : Rules) (leg : Leg) where
       let f = own_first k group begin ls tale in
       subst (Tale (suc k) group begin) (sym f.is) (f.again f.own (part_later model leg group begin k f.own none f.part))
 
-  -- ---- What the verdict reads
+  -- ---- What the judgement reads
 
   module _ (lawful : IsLawful model) (sound : IsSound leg.opening) where
     opened : (k group : ℕ) (ls : List Line) → waits model leg nobody zero group ≡ true → IsPart model leg group zero k ls → Leads model leg k group zero (first_lines (reverse ls)) (births (reverse ls))
@@ -85,7 +85,7 @@ module _ (model : Rules) (leg : Leg) where
         (subst (Leads model leg k group zero (reverse ls)) (sym (plain_births (reverse ls) plain))
         (leads_first model leg k group (reverse ls) opens (part_well model leg lawful sound group zero k ls part)))
 
-    -- a birth, as the verdict reads it
+    -- a birth, as the judgement reads it
     abbrev birth_of : (group place parent : ℕ) (own : List Line) → Birth
     birth_of group place parent own = record { group = group; parent = parent; at = leg.number + suc place; lines = reverse own }
 

@@ -11,13 +11,13 @@ use Rattle.lp_definitions.specs.Sound.{IsSound}
 use Rattle.lp_laws.proofs.WholeRun.{next_sound, start_sound}
 use Rattle.lp_definitions.specs.Certificates.{completion, certs_of, legs, opened_legs}
 use Rattle.lp_laws.specs.CertLaws.{AcceptsWhatIsMade}
-use Rattle.lp_definitions.specs.Verdict.{verdict_on}
-use Rattle.lp_laws.proofs.MadeVerdicts.{accepted, at_end}
+use Rattle.lp_definitions.specs.Judgement.{cert_fault}
+use Rattle.lp_laws.proofs.MadeFaultless.{accepted, at_end}
 
 module _ (model : Rules) (lawful : IsLawful model) where
   -- the certificates of the leg's end have no fault
   abbrev IsAccepted : Leg → Type 0
-  IsAccepted leg = All (λ made. verdict_on model leg made.claim made ≡ None) (certs_of model leg)
+  IsAccepted leg = All (λ made. cert_fault model leg made.claim made ≡ None) (certs_of model leg)
 
   -- how many events there were up to the end of the leg
   abbrev so_far : Leg → ℕ

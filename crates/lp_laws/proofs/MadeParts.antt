@@ -18,7 +18,7 @@ use Rattle.lp_definitions.specs.Tasks.{first_of}
 use Rattle.lp_definitions.specs.declared.line.Line.{Line}
 use Rattle.lp_definitions.specs.declared.line.Line.TheVariants.{Hold, Busy as OnCpu, Born}
 use Rattle.lp_definitions.specs.declared.cert_fault.CertFault.TheVariants.{NoBlame, Gap}
-use Rattle.lp_definitions.specs.Verdict.{Section, group_of, is_held_by, is_busy, lies_in, moment_of, blame_at, is_on_stack, line_test, covers, is_covered}
+use Rattle.lp_definitions.specs.Judgement.{Section, group_of, is_held_by, is_busy, lies_in, moment_of, blame_at, is_on_stack, line_test, covers, is_covered}
 use Rattle.lp_laws.proofs.FirstBad.{all_good, first_none, fit_none}
 use Rattle.lp_laws.proofs.Held.{sound_hold}
 use Rattle.lp_laws.proofs.LeadingTo.{IsPlain, IsFaultless}

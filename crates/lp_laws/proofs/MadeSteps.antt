@@ -18,12 +18,12 @@ use Rattle.lp_laws.proofs.Chains.{refused_so_far}
 use Rattle.lp_laws.proofs.Checks.{check-is}
 use Rattle.lp_laws.proofs.First.{first_check_is}
 use Rattle.lp_laws.proofs.NoEarlier.{views_alike}
-use Rattle.lp_laws.proofs.Plain.{numbered}
+use Rattle.lp_laws.proofs.NextTasks.{numbered}
 use Rattle.lp_laws.proofs.Waiting.{Waiter, waits-from}
 use Rattle.lp_definitions.specs.declared.line.Line.{Line}
 use Rattle.lp_definitions.specs.declared.line.Line.TheVariants.{Hold, Busy as OnCpu, Born}
 use Rattle.lp_definitions.specs.Certificates.{group_id, task_id, refusal_line, after_refusal, has_frame, member_blame, first_blamed}
-use Rattle.lp_definitions.specs.Verdict.{blame_by, blame_at, is_on_stack, covers, moment_of}
+use Rattle.lp_definitions.specs.Judgement.{blame_by, blame_at, is_on_stack, covers, moment_of}
 use Rattle.lp_laws.proofs.Accepted.{group_stays, blamed-is}
 use Rattle.lp_laws.proofs.Held.{between, blamed_stands}
 use Rattle.lp_laws.proofs.MadeParts.{IsHold, IsRight, IsPart, part_more, part_on}

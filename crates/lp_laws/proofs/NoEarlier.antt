@@ -7,7 +7,7 @@ use Rattle.lp_definitions.specs.Tasks.{Forked, Life, Live}
 use Rattle.lp_definitions.specs.Leg.{Leg, after}
 use Rattle.lp_definitions.specs.Schedule.{Schedule, has_come, level, view, waits, allowed, complete, IsLegal, IsFirstCheck}
 use Rattle.lp_definitions.specs.Sound.{IsSound}
-use Rattle.lp_laws.proofs.Plain.{IsMadeBefore, made_later, opens, made_before, no_member}
+use Rattle.lp_laws.proofs.NextTasks.{IsMadeBefore, made_later, opens, made_before, no_member}
 use Rattle.lp_laws.proofs.Waiting.{level_before, level_still, comes_now, come_at, none_at_zero, Waiter, waits-is, waits-from, allowed-is, allowed-from, complete-is, complete-from, view_same, Descends, FromMember, FromParent, descends, only_child, Waited, InGroup, InParent, not_gone, level_waiting, waited, fresh_still}
 
 module _ (model : Rules) (leg : Leg) (lawful : IsLawful model) (sound : IsSound leg.opening) (first other : Schedule) (is_first : IsFirstCheck model leg first) (is_legal : IsLegal model leg other) where

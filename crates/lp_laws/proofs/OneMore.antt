@@ -10,7 +10,7 @@ use Rattle.lp_definitions.specs.Leg.{State, Leg, accept, take_effect, tasks_afte
 use Rattle.lp_definitions.specs.Run.{and_then, control_tests, is_complete_now, refused_by}
 use Rattle.lp_laws.proofs.Prefix.{after_same}
 
-end_get : (xs : List Event) (x : Event) → slice_get (xs ++ x ∷ []) (length xs) ≡ Some x
+pub end_get : {A : Type 0} (xs : List A) (x : A) → slice_get (xs ++ x ∷ []) (length xs) ≡ Some x
 end_get [] x = refl
 end_get (y ∷ ys) x = end_get ys x
 

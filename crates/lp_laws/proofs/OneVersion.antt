@@ -9,10 +9,10 @@ use Rattle.lp_stack.specs.declared.frame.Frame.{Frame}
 use Rattle.lp_patch.specs.Patches.{version, is_stale}
 use Rattle.lp_model.specs.Rules.{Rules, IsLawful}
 use Rattle.lp_definitions.specs.Tasks.{Stood, Kept, Made, Life, Live, child}
-use Rattle.lp_definitions.specs.Leg.{Standing, Leg, begin, after}
+use Rattle.lp_definitions.specs.Leg.{LegTask, Leg, begin, after}
 use Rattle.lp_definitions.specs.Schedule.{Schedule, has_come, level, frame_of, view, allowed, IsLegal}
 use Rattle.lp_definitions.specs.Sound.{IsSound, RunsOneVersion}
-use Rattle.lp_laws.proofs.Plain.{Change, Same, Pushes, Pops, Turns, changed, changed_group, each_life, numbered}
+use Rattle.lp_laws.proofs.NextTasks.{Change, Same, Pushes, Pops, Turns, changed, changed_group, each_life, numbered}
 use Rattle.lp_laws.proofs.Waiting.{level_gone, level_still, still_before, comes_now, none_at_zero, allowed-is}
 
 -- the frames of a task
@@ -54,7 +54,7 @@ module _ (model : Rules) (leg : Leg) (lawful : IsLawful model) (schedule : Sched
   pub not_gone_at_start : (group : ℕ) → gone zero group ≡ false
   not_gone_at_start group = none_at_zero (schedule group) (λ i e. let r = is_legal group i e in (r.0, r.1))
 
-  pub level_start : (y : Standing) → level leg schedule zero (begin y) ≡ y.level
+  pub level_start : (y : LegTask) → level leg schedule zero (begin y) ≡ y.level
   level_start y = level_still leg.target schedule zero y.group (Stood y.level) (not_gone_at_start y.group)
 
   level_changed : (j k : ℕ) (c : Change) (y : Life) → level leg schedule j (changed k c y) ≡ level leg schedule j y

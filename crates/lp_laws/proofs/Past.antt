@@ -15,7 +15,7 @@ use Rattle.lp_definitions.specs.Leg.{Leg, after, accepted, check}
 use Rattle.lp_definitions.specs.Schedule.{view, first_check}
 use Rattle.lp_definitions.specs.Run.{and_then}
 use Rattle.lp_laws.proofs.First.{Agree, view_agrees}
-use Rattle.lp_laws.proofs.Plain.{IsMadeBefore, made_later, from_later, made_before, come_from}
+use Rattle.lp_laws.proofs.NextTasks.{IsMadeBefore, made_later, from_later, made_before, come_from}
 use Rattle.lp_laws.proofs.Prefix.{after_same, accepted_same, check_same, past_same}
 use Rattle.lp_definitions.specs.declared.line.Line.{Line}
 use Rattle.lp_definitions.specs.Certificates.{after_check, birth_line, has_frame, member_blame, first_blamed, with_birth, lines}
@@ -30,7 +30,7 @@ module _ (model : Rules) (leg : Leg) (event : Event) where
   abbrev pub longer : Leg
   longer = and_then leg event
 
-  agree : Agree (length leg.events) (first_check model longer) (first_check model leg)
+  pub agree : Agree (length leg.events) (first_check model longer) (first_check model leg)
   unfolding Agree
   agree group j le = past_same model leg event group j le
 

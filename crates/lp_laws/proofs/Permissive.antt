@@ -8,7 +8,7 @@ use Rattle.lp_definitions.specs.Schedule.{Schedule, view, waits, allowed, comple
 use Rattle.lp_definitions.specs.Sound.{IsSound}
 use Rattle.lp_definitions.specs.Order.{IsAtLeastAsPermissive}
 use Rattle.lp_laws.proofs.Checks.{checked_member, check-is, check-from}
-use Rattle.lp_laws.proofs.Plain.{numbered}
+use Rattle.lp_laws.proofs.NextTasks.{numbered}
 use Rattle.lp_laws.proofs.Waiting.{waits-is, waits-from, allowed-is, allowed-from, complete-is, complete-from}
 use Rattle.lp_laws.proofs.NoEarlier.{completes_too}
 

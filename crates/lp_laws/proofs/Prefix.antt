@@ -9,7 +9,7 @@ use Rattle.lp_definitions.specs.Schedule.{Schedule, has_come, first_check, level
 use Rattle.lp_definitions.specs.Run.{and_then}
 use Rattle.lp_laws.proofs.First.{Agree, agree_next}
 
-prefix_get : (xs ys : List Event) (k : ℕ) → k < length xs → slice_get (xs ++ ys) k ≡ slice_get xs k
+pub prefix_get : {A : Type 0} (xs ys : List A) (k : ℕ) → k < length xs → slice_get (xs ++ ys) k ≡ slice_get xs k
 prefix_get [] ys k lt = absurd (omega arith)
 prefix_get (x ∷ xs) ys zero lt = refl
 prefix_get (x ∷ xs) ys (suc k) lt = prefix_get xs ys k (omega arith)

@@ -5,13 +5,13 @@ use Rattle.std.proofs.lemmas.List.{get_or-take, length-take}
 use Rattle.std.proofs.lemmas.List.Elements.{All-nil, All-push, All-take, All-weaker}
 use Rattle.std.proofs.lemmas.List.Quantifiers.{all_pairs_push}
 use Rattle.lp_stack.specs.declared.frame.Frame.{Frame}
-use Rattle.lp_patch.specs.Patches.{Goal, version}
+use Rattle.lp_patch.specs.Patches.{Aim, version}
 use Rattle.lp_model.specs.Rules.{Rules, SerialsRise, IsLawful}
 use Rattle.lp_definitions.specs.Tasks.{Life, Fate, Unused, Live, Dead, map_live}
 use Rattle.lp_definitions.specs.Leg.{State, Leg, begin, after}
-use Rattle.lp_definitions.specs.Schedule.{Schedule, has_come, level, standing, shown_after, IsLegal}
+use Rattle.lp_definitions.specs.Schedule.{Schedule, has_come, level, leg_task, shown_after, IsLegal}
 use Rattle.lp_definitions.specs.Sound.{IsSound, RunsOneVersion}
-use Rattle.lp_laws.proofs.Plain.{each_life, opens, numbered, grouped, no_member}
+use Rattle.lp_laws.proofs.NextTasks.{each_life, opens, numbered, grouped, no_member}
 use Rattle.lp_laws.proofs.Waiting.{level_before, level_gone, level_still, still_before, Descends, FromMember, FromParent, descends, only_child}
 use Rattle.lp_laws.proofs.OneVersion.{frames_of, frames_kept, made, frames_changed, one_version}
 
@@ -77,29 +77,29 @@ module _ (model : Rules) (leg : Leg) (lawful : IsLawful model) (sound : IsSound 
 
   -- ---- The opening that shows the tasks after k events
 
-  module _ (k number from : ℕ) (aim : Goal) where
+  module _ (k number from : ℕ) (aim : Aim) where
     abbrev pub reopened : State
     reopened = record { number = number; bounds = leg.bounds; from = from; aim = aim; tasks = shown_after model leg schedule k }
 
     pub sound_after : leg.number + k ≤ number → IsSound reopened
     sound_after le =
         record {
-          numbered = λ t y live. let x = shows (standing leg schedule k) (after model leg k t) y live in numbered model.child_group leg sound k t x.0 x.1;
+          numbered = λ t y live. let x = shows (leg_task leg schedule k) (after model leg k t) y live in numbered model.child_group leg sound k t x.0 x.1;
           grouped = λ t y live.
-              let x = shows (standing leg schedule k) (after model leg k t) y live in
+              let x = shows (leg_task leg schedule k) (after model leg k t) y live in
               let same : y.group ≡ x.0.group = ap (λ z. z.group) x.2 in
-              ⊎_elim (λ (e : x.0.group ≡ 0). inl (same ∙ e)) (λ (ne : after model leg k x.0.group ≢ Unused). inr (λ e. ne (ap (after model leg k) (sym same) ∙ shows_unused (standing leg schedule k) (after model leg k y.group) e))) (grouped model.child_group leg sound lawful.child k t x.0 x.1);
+              ⊎_elim (λ (e : x.0.group ≡ 0). inl (same ∙ e)) (λ (ne : after model leg k x.0.group ≢ Unused). inr (λ e. ne (ap (after model leg k) (sym same) ∙ shows_unused (leg_task leg schedule k) (after model leg k y.group) e))) (grouped model.child_group leg sound lawful.child k t x.0 x.1);
           one_side = λ t u y z live_y live_z same.
-              let a = shows (standing leg schedule k) (after model leg k t) y live_y in
-              let b = shows (standing leg schedule k) (after model leg k u) z live_z in
+              let a = shows (leg_task leg schedule k) (after model leg k t) y live_y in
+              let b = shows (leg_task leg schedule k) (after model leg k u) z live_z in
               ap (λ s. s.level) a.2 ∙ (one_level k t u a.0 b.0 a.1 b.1 (sym (ap (λ s. s.group) a.2) ∙ (same ∙ ap (λ s. s.group) b.2)) ∙ sym (ap (λ s. s.level) b.2));
-          serials_rise = λ t y live. let x = shows (standing leg schedule k) (after model leg k t) y live in subst (λ s. SerialsRise s.frames) (sym x.2) (serials k t x.0 x.1).0;
+          serials_rise = λ t y live. let x = shows (leg_task leg schedule k) (after model leg k t) y live in subst (λ s. SerialsRise s.frames) (sym x.2) (serials k t x.0 x.1).0;
           serials_past = λ t y live.
-              let x = shows (standing leg schedule k) (after model leg k t) y live in
+              let x = shows (leg_task leg schedule k) (after model leg k t) y live in
               subst (λ s. All (λ frame. frame.serial ≤ number) s.frames) (sym x.2) (All-weaker (λ frame. frame.serial ≤ leg.number + k) (λ frame. frame.serial ≤ number) (λ frame small. omega arith) (frames_of leg schedule x.0) (serials k t x.0 x.1).1);
         }
 
     pub one_version_after : aim.patches ≡ leg.patches → IsTrue model.whole_call → RunsOneVersion leg.opening → RunsOneVersion reopened
     one_version_after same whole opening t y live =
-        let x = shows (standing leg schedule k) (after model leg k t) y live in
+        let x = shows (leg_task leg schedule k) (after model leg k t) y live in
         subst (λ s. All (λ frame. version aim.patches frame.func.0 frame.level.0 ≡ version aim.patches frame.func.0 s.level) s.frames) (sym x.2) (subst (λ patches. All (λ frame. version patches frame.func.0 frame.level.0 ≡ version patches frame.func.0 (level leg schedule k x.0)) (frames_of leg schedule x.0)) (sym same) (one_version model leg lawful schedule is_legal sound whole opening k t x.0 x.1))

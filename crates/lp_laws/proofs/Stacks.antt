@@ -12,11 +12,11 @@ use Rattle.lp_definitions.specs.Leg.{Leg, accepted, after}
 use Rattle.lp_definitions.specs.Schedule.{view}
 use Rattle.lp_definitions.specs.Sound.{IsSound}
 use Rattle.lp_definitions.specs.Chain.{nobody}
-use Rattle.lp_laws.proofs.Plain.{Came, Stayed, Born, came, unused_before}
+use Rattle.lp_laws.proofs.NextTasks.{Came, Stayed, Born, came, unused_before}
 use Rattle.lp_laws.proofs.Waiting.{live_same}
 use Rattle.lp_laws.proofs.OneVersion.{frames_of, made, frames_changed}
 use Rattle.lp_laws.proofs.SoundAfter.{serials}
-use Rattle.lp_definitions.specs.Verdict.{is_on_stack}
+use Rattle.lp_definitions.specs.Judgement.{is_on_stack}
 
 -- the serials of a stack rise, so no two of its frames share one
 one_serial : (frames : List Frame) (a b : Frame) → SerialsRise frames → Contains frames a → Contains frames b → a.serial ≡ b.serial → a ≡ b

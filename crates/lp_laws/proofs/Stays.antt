@@ -7,12 +7,12 @@ use Rattle.lp_patch.specs.Patches.{Patches, patch_has, version}
 use Rattle.lp_model.specs.Rules.{Rules, IsLawful}
 use Rattle.lp_definitions.specs.declared.event.Event.{Event}
 use Rattle.lp_definitions.specs.Tasks.{Life, Fate, Unused, Live, Dead, on_live, map_live}
-use Rattle.lp_definitions.specs.Leg.{Standing, Leg, begin, tasks_after, accepted, after}
-use Rattle.lp_definitions.specs.Schedule.{Schedule, standing, shown_after, first_checks, first_check}
+use Rattle.lp_definitions.specs.Leg.{LegTask, Leg, begin, tasks_after, accepted, after}
+use Rattle.lp_definitions.specs.Schedule.{Schedule, leg_task, shown_after, first_checks, first_check}
 use Rattle.lp_definitions.specs.Sound.{IsSound, RunsOneVersion}
 use Rattle.lp_definitions.specs.Run.{and_then, shown, opened, opens, next_leg}
 use Rattle.lp_definitions.specs.Stays.{sides, stack, moments, stays, is_mixed}
-use Rattle.lp_laws.proofs.Plain.{IsMadeBefore, made_later, from_later, changed, Came, Stayed, Born, came, come_from, made_before}
+use Rattle.lp_laws.proofs.NextTasks.{IsMadeBefore, made_later, from_later, changed, Came, Stayed, Born, came, come_from, made_before}
 use Rattle.lp_laws.proofs.First.{Agree, agree_next, agree_back, view_agrees}
 use Rattle.lp_laws.proofs.OneVersion.{frames_of, frames_kept, made, frames_changed}
 use Rattle.lp_laws.proofs.Prefix.{after_same, first_checks_same}
@@ -95,7 +95,7 @@ module _ (patches : Patches) (patch : ℕ) where
 
 -- ---- One event changes a stack at its end alone
 
-kept_stack : (leg : Leg) (s : Schedule) (f : Fate Standing) → on_live [] (λ x. x.frames) (map_live (standing leg s zero) (map_live begin f)) ≡ on_live [] (λ x. x.frames) f
+kept_stack : (leg : Leg) (s : Schedule) (f : Fate LegTask) → on_live [] (λ x. x.frames) (map_live (leg_task leg s zero) (map_live begin f)) ≡ on_live [] (λ x. x.frames) f
 kept_stack leg s Unused = refl
 kept_stack leg s (Live x) = frames_kept leg x.frames s (begin x)
 kept_stack leg s Dead = refl
@@ -114,7 +114,7 @@ module _ (model : Rules) (leg : Leg) (event : Event) (t : ℕ) where
   abbrev frames_if : Leg → Schedule → Fate Life → List Frame
   frames_if l s f = on_live [] (λ x. frames_of l s x) f
 
-  shown_frames : (l : Leg) (s : Schedule) (k : ℕ) (f : Fate Life) → on_live [] (λ x. x.frames) (map_live (standing l s k) f) ≡ frames_if l s f
+  shown_frames : (l : Leg) (s : Schedule) (k : ℕ) (f : Fate Life) → on_live [] (λ x. x.frames) (map_live (leg_task l s k) f) ≡ frames_if l s f
   shown_frames l s k Unused = refl
   shown_frames l s k (Live x) = refl
   shown_frames l s k Dead = refl
@@ -172,7 +172,7 @@ meets b (s ∷ now) (m ∷ next) after h = h s m now next refl refl
 
 module _ (model : Rules) (lawful : IsLawful model) (whole : IsTrue model.whole_call) (patch t : ℕ) where
   -- the side of a task's calls
-  side_if : (leg : Leg) (sound : IsSound leg.opening) (one : RunsOneVersion leg.opening) (f : Fate Standing) → shown model leg t ≡ f → (b : Bool) × OnSide leg.patches patch b (on_live [] (λ x. x.frames) f)
+  side_if : (leg : Leg) (sound : IsSound leg.opening) (one : RunsOneVersion leg.opening) (f : Fate LegTask) → shown model leg t ≡ f → (b : Bool) × OnSide leg.patches patch b (on_live [] (λ x. x.frames) f)
   side_if leg sound one Unused e = (true, All-nil (λ f. patch_has leg.patches patch f.func.0 ≡ true → nat_le patch f.level.0 ≡ true))
   side_if leg sound one (Live x) e = (nat_le patch x.level, one_side_from leg.patches patch x.level x.frames (now_one_version model lawful leg sound whole one t x e))
   side_if leg sound one Dead e = (true, All-nil (λ f. patch_has leg.patches patch f.func.0 ≡ true → nat_le patch f.level.0 ≡ true))

@@ -16,7 +16,7 @@ use Rattle.lp_definitions.specs.Schedule.{has_come, allowed, first_check}
 use Rattle.lp_definitions.specs.Run.{and_then, is_at, switched_at, switched, refused_by, done, unless_why, reply}
 use Rattle.lp_laws.proofs.First.{first_check_is}
 use Rattle.lp_laws.proofs.Prefix.{past_same}
-use Rattle.lp_laws.proofs.Quantifiers.{same_bool}
+use Rattle.lp_definitions.proofs.Quantifiers.{same_bool}
 use Rattle.lp_laws.proofs.OneMore.{check_is, plain_refusal}
 use Rattle.lp_laws.proofs.Waiting.{allowed-is, come_at, comes_now}
 use Rattle.lp_definitions.specs.Headline.{switched_groups}

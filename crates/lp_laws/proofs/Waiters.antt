@@ -6,8 +6,8 @@ use Rattle.lp_definitions.specs.Leg.{Leg, after}
 use Rattle.lp_definitions.specs.Schedule.{level, waits, complete, first_check}
 use Rattle.lp_definitions.specs.Sound.{IsSound}
 use Rattle.lp_laws.proofs.GroupsInRange.{GroupsAreInRange, group_in_range}
-use Rattle.lp_laws.proofs.Plain.{numbered}
-use Rattle.lp_laws.proofs.Quantifiers.{each_live-not}
+use Rattle.lp_laws.proofs.NextTasks.{numbered}
+use Rattle.lp_definitions.proofs.Quantifiers.{each_live-not}
 use Rattle.lp_laws.proofs.Waiting.{waits-is, waits-from}
 
 module _ (model : Rules) (lawful : IsLawful model) (leg : Leg) where

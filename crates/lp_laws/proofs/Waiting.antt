@@ -8,9 +8,9 @@ use Rattle.lp_model.specs.Rules.{Rules, IsLawful}
 use Rattle.lp_definitions.specs.Tasks.{Origin, Stood, Forked, Pushed, Kept, Made, Life, Fate, Unused, Live}
 use Rattle.lp_definitions.specs.Leg.{Leg, accepted, after, check}
 use Rattle.lp_definitions.specs.Schedule.{Schedule, has_come, level_by, level, frame_of, view, waits, admits_each, allowed, complete, IsLegal}
-use Rattle.lp_laws.proofs.Quantifiers.{some_live-from, some_live-is, each_live-at, each_live-from, map_same}
+use Rattle.lp_definitions.proofs.Quantifiers.{some_live-from, some_live-is, each_live-at, each_live-from, map_same}
 use Rattle.lp_definitions.specs.Sound.{IsSound}
-use Rattle.lp_laws.proofs.Plain.{IsMadeBefore, Came, Stayed, Born, changed_group, changed_origin, came, numbered, no_member}
+use Rattle.lp_laws.proofs.NextTasks.{IsMadeBefore, Came, Stayed, Born, changed_group, changed_origin, came, numbered, no_member}
 use Rattle.lp_definitions.specs.Events.{fork}
 
 -- ---- Levels

@@ -7,7 +7,7 @@ use Rattle.lp_patch.specs.Patches.{Patches, version}
 use Rattle.lp_model.specs.Rules.{Rules, SerialsRise, IsLawful}
 use Rattle.lp_definitions.specs.declared.event.Event.{Event}
 use Rattle.lp_definitions.specs.Tasks.{Unused, Live, Bounds}
-use Rattle.lp_definitions.specs.Leg.{Standing, Leg}
+use Rattle.lp_definitions.specs.Leg.{LegTask, Leg}
 use Rattle.lp_definitions.specs.Schedule.{first_check}
 use Rattle.lp_definitions.specs.Sound.{IsSound, RunsOneVersion}
 use Rattle.lp_definitions.specs.Run.{at_boot, booted, AreInRange, start, and_then, new_target, shown, opened, opens, next_leg, leg_after}
@@ -48,12 +48,12 @@ module _ (model : Rules) (lawful : IsLawful model) where
   -- ---- The start
 
   -- what a boot list puts at a number
-  record Boots (bounds : Bounds) (t : ℕ) (x : Standing) : Type 0 where
+  record Boots (bounds : Bounds) (t : ℕ) (x : LegTask) : Type 0 where
     numbered : (0 < t) × (t ≤ bounds.tasks)
     class : Class
     is : x ≡ at_boot model t class
 
-  boots_at : (bounds : Bounds) (boots : List (TaskId × Class)) → AreInRange bounds boots → (t : ℕ) (x : Standing) → booted model boots t ≡ Live x → Boots bounds t x
+  boots_at : (bounds : Bounds) (boots : List (TaskId × Class)) → AreInRange bounds boots → (t : ℕ) (x : LegTask) → booted model boots t ≡ Live x → Boots bounds t x
   boots_at bounds [] ok t x e = absurd (cc)
   boots_at bounds (boot ∷ boots) ok t x e = at_one (nat_eq t boot.0.0) refl e (boots_at bounds boots (All-tail in_range boot boots ok) t x)
     where
@@ -92,12 +92,12 @@ module _ (model : Rules) (lawful : IsLawful model) where
   run_patches leg [] = refl
   run_patches leg (event ∷ events) = run_patches (next_leg model leg event) events ∙ next_patches leg event
 
-  pub now_one_version : (leg : Leg) → IsSound leg.opening → IsTrue model.whole_call → RunsOneVersion leg.opening → (t : ℕ) (x : Standing) → shown model leg t ≡ Live x → All (λ frame. version leg.patches frame.func.0 frame.level.0 ≡ version leg.patches frame.func.0 x.level) x.frames
+  pub now_one_version : (leg : Leg) → IsSound leg.opening → IsTrue model.whole_call → RunsOneVersion leg.opening → (t : ℕ) (x : LegTask) → shown model leg t ≡ Live x → All (λ frame. version leg.patches frame.func.0 frame.level.0 ≡ version leg.patches frame.func.0 x.level) x.frames
   unfolding shown
   now_one_version leg sound whole one t x live =
       one_version_after model leg lawful sound (first_check model leg) (first_check_is model leg).legal (length leg.events) 0 0 leg.aim refl whole one t x live
 
-  pub always_one_version : IsTrue model.whole_call → (bounds : Bounds) (patches : Patches) (boots : List (TaskId × Class)) → AreInRange bounds boots → (events : List Event) (t : ℕ) (x : Standing) → shown model (leg_after model (start model bounds patches boots) events) t ≡ Live x → All (λ frame. version patches frame.func.0 frame.level.0 ≡ version patches frame.func.0 x.level) x.frames
+  pub always_one_version : IsTrue model.whole_call → (bounds : Bounds) (patches : Patches) (boots : List (TaskId × Class)) → AreInRange bounds boots → (events : List Event) (t : ℕ) (x : LegTask) → shown model (leg_after model (start model bounds patches boots) events) t ≡ Live x → All (λ frame. version patches frame.func.0 frame.level.0 ≡ version patches frame.func.0 x.level) x.frames
   always_one_version whole bounds patches boots ok events t x live =
       let first = start model bounds patches boots in
       let sound = start_sound bounds patches boots ok in

@@ -4,7 +4,7 @@ use Rattle.lp_model.specs.Rules.{Rules}
 use Rattle.lp_definitions.specs.Leg.{Leg}
 use Rattle.lp_definitions.specs.declared.line.Line.{Line}
 use Rattle.lp_definitions.specs.declared.line.Line.TheVariants.{Hold, Busy, Born}
-use Rattle.lp_definitions.specs.Verdict.{Section, blame_at, is_held_by, lies_in, moment_of}
+use Rattle.lp_definitions.specs.Judgement.{Section, blame_at, is_held_by, lies_in, moment_of}
 
 module _ (model : Rules) (leg : Leg) (section : Section) where
   -- a hold lies in the section's time, and its frame is blamed at its first event

@@ -3,7 +3,7 @@ use Rattle.std.specs.Prelude.{◌≡◌, ℕ, zero, ◌≤◌, length, All, IsTr
 use Rattle.lp_model.specs.Rules.{Rules}
 use Rattle.lp_definitions.specs.declared.event.Event.{Event}
 use Rattle.lp_definitions.specs.Tasks.{Life, Live}
-use Rattle.lp_definitions.specs.Leg.{Standing, Leg, after}
+use Rattle.lp_definitions.specs.Leg.{LegTask, Leg, after}
 use Rattle.lp_definitions.specs.Schedule.{Schedule, has_come, view, waits, complete, CompletesAt, IsLegal, IsFirstCheck, first_check}
 use Rattle.lp_definitions.specs.Sound.{IsSound, HasOneVersion, RunsOneVersion}
 use Rattle.lp_definitions.specs.Chain.{nobody, IsRefusedBetween, Chain}
@@ -101,7 +101,7 @@ pub record KeepsOneVersion (model : Rules) : Type 0 where
       RunsOneVersion (leg_of model run).opening
   pub now :
       IsTrue model.whole_call → (run : Run) → AreInRange run.bounds run.boots →
-      (t : ℕ) (x : Standing) → shown model (leg_of model run) t ≡ Live x →
+      (t : ℕ) (x : LegTask) → shown model (leg_of model run) t ≡ Live x →
       All (HasOneVersion run.patches x.level) x.frames
 
 -- over a whole run under a whole-call model no stay of a task in a patch's functions runs both sides of the patch,

@@ -16,27 +16,27 @@ use Rattle.lp_linux.proofs.Own.{h}
 use Rattle.lp_linux.specs.declared.follow.TargetState.{TargetState as Phase}
 use Rattle.lp_linux.specs.declared.follow.TargetState.TheVariants.{Undefined, Patched, Unpatched}
 use Rattle.lp_linux.specs.Followed.{klp_of, linux_of}
-use Rattle.lp_linux.proofs.Phases.{Keeps, awaits_is, calm_complete}
+use Rattle.lp_linux.proofs.Phases.{Keeps, awaits_is, settled_complete}
 use Rattle.lp_linux.proofs.Controls.{enables, enable_keeps, disables, disable_keeps, turns_down, turn_down_keeps, turns_up, turn_up_keeps, disable_is_back, enable_is_back}
-use Rattle.lp_linux.proofs.Steps.{Does, refused_does, control_does, rises, falls, up_not_calm, down_not_calm, busy_up, heard_plain, plain_does}
+use Rattle.lp_linux.proofs.Steps.{Does, refused_does, control_does, rises, falls, up_not_settled, down_not_settled, busy_up, heard_plain, plain_does}
 
 -- ---- Control events
 
 module _ (s : State) (keeps : Keeps Undefined s) where
-  abbrev calm : Linux
-  calm = linux_of Undefined s
+  abbrev settled : Linux
+  settled = linux_of Undefined s
 
-  calm_heard : (event : Event) → heard_as calm event ≡ event
-  calm_heard event = ap (λ b. if b then heard_late KLP_UNDEFINED event else event) (awaits_is Undefined s)
+  settled_heard : (event : Event) → heard_as settled event ≡ event
+  settled_heard event = ap (λ b. if b then heard_late KLP_UNDEFINED event else event) (awaits_is Undefined s)
 
-  calm_enable : Does Undefined s Enable Enable
+  settled_enable : Does Undefined s Enable Enable
   unfolding refusal refusal_of
-  calm_enable = by (nat_eq s.target (length s.patches)) refl
+  settled_enable = by (nat_eq s.target (length s.patches)) refl
     where
       there_of : (b : Bool) → nat_eq s.target (length s.patches) ≡ b → refusal_of h s Enable ≡ first_of (fits b AlreadyThere ∷ [])
-      there_of b e = ap₂ (λ c d. first_of (fits (not c) InTransition ∷ fits d AlreadyThere ∷ [])) (calm_complete s keeps) e
+      there_of b e = ap₂ (λ c d. first_of (fits (not c) InTransition ∷ fits d AlreadyThere ∷ [])) (settled_complete s keeps) e
 
-      here_of : (b : Bool) → nat_eq s.target (length s.patches) ≡ b → refusal calm Enable ≡ first_of (fits b AlreadyThere ∷ [])
+      here_of : (b : Bool) → nat_eq s.target (length s.patches) ≡ b → refusal settled Enable ≡ first_of (fits b AlreadyThere ∷ [])
       here_of b e = ap (λ d. first_of (fits d AlreadyThere ∷ [])) e
 
       by : (b : Bool) → nat_eq s.target (length s.patches) ≡ b → Does Undefined s Enable Enable
@@ -44,16 +44,16 @@ module _ (s : State) (keeps : Keeps Undefined s) where
       by false e =
           let ne = eqb-false s.target (length s.patches) e in
           let le = keeps.target_in in
-          control_does Undefined Patched s Enable Enable (here_of false e) (there_of false e) refl refl (rises Undefined s.target (suc s.target) (omega arith)) up_not_calm (enables s keeps) (enable_keeps s keeps le e (omega (arith, le, ne)))
+          control_does Undefined Patched s Enable Enable (here_of false e) (there_of false e) refl refl (rises Undefined s.target (suc s.target) (omega arith)) up_not_settled (enables s keeps) (enable_keeps s keeps le e (omega (arith, le, ne)))
 
-  calm_disable : Does Undefined s Disable Disable
+  settled_disable : Does Undefined s Disable Disable
   unfolding refusal refusal_of
-  calm_disable = by (nat_eq s.target 0) refl
+  settled_disable = by (nat_eq s.target 0) refl
     where
       there_of : (b : Bool) → nat_eq s.target 0 ≡ b → refusal_of h s Disable ≡ first_of (fits b AlreadyThere ∷ [])
-      there_of b e = ap₂ (λ c d. first_of (fits (not c) InTransition ∷ fits d AlreadyThere ∷ [])) (calm_complete s keeps) e
+      there_of b e = ap₂ (λ c d. first_of (fits (not c) InTransition ∷ fits d AlreadyThere ∷ [])) (settled_complete s keeps) e
 
-      here_of : (b : Bool) → nat_eq s.target 0 ≡ b → refusal calm Disable ≡ first_of (fits b AlreadyThere ∷ [])
+      here_of : (b : Bool) → nat_eq s.target 0 ≡ b → refusal settled Disable ≡ first_of (fits b AlreadyThere ∷ [])
       here_of b e = ap (λ d. first_of (fits d AlreadyThere ∷ [])) e
 
       by : (b : Bool) → nat_eq s.target 0 ≡ b → Does Undefined s Disable Disable
@@ -61,11 +61,11 @@ module _ (s : State) (keeps : Keeps Undefined s) where
       by false e =
           let ne = eqb-false s.target 0 e in
           let past : s.target ≡ suc (pred s.target) = omega (arith, ne) in
-          control_does Undefined Unpatched s Disable Disable (here_of false e) (there_of false e) refl refl (falls Undefined s.target (pred s.target) (omega (arith, past))) down_not_calm (disables s keeps (pred s.target) past) (disable_keeps s keeps (pred s.target) past)
+          control_does Undefined Unpatched s Disable Disable (here_of false e) (there_of false e) refl refl (falls Undefined s.target (pred s.target) (omega (arith, past))) down_not_settled (disables s keeps (pred s.target) past) (disable_keeps s keeps (pred s.target) past)
 
-  calm_reverse : Does Undefined s Reverse Reverse
+  settled_reverse : Does Undefined s Reverse Reverse
   unfolding refusal refusal_of
-  calm_reverse = refused_does Undefined s Reverse Reverse NotInTransition NotInTransition (λ same_event. refl) keeps refl (ap (λ c. first_of (fits c NotInTransition ∷ [])) (calm_complete s keeps)) refl
+  settled_reverse = refused_does Undefined s Reverse Reverse NotInTransition NotInTransition (λ same_event. refl) keeps refl (ap (λ c. first_of (fits c NotInTransition ∷ [])) (settled_complete s keeps)) refl
 
 -- while a transition is under way the kernel refuses any other, and turns it round
 module _ (phase : Phase) (s : State) (busy : nat_eq (klp_of phase s).klp_transition_patch 0 ≡ false) where
@@ -120,7 +120,7 @@ module _ (s : State) (keeps : Keeps Patched s) where
   up_open : complete_in s ≡ false → (event : Event) → is_control event ≡ true → Does Patched s event event
   up_open c Enable control = refused_does Patched s Enable Enable InTransition InTransition (λ same_event. refl) keeps (no_enable Patched s (busy_up s.from)) (open_enable Patched s (busy_up s.from) c) refl
   up_open c Disable control = refused_does Patched s Disable Disable InTransition InTransition (λ same_event. refl) keeps (no_disable Patched s (busy_up s.from)) (open_disable Patched s (busy_up s.from) c) refl
-  up_open c Reverse control = control_does Patched Unpatched s Reverse Reverse (yes_reverse Patched s (busy_up s.from)) (open_reverse Patched s (busy_up s.from) c) refl refl (falls Patched s.target s.from (let turns = keeps.turns in omega (arith, turns))) down_not_calm (turns_down s keeps) (turn_down_keeps s keeps)
+  up_open c Reverse control = control_does Patched Unpatched s Reverse Reverse (yes_reverse Patched s (busy_up s.from)) (open_reverse Patched s (busy_up s.from) c) refl refl (falls Patched s.target s.from (let turns = keeps.turns in omega (arith, turns))) down_not_settled (turns_down s keeps) (turn_down_keeps s keeps)
   up_open c _ control = absurd (cc)
 
   up_late : complete_in s ≡ true → (event : Event) → is_control event ≡ true → Does Patched s event (heard_late KLP_PATCHED event)
@@ -129,14 +129,14 @@ module _ (s : State) (keeps : Keeps Patched s) where
   up_late c Reverse control =
       let low : nat_eq s.target 0 ≡ false = ne_eqb s.target 0 (λ same. omega (arith, same, keeps.turns)) in
       let back = disable_is_back s keeps in
-      control_does Patched Unpatched s Reverse Disable (yes_reverse Patched s (busy_up s.from)) (late_disable Patched s (busy_up s.from) c low) refl refl (falls Patched s.target (pred s.target) (let turns = keeps.turns in omega (arith, turns))) down_not_calm (turns_down s keeps ∙ ap (linux_of Unpatched) (sym back)) (subst (Keeps Unpatched) (sym back) (turn_down_keeps s keeps))
+      control_does Patched Unpatched s Reverse Disable (yes_reverse Patched s (busy_up s.from)) (late_disable Patched s (busy_up s.from) c low) refl refl (falls Patched s.target (pred s.target) (let turns = keeps.turns in omega (arith, turns))) down_not_settled (turns_down s keeps ∙ ap (linux_of Unpatched) (sym back)) (subst (Keeps Unpatched) (sym back) (turn_down_keeps s keeps))
   up_late c _ control = absurd (cc)
 
 module _ (s : State) (keeps : Keeps Unpatched s) where
   down_open : complete_in s ≡ false → (event : Event) → is_control event ≡ true → Does Unpatched s event event
   down_open c Enable control = refused_does Unpatched s Enable Enable InTransition InTransition (λ same_event. refl) keeps (no_enable Unpatched s (busy_up s.target)) (open_enable Unpatched s (busy_up s.target) c) refl
   down_open c Disable control = refused_does Unpatched s Disable Disable InTransition InTransition (λ same_event. refl) keeps (no_disable Unpatched s (busy_up s.target)) (open_disable Unpatched s (busy_up s.target) c) refl
-  down_open c Reverse control = control_does Unpatched Patched s Reverse Reverse (yes_reverse Unpatched s (busy_up s.target)) (open_reverse Unpatched s (busy_up s.target) c) refl refl (rises Unpatched s.target s.from (let turns = keeps.turns in omega (arith, turns))) up_not_calm (turns_up s keeps) (turn_up_keeps s keeps)
+  down_open c Reverse control = control_does Unpatched Patched s Reverse Reverse (yes_reverse Unpatched s (busy_up s.target)) (open_reverse Unpatched s (busy_up s.target) c) refl refl (rises Unpatched s.target s.from (let turns = keeps.turns in omega (arith, turns))) up_not_settled (turns_up s keeps) (turn_up_keeps s keeps)
   down_open c _ control = absurd (cc)
 
   down_late : complete_in s ≡ true → (event : Event) → is_control event ≡ true → Does Unpatched s event (heard_late KLP_UNPATCHED event)
@@ -145,7 +145,7 @@ module _ (s : State) (keeps : Keeps Unpatched s) where
   down_late c Reverse control =
       let top : nat_eq s.target (length s.patches) ≡ false = ne_eqb s.target (length s.patches) (λ same. omega (arith, same, keeps.turns, keeps.from_in)) in
       let back = enable_is_back s keeps in
-      control_does Unpatched Patched s Reverse Enable (yes_reverse Unpatched s (busy_up s.target)) (late_enable Unpatched s (busy_up s.target) c top) refl refl (rises Unpatched s.target (suc s.target) (omega arith)) up_not_calm (turns_up s keeps ∙ ap (linux_of Patched) (sym back)) (subst (Keeps Patched) (sym back) (turn_up_keeps s keeps))
+      control_does Unpatched Patched s Reverse Enable (yes_reverse Unpatched s (busy_up s.target)) (late_enable Unpatched s (busy_up s.target) c top) refl refl (rises Unpatched s.target (suc s.target) (omega arith)) up_not_settled (turns_up s keeps ∙ ap (linux_of Patched) (sym back)) (subst (Keeps Patched) (sym back) (turn_up_keeps s keeps))
   down_late c _ control = absurd (cc)
 
 -- ---- Any event
@@ -153,14 +153,14 @@ module _ (s : State) (keeps : Keeps Unpatched s) where
 pub does : (phase : Phase) (s : State) → Keeps phase s → RunsOneVersion s → (event : Event) → Does phase s event (heard_as (linux_of phase s) event)
 does phase s keeps one event = by (is_control event) refl
   where
-    calm_control : Keeps Undefined s → (e : Event) → is_control e ≡ true → Does Undefined s e e
-    calm_control keeps Enable control = calm_enable s keeps
-    calm_control keeps Disable control = calm_disable s keeps
-    calm_control keeps Reverse control = calm_reverse s keeps
-    calm_control keeps _ control = absurd (cc)
+    settled_control : Keeps Undefined s → (e : Event) → is_control e ≡ true → Does Undefined s e e
+    settled_control keeps Enable control = settled_enable s keeps
+    settled_control keeps Disable control = settled_disable s keeps
+    settled_control keeps Reverse control = settled_reverse s keeps
+    settled_control keeps _ control = absurd (cc)
 
     controls : (phase : Phase) → Keeps phase s → (b : Bool) → complete_in s ≡ b → (e : Event) → is_control e ≡ true → Does phase s e (heard_as (linux_of phase s) e)
-    controls Undefined keeps b c e control = subst (Does Undefined s e) (sym (calm_heard s keeps e)) (calm_control keeps e control)
+    controls Undefined keeps b c e control = subst (Does Undefined s e) (sym (settled_heard s keeps e)) (settled_control keeps e control)
     controls Patched keeps false c e control = heard_does Patched s (busy_up s.from) false c e (up_open s keeps c e control)
     controls Patched keeps true c e control = heard_does Patched s (busy_up s.from) true c e (up_late s keeps c e control)
     controls Unpatched keeps false c e control = heard_does Unpatched s (busy_up s.target) false c e (down_open s keeps c e control)

@@ -4,10 +4,11 @@ use Rattle.std.proofs.lemmas.Bool.{eq-eqb, ne_eqb}
 use mathlib.Core.Path.{fun_ext}
 use Rattle.lp_definitions.specs.declared.event.Event.TheVariants.{Enable, Disable, Reverse}
 use Rattle.lp_definitions.specs.Tasks.{Fate, Live, map_live}
-use Rattle.lp_definitions.specs.Leg.{Standing, State}
+use Rattle.lp_definitions.specs.Leg.{LegTask, State}
 use Rattle.lp_machine.specs.Machine.{turned}
-use Rattle.lp_linux.specs.Transition.{PatchState, KLP_UNDEFINED, KLP_UNPATCHED, KLP_PATCHED, same_state, TaskStruct, TaskList, Livepatch, Linux, all_tasks, klp_start_transition, klp_reverse_transition, klp_complete_transition, klp_patch_object, below_first, klp_enable_patch, klp_disable_patch}
+use Rattle.lp_linux.specs.Transition.{PatchState, KLP_UNDEFINED, KLP_UNPATCHED, KLP_PATCHED, same_state, TaskStruct, TaskList, Livepatch, Linux, all_tasks, klp_start_transition, klp_complete_transition, klp_patch_object, below_first, klp_enable_patch, klp_disable_patch}
 use Rattle.lp_linux.specs.Reading.{entry_of, task_of}
+use Rattle.lp_linux.proofs.Newer.{klp_reverse_transition}
 use Rattle.lp_linux.proofs.Loops.{Within, within-map, fate_same, fate_map, KeepsClass, all_tasks_are}
 use Rattle.lp_patch.specs.Patches.{patch_has}
 use Rattle.lp_linux.proofs.Own.{h}
@@ -45,19 +46,19 @@ two_loops m klp klp' first keeps within start is =
     ∙ ap (put m klp') (fun_ext (λ u. fate_map (flagged klp'.klp_target_state) first (m.tasks u)))))
 
 -- the tasks, read off other levels
-retold : (f : TaskStruct → TaskStruct) (T T' : Standing → TaskStruct) (tasks : ℕ → Fate Standing) → ((t : ℕ) (x : Standing) → tasks t ≡ Live x → f (T x) ≡ T' x) → ◌≡◌ {A = TaskList} (λ u. map_live f (map_live T (tasks u))) (λ u. map_live T' (tasks u))
+retold : (f : TaskStruct → TaskStruct) (T T' : LegTask → TaskStruct) (tasks : ℕ → Fate LegTask) → ((t : ℕ) (x : LegTask) → tasks t ≡ Live x → f (T x) ≡ T' x) → ◌≡◌ {A = TaskList} (λ u. map_live f (map_live T (tasks u))) (λ u. map_live T' (tasks u))
 retold f T T' tasks same = fun_ext (λ u. fate_map f T (tasks u) ∙ fate_same (λ x. f (T x)) T' (tasks u) (λ x live. same u x live))
 
--- ---- From calm
+-- ---- From settled
 
 module _ (s : State) (keeps : Keeps Undefined s) where
-  calm_level : (t : ℕ) (x : Standing) → s.tasks t ≡ Live x → x.level ≡ s.target
-  calm_level t x live = (keeps.fits t x live).level
+  settled_level : (t : ℕ) (x : LegTask) → s.tasks t ≡ Live x → x.level ≡ s.target
+  settled_level t x live = (keeps.fits t x live).level
 
   abbrev m : Linux
   m = linux_of Undefined s
 
-  enable_task : (x : Standing) → x.level ≡ s.target → flagged KLP_PATCHED (with_state KLP_UNPATCHED (task_of (klp_of Undefined s) s.target x)) ≡ task_of (klp_of Patched (turned h s Enable)) (suc s.target) x
+  enable_task : (x : LegTask) → x.level ≡ s.target → flagged KLP_PATCHED (with_state KLP_UNPATCHED (task_of (klp_of Undefined s) s.target x)) ≡ task_of (klp_of Patched (turned h s Enable)) (suc s.target) x
   enable_task x level = sym (task_by (klp_of Patched (turned h s Enable)) (suc s.target) x false (ne_eqb x.level (suc s.target) (λ same. omega (arith, same, level))))
 
   pub enables : klp_enable_patch m ≡ linux_of Patched (turned h s Enable)
@@ -65,7 +66,7 @@ module _ (s : State) (keeps : Keeps Undefined s) where
       let klp : Livepatch = record { patches = s.patches; in_place = s.target; func_stack = stack_of s.patches s.target; klp_transition_patch = suc s.target; klp_target_state = KLP_PATCHED } in
       two_loops m klp (klp_of Patched (turned h s Enable)) (with_state KLP_UNPATCHED) (λ x. refl) (linux_within Undefined s keeps)
       (λ now. klp_start_transition (record now { klp = klp_patch_object (suc s.target) now.klp })) (λ tasks. refl)
-      ∙ ap (put m (klp_of Patched (turned h s Enable))) (retold (λ x. flagged KLP_PATCHED (with_state KLP_UNPATCHED x)) (task_of (klp_of Undefined s) s.target) (task_of (klp_of Patched (turned h s Enable)) (suc s.target)) s.tasks (λ t x live. enable_task x (calm_level t x live)))
+      ∙ ap (put m (klp_of Patched (turned h s Enable))) (retold (λ x. flagged KLP_PATCHED (with_state KLP_UNPATCHED x)) (task_of (klp_of Undefined s) s.target) (task_of (klp_of Patched (turned h s Enable)) (suc s.target)) s.tasks (λ t x live. enable_task x (settled_level t x live)))
 
   pub enable_keeps : s.target ≤ length s.patches → (nat_eq s.target (length s.patches) ≡ false) → suc s.target ≤ length s.patches → Keeps Patched (turned h s Enable)
   enable_keeps le no_more further =
@@ -82,14 +83,14 @@ module _ (s : State) (keeps : Keeps Undefined s) where
         let past : s.target ≡ suc (pred s.target) = omega (arith, is) in
         ap (λ (n : ℕ). record { patches = s.patches; in_place = n; func_stack = stack_of s.patches n; klp_transition_patch = n; klp_target_state = KLP_UNPATCHED }) past
 
-    disable_task : (x : Standing) → x.level ≡ s.target → flagged KLP_UNPATCHED (with_state KLP_PATCHED (task_of (klp_of Undefined s) s.target x)) ≡ task_of (klp_of Unpatched (turned h s Disable)) (pred s.target) x
+    disable_task : (x : LegTask) → x.level ≡ s.target → flagged KLP_UNPATCHED (with_state KLP_PATCHED (task_of (klp_of Undefined s) s.target x)) ≡ task_of (klp_of Unpatched (turned h s Disable)) (pred s.target) x
     disable_task x level = sym (task_by (klp_of Unpatched (turned h s Disable)) (pred s.target) x false (ne_eqb x.level (pred s.target) (λ same. omega (arith, same, level, is))))
 
     pub disables : klp_disable_patch m ≡ linux_of Unpatched (turned h s Disable)
     disables =
         let klp : Livepatch = record { patches = s.patches; in_place = s.target; func_stack = stack_of s.patches s.target; klp_transition_patch = s.target; klp_target_state = KLP_UNPATCHED } in
         two_loops m klp klp (with_state KLP_PATCHED) (λ x. refl) (linux_within Undefined s keeps) klp_start_transition (λ tasks. refl)
-        ∙ (ap (put m klp) (retold (λ x. flagged KLP_UNPATCHED (with_state KLP_PATCHED x)) (task_of (klp_of Undefined s) s.target) (task_of (klp_of Unpatched (turned h s Disable)) (pred s.target)) s.tasks (λ t x live. disable_task x (calm_level t x live)))
+        ∙ (ap (put m klp) (retold (λ x. flagged KLP_UNPATCHED (with_state KLP_PATCHED x)) (task_of (klp_of Undefined s) s.target) (task_of (klp_of Unpatched (turned h s Disable)) (pred s.target)) s.tasks (λ t x live. disable_task x (settled_level t x live)))
         ∙ ap (λ k. put m k (λ u. map_live (task_of (klp_of Unpatched (turned h s Disable)) (pred s.target)) (s.tasks u))) down_klp)
 
     pub disable_keeps : Keeps Unpatched (turned h s Disable)
@@ -114,7 +115,7 @@ module _ (s : State) (keeps : Keeps Patched s) where
   abbrev up : Linux
   up = linux_of Patched s
 
-  up_task : (x : Standing) → x.level ≡ s.target ⊎ x.level ≡ s.from → flagged KLP_UNPATCHED (cleared (task_of (klp_of Patched s) s.target x)) ≡ task_of (klp_of Unpatched (turned h s Reverse)) s.from x
+  up_task : (x : LegTask) → x.level ≡ s.target ⊎ x.level ≡ s.from → flagged KLP_UNPATCHED (cleared (task_of (klp_of Patched s) s.target x)) ≡ task_of (klp_of Unpatched (turned h s Reverse)) s.from x
   up_task x level =
       ⊎_elim
       (λ (on : x.level ≡ s.target).
@@ -144,7 +145,7 @@ module _ (s : State) (keeps : Keeps Unpatched s) where
   abbrev down : Linux
   down = linux_of Unpatched s
 
-  down_task : (x : Standing) → x.level ≡ s.target ⊎ x.level ≡ s.from → flagged KLP_PATCHED (cleared (task_of (klp_of Unpatched s) s.target x)) ≡ task_of (klp_of Patched (turned h s Reverse)) s.from x
+  down_task : (x : LegTask) → x.level ≡ s.target ⊎ x.level ≡ s.from → flagged KLP_PATCHED (cleared (task_of (klp_of Unpatched s) s.target x)) ≡ task_of (klp_of Patched (turned h s Reverse)) s.from x
   down_task x level =
       ⊎_elim
       (λ (on : x.level ≡ s.target).
@@ -183,7 +184,7 @@ enable_is_back s keeps =
 
 -- ---- Completing
 
-undefined : (klp : Livepatch) (target : ℕ) (s : State) (x : Standing) → klp.patches ≡ s.patches → with_state KLP_UNDEFINED (task_of klp target x) ≡ task_of (klp_of Undefined s) target x
+undefined : (klp : Livepatch) (target : ℕ) (s : State) (x : LegTask) → klp.patches ≡ s.patches → with_state KLP_UNDEFINED (task_of klp target x) ≡ task_of (klp_of Undefined s) target x
 undefined klp target s x same = by (nat_eq x.level target)
   where
     by : (b : Bool) → ◌≡◌ {A = TaskStruct} (record { class = x.class; mode = x.mode; stack = map (entry_of klp.patches) x.frames; patch_state = KLP_UNDEFINED; TIF_PATCH_PENDING = not (nat_eq x.level target) }) (record { class = x.class; mode = x.mode; stack = map (entry_of s.patches) x.frames; patch_state = if b then KLP_UNDEFINED else KLP_UNDEFINED; TIF_PATCH_PENDING = not (nat_eq x.level target) })

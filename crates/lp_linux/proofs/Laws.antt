@@ -1,6 +1,6 @@
--- The laws of Linux's procedure.
-use Rattle.std.proofs.Common.{◌≡◌, ◌≢◌, ℕ, suc, ◌<◌, ◌≤◌, Bool, true, false, not, ◌&&◌, List, [], ◌∷◌, ◌++◌, All, Option, Some, None, IsTrue, if◌then◌else◌, nat_eq, refl, sym, ap, ap₂, ◌∙◌, subst, arith, append_assoc}
-use Rattle.std.proofs.lemmas.Bool.{eqb-true, eq-eqb, ne_eqb, cond_both, cond-false, and_parts}
+-- The laws of the procedure of 6.12.
+use Rattle.std.proofs.Common.{◌≡◌, ◌≢◌, ℕ, suc, ◌<◌, ◌≤◌, Bool, true, false, not, ◌&&◌, List, [], ◌∷◌, ◌++◌, All, Option, Some, None, if◌then◌else◌, nat_eq, refl, sym, ap, ap₂, ◌∙◌, subst, arith, append_assoc}
+use Rattle.std.proofs.lemmas.Bool.{eqb-true, eq-eqb, ne_eqb, cond_both, and_parts}
 use Rattle.std.proofs.lemmas.List.{append-nil}
 use Rattle.std.proofs.lemmas.List.Elements.{All-head, All-tail}
 use mathlib.Core.Path.{fun_ext}
@@ -10,34 +10,33 @@ use Rattle.lp_patch.specs.Patches.{version}
 use Rattle.lp_model.specs.Rules.{IsLawful}
 use Rattle.lp_models.specs.inside.ModelLaws.{hybrid_lawful}
 use Rattle.lp_definitions.specs.declared.event.Event.{Event}
-use Rattle.lp_definitions.specs.declared.event.Event.TheVariants.{Walk, Enable, Disable, Reverse}
+use Rattle.lp_definitions.specs.declared.event.Event.TheVariants.{Walk}
 use Rattle.lp_definitions.specs.declared.refusal.Refusal.{Refusal}
-use Rattle.lp_definitions.specs.declared.refusal.Refusal.TheVariants.{InTransition, AlreadyThere}
 use Rattle.lp_definitions.specs.declared.reply.Reply.{Reply}
 use Rattle.lp_definitions.specs.Events.{is_control}
-use Rattle.lp_laws.proofs.Plain.{none_first, unfit}
-use Rattle.lp_definitions.specs.Tasks.{Fate, Live, map_live, fits}
-use Rattle.lp_definitions.specs.Leg.{Standing, State, Leg}
+use Rattle.lp_definitions.specs.Tasks.{Fate, Live, map_live}
+use Rattle.lp_definitions.specs.Leg.{LegTask, State, Leg}
 use Rattle.lp_definitions.specs.Sound.{RunsOneVersion}
 use Rattle.lp_definitions.specs.Run.{Run, AreInRange, first_mode, at_boot, booted, first_leg, leg_after, leg_of, and_then, is_complete_now, shown, opened, opens, next_leg, reply}
 use Rattle.lp_machine.specs.Machine.{complete_in, refusal_of, next, state_of}
 use Rattle.lp_machine.specs.Steps.{StandsIn}
 use Rattle.lp_laws.proofs.LawProofs.{keeps_one_version, opens_soundly}
 use Rattle.lp_transition.proofs.Readers.{states_tell}
-use Rattle.lp_machine.proofs.Runs.{started, steps_as_defined}
-use Rattle.lp_machine.proofs.Steps.{complete_is}
-use Rattle.lp_linux.specs.Transition.{PatchState, opposite, klp_try_complete_transition, klp_enable_patch, klp_disable_patch, KLP_UNDEFINED, KLP_UNPATCHED, KLP_PATCHED, TaskStruct, Linux}
-use Rattle.lp_linux.specs.Events.{born, booted as klp_booted, refusal, step, run, boot}
-use Rattle.lp_linux.specs.Reading.{awaits_walk, heard_late, heard_as, heard, NoneLate, task_of, names, Heads, Nowhere, Up as HeadsUp, Down as HeadsDown}
-use Rattle.lp_linux.specs.Laws.{StandsAs, StepsAs, TriesAs, DecidesAsHybrid}
+use Rattle.lp_machine_laws.proofs.Runs.{started, steps_as_defined}
+use Rattle.lp_machine_laws.proofs.Steps.{complete_is}
+use Rattle.lp_linux.specs.Transition.{PatchState, opposite, KLP_UNDEFINED, KLP_UNPATCHED, KLP_PATCHED, TaskStruct, Linux}
+use Rattle.lp_linux.specs.Events.{born, booted as klp_booted, run as run_of, boot}
+use Rattle.lp_linux.specs.Reading.{awaits_walk, heard_as, heard as heard_of, task_of, names, Heads, Nowhere, Up as HeadsUp, Down as HeadsDown}
+use Rattle.lp_linux.specs.Laws.{StandsAs, StepsAs, TriesAs}
+use Rattle.lp_linux.proofs.Newer.{step, run, heard}
 use Rattle.lp_linux.proofs.Own.{h, Fit, Fits}
 use Rattle.lp_linux.proofs.Loops.{fate_from}
 use Rattle.lp_linux.specs.declared.follow.TargetState.{TargetState as Phase}
 use Rattle.lp_linux.specs.declared.follow.TargetState.TheVariants.{Undefined, Patched, Unpatched}
 use Rattle.lp_linux.specs.Followed.{klp_of, linux_of}
-use Rattle.lp_linux.proofs.Phases.{Keeps, awaits_is, calm_complete, task_by}
-use Rattle.lp_linux.proofs.Told.{answer_names, over_stays, codes, passes_code}
-use Rattle.lp_linux.proofs.Steps.{Does, next-refused, next-plain, step-accepted, heard_plain}
+use Rattle.lp_linux.proofs.Phases.{Keeps, awaits_is, settled_complete, task_by}
+use Rattle.lp_linux.proofs.Told.{answer_names, over_stays, codes, passes_code, own_codes, passes_own_code}
+use Rattle.lp_linux.proofs.Steps.{Does, next-refused, next-plain, heard_plain}
 use Rattle.lp_linux.proofs.AnyEvent.{does}
 
 pub lawful : IsLawful h
@@ -108,8 +107,8 @@ module _ (r : Run) (ok : AreInRange r.bounds r.boots) where
           record {
             positive = subst (λ n. 0 < n) (sym same) place.0;
             within = subst (λ n. n ≤ r.bounds.tasks) (sym same) place.1;
-            own = ap (λ (y : Standing). y.group) (sym is);
-            level = ap (λ (y : Standing). y.level) (sym is);
+            own = ap (λ (y : LegTask). y.group) (sym is);
+            level = ap (λ (y : LegTask). y.level) (sym is);
           }
       by rest false e there = rest there
 
@@ -144,7 +143,7 @@ module _ (r : Run) (ok : AreInRange r.bounds r.boots) where
           record { phase = one.after; is = one.there ∙ ap (linux_of one.after) went; keeps = subst (Keeps one.after) went one.keeps }
 
   all_along : (events told : List Event) (m : Linux) → Follows told m → Follows (told ++ heard m events) (run m events)
-  unfolding heard run
+  unfolding heard_of run_of
   all_along [] told m follows = subst (λ list. Follows list m) (sym (append-nil told)) follows
   all_along (event ∷ events) told m follows =
       subst (λ list. Follows list (run (step m event) events)) (append_assoc told (heard_as m event ∷ []) (heard (step m event) events))
@@ -156,15 +155,15 @@ module _ (r : Run) (ok : AreInRange r.bounds r.boots) where
   -- ---- What follows
 
   -- where nothing is in transition
-  calm_of : (phase : Phase) (s : State) → (klp_of phase s).klp_transition_patch ≡ 0 → phase ≡ Undefined
-  calm_of Undefined s e = refl
-  calm_of Patched s e = absurd (omega (arith, e))
-  calm_of Unpatched s e = absurd (omega (arith, e))
+  settled_of : (phase : Phase) (s : State) → (klp_of phase s).klp_transition_patch ≡ 0 → phase ≡ Undefined
+  settled_of Undefined s e = refl
+  settled_of Patched s e = absurd (omega (arith, e))
+  settled_of Unpatched s e = absurd (omega (arith, e))
 
-  calm_patch : (phase : Phase) (s : State) → phase ≡ Undefined → (klp_of phase s).klp_transition_patch ≡ 0
-  calm_patch phase s e = ap (λ p. (klp_of p s).klp_transition_patch) e
+  settled_patch : (phase : Phase) (s : State) → phase ≡ Undefined → (klp_of phase s).klp_transition_patch ≡ 0
+  settled_patch phase s e = ap (λ p. (klp_of p s).klp_transition_patch) e
 
-  stands_as : (told : List Event) (m : Linux) → Follows told m → StandsAs m (leg_at told)
+  pub stands_as : (told : List Event) (m : Linux) → Follows told m → StandsAs m (leg_at told)
   stands_as told m follows = subst (λ k. StandsAs k (leg_at told)) (sym follows.is) (by follows.phase follows.keeps)
     where
       heads_of : (phase : Phase) → Keeps phase (at told) → Heads (klp_of phase (at told)) (leg_at told).from (leg_at told).target (shown h (leg_at told))
@@ -197,7 +196,7 @@ module _ (r : Run) (ok : AreInRange r.bounds r.boots) where
           not_undefined KLP_UNPATCHED (nat_eq one.life.level (at told).target) (λ is. absurd (cc)) (λ is. absurd (cc)) (sym (ap (λ (k : TaskStruct). k.patch_state) one.is) ∙ same)
 
       complete_of : (phase : Phase) → Keeps phase (at told) → (klp_of phase (at told)).klp_transition_patch ≡ 0 → is_complete_now h (leg_at told) ≡ true
-      complete_of Undefined keeps e = sym (complete_is h (leg_at told)) ∙ calm_complete (at told) keeps
+      complete_of Undefined keeps e = sym (complete_is h (leg_at told)) ∙ settled_complete (at told) keeps
       complete_of Patched keeps e = absurd (omega (arith, e))
       complete_of Unpatched keeps e = absurd (omega (arith, e))
 
@@ -212,13 +211,13 @@ module _ (r : Run) (ok : AreInRange r.bounds r.boots) where
             awaits = awaits_is phase (at told) ∙ ap (λ b. not (nat_eq (klp_of phase (at told)).klp_transition_patch 0) && b) (complete_is h (leg_at told));
           }
 
-  steps_as : (told : List Event) (m : Linux) → Follows told m → (event : Event) → StepsAs m (leg_at told) event
-  steps_as told m follows event = subst (λ k. StepsAs k (leg_at told) event) (sym follows.is) (by follows.phase follows.keeps)
+  pub steps_as : (told : List Event) (m : Linux) → Follows told m → (event : Event) → StepsAs m (step m event) (leg_at told) event
+  steps_as told m follows event = subst (λ k. StepsAs k (step k event) (leg_at told) event) (sym follows.is) (by follows.phase follows.keeps)
     where
       one_plain : (phase : Phase) (keeps : Keeps phase (at told)) → is_control event ≡ false → Does phase (at told) event event
       one_plain phase keeps plain = subst (Does phase (at told) event) (heard_plain (linux_of phase (at told)) event plain) (did told phase keeps event)
 
-      -- a plain event leaves the target
+      -- an event that is no control event leaves the target
       target_stays : is_control event ≡ false → (next h (at told) event).target ≡ (at told).target
       target_stays plain = by_why (refusal_of h (at told) event) refl
         where
@@ -246,10 +245,10 @@ module _ (r : Run) (ok : AreInRange r.bounds r.boots) where
       stays_of phase keeps over plain no_walk =
           let did_one = one_plain phase keeps plain in
           let parts = and_parts _ _ (sym (awaits_is phase (at told)) ∙ over) in
-          let moving : phase ≡ Undefined → ⊥ = λ calm. let zero_patch = eq-eqb _ 0 (calm_patch phase (at told) calm) in let no_way : false ≡ true = sym (ap not zero_patch) ∙ parts.0 in absurd (cc) in
-          ap awaits_walk did_one.there ∙ awaits_of did_one.after (next h (at told) event) (λ calm. no_walk (did_one.ends moving calm).0) (over_stays phase (at told) keeps event plain parts.1)
+          let moving : phase ≡ Undefined → ⊥ = λ settled. let zero_patch = eq-eqb _ 0 (settled_patch phase (at told) settled) in let no_way : false ≡ true = sym (ap not zero_patch) ∙ parts.0 in absurd (cc) in
+          ap awaits_walk did_one.there ∙ awaits_of did_one.after (next h (at told) event) (λ settled. no_walk (did_one.ends moving settled).0) (over_stays phase (at told) keeps event plain parts.1)
 
-      by : (phase : Phase) → Keeps phase (at told) → StepsAs (linux_of phase (at told)) (leg_at told) event
+      by : (phase : Phase) → Keeps phase (at told) → StepsAs (linux_of phase (at told)) (step (linux_of phase (at told)) event) (leg_at told) event
       by phase keeps =
           let one = did told phase keeps event in
           let heard_event = heard_as (linux_of phase (at told)) event in
@@ -264,62 +263,20 @@ module _ (r : Run) (ok : AreInRange r.bounds r.boots) where
             switches = switches_of phase keeps;
             keeps_awaiting = stays_of phase keeps;
             completes = λ before after.
-                let ended = one.ends (λ calm. before (calm_patch phase (at told) calm)) (calm_of one.after (next h (at told) heard_event) (sym patch_then ∙ after)) in
+                let ended = one.ends (λ settled. before (settled_patch phase (at told) settled)) (settled_of one.after (next h (at told) heard_event) (sym patch_then ∙ after)) in
                 (ended.0, sym complete_then ∙ ended.1);
-            completes_first = λ walk done. patch_then ∙ calm_patch one.after (next h (at told) heard_event) (one.ends_there walk (complete_then ∙ done));
+            completes_first = λ walk done. patch_then ∙ settled_patch one.after (next h (at told) heard_event) (one.ends_there walk (complete_then ∙ done));
           }
 
-  tries_as : (told : List Event) (m : Linux) → Follows told m → m.klp.klp_transition_patch ≢ 0 → (t : ℕ) (x : Standing) → shown h (leg_at told) t ≡ Live x → TriesAs m (leg_at told) t x
-  tries_as told m follows = subst (λ (k : Linux). k.klp.klp_transition_patch ≢ 0 → (t : ℕ) (x : Standing) → shown h (leg_at told) t ≡ Live x → TriesAs k (leg_at told) t x) (sym follows.is) (by follows.phase follows.keeps)
+  pub tries_as : (told : List Event) (m : Linux) → Follows told m → m.klp.klp_transition_patch ≢ 0 → (t : ℕ) (x : LegTask) → shown h (leg_at told) t ≡ Live x → TriesAs m (leg_at told) t x
+  tries_as told m follows = subst (λ (k : Linux). k.klp.klp_transition_patch ≢ 0 → (t : ℕ) (x : LegTask) → shown h (leg_at told) t ≡ Live x → TriesAs k (leg_at told) t x) (sym follows.is) (by follows.phase follows.keeps)
     where
-      by : (phase : Phase) → Keeps phase (at told) → (klp_of phase (at told)).klp_transition_patch ≢ 0 → (t : ℕ) (x : Standing) → shown h (leg_at told) t ≡ Live x → TriesAs (linux_of phase (at told)) (leg_at told) t x
+      by : (phase : Phase) → Keeps phase (at told) → (klp_of phase (at told)).klp_transition_patch ≢ 0 → (t : ℕ) (x : LegTask) → shown h (leg_at told) t ≡ Live x → TriesAs (linux_of phase (at told)) (leg_at told) t x
       by phase keeps set t x live =
-          record { code = codes phase (at told) keeps (one_version told) (λ calm. set (calm_patch phase (at told) calm)) t x live; admits = passes_code (leg_at told).aim t x }
-
--- ---- The events as they are heard
-
-heard_late_plain : (target : PatchState) (event : Event) → is_control event ≡ false → heard_late target event ≡ event
-heard_late_plain target Enable plain = absurd (cc)
-heard_late_plain target Disable plain = absurd (cc)
-heard_late_plain target Reverse plain = absurd (cc)
-heard_late_plain target event plain = refl
-
-heard_itself : (m : Linux) (event : Event) → (IsTrue (awaits_walk m) → is_control event ≡ false) → heard_as m event ≡ event
-heard_itself m event calm = by (awaits_walk m) refl
-  where
-    by : (b : Bool) → awaits_walk m ≡ b → heard_as m event ≡ event
-    by true e = ap (λ b. if b then heard_late m.klp.klp_target_state event else event) e ∙ heard_late_plain m.klp.klp_target_state event (calm e)
-    by false e = ap (λ b. if b then heard_late m.klp.klp_target_state event else event) e
-
-heard_same : (events : List Event) (m : Linux) → NoneLate m events → heard m events ≡ events
-unfolding NoneLate heard
-heard_same [] m none_late = refl
-heard_same (event ∷ events) m none_late = ap₂ (λ e es. e ∷ es) (heard_itself m event none_late.0) (heard_same events (step m event) none_late.1)
-
--- ---- Enabling and disabling walk at once
-
-walks_then : (m : Linux) → nat_eq m.klp.klp_transition_patch 0 ≡ false → step m Walk ≡ klp_try_complete_transition m
-unfolding refusal
-walks_then m busy = step-accepted m Walk refl ∙ cond-false _ _ _ busy
-
-enabling : (m : Linux) → refusal m Enable ≡ None → run m (Enable ∷ Walk ∷ []) ≡ klp_try_complete_transition (klp_enable_patch m)
-unfolding run
-enabling m ok = ap (λ k. step k Walk) (step-accepted m Enable ok) ∙ walks_then (klp_enable_patch m) (ne_eqb (suc m.klp.in_place) 0 (λ same. omega (arith, same)))
-
-disabling : (m : Linux) → refusal m Disable ≡ None → run m (Disable ∷ Walk ∷ []) ≡ klp_try_complete_transition (klp_disable_patch m)
-unfolding run refusal
-disabling m ok =
-    let first = none_first (fits (not (nat_eq m.klp.klp_transition_patch 0)) InTransition) (fits (nat_eq m.klp.in_place 0) AlreadyThere ∷ []) ok in
-    let second = none_first (fits (nat_eq m.klp.in_place 0) AlreadyThere) [] first.1 in
-    ap (λ k. step k Walk) (step-accepted m Disable ok) ∙ walks_then (klp_disable_patch m) (unfit (nat_eq m.klp.in_place 0) AlreadyThere second.0)
-
-pub decides_as_hybrid : DecidesAsHybrid
-decides_as_hybrid =
-    record {
-      stands = λ r ok. stands_as r ok (heard (boot r.bounds r.patches r.boots) r.events) (run (boot r.bounds r.patches r.boots) r.events) (follows_run r ok);
-      steps = λ r ok event. steps_as r ok (heard (boot r.bounds r.patches r.boots) r.events) (run (boot r.bounds r.patches r.boots) r.events) (follows_run r ok) event;
-      tries = λ r ok. tries_as r ok (heard (boot r.bounds r.patches r.boots) r.events) (run (boot r.bounds r.patches r.boots) r.events) (follows_run r ok);
-      same_events = λ r none_late. ap (λ events. leg_of h (record r { events = events })) (heard_same r.events (boot r.bounds r.patches r.boots) none_late);
-      enables = enabling;
-      disables = disabling;
-    }
+          let moving : phase ≡ Undefined → ⊥ = λ settled. set (settled_patch phase (at told) settled) in
+          record {
+            code = codes phase (at told) keeps (one_version told) moving t x live;
+            admits = passes_code (leg_at told).aim t x;
+            own_code = own_codes phase (at told) keeps (one_version told) moving t x live;
+            own_admits = passes_own_code (leg_at told).aim t x;
+          }

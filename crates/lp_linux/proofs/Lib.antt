@@ -1,13 +1,15 @@
+pub mod Newer
 pub mod Loops
 pub mod Stacks
 pub mod Own
 pub mod Phases
-pub mod Plain
+pub mod TaskEvents
 pub mod Controls
 pub mod Moves
 pub mod Steps
 pub mod AnyEvent
 pub mod Told
 pub mod Laws
+pub mod Releases
 pub mod Following
 pub mod Rows

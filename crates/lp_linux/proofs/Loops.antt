@@ -103,10 +103,10 @@ module _ (f : TaskStruct → TaskStruct) (keeps : KeepsClass f) where
 module _ (klp : Livepatch) where
   -- one task tried
   abbrev pub tried : TaskStruct → TaskStruct
-  tried x = (klp_try_switch_task klp x).task
+  tried x = (klp_try_switch_task false klp x).task
 
   abbrev pub passes : TaskStruct → Bool
-  passes x = is_ok (klp_try_switch_task klp x).code
+  passes x = is_ok (klp_try_switch_task false klp x).code
 
   tried_keeps : KeepsClass tried
   tried_keeps x =
@@ -114,7 +114,7 @@ module _ (klp : Livepatch) where
       (λ e. cond_both (task_curr x) _ _ (λ (r : Tried). r.task.class ≡ x.class) (λ e. refl)
       (λ e. cond_both (klp_check_stack klp x.stack) _ _ (λ (r : Tried). r.task.class ≡ x.class) (λ e. refl) (λ e. refl)))
 
-  try_same : (class : Class) (x : TaskStruct) → same_class x.class class ≡ true → try_of klp class x ≡ klp_try_switch_task klp x
+  try_same : (class : Class) (x : TaskStruct) → same_class x.class class ≡ true → try_of klp class x ≡ klp_try_switch_task false klp x
   try_same class x e = cond-true _ _ _ e
 
   try_other : (class : Class) (x : TaskStruct) → same_class x.class class ≡ false → try_of klp class x ≡ record { code = OK; task = x }

@@ -11,17 +11,17 @@ use Rattle.lp_definitions.specs.declared.refusal.Refusal.TheVariants.{TaskUsed}
 use Rattle.lp_definitions.specs.Events.{is_control}
 use Rattle.lp_definitions.specs.Run.{switched, control_tests}
 use Rattle.lp_definitions.specs.Tasks.{Fate, Unused, Live, Dead, map_live, is_unused, first_of, tests, unknown_task, out_of_range, used, not_of, not_in}
-use Rattle.lp_definitions.specs.Leg.{Standing, State}
+use Rattle.lp_definitions.specs.Leg.{LegTask, State}
 use Rattle.lp_machine.specs.Machine.{outline_of, outlines_of, put_in, calling, returning, bearing, own_effect, complete_in, switches_at, switched_groups, switched_task, refusal_of, affected, with_switches, told}
-use Rattle.lp_laws.proofs.Plain.{none_first, unfit}
-use Rattle.lp_laws.proofs.Quantifiers.{each_live-from}
+use Rattle.lp_laws.proofs.NextTasks.{none_first, unfit}
+use Rattle.lp_definitions.proofs.Quantifiers.{each_live-from}
 use Rattle.lp_linux.specs.Transition.{KLP_UNDEFINED, Livepatch}
 use Rattle.lp_linux.specs.Reading.{names}
 use Rattle.lp_linux.proofs.Loops.{fate_from}
 use Rattle.lp_linux.proofs.Stacks.{any_one}
 use Rattle.lp_linux.proofs.Own.{h, Fits, effect_fits, waits_own}
 use Rattle.lp_linux.proofs.Phases.{complete_levels}
-use Rattle.lp_linux.proofs.Plain.{lifted, quiet_switches}
+use Rattle.lp_linux.proofs.TaskEvents.{lifted, quiet_switches}
 
 -- ---- A list of groups
 
@@ -48,28 +48,28 @@ names_of (group ∷ groups) t = refl
 -- ---- A task's level at an event
 
 module _ (s : State) where
-  changed_level : (f : Standing → Standing) → ((x : Standing) → (f x).level ≡ x.level) → (b : Bool) (fate : Fate Standing) (x y : Standing) → fate ≡ Live x → (if b then map_live f fate else fate) ≡ Live y → y.level ≡ x.level
+  changed_level : (f : LegTask → LegTask) → ((x : LegTask) → (f x).level ≡ x.level) → (b : Bool) (fate : Fate LegTask) (x y : LegTask) → fate ≡ Live x → (if b then map_live f fate else fate) ≡ Live y → y.level ≡ x.level
   changed_level f levels true Unused x y e g = absurd (cc)
   changed_level f levels true (Live z) x y e g =
       let first : z ≡ x = cc in
       let second : f z ≡ y = cc in
-      ap (λ (w : Standing). w.level) (sym second) ∙ (levels z ∙ ap (λ (w : Standing). w.level) first)
+      ap (λ (w : LegTask). w.level) (sym second) ∙ (levels z ∙ ap (λ (w : LegTask). w.level) first)
   changed_level f levels true Dead x y e g = absurd (cc)
-  changed_level f levels false fate x y e g = let same : x ≡ y = let both : Live x ≡ Live y = sym e ∙ g in cc in ap (λ (w : Standing). w.level) (sym same)
+  changed_level f levels false fate x y e g = let same : x ≡ y = let both : Live x ≡ Live y = sym e ∙ g in cc in ap (λ (w : LegTask). w.level) (sym same)
 
   -- a live task's number is no child's
-  used_number : (p c : ℕ) (rest : List (Option Refusal)) → first_of (unknown_task (outlines_of s.tasks) p ∷ out_of_range s.bounds c ∷ used (outlines_of s.tasks) c ∷ rest) ≡ None → (x : Standing) → s.tasks c ≡ Live x → ⊥
+  used_number : (p c : ℕ) (rest : List (Option Refusal)) → first_of (unknown_task (outlines_of s.tasks) p ∷ out_of_range s.bounds c ∷ used (outlines_of s.tasks) c ∷ rest) ≡ None → (x : LegTask) → s.tasks c ≡ Live x → ⊥
   used_number p c rest ok x live =
       let seen = outlines_of s.tasks in
       let a = none_first (unknown_task seen p) (out_of_range s.bounds c ∷ used seen c ∷ rest) ok in
       let b = none_first (out_of_range s.bounds c) (used seen c ∷ rest) a.1 in
       let d = none_first (used seen c) rest b.1 in
       let unused : not (is_unused (seen c)) ≡ false = unfit _ TaskUsed d.0 in
-      let is_live : not (is_unused (seen c)) ≡ true = ap (λ (fate : Fate Standing). not (is_unused (map_live outline_of fate))) live in
+      let is_live : not (is_unused (seen c)) ≡ true = ap (λ (fate : Fate LegTask). not (is_unused (map_live outline_of fate))) live in
       let no_way : true ≡ false = sym is_live ∙ unused in
       absurd (cc)
 
-  pub kept_level : (event : Event) (rest : List (Option Refusal)) → first_of (tests s.bounds (outlines_of s.tasks) event ++ rest) ≡ None → (number t : ℕ) (x y : Standing) → s.tasks t ≡ Live x → own_effect h.child_group number event s.tasks t ≡ Live y → y.level ≡ x.level
+  pub kept_level : (event : Event) (rest : List (Option Refusal)) → first_of (tests s.bounds (outlines_of s.tasks) event ++ rest) ≡ None → (number t : ℕ) (x y : LegTask) → s.tasks t ≡ Live x → own_effect h.child_group number event s.tasks t ≡ Live y → y.level ≡ x.level
   kept_level (Call a f) rest ok number t x y e g = changed_level (calling number f) (λ z. refl) (nat_eq t a.0) (s.tasks t) x y e g
   kept_level (Ret a) rest ok number t x y e g = changed_level returning (λ z. refl) (nat_eq t a.0) (s.tasks t) x y e g
   kept_level (Sleep a) rest ok number t x y e g = changed_level (put_in Asleep) (λ z. refl) (nat_eq t a.0) (s.tasks t) x y e g
@@ -101,7 +101,7 @@ still_there target level = by (nat_eq level target)
     by true = refl
     by false = refl
 
-module _ (R : ℕ → Type 0) (s : State) (event : Event) (fits_now : Fits s.bounds.tasks R (affected h s event).tasks) (t : ℕ) (x z : Standing) (before : s.tasks t ≡ Live x) (between : (affected h s event).tasks t ≡ Live z) (same : z.level ≡ x.level) where
+module _ (R : ℕ → Type 0) (s : State) (event : Event) (fits_now : Fits s.bounds.tasks R (affected h s event).tasks) (t : ℕ) (x z : LegTask) (before : s.tasks t ≡ Live x) (between : (affected h s event).tasks t ≡ Live z) (same : z.level ≡ x.level) where
   abbrev now : State
   now = affected h s event
 
@@ -117,7 +117,7 @@ module _ (R : ℕ → Type 0) (s : State) (event : Event) (fits_now : Fits s.bou
       let parts = and_parts _ _ e in
       ap (λ l. not (nat_eq l s.target)) (sym same) ∙ (sym (waits_own R now fits_now t z between) ∙ parts.0)
 
-  pub goes_is : (y : Standing) → (with_switches h s event).tasks t ≡ Live y → goes ≡ went_over s.target x.level y.level
+  pub goes_is : (y : LegTask) → (with_switches h s event).tasks t ≡ Live y → goes ≡ went_over s.target x.level y.level
   goes_is y after = by goes refl
     where
       is : y ≡ lifted s.target goes z
@@ -125,10 +125,10 @@ module _ (R : ℕ → Type 0) (s : State) (event : Event) (fits_now : Fits s.bou
 
       by : (b : Bool) → goes ≡ b → goes ≡ went_over s.target x.level y.level
       by true e =
-          let up : y.level ≡ s.target = ap (λ (w : Standing). w.level) is ∙ ap (λ b. (lifted s.target b z).level) e in
+          let up : y.level ≡ s.target = ap (λ (w : LegTask). w.level) is ∙ ap (λ b. (lifted s.target b z).level) e in
           e ∙ sym (ap₂ (λ a b. a && not (not b)) (waits_where e) (eq-eqb y.level s.target up))
       by false e =
-          let stays : y.level ≡ x.level = ap (λ (w : Standing). w.level) is ∙ (ap (λ b. (lifted s.target b z).level) e ∙ same) in
+          let stays : y.level ≡ x.level = ap (λ (w : LegTask). w.level) is ∙ (ap (λ b. (lifted s.target b z).level) e ∙ same) in
           e ∙ sym (ap (went_over s.target x.level) stays ∙ still_there s.target x.level)
 
 -- any patch does for an event that doesn't look at it
@@ -144,8 +144,8 @@ module _ (R : ℕ → Type 0) (s : State) (all : Fits s.bounds.tasks R s.tasks) 
       any_filter (nat_eq t) p (range_with_len 0 (suc s.bounds.tasks))
       ∙ (any_one (λ g. nat_eq t g && p g) (suc s.bounds.tasks) t (λ g e. sym (eqb-true t g (and_parts _ _ e).0)) (λ e. omega (arith, small)) ∙ ap (λ b. b && p t) (eq-eqb t t refl))
 
-  module _ (event : Event) (plain : is_control event ≡ false) (ok : refusal_of h s event ≡ None) (x y : Standing) (before : s.tasks t ≡ Live x) (after : (with_switches h s event).tasks t ≡ Live y) where
-    between_of : (z : Standing) → (affected h s event).tasks t ≡ Live z → z.level ≡ x.level
+  module _ (event : Event) (plain : is_control event ≡ false) (ok : refusal_of h s event ≡ None) (x y : LegTask) (before : s.tasks t ≡ Live x) (after : (with_switches h s event).tasks t ≡ Live y) where
+    between_of : (z : LegTask) → (affected h s event).tasks t ≡ Live z → z.level ≡ x.level
     unfolding refusal_of
     between_of z there = kept_level s event _ ok (suc s.number) t x z before there
 
@@ -154,7 +154,7 @@ module _ (R : ℕ → Type 0) (s : State) (all : Fits s.bounds.tasks R s.tasks) 
         let one = fate_from (switched_task h (affected h s event) event) ((affected h s event).tasks t) y after in
         goes_is R s event (fits_now event plain ok) t x one.life before one.live (between_of one.life one.live) y after
 
-  pub told_names : (event : Event) → is_control event ≡ false → refusal_of h s event ≡ None → (x y : Standing) → s.tasks t ≡ Live x → (with_switches h s event).tasks t ≡ Live y → names (told h s event) t ≡ went_over s.target x.level y.level
+  pub told_names : (event : Event) → is_control event ≡ false → refusal_of h s event ≡ None → (x y : LegTask) → s.tasks t ≡ Live x → (with_switches h s event).tasks t ≡ Live y → names (told h s event) t ≡ went_over s.target x.level y.level
   told_names (Call a f) plain ok x y before after =
       let now_fits = fits_now (Call a f) refl ok in
       let there : (affected h s (Call a f)).tasks t ≡ Live y = sym (ap (λ (st : State). st.tasks t) (quiet_switches R no_patch s all (Call a f) now_fits refl)) ∙ after in
@@ -172,9 +172,9 @@ complete_stays R s all done event plain ok =
     let after : Fits s.bounds.tasks (λ level. level ≡ s.target) (affected h s event).tasks = plain_fits s event plain ok on in
     each_live-from s.bounds (with_switches h s event).tasks (λ t x. nat_eq x.level s.target) (λ t x p w live.
     let one = fate_from (switched_task h (affected h s event) event) ((affected h s event).tasks t) x live in
-    eq-eqb x.level s.target (ap (λ (z : Standing). z.level) one.is ∙ lifted_on s.target (switches_at h (affected h s event) event one.life.group) one.life (after t one.life one.live).level))
+    eq-eqb x.level s.target (ap (λ (z : LegTask). z.level) one.is ∙ lifted_on s.target (switches_at h (affected h s event) event one.life.group) one.life (after t one.life one.live).level))
   where
-    lifted_on : (target : ℕ) (b : Bool) (x : Standing) → x.level ≡ target → (lifted target b x).level ≡ target
+    lifted_on : (target : ℕ) (b : Bool) (x : LegTask) → x.level ≡ target → (lifted target b x).level ≡ target
     lifted_on target true x e = refl
     lifted_on target false x e = e
 

@@ -5,20 +5,20 @@ use Rattle.lp_stack.specs.declared.view.Mode.TheVariants.{User, Kernel, Asleep}
 use Rattle.lp_stack.specs.declared.view.Class.TheVariants.{Normal, Idle}
 use Rattle.lp_stack.specs.declared.number.TaskId.{TaskId}
 use Rattle.lp_model.specs.declared.check.CheckKind.{CheckKind}
-use Rattle.lp_model.specs.declared.check.CheckKind.TheVariants.{KernelExit, IdlePoint, Walk, Stop}
+use Rattle.lp_model.specs.declared.check.CheckKind.TheVariants.{KernelExit, IdlePoint, Resched, Walk, Stop}
 use Rattle.lp_model.specs.declared.check.ForkKind.{ForkKind}
 use Rattle.lp_model.specs.Rules.{Rules}
 use Rattle.lp_model.specs.Row.{rules_of}
 use Rattle.lp_models.specs.Models.{hybrid}
 use Rattle.lp_definitions.specs.declared.event.Event.{Event}
-use Rattle.lp_definitions.specs.declared.event.Event.TheVariants.{Call, Ret, Sleep, Wake, Enter, Exit, Idle, Fork, Die, Walk, Stop, Enable, Disable, Reverse}
+use Rattle.lp_definitions.specs.declared.event.Event.TheVariants.{Call, Ret, Sleep, Wake, Enter, Exit, Idle, Resched, Fork, Die, Walk, Stop, Enable, Disable, Reverse}
 use Rattle.lp_definitions.specs.declared.refusal.Refusal.{Refusal}
 use Rattle.lp_definitions.specs.declared.refusal.Refusal.TheVariants.{TaskRange}
 use Rattle.lp_definitions.specs.Tasks.{Fate, Unused, Live, Dead, on_live, map_live, first_of, Outline, Outlines, Bounds, tests, unknown_task, out_of_range, used, not_of, not_in}
-use Rattle.lp_definitions.specs.Leg.{Standing, State, each_live, some_live, has_member, is_alone, when, check_by, if_used}
-use Rattle.lp_machine.specs.Machine.{Standings, outline_of, outlines_of, view_of, put_in, calling, returning, bearing, own_effect, waits_in, admits_all, switches_at}
-use Rattle.lp_laws.proofs.Quantifiers.{some_live-from, some_live-is, each_live-at, each_live-from}
-use Rattle.lp_laws.proofs.Plain.{none_first, unfit}
+use Rattle.lp_definitions.specs.Leg.{LegTask, State, each_live, some_live, has_member, is_alone, when, check_by, if_used}
+use Rattle.lp_machine.specs.Machine.{LegTasks, outline_of, outlines_of, view_of, put_in, calling, returning, bearing, own_effect, waits_in, admits_all, switches_at}
+use Rattle.lp_definitions.proofs.Quantifiers.{some_live-from, some_live-is, each_live-at, each_live-from}
+use Rattle.lp_laws.proofs.NextTasks.{none_first, unfit}
 
 -- the model
 abbrev pub h : Rules
@@ -32,14 +32,14 @@ same_bool false false f g = refl
 -- ---- What each live task keeps
 
 -- a task with a number in range, which is its group's, on a level of a kind
-pub record Fit (n : ℕ) (R : ℕ → Type 0) (t : ℕ) (x : Standing) : Type 0 where
+pub record Fit (n : ℕ) (R : ℕ → Type 0) (t : ℕ) (x : LegTask) : Type 0 where
   pub positive : 0 < t
   pub within : t ≤ n
   pub own : x.group ≡ t
   pub level : R x.level
 
-abbrev pub Fits : ℕ → (ℕ → Type 0) → Standings → Type 0
-Fits n R tasks = (t : ℕ) (x : Standing) → tasks t ≡ Live x → Fit n R t x
+abbrev pub Fits : ℕ → (ℕ → Type 0) → LegTasks → Type 0
+Fits n R tasks = (t : ℕ) (x : LegTask) → tasks t ≡ Live x → Fit n R t x
 
 -- what a fork's tests say
 pub fork_range : (bounds : Bounds) (seen : Outlines) (p c : ℕ) (rest : List (Option Refusal)) → first_of (unknown_task seen p ∷ out_of_range bounds c ∷ rest) ≡ None → (0 < c) × (c ≤ bounds.tasks)
@@ -50,9 +50,9 @@ fork_range bounds seen p c rest e =
     let ne = eqb-false c 0 range.0 in
     (omega (arith, ne), ltb-false bounds.tasks c range.1)
 
-module _ (n : ℕ) (R : ℕ → Type 0) (tasks : Standings) (fits : Fits n R tasks) where
+module _ (n : ℕ) (R : ℕ → Type 0) (tasks : LegTasks) (fits : Fits n R tasks) where
   -- a task is changed, but not its group and level
-  changed_fits : (f : Standing → Standing) → ((x : Standing) → (f x).group ≡ x.group) → ((x : Standing) → (f x).level ≡ x.level) → (t : ℕ) (x : Standing) (b : Bool) (fate : Fate Standing) → tasks t ≡ fate → (if b then map_live f fate else fate) ≡ Live x → Fit n R t x
+  changed_fits : (f : LegTask → LegTask) → ((x : LegTask) → (f x).group ≡ x.group) → ((x : LegTask) → (f x).level ≡ x.level) → (t : ℕ) (x : LegTask) (b : Bool) (fate : Fate LegTask) → tasks t ≡ fate → (if b then map_live f fate else fate) ≡ Live x → Fit n R t x
   changed_fits f groups levels t x true Unused e h = absurd (cc)
   changed_fits f groups levels t x true (Live y) e h =
       let was = fits t y e in
@@ -66,7 +66,7 @@ module _ (n : ℕ) (R : ℕ → Type 0) (tasks : Standings) (fits : Fits n R tas
   changed_fits f groups levels t x true Dead e h = absurd (cc)
   changed_fits f groups levels t x false fate e h = fits t x (e ∙ h)
 
-  born_fits : (p c : ℕ) (how : ForkKind) → (0 < c) × (c ≤ n) → (t : ℕ) (x : Standing) (b : Bool) → nat_eq t c ≡ b → (fate : Fate Standing) → tasks p ≡ fate → (if b then map_live (bearing h.child_group c how) fate else tasks t) ≡ Live x → Fit n R t x
+  born_fits : (p c : ℕ) (how : ForkKind) → (0 < c) × (c ≤ n) → (t : ℕ) (x : LegTask) (b : Bool) → nat_eq t c ≡ b → (fate : Fate LegTask) → tasks p ≡ fate → (if b then map_live (bearing h.child_group c how) fate else tasks t) ≡ Live x → Fit n R t x
   born_fits p c how range t x true e Unused l g = absurd (cc)
   born_fits p c how range t x true e (Live y) l g =
       let was = fits p y l in
@@ -81,7 +81,7 @@ module _ (n : ℕ) (R : ℕ → Type 0) (tasks : Standings) (fits : Fits n R tas
   born_fits p c how range t x true e Dead l g = absurd (cc)
   born_fits p c how range t x false e fate l g = fits t x g
 
-  died_fits : (t : ℕ) (x : Standing) (b : Bool) → (if b then Dead else tasks t) ≡ Live x → Fit n R t x
+  died_fits : (t : ℕ) (x : LegTask) (b : Bool) → (if b then Dead else tasks t) ≡ Live x → Fit n R t x
   died_fits t x true g = absurd (cc)
   died_fits t x false g = fits t x g
 
@@ -93,6 +93,7 @@ effect_fits R s rest fits (Wake a) ok number t x g = changed_fits s.bounds.tasks
 effect_fits R s rest fits (Enter a) ok number t x g = changed_fits s.bounds.tasks R s.tasks fits (put_in Kernel) (λ x. refl) (λ x. refl) t x (nat_eq t a.0) (s.tasks t) refl g
 effect_fits R s rest fits (Exit a) ok number t x g = changed_fits s.bounds.tasks R s.tasks fits (put_in User) (λ x. refl) (λ x. refl) t x (nat_eq t a.0) (s.tasks t) refl g
 effect_fits R s rest fits (Idle a) ok number t x g = fits t x g
+effect_fits R s rest fits (Resched a) ok number t x g = fits t x g
 effect_fits R s rest fits (Fork p c how) ok number t x g =
     let range = fork_range s.bounds (outlines_of s.tasks) p.0 c.0 (used (outlines_of s.tasks) c.0 ∷ not_of Normal (outlines_of s.tasks) p.0 ∷ not_in Kernel (outlines_of s.tasks) p.0 ∷ rest) ok in
     born_fits s.bounds.tasks R s.tasks fits p.0 c.0 how range t x (nat_eq t c.0) refl (s.tasks p.0) refl g
@@ -141,14 +142,14 @@ module _ {A : Type 0} (bounds : Bounds) (now : ℕ → Fate A) (group : A → �
 
 -- ---- Who switches
 
-module _ (R : ℕ → Type 0) (s : State) (fits : Fits s.bounds.tasks R s.tasks) (u : ℕ) (x : Standing) (live : s.tasks u ≡ Live x) where
-  own_of : (t : ℕ) (y : Standing) → s.tasks t ≡ Live y → y.group ≡ t
+module _ (R : ℕ → Type 0) (s : State) (fits : Fits s.bounds.tasks R s.tasks) (u : ℕ) (x : LegTask) (live : s.tasks u ≡ Live x) where
+  own_of : (t : ℕ) (y : LegTask) → s.tasks t ≡ Live y → y.group ≡ t
   own_of t y there = (fits t y there).own
 
   own_outline : (t : ℕ) (o : Outline) → outlines_of s.tasks t ≡ Live o → o.group ≡ t
   own_outline t o there = by (s.tasks t) refl there
     where
-      by : (fate : Fate Standing) → s.tasks t ≡ fate → map_live outline_of fate ≡ Live o → o.group ≡ t
+      by : (fate : Fate LegTask) → s.tasks t ≡ fate → map_live outline_of fate ≡ Live o → o.group ≡ t
       by Unused e g = absurd (cc)
       by (Live y) e g = let is : outline_of y ≡ o = cc in ap (λ z. z.group) (sym is) ∙ own_of t y e
       by Dead e g = absurd (cc)
@@ -210,6 +211,9 @@ module _ (R : ℕ → Type 0) (s : State) (fits : Fits s.bounds.tasks R s.tasks)
 
   pub idle_own : (t : TaskId) → switches_at h s (Idle t) u ≡ asks (if_used h.uses (when (nat_eq u t.0) IdlePoint))
   idle_own t = switches_by (Idle t) (if_used h.uses (when (nat_eq u t.0) IdlePoint)) (ap (λ b. if_used h.uses (when b IdlePoint)) (alone_own t.0))
+
+  pub resched_own : (t : TaskId) → switches_at h s (Resched t) u ≡ asks (if_used h.uses (when (nat_eq u t.0) Resched))
+  resched_own t = switches_by (Resched t) (if_used h.uses (when (nat_eq u t.0) Resched)) (ap (λ b. if_used h.uses (when b Resched)) (alone_own t.0))
 
   pub walk_own : switches_at h s Walk u ≡ asks (Some Walk)
   walk_own = switches_by Walk (Some Walk) (ap (λ b. if_used h.uses (when b Walk)) member_own)

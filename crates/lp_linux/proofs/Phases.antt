@@ -3,9 +3,9 @@ use Rattle.std.proofs.Common.{◌≡◌, ◌⊎◌, ℕ, suc, ◌≤◌, Bool, t
 use Rattle.std.proofs.lemmas.Bool.{eq-eqb, eqb-true}
 use mathlib.Core.Path.{fun_ext}
 use Rattle.lp_definitions.specs.Tasks.{Live}
-use Rattle.lp_definitions.specs.Leg.{Standing, State, each_live}
+use Rattle.lp_definitions.specs.Leg.{LegTask, State, each_live}
 use Rattle.lp_machine.specs.Machine.{complete_in}
-use Rattle.lp_laws.proofs.Quantifiers.{each_live-map, each_live-at, each_live-from}
+use Rattle.lp_definitions.proofs.Quantifiers.{each_live-map, each_live-at, each_live-from}
 use Rattle.lp_linux.specs.Transition.{opposite, Livepatch}
 use Rattle.lp_linux.specs.Reading.{awaits_walk, entry_of, task_of}
 use Rattle.lp_linux.proofs.Loops.{Within, within-map}
@@ -49,10 +49,10 @@ awaits_is phase s =
     (each_live-map s.bounds (task_of (klp_of phase s) s.target) s.tasks (λ t task. not task.TIF_PATCH_PENDING)
     ∙ ap (each_live s.bounds s.tasks) (fun_ext (λ t. fun_ext (λ x. not_not (nat_eq x.level s.target)))))
 
-pub calm_complete : (s : State) → Keeps Undefined s → complete_in s ≡ true
-calm_complete s keeps = each_live-from s.bounds s.tasks (λ t x. nat_eq x.level s.target) (λ t x p w live. eq-eqb x.level s.target (keeps.fits t x live).level)
+pub settled_complete : (s : State) → Keeps Undefined s → complete_in s ≡ true
+settled_complete s keeps = each_live-from s.bounds s.tasks (λ t x. nat_eq x.level s.target) (λ t x p w live. eq-eqb x.level s.target (keeps.fits t x live).level)
 
-pub complete_levels : (s : State) → complete_in s ≡ true → (R : ℕ → Type 0) → Fits s.bounds.tasks R s.tasks → (t : ℕ) (x : Standing) → s.tasks t ≡ Live x → x.level ≡ s.target
+pub complete_levels : (s : State) → complete_in s ≡ true → (R : ℕ → Type 0) → Fits s.bounds.tasks R s.tasks → (t : ℕ) (x : LegTask) → s.tasks t ≡ Live x → x.level ≡ s.target
 complete_levels s done R fits t x live =
     let fit = fits t x live in
     eqb-true x.level s.target (each_live-at s.bounds s.tasks (λ u y. nat_eq y.level s.target) done t x fit.positive fit.within live)
@@ -61,7 +61,7 @@ complete_levels s done R fits t x live =
 
 module _ (klp : Livepatch) (target : ℕ) where
   -- a task that goes over
-  pub moved_is : (x : Standing) → task_of klp target (record x { level = target }) ≡ record (task_of klp target x) { patch_state = klp.klp_target_state; TIF_PATCH_PENDING = false }
+  pub moved_is : (x : LegTask) → task_of klp target (record x { level = target }) ≡ record (task_of klp target x) { patch_state = klp.klp_target_state; TIF_PATCH_PENDING = false }
   moved_is x =
       ap (λ b. record {
         class = x.class;
@@ -72,7 +72,7 @@ module _ (klp : Livepatch) (target : ℕ) where
       }) (eq-eqb target target refl)
 
   -- a task by what its level says
-  pub task_by : (x : Standing) (b : Bool) → nat_eq x.level target ≡ b → task_of klp target x ≡ record {
+  pub task_by : (x : LegTask) (b : Bool) → nat_eq x.level target ≡ b → task_of klp target x ≡ record {
     class = x.class;
     mode = x.mode;
     stack = map (entry_of klp.patches) x.frames;

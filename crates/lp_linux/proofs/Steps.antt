@@ -7,24 +7,25 @@ use Rattle.lp_patch.specs.Patches.{patch_has, version, is_stale}
 use mathlib.Core.Path.{fun_ext}
 use Rattle.lp_model.specs.declared.check.CheckKind.TheVariants.{Walk}
 use Rattle.lp_definitions.specs.declared.event.Event.{Event}
-use Rattle.lp_definitions.specs.declared.event.Event.TheVariants.{Exit, Idle, Walk, Enable, Disable, Reverse}
+use Rattle.lp_definitions.specs.declared.event.Event.TheVariants.{Exit, Idle, Resched, Walk, Enable, Disable, Reverse}
 use Rattle.lp_definitions.specs.declared.refusal.Refusal.{Refusal}
 use Rattle.lp_definitions.specs.Events.{is_control}
 use Rattle.lp_definitions.specs.Tasks.{Live, map_live}
-use Rattle.lp_definitions.specs.Leg.{Standing, State}
+use Rattle.lp_definitions.specs.Leg.{LegTask, State}
 use Rattle.lp_definitions.specs.Sound.{RunsOneVersion}
-use Rattle.lp_machine.specs.Machine.{Standings, view_of, complete_in, refusal_of, counted, switches_at, affected, with_switches, turned, next_by, next}
-use Rattle.lp_linux.specs.Transition.{KLP_UNPATCHED, same_state, opposite, TaskStruct, TaskList, Livepatch, Linux, Walked, klp_ftrace_handler, klp_check_stack, klp_complete_transition, first, below_first}
-use Rattle.lp_linux.specs.Events.{happen, refusal, unless, step}
+use Rattle.lp_machine.specs.Machine.{LegTasks, view_of, complete_in, refusal_of, counted, switches_at, affected, with_switches, turned, next_by, next}
+use Rattle.lp_linux.specs.Transition.{KLP_UNPATCHED, same_state, opposite, TaskStruct, TaskList, Livepatch, Linux, Walked, klp_ftrace_handler, klp_check_stack, klp_sched_try_switch, klp_complete_transition, first, below_first}
+use Rattle.lp_linux.specs.Events.{refusal, unless, step as step_of}
 use Rattle.lp_linux.specs.Reading.{awaits_walk, heard_as, entry_of, task_of}
 use Rattle.lp_linux.proofs.Loops.{fate_from, all_tried, all_are, all_complete, all_complete_from}
 use Rattle.lp_linux.proofs.Stacks.{version_within, check_up, check_down, first_is}
+use Rattle.lp_linux.proofs.Newer.{happen, step}
 use Rattle.lp_linux.proofs.Own.{h, Fits, same_bool, effect_fits}
 use Rattle.lp_linux.specs.declared.follow.TargetState.{TargetState as Phase}
 use Rattle.lp_linux.specs.declared.follow.TargetState.TheVariants.{Undefined, Patched, Unpatched}
 use Rattle.lp_linux.specs.Followed.{klp_of, linux_of, stack_of, is_walk, target_state_after}
-use Rattle.lp_linux.proofs.Phases.{Level, Keeps, linux_within, calm_complete, complete_levels, task_by}
-use Rattle.lp_linux.proofs.Plain.{linux_with, lifted, refusal_same, quiet_effect, is_quiet, quiet_switches, exit_empty, idle_empty, exit_happens, idle_happens, fate_id, walked, walk_switches, walk_tasks, passes_is, passes_from}
+use Rattle.lp_linux.proofs.Phases.{Level, Keeps, linux_within, settled_complete, complete_levels, task_by}
+use Rattle.lp_linux.proofs.TaskEvents.{linux_with, lifted, refusal_same, quiet_effect, is_unchecked, quiet_switches, exit_empty, idle_empty, exit_happens, idle_happens, looks, resched_happens, off_looks, fate_id, walked, walk_switches, walk_tasks, passes_is, passes_from}
 use Rattle.lp_linux.proofs.Controls.{completes_up, completes_down}
 
 -- ---- The machine's step
@@ -42,11 +43,11 @@ unfolding next
 next-plain s event e plain = ap (next_by h s event) e ∙ cond-false _ _ _ plain
 
 step-refused : (m : Linux) (event : Event) (why : Refusal) → refusal m event ≡ Some why → step m event ≡ m
-unfolding step
+unfolding step_of
 step-refused m event why e = ap (λ r. unless r m (happen event m)) e
 
 pub step-accepted : (m : Linux) (event : Event) → refusal m event ≡ None → step m event ≡ happen event m
-unfolding step
+unfolding step_of
 step-accepted m event e = ap (λ r. unless r m (happen event m)) e
 
 -- ---- What a step keeps
@@ -65,24 +66,24 @@ pub record Does (phase : Phase) (s : State) (event heard : Event) : Type 0 where
   pub ends_there : event ≡ Walk → complete_in (next h s heard) ≡ true → after ≡ Undefined
 
 -- phases differ
-abbrev is_calm : Phase → Bool
-is_calm Undefined = true
-is_calm Patched = false
-is_calm Unpatched = false
+abbrev is_settled : Phase → Bool
+is_settled Undefined = true
+is_settled Patched = false
+is_settled Unpatched = false
 
-pub up_not_calm : Patched ≡ Undefined → ⊥
-up_not_calm e = let no_way : false ≡ true = ap is_calm e in absurd (cc)
+pub up_not_settled : Patched ≡ Undefined → ⊥
+up_not_settled e = let no_way : false ≡ true = ap is_settled e in absurd (cc)
 
-pub down_not_calm : Unpatched ≡ Undefined → ⊥
-down_not_calm e = let no_way : false ≡ true = ap is_calm e in absurd (cc)
+pub down_not_settled : Unpatched ≡ Undefined → ⊥
+down_not_settled e = let no_way : false ≡ true = ap is_settled e in absurd (cc)
 
 -- a state with other tasks or another number
-keeps_state : (phase : Phase) (s : State) (number : ℕ) (tasks : Standings) → Keeps phase s → Fits s.bounds.tasks (Level phase s) tasks → Keeps phase (record s { number = number; tasks = tasks })
+keeps_state : (phase : Phase) (s : State) (number : ℕ) (tasks : LegTasks) → Keeps phase s → Fits s.bounds.tasks (Level phase s) tasks → Keeps phase (record s { number = number; tasks = tasks })
 keeps_state Undefined s number tasks keeps all = record { fits = all; turns = keeps.turns; target_in = keeps.target_in; from_in = keeps.from_in }
 keeps_state Patched s number tasks keeps all = record { fits = all; turns = keeps.turns; target_in = keeps.target_in; from_in = keeps.from_in }
 keeps_state Unpatched s number tasks keeps all = record { fits = all; turns = keeps.turns; target_in = keeps.target_in; from_in = keeps.from_in }
 
-linux_state : (phase : Phase) (s : State) (number : ℕ) (tasks : Standings) → linux_of phase (record s { number = number; tasks = tasks }) ≡ linux_with (klp_of phase s) s tasks
+linux_state : (phase : Phase) (s : State) (number : ℕ) (tasks : LegTasks) → linux_of phase (record s { number = number; tasks = tasks }) ≡ linux_with (klp_of phase s) s tasks
 linux_state Undefined s number tasks = refl
 linux_state Patched s number tasks = refl
 linux_state Unpatched s number tasks = refl
@@ -112,7 +113,7 @@ refused_does phase s event heard why why' alike keeps r r' plain =
       after_is = stays_way phase event s.target (complete_in (next h s heard)) plain ∙ ap (λ (st : State). target_state_after phase (is_walk event) s.target st.target (complete_in (next h s heard))) (sym went);
       refused = (λ none. let no_way : Some why ≡ None = sym r ∙ none in absurd (cc), λ none. let no_way : Some why' ≡ None = sym r' ∙ none in absurd (cc));
       why = λ e. r ∙ (ap Some (alike e) ∙ sym r');
-      ends = λ in_transition calm. absurd (in_transition calm);
+      ends = λ in_transition settled. absurd (in_transition settled);
       ends_there = λ is done. absurd (not_walk event plain is);
     }
 
@@ -130,17 +131,17 @@ control_does phase after s event heard r r' control plain turning moving happens
           ∙ ap (λ (st : State). target_state_after phase (is_walk event) s.target st.target (complete_in (next h s heard))) (sym went));
       refused = (λ e. r', λ e. r);
       why = λ e. r ∙ sym r';
-      ends = λ in_transition calm. absurd (moving calm);
+      ends = λ in_transition settled. absurd (moving settled);
       ends_there = λ is done. absurd (not_walk event plain is);
     }
 
 -- ---- The events of tasks
 
-lifted_level : (R : ℕ → Type 0) (target : ℕ) → R target → (b : Bool) (x : Standing) → R x.level → R (lifted target b x).level
+lifted_level : (R : ℕ → Type 0) (target : ℕ) → R target → (b : Bool) (x : LegTask) → R x.level → R (lifted target b x).level
 lifted_level R target on true x r = on
 lifted_level R target on false x r = r
 
-lifted_group : (target : ℕ) (b : Bool) (x : Standing) → (lifted target b x).group ≡ x.group
+lifted_group : (target : ℕ) (b : Bool) (x : LegTask) → (lifted target b x).group ≡ x.group
 lifted_group target true x = refl
 lifted_group target false x = refl
 
@@ -159,15 +160,15 @@ module _ (phase : Phase) (s : State) (keeps : Keeps phase s) where
   affected_fits Reverse plain ok = absurd (cc)
   affected_fits event plain ok = effect_fits R s [] keeps.fits event ok (suc s.number)
 
-  switched_fits : (tasks : Standings) (test : Standing → Bool) → Fits s.bounds.tasks R tasks → Fits s.bounds.tasks R (λ t. map_live (λ x. lifted s.target (test x) x) (tasks t))
+  switched_fits : (tasks : LegTasks) (test : LegTask → Bool) → Fits s.bounds.tasks R tasks → Fits s.bounds.tasks R (λ t. map_live (λ x. lifted s.target (test x) x) (tasks t))
   switched_fits tasks test all t y live =
       let one = fate_from (λ x. lifted s.target (test x) x) (tasks t) y live in
       let fit = all t one.life one.live in
       record {
         positive = fit.positive;
         within = fit.within;
-        own = ap (λ (z : Standing). z.group) one.is ∙ (lifted_group s.target (test one.life) one.life ∙ fit.own);
-        level = subst (λ (z : Standing). R z.level) (sym one.is) (lifted_level R s.target (on_target phase s) (test one.life) one.life fit.level);
+        own = ap (λ (z : LegTask). z.group) one.is ∙ (lifted_group s.target (test one.life) one.life ∙ fit.own);
+        level = subst (λ (z : LegTask). R z.level) (sym one.is) (lifted_level R s.target (on_target phase s) (test one.life) one.life fit.level);
       }
 
   with_fits : (event : Event) → Fits s.bounds.tasks R (affected h s event).tasks → Fits s.bounds.tasks R (with_switches h s event).tasks
@@ -189,16 +190,16 @@ module _ (phase : Phase) (s : State) (keeps : Keeps phase s) where
         after_is = stays_way phase event s.target (complete_in (next h s event)) no_walk ∙ ap (λ (st : State). target_state_after phase (is_walk event) s.target st.target (complete_in (next h s event))) (sym went);
         refused = (λ e. ok, λ e. same event plain ∙ ok);
         why = λ e. same event plain;
-        ends = λ in_transition calm. absurd (in_transition calm);
+        ends = λ in_transition settled. absurd (in_transition settled);
         ends_there = λ is done. absurd (not_walk event no_walk is);
       }
 
   -- the version that a call runs is that of the task's level
   abbrev Runs : Type 0
-  Runs = (t : ℕ) (x : Standing) (func : ℕ) → s.tasks t ≡ Live x → klp_ftrace_handler (klp_of phase s) (task_of (klp_of phase s) s.target x) func ≡ version s.patches func x.level
+  Runs = (t : ℕ) (x : LegTask) (func : ℕ) → s.tasks t ≡ Live x → klp_ftrace_handler (klp_of phase s) (task_of (klp_of phase s) s.target x) func ≡ version s.patches func x.level
 
-  module _ (runs : (t : ℕ) (x : Standing) (func : ℕ) → s.tasks t ≡ Live x → klp_ftrace_handler (klp_of phase s) (task_of (klp_of phase s) s.target x) func ≡ version (klp_of phase s).patches func x.level) where
-    quiet_does : (event : Event) → is_quiet event ≡ true → is_control event ≡ false → is_walk event ≡ false → refusal_of h s event ≡ None → Does phase s event event
+  module _ (runs : (t : ℕ) (x : LegTask) (func : ℕ) → s.tasks t ≡ Live x → klp_ftrace_handler (klp_of phase s) (task_of (klp_of phase s) s.target x) func ≡ version (klp_of phase s).patches func x.level) (off : (u : ℕ) (x : LegTask) → s.tasks u ≡ Live x → nat_eq x.level s.target ≡ false → klp_sched_try_switch (klp_of phase s) (task_of (klp_of phase s) s.target x) ≡ task_of (klp_of phase s) s.target (lifted s.target (looks R (klp_of phase s) s keeps.fits x) x)) where
+    quiet_does : (event : Event) → is_unchecked event ≡ true → is_control event ≡ false → is_walk event ≡ false → refusal_of h s event ≡ None → Does phase s event event
     quiet_does event q plain no_walk ok =
         accepted_does event plain no_walk ok
         (quiet_effect R (klp_of phase s) s keeps.fits runs event q (suc s.number) ∙ ap (λ (st : State). linux_with (klp_of phase s) s st.tasks) (sym (quiet_switches R (klp_of phase s) s keeps.fits event (affected_fits event plain ok) q)))
@@ -216,6 +217,8 @@ module _ (phase : Phase) (s : State) (keeps : Keeps phase s) where
         by_refusal (Exit t) refl refl (λ ok. accepted_does (Exit t) refl refl ok (exit_happens R (klp_of phase s) s keeps.fits t (affected_fits (Exit t) refl ok) (exit_empty R (klp_of phase s) s keeps.fits t ok)))
     task_does (Idle t) plain no_walk =
         by_refusal (Idle t) refl refl (λ ok. accepted_does (Idle t) refl refl ok (idle_happens R (klp_of phase s) s keeps.fits t (affected_fits (Idle t) refl ok) (idle_empty R (klp_of phase s) s keeps.fits t ok)))
+    task_does (Resched t) plain no_walk =
+        by_refusal (Resched t) refl refl (λ ok. accepted_does (Resched t) refl refl ok (resched_happens R (klp_of phase s) s keeps.fits t (affected_fits (Resched t) refl ok) off))
     task_does Walk plain no_walk = absurd (cc)
     task_does Enable plain no_walk = absurd (cc)
     task_does Disable plain no_walk = absurd (cc)
@@ -246,8 +249,8 @@ pub falls : (phase : Phase) (before after : ℕ) → after < before → (c : Boo
 falls phase before after lt c = cond-false _ _ _ (le-ltb before after (omega (arith, lt))) ∙ cond-true _ _ _ (lt-ltb after before lt)
 
 -- no transition is under way
-calm_walk : (s : State) → Keeps Undefined s → Does Undefined s Walk Walk
-calm_walk s keeps =
+settled_walk : (s : State) → Keeps Undefined s → Does Undefined s Walk Walk
+settled_walk s keeps =
     let went = next-plain s Walk (walk_accepted s) refl in
     let stay = plain_keeps Undefined s keeps Walk refl (walk_accepted s) in
     let nobody : (with_switches h s Walk).tasks ≡ s.tasks = walk_switches (Level Undefined s) (klp_of Undefined s) s keeps.fits ∙ fun_ext (λ u. fate_id (λ x. lifted s.target (walked (Level Undefined s) (klp_of Undefined s) s keeps.fits x) x) (s.tasks u) (λ x live. ap (λ b. lifted s.target (not b && h.admits Walk (view_of 0 x) s.aim) x) (eq-eqb x.level s.target (keeps.fits u x live).level))) in
@@ -255,14 +258,14 @@ calm_walk s keeps =
       after = Undefined;
       there = step-accepted (linux_of Undefined s) Walk (walk_taken Undefined s) ∙ (ap (linux_with (klp_of Undefined s) s) (sym nobody) ∙ ap (linux_of Undefined) (sym went));
       keeps = subst (Keeps Undefined) (sym went) stay;
-      after_is = walk_way Undefined s.target true Undefined refl ∙ ap₂ (λ (st : State) c. target_state_after Undefined true s.target st.target c) (sym went) (sym (calm_complete (next h s Walk) (subst (Keeps Undefined) (sym went) stay)));
+      after_is = walk_way Undefined s.target true Undefined refl ∙ ap₂ (λ (st : State) c. target_state_after Undefined true s.target st.target c) (sym went) (sym (settled_complete (next h s Walk) (subst (Keeps Undefined) (sym went) stay)));
       refused = (λ e. walk_accepted s, λ e. walk_taken Undefined s);
       why = λ e. walk_taken Undefined s ∙ sym (walk_accepted s);
-      ends = λ in_transition calm. absurd (in_transition refl);
+      ends = λ in_transition settled. absurd (in_transition refl);
       ends_there = λ is done. refl;
     }
 
-module _ (phase : Phase) (s : State) (keeps : Keeps phase s) (moving : phase ≡ Undefined → ⊥) (busy : nat_eq (klp_of phase s).klp_transition_patch 0 ≡ false) (self : same_state (klp_of phase s).klp_target_state (klp_of phase s).klp_target_state ≡ true) (other : same_state (opposite (klp_of phase s).klp_target_state) (klp_of phase s).klp_target_state ≡ false) (checks : (t : ℕ) (x : Standing) → s.tasks t ≡ Live x → nat_eq x.level s.target ≡ false → klp_check_stack (klp_of phase s) (map (entry_of (klp_of phase s).patches) x.frames) ≡ list_any (is_stale s.aim) x.frames) (completes : (st : State) → Keeps phase st → klp_complete_transition (linux_of phase st) ≡ linux_of Undefined st) where
+module _ (phase : Phase) (s : State) (keeps : Keeps phase s) (moving : phase ≡ Undefined → ⊥) (busy : nat_eq (klp_of phase s).klp_transition_patch 0 ≡ false) (self : same_state (klp_of phase s).klp_target_state (klp_of phase s).klp_target_state ≡ true) (other : same_state (opposite (klp_of phase s).klp_target_state) (klp_of phase s).klp_target_state ≡ false) (checks : (t : ℕ) (x : LegTask) → s.tasks t ≡ Live x → nat_eq x.level s.target ≡ false → klp_check_stack (klp_of phase s) (map (entry_of (klp_of phase s).patches) x.frames) ≡ list_any (is_stale s.aim) x.frames) (completes : (st : State) → Keeps phase st → klp_complete_transition (linux_of phase st) ≡ linux_of Undefined st) where
   abbrev klp : Livepatch
   klp = klp_of phase s
 
@@ -299,7 +302,7 @@ module _ (phase : Phase) (s : State) (keeps : Keeps phase s) (moving : phase ≡
   walk_from true done =
       let went = next-plain s Walk (walk_accepted s) refl in
       let same_there = linux_state phase s (suc s.number) then_state.tasks in
-      let calm : Keeps Undefined then_state = record {
+      let settled : Keeps Undefined then_state = record {
         fits = λ t x live. let fit = stay.fits t x live in record { positive = fit.positive; within = fit.within; own = fit.own; level = complete_levels then_state done (Level phase then_state) stay.fits t x live };
         turns = tt;
         target_in = stay.target_in;
@@ -308,7 +311,7 @@ module _ (phase : Phase) (s : State) (keeps : Keeps phase s) (moving : phase ≡
       record {
         after = Undefined;
         there = step-accepted walking Walk (walk_taken phase s) ∙ (happens ∙ (ap (λ b. ended b (linux_with klp s then_state.tasks).tasks) done ∙ (ap klp_complete_transition (sym same_there) ∙ (completes then_state stay ∙ ap (linux_of Undefined) (sym went)))));
-        keeps = subst (Keeps Undefined) (sym went) calm;
+        keeps = subst (Keeps Undefined) (sym went) settled;
         after_is = walk_way phase s.target true Undefined refl ∙ ap₂ (λ (st : State) c. target_state_after phase true s.target st.target c) (sym went) (sym (ap complete_in went ∙ done));
         refused = (λ e. walk_accepted s, λ e. walk_taken phase s);
         why = λ e. walk_taken phase s ∙ sym (walk_accepted s);
@@ -360,13 +363,13 @@ handler_first klp task func e =
     let stack = klp.func_stack func in
     ap (λ b. if nat_eq (first stack) klp.klp_transition_patch && b then first (below_first stack) else first stack) e ∙ cond-false _ _ _ (and_none (nat_eq (first stack) klp.klp_transition_patch))
 
-calm_runs : (s : State) (keeps : Keeps Undefined s) (t : ℕ) (x : Standing) (func : ℕ) → s.tasks t ≡ Live x → klp_ftrace_handler (klp_of Undefined s) (task_of (klp_of Undefined s) s.target x) func ≡ version s.patches func x.level
-calm_runs s keeps t x func live =
+settled_runs : (s : State) (keeps : Keeps Undefined s) (t : ℕ) (x : LegTask) (func : ℕ) → s.tasks t ≡ Live x → klp_ftrace_handler (klp_of Undefined s) (task_of (klp_of Undefined s) s.target x) func ≡ version s.patches func x.level
+settled_runs s keeps t x func live =
     let on = (keeps.fits t x live).level in
     let at = task_by (klp_of Undefined s) s.target x true (eq-eqb x.level s.target on) in
     handler_first (klp_of Undefined s) (task_of (klp_of Undefined s) s.target x) func (ap (λ (task : TaskStruct). same_state task.patch_state KLP_UNPATCHED) at) ∙ (first_is s.patches s.target func ∙ ap (version s.patches func) (sym on))
 
-up_runs : (s : State) (keeps : Keeps Patched s) (t : ℕ) (x : Standing) (func : ℕ) → s.tasks t ≡ Live x → klp_ftrace_handler (klp_of Patched s) (task_of (klp_of Patched s) s.target x) func ≡ version s.patches func x.level
+up_runs : (s : State) (keeps : Keeps Patched s) (t : ℕ) (x : LegTask) (func : ℕ) → s.tasks t ≡ Live x → klp_ftrace_handler (klp_of Patched s) (task_of (klp_of Patched s) s.target x) func ≡ version s.patches func x.level
 up_runs s keeps t x func live =
     ⊎_elim
     (λ (on : x.level ≡ s.target).
@@ -377,7 +380,7 @@ up_runs s keeps t x func live =
     ap (λ task. klp_ftrace_handler (klp_of Patched s) task func) at ∙ (handler_below s s.from func ∙ ap (version s.patches func) (sym off)))
     (keeps.fits t x live).level
 
-down_runs : (s : State) (keeps : Keeps Unpatched s) (t : ℕ) (x : Standing) (func : ℕ) → s.tasks t ≡ Live x → klp_ftrace_handler (klp_of Unpatched s) (task_of (klp_of Unpatched s) s.target x) func ≡ version s.patches func x.level
+down_runs : (s : State) (keeps : Keeps Unpatched s) (t : ℕ) (x : LegTask) (func : ℕ) → s.tasks t ≡ Live x → klp_ftrace_handler (klp_of Unpatched s) (task_of (klp_of Unpatched s) s.target x) func ≡ version s.patches func x.level
 down_runs s keeps t x func live =
     ⊎_elim
     (λ (on : x.level ≡ s.target).
@@ -398,28 +401,32 @@ heard_plain m event plain = either (awaits_walk m)
     either true = refl
     either false = refl
 
+-- where no transition is under way nobody is off the target
+settled_off : (s : State) (keeps : Keeps Undefined s) (u : ℕ) (x : LegTask) → s.tasks u ≡ Live x → nat_eq x.level s.target ≡ false → klp_sched_try_switch (klp_of Undefined s) (task_of (klp_of Undefined s) s.target x) ≡ task_of (klp_of Undefined s) s.target (lifted s.target (looks (Level Undefined s) (klp_of Undefined s) s keeps.fits x) x)
+settled_off s keeps u x live e = absurd (eqb-false x.level s.target e (keeps.fits u x live).level)
+
 module _ (s : State) (one : RunsOneVersion s) where
-  one_at : (t : ℕ) (x : Standing) → s.tasks t ≡ Live x → (level : ℕ) → x.level ≡ level → All (λ (frame : Frame). version s.patches frame.func.0 frame.level.0 ≡ version s.patches frame.func.0 level) x.frames
+  one_at : (t : ℕ) (x : LegTask) → s.tasks t ≡ Live x → (level : ℕ) → x.level ≡ level → All (λ (frame : Frame). version s.patches frame.func.0 frame.level.0 ≡ version s.patches frame.func.0 level) x.frames
   one_at t x live level is = subst (λ n. All (λ (frame : Frame). version s.patches frame.func.0 frame.level.0 ≡ version s.patches frame.func.0 n) x.frames) is (one t x live)
 
-  off_level : (level : ℕ) (x : Standing) → x.level ≡ s.target ⊎ x.level ≡ level → nat_eq x.level s.target ≡ false → x.level ≡ level
+  off_level : (level : ℕ) (x : LegTask) → x.level ≡ s.target ⊎ x.level ≡ level → nat_eq x.level s.target ≡ false → x.level ≡ level
   off_level level x (inl on) off = absurd (eqb-false x.level s.target off on)
   off_level level x (inr is) off = is
 
-  pub up_checks : Keeps Patched s → (t : ℕ) (x : Standing) → s.tasks t ≡ Live x → nat_eq x.level s.target ≡ false → klp_check_stack (klp_of Patched s) (map (entry_of s.patches) x.frames) ≡ list_any (is_stale s.aim) x.frames
+  pub up_checks : Keeps Patched s → (t : ℕ) (x : LegTask) → s.tasks t ≡ Live x → nat_eq x.level s.target ≡ false → klp_check_stack (klp_of Patched s) (map (entry_of s.patches) x.frames) ≡ list_any (is_stale s.aim) x.frames
   up_checks keeps t x live off =
       check_up s.patches s.from x.frames (one_at t x live s.from (off_level s.from x (keeps.fits t x live).level off)) ∙ ap (λ n. list_any (is_stale (record { patches = s.patches; target = n })) x.frames) (sym keeps.turns)
 
-  pub down_checks : Keeps Unpatched s → (t : ℕ) (x : Standing) → s.tasks t ≡ Live x → nat_eq x.level s.target ≡ false → klp_check_stack (klp_of Unpatched s) (map (entry_of s.patches) x.frames) ≡ list_any (is_stale s.aim) x.frames
+  pub down_checks : Keeps Unpatched s → (t : ℕ) (x : LegTask) → s.tasks t ≡ Live x → nat_eq x.level s.target ≡ false → klp_check_stack (klp_of Unpatched s) (map (entry_of s.patches) x.frames) ≡ list_any (is_stale s.aim) x.frames
   down_checks keeps t x live off =
       check_down s.patches s.target x.frames (one_at t x live (suc s.target) (off_level s.from x (keeps.fits t x live).level off ∙ keeps.turns))
 
   -- ---- All events but control events
 
   pub plain_does : (phase : Phase) → Keeps phase s → (event : Event) → is_control event ≡ false → Does phase s event event
-  plain_does Undefined keeps Walk plain = calm_walk s keeps
-  plain_does Patched keeps Walk plain = moving_walk Patched s keeps up_not_calm (busy_up s.from) refl refl (up_checks keeps) completes_up
-  plain_does Unpatched keeps Walk plain = moving_walk Unpatched s keeps down_not_calm (busy_up s.target) refl refl (down_checks keeps) completes_down
-  plain_does Undefined keeps event plain = task_does Undefined s keeps (calm_runs s keeps) event plain refl
-  plain_does Patched keeps event plain = task_does Patched s keeps (up_runs s keeps) event plain refl
-  plain_does Unpatched keeps event plain = task_does Unpatched s keeps (down_runs s keeps) event plain refl
+  plain_does Undefined keeps Walk plain = settled_walk s keeps
+  plain_does Patched keeps Walk plain = moving_walk Patched s keeps up_not_settled (busy_up s.from) refl refl (up_checks keeps) completes_up
+  plain_does Unpatched keeps Walk plain = moving_walk Unpatched s keeps down_not_settled (busy_up s.target) refl refl (down_checks keeps) completes_down
+  plain_does Undefined keeps event plain = task_does Undefined s keeps (settled_runs s keeps) (settled_off s keeps) event plain refl
+  plain_does Patched keeps event plain = task_does Patched s keeps (up_runs s keeps) (off_looks (Level Patched s) (klp_of Patched s) s keeps.fits refl refl (up_checks keeps)) event plain refl
+  plain_does Unpatched keeps event plain = task_does Unpatched s keeps (down_runs s keeps) (off_looks (Level Unpatched s) (klp_of Unpatched s) s keeps.fits refl refl (down_checks keeps)) event plain refl

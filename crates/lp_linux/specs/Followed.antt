@@ -12,8 +12,8 @@ use Rattle.lp_definitions.specs.Run.{Run}
 use Rattle.lp_machine.specs.Steps.{StandsIn}
 use Rattle.lp_linux.specs.declared.follow.TargetState.{TargetState}
 use Rattle.lp_linux.specs.declared.follow.TargetState.TheVariants.{Undefined, Patched, Unpatched}
-use Rattle.lp_linux.specs.Transition.{PatchState, KLP_UNDEFINED, KLP_UNPATCHED, KLP_PATCHED, Livepatch, Linux}
-use Rattle.lp_linux.specs.Events.{boot}
+use Rattle.lp_linux.specs.Transition.{Release, PatchState, KLP_UNDEFINED, KLP_UNPATCHED, KLP_PATCHED, Livepatch, Linux}
+use Rattle.lp_linux.specs.Events.{AreOf, boot}
 use Rattle.lp_linux.specs.Reading.{heard_late, heard, task_of}
 use Rattle.lp_linux.specs.Laws.{kernel_after}
 
@@ -36,14 +36,17 @@ abbrev pub linux_of : TargetState → State → Linux
 linux_of target_state s =
     record { bounds = s.bounds; klp = klp_of target_state s; tasks = λ t. map_live (task_of (klp_of target_state s) s.target) (s.tasks t) }
 
--- after the events of a run of the kernel an engine that heard them stands in the state, and the kernel is as it and klp_target_state say
-pub record IsKernel (r : Run) (target_state : TargetState) (s : State) : Type 0 where
-  pub stands : StandsIn (rules_of hybrid) (record r { events = heard (boot r.bounds r.patches r.boots) r.events }) s
-  pub kernel : kernel_after r ≡ linux_of target_state s
+-- after the events of a run of a release's kernel an engine that heard them stands in the state, and the kernel is as it and
+-- klp_target_state say
+pub record IsKernel (release : Release) (r : Run) (target_state : TargetState) (s : State) : Type 0 where
+  pub events : AreOf release r.events
+  pub stands : StandsIn (rules_of hybrid) (record r { events = heard release (boot r.bounds r.patches r.boots) r.events }) s
+  pub kernel : kernel_after release r ≡ linux_of target_state s
 
 -- so it is before the first event
 pub record StartsSettled : Type 0 where
-  pub starts : (r : Run) (s : State) → r.events ≡ [] → StandsIn (rules_of hybrid) r s → IsKernel r Undefined s
+  pub starts :
+      (release : Release) (r : Run) (s : State) → r.events ≡ [] → StandsIn (rules_of hybrid) r s → IsKernel release r Undefined s
 
 -- ---- klp_target_state
 

@@ -3,16 +3,16 @@ use Rattle.std.specs.Prelude.{◌≡◌, ◌⊎◌, ℕ, suc, Bool, false, not, 
 use Rattle.std.specs.List.{list_any}
 use Rattle.lp_stack.specs.declared.view.Mode.TheVariants.{Asleep}
 use Rattle.lp_stack.specs.declared.frame.Frame.{Frame}
-use Rattle.lp_patch.specs.Patches.{Patches, Goal, version, is_stale}
+use Rattle.lp_patch.specs.Patches.{Patches, Aim, version, is_stale}
 use Rattle.lp_definitions.specs.declared.event.Event.{Event}
 use Rattle.lp_definitions.specs.declared.event.Event.TheVariants.{Enable, Disable, Reverse}
 use Rattle.lp_definitions.specs.declared.reply.What.{What}
 use Rattle.lp_definitions.specs.declared.reply.What.TheVariants.{Switched}
 use Rattle.lp_definitions.specs.Events.{is_control}
 use Rattle.lp_definitions.specs.Tasks.{Live, same_mode}
-use Rattle.lp_definitions.specs.Leg.{Standing, each_live}
-use Rattle.lp_machine.specs.Machine.{Standings}
-use Rattle.lp_linux.specs.Transition.{PatchState, KLP_UNDEFINED, KLP_UNPATCHED, KLP_PATCHED, same_state, opposite, Entry, TaskStruct, Livepatch, Linux, Code, OK, EBUSY, EADDRINUSE}
+use Rattle.lp_definitions.specs.Leg.{LegTask, each_live}
+use Rattle.lp_machine.specs.Machine.{LegTasks}
+use Rattle.lp_linux.specs.Transition.{Release, PatchState, KLP_UNDEFINED, KLP_UNPATCHED, KLP_PATCHED, same_state, opposite, Entry, TaskStruct, Livepatch, Linux, Code, OK, EBUSY, EADDRINUSE}
 use Rattle.lp_linux.specs.Events.{step}
 
 -- ---- Events
@@ -35,14 +35,15 @@ abbrev pub heard_as : Linux → Event → Event
 heard_as m event = if awaits_walk m then heard_late m.klp.klp_target_state event else event
 
 -- a list of the kernel's events as the engine hears it
-unfoldable pub heard : Linux → List Event → List Event
-heard m [] = []
-heard m (event ∷ events) = heard_as m event ∷ heard (step m event) events
+unfoldable pub heard : Release → Linux → List Event → List Event
+heard release m [] = []
+heard release m (event ∷ events) = heard_as m event ∷ heard release (step release m event) events
 
 -- no write and no loading falls into such a time
-unfoldable pub NoneLate : Linux → List Event → Type 0
-NoneLate m [] = Unit {0}
-NoneLate m (event ∷ events) = (IsTrue (awaits_walk m) → IsFalse (is_control event)) × NoneLate (step m event) events
+unfoldable pub NoneLate : Release → Linux → List Event → Type 0
+NoneLate release m [] = Unit {0}
+NoneLate release m (event ∷ events) =
+    (IsTrue (awaits_walk m) → IsFalse (is_control event)) × NoneLate release (step release m event) events
 
 -- ---- States
 
@@ -52,7 +53,7 @@ entry_of patches frame = record { func = frame.func.0; version = version patches
 
 -- the task that one on a level stands for, as the transition heads for this level: its flag is set where it is off the target, and its
 -- patch state is the target's where it is on it
-abbrev pub task_of : Livepatch → ℕ → Standing → TaskStruct
+abbrev pub task_of : Livepatch → ℕ → LegTask → TaskStruct
 task_of klp target x =
     record {
       class = x.class;
@@ -64,22 +65,29 @@ task_of klp target x =
 
 -- what klp_target_state and klp_transition_patch say of a leg from one level to another: no transition, and each task is on the
 -- target; a patch more; or a patch less
-pub data Heads (klp : Livepatch) (from target : ℕ) (tasks : Standings) : Type 0 where
+pub data Heads (klp : Livepatch) (from target : ℕ) (tasks : LegTasks) : Type 0 where
   Nowhere :
       klp.klp_target_state ≡ KLP_UNDEFINED → klp.klp_transition_patch ≡ 0 → klp.in_place ≡ target →
-      ((t : ℕ) (x : Standing) → tasks t ≡ Live x → x.level ≡ target) →
+      ((t : ℕ) (x : LegTask) → tasks t ≡ Live x → x.level ≡ target) →
       Heads klp from target tasks
   Up :
       klp.klp_target_state ≡ KLP_PATCHED → klp.klp_transition_patch ≡ suc from → klp.in_place ≡ suc from → target ≡ suc from →
-      ((t : ℕ) (x : Standing) → tasks t ≡ Live x → x.level ≡ target ⊎ x.level ≡ from) →
+      ((t : ℕ) (x : LegTask) → tasks t ≡ Live x → x.level ≡ target ⊎ x.level ≡ from) →
       Heads klp from target tasks
   Down :
       klp.klp_target_state ≡ KLP_UNPATCHED → klp.klp_transition_patch ≡ suc target → klp.in_place ≡ suc target → from ≡ suc target →
-      ((t : ℕ) (x : Standing) → tasks t ≡ Live x → x.level ≡ target ⊎ x.level ≡ from) →
+      ((t : ℕ) (x : LegTask) → tasks t ≡ Live x → x.level ≡ target ⊎ x.level ≡ from) →
       Heads klp from target tasks
 
--- what klp_try_switch_task returns for a task, by the words of the definitions: one on a CPU is busy, whatever its stack
-abbrev pub code_of : Goal → Standing → Code
+-- what klp_try_switch_task returns for the task that runs it, by the words of the definitions: its stack alone counts
+abbrev pub own_code_of : Aim → LegTask → Code
+own_code_of aim x =
+    if nat_eq x.level aim.target then OK
+    else if list_any (is_stale aim) x.frames then EADDRINUSE
+    else OK
+
+-- what it returns for another task: one on a CPU is busy, whatever its stack
+abbrev pub code_of : Aim → LegTask → Code
 code_of aim x =
     if nat_eq x.level aim.target then OK
     else if not (same_mode x.mode Asleep) then EBUSY

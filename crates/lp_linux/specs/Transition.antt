@@ -1,6 +1,7 @@
--- kernel/livepatch/transition.c of Linux 6.1, with what patch.c and core.c have of it, function by function and in the kernel's names.
--- A function is one step here: no locks, no barriers, no klp_synchronize_transition. Left out as well: modules, callbacks and
--- `replace`; signals and `force`; CPUs that are offline; stacks that aren't reliable.
+-- kernel/livepatch/transition.c of Linux 6.1 and of 6.12, with what patch.c and core.c have of it, function by function and in the
+-- kernel's names. Where the two differ a function has the release as an argument. A function is one step here: no locks, no
+-- barriers, no klp_synchronize_transition. Left out as well: modules, callbacks and `replace`; signals and `force`; CPUs that are
+-- offline; stacks that aren't reliable.
 use Rattle.std.specs.Prelude.{ℕ, zero, suc, pred, Bool, true, false, not, ◌&&◌, List, [], ◌∷◌, length, if◌then◌else◌, nat_eq, slice_index_or}
 use Rattle.std.specs.List.{list_any, range_with_len}
 use Rattle.lp_stack.specs.declared.view.Mode.{Mode}
@@ -9,6 +10,10 @@ use Rattle.lp_stack.specs.declared.view.Class.{Class}
 use Rattle.lp_stack.specs.declared.view.Class.TheVariants.{Normal, Idle}
 use Rattle.lp_patch.specs.Patches.{Patches, patch_has}
 use Rattle.lp_definitions.specs.Tasks.{Fate, on_live, same_mode, same_class, Bounds, change}
+
+pub data Release : Type 0 where
+  Linux_6_1 : Release
+  Linux_6_12 : Release
 
 -- the values of task->patch_state, and of klp_target_state
 pub data PatchState : Type 0 where
@@ -124,10 +129,17 @@ abbrev pub klp_start_transition : Linux → Linux
 klp_start_transition m =
     all_tasks (λ task. if same_state task.patch_state m.klp.klp_target_state then task else record task { TIF_PATCH_PENDING = true }) m
 
-abbrev pub klp_reverse_transition : Linux → Linux
-klp_reverse_transition m =
-    let now = record m { klp = record m.klp { klp_target_state = opposite m.klp.klp_target_state } } in
-    klp_start_transition (all_tasks (λ task. record task { TIF_PATCH_PENDING = false }) now)
+-- klp_target_state = !klp_target_state
+abbrev pub turn_target : Linux → Linux
+turn_target m = record m { klp = record m.klp { klp_target_state = opposite m.klp.klp_target_state } }
+
+abbrev pub clear_flags : Linux → Linux
+clear_flags m = all_tasks (λ task. record task { TIF_PATCH_PENDING = false }) m
+
+-- 6.1 turns the target and then clears the flags. 6.12 clears them first, so that no task goes over meanwhile
+abbrev pub klp_reverse_transition : Release → Linux → Linux
+klp_reverse_transition Linux_6_1 m = klp_start_transition (clear_flags (turn_target m))
+klp_reverse_transition Linux_6_12 m = klp_start_transition (turn_target (clear_flags m))
 
 abbrev pub klp_update_patch_state : Livepatch → TaskStruct → TaskStruct
 klp_update_patch_state klp task =
@@ -162,17 +174,23 @@ abbrev pub is_ok : Code → Bool
 is_ok OK = true
 is_ok _ = false
 
--- `task != current` has no part: the task that does the walk is off its CPU meanwhile, by the events (Events.antt)
-abbrev pub klp_check_and_switch_task : Livepatch → TaskStruct → Tried
-klp_check_and_switch_task klp task =
-    if task_curr task then record { code = EBUSY; task = task }
+-- the first argument is `task == current`. In a walk it is so of no task: the one that walks is off its CPU meanwhile, by the
+-- events (Events.antt)
+abbrev pub klp_check_and_switch_task : Bool → Livepatch → TaskStruct → Tried
+klp_check_and_switch_task is_current klp task =
+    if not is_current && task_curr task then record { code = EBUSY; task = task }
     else if klp_check_stack klp task.stack then record { code = EADDRINUSE; task = task }
     else record { code = OK; task = record task { TIF_PATCH_PENDING = false; patch_state = klp.klp_target_state } }
 
-abbrev pub klp_try_switch_task : Livepatch → TaskStruct → Tried
-klp_try_switch_task klp task =
+abbrev pub klp_try_switch_task : Bool → Livepatch → TaskStruct → Tried
+klp_try_switch_task is_current klp task =
     if same_state task.patch_state klp.klp_target_state then record { code = OK; task = task }
-    else klp_check_and_switch_task klp task
+    else klp_check_and_switch_task is_current klp task
+
+-- __klp_sched_try_switch, of 6.12 alone: the task that runs tries itself, if it is pending
+abbrev pub klp_sched_try_switch : Livepatch → TaskStruct → TaskStruct
+klp_sched_try_switch klp current =
+    if current.TIF_PATCH_PENDING then (klp_try_switch_task true klp current).task else current
 
 -- the two loops of klp_try_complete_transition, each over the tasks of a class, with its local variable `complete`
 pub record Walked : Type 0 where
@@ -180,7 +198,7 @@ pub record Walked : Type 0 where
   pub complete : Bool
 
 abbrev pub try_of : Livepatch → Class → TaskStruct → Tried
-try_of klp class task = if same_class task.class class then klp_try_switch_task klp task else record { code = OK; task = task }
+try_of klp class task = if same_class task.class class then klp_try_switch_task false klp task else record { code = OK; task = task }
 
 abbrev pub try_each : Livepatch → Class → ℕ → Walked → Walked
 try_each klp class zero walked = walked

@@ -8,6 +8,8 @@ ghost use Rattle.lp_definitions.specs.Run.{Run, plus};
 ghost use Rattle.lp_machine.specs.Table.{state_in};
 ghost use Rattle.lp_transition.specs.Weigh.{may_allocate};
 ghost use Rattle.lp_linux.specs.Reading.{heard_late};
+ghost use Rattle.lp_linux.specs.Transition.{Release};
+ghost use Rattle.lp_linux.specs.Events.{has};
 ghost use Rattle.lp_linux.specs.Followed.{IsKernel, is_moving, patch_state_of, heard_in, target_state_after};
 
 use lp_models::Hybrid;
@@ -69,7 +71,7 @@ pub fn next_target(
 
 /// One event of the kernel: the engine takes it as it hears it. `target` is `Undefined` before the first event; the
 /// kernel completes its transition, so that it is `Undefined` again, at the first walk after which the engine's is complete
-/// (Linux 6.1, `klp_try_complete_transition`).
+/// (Linux 6.1 and 6.12, `klp_try_complete_transition`).
 ///
 /// Halts as the engine's own step does (E13, E14), and then nothing has changed.
 pub fn step(
@@ -80,7 +82,7 @@ pub fn step(
 ) -> Result<Reply, Halt>
     ensures full { (result ≡ Err JournalFull) ↔ (1000000 ≤ core.old.number) }
     ensures memory { result ≡ Err NoMemory → IsTrue (may_allocate (heard_in target.old (state_in core.old) event) (answer (rules_of hybrid) (state_in core.old) (heard_in target.old (state_in core.old) event)).what) }
-    ensures step { IfOk result (λ reply. (r : Run) → IsKernel r target.old (state_in core.old) → IsKernel (plus r event) target.new (state_in core.new)) }
+    ensures step { IfOk result (λ reply. (release : Release) (r : Run) → IsTrue (has release event) → IsKernel release r target.old (state_in core.old) → IsKernel release (plus r event) target.new (state_in core.new)) }
     ensures unchanged { OnErr result ((core.new ≡ core.old) × (target.new ≡ target.old)) }
 {
     let told = heard(*target, !core.in_transition(), event);

@@ -13,7 +13,7 @@ all_weaker P Q f xs all = λ k d within. f (get_or xs k d) (all k d within)
 abbrev IsBelow : List Entry → ℕ → Seated → Type 0
 IsBelow entries task other = other.task < task → IsItsPart entries other
 
--- the same with a seat behind that isn't before it
+-- the same with one seat more, that isn't before it
 kept : (entries : List Entry) (before : List Seated) (seat : Seated) (task place : ℕ) → IsBelow entries task seat → SeatDiffers entries before task place → SeatDiffers entries (before ++ seat ∷ []) task place
 kept entries before seat task place below h =
     record {

@@ -2,6 +2,6 @@ pub mod Entries
 pub mod Journals
 pub mod Logs
 pub mod Seats
-pub mod Causes
+pub mod Turned
 pub mod Audits
 pub mod inside

@@ -1,3 +1,3 @@
 -- What code and proofs share and no public contract names.
 pub mod Cursors
-pub mod Plain
+pub mod Quiet

@@ -51,7 +51,7 @@ impl From<AllocError> for CloseCause {
 }
 
 impl Journal {
-    ghost use Rattle.lp_log.specs.Audits.{AllBelong, IsClosed, IsFirstCause, NoStranger};
+    ghost use Rattle.lp_log.specs.Audits.{AllBelong, IsClosed, IsFirstCause, NoStranger, given_out};
 
     /// Whether the seats and the control are those that were given out, and their entries are the parts of the journal:
     /// each seat's the entries of its task, and the control's those of scans and control events.
@@ -72,6 +72,13 @@ impl Journal {
         }
     }
 
+    /// How many seats were given out: one for each task that was there from the start, and for each that a fork brought.
+    pub fn given_out(&self) -> usize
+        ensures { result ≡ given_out self.now }
+    {
+        strangers::given_out(self)
+    }
+
     /// The audit where there is no stranger.
     fn audit_known(
         &self,
@@ -84,7 +91,7 @@ impl Journal {
         ensures belong { OnOk result (AllBelong self.now.entries seats.now) }
         ensures cause { IfErr result (λ cause. IsFirstCause self.now seats.now control.now cause) }
     {
-        let want = strangers::given_out(self);
+        let want = self.given_out();
         let have = seats.len();
         if have != want {
             return Err(CloseCause::Missing { have, want });

@@ -104,7 +104,7 @@ impl Control {
 
 /// The answer to an event that was sent from a seat.
 #[derive(Drop)]
-pub struct Submitted {
+pub struct SeatAnswer {
     /// The seat, with the entry.
     pub seat: Seat,
     /// The answer.
@@ -115,7 +115,7 @@ pub struct Submitted {
 
 /// The answer to an event that was sent from the control.
 #[derive(Drop)]
-pub struct Commanded {
+pub struct ControlAnswer {
     /// The control, with the entry.
     pub control: Control,
     /// The answer.
@@ -128,12 +128,12 @@ pub struct Turned<P: Drop> {
     /// The seat or the control.
     pub part: P,
     /// Why nothing has happened.
-    pub cause: Cause,
+    pub cause: TurnedBy,
 }
 
 /// Why an event that was sent wasn't taken. The first that fits is given.
 #[derive(Clone, Copy, Debug, PartialEq, Eq, Error)]
-pub enum Cause {
+pub enum TurnedBy {
     /// D1: it isn't an event of the seat's task; or it is a task's event, and was sent from the control.
     #[error("D1: the event isn't the seat's task's, or is a task's that was sent from the control")]
     NotYours,

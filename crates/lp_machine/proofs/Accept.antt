@@ -8,14 +8,14 @@ use Rattle.lp_stack.specs.declared.view.Class.TheVariants.{Normal, Idle as IsIdl
 use Rattle.lp_stack.specs.declared.view.Mode.TheVariants.{Kernel}
 use Rattle.lp_model.specs.Rules.{Rules}
 use Rattle.lp_model.specs.declared.check.ForkKind.{ForkKind}
-use Rattle.lp_definitions.specs.declared.event.Event.TheVariants.{Call, Exit, Idle, Fork, Die, Enable}
+use Rattle.lp_definitions.specs.declared.event.Event.TheVariants.{Call, Exit, Idle, Resched, Fork, Die, Enable}
 use Rattle.lp_definitions.specs.declared.refusal.Refusal.{Refusal}
 use Rattle.lp_definitions.specs.declared.refusal.Refusal.TheVariants.{UnknownTask, TaskRange, TaskUsed, StackFull, StackNotEmpty, InTransition, AlreadyThere}
 use Rattle.lp_numbers.specs.Numbers.{has}
 use Rattle.lp_definitions.specs.Tasks.{on_live, map_live, is_unused, fits, first_of, unknown_task, unknown_symbol, out_of_range, used, not_of, not_in, stack_full, stack_not_empty}
-use Rattle.lp_definitions.specs.Leg.{Standing}
+use Rattle.lp_definitions.specs.Leg.{LegTask}
 use Rattle.lp_machine.specs.Machine.{complete_in, outline_of, outlines_of, refusal_of}
-use Rattle.lp_machine.specs.Table.{Engine, bounds_of, slot, fate_at, standings, state_in}
+use Rattle.lp_machine.specs.Table.{Engine, bounds_of, slot, fate_at, leg_tasks, state_in}
 
 -- no test fits, the first neither
 first_free : {A : Type 0} (test : Option A) (tests : List (Option A)) → first_of (test ∷ tests) ≡ None → test ≡ None
@@ -32,41 +32,45 @@ fits-free false x h = refl
 
 -- the task that an accepted event names is live
 pub record IsLive (e : Engine) (t : ℕ) : Type 0 where
-  pub task : Standing
+  pub task : LegTask
   pub there : slot e.table t ≡ Some task
 
-known-live : (e : Engine) (t : ℕ) (o : Option Standing) (used : Bool) → slot e.table t ≡ o → not (on_live false (λ x. true) (map_live outline_of (fate_at o used))) ≡ false → IsLive e t
+known-live : (e : Engine) (t : ℕ) (o : Option LegTask) (used : Bool) → slot e.table t ≡ o → not (on_live false (λ x. true) (map_live outline_of (fate_at o used))) ≡ false → IsLive e t
 known-live e t None true s h = cc
 known-live e t None false s h = cc
 known-live e t (Some x) used s h = record { task = x; there = s }
 
 module _ (model : Rules) (e : Engine) where
-  by_first : (t : ℕ) (tests : List (Option Refusal)) → first_of (unknown_task (outlines_of (standings e.table)) t ∷ tests) ≡ None → IsLive e t
+  by_first : (t : ℕ) (tests : List (Option Refusal)) → first_of (unknown_task (outlines_of (leg_tasks e.table)) t ∷ tests) ≡ None → IsLive e t
   by_first t tests h =
-      known-live e t (slot e.table t) (has e.table.used t) refl (fits-free (not (on_live false (λ x. true) (outlines_of (standings e.table) t))) UnknownTask (first_free (unknown_task (outlines_of (standings e.table)) t) tests h))
+      known-live e t (slot e.table t) (has e.table.used t) refl (fits-free (not (on_live false (λ x. true) (outlines_of (leg_tasks e.table) t))) UnknownTask (first_free (unknown_task (outlines_of (leg_tasks e.table)) t) tests h))
 
   -- the task of an event that an engine accepts
   pub exit-live : (t : TaskId) → refusal_of model (state_in e) (Exit t) ≡ None → IsLive e t.0
   unfolding refusal_of
-  exit-live t h = by_first t.0 (not_of Normal (outlines_of (standings e.table)) t.0 ∷ not_in Kernel (outlines_of (standings e.table)) t.0 ∷ stack_not_empty (outlines_of (standings e.table)) t.0 ∷ []) h
+  exit-live t h = by_first t.0 (not_of Normal (outlines_of (leg_tasks e.table)) t.0 ∷ not_in Kernel (outlines_of (leg_tasks e.table)) t.0 ∷ stack_not_empty (outlines_of (leg_tasks e.table)) t.0 ∷ []) h
 
   pub idle-live : (t : TaskId) → refusal_of model (state_in e) (Idle t) ≡ None → IsLive e t.0
   unfolding refusal_of
-  idle-live t h = by_first t.0 (not_of IsIdle (outlines_of (standings e.table)) t.0 ∷ not_in Kernel (outlines_of (standings e.table)) t.0 ∷ stack_not_empty (outlines_of (standings e.table)) t.0 ∷ []) h
+  idle-live t h = by_first t.0 (not_of IsIdle (outlines_of (leg_tasks e.table)) t.0 ∷ not_in Kernel (outlines_of (leg_tasks e.table)) t.0 ∷ stack_not_empty (outlines_of (leg_tasks e.table)) t.0 ∷ []) h
+
+  pub resched-live : (t : TaskId) → refusal_of model (state_in e) (Resched t) ≡ None → IsLive e t.0
+  unfolding refusal_of
+  resched-live t h = by_first t.0 (not_of Normal (outlines_of (leg_tasks e.table)) t.0 ∷ not_in Kernel (outlines_of (leg_tasks e.table)) t.0 ∷ []) h
 
   pub die-live : (t : TaskId) → refusal_of model (state_in e) (Die t) ≡ None → IsLive e t.0
   unfolding refusal_of
-  die-live t h = by_first t.0 (not_of Normal (outlines_of (standings e.table)) t.0 ∷ not_in Kernel (outlines_of (standings e.table)) t.0 ∷ stack_not_empty (outlines_of (standings e.table)) t.0 ∷ []) h
+  die-live t h = by_first t.0 (not_of Normal (outlines_of (leg_tasks e.table)) t.0 ∷ not_in Kernel (outlines_of (leg_tasks e.table)) t.0 ∷ stack_not_empty (outlines_of (leg_tasks e.table)) t.0 ∷ []) h
 
   pub fork-live : (p c : TaskId) (how : ForkKind) → refusal_of model (state_in e) (Fork p c how) ≡ None → IsLive e p.0
   unfolding refusal_of
-  fork-live p c how h = by_first p.0 (out_of_range (bounds_of e.patches) c.0 ∷ used (outlines_of (standings e.table)) c.0 ∷ not_of Normal (outlines_of (standings e.table)) p.0 ∷ not_in Kernel (outlines_of (standings e.table)) p.0 ∷ []) h
+  fork-live p c how h = by_first p.0 (out_of_range (bounds_of e.patches) c.0 ∷ used (outlines_of (leg_tasks e.table)) c.0 ∷ not_of Normal (outlines_of (leg_tasks e.table)) p.0 ∷ not_in Kernel (outlines_of (leg_tasks e.table)) p.0 ∷ []) h
 
   -- a call finds room on the stack
-  pub call-room : (t : TaskId) (f : SymId) (x : Standing) → refusal_of model (state_in e) (Call t f) ≡ None → slot e.table t.0 ≡ Some x → length x.frames < 100
+  pub call-room : (t : TaskId) (f : SymId) (x : LegTask) → refusal_of model (state_in e) (Call t f) ≡ None → slot e.table t.0 ≡ Some x → length x.frames < 100
   unfolding refusal_of
   call-room t f x h there =
-      let live = outlines_of (standings e.table) in
+      let live = outlines_of (leg_tasks e.table) in
       let a = unknown_task live t.0 in
       let b = unknown_symbol (bounds_of e.patches) f.0 in
       let m = not_in Kernel live t.0 in
@@ -76,10 +80,10 @@ module _ (model : Rules) (e : Engine) where
       grind (arith, nat_tests, full)
 
   -- a task that ends has no frame
-  pub die-empty : (t : TaskId) (x : Standing) → refusal_of model (state_in e) (Die t) ≡ None → slot e.table t.0 ≡ Some x → length x.frames ≡ 0
+  pub die-empty : (t : TaskId) (x : LegTask) → refusal_of model (state_in e) (Die t) ≡ None → slot e.table t.0 ≡ Some x → length x.frames ≡ 0
   unfolding refusal_of
   die-empty t x h there =
-      let live = outlines_of (standings e.table) in
+      let live = outlines_of (leg_tasks e.table) in
       let a = unknown_task live t.0 in
       let n = not_of Normal live t.0 in
       let m = not_in Kernel live t.0 in
@@ -92,7 +96,7 @@ module _ (model : Rules) (e : Engine) where
   pub fork-new : (p c : TaskId) (how : ForkKind) → refusal_of model (state_in e) (Fork p c how) ≡ None → (slot e.table c.0 ≡ None) × (has e.table.used c.0 ≡ false)
   unfolding refusal_of
   fork-new p c how h =
-      let live = outlines_of (standings e.table) in
+      let live = outlines_of (leg_tasks e.table) in
       let a = unknown_task live p.0 in
       let b = out_of_range (bounds_of e.patches) c.0 in
       let u = used live c.0 in
@@ -100,7 +104,7 @@ module _ (model : Rules) (e : Engine) where
       let free = first_free u rest (others_free b (u ∷ rest) (others_free a (b ∷ u ∷ rest) h)) in
       unused-slot (slot e.table c.0) (has e.table.used c.0) (fits-free (not (is_unused (live c.0))) TaskUsed free)
     where
-      unused-slot : (o : Option Standing) (b : Bool) → not (is_unused (map_live outline_of (fate_at o b))) ≡ false → (o ≡ None) × (b ≡ false)
+      unused-slot : (o : Option LegTask) (b : Bool) → not (is_unused (map_live outline_of (fate_at o b))) ≡ false → (o ≡ None) × (b ≡ false)
       unused-slot None true h = absurd (cc)
       unused-slot None false h = (refl, refl)
       unused-slot (Some x) b h = absurd (cc)
@@ -109,7 +113,7 @@ module _ (model : Rules) (e : Engine) where
   pub fork-positive : (p c : TaskId) (how : ForkKind) → refusal_of model (state_in e) (Fork p c how) ≡ None → 0 < c.0
   unfolding refusal_of
   fork-positive p c how h =
-      let live = outlines_of (standings e.table) in
+      let live = outlines_of (leg_tasks e.table) in
       let a = unknown_task live p.0 in
       let b = out_of_range (bounds_of e.patches) c.0 in
       let rest = used live c.0 ∷ not_of Normal live p.0 ∷ not_in Kernel live p.0 ∷ [] in
@@ -120,7 +124,7 @@ module _ (model : Rules) (e : Engine) where
   pub fork-within : (p c : TaskId) (how : ForkKind) → refusal_of model (state_in e) (Fork p c how) ≡ None → c.0 ≤ 65535
   unfolding refusal_of
   fork-within p c how h =
-      let live = outlines_of (standings e.table) in
+      let live = outlines_of (leg_tasks e.table) in
       let a = unknown_task live p.0 in
       let b = out_of_range (bounds_of e.patches) c.0 in
       let rest = used live c.0 ∷ not_of Normal live p.0 ∷ not_in Kernel live p.0 ∷ [] in

@@ -4,16 +4,16 @@ use Rattle.std.proofs.lemmas.Bool.{cond-true, cond-false}
 use mathlib.Core.Path.{fun_ext}
 use Rattle.lp_model.specs.Rules.{Rules}
 use Rattle.lp_definitions.specs.declared.event.Event.{Event}
-use Rattle.lp_definitions.specs.declared.event.Event.TheVariants.{Call, Ret, Sleep, Wake, Enter, Exit, Idle, Fork, Die, Walk, Stop, Enable, Disable, Reverse}
+use Rattle.lp_definitions.specs.declared.event.Event.TheVariants.{Call, Ret, Sleep, Wake, Enter, Exit, Idle, Resched, Fork, Die, Walk, Stop, Enable, Disable, Reverse}
 use Rattle.lp_definitions.specs.declared.refusal.Refusal.{Refusal}
 use Rattle.lp_definitions.specs.Events.{is_control}
 use Rattle.lp_definitions.specs.Tasks.{Fate, Unused, Live, Dead, on_live, map_live, is_unused}
-use Rattle.lp_definitions.specs.Leg.{Standing, State}
+use Rattle.lp_definitions.specs.Leg.{LegTask, State}
 use Rattle.lp_machine.specs.Machine.{waits_in, switches_at, switched_task, refusal_of, counted, affected, with_switches, turned, next_by, next, answer_by, answer}
 use Rattle.lp_machine.specs.Table.{fate_at}
 
 -- who lives has a number that was used
-pub used-fate : (o : Option Standing) (b : Bool) → (is_some o ≡ true → b ≡ true) → b ≡ not (is_unused (fate_at o b))
+pub used-fate : (o : Option LegTask) (b : Bool) → (is_some o ≡ true → b ≡ true) → b ≡ not (is_unused (fate_at o b))
 used-fate None true h = refl
 used-fate None false h = refl
 used-fate (Some x) b h = h refl
@@ -23,53 +23,56 @@ and-false true = refl
 and-false false = refl
 
 -- an event that checks no group: one that is neither a scan nor the leaving of the kernel, nor a control event
-abbrev pub is_quiet : Event → Bool
-is_quiet (Exit t) = false
-is_quiet (Idle t) = false
-is_quiet Walk = false
-is_quiet Stop = false
-is_quiet Enable = false
-is_quiet Disable = false
-is_quiet Reverse = false
-is_quiet _ = true
+abbrev pub is_unchecked : Event → Bool
+is_unchecked (Exit t) = false
+is_unchecked (Idle t) = false
+is_unchecked (Resched t) = false
+is_unchecked Walk = false
+is_unchecked Stop = false
+is_unchecked Enable = false
+is_unchecked Disable = false
+is_unchecked Reverse = false
+is_unchecked _ = true
 
 module _ (model : Rules) where
   -- a quiet event takes no group over
-  pub quiet-stays : (now : State) (event : Event) (group : ℕ) → is_quiet event ≡ true → switches_at model now event group ≡ false
+  pub unchecked-stays : (now : State) (event : Event) (group : ℕ) → is_unchecked event ≡ true → switches_at model now event group ≡ false
   unfolding switches_at
-  quiet-stays now (Call t f) group q = and-false (waits_in now group)
-  quiet-stays now (Ret t) group q = and-false (waits_in now group)
-  quiet-stays now (Sleep t) group q = and-false (waits_in now group)
-  quiet-stays now (Wake t) group q = and-false (waits_in now group)
-  quiet-stays now (Enter t) group q = and-false (waits_in now group)
-  quiet-stays now (Fork p c how) group q = and-false (waits_in now group)
-  quiet-stays now (Die t) group q = and-false (waits_in now group)
-  quiet-stays now (Exit t) group q = cc
-  quiet-stays now (Idle t) group q = cc
-  quiet-stays now Walk group q = cc
-  quiet-stays now Stop group q = cc
-  quiet-stays now Enable group q = cc
-  quiet-stays now Disable group q = cc
-  quiet-stays now Reverse group q = cc
+  unchecked-stays now (Call t f) group q = and-false (waits_in now group)
+  unchecked-stays now (Ret t) group q = and-false (waits_in now group)
+  unchecked-stays now (Sleep t) group q = and-false (waits_in now group)
+  unchecked-stays now (Wake t) group q = and-false (waits_in now group)
+  unchecked-stays now (Enter t) group q = and-false (waits_in now group)
+  unchecked-stays now (Fork p c how) group q = and-false (waits_in now group)
+  unchecked-stays now (Die t) group q = and-false (waits_in now group)
+  unchecked-stays now (Exit t) group q = cc
+  unchecked-stays now (Idle t) group q = cc
+  unchecked-stays now (Resched t) group q = cc
+  unchecked-stays now Walk group q = cc
+  unchecked-stays now Stop group q = cc
+  unchecked-stays now Enable group q = cc
+  unchecked-stays now Disable group q = cc
+  unchecked-stays now Reverse group q = cc
 
   -- a quiet event is no control event
-  pub quiet-control : (event : Event) → is_quiet event ≡ true → is_control event ≡ false
-  quiet-control (Call t f) q = refl
-  quiet-control (Ret t) q = refl
-  quiet-control (Sleep t) q = refl
-  quiet-control (Wake t) q = refl
-  quiet-control (Enter t) q = refl
-  quiet-control (Fork p c how) q = refl
-  quiet-control (Die t) q = refl
-  quiet-control (Exit t) q = cc
-  quiet-control (Idle t) q = cc
-  quiet-control Walk q = cc
-  quiet-control Stop q = cc
-  quiet-control Enable q = cc
-  quiet-control Disable q = cc
-  quiet-control Reverse q = cc
+  pub unchecked-control : (event : Event) → is_unchecked event ≡ true → is_control event ≡ false
+  unchecked-control (Call t f) q = refl
+  unchecked-control (Ret t) q = refl
+  unchecked-control (Sleep t) q = refl
+  unchecked-control (Wake t) q = refl
+  unchecked-control (Enter t) q = refl
+  unchecked-control (Fork p c how) q = refl
+  unchecked-control (Die t) q = refl
+  unchecked-control (Exit t) q = cc
+  unchecked-control (Idle t) q = cc
+  unchecked-control (Resched t) q = cc
+  unchecked-control Walk q = cc
+  unchecked-control Stop q = cc
+  unchecked-control Enable q = cc
+  unchecked-control Disable q = cc
+  unchecked-control Reverse q = cc
 
-  still-task : (now : State) (event : Event) → ((group : ℕ) → switches_at model now event group ≡ false) → (fate : Fate Standing) → map_live (switched_task model now event) fate ≡ fate
+  still-task : (now : State) (event : Event) → ((group : ℕ) → switches_at model now event group ≡ false) → (fate : Fate LegTask) → map_live (switched_task model now event) fate ≡ fate
   still-task now event none Unused = refl
   still-task now event none (Live x) = ap Live (cond-false _ _ _ (none x.group))
   still-task now event none Dead = refl
@@ -78,7 +81,7 @@ module _ (model : Rules) where
   pub switched-still : (s : State) (event : Event) → ((group : ℕ) → switches_at model (affected model s event) event group ≡ false) → with_switches model s event ≡ affected model s event
   switched-still s event none =
       let now = affected model s event in
-      ap {A = ℕ → Fate Standing} {B = State} (λ tasks. record now { tasks = tasks }) (fun_ext (λ t. still-task now event none (now.tasks t)))
+      ap {A = ℕ → Fate LegTask} {B = State} (λ tasks. record now { tasks = tasks }) (fun_ext (λ t. still-task now event none (now.tasks t)))
 
   -- a refused event takes a number and changes nothing else
   pub next-refused : (s : State) (event : Event) (why : Refusal) → refusal_of model s event ≡ Some why → next model s event ≡ counted model s
@@ -108,7 +111,7 @@ module _ (model : Rules) where
   next-still s event e c none = next-accepted s event e c ∙ switched-still s event none
 
 -- a change that keeps levels keeps who is off the target
-level-kept : (f : Standing → Standing) → ((x : Standing) → (f x).level ≡ x.level) → (test : ℕ → Bool) (fate : Fate Standing) → on_live true (λ x. test x.level) (map_live f fate) ≡ on_live true (λ x. test x.level) fate
+level-kept : (f : LegTask → LegTask) → ((x : LegTask) → (f x).level ≡ x.level) → (test : ℕ → Bool) (fate : Fate LegTask) → on_live true (λ x. test x.level) (map_live f fate) ≡ on_live true (λ x. test x.level) fate
 level-kept f keeps test Unused = refl
 level-kept f keeps test (Live x) = ap test (keeps x)
 level-kept f keeps test Dead = refl

@@ -1,5 +1,4 @@
 pub mod Machine
 pub mod Steps
 pub mod Table
-pub mod Laws
 pub mod inside

@@ -11,10 +11,10 @@ use Rattle.lp_stack.specs.TaskView.{TaskView}
 use Rattle.lp_model.specs.Rules.{Rules}
 use Rattle.lp_stack.specs.declared.frame.Frame.{Frame}
 use Rattle.lp_definitions.specs.declared.event.Event.{Event}
-use Rattle.lp_definitions.specs.declared.event.Event.TheVariants.{Call, Ret, Sleep, Wake, Enter, Exit, Idle, Fork, Die, Walk, Stop, Enable, Disable, Reverse}
+use Rattle.lp_definitions.specs.declared.event.Event.TheVariants.{Call, Ret, Sleep, Wake, Enter, Exit, Idle, Resched, Fork, Die, Walk, Stop, Enable, Disable, Reverse}
 use Rattle.lp_definitions.specs.declared.refusal.Refusal.{Refusal}
 use Rattle.lp_definitions.specs.Tasks.{Fate, Dead, on_live, map_live, first_of, Outline, Outlines, tests, change, Grouping}
-use Rattle.lp_definitions.specs.Leg.{Standing, State, Leg, each_live, some_live, check_by, if_used}
+use Rattle.lp_definitions.specs.Leg.{LegTask, State, Leg, each_live, some_live, check_by, if_used}
 use Rattle.lp_definitions.specs.declared.reply.What.{What}
 use Rattle.lp_definitions.specs.declared.reply.What.TheVariants.{Ran, Done, Refused}
 use Rattle.lp_definitions.specs.declared.reply.Reply.{Reply}
@@ -23,40 +23,40 @@ use Rattle.lp_symbols.specs.declared.sym_id.SymId.{SymId}
 use Rattle.lp_definitions.specs.Events.{is_control}
 
 -- each task number's fate, with the levels of live tasks
-abbrev pub Standings : Type 0
-Standings = ℕ → Fate Standing
+abbrev pub LegTasks : Type 0
+LegTasks = ℕ → Fate LegTask
 
 -- a live task without its level and its frames, and the same of all tasks
-abbrev pub outline_of : Standing → Outline
+abbrev pub outline_of : LegTask → Outline
 outline_of x = record { class = x.class; mode = x.mode; group = x.group; depth = length x.frames }
 
-abbrev pub outlines_of : Standings → Outlines
+abbrev pub outlines_of : LegTasks → Outlines
 outlines_of now t = map_live outline_of (now t)
 
 -- what a check sees of a task
-abbrev pub view_of : ℕ → Standing → TaskView
+abbrev pub view_of : ℕ → LegTask → TaskView
 view_of t x = record { task = t; class = x.class; mode = x.mode; frames = x.frames }
 
 -- ---- An event's own effect
 
 -- it sleeps, wakes up or enters the kernel; it calls; it returns; a child of it is born
-abbrev pub put_in : Mode → Standing → Standing
+abbrev pub put_in : Mode → LegTask → LegTask
 put_in mode x = record x { mode = mode }
 
-abbrev pub calling : ℕ → SymId → Standing → Standing
+abbrev pub calling : ℕ → SymId → LegTask → LegTask
 calling serial func x =
     let frame : Frame = record { func = func; level = record { 0 = x.level }; serial = serial } in
     record x { frames = x.frames ++ frame ∷ [] }
 
-abbrev pub returning : Standing → Standing
+abbrev pub returning : LegTask → LegTask
 returning x = record x { frames = take (pred (length x.frames)) x.frames }
 
-abbrev pub bearing : Grouping → ℕ → ForkKind → Standing → Standing
+abbrev pub bearing : Grouping → ℕ → ForkKind → LegTask → LegTask
 bearing grouping c how x =
     record { class = Normal; mode = Kernel; group = grouping x.group c how; level = x.level; frames = [] }
 
 -- what an accepted event with this number does to the tasks
-abbrev pub own_effect : Grouping → ℕ → Event → Standings → Standings
+abbrev pub own_effect : Grouping → ℕ → Event → LegTasks → LegTasks
 own_effect grouping number (Call t f) now = change t.0 (calling number f) now
 own_effect grouping number (Ret t) now = change t.0 returning now
 own_effect grouping number (Sleep t) now = change t.0 (put_in Asleep) now
@@ -64,6 +64,7 @@ own_effect grouping number (Wake t) now = change t.0 (put_in Kernel) now
 own_effect grouping number (Enter t) now = change t.0 (put_in Kernel) now
 own_effect grouping number (Exit t) now = change t.0 (put_in User) now
 own_effect grouping number (Idle t) now = now
+own_effect grouping number (Resched t) now = now
 own_effect grouping number (Fork p c how) now =
     λ x. if nat_eq x c.0 then map_live (bearing grouping c.0 how) (now p.0) else now x
 own_effect grouping number (Die t) now = λ x. if nat_eq x t.0 then Dead else now x
@@ -101,7 +102,7 @@ module _ (model : Rules) where
   switched_groups s event = filter (switches_at s event) (range_with_len 0 (suc s.bounds.tasks))
 
   -- a task after the switching
-  abbrev pub switched_task : State → Event → Standing → Standing
+  abbrev pub switched_task : State → Event → LegTask → LegTask
   switched_task s event x = if switches_at s event x.group then record x { level = s.target } else x
 
   -- ---- One event

@@ -5,29 +5,29 @@ use Rattle.lp_patch.specs.Patches.{Patches, symbols_of}
 use Rattle.lp_model.specs.declared.check.CheckKind.{CheckKind}
 use Rattle.lp_definitions.specs.Tasks.{Fate, Unused, Live, Dead, Bounds}
 use Rattle.lp_definitions.specs.Run.{task_numbers}
-use Rattle.lp_definitions.specs.Leg.{Standing, State}
+use Rattle.lp_definitions.specs.Leg.{LegTask, State}
 use Rattle.lp_machine.specs.declared.standing_blame.StandingBlame.{StandingBlame}
 
 -- ---- The tasks
 
 -- for each number, the live task, and whether the number was ever used
 pub record Table : Type 0 where
-  pub slots : List (Option Standing)
+  pub slots : List (Option LegTask)
   pub used : Numbers
 
 -- the live task of a number
-abbrev pub slot : Table → ℕ → Option Standing
+abbrev pub slot : Table → ℕ → Option LegTask
 slot table t = slice_index_or table.slots t None
 
 -- the fate of a number by its slot and by whether it was used
-abbrev pub fate_at : Option Standing → Bool → Fate Standing
+abbrev pub fate_at : Option LegTask → Bool → Fate LegTask
 fate_at (Some x) used = Live x
 fate_at None true = Dead
 fate_at None false = Unused
 
 -- the fate of each task number
-abbrev pub standings : Table → ℕ → Fate Standing
-standings table t = fate_at (slot table t) (has table.used t)
+abbrev pub leg_tasks : Table → ℕ → Fate LegTask
+leg_tasks table t = fate_at (slot table t) (has table.used t)
 
 -- a table over all numbers
 pub record IsWide (table : Table) : Type 0 where
@@ -68,5 +68,5 @@ state_in e =
       bounds = bounds_of e.patches;
       from = e.from;
       aim = record { patches = e.patches; target = e.target };
-      tasks = standings e.table;
+      tasks = leg_tasks e.table;
     }

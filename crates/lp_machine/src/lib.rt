@@ -1,8 +1,7 @@
-//! The machine that an engine is: a state, and what an event makes of it. Its laws tie it to the
-//! definitions.
+//! The machine that an engine is: a state, and what an event makes of it. What ties it to the
+//! definitions is in lp_machine_laws, which is proved beside lp_tasks.
 #![tactic(auto)]
 
-pub mod laws;
 mod standing_blame;
 
 pub use standing_blame::StandingBlame;

@@ -1,3 +1,4 @@
 pub mod Rules
 pub mod Row
 pub mod inside
+pub mod Printed

@@ -5,7 +5,7 @@ use Rattle.std.specs.Option.{option_map, option_or}
 use Rattle.lp_stack.specs.declared.frame.Frame.{Frame}
 use Rattle.lp_stack.specs.declared.view.Mode.{Mode}
 use Rattle.lp_stack.specs.TaskView.{TaskView}
-use Rattle.lp_patch.specs.Patches.{Goal}
+use Rattle.lp_patch.specs.Patches.{Aim}
 use Rattle.lp_model.specs.declared.check.CheckKind.{CheckKind}
 use Rattle.lp_model.specs.declared.check.CheckKind.TheVariants.{Walk, Stop}
 use Rattle.lp_model.specs.declared.check.ForkKind.{ForkKind}
@@ -18,7 +18,7 @@ pub record ModelRow : Type 0 where
   -- the kinds of checks that it uses
   pub uses : CheckKind → Bool
   -- the frames that keep their task back
-  pub keeps : Goal → Frame → Bool
+  pub keeps : Aim → Frame → Bool
   -- the modes that keep a task back, at a kind of check
   pub busy : CheckKind → Mode → Bool
   -- the group of a task that is there from the start, and of a child
@@ -28,7 +28,7 @@ pub record ModelRow : Type 0 where
   pub whole_call : Bool
 
 -- whom the model admits: at a kind that it uses, a task that no frame and no mode keeps back
-abbrev pub admits_of : ModelRow → CheckKind → TaskView → Goal → Bool
+abbrev pub admits_of : ModelRow → CheckKind → TaskView → Aim → Bool
 admits_of table kind view aim =
     table.uses kind && not (list_any (table.keeps aim) view.frames) && not (table.busy kind view.mode)
 
@@ -37,7 +37,7 @@ abbrev pub lowest : (Frame → Bool) → TaskView → Option ℕ
 lowest test view = option_map (λ frame. frame.serial) (find test view.frames)
 
 -- whom the model blames: a kind that it doesn't use, else the lowest frame that keeps the task back, else its mode
-abbrev pub blame_of : ModelRow → CheckKind → TaskView → Goal → Option Blame
+abbrev pub blame_of : ModelRow → CheckKind → TaskView → Aim → Option Blame
 blame_of table kind view aim =
     if not (table.uses kind) then Some Unused
     else option_or (option_map Held (lowest (table.keeps aim) view)) (if table.busy kind view.mode then Some Busy else None)

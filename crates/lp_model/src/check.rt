@@ -1,4 +1,6 @@
 //! The words of a check.
+ghost use Rattle.std.specs.Prelude.{Some};
+ghost use Rattle.lp_model.specs.Printed.{fork_kind_text};
 
 use std::fmt;
 
@@ -9,6 +11,9 @@ pub enum CheckKind {
     KernelExit,
     /// An idle task at the point in its loop where nothing runs.
     IdlePoint,
+    /// A task in the kernel asks whether another should run, and its own stack is looked at while it
+    /// is on its CPU (Linux livepatch from 6.4 on, at `cond_resched`).
+    Resched,
     /// The stacks of all waiting tasks are looked at while the tasks run (Linux livepatch).
     Walk,
     /// All CPUs are stopped, and every stack is looked at (Ksplice).
@@ -40,6 +45,7 @@ impl fmt::Display for CheckKind {
         f.write_str(match self {
             CheckKind::KernelExit => "exit",
             CheckKind::IdlePoint => "idle",
+            CheckKind::Resched => "resched",
             CheckKind::Walk => "walk",
             CheckKind::Stop => "stop",
         })
@@ -57,6 +63,8 @@ impl fmt::Display for Blame {
 }
 
 impl fmt::Display for ForkKind {
+    ghost output = { λ how. Some (fork_kind_text how) };
+
     fn fmt<W: fmt::Write>(&self, f: &mut fmt::Formatter<W>) -> fmt::Result {
         f.write_str(match self {
             ForkKind::Own => "own",

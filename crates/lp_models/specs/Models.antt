@@ -8,10 +8,10 @@ use Rattle.lp_model.specs.declared.check.CheckKind.TheVariants.{KernelExit, Idle
 use Rattle.lp_model.specs.Row.{ModelRow, is_no_stop, at_walk}
 
 -- a task's way out of the kernel, or an idle task's idle point
-abbrev pub is_exit_or_idle : CheckKind → Bool
-is_exit_or_idle KernelExit = true
-is_exit_or_idle IdlePoint = true
-is_exit_or_idle _ = false
+abbrev pub is_own_kind : CheckKind → Bool
+is_own_kind KernelExit = true
+is_own_kind IdlePoint = true
+is_own_kind _ = false
 
 -- a check by a stop
 abbrev pub is_stop : CheckKind → Bool
@@ -43,7 +43,7 @@ hybrid =
 abbrev pub leave_kernel : ModelRow
 leave_kernel =
     record {
-      uses = is_exit_or_idle;
+      uses = is_own_kind;
       keeps = λ aim frame. true;
       busy = λ kind mode. false;
       first_group = λ task. task;

@@ -8,7 +8,8 @@ use lp_stack::{GroupId, Mode, TaskId, View};
 ///
 /// This is Linux livepatch's consistency model, a hybrid of kGraft's switching of each task by
 /// itself and kpatch's check of stacks: tasks are checked when they return to user space, idle
-/// tasks at their idle point, and a walk over the stacks switches tasks that sleep.
+/// tasks at their idle point, and a walk over the stacks switches tasks that sleep. From Linux 6.4 on
+/// a task also looks at its own stack at `cond_resched`.
 #[derive(Clone, Copy, Debug, PartialEq, Eq)]
 pub struct Hybrid;
 

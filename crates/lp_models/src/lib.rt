@@ -1,4 +1,4 @@
-//! The consistency models of the Linux livepatching tradition, and the names of all models.
+//! The consistency models of the Linux livepatching tradition, and all models by their names.
 #![tactic(auto)]
 
 mod all_at_once;
@@ -12,4 +12,5 @@ pub use hybrid::Hybrid;
 pub use immediate::Immediate;
 pub use leave_kernel::LeaveKernel;
 pub use lp_model::Consistency;
+pub use lp_process::ProcessGroup;
 pub use name::ModelName;

@@ -1,9 +1,9 @@
 -- The bits of one word.
-use Rattle.std.proofs.Common.{◌≡◌, ◌≢◌, ℕ, zero, suc, ◌+◌, ◌-◌, ◌*◌, ◌/◌, ◌%◌, ◌^◌, ◌≤◌, ◌<◌, Bool, true, false, ◌==◌, if◌then◌else◌, inl, inr, refl, sym, ap, ◌∙◌, arith, add-one, w64, bit_and, bit_or, zero-le}
+use Rattle.std.proofs.Common.{◌≡◌, ◌≢◌, ℕ, zero, suc, ◌+◌, ◌-◌, ◌*◌, ◌/◌, ◌%◌, ◌^◌, ◌≤◌, ◌<◌, Bool, true, false, ◌==◌, if◌then◌else◌, inl, inr, refl, sym, ap, ◌∙◌, arith, add-one, w64, bit_and, bit_or, bit_xor, zero-le, not}
 use Rattle.std.specs.Int.{bit_at, trailing_zeros}
 use Rattle.std.proofs.lemmas.Bool.{eqb-true, eqb-false, ne_eqb, cases_lt, false≢true}
 use Rattle.std.proofs.lemmas.Nat.{shr-shr, shr_below, and_le_l}
-use Rattle.std.proofs.lemmas.Nat.Bits.{bit_at-zero, bit_at-lt, bit_at_lowest, bit_at_above, bit_at_set_same, bit_at_set_other, bit_at_or, bit_at_clear_same, bit_at_clear_other, bit_at-trailing_zeros, shr_and_one}
+use Rattle.std.proofs.lemmas.Nat.Bits.{bit_at-zero, bit_at-lt, bit_at_lowest, bit_at_above, bit_at_set_same, bit_at_set_other, bit_at_or, bit_at_xor, same_from_bits_below, bit_at_clear_same, bit_at_clear_other, bit_at-trailing_zeros, shr_and_one}
 use Rattle.lp_numbers.specs.Numbers.{IsLeastFrom}
 use Rattle.lp_numbers.specs.inside.Words.{word_has}
 
@@ -52,6 +52,34 @@ word_has-either_none word other k none none_other =
     let not_one = eqb-false (bit_at word k) 1 none in
     let not_one_other = eqb-false (bit_at other k) 1 none_other in
     has-none (bit_or word other) k (omega arith)
+
+-- the sum of two bits, without what is carried
+sum_of_bits : (mine its : ℕ) → mine < 2 → its < 2 → ((mine + its) % 2 == 1) ≡ (if its == 1 then not (mine == 1) else mine == 1)
+sum_of_bits zero zero h l = refl
+sum_of_bits zero (suc zero) h l = refl
+sum_of_bits (suc zero) zero h l = refl
+sum_of_bits (suc zero) (suc zero) h l = refl
+sum_of_bits (suc (suc mine)) its h l = absurd (omega arith)
+sum_of_bits mine (suc (suc its)) h l = absurd (omega arith)
+
+-- `word ^ other`
+pub word_has-turned : (word other k : ℕ) → word_has (bit_xor word other) k ≡ (if word_has other k then not (word_has word k) else word_has word k)
+unfolding word_has
+word_has-turned word other k = rw (bit_at_xor word other k) (sum_of_bits (bit_at word k) (bit_at other k) (bit_at-lt word k) (bit_at-lt other k))
+
+-- two words with the same bits are equal
+pub word-same : (word other : ℕ) → word < 2 ^ 64 → other < 2 ^ 64 → ((k : ℕ) → k < 64 → word_has word k ≡ word_has other k) → word ≡ other
+unfolding word_has
+word-same word other fits fits_other same = same_from_bits_below 64 word other fits fits_other (λ k h. by k (bit_at word k == 1) refl (same k h))
+  where
+    by : (k : ℕ) (b : Bool) → (bit_at word k == 1) ≡ b → (bit_at word k == 1) ≡ (bit_at other k == 1) → bit_at word k ≡ bit_at other k
+    by k true e both = eqb-true (bit_at word k) 1 e ∙ sym (eqb-true (bit_at other k) 1 (sym both ∙ e))
+    by k false e both =
+        let few = bit_at-lt word k in
+        let few_others = bit_at-lt other k in
+        let not_one = eqb-false (bit_at word k) 1 e in
+        let not_one_other = eqb-false (bit_at other k) 1 (sym both ∙ e) in
+        omega arith
 
 -- `word & !(1 << bit)`, at the bits of a word
 word_has-clear : (word bit k : ℕ) → bit < 64 → k < 64 → word_has (bit_and word (2 ^ 64 - 1 - 1 * 2 ^ bit % 2 ^ 64)) k ≡ (if k == bit then false else word_has word k)

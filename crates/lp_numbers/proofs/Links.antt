@@ -365,6 +365,13 @@ module _ (first next before : List ℕ) (group : ℕ) (linked : IsLinked first n
     | inr h ↦ absurd (false≢true (sym (nobody (get_or first group 0)) ∙ is_member-groups_of first next group (get_or first group 0) ∙ h))
   ]
 
+  -- the first member is one
+  pub first-is : get_or first group 0 ≢ 0 → is_member (groups_of first next) group (get_or first group 0) ≡ true
+  first-is some = elim (chain-first next before (list_from next (get_or first group 0)) 0 (get_or first group 0) (linked.lists.chained group)) [
+    | inl none ↦ absurd (some none)
+    | inr h ↦ is_member-groups_of first next group (get_or first group 0) ∙ h
+  ]
+
   -- a first member without a next one is the only one
   pub only-is : (number : ℕ) → number ≢ 0 → get_or first group 0 ≡ number → get_or next number 0 ≡ 0 → (n : ℕ) → is_member (groups_of first next) group n ≡ nat_eq n number
   only-is number some is last n =

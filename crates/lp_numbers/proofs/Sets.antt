@@ -1,5 +1,5 @@
 -- Sets that two levels of words keep.
-use Rattle.std.proofs.Common.{◌≡◌, ◌≢◌, ℕ, ◌*◌, ◌≤◌, ◌<◌, Bool, false, ◌==◌, if◌then◌else◌, ◌⊎◌, inl, inr, List, length, set, refl, sym, ◌∙◌, arith, get_or-set_same, get_or-set_other, map, take, ◌++◌}
+use Rattle.std.proofs.Common.{◌≡◌, ◌≢◌, ℕ, ◌*◌, ◌≤◌, ◌<◌, Bool, false, not, ◌==◌, ◌/◌, ◌%◌, if◌then◌else◌, ◌⊎◌, inl, inr, List, length, get_or, set, bit_xor, refl, sym, ◌∙◌, arith, get_or-set_same, get_or-set_other, map, take, ◌++◌}
 use Rattle.std.specs.List.{range_with_len}
 use Rattle.std.proofs.lemmas.Bool.{cases_lt, cases_eq, eq-eqb, ne_eqb}
 use Rattle.std.proofs.lemmas.List.{get_or_past, ext_get_or, length-set}
@@ -7,7 +7,7 @@ use Rattle.std.proofs.Math.Seq.{take-append_seam}
 use Rattle.std.proofs.lemmas.List.FromFn.{length-map-range_with_len, get_or-map-range_with_len}
 use Rattle.lp_numbers.specs.Numbers.{has}
 use Rattle.lp_numbers.specs.inside.Words.{row_has, numbers_of}
-use Rattle.lp_numbers.proofs.Bits.{word_has-zero}
+use Rattle.lp_numbers.proofs.Bits.{word_has-zero, word_has-turned}
 use Rattle.lp_numbers.proofs.Rows.{row_has-past}
 
 -- ---- What a row of words stands for
@@ -38,6 +38,11 @@ numbers_of-put before row at is_member same within bits =
     by : (k : ℕ) → (k ≡ at) ⊎ (k ≢ at) → (if k == at then is_member else row_has before k) ≡ has (set (numbers_of before) at is_member) k
     by k (inl e) = rw (e, eq-eqb at at refl, get_or-set_same (numbers_of before) at is_member false inside) refl
     by k (inr n) = rw (ne_eqb k at n, get_or-set_other (numbers_of before) at k is_member false n) (sym (has-numbers_of before k))
+
+-- the bits that others have are turned round
+pub numbers_of-turned : (before others row : List ℕ) → ((i : ℕ) → get_or row i 0 ≡ bit_xor (get_or before i 0) (get_or others i 0)) → (n : ℕ) → has (numbers_of row) n ≡ (if has (numbers_of others) n then not (has (numbers_of before) n) else has (numbers_of before) n)
+numbers_of-turned before others row turned n =
+    rw (has-numbers_of row n, has-numbers_of others n, has-numbers_of before n, turned (n / 64)) (word_has-turned (get_or before (n / 64) 0) (get_or others (n / 64) 0) (n % 64))
 
 -- a set has 65,536 numbers
 pub numbers_of-count : (words : List ℕ) → length words ≡ 1024 → length (numbers_of words) ≡ 65536

@@ -156,14 +156,14 @@ three_level-none words summary top levels words_fit summary_fits top_fits none =
 -- ---- Two sets
 
 -- there are 16 words in the summary
-top-few : (words summary : List ℕ) (top place : ℕ) → IsThreeLevel words summary top → 16 ≤ place → word_has top place ≡ false
+pub top-few : (words summary : List ℕ) (top place : ℕ) → IsThreeLevel words summary top → 16 ≤ place → word_has top place ≡ false
 top-few words summary top place levels h = levels.high place ∙ rw (get_or_past summary place 0 (omega (arith, levels.summaries))) refl
 
 pub tops-few : (words summary : List ℕ) (top : ℕ) (others summary_others : List ℕ) (top_others place : ℕ) → IsThreeLevel words summary top → IsThreeLevel others summary_others top_others → 16 ≤ place → word_has (bit_or top top_others) place ≡ false
 tops-few words summary top others summary_others top_others place levels levels_others h = word_has-either_none top top_others place (top-few words summary top place levels h) (top-few others summary_others top_others place levels_others h)
 
 -- a word that the word over the summary doesn't name is 0
-zero-unnamed_above : (words summary : List ℕ) (top i : ℕ) → IsThreeLevel words summary top → word_has top (i / 64) ≡ false → get_or words i 0 ≡ 0
+pub zero-unnamed_above : (words summary : List ℕ) (top i : ℕ) → IsThreeLevel words summary top → word_has top (i / 64) ≡ false → get_or words i 0 ≡ 0
 zero-unnamed_above words summary top i levels none = zero-unnamed (row_has summary) words levels.right i (none-unnamed (word_has top) summary levels.high i none)
 
 -- words that neither of them names are equal

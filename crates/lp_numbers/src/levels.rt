@@ -1,6 +1,7 @@
 //! Words, a summary over them of which bit i says whether word i isn't 0, and one word over the
 //! summary of which bit i says whether word i of the summary isn't 0.
 ghost use Rattle.std.specs.Prelude.{◌≡◌, ◌≢◌, ℕ, ◌+◌, ◌*◌, ◌/◌, ◌%◌, ◌<◌, ◌≤◌, ◌==◌, if◌then◌else◌, length, false, not, slice_index, IsTrue, ◌↔◌};
+ghost use Rattle.std.specs.Int.Bits.{bit_xor};
 ghost use Rattle.lp_numbers.specs.Numbers.{IsNextFrom};
 ghost use Rattle.lp_numbers.specs.inside.Words.{word_has, row_has, IsBlank, IsThreeLevel};
 
@@ -81,6 +82,101 @@ fn copy_block(words: &mut [u64], others: &[u64], place: usize)
 {
     let first = place * 64;
     words[first..first + 64].copy_from_slice(&others[first..first + 64]);
+}
+
+/// Whether the words have the bits of others, which they have where a word over the summary doesn't name them.
+pub(crate) fn are_same_blocks(words: &[u64], others: &[u64], named: u64) -> bool
+    requires count { length words.now ≡ 1024 }
+    requires others { length others.now ≡ 1024 }
+    requires few { (place : ℕ) → 16 ≤ place → word_has named place ≡ false }
+    requires rest { (i : ℕ) → word_has named (i / 64) ≡ false → slice_index words.now i ≡ slice_index others.now i }
+    ensures { IsTrue result ↔ ((k : ℕ) → row_has words.now k ≡ row_has others.now k) }
+{
+    let mut rest = named;
+    while rest != 0 {
+        let place = lowest_bit(rest);
+        if !is_same_block(words, others, place) {
+            return false;
+        }
+        rest = without_bit(rest, place);
+    }
+    true
+}
+
+/// Whether the words are equal to others that one word of the summary is over.
+fn is_same_block(words: &[u64], others: &[u64], place: usize) -> bool
+    requires count { length words.now ≡ 1024 }
+    requires others { length others.now ≡ 1024 }
+    requires within { place < 16 }
+    ensures { IsTrue result ↔ ((i : ℕ) → i / 64 ≡ place → slice_index words.now i ≡ slice_index others.now i) }
+{
+    let first = place * 64;
+    words[first..first + 64] == others[first..first + 64]
+}
+
+/// Turns the bits round that others have. Gives the word over the summary.
+pub(crate) fn turn(
+    words: &mut [u64],
+    summary: &mut [u64],
+    top: u64,
+    others: &[u64],
+    summary_others: &[u64],
+    top_others: u64,
+) -> u64
+    requires levels { IsThreeLevel words.old summary.old top }
+    requires others { IsThreeLevel others.now summary_others.now top_others }
+    ensures levels { IsThreeLevel words.new summary.new result }
+    ensures turned { (i : ℕ) → slice_index words.new i ≡ bit_xor (slice_index words.old i) (slice_index others.now i) }
+{
+    let mut over = top;
+    let mut rest = top_others;
+    while rest != 0 {
+        let place = lowest_bit(rest);
+        over = turn_named(words, summary, over, others, place, summary_others[place]);
+        rest = without_bit(rest, place);
+    }
+    over
+}
+
+/// Turns the bits round that others have in the words that a word of their summary names. Gives the word over the summary.
+fn turn_named(
+    words: &mut [u64],
+    summary: &mut [u64],
+    top: u64,
+    others: &[u64],
+    place: usize,
+    named: u64,
+) -> u64
+    requires levels { IsThreeLevel words.old summary.old top }
+    requires count { length others.now ≡ 1024 }
+    requires within { place < 16 }
+    requires right { (i : ℕ) → i / 64 ≡ place → word_has named (i % 64) ≡ not (slice_index others.now i == 0) }
+    ensures levels { IsThreeLevel words.new summary.new result }
+    ensures here { (i : ℕ) → i / 64 ≡ place → slice_index words.new i ≡ bit_xor (slice_index words.old i) (slice_index others.now i) }
+    ensures rest { (i : ℕ) → i / 64 ≢ place → slice_index words.new i ≡ slice_index words.old i }
+{
+    let mut over = top;
+    let mut rest = named;
+    while rest != 0 {
+        let bit = lowest_bit(rest);
+        let at = place * 64 + bit;
+        over = turn_word(words, summary, over, at, others[at]);
+        rest = without_bit(rest, bit);
+    }
+    over
+}
+
+/// Turns bits of one word round. Gives the word over the summary.
+fn turn_word(words: &mut [u64], summary: &mut [u64], top: u64, at: usize, bits: u64) -> u64
+    requires levels { IsThreeLevel words.old summary.old top }
+    requires within { at < 1024 }
+    ensures levels { IsThreeLevel words.new summary.new result }
+    ensures here { slice_index words.new at ≡ bit_xor (slice_index words.old at) bits }
+    ensures rest { (i : ℕ) → i ≢ at → slice_index words.new i ≡ slice_index words.old i }
+{
+    words[at] ^= bits;
+    row::put(summary, at, words[at] != 0);
+    with_bit(top, at / 64, summary[at / 64] != 0)
 }
 
 /// Whether each word is 0.

@@ -1,10 +1,10 @@
 //! The members of groups.
 #![tactic(auto, using(crate::proofs::Links::links))]
 
-ghost use Rattle.std.specs.Prelude.{◌≡◌, ℕ, ◌<◌, ◌&&◌, ◌||◌, false, true, length, [], nat_eq, not, slice_index, slice_index_or, IsTrue, ◌↔◌, IfOk};
+ghost use Rattle.std.specs.Prelude.{◌≡◌, ℕ, ◌<◌, ◌&&◌, ◌||◌, false, true, length, [], nat_eq, not, slice_index, slice_index_or, slice_set, IsTrue, ◌↔◌, IfOk, IfSome, IfNone};
 ghost use Rattle.lp_numbers.specs.Groups.{is_member};
 ghost use Rattle.lp_numbers.specs.Numbers.{has};
-ghost use Rattle.lp_numbers.specs.inside.Links.{among, list_from, IsLinked};
+ghost use Rattle.lp_numbers.specs.inside.Links.{among, list_from, AreNamed, IsLinked};
 
 use crate::link_table::LinkTable;
 use crate::set::NumberSet;
@@ -25,6 +25,8 @@ pub struct Members {
     next: LinkTable,
     /// The member before each member; 0 before the first. What stands at other numbers means nothing.
     before: LinkTable,
+    /// The groups that have a member: a loop over them looks at no other.
+    groups: NumberSet,
 }
 
 /// By hand, so that the proof of who owns one lets go of it in one step, not field by field.
@@ -34,19 +36,20 @@ impl Drop for Members {
             first: _,
             next: _,
             before: _,
+            groups: _,
         } = self;
     }
 }
 
 impl Model for Members {
     ghost use Rattle.lp_numbers.specs.Groups.{Groups};
-    ghost use Rattle.lp_numbers.specs.inside.Links.{groups_of, IsLinked};
+    ghost use Rattle.lp_numbers.specs.inside.Links.{groups_of, AreMembers};
 
     ghost Value = { Groups };
 
     ghost view = { λ m. groups_of m.first m.next };
 
-    ghost invariant = { λ m. IsLinked m.first m.next m.before };
+    ghost invariant = { λ m. AreMembers m.first m.next m.before m.groups };
 }
 
 impl Members {
@@ -58,6 +61,7 @@ impl Members {
             first: LinkTable::new(alloc)?,
             next: LinkTable::new(alloc)?,
             before: LinkTable::new(alloc)?,
+            groups: NumberSet::new(alloc)?,
         })
     }
 
@@ -69,6 +73,7 @@ impl Members {
             first: self.first.copy(alloc)?,
             next: self.next.copy(alloc)?,
             before: self.before.copy(alloc)?,
+            groups: self.groups.copy(alloc)?,
         })
     }
 
@@ -77,6 +82,29 @@ impl Members {
         ensures { IsTrue result ↔ ((n : ℕ) → is_member self.now group n ≡ false) }
     {
         self.first.get(group) == 0
+    }
+
+    /// The groups that have a member.
+    pub fn groups(&self) -> &NumberSet
+        ensures some { (group : ℕ) → has result.now group ≡ true → (n : ℕ) × (is_member self.now group n ≡ true) }
+        ensures none { (group : ℕ) → has result.now group ≡ false → (n : ℕ) → is_member self.now group n ≡ false }
+        ensures few { (group : ℕ) → has result.now group ≡ true → group < 65536 }
+    {
+        // For the proof alone, which knows what every value keeps once a field is read.
+        let _ = &self.first;
+        &self.groups
+    }
+
+    /// A member of a group, in constant time; `None` where it has none.
+    pub fn first(&self, group: u16) -> Option<u16>
+        ensures some { IfSome result (λ n. is_member self.now group n ≡ true) }
+        ensures none { IfNone result ((n : ℕ) → is_member self.now group n ≡ false) }
+    {
+        let first = self.first.get(group);
+        if first == 0 {
+            return None;
+        }
+        Some(first)
     }
 
     /// Whether a number is in a group and no other number is, in constant time.
@@ -106,7 +134,7 @@ impl Members {
         ensures { (other n : ℕ) → is_member self.new other n ≡ (is_member self.old other n || (nat_eq other group && nat_eq n number)) }
     {
         let head = self.first.get(group);
-        self.first.put(group, number);
+        put_first(&mut self.first, &mut self.groups, group, number);
         self.next.put(number, head);
         self.before.put(number, 0);
         // Where there was no member, this is the place of no number.
@@ -121,7 +149,7 @@ impl Members {
         let before = self.before.get(number);
         let next = self.next.get(number);
         if before == 0 {
-            self.first.put(group, next);
+            put_first(&mut self.first, &mut self.groups, group, next);
         }
         // Where none is before or after it, these are the places of no number.
         self.next.put(before, next);
@@ -134,6 +162,17 @@ impl Members {
     {
         add_list(&self.first, &self.next, &self.before, group, set);
     }
+}
+
+/// Makes a number the first member of a group; with 0 the group has none.
+fn put_first(first: &mut LinkTable, groups: &mut NumberSet, group: u16, number: u16)
+    requires count { length first.old ≡ 65536 }
+    requires named { AreNamed first.old groups.old }
+    ensures first { first.new ≡ slice_set first.old group number }
+    ensures named { AreNamed first.new groups.new }
+{
+    first.put(group, number);
+    groups.put(group, number != 0);
 }
 
 /// Adds the members of a group to a set.

@@ -1,7 +1,7 @@
 //! The set.
 #![tactic(auto, using(crate::proofs::Sets::sets))]
 
-ghost use Rattle.std.specs.Prelude.{◌≡◌, ℕ, ◌<◌, true, false, length, slice_set, IsTrue, ◌↔◌, IfOk};
+ghost use Rattle.std.specs.Prelude.{◌≡◌, ℕ, ◌<◌, true, false, not, if◌then◌else◌, length, slice_set, IsTrue, ◌↔◌, IfOk};
 ghost use Rattle.lp_numbers.specs.Numbers.{has, IsEmpty, IsNextFrom};
 
 use crate::levels::{self, SUMMARIES, WORDS};
@@ -143,8 +143,36 @@ impl NumberSet {
         self.top = other.top;
     }
 
+    /// Whether the set has the members of another, at the cost of the parts in which either has a member.
+    pub fn is_same(&self, other: &NumberSet) -> bool
+        ensures { IsTrue result ↔ ((n : ℕ) → has self.now n ≡ has other.now n) }
+    {
+        levels::are_same_blocks(
+            self.words.as_slice(),
+            other.words.as_slice(),
+            other.top | self.top,
+        )
+    }
+
+    /// Makes each member of another set a member where it was none, and no member where it was one, at the cost of the parts in
+    /// which the other has a member.
+    pub fn turn(&mut self, other: &NumberSet)
+        ensures turned { (n : ℕ) → has self.new n ≡ (if has other.now n then not (has self.old n) else has self.old n) }
+        ensures numbers { length self.new ≡ 65536 }
+    {
+        let top = levels::turn(
+            self.words.as_mut_slice(),
+            self.summary.as_mut_slice(),
+            self.top,
+            other.words.as_slice(),
+            other.summary.as_slice(),
+            other.top,
+        );
+        self.top = top;
+    }
+
     /// Makes a number a member, or no member.
-    fn put(&mut self, number: u16, is_member: bool)
+    pub(crate) fn put(&mut self, number: u16, is_member: bool)
         ensures after { self.new ≡ slice_set self.old number is_member }
         ensures numbers { length self.new ≡ 65536 }
     {

@@ -3,7 +3,7 @@ use Rattle.std.proofs.Common.{◌≡◌, ◌⊎◌, ℕ, Bool, true, false, not,
 use Rattle.std.specs.Prelude.{filter, IfSome, MatchOption}
 use Rattle.std.specs.Option.{option_map}
 use Rattle.std.specs.List.{list_any}
-use Rattle.std.proofs.lemmas.Bool.{cases_Bool, cond-true, cond-false, eqb-true, eq-eqb}
+use Rattle.std.proofs.lemmas.Bool.{cases_Bool, cond-false, eqb-true, eq-eqb}
 use Rattle.std.proofs.lemmas.List.Folds.{list_any-append}
 use Rattle.lp_stack.specs.declared.number.TaskId.{TaskId}
 use Rattle.lp_stack.specs.declared.view.Class.{Class}
@@ -13,12 +13,13 @@ use Rattle.lp_definitions.specs.declared.event.Event.{Event}
 use Rattle.lp_definitions.specs.declared.reply.Reply.{Reply}
 use Rattle.lp_definitions.specs.declared.reply.What.{What}
 use Rattle.lp_definitions.specs.Tasks.{is_unused}
+use Rattle.lp_transition.specs.Boot.{boot_refusal}
 use Rattle.lp_definitions.specs.Leg.{State}
 use Rattle.lp_machine.specs.Machine.{next, answer}
 use Rattle.lp_definitions.specs.Run.{Run}
 use Rattle.lp_machine.specs.Steps.{StandsIn}
 use Rattle.lp_machine.specs.Table.{bounds_of}
-use Rattle.lp_machine.proofs.Runs.{steps_as_defined}
+use Rattle.lp_machine_laws.proofs.Runs.{steps_as_defined}
 use Rattle.lp_board.specs.Names.{Name, state_after, run_of as named_run}
 use Rattle.lp_board.proofs.Runs.{stands-there, after-more}
 use Rattle.lp_log.specs.Audits.{brought_by, control_part, is_nobodys, is_number, is_of, part_of, was_used}
@@ -26,9 +27,10 @@ use Rattle.lp_log.specs.Entries.{Entry}
 use Rattle.lp_log.specs.Journals.{Written, and_entry, events_in, next_entry, reply_to, run_of}
 use Rattle.lp_log.specs.Seats.{Seated, brought, child_seat, new_seat, owner}
 use Rattle.lp_log.proofs.Longer.{map_append}
-use Rattle.lp_desk.specs.Books.{IsOf}
+use Rattle.lp_desk.specs.Books.{IsOf, first_journal}
 use Rattle.lp_parts.specs.Parts.{Among, Whole, part_for, same_key}
-use Rattle.lp_owned.specs.Owned.{IsKept, key_of}
+use Rattle.lp_owned.specs.Owned.{IsKept, is_boot, key_of}
+use Rattle.lp_owned.proofs.Turns.{in_turn_more, or_none, starts_used}
 use Rattle.lp_owned.proofs.Used.{child_is_new, next_used}
 
 or_left : (a b : Bool) → a ≡ true → (a || b) ≡ true
@@ -91,10 +93,23 @@ nobodys_part_is entries = filter_same (λ e. same_key None (key_of e)) is_nobody
 -- a keeper with the same entries and the same owners
 pub kept_as : (name : Name) (journal : Written) (whole other : Whole Entry) → IsKept name journal whole → other.all ≡ whole.all → other.out ≡ whole.out → IsKept name journal other
 kept_as name journal whole other kept all out = record {
+  boots = kept.boots;
+  in_turn = kept.in_turn;
   all = all ∙ kept.all;
   out = λ t at. kept.out t (subst (Among (Some t)) out at);
   entries = kept.entries;
   used = kept.used;
+}
+
+-- a book that has taken no event
+pub kept_first : (name : Name) (whole : Whole Entry) → boot_refusal name.boots ≡ None → whole.all ≡ [] → ((t : ℕ) → Among (Some t) whole.out → was_used (first_journal name) t ≡ true) → IsKept name (first_journal name) whole
+kept_first name whole free all out = record {
+  boots = free;
+  all = all;
+  out = out;
+  entries = λ t any. absurd (let no : false ≡ true = any in cc);
+  used = λ t u. starts_used name t (sym (or_none (is_boot name.boots t)) ∙ u);
+  in_turn = tt;
 }
 
 -- what holds of the child's seat, if an event brought one
@@ -165,6 +180,8 @@ module _ (name : Name) (model : Rules) (lawful : IsLawful model) (journal : Writ
     -- with one entry more of somebody who was used, or of nobody
     pub kept_longer : ((t : ℕ) → owner event ≡ Some t → was_used journal t ≡ true) → IsKept name longer (record { all = whole.all ++ entry ∷ []; out = whole.out })
     kept_longer whose = record {
+      boots = kept.boots;
+      in_turn = in_turn_more (is_boot journal.boots) journal.entries entry kept.in_turn (record { sender = whose; child = child_is_new_here });
       all = ap (λ (es : List Entry). es ++ entry ∷ []) kept.all;
       out = λ t at. still_used t (kept.out t at);
       entries = λ t any. ⊎_elim
@@ -214,6 +231,8 @@ module _ (name : Name) (model : Rules) (lawful : IsLawful model) (journal : Writ
     -- and the child's part can be given out
     pub kept_with_child : (all : Whole Entry) → IsKept name longer all → (c : ℕ) → brought event given.what ≡ Some c → IsKept name longer (record { all = all.all; out = Some c ∷ all.out })
     kept_with_child all is_kept c b = record {
+      boots = is_kept.boots;
+      in_turn = is_kept.in_turn;
       all = is_kept.all;
       out = λ t at. ⊎_elim
           (λ (here : Some c ≡ Some t). used_longer t ∙ or_right (was_used journal t) _ (the_number t (brought event given.what) (b ∙ here)))

@@ -1,2 +1,6 @@
 pub mod Used
+pub mod Turns
+pub mod Seating
 pub mod Kept
+pub mod Back
+pub mod Whole

@@ -1,5 +1,5 @@
 -- A number that a task had stays used, and the child of a fork has a new one.
-use Rattle.std.proofs.Common.{◌≡◌, ℕ, suc, Bool, true, false, not, ◌||◌, List, [], ◌∷◌, ◌++◌, Option, Some, None, is_none, nat_eq, nat_lt, if◌then◌else◌, refl, sym, ap, subst, ◌∙◌, ⊎_elim}
+use Rattle.std.proofs.Common.{◌≡◌, ℕ, suc, Bool, true, false, not, [], ◌∷◌, Option, Some, None, is_none, nat_eq, if◌then◌else◌, refl, sym, ap, subst, ◌∙◌, ⊎_elim}
 use Rattle.std.proofs.lemmas.Bool.{cases_Bool, cond-true, cond-false, eqb-true, eq-eqb}
 use Rattle.lp_stack.specs.declared.number.TaskId.{TaskId}
 use Rattle.lp_stack.specs.declared.view.Class.TheVariants.{Normal}
@@ -7,37 +7,36 @@ use Rattle.lp_stack.specs.declared.view.Mode.TheVariants.{Kernel}
 use Rattle.lp_model.specs.declared.check.ForkKind.{ForkKind}
 use Rattle.lp_model.specs.Rules.{Rules}
 use Rattle.lp_definitions.specs.declared.event.Event.{Event}
-use Rattle.lp_definitions.specs.declared.event.Event.TheVariants.{Call, Ret, Sleep, Wake, Enter, Exit, Idle, Fork, Die, Walk, Stop, Enable, Disable, Reverse}
+use Rattle.lp_definitions.specs.declared.event.Event.TheVariants.{Call, Ret, Sleep, Wake, Enter, Exit, Idle, Resched, Fork, Die, Walk, Stop, Enable, Disable, Reverse}
 use Rattle.lp_definitions.specs.declared.refusal.Refusal.{Refusal}
 use Rattle.lp_definitions.specs.declared.refusal.Refusal.TheVariants.{UnknownTask, TaskUsed}
-use Rattle.lp_definitions.specs.declared.reply.What.{What}
-use Rattle.lp_definitions.specs.Tasks.{Fate, Unused, Live, Dead, on_live, map_live, is_unused, unknown_task, out_of_range, used, not_of, not_in, fits, change}
-use Rattle.lp_definitions.specs.Leg.{Standing, State}
-use Rattle.lp_machine.specs.Machine.{Standings, outline_of, outlines_of, own_effect, refusal_of, next, next_by, answer, answer_by, switched_task, affected, told}
+use Rattle.lp_definitions.specs.Tasks.{Fate, Unused, Live, Dead, on_live, map_live, is_unused, unknown_task, out_of_range, used, not_of, not_in, change}
+use Rattle.lp_definitions.specs.Leg.{LegTask, State}
+use Rattle.lp_machine.specs.Machine.{LegTasks, outline_of, outlines_of, own_effect, refusal_of, next, next_by, answer, answer_by, switched_task, affected, told}
 use Rattle.lp_transition.specs.Weigh.{refusal_in}
-use Rattle.lp_laws.proofs.Plain.{none_first, unfit}
-use Rattle.lp_log.specs.Seats.{brought, child_of}
+use Rattle.lp_laws.proofs.NextTasks.{none_first, unfit}
+use Rattle.lp_log.specs.Seats.{brought}
 
 -- ---- A task's fate
 
-map_used : (f : Standing → Standing) (fate : Fate Standing) → is_unused (map_live f fate) ≡ is_unused fate
+map_used : (f : LegTask → LegTask) (fate : Fate LegTask) → is_unused (map_live f fate) ≡ is_unused fate
 map_used f Unused = refl
 map_used f (Live x) = refl
 map_used f Dead = refl
 
-change_used : (t : ℕ) (f : Standing → Standing) (now : Standings) (u : ℕ) → is_unused (change t f now u) ≡ is_unused (now u)
+change_used : (t : ℕ) (f : LegTask → LegTask) (now : LegTasks) (u : ℕ) → is_unused (change t f now u) ≡ is_unused (now u)
 change_used t f now u =
     ⊎_elim
     (λ (e : nat_eq u t ≡ true). ap is_unused (cond-true _ _ _ e) ∙ map_used f (now u))
     (λ (e : nat_eq u t ≡ false). ap is_unused (cond-false _ _ _ e))
     (cases_Bool (nat_eq u t))
 
-unused_is : (fate : Fate Standing) → not (is_unused (map_live outline_of fate)) ≡ false → fate ≡ Unused
+unused_is : (fate : Fate LegTask) → not (is_unused (map_live outline_of fate)) ≡ false → fate ≡ Unused
 unused_is Unused e = refl
 unused_is (Live x) e = absurd (cc)
 unused_is Dead e = absurd (cc)
 
-live_bears : (f : Standing → Standing) (fate : Fate Standing) → not (on_live false (λ x. true) (map_live outline_of fate)) ≡ false → is_unused (map_live f fate) ≡ false
+live_bears : (f : LegTask → LegTask) (fate : Fate LegTask) → not (on_live false (λ x. true) (map_live outline_of fate)) ≡ false → is_unused (map_live f fate) ≡ false
 live_bears f Unused e = absurd (cc)
 live_bears f (Live x) e = refl
 live_bears f Dead e = absurd (cc)
@@ -72,13 +71,14 @@ module _ (model : Rules) (s : State) where
   own_used number (Enter t) u ok h = change_used t.0 _ s.tasks u ∙ h
   own_used number (Exit t) u ok h = change_used t.0 _ s.tasks u ∙ h
   own_used number (Idle t) u ok h = h
+  own_used number (Resched t) u ok h = h
   own_used number (Fork p c how) u ok h =
       ⊎_elim
       (λ (e : nat_eq u c.0 ≡ true). absurd (used_new (s.tasks u) (ap s.tasks (eqb-true u c.0 e) ∙ (fork_new p c how ok).new) h))
       (λ (e : nat_eq u c.0 ≡ false). ap is_unused (cond-false _ _ _ e) ∙ h)
       (cases_Bool (nat_eq u c.0))
     where
-      used_new : (fate : Fate Standing) → fate ≡ Unused → is_unused fate ≡ false → ⊥
+      used_new : (fate : Fate LegTask) → fate ≡ Unused → is_unused fate ≡ false → ⊥
       used_new Unused e h = cc
       used_new (Live x) e h = cc
       used_new Dead e h = cc
@@ -105,6 +105,7 @@ module _ (model : Rules) (s : State) where
   next_used_by (Enter t) None u e h = switched_used (Enter t) u (own_used (suc s.number) (Enter t) u e h)
   next_used_by (Exit t) None u e h = switched_used (Exit t) u (own_used (suc s.number) (Exit t) u e h)
   next_used_by (Idle t) None u e h = switched_used (Idle t) u (own_used (suc s.number) (Idle t) u e h)
+  next_used_by (Resched t) None u e h = switched_used (Resched t) u (own_used (suc s.number) (Resched t) u e h)
   next_used_by (Fork p c how) None u e h = switched_used (Fork p c how) u (own_used (suc s.number) (Fork p c how) u e h)
   next_used_by (Die t) None u e h = switched_used (Die t) u (own_used (suc s.number) (Die t) u e h)
   next_used_by Walk None u e h = switched_used Walk u (own_used (suc s.number) Walk u e h)
@@ -158,6 +159,7 @@ module _ (model : Rules) (s : State) where
   child_is_new (Enter t) c b = absurd (no_child _ c b)
   child_is_new (Exit t) c b = absurd (no_child _ c b)
   child_is_new (Idle t) c b = absurd (no_child _ c b)
+  child_is_new (Resched t) c b = absurd (no_child _ c b)
   child_is_new (Fork p d how) c b = fork_child p d how (refusal_of model s (Fork p d how)) c refl b
   child_is_new (Die t) c b = absurd (no_child _ c b)
   child_is_new Walk c b = absurd (no_child _ c b)

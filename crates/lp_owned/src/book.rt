@@ -1,23 +1,25 @@
 //! A book with the keeper of its journal's parts.
-ghost use Rattle.std.specs.Prelude.{◌≡◌, ◌≢◌, ◌≤◌, ◌<◌, ◌↔◌, ◌∷◌, ◌++◌, [], List, None, Some, IfErr, IfOk, IfSome, MatchOption, OnErr, OnOk, length};
+ghost use Rattle.std.specs.Prelude.{◌≡◌, ◌≢◌, ◌≤◌, ◌<◌, ◌↔◌, ◌∷◌, ◌++◌, [], List, None, Some, ℕ, true, IfErr, IfOk, IfSome, MatchOption, OnErr, OnOk, length};
+ghost use Rattle.lp_transition.specs.Boot.{boot_refusal};
 ghost use Rattle.lp_definitions.specs.declared.event.Event.TheVariants.{Walk};
-ghost use Rattle.lp_log.specs.declared.seat.Cause.TheVariants.{NotYours, JournalFull as Full};
-ghost use Rattle.lp_log.specs.Audits.{control_part, part_of};
+ghost use Rattle.lp_log.specs.declared.seat.TurnedBy.TheVariants.{NotYours, JournalFull as Full};
+ghost use Rattle.lp_log.specs.Audits.{control_part, part_of, was_used};
 ghost use Rattle.lp_log.specs.Entries.{Entry};
-ghost use Rattle.lp_log.specs.Journals.{and_entry, next_entry};
+ghost use Rattle.lp_log.specs.Journals.{IsReplayed, and_entry, events_in, next_entry};
 ghost use Rattle.lp_log.specs.Logs.{AreSame};
 ghost use Rattle.lp_log.specs.Seats.{and_sent, child_seat, owner};
-ghost use Rattle.lp_desk.specs.Books.{IsSent};
+ghost use Rattle.lp_desk.specs.Books.{IsOf, IsSent, first_journal};
 ghost use Rattle.lp_parts.specs.Parts.{Among, part_for};
 ghost use Rattle.lp_owned.specs.Owned.{key_of};
 
 use crate::seat::{ByOwner, OwnedControl, OwnedSeat};
+use crate::turned::TurnedBack;
 use lp_board::{DeskName, Told};
-use lp_desk::{Book, Commanded, Submitted};
-use lp_log::{Entry, Seat, Turned};
+use lp_desk::{Book, Closed, Commanded, Submitted};
+use lp_log::{Entry, Seat, Turned, TurnedBy};
 use lp_model::Consistency;
 use lp_parts::{Keeper, Place};
-use lp_scan::{Judged, ScanGate};
+use lp_scan::{Batch, Judged, ScanGate};
 use lp_transition::{Event, Reply};
 use std::alloc::Global;
 use std::marker::Model;
@@ -28,8 +30,8 @@ use std::thread::Threads;
 ///
 /// Contracts see the log.
 pub struct OwnedBook<M: Consistency, N: DeskName + Place> {
-    book: Book<M, N>,
-    keeper: Keeper<Entry, ByOwner, N>,
+    pub(crate) book: Book<M, N>,
+    pub(crate) keeper: Keeper<Entry, ByOwner, N>,
 }
 
 impl<M: Consistency, N: DeskName + Place> Model for OwnedBook<M, N> {
@@ -41,6 +43,66 @@ impl<M: Consistency, N: DeskName + Place> Model for OwnedBook<M, N> {
     ghost view = { λ b. b.book };
 
     ghost invariant = { λ b. IsKept N.DeskName.desk b.book.journal b.keeper };
+}
+
+impl<M: Consistency, N: DeskName + Place> OwnedBook<M, N> {
+    /// A book that has taken no event, with a keeper whose parts are its tasks' and the control's.
+    pub(crate) fn over(book: Book<M, N>, keeper: Keeper<Entry, ByOwner, N>) -> OwnedBook<M, N>
+        requires fresh { book.journal ≡ first_journal N.desk }
+        requires boots { boot_refusal N.desk.boots ≡ None }
+        requires all { keeper.all ≡ [] }
+        requires out { (t : ℕ) → Among (Some t) keeper.out → was_used (first_journal N.desk) t ≡ true }
+        ensures { result ≡ book }
+    {
+        OwnedBook { book, keeper }
+    }
+
+    /// The model.
+    pub(crate) fn model(&self) -> M {
+        self.book.log().core().model()
+    }
+
+    /// All that is published, for a reader to learn. Never allocates.
+    pub fn tell(&self) -> Told<N>
+        ensures { result ≡ events_in self.now.journal.entries }
+    {
+        self.book.tell()
+    }
+
+    /// As `Log::batch_for`: what a walk is to be judged over before the book takes it.
+    pub fn batch_for(&self, alloc: Global, event: Event) -> Result<Option<Batch>, TurnedBy>
+        ensures walk { IfOk result (λ batch. IfSome batch (λ _. event ≡ Walk)) }
+        ensures yours { IfErr result (λ cause. (event ≡ Walk) × (cause ≢ NotYours)) }
+        ensures full { IfErr result (λ cause. (cause ≡ Full) ↔ (1000000 ≤ length self.now.journal.entries)) }
+    {
+        self.book.log().batch_for(alloc, event)
+    }
+
+    /// What was turned back, with all that is published.
+    pub(crate) fn turned_back<P: Drop>(&self, turned: Turned<P>) -> TurnedBack<P, N>
+        ensures part { result.part ≡ turned.part }
+        ensures cause { result.cause ≡ turned.cause }
+        ensures told { result.told ≡ events_in self.now.journal.entries }
+    {
+        let Turned { part, cause } = turned;
+        TurnedBack {
+            part,
+            cause,
+            told: self.tell(),
+        }
+    }
+
+    /// Gives the board and the engine up, without the parts. Waits for readers that are inside a read. Never allocates.
+    pub fn shut<R: Wait>(self, rt: &R) -> Closed<N>
+        ensures value { result.journal ≡ self.journal }
+        ensures told { result.told ≡ events_in result.journal.entries }
+        ensures named { IsOf N.desk M.rules result.journal }
+        ensures replayed { IsReplayed M.rules result.journal }
+    {
+        let OwnedBook { book, keeper } = self;
+        drop(keeper);
+        book.shut(rt)
+    }
 }
 
 /// The answer to an event that was sent from a seat that owns its part.

@@ -1,6 +1,6 @@
-use Rattle.lp_patch.specs.declared.aim.Aim.{Aim}
-use Rattle.lp_patch.specs.Patches.{Goal}
+use Rattle.lp_patch.specs.declared.aim.Aim.{Aim as Borrowed}
+use Rattle.lp_patch.specs.Patches.{Aim}
 
--- where a borrowed aim goes
-abbrev pub aimed : Aim → Goal
+-- a borrowed aim
+abbrev pub aimed : Borrowed → Aim
 aimed a = record { patches = a.patches.now; target = a.target.0 }

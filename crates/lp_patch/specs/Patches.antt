@@ -65,10 +65,10 @@ stack_refusal patches =
 -- ---- What a transition heads for
 
 -- the patches, and the level to which a transition takes the tasks
-pub record Goal : Type 0 where
+pub record Aim : Type 0 where
   pub patches : Patches
   pub target : ℕ
 
 -- a frame is stale if its function's version at the frame's level isn't the version at the target
-abbrev pub is_stale : Goal → Frame → Bool
+abbrev pub is_stale : Aim → Frame → Bool
 is_stale aim frame = not (version aim.patches frame.func.0 frame.level.0 == version aim.patches frame.func.0 aim.target)

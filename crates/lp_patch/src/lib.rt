@@ -1,4 +1,7 @@
 //! The patches, and which version of a function runs at a level.
+//!
+//! Costs: `has`, `version` and `stale` are constant, by a table of 17 versions for each symbol. `build` compares each
+//! id with those before it, 256 at most. A patch takes a byte a symbol, the table 17.
 #![tactic(auto)]
 
 mod aim;

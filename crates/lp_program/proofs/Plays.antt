@@ -4,14 +4,13 @@ use Rattle.std.specs.Prelude.{IfErr}
 use Rattle.std.specs.Io.KnownBytes.{Appends}
 use Rattle.lp_model.specs.Rules.{Rules}
 use Rattle.lp_models.specs.declared.name.ModelName.{ModelName}
-use Rattle.lp_models.specs.Names.{name_of}
+use Rattle.lp_models.specs.Names.{name_of, rules_named}
 use Rattle.lp_text.specs.Writing.{AppendsPrefix}
 use Rattle.lp_threads.specs.Faults.{AtRun}
 use Rattle.lp_threads.specs.Plays.{IsPlay, play_text}
 use Rattle.lp_threads.specs.declared.fault.ThreadsFault.{ThreadsFault}
 use Rattle.lp_threads.specs.declared.report.Play.{Play}
 use Rattle.lp_replay.specs.Runs.{AtWrite, ReadsTrace}
-use Rattle.lp_program.specs.Named.{rules_named}
 use Rattle.lp_program.specs.Performed.{IsPlayed}
 
 -- a play by these rules was read and its report, with this name, written

@@ -1,3 +1,2 @@
 pub mod Faults
 pub mod Performed
-pub use Rattle.lp_compare.specs.Named

@@ -2,7 +2,7 @@
 use Rattle.std.specs.Prelude.{◌≡◌, ◌⊎◌, ℕ, Bool, List, Option, None, IsSome, IfSome, Ok, Err}
 use Rattle.std.specs.Io.KnownBytes.{Appends}
 use Rattle.lp_models.specs.declared.name.ModelName.{ModelName}
-use Rattle.lp_models.specs.Names.{name_of}
+use Rattle.lp_models.specs.Names.{name_of, rules_named}
 use Rattle.lp_definitions.specs.declared.cert_fault.CertFault.{CertFault}
 use Rattle.lp_text.specs.declared.check_input.CheckInput.{CheckInput}
 use Rattle.lp_text.specs.declared.fault.TraceFault.{TraceFault}
@@ -24,11 +24,10 @@ use Rattle.lp_compare.specs.Comparison.{comparison}
 use Rattle.lp_compare.specs.Text.{written}
 use Rattle.lp_words.specs.Asked.{Asks, AsksNothing}
 use Rattle.lp_program.specs.Faults.{of_words}
-use Rattle.lp_program.specs.Named.{rules_named}
 use Rattle.lp_program.specs.declared.fault.Fault.{Fault}
 use Rattle.lp_program.specs.declared.fault.Fault.TheVariants as fault
-use Rattle.lp_words.specs.declared.words.Task.{Task}
-use Rattle.lp_words.specs.declared.words.Task.TheVariants.{Run, Check, Compare, Threads}
+use Rattle.lp_words.specs.declared.words.Job.{Job}
+use Rattle.lp_words.specs.declared.words.Job.TheVariants.{Run, Check, Compare, Threads}
 use Rattle.lp_words.specs.declared.words.WordsFault.{WordsFault}
 
 -- the report of a trace under the model of a name
@@ -52,8 +51,8 @@ IsPlayed model trace P = (play : Play) × IsPlay (rules_named model) trace play 
 
 -- what was to be read before and after, and what was written before and after
 module _ (before after old new : Option (List ℕ)) where
-  -- a task is done
-  abbrev pub IsDone : Task → Type 0
+  -- a job is done
+  abbrev pub IsDone : Job → Type 0
   IsDone (Run model) = ReadsTrace before after (λ trace. Appends old new (report_under model trace))
   IsDone (Check model) =
       ReadsInput before after (λ input. (answer_under model input ≡ None) × Appends old new (answer_line model input))
@@ -61,7 +60,7 @@ module _ (before after old new : Option (List ℕ)) where
   IsDone (Threads model) = ReadsTrace before after (λ trace. IsPlayed model trace (Appends old new))
 
   -- the certificate is refused, and the answer is written
-  abbrev pub IsRefused : Task → Type 0
+  abbrev pub IsRefused : Job → Type 0
   IsRefused (Run model) = ⊥
   IsRefused (Check model) =
       ReadsInput before after (λ input. IsSome (answer_under model input) × Appends old new (answer_line model input))
@@ -69,21 +68,21 @@ module _ (before after old new : Option (List ℕ)) where
   IsRefused (Threads model) = ⊥
 
   -- a prefix of what was to be written is
-  abbrev pub WritesPrefix : Task → Type 0
+  abbrev pub WritesPrefix : Job → Type 0
   WritesPrefix (Run model) = ReadsTrace before after (λ trace. AppendsPrefix old new (report_under model trace))
   WritesPrefix (Check model) = ReadsInput before after (λ input. AppendsPrefix old new (answer_line model input))
   WritesPrefix (Compare json) = ReadsTrace before after (λ trace. AppendsPrefix old new (compared json trace))
   WritesPrefix (Threads model) = ReadsTrace before after (λ trace. IsPlayed model trace (AppendsPrefix old new))
 
--- a text is no input of the task, for this reason
-abbrev pub IsTextFault : Task → TraceFault → List ℕ → Type 0
+-- a text is no input of the job, for this reason
+abbrev pub IsTextFault : Job → TraceFault → List ℕ → Type 0
 IsTextFault (Run model) why text = reading text ≡ Err why
 IsTextFault (Check model) why text = check_reading text ≡ Err why
 IsTextFault (Compare json) why text = reading text ≡ Err why
 IsTextFault (Threads model) why text = reading text ≡ Err why
 
--- the task is one of threads
-abbrev pub IsOfDesk : Task → Type 0
+-- the job is one of threads
+abbrev pub IsOfDesk : Job → Type 0
 IsOfDesk (Run model) = ⊥
 IsOfDesk (Check model) = ⊥
 IsOfDesk (Compare json) = ⊥
@@ -94,23 +93,23 @@ abbrev pub IsCodeOfPlay : List ℕ → Type 0
 IsCodeOfPlay code = (why : ThreadsFault) × IsOfPlay why × (code_of why ≡ Ok code)
 
 module _ (before after old new : Option (List ℕ)) where
-  -- how a task ends by a fault; `same` says that the writer is as it was
-  abbrev pub EndsBy : Type 0 → Task → Fault → Type 0
-  EndsBy same task fault.Read = same
-  EndsBy same task fault.Write = WritesPrefix before after old new task
-  EndsBy same task fault.Usage = ⊥
-  EndsBy same task fault.UnknownModel = ⊥
-  EndsBy same task (fault.Trace why) = IfSome before (IsTextFault task why) × same
-  EndsBy same task fault.Refused = IsRefused before after old new task
-  EndsBy same task fault.NoMemory = same
-  EndsBy same task (fault.Desk code) = IsOfDesk task × IsCodeOfPlay code.now × ReadsTrace before after (λ trace. Unit {0}) × same
+  -- how a job ends by a fault; `same` says that the writer is as it was
+  abbrev pub EndsBy : Type 0 → Job → Fault → Type 0
+  EndsBy same job fault.Read = same
+  EndsBy same job fault.Write = WritesPrefix before after old new job
+  EndsBy same job fault.Usage = ⊥
+  EndsBy same job fault.UnknownModel = ⊥
+  EndsBy same job (fault.Trace why) = IfSome before (IsTextFault job why) × same
+  EndsBy same job fault.Refused = IsRefused before after old new job
+  EndsBy same job fault.NoMemory = same
+  EndsBy same job (fault.Desk code) = IsOfDesk job × IsCodeOfPlay code.now × ReadsTrace before after (λ trace. Unit {0}) × same
 
-  -- the words ask for a task, and it is done
+  -- the words ask for a job, and it is done
   abbrev pub Performs : List (List ℕ) → Type 0
-  Performs words = (task : Task) × Asks words task × IsDone before after old new task
+  Performs words = (job : Job) × Asks words job × IsDone before after old new job
 
-  -- the words ask for nothing, and nothing is read or written; or they ask for a task, and it ends by the fault
+  -- the words ask for nothing, and nothing is read or written; or they ask for a job, and it ends by the fault
   abbrev pub Fails : Type 0 → Type 0 → List (List ℕ) → Fault → Type 0
   Fails unread same words fault =
       ((why : WordsFault) × AsksNothing words why × (fault ≡ of_words why) × unread × same)
-      ⊎ ((task : Task) × Asks words task × EndsBy same task fault)
+      ⊎ ((job : Job) × Asks words job × EndsBy same job fault)

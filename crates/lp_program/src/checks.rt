@@ -8,13 +8,12 @@ ghost use Rattle.lp_text.specs.Input.{FailsOnce};
 ghost use Rattle.lp_replay.specs.Runs.{AtReading, AtTrace, AtWrite, BeforeWriting, ButForReading};
 ghost use Rattle.lp_text.specs.Words.{line_of};
 ghost use Rattle.lp_text.specs.Writing.{AppendsPrefix};
-ghost use Rattle.lp_program.specs.Named.{rules_named};
+ghost use Rattle.lp_models.specs.Names.{rules_named};
 ghost use Rattle.lp_program.specs.Performed.{EndsBy, IsDone};
-ghost use Rattle.lp_words.specs.declared.words.Task.TheVariants.{Check};
+ghost use Rattle.lp_words.specs.declared.words.Job.TheVariants.{Check};
 
 use crate::fault::Fault;
-use lp_models::{AllAtOnce, Hybrid, Immediate, LeaveKernel, ModelName};
-use lp_process::ProcessGroup;
+use lp_models::{ModelName, with_model};
 use lp_trace::{Counted, RunFault};
 use std::alloc::Global;
 use std::io::{Read, Write};
@@ -42,13 +41,7 @@ pub fn check<R: Read, W: Write>(
     ensures write_failed { IfErr result (λ fault. AtWrite fault (writer.new.failures ≡ next writer.old.failures)) }
     ensures written { OnOk result (writer.new.failures ≡ writer.old.failures) }
 {
-    match model {
-        ModelName::Hybrid => lp_trace::check(alloc, Hybrid, reader, writer),
-        ModelName::LeaveKernel => lp_trace::check(alloc, LeaveKernel, reader, writer),
-        ModelName::AllAtOnce => lp_trace::check(alloc, AllAtOnce, reader, writer),
-        ModelName::Immediate => lp_trace::check(alloc, Immediate, reader, writer),
-        ModelName::ProcessGroup => lp_trace::check(alloc, ProcessGroup, reader, writer),
-    }
+    with_model!(model, model => lp_trace::check(alloc, model, reader, writer))
 }
 
 /// Writes the answer to a certificate; Refused where that is a refusal, and any other fault as [`Fault`] says.

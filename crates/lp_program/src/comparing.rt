@@ -3,7 +3,7 @@ ghost use Rattle.std.specs.Prelude.{◌≡◌, ◌≢◌, Err, IfErr, OnOk};
 ghost use Rattle.lp_text.specs.Counts.{AtMost, next};
 ghost use Rattle.lp_text.specs.Input.{FailsOnce};
 ghost use Rattle.lp_program.specs.Performed.{EndsBy, IsDone};
-ghost use Rattle.lp_words.specs.declared.words.Task.TheVariants.{Compare};
+ghost use Rattle.lp_words.specs.declared.words.Job.TheVariants.{Compare};
 
 use crate::fault::Fault;
 use lp_compare::compare_run;

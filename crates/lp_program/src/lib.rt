@@ -15,7 +15,7 @@ pub use fault::Fault;
 pub use lp_models::ModelName;
 pub use lp_threads::ThreadsFault;
 pub use lp_trace::{Counted, RunFault, TraceFault};
-pub use lp_words::{Task, WordsFault, task_of};
+pub use lp_words::{Job, WordsFault, job_of};
 pub use playing::threads;
 pub use process::start;
 pub use program::{act, perform};

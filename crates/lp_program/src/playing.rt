@@ -8,13 +8,12 @@ ghost use Rattle.lp_replay.specs.Runs.{AtReading, AtTrace, AtWrite, ReadsTrace};
 ghost use Rattle.lp_text.specs.Writing.{AppendsPrefix};
 ghost use Rattle.lp_threads.specs.Faults.{AtDesk, AtRun, ButForReader, ButForWriter, IsOfPlay};
 ghost use Rattle.lp_program.specs.Performed.{EndsBy, IsDone, IsPlayed};
-ghost use Rattle.lp_words.specs.declared.words.Task.TheVariants.{Threads};
+ghost use Rattle.lp_words.specs.declared.words.Job.TheVariants.{Threads};
 ghost use Rattle.lp_threads.specs.Codes.{code_of};
 ghost use Rattle.lp_program.specs.Faults.{IsOfThreads};
 
 use crate::fault::Fault;
-use lp_models::{AllAtOnce, Hybrid, Immediate, LeaveKernel, ModelName};
-use lp_process::ProcessGroup;
+use lp_models::{ModelName, with_model};
 use lp_threads::ThreadsFault;
 use lp_trace::Counted;
 use std::alloc::Global;
@@ -58,27 +57,7 @@ pub fn threads<T: Threads + Wait + Sync, R: Read, W: Write>(
     ensures written { OnOk result (writer.new.failures ≡ writer.old.failures) }
 {
     let called = model.name();
-    match model {
-        ModelName::Hybrid => lp_threads::threads(rt, alloc, called, Hybrid, reader, writer),
-        ModelName::LeaveKernel => lp_threads::threads(
-            rt,
-            alloc,
-            called,
-            LeaveKernel,
-            reader,
-            writer,
-        ),
-        ModelName::AllAtOnce => lp_threads::threads(rt, alloc, called, AllAtOnce, reader, writer),
-        ModelName::Immediate => lp_threads::threads(rt, alloc, called, Immediate, reader, writer),
-        ModelName::ProcessGroup => lp_threads::threads(
-            rt,
-            alloc,
-            called,
-            ProcessGroup,
-            reader,
-            writer,
-        ),
-    }
+    with_model!(model, model => lp_threads::threads(rt, alloc, called, model, reader, writer))
 }
 
 /// Writes what came of a trace that threads play.

@@ -10,7 +10,7 @@ use crate::fault::Fault;
 use crate::playing::act_threads;
 use crate::runs::act_run;
 use lp_trace::Counted;
-use lp_words::{Task, task_of};
+use lp_words::{Job, job_of};
 use std::alloc::Global;
 use std::convert::AsStr;
 use std::io::{Read, Write};
@@ -33,7 +33,7 @@ pub fn perform<T: Threads + Wait + Sync, S: AsStr, R: Read, W: Write>(
     ensures read_failed { result ≡ Err Fault.Read → FailsOnce reader.old reader.new }
     // Else no read failed: one that failed is told before a fault of the text.
     ensures unfailed { result ≢ Err Fault.Read → reader.new.failures ≡ reader.old.failures }
-    // Where the task is done, or the certificate refused, the end was found once: nothing is read behind it.
+    // Where the job is done, or the certificate refused, the end was found once: nothing is read after it.
     ensures once { OnOk result (reader.new.ends ≡ next reader.old.ends) }
     ensures refused_once { result ≡ Err Fault.Refused → reader.new.ends ≡ next reader.old.ends }
     // Each read but the last gives a byte at least.
@@ -43,21 +43,21 @@ pub fn perform<T: Threads + Wait + Sync, S: AsStr, R: Read, W: Write>(
     // Else no write failed.
     ensures written { result ≢ Err Fault.Write → writer.new.failures ≡ writer.old.failures }
 {
-    let task = task_of(alloc, words)?;
-    act(rt, alloc, task, reader, writer)
+    let job = job_of(alloc, words)?;
+    act(rt, alloc, job, reader, writer)
 }
 
-/// Does a task, and waits where it is one of threads: [`act_run`],
+/// Does a job, and waits where it is one of threads: [`act_run`],
 /// [`act_check`] and [`act_compare`] never wait.
 pub fn act<T: Threads + Wait + Sync, R: Read, W: Write>(
     rt: &T,
     alloc: Global,
-    task: Task,
+    job: Job,
     reader: &mut Counted<R>,
     writer: &mut Counted<W>,
 ) -> Result<(), Fault>
-    ensures done { OnOk result (IsDone (R.remaining reader.old.stream) (R.remaining reader.new.stream) (W.contents writer.old.stream) (W.contents writer.new.stream) task) }
-    ensures ends { IfErr result (EndsBy (R.remaining reader.old.stream) (R.remaining reader.new.stream) (W.contents writer.old.stream) (W.contents writer.new.stream) (writer.new ≡ writer.old) task) }
+    ensures done { OnOk result (IsDone (R.remaining reader.old.stream) (R.remaining reader.new.stream) (W.contents writer.old.stream) (W.contents writer.new.stream) job) }
+    ensures ends { IfErr result (EndsBy (R.remaining reader.old.stream) (R.remaining reader.new.stream) (W.contents writer.old.stream) (W.contents writer.new.stream) (writer.new ≡ writer.old) job) }
     ensures read_failed { result ≡ Err Fault.Read → FailsOnce reader.old reader.new }
     ensures unfailed { result ≢ Err Fault.Read → reader.new.failures ≡ reader.old.failures }
     ensures once { OnOk result (reader.new.ends ≡ next reader.old.ends) }
@@ -66,10 +66,10 @@ pub fn act<T: Threads + Wait + Sync, R: Read, W: Write>(
     ensures write_failed { result ≡ Err Fault.Write → writer.new.failures ≡ next writer.old.failures }
     ensures written { result ≢ Err Fault.Write → writer.new.failures ≡ writer.old.failures }
 {
-    match task {
-        Task::Run(model) => act_run(alloc, model, reader, writer),
-        Task::Check(model) => act_check(alloc, model, reader, writer),
-        Task::Compare { json } => act_compare(alloc, json, reader, writer),
-        Task::Threads(model) => act_threads(rt, alloc, model, reader, writer),
+    match job {
+        Job::Run(model) => act_run(alloc, model, reader, writer),
+        Job::Check(model) => act_check(alloc, model, reader, writer),
+        Job::Compare { json } => act_compare(alloc, json, reader, writer),
+        Job::Threads(model) => act_threads(rt, alloc, model, reader, writer),
     }
 }

@@ -1,7 +1,7 @@
 //! A run under the model of a name.
 ghost use Rattle.std.specs.Prelude.{◌≡◌, ◌≢◌, Err, IfErr, IfSome, MatchResult, OnOk};
 ghost use Rattle.std.specs.Io.KnownBytes.{Appends};
-ghost use Rattle.lp_models.specs.Names.{name_of};
+ghost use Rattle.lp_models.specs.Names.{name_of, rules_named};
 ghost use Rattle.lp_text.specs.Counts.{AtMost, next};
 ghost use Rattle.lp_text.specs.Input.{FailsOnce};
 ghost use Rattle.lp_definitions.specs.Headline.{Headline};
@@ -10,13 +10,11 @@ ghost use Rattle.lp_text.specs.Reading.{reading};
 ghost use Rattle.lp_trace.specs.Report.{report};
 ghost use Rattle.lp_replay.specs.Runs.{AtReading, AtTrace, AtWrite, BeforeWriting, ButForReading, ReadsTrace};
 ghost use Rattle.lp_text.specs.Writing.{AppendsPrefix};
-ghost use Rattle.lp_program.specs.Named.{rules_named};
 ghost use Rattle.lp_program.specs.Performed.{EndsBy, IsDone};
-ghost use Rattle.lp_words.specs.declared.words.Task.TheVariants.{Run};
+ghost use Rattle.lp_words.specs.declared.words.Job.TheVariants.{Run};
 
 use crate::fault::Fault;
-use lp_models::{AllAtOnce, Hybrid, Immediate, LeaveKernel, ModelName};
-use lp_process::ProcessGroup;
+use lp_models::{ModelName, with_model};
 use lp_trace::{Counted, RunFault};
 use std::alloc::Global;
 use std::io::{Read, Write};
@@ -46,13 +44,7 @@ pub fn run<R: Read, W: Write>(
     ensures written { OnOk result (writer.new.failures ≡ writer.old.failures) }
 {
     let name = model.name();
-    match model {
-        ModelName::Hybrid => lp_trace::run(alloc, name, Hybrid, reader, writer),
-        ModelName::LeaveKernel => lp_trace::run(alloc, name, LeaveKernel, reader, writer),
-        ModelName::AllAtOnce => lp_trace::run(alloc, name, AllAtOnce, reader, writer),
-        ModelName::Immediate => lp_trace::run(alloc, name, Immediate, reader, writer),
-        ModelName::ProcessGroup => lp_trace::run(alloc, name, ProcessGroup, reader, writer),
-    }
+    with_model!(model, model => lp_trace::run(alloc, name, model, reader, writer))
 }
 
 /// Writes the report of a trace; each fault as [`Fault`] says.

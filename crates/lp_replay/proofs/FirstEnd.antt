@@ -6,21 +6,18 @@ use Rattle.std.proofs.lemmas.Bool.{false≢true}
 use Rattle.std.proofs.lemmas.List.{append-nil, take_all, take_more, take-append-drop}
 use Rattle.lp_model.specs.Rules.{Rules}
 use Rattle.lp_definitions.specs.declared.event.Event.{Event}
-use Rattle.lp_machine.specs.Steps.{StandsIn}
-use Rattle.lp_machine.specs.Table.{Engine, LastScan, state_in}
 use Rattle.lp_definitions.specs.Leg.{Leg}
 use Rattle.lp_definitions.specs.Run.{Run, and_then, first_leg, is_complete_now, leg_after, leg_of, next_leg, opened, opens, plus}
 use Rattle.lp_definitions.specs.Ends.{LegEnd, end_of}
 use Rattle.lp_definitions.specs.declared.cert.Cert.{Cert}
 use Rattle.lp_definitions.specs.Certificates.{certs_by, completion, legs}
-use Rattle.lp_cert.specs.Ends.{Made, IsMadeOf, IsMadeWith, ended_legs, is_complete_in, made_upto, under_way}
+use Rattle.lp_cert.specs.Ends.{Made, IsMadeOf, ended_legs, is_complete_in, under_way}
+use Rattle.lp_cert.specs.Explained.{Explained, IsExplained}
 use Rattle.lp_laws.proofs.Completions.{certs_kept, completion_below, completion_up}
 use Rattle.lp_cert.proofs.Tellings.{legs_made}
-use Rattle.lp_cert.proofs.Upto.{upto_now}
 use Rattle.lp_definitions.specs.Outcome.{leg_ends}
 use Rattle.lp_replay.specs.inside.Recording.{first_made}
-use Rattle.lp_replay.proofs.Legs.{StandsAfter, at_first, at_more, longer}
-use Rattle.lp_replay.proofs.Recording.{number_is}
+use Rattle.lp_replay.proofs.Legs.{longer}
 
 pub some_there : {X : Type 0} (xs : List X) (is_empty : Bool) → IsTrue is_empty ↔ (xs ≡ []) → is_empty ≡ false → 0 < length xs
 some_there [] is_empty decides some = absurd (false≢true (sym some ∙ decides.1 refl))
@@ -100,39 +97,18 @@ module _ (model : Rules) where
 
   -- ---- With so many of these events
 
-  pub made_first : (run : Run) (last_scan : LastScan) (made : Made) → IsMadeWith model run last_scan made → IsMadeWith model (longer run []) last_scan made
-  made_first run last_scan made is = subst (λ (es : List Event). IsMadeWith model (record run { events = es }) last_scan made) (sym (append-nil run.events)) is
+  -- the engine is that of the run with so many of these events, and so is what is made
+  abbrev pub IsExplainedAfter : Run → List Event → ℕ → Explained → Type 0
+  IsExplainedAfter run events i explained = IsExplained model (longer run (take i events)) explained
 
-  pub made_more : (run : Run) (events : List Event) (i : ℕ) (d : Event) (last_scan : LastScan) (made : Made) → i < length events → IsMadeWith model (plus (longer run (take i events)) (get_or events i d)) last_scan made → IsMadeWith model (longer run (take (i + 1) events)) last_scan made
-  made_more run events i d last_scan made below is =
+  pub explained_none : (run : Run) (events : List Event) (explained : Explained) → IsExplained model run explained → IsExplainedAfter run events 0 explained
+  explained_none run events explained is =
+      subst (λ (es : List Event). IsExplained model (record run { events = es }) explained) (sym (append-nil run.events)) is
+
+  pub explained_more : (run : Run) (events : List Event) (i : ℕ) (d : Event) (explained : Explained) → i < length events → IsExplained model (plus (longer run (take i events)) (get_or events i d)) explained → IsExplainedAfter run events (i + 1) explained
+  explained_more run events i d explained below is =
       let same : run.events ++ take (i + 1) events ≡ (run.events ++ take i events) ++ get_or events i d ∷ [] = ap (λ l. run.events ++ l) (take_more events i d below) ∙ sym (append_assoc run.events (take i events) (get_or events i d ∷ [])) in
-      subst (λ (es : List Event). IsMadeWith model (record run { events = es }) last_scan made) (sym same) is
-
-  -- ---- Where plain events are noted together
-
-  -- the engine is that of the run with so many of these events, and what is made too, once those that passed are noted
-  pub record IsPassed (run : Run) (events : List Event) (i : ℕ) (core : Engine) (made : Made) : Type 0 where
-    pub stands : StandsAfter model run events i core
-    pub made_so : IsMadeWith model (longer run (take i events)) core.last_scan (made_upto core.number made)
-
-  pub passed_first : (run : Run) (events : List Event) (core : Engine) (made : Made) → StandsIn model run (state_in core) → IsMadeWith model run core.last_scan made → IsPassed run events 0 core made
-  passed_first run events core made stands is =
-      let first : StandsAfter model run events 0 core = at_first model run events core stands in
-      record { stands = first; made_so = upto_now model (longer run []) core core.last_scan made first (made_first run core.last_scan made is) }
-
-  -- one of them was noted before it was taken
-  pub passed_other : (run : Run) (events : List Event) (i : ℕ) (d : Event) (new : Engine) (made : Made) → i < length events → StandsIn model (plus (longer run (take i events)) (get_or events i d)) (state_in new) → IsMadeWith model (plus (longer run (take i events)) (get_or events i d)) new.last_scan made → IsPassed run events (i + 1) new made
-  passed_other run events i d new made below stands is =
-      let more : StandsAfter model run events (i + 1) new = at_more model run events i d new below stands in
-      record { stands = more; made_so = upto_now model (longer run (take (i + 1) events)) new new.last_scan made more (made_more run events i d new.last_scan made below is) }
-
-  -- one of them passes
-  pub passed_more : (run : Run) (events : List Event) (i : ℕ) (d : Event) (old new : Engine) (made : Made) → i < length events → StandsAfter model run events i old → StandsIn model (plus (longer run (take i events)) (get_or events i d)) (state_in new) → IsMadeWith model (plus (longer run (take i events)) (get_or events i d)) new.last_scan (made_upto (old.number + 1) made) → IsPassed run events (i + 1) new made
-  passed_more run events i d old new made below before stands is =
-      let before_is : old.number ≡ length (run.events ++ take i events) = number_is model (longer run (take i events)) old before in
-      let after_is : new.number ≡ length ((run.events ++ take i events) ++ get_or events i d ∷ []) = number_is model (plus (longer run (take i events)) (get_or events i d)) new stands in
-      let next : old.number + 1 ≡ new.number = omega (arith, before_is, after_is, length-append (run.events ++ take i events) (get_or events i d ∷ [])) in
-      record { stands = at_more model run events i d new below stands; made_so = made_more run events i d new.last_scan (made_upto new.number made) below (subst (λ n. IsMadeWith model (plus (longer run (take i events)) (get_or events i d)) new.last_scan (made_upto n made)) next is) }
+      subst (λ (es : List Event). IsExplained model (record run { events = es }) explained) (sym same) is
 
   -- the leg ended by one of them
   pub ended_early : (run : Run) (events : List Event) (i : ℕ) (made : Made) → IsMadeOf model (longer run (take i events)) made → 0 < length made.ended → first_made made ≡ slice_get (leg_ends model (first_leg model run) (run.events ++ events)) 0

@@ -11,13 +11,14 @@ use Rattle.lp_definitions.specs.Leg.{Leg, State}
 use Rattle.lp_definitions.specs.Run.{Run, and_then, first_leg, leg_after, leg_of, next_leg, opened, opens, plus}
 use Rattle.lp_machine.specs.Steps.{IsStep, OpensLegs, StandsIn}
 use Rattle.lp_machine.specs.Table.{Engine, state_in}
-use Rattle.lp_machine.proofs.Runs.{leg_after-plus}
+use Rattle.lp_machine_laws.proofs.Runs.{leg_after-plus}
 use Rattle.lp_checker.specs.Folds.{leg_with}
 use Rattle.lp_replay.specs.Legs.{leg_numbered, opened_by, to_end}
 use Rattle.lp_replay.specs.Outcome.{run_of}
 use Rattle.lp_text.specs.Traces.{TraceValue}
-use Rattle.lp_replay.specs.inside.Recording.{is_opened}
-use Rattle.lp_replay.proofs.Recording.{number_is, opened_is}
+use Rattle.lp_cert.specs.Ends.{is_opened}
+use Rattle.lp_cert.proofs.Explaining.{number_is}
+use Rattle.lp_cert.proofs.Opened.{opened_is}
 
 -- a run with these events more
 abbrev pub longer : Run → List Event → Run

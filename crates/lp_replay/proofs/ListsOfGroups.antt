@@ -25,14 +25,14 @@ place_fits start (end ∷ ends) count zero below h = (h.0, ends_fit end ends cou
 place_fits start (end ∷ ends) count (suc place) below h = place_fits end ends count place (omega (arith, below)) h.1
 
 -- a list starts where the one before it ends
-pub start_behind : (start : ℕ) (ends : List ℕ) (place : ℕ) → place < length ends → start_of start ends (suc place) ≡ slice_index ends place
-start_behind start [] place below = absurd (omega (arith, below))
-start_behind start (end ∷ ends) zero below = refl
-start_behind start (end ∷ ends) (suc place) below = start_behind end ends place (omega (arith, below))
+pub start_after : (start : ℕ) (ends : List ℕ) (place : ℕ) → place < length ends → start_of start ends (suc place) ≡ slice_index ends place
+start_after start [] place below = absurd (omega (arith, below))
+start_after start (end ∷ ends) zero below = refl
+start_after start (end ∷ ends) (suc place) below = start_after end ends place (omega (arith, below))
 
 -- ---- Lists
 
--- groups behind a list change nothing of it
+-- groups after a list change nothing of it
 range_kept : (groups more : List GroupId) (start end : ℕ) → start ≤ end → end ≤ length groups → slice_range (groups ++ more) start end ≡ slice_range groups start end
 range_kept groups more start end ordered fits =
     ap (take (end - start)) (drop-append-le start groups more (omega (arith, ordered, fits)))
@@ -68,13 +68,13 @@ list_at start [] groups place below = absurd (omega (arith, below))
 list_at start (end ∷ ends) groups zero below = refl
 list_at start (end ∷ ends) groups (suc place) below = list_at end ends groups place (omega (arith, below))
 
--- none is behind the last one
+-- none is after the last one
 pub none_at : (start : ℕ) (ends : List ℕ) (groups : List GroupId) (place : ℕ) → length ends ≤ place → drop place (lists_from start ends groups) ≡ []
 none_at start ends groups place past = drop_all place (lists_from start ends groups) (omega (arith, past, count_lists start ends groups))
 
--- the lists behind the next one
-pub behind_next : (lists : List (List ℕ)) (place : ℕ) → drop (place + 1) lists ≡ drop 1 (drop place lists)
-behind_next lists place = sym (drop-drop 1 place lists)
+-- the lists after the next one
+pub after_next : (lists : List (List ℕ)) (place : ℕ) → drop (place + 1) lists ≡ drop 1 (drop place lists)
+after_next lists place = sym (drop-drop 1 place lists)
 
-pub behind_last : (lists : List (List ℕ)) (place : ℕ) → drop place lists ≡ [] → drop place lists ≡ drop 1 (drop place lists)
-behind_last lists place none = none ∙ sym (ap (drop 1) none)
+pub after_last : (lists : List (List ℕ)) (place : ℕ) → drop place lists ≡ [] → drop place lists ≡ drop 1 (drop place lists)
+after_last lists place none = none ∙ sym (ap (drop 1) none)

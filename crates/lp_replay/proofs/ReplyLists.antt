@@ -11,7 +11,7 @@ use Rattle.lp_replay.specs.declared.replies.ShortWhat.TheVariants.{Ran, Done, Sw
 use Rattle.lp_replay.specs.declared.replies.ShortReply.{ShortReply}
 use Rattle.lp_replay.specs.Replies.{first_groups, what_of, reply_of, lists_in, lists_of, replies_of}
 
--- of a list, what is left behind a prefix of it
+-- of a list, what is left after a prefix of it
 drop_prefix : {A : Type 0} (n : ℕ) (xs ys : List A) → n ≡ length xs → drop n (xs ++ ys) ≡ ys
 drop_prefix n xs ys h = ap (λ k. drop k (xs ++ ys)) h ∙ drop-append_seam xs ys
 
@@ -32,7 +32,7 @@ pub lists-more : (replies more : List ShortReply) → lists_of (replies ++ more)
 lists-more [] more = omega arith
 lists-more (reply ∷ replies) more = omega (arith, lists-more replies more)
 
--- lists behind those that belong to them change nothing
+-- lists after those that belong to them change nothing
 prefix-what : (what : ShortWhat) (lists more : List (List ℕ)) → lists_in what ≤ length lists → (what_of what (lists ++ more) ≡ what_of what lists) × (drop (lists_in what) (lists ++ more) ≡ drop (lists_in what) lists ++ more)
 prefix-what (Ran level) lists more h = (refl, refl)
 prefix-what Done lists more h = (refl, refl)

@@ -52,7 +52,7 @@ module _ (P : Type 0) where
   unread_told_of fault (Ok x) h is = absurd is
   unread_told_of fault (Err e) h is = subst (λ x. ButForReading x P) (sym is) (unread_told fault h)
 
-  -- no read failed behind the reading
+  -- no read failed after the reading
   pub no_read : (fault : RunFault) → AtReading fault ⊥ → AtReading fault P
   no_read (run.Write fault) h = tt
   no_read (run.Read error) h = absurd h

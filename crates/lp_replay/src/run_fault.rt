@@ -15,7 +15,7 @@ pub enum RunFault {
     /// The reader failed, or was interrupted. Nothing was written.
     #[error("the input can't be read: {0}")]
     Read(io::Error),
-    /// The input is no trace; of a check, no trace with a certificate behind it. Nothing was written.
+    /// The input is no trace; of a check, no trace with a certificate after it. Nothing was written.
     #[error("line {line}: L{number}", line = .0.line, number = .0.cause.number())]
     Trace(TraceFault),
     /// An allocation failed. Nothing was written.

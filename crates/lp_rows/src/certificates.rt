@@ -1,4 +1,4 @@
-//! The certificates of a report, each behind the trace that it is of, as the input of a check.
+//! The certificates of a report, each after the trace that it is of, as the input of a check.
 
 use crate::difference::{Stage, compare};
 use crate::play::checked;

@@ -48,7 +48,7 @@ fn add_level(text: &mut String, form: TraceForm, level: Level) -> Result<(), All
     match (form, level.0) {
         (TraceForm::Single, 0) => text.push_str("ran old"),
         (TraceForm::Single, _) => text.push_str("ran new"),
-        (TraceForm::Stacked, number) => write!(text, "ran {number}"),
+        (TraceForm::Stacked | TraceForm::WithResched, number) => write!(text, "ran {number}"),
     }
 }
 

@@ -8,7 +8,7 @@ ghost use Rattle.lp_replay.specs.Outcome.{run_of};
 use crate::trouble::Trouble;
 use lp_board::{Blank, DeskName};
 use lp_desk::{Commanded, Desk, Launched, OpenGate, Submitted};
-use lp_log::{Cause, Control, Journal, Seat, owner};
+use lp_log::{Control, Journal, Seat, TurnedBy, owner};
 use lp_model::Consistency;
 use lp_numbers::NUMBERS;
 use lp_trace::{Trace, stack};
@@ -109,7 +109,7 @@ fn sent<T: Threads + Wait + Sync, M: Consistency + Sync, N: DeskName>(
     events: &[Event],
     seats: &mut Seats,
     mut control: Control,
-) -> Result<Option<Control>, Cause> {
+) -> Result<Option<Control>, TurnedBy> {
     for event in events {
         match owner(*event) {
             Some(task) if is_submitted(rt, alloc, desk, seats, task, *event)? => (),
@@ -127,7 +127,7 @@ fn commanded<T: Threads + Wait + Sync, M: Consistency + Sync, N: DeskName>(
     desk: &Desk<M, N, OpenGate, &T>,
     control: Control,
     event: Event,
-) -> Result<Control, Cause> {
+) -> Result<Control, TurnedBy> {
     match desk.command(rt, alloc, control, event) {
         Ok(Commanded { control, .. }) => Ok(control),
         Err(turned) => Err(turned.cause),
@@ -142,7 +142,7 @@ fn is_submitted<T: Wait, M: Consistency, N: DeskName>(
     seats: &mut Seats,
     task: u16,
     event: Event,
-) -> Result<bool, Cause> {
+) -> Result<bool, TurnedBy> {
     let Some(seat) = seats.take(task) else {
         return Ok(false);
     };

@@ -32,6 +32,7 @@ const FILES: &[&str] = &[
     "models.rows",
     "legs.rows",
     "tasks.rows",
+    "resched.rows",
     "stacked.rows",
     "faults.rows",
     "lines.rows",
@@ -46,6 +47,7 @@ const FILES: &[&str] = &[
     "refusals.rows",
     "words.rows",
     "program.rows",
+    "comparisons.rows",
 ];
 
 /// What was played.

@@ -4,13 +4,12 @@ use crate::certificates::accept_all;
 use crate::difference::{Stage, compare};
 use crate::engine::{event_lines, lines_of, lists_of};
 use crate::program::{play_fault, play_program};
-use crate::rows::{Row, Task};
+use crate::rows::{Job, Row};
 use crate::rows_through_desk::play_through_desk;
 use crate::streams::{Sink, Source};
 use crate::trouble::Trouble;
 use lp_model::Consistency;
-use lp_models::{AllAtOnce, Hybrid, Immediate, LeaveKernel, ModelName};
-use lp_process::ProcessGroup;
+use lp_models::{ModelName, with_model};
 use lp_program::{check, run};
 use lp_trace::{CheckInput, Counted, ReadFault, RunFault, Trace, TraceFault, TraceForm};
 use std::alloc::{AllocError, Global};
@@ -56,7 +55,7 @@ fn add_fault(alloc: Global, given: &mut Vec<u8>, fault: RunFault) -> Result<(), 
     }
 }
 
-/// What the run of a text writes, by so many bytes at a time, and the line of its fault behind it.
+/// What the run of a text writes, by so many bytes at a time, and the line of its fault after it.
 pub fn reported(
     alloc: Global,
     model: ModelName,
@@ -73,7 +72,7 @@ pub fn reported(
     Ok(given)
 }
 
-/// What the check of a text writes, by so many bytes at a time, and behind it the line of its fault,
+/// What the check of a text writes, by so many bytes at a time, and after it the line of its fault,
 /// or a line where it says other than it writes.
 pub fn checked(
     alloc: Global,
@@ -100,6 +99,9 @@ fn made_again(alloc: Global, trace: &Trace) -> Result<Box<Trace>, Trouble> {
     let made = match trace.form() {
         TraceForm::Single => Trace::of(alloc, symbols, trace.patch(1), boots, events)?,
         TraceForm::Stacked => Trace::of_stack(alloc, symbols, lists.as_slice(), boots, events)?,
+        TraceForm::WithResched => {
+            Trace::of_with_resched(alloc, symbols, lists.as_slice(), boots, events)?
+        }
     };
     Ok(Box::new(alloc, made)?)
 }
@@ -142,13 +144,7 @@ fn play_events_under<T: Print + Threads + Wait + Sync>(
     trace: &Trace,
     report: &str,
 ) -> Result<bool, Trouble> {
-    match model {
-        ModelName::Hybrid => play_events(stage, alloc, Hybrid, trace, report),
-        ModelName::LeaveKernel => play_events(stage, alloc, LeaveKernel, trace, report),
-        ModelName::AllAtOnce => play_events(stage, alloc, AllAtOnce, trace, report),
-        ModelName::Immediate => play_events(stage, alloc, Immediate, trace, report),
-        ModelName::ProcessGroup => play_events(stage, alloc, ProcessGroup, trace, report),
-    }
+    with_model!(model, model => play_events(stage, alloc, model, trace, report))
 }
 
 /// Plays a trace of a row: its text made again, its events, and its certificates.
@@ -225,7 +221,7 @@ fn read_input<T: Print>(stage: &Stage<'_, T>, alloc: Global, row: &Row) -> Resul
     }
 }
 
-/// Plays a row whose input is a trace with a certificate behind it.
+/// Plays a row whose input is a trace with a certificate after it.
 fn play_check<T: Print>(
     stage: &Stage<'_, T>,
     alloc: Global,
@@ -249,11 +245,11 @@ pub fn play<T: Print + Threads + Wait + Sync>(
         rt,
         name: row.name(),
     };
-    match row.task() {
-        Some(Task::Run(model)) => return play_run(&stage, alloc, model, row),
-        Some(Task::Check(model)) => play_check(&stage, alloc, model, row)?,
-        Some(Task::Program) => play_program(&stage, alloc, row)?,
-        Some(Task::Fault(fault)) => play_fault(&stage, alloc, row, fault)?,
+    match row.job() {
+        Some(Job::Run(model)) => return play_run(&stage, alloc, model, row),
+        Some(Job::Check(model)) => play_check(&stage, alloc, model, row)?,
+        Some(Job::Program) => play_program(&stage, alloc, row)?,
+        Some(Job::Fault(fault)) => play_fault(&stage, alloc, row, fault)?,
         None => return Err(Trouble::NoRow),
     }
     Ok(no_trace())

@@ -27,7 +27,7 @@ fn add_end(alloc: Global, given: &mut Vec<u8>, fault: Fault) -> Result<(), Troub
     Ok(())
 }
 
-/// What the program writes at a line of words, by so many bytes at a time, and behind it how it ends, unless its
+/// What the program writes at a line of words, by so many bytes at a time, and after it how it ends, unless its
 /// status is 0.
 fn performed<T: Threads + Wait + Sync>(
     rt: &T,

@@ -22,7 +22,7 @@ pub struct Recording {
     pub versions: &'static str,
 }
 
-pub const RECORDINGS: [Recording; 3] = [
+pub const RECORDINGS: [Recording; 5] = [
     Recording {
         trace: "basic.lptrace",
         over: "basic.over",
@@ -41,6 +41,18 @@ pub const RECORDINGS: [Recording; 3] = [
         transitions: "reverse.transitions",
         versions: "reverse.versions",
     },
+    Recording {
+        trace: "resched.lptrace",
+        over: "resched.over",
+        transitions: "resched.transitions",
+        versions: "resched.versions",
+    },
+    Recording {
+        trace: "resched-busy.lptrace",
+        over: "resched-busy.over",
+        transitions: "resched-busy.transitions",
+        versions: "resched-busy.versions",
+    },
 ];
 
 /// Who switched by a report, a line each: the number of the event, and the group's, which is the task's.
@@ -54,7 +66,7 @@ fn moves(alloc: Global, report: &str) -> Result<String, AllocError> {
     Ok(text)
 }
 
-/// Adds who switched at an event: the words behind `over`, of which the last may say that the leg is complete.
+/// Adds who switched at an event: the words after `over`, of which the last may say that the leg is complete.
 fn add_moves(text: &mut String, number: &str, groups: &str) -> Result<(), AllocError> {
     for group in groups.split(' ') {
         if group != "complete" {

@@ -9,7 +9,7 @@ use std::alloc::Global;
 
 /// What a row looks at.
 #[derive(Clone, Copy)]
-pub enum Task {
+pub enum Job {
     /// The run of its input under a model.
     Run(ModelName),
     /// The check of its input under a model.
@@ -20,20 +20,20 @@ pub enum Task {
     Fault(Fault),
 }
 
-impl Task {
-    /// The task of some words.
-    fn read(words: &str) -> Option<Task> {
+impl Job {
+    /// The job of some words.
+    fn read(words: &str) -> Option<Job> {
         let (verb, model) = words.split_once(' ')?;
         let model = ModelName::read(model)?;
         match verb {
-            "run" => Some(Task::Run(model)),
-            "check" => Some(Task::Check(model)),
+            "run" => Some(Job::Run(model)),
+            "check" => Some(Job::Check(model)),
             _ => None,
         }
     }
 
     /// A fault of the program by its name in a row. No input comes to the last four.
-    fn fault(name: &str) -> Option<Task> {
+    fn fault(name: &str) -> Option<Job> {
         let fault = match name {
             "read" => Fault::Read,
             "write" => Fault::Write,
@@ -49,7 +49,7 @@ impl Task {
             "desk D5" => Fault::Desk("D5"),
             _ => return None,
         };
-        Some(Task::Fault(fault))
+        Some(Job::Fault(fault))
     }
 }
 
@@ -57,10 +57,10 @@ impl Task {
 #[derive(Drop)]
 pub struct Row {
     name: String,
-    task: Option<Task>,
+    job: Option<Job>,
     lines: Vec<u8>,
     input: Vec<u8>,
-    /// Whether the reader fails behind the input.
+    /// Whether the reader fails after the input.
     is_broken: bool,
     wanted: Vec<u8>,
     /// How many bytes the writer takes.
@@ -74,7 +74,7 @@ impl Row {
         input.extend_from_slice(head)?;
         Ok(Row {
             name: String::from_str(alloc, name)?,
-            task: None,
+            job: None,
             lines: Vec::new(alloc),
             input,
             is_broken: false,
@@ -88,8 +88,8 @@ impl Row {
     }
 
     /// What it looks at.
-    pub fn task(&self) -> Option<Task> {
-        self.task
+    pub fn job(&self) -> Option<Job> {
+        self.job
     }
 
     /// The program's words, a line for each time that it is tried.
@@ -120,13 +120,13 @@ impl Row {
         Sink::with_room(alloc, most, self.room)
     }
 
-    /// Takes in a line of the row: its first word, and what stands behind it.
+    /// Takes in a line of the row: its first word, and what stands after it.
     fn add(&mut self, word: &str, rest: &str) -> Result<(), Trouble> {
         match word {
-            "words" if self.task.is_none() => self.task = Task::read(rest),
-            "at" if self.task.is_none() => self.task = Task::fault(rest),
-            "program" if matches!(self.task, None | Some(Task::Program)) => {
-                self.task = Some(Task::Program);
+            "words" if self.job.is_none() => self.job = Job::read(rest),
+            "at" if self.job.is_none() => self.job = Job::fault(rest),
+            "program" if matches!(self.job, None | Some(Job::Program)) => {
+                self.job = Some(Job::Program);
                 add_lines(&mut self.lines, rest)?;
             }
             "in" => add_lines(&mut self.input, rest)?,
@@ -143,9 +143,9 @@ impl Row {
 
     /// Takes in a line that says where the program's reader or writer fails. No other is left.
     fn add_failure(&mut self, word: &str) -> Result<(), Trouble> {
-        match (self.task, word) {
-            (Some(Task::Program), "broken") => self.is_broken = true,
-            (Some(Task::Program), "full") => self.room = self.wanted.len(),
+        match (self.job, word) {
+            (Some(Job::Program), "broken") => self.is_broken = true,
+            (Some(Job::Program), "full") => self.room = self.wanted.len(),
             _ => return Err(Trouble::NoRow),
         }
         Ok(())
@@ -202,7 +202,7 @@ struct Rows {
 }
 
 impl Rows {
-    /// Takes in a line of a file: its first word, and what stands behind it.
+    /// Takes in a line of a file: its first word, and what stands after it.
     fn add(&mut self, alloc: Global, word: &str, rest: &str) -> Result<(), Trouble> {
         if word == "head" {
             return self.add_head(rest);
@@ -219,7 +219,7 @@ impl Rows {
         }
     }
 
-    /// Takes in a line of a head, which is a new one behind a row.
+    /// Takes in a line of a head, which is a new one after a row.
     fn add_head(&mut self, lines: &str) -> Result<(), Trouble> {
         if !self.is_head {
             self.head.clear();

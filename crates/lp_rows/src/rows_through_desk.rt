@@ -36,7 +36,7 @@ fn journal_lines(alloc: Global, journal: &Journal, trace: &Trace) -> Result<Stri
     Ok(text)
 }
 
-/// Plays a trace through a desk that is closed behind it, whose journal has to have the replies of the report. False,
+/// Plays a trace through a desk that is closed after it, whose journal has to have the replies of the report. False,
 /// and nothing is looked at, where an event is of a task that was never born, so that nobody can send it.
 pub fn play_through_desk<T: Print + Threads + Wait + Sync, M: Consistency + Sync>(
     stage: &Stage<'_, T>,

@@ -1,4 +1,4 @@
-//! A reader and a writer in memory, which give and take so many bytes at a time, and may fail behind their last byte.
+//! A reader and a writer in memory, which give and take so many bytes at a time, and may fail after their last byte.
 
 use std::alloc::Global;
 use std::io::{self, ErrorKind, Read, Write};
@@ -8,7 +8,7 @@ use std::io::{self, ErrorKind, Read, Write};
 pub struct Source<'a> {
     rest: &'a [u8],
     most: usize,
-    /// Whether there is no end behind the bytes, but a failure.
+    /// Whether there is no end after the bytes, but a failure.
     is_broken: bool,
 }
 
@@ -66,7 +66,7 @@ impl Sink {
         }
     }
 
-    /// What it took, and what is pushed behind it.
+    /// What it took, and what is pushed after it.
     pub fn into_taken(self) -> Vec<u8> {
         let Sink { taken, .. } = self;
         taken

@@ -1,7 +1,7 @@
 //! Why a row was not played to its end.
 
 use lp_board::LaunchFault;
-use lp_log::{Cause, CloseCause};
+use lp_log::{CloseCause, TurnedBy};
 use lp_trace::{OfFault, ReadFault, ReplayFault};
 use lp_transition::{BootFault, Halt};
 use std::alloc::{AllocError, AllocFailed};
@@ -28,7 +28,7 @@ pub enum Trouble {
     /// No desk was launched for a trace.
     Launch(LaunchFault),
     /// A desk turned an event of a trace back.
-    Turned(Cause),
+    Turned(TurnedBy),
     /// What was sent isn't what a desk's journal says.
     Unclosed(CloseCause),
     /// An allocation failed.

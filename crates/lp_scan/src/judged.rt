@@ -2,7 +2,7 @@
 ghost use Rattle.std.specs.Prelude.{◌≡◌, ◌<◌, ◌≤◌, ◌↔◌, map, length, IfOk, IsTrue};
 ghost use Rattle.lp_stack.specs.TaskView.{seen};
 ghost use Rattle.lp_patch.specs.Aimed.{aimed};
-ghost use Rattle.lp_patch.specs.Patches.{Goal};
+ghost use Rattle.lp_patch.specs.Patches.{Aim};
 ghost use Rattle.lp_model.specs.declared.check.CheckKind.TheVariants.{Walk};
 ghost use Rattle.lp_transition.specs.Scan.{verdict_of};
 ghost use Rattle.lp_scan.specs.Found.{found_of};
@@ -45,7 +45,7 @@ impl<M: Consistency> Model for Judged<M> {
 
     ghost Value = { Judgement };
 
-    ghost view = { λ j. record { goal = record { patches = j.batch.patches; target = j.batch.target.0 }; tasks = j.batch.copies.items; found = j.found.items } };
+    ghost view = { λ j. record { aim = record { patches = j.batch.patches; target = j.batch.target.0 }; tasks = j.batch.copies.items; found = j.found.items } };
 
     ghost invariant = { λ j. j.found.items ≡ found_of M.rules Walk (record { patches = j.batch.patches; target = j.batch.target.0 }) j.batch.copies.items };
 }
@@ -62,9 +62,9 @@ pub fn judge<R: Threads + Sync, M: Consistency + Sync, G: ScanGate + Sync>(
 ) -> Result<Judged<M>, AllocError>
     requires some { 0 < workers }
     requires few { workers ≤ 64 }
-    ensures goal { IfOk result (λ judged. judged.goal ≡ record { patches = batch.patches; target = batch.target.0 }) }
+    ensures aim { IfOk result (λ judged. judged.aim ≡ record { patches = batch.patches; target = batch.target.0 }) }
     ensures tasks { IfOk result (λ judged. judged.tasks ≡ batch.copies.items) }
-    ensures found { IfOk result (λ judged. judged.found ≡ found_of M.rules Walk judged.goal judged.tasks) }
+    ensures found { IfOk result (λ judged. judged.found ≡ found_of M.rules Walk judged.aim judged.tasks) }
 {
     let found = found_in(rt, alloc, workers, gate, model, &batch)?;
     Ok(Judged {
@@ -122,7 +122,7 @@ impl<M: Consistency> Judged<M> {
     /// What was found, of each task of the batch.
     pub fn verdicts(&self) -> &[Verdict]
         ensures value { result.now ≡ self.now.found }
-        ensures found { self.now.found ≡ found_of M.rules Walk self.now.goal self.now.tasks }
+        ensures found { self.now.found ≡ found_of M.rules Walk self.now.aim self.now.tasks }
     {
         self.found.as_slice()
     }
@@ -148,7 +148,7 @@ impl<M: Consistency> Judged<M> {
 
     /// Whether the tasks of the batch were to go to the same level of the same patches.
     fn goes_to(&self, aim: &Aim<'_>) -> bool
-        ensures { IsTrue result ↔ (self.now.goal ≡ aimed aim.now) }
+        ensures { IsTrue result ↔ (self.now.aim ≡ aimed aim.now) }
     {
         self.batch.target == aim.target && self.batch.patches.same(aim.patches)
     }
@@ -160,7 +160,7 @@ impl<M: Consistency> Judged<M> {
         aim: &Aim<'_>,
         views: &[View<'_>],
     ) -> Result<Vec<Verdict>, AllocError>
-        requires { self.now.goal ≡ aimed aim.now }
+        requires { self.now.aim ≡ aimed aim.now }
         ensures { IfOk result (λ found. found.items ≡ found_of M.rules Walk (aimed aim.now) (map seen views.now)) }
     {
         let mut found = Vec::with_capacity(alloc, views.len())?;
@@ -174,7 +174,7 @@ impl<M: Consistency> Judged<M> {
 
     /// What a walk finds of a task, of which there may be a copy at this place.
     fn verdict_at(&self, place: usize, aim: &Aim<'_>, view: &View<'_>) -> Verdict
-        requires { self.now.goal ≡ aimed aim.now }
+        requires { self.now.aim ≡ aimed aim.now }
         ensures { result ≡ verdict_of M.rules Walk (aimed aim.now) (seen view.now) }
     {
         match self.batch.copies.get(place) {

@@ -1,4 +1,8 @@
 //! The functions that a task has called and that have not returned.
+//!
+//! Costs: no call allocates. A frame has 8 bytes, so a `TaskStack` and a `ViewCopy` have about 800, however few frames
+//! they have. `push`, `pop` and `view` are constant; `new` fills the places once; `ViewCopy::of` and `same_as` go over
+//! the frames.
 #![tactic(auto)]
 
 mod frame;

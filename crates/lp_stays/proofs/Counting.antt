@@ -11,10 +11,10 @@ use Rattle.lp_definitions.specs.Run.{Run, AreInRange, plus, first_leg, leg_of, l
 use Rattle.lp_definitions.specs.Sound.{IsSound}
 use Rattle.lp_machine.specs.Machine.{next, state_of}
 use Rattle.lp_definitions.specs.Stays.{sides, moments, stays, is_mixed, all_stays}
-use Rattle.lp_machine.proofs.Steps.{does}
-use Rattle.lp_machine.proofs.Runs.{leg_after-plus}
+use Rattle.lp_machine_laws.proofs.Steps.{does}
+use Rattle.lp_machine_laws.proofs.Runs.{leg_after-plus}
 use Rattle.lp_laws.proofs.WholeRun.{run_sound, start_sound}
-use Rattle.lp_stays.specs.Invariant.{Counted, kept}
+use Rattle.lp_stays.specs.Invariant.{Tally, kept}
 use Rattle.lp_stays.specs.inside.Calls.{called, returned, begins, mixes, calls, returns, one_more}
 use Rattle.lp_stays.specs.Counts.{last_of, Shows, Counts}
 use Rattle.lp_stays.proofs.Cells.{IsAfter, after_still, after_called, after_returned}
@@ -23,7 +23,7 @@ use Rattle.lp_stays.proofs.Keeping.{others, changed, call_run, call_change, call
 use Rattle.lp_stays.proofs.Stacks.{frames_at, IsStill, IsPush, IsPop}
 use Rattle.lp_stays.proofs.Moments.{run_patches, moments_more, moments_last, sides_more, sides_same, sides_few}
 
-module _ (model : Rules) (lawful : IsLawful model) (run : Run) (in_range : AreInRange run.bounds run.boots) (event : Event) (count : Counted) (counts : Counts model run count) where
+module _ (model : Rules) (lawful : IsLawful model) (run : Run) (in_range : AreInRange run.bounds run.boots) (event : Event) (count : Tally) (counts : Counts model run count) where
   abbrev first : Leg
   first = first_leg model run
 
@@ -59,7 +59,7 @@ module _ (model : Rules) (lawful : IsLawful model) (run : Run) (in_range : AreIn
   far_more below t =
       moments_more model (suc below) t first run.events event ∙ ap (λ m. far below t ++ m ∷ []) (ap₂ (λ patches s. sides patches (suc below) (frames_at s t)) (run_patches model lawful first (run.events ++ event ∷ []) ∙ sym counts.patches) state_later)
 
-  abbrev pub IsCell : Counted → ℕ → ℕ → ℕ → ℕ → Type 0
+  abbrev pub IsCell : Tally → ℕ → ℕ → ℕ → ℕ → Type 0
   IsCell now below t more mixed_more = IsAfter (far below t) (sides_at after below t) (kept now below t) more mixed_more
 
   shows : (below t : ℕ) → below < length count.patches → t < 65536 → Shows (kept count below t) (far below t)
@@ -73,7 +73,7 @@ module _ (model : Rules) (lawful : IsLawful model) (run : Run) (in_range : AreIn
   -- ---- The counts
 
   -- at most one task's stays change
-  pub record IsCounted (now : Counted) (at : ℕ) (more mixed_more : ℕ → ℕ) : Type 0 where
+  pub record IsTallied (now : Tally) (at : ℕ) (more mixed_more : ℕ → ℕ) : Type 0 where
     pub patches : now.patches ≡ count.patches
     pub events : now.events ≡ count.events + 1
     pub positive : 1 ≤ at
@@ -110,7 +110,7 @@ module _ (model : Rules) (lawful : IsLawful model) (run : Run) (in_range : AreIn
         let bound = counts.tasks in
         rows-one weight none both (length run.patches) run.bounds.tasks (stays_in run.events) (stays_in (run.events ++ event ∷ [])) more at positive (omega arith) one_elsewhere one_here ∙ ap (λ patches. weight (all_stays model first run.events) + sum_from more 1 (length patches)) (sym counts.patches)
 
-  pub counts_next : (now : Counted) (at : ℕ) (more mixed_more : ℕ → ℕ) → IsCounted now at more mixed_more → Counts model (plus run event) now
+  pub counts_next : (now : Tally) (at : ℕ) (more mixed_more : ℕ → ℕ) → IsTallied now at more mixed_more → Counts model (plus run event) now
   counts_next now at more mixed_more h =
       record {
         patches = h.patches ∙ counts.patches;
@@ -155,7 +155,7 @@ module _ (model : Rules) (lawful : IsLawful model) (run : Run) (in_range : AreIn
     -- ---- A call
 
     module _ (func : SymId) (level : ℕ) (push : IsPush before after at func level) where
-      abbrev called_count : Counted
+      abbrev called_count : Tally
       called_count = calls (length count.patches) at func.0 level (one_more count)
 
       has_is : (below : ℕ) → patch_has count.patches (suc below) push.frame.func.0 ≡ patch_has count.patches (suc below) func.0
@@ -218,7 +218,7 @@ module _ (model : Rules) (lawful : IsLawful model) (run : Run) (in_range : AreIn
       abbrev func_left : ℕ
       func_left = pop.frame.func.0
 
-      abbrev returned_count : Counted
+      abbrev returned_count : Tally
       returned_count = returns (length count.patches) at func_left (one_more count)
 
       kept_back : (below : ℕ) → below < length count.patches → kept returned_count below at ≡ return_change at func_left (one_more count) below (kept count below at)

@@ -6,7 +6,7 @@ use Rattle.std.proofs.lemmas.Nat.{shr-shr}
 use Rattle.std.proofs.lemmas.Nat.Bits.{bit_at-zero, bit_at_above, bit_at_set_same, bit_at_set_other, bit_at-trailing_zeros}
 use Rattle.lp_patch.specs.Patches.{Patches, patch_has}
 use Rattle.lp_numbers.specs.Numbers.{IsLeastFrom}
-use Rattle.lp_stays.specs.Invariant.{Counted}
+use Rattle.lp_stays.specs.Invariant.{Tally}
 use Rattle.lp_stays.specs.inside.Holders.{mask_has, HasFirst, IsHolders}
 use Rattle.lp_stays.proofs.Keeping.{call_run, call_skip, return_run, return_skip}
 
@@ -106,7 +106,7 @@ holder_has patches func mask below holders found =
     let next : below + 1 ≡ suc below = omega arith in
     ap (λ patch. patch_has patches patch func) next ∙ sym (holders.first below (holder_within patches func mask below holders found)) ∙ found
 
-module _ (t func mask : ℕ) (count : Counted) (holders : IsHolders count.patches func mask) where
+module _ (t func mask : ℕ) (count : Tally) (holders : IsHolders count.patches func mask) where
   none_between : (from below : ℕ) → IsLeastFrom (mask_has mask) from below → (k : ℕ) → from ≤ k → k < below → patch_has count.patches (suc k) func ≡ false
   none_between from below least k h l =
       let within = holder_within count.patches func mask below holders least.passes in
@@ -115,14 +115,14 @@ module _ (t func mask : ℕ) (count : Counted) (holders : IsHolders count.patche
   none_after : (from : ℕ) → ((k : ℕ) → from ≤ k → mask_has mask k ≡ false) → (k : ℕ) → from ≤ k → k < length count.patches → patch_has count.patches (suc k) func ≡ false
   none_after from none k h l = sym (holders.first k l) ∙ none k h
 
-  pub call_to : (level from below : ℕ) (self : Counted) → self ≡ call_run t func level count from → IsLeastFrom (mask_has mask) from below → self ≡ call_run t func level count below
+  pub call_to : (level from below : ℕ) (self : Tally) → self ≡ call_run t func level count from → IsLeastFrom (mask_has mask) from below → self ≡ call_run t func level count below
   call_to level from below self e least = e ∙ sym (call_skip t func level count from below least.within (none_between from below least))
 
-  pub call_end : (level from : ℕ) (self : Counted) → self ≡ call_run t func level count from → from ≤ length count.patches → ((k : ℕ) → from ≤ k → mask_has mask k ≡ false) → self ≡ call_run t func level count (length count.patches)
+  pub call_end : (level from : ℕ) (self : Tally) → self ≡ call_run t func level count from → from ≤ length count.patches → ((k : ℕ) → from ≤ k → mask_has mask k ≡ false) → self ≡ call_run t func level count (length count.patches)
   call_end level from self e within none = e ∙ sym (call_skip t func level count from (length count.patches) within (none_after from none))
 
-  pub return_to : (from below : ℕ) (self : Counted) → self ≡ return_run t func count from → IsLeastFrom (mask_has mask) from below → self ≡ return_run t func count below
+  pub return_to : (from below : ℕ) (self : Tally) → self ≡ return_run t func count from → IsLeastFrom (mask_has mask) from below → self ≡ return_run t func count below
   return_to from below self e least = e ∙ sym (return_skip t func count from below least.within (none_between from below least))
 
-  pub return_end : (from : ℕ) (self : Counted) → self ≡ return_run t func count from → from ≤ length count.patches → ((k : ℕ) → from ≤ k → mask_has mask k ≡ false) → self ≡ return_run t func count (length count.patches)
+  pub return_end : (from : ℕ) (self : Tally) → self ≡ return_run t func count from → from ≤ length count.patches → ((k : ℕ) → from ≤ k → mask_has mask k ≡ false) → self ≡ return_run t func count (length count.patches)
   return_end from self e within none = e ∙ sym (return_skip t func count from (length count.patches) within (none_after from none))

@@ -7,7 +7,7 @@ use Rattle.lp_definitions.specs.declared.event.Event.{Event}
 use Rattle.lp_definitions.specs.declared.event.Event.TheVariants.{Call, Ret}
 use Rattle.lp_definitions.specs.declared.reply.What.{What}
 use Rattle.lp_definitions.specs.declared.reply.What.TheVariants.{Ran, Refused}
-use Rattle.lp_stays.specs.Invariant.{Ongoing, Counted, outside, place, kept}
+use Rattle.lp_stays.specs.Invariant.{Ongoing, Tally, outside, place, kept}
 use Rattle.lp_stays.specs.inside.Calls.{is_outside, is_both, called, returned, one_if, begins, mixes, after_call, after_return, calls, returns, one_more, by_call, by_return, after_event}
 use Rattle.lp_stays.proofs.Sums.{sum_from, sum_last}
 
@@ -28,12 +28,12 @@ place_task i j t u lt lt' e = let same = place_same i j t u lt lt' e in omega ar
 -- ---- What a step from one patch to the next keeps
 
 -- a change of one place
-pub record IsChange (now before : Counted) (below t : ℕ) (x : Ongoing) : Type 0 where
+pub record IsChange (now before : Tally) (below t : ℕ) (x : Ongoing) : Type 0 where
   pub here : place below t < length before.present → kept now below t ≡ x
   pub others : (i u : ℕ) → place i u ≢ place below t → kept now i u ≡ kept before i u
   pub wide : length now.present ≡ length before.present
 
-set_change : (now before : Counted) (below t : ℕ) (x : Ongoing) → now.present ≡ set before.present (place below t) x → IsChange now before below t x
+set_change : (now before : Tally) (below t : ℕ) (x : Ongoing) → now.present ≡ set before.present (place below t) x → IsChange now before below t x
 set_change now before below t x e =
     record {
       here = λ lt. ap (λ xs. get_or xs (place below t) outside) e ∙ get_or-set_same before.present (place below t) x outside lt;
@@ -41,7 +41,7 @@ set_change now before below t x e =
       wide = ap length e ∙ length-set before.present (place below t) x;
     }
 
-no_change : (now before : Counted) (below t : ℕ) → now ≡ before → IsChange now before below t (kept before below t)
+no_change : (now before : Tally) (below t : ℕ) → now ≡ before → IsChange now before below t (kept before below t)
 no_change now before below t e =
     record {
       here = λ lt. ap (λ c. kept c below t) e;
@@ -50,10 +50,10 @@ no_change now before below t e =
     }
 
 -- a count that is taken from patch to patch, by a change of each present stay
-pub record Goes (run : ℕ → Counted) (t : ℕ) (change : ℕ → Ongoing → Ongoing) : Type 0 where
+pub record Goes (run : ℕ → Tally) (t : ℕ) (change : ℕ → Ongoing → Ongoing) : Type 0 where
   pub step : (below : ℕ) → IsChange (run (suc below)) (run below) below t (change below (kept (run below) below t))
 
-module _ (run : ℕ → Counted) (t : ℕ) (small : t < 65536) (change : ℕ → Ongoing → Ongoing) (goes : Goes run t change) where
+module _ (run : ℕ → Tally) (t : ℕ) (small : t < 65536) (change : ℕ → Ongoing → Ongoing) (goes : Goes run t change) where
   pub wide : (k : ℕ) → length (run k).present ≡ length (run 0).present
   wide zero = refl
   wide (suc k) = (goes.step k).wide ∙ wide k
@@ -83,11 +83,11 @@ module _ (run : ℕ → Counted) (t : ℕ) (small : t < 65536) (change : ℕ →
 
 -- ---- A call
 
-module _ (t func level : ℕ) (count : Counted) where
+module _ (t func level : ℕ) (count : Tally) where
   abbrev pub has : ℕ → Bool
   has below = patch_has count.patches (suc below) func
 
-  abbrev pub call_run : ℕ → Counted
+  abbrev pub call_run : ℕ → Tally
   call_run k = calls k t func level count
 
   abbrev pub call_change : ℕ → Ongoing → Ongoing
@@ -119,7 +119,7 @@ module _ (t func level : ℕ) (count : Counted) where
       }
 
   -- what else is kept stays
-  pub record IsSame (now : Counted) : Type 0 where
+  pub record IsSame (now : Tally) : Type 0 where
     pub patches : now.patches ≡ count.patches
     pub events : now.events ≡ count.events
 
@@ -179,13 +179,13 @@ module _ (t func level : ℕ) (count : Counted) where
 
   -- ---- As code goes from patch to patch
 
-  pub call_then : (below : ℕ) (self after : Counted) (side : Bool) → self ≡ call_run below → patch_has self.patches (below + 1) func ≡ true → side ≡ nat_le (below + 1) level → after ≡ after_call below t side self → after ≡ call_run (below + 1)
+  pub call_then : (below : ℕ) (self after : Tally) (side : Bool) → self ≡ call_run below → patch_has self.patches (below + 1) func ≡ true → side ≡ nat_le (below + 1) level → after ≡ after_call below t side self → after ≡ call_run (below + 1)
   call_then below self after side e found is made =
       let next : below + 1 ≡ suc below = omega arith in
       let yes_here : has below ≡ true = ap₂ (λ patches patch. patch_has patches patch func) (sym (ap (λ c. c.patches) e ∙ (call_same below).patches)) (sym next) ∙ found in
       made ∙ ap₂ (λ b c. after_call below t b c) (is ∙ ap (λ patch. nat_le patch level) next) e ∙ sym (call_yes below yes_here) ∙ ap call_run (sym next)
 
-  pub call_else : (below : ℕ) (self after : Counted) → self ≡ call_run below → patch_has self.patches (below + 1) func ≡ false → after ≡ self → after ≡ call_run (below + 1)
+  pub call_else : (below : ℕ) (self after : Tally) → self ≡ call_run below → patch_has self.patches (below + 1) func ≡ false → after ≡ self → after ≡ call_run (below + 1)
   call_else below self after e found made =
       let next : below + 1 ≡ suc below = omega arith in
       let no_here : has below ≡ false = ap₂ (λ patches patch. patch_has patches patch func) (sym (ap (λ c. c.patches) e ∙ (call_same below).patches)) (sym next) ∙ found in
@@ -203,7 +203,7 @@ module _ (t func level : ℕ) (count : Counted) where
       (cases_eq n (suc m))
 
   -- a call counts at most one stay a patch
-  pub record HasFew (k : ℕ) (now : Counted) : Type 0 where
+  pub record HasFew (k : ℕ) (now : Tally) : Type 0 where
     pub stays : now.stays ≤ count.stays + k
     pub mixed : now.mixed ≤ count.mixed + k
 
@@ -224,11 +224,11 @@ module _ (t func level : ℕ) (count : Counted) where
 
 -- ---- A return
 
-module _ (t func : ℕ) (count : Counted) where
+module _ (t func : ℕ) (count : Tally) where
   abbrev pub had : ℕ → Bool
   had below = patch_has count.patches (suc below) func
 
-  abbrev pub return_run : ℕ → Counted
+  abbrev pub return_run : ℕ → Tally
   return_run k = returns k t func count
 
   abbrev pub return_change : ℕ → Ongoing → Ongoing
@@ -260,7 +260,7 @@ module _ (t func : ℕ) (count : Counted) where
       }
 
   -- what else is kept stays
-  pub record IsKeptElse (now : Counted) : Type 0 where
+  pub record IsKeptElse (now : Tally) : Type 0 where
     pub patches : now.patches ≡ count.patches
     pub events : now.events ≡ count.events
     pub stays : now.stays ≡ count.stays
@@ -283,13 +283,13 @@ module _ (t func : ℕ) (count : Counted) where
 
   -- ---- As code goes from patch to patch
 
-  pub return_then : (below : ℕ) (self after : Counted) → self ≡ return_run below → patch_has self.patches (below + 1) func ≡ true → after ≡ after_return below t self → after ≡ return_run (below + 1)
+  pub return_then : (below : ℕ) (self after : Tally) → self ≡ return_run below → patch_has self.patches (below + 1) func ≡ true → after ≡ after_return below t self → after ≡ return_run (below + 1)
   return_then below self after e found made =
       let next : below + 1 ≡ suc below = omega arith in
       let yes_here : had below ≡ true = ap₂ (λ patches patch. patch_has patches patch func) (sym (ap (λ c. c.patches) e ∙ (return_same below).patches)) (sym next) ∙ found in
       made ∙ ap (after_return below t) e ∙ sym (return_yes below yes_here) ∙ ap return_run (sym next)
 
-  pub return_else : (below : ℕ) (self after : Counted) → self ≡ return_run below → patch_has self.patches (below + 1) func ≡ false → after ≡ self → after ≡ return_run (below + 1)
+  pub return_else : (below : ℕ) (self after : Tally) → self ≡ return_run below → patch_has self.patches (below + 1) func ≡ false → after ≡ self → after ≡ return_run (below + 1)
   return_else below self after e found made =
       let next : below + 1 ≡ suc below = omega arith in
       let no_here : had below ≡ false = ap₂ (λ patches patch. patch_has patches patch func) (sym (ap (λ c. c.patches) e ∙ (return_same below).patches)) (sym next) ∙ found in
@@ -308,7 +308,7 @@ module _ (t func : ℕ) (count : Counted) where
 
 -- ---- An event
 
-module _ (count : Counted) (top : Option SymId) where
+module _ (count : Tally) (top : Option SymId) where
   called_once : (t : ℕ) (func : SymId) (what : What) → (by_call t func what (one_more count)).events ≡ count.events + 1
   called_once t func (Ran level) = (call_same t func.0 level.0 (one_more count) (length count.patches)).events
   called_once t func _ = refl

@@ -8,19 +8,19 @@ use Rattle.lp_stack.specs.declared.number.TaskId.{TaskId}
 use Rattle.lp_stack.specs.declared.frame.Frame.{Frame}
 use Rattle.lp_model.specs.Rules.{Rules}
 use Rattle.lp_definitions.specs.declared.event.Event.{Event}
-use Rattle.lp_definitions.specs.declared.event.Event.TheVariants.{Call, Ret, Sleep, Wake, Enter, Exit, Idle, Fork, Die, Walk, Stop, Enable, Disable, Reverse}
+use Rattle.lp_definitions.specs.declared.event.Event.TheVariants.{Call, Ret, Sleep, Wake, Enter, Exit, Idle, Resched, Fork, Die, Walk, Stop, Enable, Disable, Reverse}
 use Rattle.lp_definitions.specs.declared.refusal.Refusal.{Refusal}
 use Rattle.lp_definitions.specs.declared.refusal.Refusal.TheVariants.{UnknownTask, TaskUsed, StackFull, StackEmpty, StackNotEmpty}
 use Rattle.lp_definitions.specs.Run.{control_tests}
 use Rattle.lp_definitions.specs.Events.{is_control}
 use Rattle.lp_definitions.specs.Tasks.{Fate, Unused, Live, Dead, on_live, map_live, is_unused, fits, first_of, depth, tests, change}
-use Rattle.lp_definitions.specs.Leg.{Standing, State}
-use Rattle.lp_machine.specs.Machine.{Standings, outline_of, outlines_of, complete_in, own_effect, switched_task, refusal_of, affected, next, level_of}
+use Rattle.lp_definitions.specs.Leg.{LegTask, State}
+use Rattle.lp_machine.specs.Machine.{LegTasks, outline_of, outlines_of, complete_in, own_effect, switched_task, refusal_of, affected, next, level_of}
 use Rattle.lp_machine.proofs.EngineLemmas.{next-refused, next-accepted, next-turned}
 use Rattle.lp_stays.specs.Counts.{top_of}
 
 -- the frames of a task
-abbrev pub frames_in : Fate Standing → List Frame
+abbrev pub frames_in : Fate LegTask → List Frame
 frames_in fate = on_live [] (λ x. x.frames) fate
 
 abbrev pub frames_at : State → ℕ → List Frame
@@ -59,12 +59,12 @@ unfit : {A : Type 0} (b : Bool) (x : A) → fits b x ≡ None → b ≡ false
 unfit true x h = absurd (cc)
 unfit false x h = refl
 
-live_at : (fate : Fate Standing) → not (on_live false (λ x. true) (map_live outline_of fate)) ≡ false → (x : Standing) × (fate ≡ Live x)
+live_at : (fate : Fate LegTask) → not (on_live false (λ x. true) (map_live outline_of fate)) ≡ false → (x : LegTask) × (fate ≡ Live x)
 live_at Unused h = absurd (cc)
 live_at (Live x) h = (x, refl)
 live_at Dead h = absurd (cc)
 
-empty_at : (fate : Fate Standing) → not (nat_eq (on_live 0 (λ x. x.depth) (map_live outline_of fate)) 0) ≡ false → frames_in fate ≡ []
+empty_at : (fate : Fate LegTask) → not (nat_eq (on_live 0 (λ x. x.depth) (map_live outline_of fate)) 0) ≡ false → frames_in fate ≡ []
 empty_at Unused h = refl
 empty_at (Live x) h = nil_from_length x.frames (eqb-true (length x.frames) 0 (flip (nat_eq (length x.frames) 0) h))
   where
@@ -73,32 +73,32 @@ empty_at (Live x) h = nil_from_length x.frames (eqb-true (length x.frames) 0 (fl
     flip false e = absurd (cc)
 empty_at Dead h = refl
 
-unused_at : (fate : Fate Standing) → not (is_unused (map_live outline_of fate)) ≡ false → frames_in fate ≡ []
+unused_at : (fate : Fate LegTask) → not (is_unused (map_live outline_of fate)) ≡ false → frames_in fate ≡ []
 unused_at Unused h = refl
 unused_at (Live x) h = absurd (cc)
 unused_at Dead h = absurd (cc)
 
 -- ---- Changes of one task
 
-change_here : (t : ℕ) (f : Standing → Standing) (now : Standings) → change t f now t ≡ map_live f (now t)
+change_here : (t : ℕ) (f : LegTask → LegTask) (now : LegTasks) → change t f now t ≡ map_live f (now t)
 change_here t f now = cond-true _ _ _ (eq-eqb t t refl)
 
-change_other : (t u : ℕ) (f : Standing → Standing) (now : Standings) → u ≢ t → change t f now u ≡ now u
+change_other : (t u : ℕ) (f : LegTask → LegTask) (now : LegTasks) → u ≢ t → change t f now u ≡ now u
 change_other t u f now other = cond-false _ _ _ (ne_eqb u t other)
 
 -- a change that keeps the frames
-same_frames : (f : Standing → Standing) → ((x : Standing) → (f x).frames ≡ x.frames) → (fate : Fate Standing) → frames_in (map_live f fate) ≡ frames_in fate
+same_frames : (f : LegTask → LegTask) → ((x : LegTask) → (f x).frames ≡ x.frames) → (fate : Fate LegTask) → frames_in (map_live f fate) ≡ frames_in fate
 same_frames f same Unused = refl
 same_frames f same (Live x) = same x
 same_frames f same Dead = refl
 
-change_still : (t : ℕ) (f : Standing → Standing) → ((x : Standing) → (f x).frames ≡ x.frames) → (now : Standings) (u : ℕ) → frames_in (change t f now u) ≡ frames_in (now u)
+change_still : (t : ℕ) (f : LegTask → LegTask) → ((x : LegTask) → (f x).frames ≡ x.frames) → (now : LegTasks) (u : ℕ) → frames_in (change t f now u) ≡ frames_in (now u)
 change_still t f same now u =
     cond_both (nat_eq u t) (map_live f (now u)) (now u) (λ fate. frames_in fate ≡ frames_in (now u)) (λ e. same_frames f same (now u)) (λ e. refl)
 
 -- who switches keeps the frames
-switched_frames : (model : Rules) (s : State) (event : Event) (x : Standing) → (switched_task model s event x).frames ≡ x.frames
-switched_frames model s event x = cond_both {A = Standing} _ _ _ (λ y. y.frames ≡ x.frames) (λ e. refl) (λ e. refl)
+switched_frames : (model : Rules) (s : State) (event : Event) (x : LegTask) → (switched_task model s event x).frames ≡ x.frames
+switched_frames model s event x = cond_both {A = LegTask} _ _ _ (λ y. y.frames ≡ x.frames) (λ e. refl) (λ e. refl)
 
 -- ---- One event
 
@@ -109,7 +109,7 @@ is_other (Ret t) = false
 is_other _ = true
 
 module _ (model : Rules) (s : State) where
-  abbrev own : Event → Standings
+  abbrev own : Event → LegTasks
   own event = own_effect model.child_group (suc s.number) event s.tasks
 
   -- no test of an accepted event fits
@@ -130,11 +130,11 @@ module _ (model : Rules) (s : State) where
 
   -- ---- What no call and no return does
 
-  fork_own : (p c t : ℕ) (f : Standing → Standing) → ((x : Standing) → (f x).frames ≡ []) → frames_in (s.tasks c) ≡ [] → frames_in (if nat_eq t c then map_live f (s.tasks p) else s.tasks t) ≡ frames_in (s.tasks t)
+  fork_own : (p c t : ℕ) (f : LegTask → LegTask) → ((x : LegTask) → (f x).frames ≡ []) → frames_in (s.tasks c) ≡ [] → frames_in (if nat_eq t c then map_live f (s.tasks p) else s.tasks t) ≡ frames_in (s.tasks t)
   fork_own p c t f empty unused =
       cond_both (nat_eq t c) (map_live f (s.tasks p)) (s.tasks t) (λ fate. frames_in fate ≡ frames_in (s.tasks t)) (λ e. born (s.tasks p) ∙ sym (ap (λ u. frames_in (s.tasks u)) (eqb-true t c e) ∙ unused)) (λ e. refl)
     where
-      born : (fate : Fate Standing) → frames_in (map_live f fate) ≡ []
+      born : (fate : Fate LegTask) → frames_in (map_live f fate) ≡ []
       born Unused = refl
       born (Live x) = empty x
       born Dead = refl
@@ -151,6 +151,7 @@ module _ (model : Rules) (s : State) where
   own_still (Enter t) other ok u = change_still t.0 _ (λ x. refl) s.tasks u
   own_still (Exit t) other ok u = change_still t.0 _ (λ x. refl) s.tasks u
   own_still (Idle t) other ok u = refl
+  own_still (Resched t) other ok u = refl
   own_still (Fork p c how) other ok u =
       fork_own p.0 c.0 u _ (λ x. refl) (unused_at (s.tasks c.0) (unfit (not (is_unused (outlines_of s.tasks c.0))) TaskUsed (free (Fork p c how) 2 ok)))
   own_still (Die t) other ok u =
@@ -174,7 +175,7 @@ module _ (model : Rules) (s : State) where
 
   -- ---- A call
 
-  pub call_live : (t : TaskId) (func : SymId) → refusal_of model s (Call t func) ≡ None → (x : Standing) × (s.tasks t.0 ≡ Live x)
+  pub call_live : (t : TaskId) (func : SymId) → refusal_of model s (Call t func) ≡ None → (x : LegTask) × (s.tasks t.0 ≡ Live x)
   call_live t func ok = live_at (s.tasks t.0) (unfit (not (on_live false (λ x. true) (outlines_of s.tasks t.0))) UnknownTask (free (Call t func) 0 ok))
 
   call_room : (t : TaskId) (func : SymId) → refusal_of model s (Call t func) ≡ None → nat_le 100 (on_live 0 (λ x. x.depth) (map_live outline_of (s.tasks t.0))) ≡ false
@@ -197,7 +198,7 @@ module _ (model : Rules) (s : State) where
 
   -- ---- A return
 
-  pub ret_live : (t : TaskId) → refusal_of model s (Ret t) ≡ None → (x : Standing) × (s.tasks t.0 ≡ Live x)
+  pub ret_live : (t : TaskId) → refusal_of model s (Ret t) ≡ None → (x : LegTask) × (s.tasks t.0 ≡ Live x)
   ret_live t ok = live_at (s.tasks t.0) (unfit (not (on_live false (λ x. true) (outlines_of s.tasks t.0))) UnknownTask (free (Ret t) 0 ok))
 
   ret_some : (t : TaskId) → refusal_of model s (Ret t) ≡ None → nat_eq (on_live 0 (λ x. x.depth) (map_live outline_of (s.tasks t.0))) 0 ≡ false

@@ -14,16 +14,16 @@ use Rattle.lp_definitions.specs.declared.reply.Reply.{Reply}
 use Rattle.lp_definitions.specs.declared.reply.What.{What}
 use Rattle.lp_definitions.specs.declared.reply.What.TheVariants.{Ran, Refused}
 use Rattle.lp_definitions.specs.Tasks.{Fate, Live}
-use Rattle.lp_definitions.specs.Leg.{Standing, State}
+use Rattle.lp_definitions.specs.Leg.{LegTask, State}
 use Rattle.lp_definitions.specs.Sound.{IsSound}
 use Rattle.lp_definitions.specs.Run.{Run, AreInRange, plus, first_leg, leg_of, switched, at_boot, booted}
 use Rattle.lp_machine.specs.Machine.{affected, switched_groups, refusal_of, level_of, answer, state_of}
 use Rattle.lp_definitions.specs.Stays.{sides, stack, moments, stays, is_mixed, all_stays, stay_count, mixed_count}
 use Rattle.lp_machine.proofs.EngineLemmas.{answer-refused, answer-accepted}
-use Rattle.lp_machine.proofs.States.{state_sound}
-use Rattle.lp_machine.proofs.Steps.{open_shown, does}
+use Rattle.lp_machine_laws.proofs.States.{state_sound}
+use Rattle.lp_machine_laws.proofs.Steps.{open_shown, does}
 use Rattle.lp_laws.proofs.WholeRun.{run_sound, start_sound}
-use Rattle.lp_stays.specs.Invariant.{Counted, outside, kept}
+use Rattle.lp_stays.specs.Invariant.{Tally, outside, kept}
 use Rattle.lp_stays.specs.inside.Calls.{returns, one_more, by_return, after_event}
 use Rattle.lp_stays.specs.Counts.{Shows, Counts, IsNext}
 use Rattle.lp_stays.proofs.Stacks.{frames_in, refused_still, other_still, call_live, call_pushes, ret_live, ret_pops}
@@ -32,16 +32,16 @@ use Rattle.lp_stays.proofs.Counting.{still_counts, call_counts, return_counts}
 
 -- ---- One event
 
-refused_same : (event : Event) (why : Refusal) (top : Option SymId) (count : Counted) → after_event event (Refused why) top count ≡ one_more count
+refused_same : (event : Event) (why : Refusal) (top : Option SymId) (count : Tally) → after_event event (Refused why) top count ≡ one_more count
 refused_same (Call t func) why top count = refl
 refused_same (Ret t) why top count = refl
 refused_same _ why top count = refl
 
-returned_same : (t : ℕ) (groups : List ℕ) (func : SymId) (count : Counted) → by_return t (switched groups) (Some func) count ≡ returns (length count.patches) t func.0 count
+returned_same : (t : ℕ) (groups : List ℕ) (func : SymId) (count : Tally) → by_return t (switched groups) (Some func) count ≡ returns (length count.patches) t func.0 count
 returned_same t [] func count = refl
 returned_same t (group ∷ groups) func count = refl
 
-module _ (model : Rules) (lawful : IsLawful model) (run : Run) (count : Counted) (counts : Counts model run count) (wide : length count.present ≡ length count.patches * 65536) (given : Reply) (top : Option SymId) where
+module _ (model : Rules) (lawful : IsLawful model) (run : Run) (count : Tally) (counts : Counts model run count) (wide : length count.present ≡ length count.patches * 65536) (given : Reply) (top : Option SymId) where
   abbrev now : State
   now = state_of model (leg_of model run)
 
@@ -49,7 +49,7 @@ module _ (model : Rules) (lawful : IsLawful model) (run : Run) (count : Counted)
     sound : IsSound (leg_of model run).opening
     sound = run_sound model lawful (first_leg model run) run.events (start_sound model lawful run.bounds run.patches run.boots in_range)
 
-    numbered : (t : ℕ) (x : Standing) → now.tasks t ≡ Live x → (1 ≤ t) × (t < 65536)
+    numbered : (t : ℕ) (x : LegTask) → now.tasks t ≡ Live x → (1 ≤ t) × (t < 65536)
     numbered t x live =
         let n = (state_sound model lawful (leg_of model run) sound).numbered t x live in
         let positive : 0 < t = n.0 in
@@ -118,7 +118,7 @@ module _ (model : Rules) (run : Run) where
       cond_both (nat_eq t boot.0.0) (Live (at_boot model t boot.1)) (booted model boots t) (λ fate. frames_in fate ≡ []) (λ e. refl) (λ e. boot_frames boots t)
 
   no_stack : (t : ℕ) → stack model (first_leg model run) t ≡ []
-  no_stack t = ap (λ (tasks : ℕ → Fate Standing). frames_in (tasks t)) (open_shown model (first_leg model run).opening) ∙ boot_frames run.boots t
+  no_stack t = ap (λ (tasks : ℕ → Fate LegTask). frames_in (tasks t)) (open_shown model (first_leg model run).opening) ∙ boot_frames run.boots t
 
   no_moment : (patch t : ℕ) → moments model patch t (first_leg model run) [] ≡ [] ∷ []
   unfolding moments
@@ -129,7 +129,7 @@ module _ (model : Rules) (run : Run) where
   no_stay =
       flat_map_none _ (range_with_len 1 run.bounds.tasks) (λ t. flat_map_none _ (range_with_len 1 (length run.patches)) (λ patch. ap stays (no_moment patch t)))
 
-  pub started : (count : Counted) → count.patches ≡ run.patches → run.bounds.tasks ≡ 65535 → run.events ≡ [] → count.events ≡ 0 → count.stays ≡ 0 → count.mixed ≡ 0 → ((below t : ℕ) → kept count below t ≡ outside) → Counts model run count
+  pub started : (count : Tally) → count.patches ≡ run.patches → run.bounds.tasks ≡ 65535 → run.events ≡ [] → count.events ≡ 0 → count.stays ≡ 0 → count.mixed ≡ 0 → ((below t : ℕ) → kept count below t ≡ outside) → Counts model run count
   started count patches tasks events none no_stays no_mixed empty =
       record {
         patches = patches;

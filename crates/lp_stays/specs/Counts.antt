@@ -12,7 +12,7 @@ use Rattle.lp_definitions.specs.declared.event.Event.TheVariants.{Ret}
 use Rattle.lp_definitions.specs.declared.reply.Reply.{Reply}
 use Rattle.lp_definitions.specs.Run.{Run, AreInRange, plus, first_leg, leg_of, reply}
 use Rattle.lp_definitions.specs.Stays.{stack, moments, stays, stay_count, mixed_count}
-use Rattle.lp_stays.specs.Invariant.{Ongoing, Counted, kept}
+use Rattle.lp_stays.specs.Invariant.{Ongoing, Tally, kept}
 
 -- ---- The stay under way
 
@@ -39,7 +39,7 @@ pub record Shows (x : Ongoing) (moments : List (List Bool)) : Type 0 where
 -- ---- The count
 
 -- the count is that of the run, which is one over all task numbers
-pub record Counts (model : Rules) (run : Run) (count : Counted) : Type 0 where
+pub record Counts (model : Rules) (run : Run) (count : Tally) : Type 0 where
   pub patches : count.patches ≡ run.patches
   pub tasks : run.bounds.tasks ≡ 65535
   pub events : count.events ≡ length run.events
@@ -50,7 +50,7 @@ pub record Counts (model : Rules) (run : Run) (count : Counted) : Type 0 where
       Shows (kept count below t) (moments model (suc below) t (first_leg model run) run.events)
 
 -- the count is that of every run of these patches over all task numbers that has no event yet
-abbrev pub IsFirst : Patches → Counted → Type 0
+abbrev pub IsFirst : Patches → Tally → Type 0
 IsFirst patches count =
     (model : Rules) (run : Run) → run.patches ≡ patches → run.bounds.tasks ≡ 65535 → run.events ≡ [] → Counts model run count
 
@@ -67,7 +67,7 @@ pub record IsNext (model : Rules) (run : Run) (event : Event) (given : Reply) (t
   pub leaves : (t : TaskId) → event ≡ Ret t → top ≡ top_of (stack model (leg_of model run) t.0)
 
 -- of whichever run the one was the count, the other is that of the run with the event
-abbrev pub CountsOne : Event → Reply → Option SymId → Counted → Counted → Type 0
+abbrev pub CountsOne : Event → Reply → Option SymId → Tally → Tally → Type 0
 CountsOne event given top before after =
     (model : Rules) → IsLawful model → (run : Run) →
     Counts model run before → IsNext model run event given top → Counts model (plus run event) after

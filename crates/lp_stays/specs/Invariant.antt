@@ -15,7 +15,7 @@ outside = record { frames = 0; old = false; new = false }
 
 -- how many events there were, how many stays and mixed stays there were, and for each patch, one after the other,
 -- the stay that each task is in
-pub record Counted : Type 0 where
+pub record Tally : Type 0 where
   pub patches : Patches
   pub events : ℕ
   pub stays : ℕ
@@ -26,11 +26,11 @@ pub record Counted : Type 0 where
 abbrev pub place : ℕ → ℕ → ℕ
 place below t = below * 65536 + t
 
-abbrev pub kept : Counted → ℕ → ℕ → Ongoing
+abbrev pub kept : Tally → ℕ → ℕ → Ongoing
 kept count below t = slice_index_or count.present (place below t) outside
 
 -- what every count keeps: a place for each patch and task number, and counts that fit
-pub record IsKept (count : Counted) : Type 0 where
+pub record IsKept (count : Tally) : Type 0 where
   pub wide : length count.present ≡ length count.patches * 65536
   pub few : count.events ≤ 1000000
   pub stays : count.stays ≤ 16 * count.events

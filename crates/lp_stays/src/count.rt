@@ -52,10 +52,10 @@ impl Drop for StayCount {
 }
 
 impl Model for StayCount {
-    ghost use Rattle.lp_stays.specs.Invariant.{Counted};
+    ghost use Rattle.lp_stays.specs.Invariant.{Tally};
     ghost use Rattle.lp_stays.specs.inside.Holders.{IsCount};
 
-    ghost Value = { Counted };
+    ghost Value = { Tally };
 
     ghost view = { λ c. record { patches = c.patches; events = c.events; stays = c.stays; mixed = c.mixed; present = c.present.items } };
 

@@ -1,4 +1,7 @@
 //! Stays of tasks in a patch's functions, counted event by event.
+//!
+//! Costs: `step` looks at the patches that have the function, 16 at most, and never allocates. `new` takes 3 bytes for
+//! each patch and task number, 192 KB a patch, and 2 bytes for each symbol.
 #![tactic(auto)]
 
 mod count;

@@ -35,9 +35,9 @@ module _ (test : ℕ → Bool) where
       l)
       (λ (out : test first ≡ false).
       let later = least_in k (first + 1) n left (omega arith) (is ∙ skip_one test first k out) in
-      let behind = later.within in
+      let below_later = later.within in
       let l : IsLeastFrom test first n = record {
-        within = omega (arith, behind);
+        within = omega (arith, below_later);
         passes = later.passes;
         least = λ t low high. ⊎_elim (λ (same : t ≡ first). ap test same ∙ out) (λ (ne : t ≡ first → ⊥). later.least t (omega (arith, ne, low)) high) (cases_eq t first);
       } in
@@ -109,7 +109,7 @@ rest_in test (suc k) first n left whole is =
     (λ (out : test first ≡ false). rest_in test k (first + 1) n left (omega arith) (is ∙ skip_one test first k out))
     (cases_Bool (test first))
 
--- behind the first of them are those above it
+-- after the first of them are those above it
 pub passing-rest : (test : ℕ → Bool) (first n : ℕ) (left : List ℕ) → n ∷ left ≡ passing first 65536 test → left ≡ passing (n + 1) 65536 test
 unfolding passing
 passing-rest test first n left is =

@@ -7,7 +7,7 @@ use Rattle.std.specs.Option.{ForSome, option_map}
 use Rattle.lp_stack.specs.declared.frame.Frame.{Frame}
 use Rattle.lp_numbers.specs.Numbers.{Numbers, has}
 use Rattle.lp_numbers.specs.Groups.{Groups, is_member}
-use Rattle.lp_definitions.specs.Leg.{Standing}
+use Rattle.lp_definitions.specs.Leg.{LegTask}
 use Rattle.lp_tasks.specs.inside.Slots.{slots_of, padded, IsTable}
 use Rattle.lp_tasks.specs.inside.Deep.{deep_or, with_deep, with_stacks, own_frames, IsRecorded, IsLowest, IsKept, IsStored}
 use Rattle.lp_tasks.proofs.SlotLemmas.{boxed, slot-boxed, slots_of-set, padded-made, padded-set, padded-past, IsTable-empty, IsTable-change, IsTable-put, IsTable-remove}
@@ -15,12 +15,12 @@ use Rattle.lp_tasks.proofs.SlotLemmas.{boxed, slot-boxed, slots_of-set, padded-m
 -- ---- A frame more on a deep stack
 
 -- there is room for it
-pub pushed-room : (x : Standing) (deep : Option (List Frame)) → ForSome (with_deep (Some x) deep) (λ y. length y.frames < 100) → length (deep_or x.frames deep) < 100
+pub pushed-room : (x : LegTask) (deep : Option (List Frame)) → ForSome (with_deep (Some x) deep) (λ y. length y.frames < 100) → length (deep_or x.frames deep) < 100
 pushed-room x None room = room x refl
 pushed-room x (Some frames) room = room (record x { frames = frames }) refl
 
 -- the record keeps the lowest frames still
-pub pushed-recorded : (x : Standing) (deep new : Option (List Frame)) (frame : Frame) → length x.frames ≡ 6 → IsRecorded (Some x) deep → new ≡ Some (deep_or x.frames deep ++ frame ∷ []) → IsRecorded (Some x) new
+pub pushed-recorded : (x : LegTask) (deep new : Option (List Frame)) (frame : Frame) → length x.frames ≡ 6 → IsRecorded (Some x) deep → new ≡ Some (deep_or x.frames deep ++ frame ∷ []) → IsRecorded (Some x) new
 pushed-recorded x deep new frame full recorded is = subst (IsRecorded (Some x)) (sym is) (at deep recorded)
   where
     at : (d : Option (List Frame)) → IsRecorded (Some x) d → IsLowest x.frames (deep_or x.frames d ++ frame ∷ [])
@@ -35,18 +35,18 @@ pushed-recorded x deep new frame full recorded is = subst (IsRecorded (Some x)) 
 
 -- ---- The tasks by their records and the deep stacks
 
-pub length-with_stacks : (records : List (Option Standing)) (deep : ℕ → Option (List Frame)) → length (with_stacks records deep) ≡ length records
+pub length-with_stacks : (records : List (Option LegTask)) (deep : ℕ → Option (List Frame)) → length (with_stacks records deep) ≡ length records
 length-with_stacks [] deep = refl
 length-with_stacks (o ∷ records) deep = ap suc (length-with_stacks records (λ t. deep (suc t)))
 
 -- the task of a number
-pub task-with_stacks : (records : List (Option Standing)) (deep : ℕ → Option (List Frame)) (t : ℕ) → get_or (with_stacks records deep) t None ≡ with_deep (get_or records t None) (deep t)
+pub task-with_stacks : (records : List (Option LegTask)) (deep : ℕ → Option (List Frame)) (t : ℕ) → get_or (with_stacks records deep) t None ≡ with_deep (get_or records t None) (deep t)
 task-with_stacks [] deep t = refl
 task-with_stacks (o ∷ records) deep zero = refl
 task-with_stacks (o ∷ records) deep (suc t) = task-with_stacks records (λ u. deep (suc u)) t
 
 -- one task's record and deep stack are changed
-pub with_stacks-set : (records : List (Option Standing)) (deep new : ℕ → Option (List Frame)) (t : ℕ) (o : Option Standing) → t < length records → ((u : ℕ) → u ≢ t → new u ≡ deep u) → with_stacks (set records t o) new ≡ set (with_stacks records deep) t (with_deep o (new t))
+pub with_stacks-set : (records : List (Option LegTask)) (deep new : ℕ → Option (List Frame)) (t : ℕ) (o : Option LegTask) → t < length records → ((u : ℕ) → u ≢ t → new u ≡ deep u) → with_stacks (set records t o) new ≡ set (with_stacks records deep) t (with_deep o (new t))
 with_stacks-set records deep new t o within others =
     ext_get_or None (with_stacks (set records t o) new) (set (with_stacks records deep) t (with_deep o (new t))) (length-with_stacks (set records t o) new ∙ length-set records t o ∙ sym (length-set (with_stacks records deep) t (with_deep o (new t)) ∙ length-with_stacks records deep)) (λ u small. at u)
   where
@@ -61,7 +61,7 @@ with_stacks-set records deep new t o within others =
         (cases_eq u t)
 
 -- what each record keeps once one is changed
-recorded-set : (records : List (Option Standing)) (deep new : ℕ → Option (List Frame)) (t : ℕ) (o : Option Standing) → t < length records → ((u : ℕ) → u ≢ t → new u ≡ deep u) → IsRecorded o (new t) → ((u : ℕ) → IsRecorded (get_or records u None) (deep u)) → (u : ℕ) → IsRecorded (get_or (set records t o) u None) (new u)
+recorded-set : (records : List (Option LegTask)) (deep new : ℕ → Option (List Frame)) (t : ℕ) (o : Option LegTask) → t < length records → ((u : ℕ) → u ≢ t → new u ≡ deep u) → IsRecorded o (new t) → ((u : ℕ) → IsRecorded (get_or records u None) (deep u)) → (u : ℕ) → IsRecorded (get_or (set records t o) u None) (new u)
 recorded-set records deep new t o within others mine recorded u =
     ⊎_elim
     (λ (e : u ≡ t). subst (λ v. IsRecorded (get_or (set records t o) v None) (new v)) (sym e) (subst (λ x. IsRecorded x (new t)) (sym (get_or-set_same records t o None within)) mine))
@@ -78,7 +78,7 @@ stack-other new old t o is u ne = is u ∙ cond-false (nat_eq u t) o (old u) (ne
 
 -- ---- No task is there yet
 
-pub kept-empty : (records : List (Option Standing)) (deep : ℕ → Option (List Frame)) (live used : Numbers) (members : Groups) → length records ≡ 65536 → length used ≡ 65536 → ((t : ℕ) → get_or records t None ≡ None) → ((t : ℕ) → deep t ≡ None) → ((t : ℕ) → has live t ≡ false) → ((group t : ℕ) → is_member members group t ≡ false) → IsKept records deep live used members
+pub kept-empty : (records : List (Option LegTask)) (deep : ℕ → Option (List Frame)) (live used : Numbers) (members : Groups) → length records ≡ 65536 → length used ≡ 65536 → ((t : ℕ) → get_or records t None ≡ None) → ((t : ℕ) → deep t ≡ None) → ((t : ℕ) → has live t ≡ false) → ((group t : ℕ) → is_member members group t ≡ false) → IsKept records deep live used members
 kept-empty records deep live used members wide used_wide empty none dead memberless = record {
   records_wide = wide;
   table = IsTable-empty (with_stacks records deep) live used members (length-with_stacks records deep ∙ wide) used_wide (λ t. task-with_stacks records deep t ∙ ap₂ with_deep (empty t) (none t)) dead memberless;
@@ -87,17 +87,17 @@ kept-empty records deep live used members wide used_wide empty none dead memberl
 
 -- ---- What holds of a table still holds after a change
 
-module _ (records : List (Option Standing)) (deep : ℕ → Option (List Frame)) (live used : Numbers) (members : Groups) (kept : IsKept records deep live used members) where
-  module _ (t : ℕ) (small : t < 65536) (new : ℕ → Option (List Frame)) (others : (u : ℕ) → u ≢ t → new u ≡ deep u) (o : Option Standing) where
+module _ (records : List (Option LegTask)) (deep : ℕ → Option (List Frame)) (live used : Numbers) (members : Groups) (kept : IsKept records deep live used members) where
+  module _ (t : ℕ) (small : t < 65536) (new : ℕ → Option (List Frame)) (others : (u : ℕ) → u ≢ t → new u ≡ deep u) (o : Option LegTask) where
     within : t < length records
     within = omega (arith, small, kept.records_wide)
 
-    module _ (f : Standing → Standing) (is : with_deep o (new t) ≡ option_map f (with_deep (get_or records t None) (deep t))) where
+    module _ (f : LegTask → LegTask) (is : with_deep o (new t) ≡ option_map f (with_deep (get_or records t None) (deep t))) where
       -- a live task is changed
       pub tasks-changed : with_stacks (set records t o) new ≡ set (with_stacks records deep) t (option_map f (get_or (with_stacks records deep) t None))
       tasks-changed = with_stacks-set records deep new t o within others ∙ ap (set (with_stacks records deep) t) (is ∙ ap (option_map f) (sym (task-with_stacks records deep t)))
 
-      pub kept-changed : ((x : Standing) → (f x).group ≡ x.group) → IsRecorded o (new t) → IsKept (set records t o) new live used members
+      pub kept-changed : ((x : LegTask) → (f x).group ≡ x.group) → IsRecorded o (new t) → IsKept (set records t o) new live used members
       kept-changed stays mine = record {
         records_wide = length-set records t o ∙ kept.records_wide;
         table = subst (λ slots. IsTable slots live used members) (sym tasks-changed) (IsTable-change (with_stacks records deep) live used members t f stays small kept.table);
@@ -105,11 +105,11 @@ module _ (records : List (Option Standing)) (deep : ℕ → Option (List Frame))
       }
 
   -- a live task that has no deep stack is put in an empty slot
-  module _ (t : ℕ) (small : t < 65536) (x : Standing) (empty : get_or (with_stacks records deep) t None ≡ None) where
+  module _ (t : ℕ) (small : t < 65536) (x : LegTask) (empty : get_or (with_stacks records deep) t None ≡ None) where
     no_deep : deep t ≡ None
     no_deep = at (get_or records t None) (deep t) (kept.recorded t) (sym (task-with_stacks records deep t) ∙ empty)
       where
-        at : (o : Option Standing) (d : Option (List Frame)) → IsRecorded o d → with_deep o d ≡ None → d ≡ None
+        at : (o : Option LegTask) (d : Option (List Frame)) → IsRecorded o d → with_deep o d ≡ None → d ≡ None
         at o None r e = refl
         at None (Some frames) r e = absurd r
         at (Some y) (Some frames) r e = absurd (cc)
@@ -138,7 +138,7 @@ module _ (records : List (Option Standing)) (deep : ℕ → Option (List Frame))
 
 -- ---- The same where the records stand in boxes
 
-module _ (boxes : List (Option (Box Standing))) (capacity : ℕ) (deep : ℕ → Option (List Frame)) (live used : Numbers) (members : Groups) (stored : IsStored boxes capacity deep live used members) (t : ℕ) (made : t < length boxes) (old : Option (Box Standing)) (is_old : old ≡ get_or boxes t old) where
+module _ (boxes : List (Option (Box LegTask))) (capacity : ℕ) (deep : ℕ → Option (List Frame)) (live used : Numbers) (members : Groups) (stored : IsStored boxes capacity deep live used members) (t : ℕ) (made : t < length boxes) (old : Option (Box LegTask)) (is_old : old ≡ get_or boxes t old) where
   small : t < 65536
   small = omega (arith, made, stored.few)
 
@@ -154,7 +154,7 @@ module _ (boxes : List (Option (Box Standing))) (capacity : ℕ) (deep : ℕ →
   box-task = task-with_stacks (slots_of (padded boxes)) deep t ∙ ap (λ o. with_deep o (deep t)) there
 
   -- a live task is changed, and its deep stack
-  module _ (new_deep : ℕ → Option (List Frame)) (others : (u : ℕ) → u ≢ t → new_deep u ≡ deep u) (new : Option (Box Standing)) (f : Standing → Standing) (is : with_deep (boxed new) (new_deep t) ≡ option_map f (with_deep (boxed old) (deep t))) where
+  module _ (new_deep : ℕ → Option (List Frame)) (others : (u : ℕ) → u ≢ t → new_deep u ≡ deep u) (new : Option (Box LegTask)) (f : LegTask → LegTask) (is : with_deep (boxed new) (new_deep t) ≡ option_map f (with_deep (boxed old) (deep t))) where
     as_recorded : with_deep (boxed new) (new_deep t) ≡ option_map f (with_deep (get_or (slots_of (padded boxes)) t None) (deep t))
     as_recorded = is ∙ ap (λ o. option_map f (with_deep o (deep t))) (sym there)
 
@@ -164,7 +164,7 @@ module _ (boxes : List (Option (Box Standing))) (capacity : ℕ) (deep : ℕ →
     pub boxes-moved : with_stacks (slots_of (padded (set boxes t new))) new_deep ≡ set (with_stacks (slots_of (padded boxes)) deep) t (option_map f (get_or (with_stacks (slots_of (padded boxes)) deep) t None))
     boxes-moved = ap (λ records. with_stacks records new_deep) moved ∙ tasks-changed (slots_of (padded boxes)) deep live used members stored.kept t small new_deep others (boxed new) f as_recorded
 
-    pub kept-moved : ((x : Standing) → (f x).group ≡ x.group) → IsRecorded (boxed new) (new_deep t) → IsStored (set boxes t new) capacity new_deep live used members
+    pub kept-moved : ((x : LegTask) → (f x).group ≡ x.group) → IsRecorded (boxed new) (new_deep t) → IsStored (set boxes t new) capacity new_deep live used members
     kept-moved stays mine = record {
       few = omega (arith, length-set boxes t new, stored.few);
       room = stored.room;
@@ -172,11 +172,11 @@ module _ (boxes : List (Option (Box Standing))) (capacity : ℕ) (deep : ℕ →
     }
 
   -- a live task is changed, but for its frames
-  module _ (new : Option (Box Standing)) (f : Standing → Standing) (frames_stay : (x : Standing) → (f x).frames ≡ x.frames) (commutes : (x : Standing) (frames : List Frame) → record (f x) { frames = frames } ≡ f (record x { frames = frames })) (is : boxed new ≡ option_map f (boxed old)) where
+  module _ (new : Option (Box LegTask)) (f : LegTask → LegTask) (frames_stay : (x : LegTask) → (f x).frames ≡ x.frames) (commutes : (x : LegTask) (frames : List Frame) → record (f x) { frames = frames } ≡ f (record x { frames = frames })) (is : boxed new ≡ option_map f (boxed old)) where
     as_moved : with_deep (boxed new) (deep t) ≡ option_map f (with_deep (boxed old) (deep t))
     as_moved = ap (λ o. with_deep o (deep t)) is ∙ at (boxed old) (deep t)
       where
-        at : (o : Option Standing) (d : Option (List Frame)) → with_deep (option_map f o) d ≡ option_map f (with_deep o d)
+        at : (o : Option LegTask) (d : Option (List Frame)) → with_deep (option_map f o) d ≡ option_map f (with_deep o d)
         at None d = refl
         at (Some x) None = refl
         at (Some x) (Some frames) = ap Some (commutes x frames)
@@ -184,7 +184,7 @@ module _ (boxes : List (Option (Box Standing))) (capacity : ℕ) (deep : ℕ →
     still_recorded : IsRecorded (boxed new) (deep t)
     still_recorded = subst (λ o. IsRecorded o (deep t)) (sym is) (at (boxed old) (deep t) box-recorded)
       where
-        at : (o : Option Standing) (d : Option (List Frame)) → IsRecorded o d → IsRecorded (option_map f o) d
+        at : (o : Option LegTask) (d : Option (List Frame)) → IsRecorded o d → IsRecorded (option_map f o) d
         at o None r = tt
         at None (Some frames) r = r
         at (Some x) (Some frames) r = subst (λ own. IsLowest own frames) (sym (frames_stay x)) r
@@ -192,15 +192,15 @@ module _ (boxes : List (Option (Box Standing))) (capacity : ℕ) (deep : ℕ →
     pub boxes-plain : with_stacks (slots_of (padded (set boxes t new))) deep ≡ set (with_stacks (slots_of (padded boxes)) deep) t (option_map f (get_or (with_stacks (slots_of (padded boxes)) deep) t None))
     boxes-plain = boxes-moved deep (λ u ne. refl) new f as_moved
 
-    pub kept-plain : ((x : Standing) → (f x).group ≡ x.group) → IsStored (set boxes t new) capacity deep live used members
+    pub kept-plain : ((x : LegTask) → (f x).group ≡ x.group) → IsStored (set boxes t new) capacity deep live used members
     kept-plain stays = kept-moved deep (λ u ne. refl) new f as_moved stays still_recorded
 
 -- a number whose slot isn't made has no task, so a change of its task changes nothing
-module _ (boxes : List (Option (Box Standing))) (deep : ℕ → Option (List Frame)) (t : ℕ) (past : length boxes ≤ t) where
+module _ (boxes : List (Option (Box LegTask))) (deep : ℕ → Option (List Frame)) (t : ℕ) (past : length boxes ≤ t) where
   pub no_task-past : get_or (with_stacks (slots_of (padded boxes)) deep) t None ≡ None
   no_task-past = task-with_stacks (slots_of (padded boxes)) deep t ∙ ap (λ o. with_deep o (deep t)) (padded-past boxes t past)
 
-  pub unchanged-past : (f : Standing → Standing) → with_stacks (slots_of (padded boxes)) deep ≡ set (with_stacks (slots_of (padded boxes)) deep) t (option_map f (get_or (with_stacks (slots_of (padded boxes)) deep) t None))
+  pub unchanged-past : (f : LegTask → LegTask) → with_stacks (slots_of (padded boxes)) deep ≡ set (with_stacks (slots_of (padded boxes)) deep) t (option_map f (get_or (with_stacks (slots_of (padded boxes)) deep) t None))
   unchanged-past f =
       let tasks = with_stacks (slots_of (padded boxes)) deep in
       sym (ap (set tasks t) (ap (option_map f) no_task-past ∙ sym no_task-past) ∙ set-get_or tasks t None)

@@ -3,7 +3,7 @@ use Rattle.std.proofs.Common.{◌≡◌, ℕ, ◌+◌, ◌<◌, ◌≤◌, Bool,
 use Rattle.std.proofs.lemmas.Bool.{false≢true, cond-true, cond-false, cases_eq, cases_lt, eq-eqb, ne_eqb}
 use Rattle.std.proofs.lemmas.List.{get_or_past}
 use Rattle.lp_numbers.specs.Numbers.{Numbers, has, IsLeastFrom}
-use Rattle.lp_definitions.specs.Leg.{Standing}
+use Rattle.lp_definitions.specs.Leg.{LegTask}
 use Rattle.lp_tasks.specs.Passing.{passing}
 use Rattle.lp_machine.specs.Table.{Table, IsWide, slot}
 use Rattle.lp_tasks.specs.inside.Table.{is_off}
@@ -25,7 +25,7 @@ module _ (table : Table) (level : ℕ) where
   pub not_off : (t : ℕ) → is_some (slot table t) ≡ false → is_off level (slot table t) ≡ false
   not_off t = by (slot table t)
     where
-      by : (o : Option Standing) → is_some o ≡ false → is_off level o ≡ false
+      by : (o : Option LegTask) → is_some o ≡ false → is_off level o ≡ false
       by None none = refl
       by (Some x) none = absurd (false≢true (sym none))
 

@@ -7,40 +7,40 @@ use Rattle.std.specs.Option.{option_map}
 use Rattle.lp_stack.specs.declared.number.GroupId.{GroupId}
 use Rattle.lp_numbers.specs.Numbers.{Numbers, has}
 use Rattle.lp_numbers.specs.Groups.{Groups, is_member}
-use Rattle.lp_definitions.specs.Leg.{Standing}
+use Rattle.lp_definitions.specs.Leg.{LegTask}
 use Rattle.lp_tasks.specs.inside.Slots.{slots_of, padded, IsTable}
 use Rattle.lp_tasks.specs.inside.Table.{is_in}
 
 -- the live task in a box
-abbrev pub boxed : Option (Box Standing) → Option Standing
-boxed o = option_map (λ (b : Box Standing). b.value) o
+abbrev pub boxed : Option (Box LegTask) → Option LegTask
+boxed o = option_map (λ (b : Box LegTask). b.value) o
 
 -- the live task that a slot's box holds
-pub slot-boxed : (boxes : List (Option (Box Standing))) (i : ℕ) (box : Option (Box Standing)) → i < length boxes → box ≡ get_or boxes i box → get_or (slots_of boxes) i None ≡ boxed box
+pub slot-boxed : (boxes : List (Option (Box LegTask))) (i : ℕ) (box : Option (Box LegTask)) → i < length boxes → box ≡ get_or boxes i box → get_or (slots_of boxes) i None ≡ boxed box
 slot-boxed boxes i box h e = get_or-map boxed boxes i box None h ∙ ap boxed (sym e)
 
 -- another box stands in a slot
-pub slots_of-set : (boxes : List (Option (Box Standing))) (i : ℕ) (box : Option (Box Standing)) → slots_of (set boxes i box) ≡ set (slots_of boxes) i (boxed box)
+pub slots_of-set : (boxes : List (Option (Box LegTask))) (i : ℕ) (box : Option (Box LegTask)) → slots_of (set boxes i box) ≡ set (slots_of boxes) i (boxed box)
 slots_of-set boxes i box = map-set boxed boxes i box
 
 -- ---- Slots that aren't made yet
 
-pub length-padded : (boxes : List (Option (Box Standing))) → length boxes ≤ 65536 → length (slots_of (padded boxes)) ≡ 65536
+pub length-padded : (boxes : List (Option (Box LegTask))) → length boxes ≤ 65536 → length (slots_of (padded boxes)) ≡ 65536
 unfolding padded
 length-padded boxes few = length-map (boxes ++ replicate (65536 - length boxes) None) boxed ∙ length-append boxes (replicate (65536 - length boxes) None) ∙ ap (λ n. length boxes + n) (length-replicate (65536 - length boxes) None) ∙ omega arith
 
 -- what a made slot holds
-pub padded-made : (boxes : List (Option (Box Standing))) (i : ℕ) (box : Option (Box Standing)) → i < length boxes → box ≡ get_or boxes i box → box ≡ get_or (padded boxes) i box
+pub padded-made : (boxes : List (Option (Box LegTask))) (i : ℕ) (box : Option (Box LegTask)) → i < length boxes → box ≡ get_or boxes i box → box ≡ get_or (padded boxes) i box
 unfolding padded
 padded-made boxes i box h e = e ∙ sym (get_or_append_left boxes (replicate (65536 - length boxes) None) box i h)
 
 -- another box stands in a made slot
-pub padded-set : (boxes : List (Option (Box Standing))) (i : ℕ) (box : Option (Box Standing)) → i < length boxes → padded (set boxes i box) ≡ set (padded boxes) i box
+pub padded-set : (boxes : List (Option (Box LegTask))) (i : ℕ) (box : Option (Box LegTask)) → i < length boxes → padded (set boxes i box) ≡ set (padded boxes) i box
 unfolding padded
 padded-set boxes i box h = rw length-set (sym (set-append_left boxes (replicate (65536 - length boxes) None) i box h))
 
 -- one more slot is made
-pub padded-more : (boxes : List (Option (Box Standing))) → length boxes < 65536 → padded (boxes ++ None ∷ []) ≡ padded boxes
+pub padded-more : (boxes : List (Option (Box LegTask))) → length boxes < 65536 → padded (boxes ++ None ∷ []) ≡ padded boxes
 unfolding padded
 padded-more boxes h =
     let one : 65536 - length boxes ≡ suc (65536 - length (boxes ++ None ∷ [])) = omega (arith, length-append boxes (None ∷ [])) in
@@ -52,42 +52,42 @@ none-replicate zero i = refl
 none-replicate (suc n) zero = refl
 none-replicate (suc n) (suc i) = none-replicate n i
 
-pub padded-past : (boxes : List (Option (Box Standing))) (i : ℕ) → length boxes ≤ i → get_or (slots_of (padded boxes)) i None ≡ None
+pub padded-past : (boxes : List (Option (Box LegTask))) (i : ℕ) → length boxes ≤ i → get_or (slots_of (padded boxes)) i None ≡ None
 unfolding padded
 padded-past boxes i h =
-    ap (λ (slots : List (Option Standing)). get_or slots i None) (map-append boxed boxes (replicate (65536 - length boxes) None))
+    ap (λ (slots : List (Option LegTask)). get_or slots i None) (map-append boxed boxes (replicate (65536 - length boxes) None))
     ∙ get_or-append_right (slots_of boxes) (slots_of (replicate (65536 - length boxes) None)) (length boxes) i None (length-map boxes boxed) h
     ∙ none-replicate (65536 - length boxes) (i - length boxes)
 
 -- what stands for the boxes stands for the slots
-pub padded-same : (boxes others : List (Option (Box Standing))) → slots_of boxes ≡ slots_of others → slots_of (padded boxes) ≡ slots_of (padded others)
+pub padded-same : (boxes others : List (Option (Box LegTask))) → slots_of boxes ≡ slots_of others → slots_of (padded boxes) ≡ slots_of (padded others)
 unfolding padded
 padded-same boxes others same =
     let long : length boxes ≡ length others = sym (length-map boxes boxed) ∙ ap length same ∙ length-map others boxed in
     map-append boxed boxes (replicate (65536 - length boxes) None)
-    ∙ ap₂ (λ (slots : List (Option Standing)) n. slots ++ slots_of (replicate (65536 - n) None)) same long
+    ∙ ap₂ (λ (slots : List (Option LegTask)) n. slots ++ slots_of (replicate (65536 - n) None)) same long
     ∙ sym (map-append boxed others (replicate (65536 - length others) None))
 
 -- ---- What holds of a table still holds after a change
 
-is_some-map : (f : Standing → Standing) (o : Option Standing) → is_some (option_map f o) ≡ is_some o
+is_some-map : (f : LegTask → LegTask) (o : Option LegTask) → is_some (option_map f o) ≡ is_some o
 is_some-map f None = refl
 is_some-map f (Some x) = refl
 
 -- a change leaves the live tasks alive
-some-changed : (slots : List (Option Standing)) (i : ℕ) (f : Standing → Standing) → i < length slots → (u : ℕ) → is_some (get_or (set slots i (option_map f (get_or slots i None))) u None) ≡ is_some (get_or slots u None)
+some-changed : (slots : List (Option LegTask)) (i : ℕ) (f : LegTask → LegTask) → i < length slots → (u : ℕ) → is_some (get_or (set slots i (option_map f (get_or slots i None))) u None) ≡ is_some (get_or slots u None)
 some-changed slots i f h u =
     ⊎_elim
     (λ (e : u ≡ i). subst (λ v. is_some (get_or (set slots i (option_map f (get_or slots i None))) v None) ≡ is_some (get_or slots v None)) (sym e) (ap is_some (get_or-set_same slots i (option_map f (get_or slots i None)) None h) ∙ is_some-map f (get_or slots i None)))
     (λ (ne : u ≡ i → ⊥). ap is_some (get_or-set_other slots i u (option_map f (get_or slots i None)) None ne))
     (cases_eq u i)
 
-is_in-map : (f : Standing → Standing) (group : ℕ) (o : Option Standing) → ((x : Standing) → (f x).group ≡ x.group) → is_in group (option_map f o) ≡ is_in group o
+is_in-map : (f : LegTask → LegTask) (group : ℕ) (o : Option LegTask) → ((x : LegTask) → (f x).group ≡ x.group) → is_in group (option_map f o) ≡ is_in group o
 is_in-map f group None stays = refl
 is_in-map f group (Some x) stays = ap (λ g. nat_eq g group) (stays x)
 
 -- a change that leaves the groups as they are
-group-changed : (slots : List (Option Standing)) (i : ℕ) (f : Standing → Standing) → ((x : Standing) → (f x).group ≡ x.group) → i < length slots → (group u : ℕ) → is_in group (get_or (set slots i (option_map f (get_or slots i None))) u None) ≡ is_in group (get_or slots u None)
+group-changed : (slots : List (Option LegTask)) (i : ℕ) (f : LegTask → LegTask) → ((x : LegTask) → (f x).group ≡ x.group) → i < length slots → (group u : ℕ) → is_in group (get_or (set slots i (option_map f (get_or slots i None))) u None) ≡ is_in group (get_or slots u None)
 group-changed slots i f stays h group u =
     ⊎_elim
     (λ (e : u ≡ i). subst (λ v. is_in group (get_or (set slots i (option_map f (get_or slots i None))) v None) ≡ is_in group (get_or slots v None)) (sym e) (ap (is_in group) (get_or-set_same slots i (option_map f (get_or slots i None)) None h) ∙ is_in-map f group (get_or slots i None) stays))
@@ -95,7 +95,7 @@ group-changed slots i f stays h group u =
     (cases_eq u i)
 
 -- where one live task is changed
-pub IsTable-change : (slots : List (Option Standing)) (live used : Numbers) (members : Groups) (i : ℕ) (f : Standing → Standing) → ((x : Standing) → (f x).group ≡ x.group) → i < 65536 → IsTable slots live used members → IsTable (set slots i (option_map f (get_or slots i None))) live used members
+pub IsTable-change : (slots : List (Option LegTask)) (live used : Numbers) (members : Groups) (i : ℕ) (f : LegTask → LegTask) → ((x : LegTask) → (f x).group ≡ x.group) → i < 65536 → IsTable slots live used members → IsTable (set slots i (option_map f (get_or slots i None))) live used members
 IsTable-change slots live used members i f stays h table =
     let within : i < length slots = omega (arith, table.slots_wide) in
     record {
@@ -123,7 +123,7 @@ or-and_false false true = refl
 or-and_false false false = refl
 
 -- who is a member once a live task stands in an empty slot
-grouped-put : (slots : List (Option Standing)) (members members_new : Groups) (i : ℕ) (x : Standing) → i < length slots → get_or slots i None ≡ None → ((group n : ℕ) → is_member members_new group n ≡ (is_member members group n || (nat_eq group x.group && nat_eq n i))) → ((group t : ℕ) → is_member members group t ≡ is_in group (get_or slots t None)) → (group t : ℕ) → is_member members_new group t ≡ is_in group (get_or (set slots i (Some x)) t None)
+grouped-put : (slots : List (Option LegTask)) (members members_new : Groups) (i : ℕ) (x : LegTask) → i < length slots → get_or slots i None ≡ None → ((group n : ℕ) → is_member members_new group n ≡ (is_member members group n || (nat_eq group x.group && nat_eq n i))) → ((group t : ℕ) → is_member members group t ≡ is_in group (get_or slots t None)) → (group t : ℕ) → is_member members_new group t ≡ is_in group (get_or (set slots i (Some x)) t None)
 grouped-put slots members members_new i x within empty put grouped group t =
     ⊎_elim
     (λ (e : t ≡ i).
@@ -142,7 +142,7 @@ grouped-put slots members members_new i x within empty put grouped group t =
     (cases_eq t i)
 
 -- who is a member once a slot is empty
-grouped-remove : (slots : List (Option Standing)) (members members_new : Groups) (i : ℕ) → i < length slots → ((group n : ℕ) → is_member members_new group n ≡ (is_member members group n && not (nat_eq n i))) → ((group t : ℕ) → is_member members group t ≡ is_in group (get_or slots t None)) → (group t : ℕ) → is_member members_new group t ≡ is_in group (get_or (set slots i None) t None)
+grouped-remove : (slots : List (Option LegTask)) (members members_new : Groups) (i : ℕ) → i < length slots → ((group n : ℕ) → is_member members_new group n ≡ (is_member members group n && not (nat_eq n i))) → ((group t : ℕ) → is_member members group t ≡ is_in group (get_or slots t None)) → (group t : ℕ) → is_member members_new group t ≡ is_in group (get_or (set slots i None) t None)
 grouped-remove slots members members_new i within removed grouped group t =
     ⊎_elim
     (λ (e : t ≡ i).
@@ -158,7 +158,7 @@ grouped-remove slots members members_new i within removed grouped group t =
     (cases_eq t i)
 
 -- where a slot gets a live task, and its number is used
-pub IsTable-put : (slots : List (Option Standing)) (live used : Numbers) (members members_new : Groups) (i : ℕ) (x : Standing) → i < 65536 → length (set live i true) ≡ 65536 → get_or slots i None ≡ None → ((group n : ℕ) → is_member members_new group n ≡ (is_member members group n || (nat_eq group x.group && nat_eq n i))) → IsTable slots live used members → IsTable (set slots i (Some x)) (set live i true) (set used i true) members_new
+pub IsTable-put : (slots : List (Option LegTask)) (live used : Numbers) (members members_new : Groups) (i : ℕ) (x : LegTask) → i < 65536 → length (set live i true) ≡ 65536 → get_or slots i None ≡ None → ((group n : ℕ) → is_member members_new group n ≡ (is_member members group n || (nat_eq group x.group && nat_eq n i))) → IsTable slots live used members → IsTable (set slots i (Some x)) (set live i true) (set used i true) members_new
 IsTable-put slots live used members members_new i x h wide empty put table = record {
   slots_wide = length-set slots i (Some x) ∙ table.slots_wide;
   used_wide = length-set used i true ∙ table.used_wide;
@@ -180,7 +180,7 @@ IsTable-put slots live used members members_new i x h wide empty put table = rec
     live_within = omega (arith, length-set live i true, wide)
 
 -- where a slot's task is live no longer
-pub IsTable-remove : (slots : List (Option Standing)) (live used : Numbers) (members members_new : Groups) (i : ℕ) → i < 65536 → length (set live i false) ≡ 65536 → ((group n : ℕ) → is_member members_new group n ≡ (is_member members group n && not (nat_eq n i))) → IsTable slots live used members → IsTable (set slots i None) (set live i false) used members_new
+pub IsTable-remove : (slots : List (Option LegTask)) (live used : Numbers) (members members_new : Groups) (i : ℕ) → i < 65536 → length (set live i false) ≡ 65536 → ((group n : ℕ) → is_member members_new group n ≡ (is_member members group n && not (nat_eq n i))) → IsTable slots live used members → IsTable (set slots i None) (set live i false) used members_new
 IsTable-remove slots live used members members_new i h wide removed table = record {
   slots_wide = length-set slots i None ∙ table.slots_wide;
   used_wide = table.used_wide;
@@ -204,7 +204,7 @@ IsTable-remove slots live used members members_new i h wide removed table = reco
 -- ---- No task is there yet
 
 -- a table without tasks
-pub IsTable-empty : (slots : List (Option Standing)) (live used : Numbers) (members : Groups) → length slots ≡ 65536 → length used ≡ 65536 → ((t : ℕ) → get_or slots t None ≡ None) → ((t : ℕ) → has live t ≡ false) → ((group t : ℕ) → is_member members group t ≡ false) → IsTable slots live used members
+pub IsTable-empty : (slots : List (Option LegTask)) (live used : Numbers) (members : Groups) → length slots ≡ 65536 → length used ≡ 65536 → ((t : ℕ) → get_or slots t None ≡ None) → ((t : ℕ) → has live t ≡ false) → ((group t : ℕ) → is_member members group t ≡ false) → IsTable slots live used members
 IsTable-empty slots live used members wide used_wide empty none memberless = record {
   slots_wide = wide;
   used_wide = used_wide;
@@ -216,13 +216,13 @@ IsTable-empty slots live used members wide used_wide empty none memberless = rec
 -- ---- The group of a live task
 
 -- whoever has a group is a member of it
-pub group-member : (members : Groups) (t : ℕ) (group : Option GroupId) (o : Option Standing) → option_map (λ (g : GroupId). g.0) group ≡ option_map (λ (x : Standing). x.group) o → ((other : ℕ) → is_member members other t ≡ is_in other o) → IfSome group (λ own. is_member members own.0 t ≡ true)
+pub group-member : (members : Groups) (t : ℕ) (group : Option GroupId) (o : Option LegTask) → option_map (λ (g : GroupId). g.0) group ≡ option_map (λ (x : LegTask). x.group) o → ((other : ℕ) → is_member members other t ≡ is_in other o) → IfSome group (λ own. is_member members own.0 t ≡ true)
 group-member members t None o e grouped = tt
 group-member members t (Some own) None e grouped = absurd (cc)
 group-member members t (Some own) (Some x) e grouped = let same : x.group ≡ own.0 = cc in grouped own.0 ∙ eq-eqb x.group own.0 same
 
 -- whoever has none is in none
-pub group-stranger : (members : Groups) (t : ℕ) (group : Option GroupId) (o : Option Standing) → option_map (λ (g : GroupId). g.0) group ≡ option_map (λ (x : Standing). x.group) o → ((other : ℕ) → is_member members other t ≡ is_in other o) → IfNone group ((other : ℕ) → is_member members other t ≡ false)
+pub group-stranger : (members : Groups) (t : ℕ) (group : Option GroupId) (o : Option LegTask) → option_map (λ (g : GroupId). g.0) group ≡ option_map (λ (x : LegTask). x.group) o → ((other : ℕ) → is_member members other t ≡ is_in other o) → IfNone group ((other : ℕ) → is_member members other t ≡ false)
 group-stranger members t (Some own) o e grouped = tt
 group-stranger members t None None e grouped = grouped
 group-stranger members t None (Some x) e grouped = absurd (cc)

@@ -2,4 +2,4 @@
 pub mod Table
 pub mod Slots
 pub mod Deep
-pub mod Points
+pub mod OwnChecks

@@ -1,4 +1,6 @@
 //! The tasks of an engine by their numbers, and what an engine was when a leg opened.
+//!
+//! Costs: of a table only `new` and `copy` allocate, and what takes a group's members costs these.
 #![tactic(auto)]
 
 mod deep_stack;
@@ -6,7 +8,7 @@ mod deep_stacks;
 mod live_task;
 mod live_view;
 mod opening;
-mod point;
+mod own_check;
 mod task_table;
 
 pub use live_task::LiveTask;
@@ -15,5 +17,5 @@ pub use lp_numbers::{Ascending, NumberSet};
 pub use lp_patch::PatchStack;
 pub use lp_stack::{Class, GroupId, Level, Mode, TaskId, View};
 pub use opening::Opening;
-pub use point::point_mode;
+pub use own_check::own_check_mode;
 pub use task_table::TaskTable;

@@ -5,7 +5,7 @@ ghost use Rattle.lp_tasks.specs.inside.Deep.{deep_at, with_deep, IsRecorded};
 
 use crate::deep_stacks::DeepStacks;
 use crate::live_view::LiveView;
-use crate::point::point_mode;
+use crate::own_check::own_check_mode;
 use arrayvec::ArrayVec;
 use lp_model::CheckKind;
 use lp_stack::{Class, Frame, GroupId, Level, Mode, TaskId};
@@ -27,9 +27,9 @@ pub struct LiveTask {
 
 impl Model for LiveTask {
     ghost use Rattle.std.specs.Prelude.{◌≤◌, length};
-    ghost use Rattle.lp_definitions.specs.Leg.{Standing};
+    ghost use Rattle.lp_definitions.specs.Leg.{LegTask};
 
-    ghost Value = { Standing };
+    ghost Value = { LegTask };
 
     ghost view = { λ t. record { class = t.class; mode = t.mode; group = t.group.0; level = t.level.0; frames = t.frames.items } };
 
@@ -37,9 +37,9 @@ impl Model for LiveTask {
 }
 
 impl LiveTask {
-    ghost use Rattle.lp_definitions.specs.Leg.{Standing};
+    ghost use Rattle.lp_definitions.specs.Leg.{LegTask};
     ghost use Rattle.lp_machine.specs.Machine.{put_in, calling, returning};
-    ghost use Rattle.lp_tasks.specs.inside.Points.{at_point};
+    ghost use Rattle.lp_tasks.specs.inside.OwnChecks.{at_own_check};
 
     /// A task with an empty stack.
     pub fn new(class: Class, mode: Mode, group: GroupId, level: Level) -> Self
@@ -162,10 +162,10 @@ impl LiveTask {
     }
 
     /// The task is checked alone.
-    pub fn reach_point(&mut self, kind: CheckKind)
-        ensures { self.new ≡ at_point kind self.old }
+    pub fn reach_own_check(&mut self, kind: CheckKind)
+        ensures { self.new ≡ at_own_check kind self.old }
     {
-        self.mode = point_mode(kind, self.mode);
+        self.mode = own_check_mode(kind, self.mode);
     }
 
     /// Puts the task on a level.

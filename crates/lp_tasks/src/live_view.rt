@@ -20,9 +20,9 @@ pub struct LiveView<'a> {
 
 impl<'a> Model for LiveView<'a> {
     ghost use Rattle.std.specs.Prelude.{◌≤◌, length};
-    ghost use Rattle.lp_definitions.specs.Leg.{Standing};
+    ghost use Rattle.lp_definitions.specs.Leg.{LegTask};
 
-    ghost Value = { Standing };
+    ghost Value = { LegTask };
 
     ghost view = { λ v. record { class = v.class; mode = v.mode; group = v.group.0; level = v.level.0; frames = v.frames.now } };
 

@@ -5,7 +5,7 @@ ghost use Rattle.lp_stack.specs.TaskView.{seen};
 ghost use Rattle.lp_tasks.specs.Passing.{passing};
 ghost use Rattle.lp_definitions.specs.Tasks.{is_unused};
 ghost use Rattle.lp_machine.specs.Machine.{view_of};
-ghost use Rattle.lp_machine.specs.Table.{no_scan, slot, standings, state_in};
+ghost use Rattle.lp_machine.specs.Table.{no_scan, slot, leg_tasks, state_in};
 ghost use Rattle.lp_definitions.specs.Sound.{IsSound};
 ghost use Rattle.lp_machine.specs.Steps.{OpensLegs};
 
@@ -105,7 +105,7 @@ impl Opening {
 
     /// Whether a task had the number, then or before.
     pub fn used(&self, task: TaskId) -> bool
-        ensures { result ≡ not (is_unused (standings self.now.table task.0)) }
+        ensures { result ≡ not (is_unused (leg_tasks self.now.table task.0)) }
     {
         self.tasks.is_used(task)
     }

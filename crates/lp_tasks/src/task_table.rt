@@ -7,7 +7,7 @@ ghost use Rattle.lp_tasks.specs.inside.Slots.{slots_of, padded};
 ghost use Rattle.lp_tasks.specs.Passing.{passing};
 ghost use Rattle.lp_definitions.specs.Tasks.{is_unused};
 ghost use Rattle.lp_machine.specs.Machine.{put_in, calling, returning};
-ghost use Rattle.lp_tasks.specs.inside.Points.{at_point};
+ghost use Rattle.lp_tasks.specs.inside.OwnChecks.{at_own_check};
 
 use crate::deep_stacks::DeepStacks;
 use crate::live_task::LiveTask;
@@ -50,7 +50,7 @@ impl Model for TaskTable {
     ghost use Rattle.std.specs.Prelude.{◌≡◌, ℕ, List, Option, is_some, length, map, vec_capacity};
     ghost use Rattle.std.specs.Option.{option_map};
     ghost use Rattle.lp_numbers.specs.Numbers.{has};
-    ghost use Rattle.lp_definitions.specs.Leg.{Standing};
+    ghost use Rattle.lp_definitions.specs.Leg.{LegTask};
     ghost use Rattle.lp_machine.specs.Table.{Table, slot, IsWide};
     ghost use Rattle.lp_tasks.specs.inside.Slots.{slots_of, padded, IsTable};
     ghost use Rattle.lp_tasks.specs.inside.Deep.{deep_at, with_stacks, IsStored};
@@ -63,8 +63,8 @@ impl Model for TaskTable {
 }
 
 impl TaskTable {
-    ghost use Rattle.lp_definitions.specs.Leg.{Standing};
-    ghost use Rattle.lp_machine.specs.Table.{slot, standings, IsWide};
+    ghost use Rattle.lp_definitions.specs.Leg.{LegTask};
+    ghost use Rattle.lp_machine.specs.Table.{slot, leg_tasks, IsWide};
     ghost use Rattle.lp_tasks.specs.inside.Table.{changed, with_task, without_task, is_in, IsKnown, IsBlank};
 
     /// A table without tasks.
@@ -118,7 +118,7 @@ impl TaskTable {
     pub fn is_used(&self, task: TaskId) -> bool
         ensures value { result ≡ has self.now.used task.0 }
         ensures known { IsKnown self.now task.0 }
-        ensures fate { result ≡ not (is_unused (standings self.now task.0)) }
+        ensures fate { result ≡ not (is_unused (leg_tasks self.now task.0)) }
     {
         self.used.contains(task.0)
     }
@@ -131,6 +131,37 @@ impl TaskTable {
         // For the proof alone, which knows what every value keeps once a field is read.
         let _ = &self.slots;
         self.live.iter()
+    }
+
+    /// The live tasks, as a set.
+    pub fn live_set(&self) -> &NumberSet
+        ensures { (t : ℕ) → has result.now t ≡ is_some (slot self.now t) }
+    {
+        // For the proof alone, which knows what every value keeps once a field is read.
+        let _ = &self.slots;
+        &self.live
+    }
+
+    /// The groups that have a live task.
+    pub fn groups(&self) -> &NumberSet
+        ensures some { (group : ℕ) → has result.now group ≡ true → (t : ℕ) × (is_in group (slot self.now t) ≡ true) }
+        ensures none { (group : ℕ) → has result.now group ≡ false → (t : ℕ) → is_in group (slot self.now t) ≡ false }
+        ensures few { (group : ℕ) → has result.now group ≡ true → group < 65536 }
+    {
+        // For the proof alone, which knows what every value keeps once a field is read.
+        let _ = &self.slots;
+        self.members.groups()
+    }
+
+    /// A live task of a group; None where it has none.
+    pub fn first_of(&self, group: GroupId) -> Option<TaskId>
+        ensures some { IfSome result (λ task. is_in group.0 (slot self.now task.0) ≡ true) }
+        ensures none { IfNone result ((t : ℕ) → is_in group.0 (slot self.now t) ≡ false) }
+    {
+        // For the proof alone, which knows what every value keeps once a field is read.
+        let _ = &self.slots;
+        let number = self.members.first(group.0)?;
+        Some(TaskId(number))
     }
 
     /// Whether a task is the only live one of a group.
@@ -238,15 +269,15 @@ impl TaskTable {
     }
 
     /// The task is checked alone, if it is live.
-    pub fn reach_point(&mut self, kind: CheckKind, task: TaskId)
-        ensures { self.new ≡ changed task.0 (at_point kind) self.old }
+    pub fn reach_own_check(&mut self, kind: CheckKind, task: TaskId)
+        ensures { self.new ≡ changed task.0 (at_own_check kind) self.old }
     {
         let at = usize::from(task.0);
         if at >= self.slots.len() {
             return;
         }
         if let Some(live) = &mut self.slots[at] {
-            live.reach_point(kind);
+            live.reach_own_check(kind);
         }
     }
 

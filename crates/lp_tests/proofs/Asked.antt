@@ -7,7 +7,7 @@ use Rattle.lp_stack.specs.declared.number.GroupId.{GroupId}
 use Rattle.lp_model.specs.Rules.{Rules}
 use Rattle.lp_model.specs.declared.check.CheckKind.{CheckKind}
 use Rattle.lp_numbers.specs.Numbers.{Numbers, has, IsLeastFrom}
-use Rattle.lp_definitions.specs.Leg.{Standing}
+use Rattle.lp_definitions.specs.Leg.{LegTask}
 use Rattle.lp_machine.specs.Machine.{view_of}
 use Rattle.lp_transition.specs.Scan.{MayLeaveOut}
 use Rattle.lp_machine.specs.Table.{Engine, slot, state_in}
@@ -18,12 +18,12 @@ use Rattle.lp_tasks.proofs.TableLemmas.{live_from_slot, slot_from_live}
 -- of the tasks below a number, the groups of those off the target are in
 abbrev pub AreIn : Engine → Numbers → (bound : ℕ) → Type 0
 AreIn e groups bound =
-    (t : ℕ) (x : Standing) → t < bound → slot e.table t ≡ Some x → nat_eq x.level e.target ≡ false → has groups x.group ≡ true
+    (t : ℕ) (x : LegTask) → t < bound → slot e.table t ≡ Some x → nat_eq x.level e.target ≡ false → has groups x.group ≡ true
 
 -- one more task is looked at
 pub more_in : (e : Engine) (from n : ℕ) (groups left : Numbers) → AreIn e groups from → IsLeastFrom (λ t. is_some (slot e.table t)) from n
     → ((group : ℕ) → has groups group ≡ true → has left group ≡ true)
-    → ((x : Standing) → slot e.table n ≡ Some x → nat_eq x.level e.target ≡ false → has left x.group ≡ true)
+    → ((x : LegTask) → slot e.table n ≡ Some x → nat_eq x.level e.target ≡ false → has left x.group ≡ true)
     → AreIn e left (n + 1)
 more_in e from n groups left so_far next kept taken t x below there off = by (cases_lt t from) (cases_lt t n)
   where
@@ -36,7 +36,7 @@ more_in e from n groups left so_far next kept taken t x below there off = by (ca
 
 -- no task is left to look at
 pub all_in : (e : Engine) (from : ℕ) (groups : Numbers) → AreIn e groups from → ((t : ℕ) → from ≤ t → is_some (slot e.table t) ≡ false)
-    → (t : ℕ) (x : Standing) → slot e.table t ≡ Some x → nat_eq x.level e.target ≡ false → has groups x.group ≡ true
+    → (t : ℕ) (x : LegTask) → slot e.table t ≡ Some x → nat_eq x.level e.target ≡ false → has groups x.group ≡ true
 all_in e from groups so_far none t x there off =
     ⊎_elim
     (λ (early : t < from). so_far t x early there off)
@@ -46,13 +46,13 @@ all_in e from groups so_far none t x there off =
 -- ---- Which of them may be left out
 
 module _ (model : Rules) (kind : CheckKind) (e : Engine) (groups : Numbers)
-    (waits : (t : ℕ) (x : Standing) → slot e.table t ≡ Some x → nat_eq x.level e.target ≡ false → has groups x.group ≡ true) where
+    (waits : (t : ℕ) (x : LegTask) → slot e.table t ≡ Some x → nat_eq x.level e.target ≡ false → has groups x.group ≡ true) where
   -- nobody is left out
   pub none_out : MayLeaveOut model kind (state_in e) (has groups)
   none_out t x live off out = absurd (false≢true (sym out ∙ waits t x (slot_from_live e.table t x live) off))
 
   -- one group is left out, of which a member is refused
-  pub one_out : (u : ℕ) (y : Standing) → slot e.table u ≡ Some y → (nat_eq y.level e.target ≡ false) × (is_some (model.blame kind (view_of u y) (state_in e).aim) ≡ true) → MayLeaveOut model kind (state_in e) (has (set groups y.group false))
+  pub one_out : (u : ℕ) (y : LegTask) → slot e.table u ≡ Some y → (nat_eq y.level e.target ≡ false) × (is_some (model.blame kind (view_of u y) (state_in e).aim) ≡ true) → MayLeaveOut model kind (state_in e) (has (set groups y.group false))
   one_out u y at refused t x live off out =
       ⊎_elim
       (λ (same : x.group ≡ y.group).
@@ -64,6 +64,6 @@ module _ (model : Rules) (kind : CheckKind) (e : Engine) (groups : Numbers)
 -- ---- The group of a task
 
 -- the task is live, and a member of its group
-pub member : (found : Option GroupId) (o : Option Standing) (group : GroupId) → option_map (λ (g : GroupId). g.0) found ≡ option_map (λ (x : Standing). x.group) o → found ≡ Some group → (y : Standing) × (o ≡ Some y) × (y.group ≡ group.0)
+pub member : (found : Option GroupId) (o : Option LegTask) (group : GroupId) → option_map (λ (g : GroupId). g.0) found ≡ option_map (λ (x : LegTask). x.group) o → found ≡ Some group → (y : LegTask) × (o ≡ Some y) × (y.group ≡ group.0)
 member found None group tells is = absurd (cc)
 member found (Some y) group tells is = let same : group.0 ≡ y.group = cc in (y, refl, sym same)

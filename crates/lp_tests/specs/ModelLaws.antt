@@ -2,7 +2,7 @@
 use Rattle.std.specs.Prelude.{ℕ, ◌≤◌}
 use Rattle.lp_model.specs.Rules.{Rules}
 use Rattle.lp_laws.specs.Laws.{HasOneFirstCheck, KeepsThePast, SwitchesNoneLater, CompletesNoneLater, WaitsForAReason, TrustsChains, OpensSoundly, KeepsOneVersion, MixesNoStay}
-use Rattle.lp_machine.specs.Laws.{StepsAsDefined, StatesAreSound}
+use Rattle.lp_machine_laws.specs.Laws.{StepsAsDefined, StatesAreSound}
 use Rattle.lp_transition.specs.Laws.{StatesTell}
 use Rattle.lp_definitions.specs.Leg.{Leg}
 use Rattle.lp_definitions.specs.Schedule.{Schedule, CompletesAt, IsFirstCheck}

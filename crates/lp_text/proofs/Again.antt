@@ -1,5 +1,5 @@
 -- The words of a line are read again.
-use Rattle.std.proofs.Common.{◌≡◌, ◌<◌, ◌≤◌, ℕ, zero, suc, Bool, true, false, not, List, [], ◌∷◌, length, get_or, None, Some, Ok, cond, refl, sym, ap, ◌∙◌, arith, inl, inr}
+use Rattle.std.proofs.Common.{◌≡◌, ◌<◌, ◌≤◌, ℕ, zero, suc, Bool, true, false, not, List, [], ◌∷◌, length, get_or, Option, None, Some, Ok, cond, refl, sym, ap, ◌∙◌, arith, inl, inr}
 use Rattle.std.specs.Prelude.{nat_le, nat_lt, ◌==◌, ◌&&◌, ◌||◌, slice_index, slice_index_or, decimal}
 use Rattle.std.specs.Char.{is_ascii_digit, is_ascii_graphic}
 use Rattle.std.specs.List.{list_all, IsDistinct, prefix_len}
@@ -18,15 +18,15 @@ use Rattle.lp_stack.specs.declared.view.Class.TheVariants as class
 use Rattle.lp_model.specs.declared.check.ForkKind.{ForkKind}
 use Rattle.lp_model.specs.declared.check.ForkKind.TheVariants as fork
 use Rattle.lp_definitions.specs.declared.event.Event.{Event}
-use Rattle.lp_definitions.specs.declared.event.Event.TheVariants.{Call, Ret, Sleep, Wake, Enter, Exit, Idle, Fork, Die, Walk, Stop, Enable, Disable, Reverse}
+use Rattle.lp_definitions.specs.declared.event.Event.TheVariants.{Call, Ret, Sleep, Wake, Enter, Exit, Idle, Resched, Fork, Die, Walk, Stop, Enable, Disable, Reverse}
 use Rattle.lp_text.specs.declared.form.TraceForm.{TraceForm}
-use Rattle.lp_text.specs.declared.form.TraceForm.TheVariants.{Single, Stacked}
+use Rattle.lp_text.specs.declared.form.TraceForm.TheVariants.{Single, Stacked, WithResched}
 use Rattle.lp_text.specs.declared.keyword.EventKeyword.{EventKeyword}
 use Rattle.lp_text.specs.declared.keyword.EventKeyword.TheVariants as event
 use Rattle.lp_text.specs.declared.keyword.LineKeyword.{LineKeyword}
 use Rattle.lp_text.specs.declared.keyword.LineKeyword.TheVariants as line
-use Rattle.lp_text.specs.Words.{header, event_word, line_word, class_word, fork_word, form_of, event_word_of, line_word_of, class_of, fork_kind_of, is_numeral, number_of}
-use Rattle.lp_text.specs.Traces.{AreNames, name, event_words, patch_words, IsTask, IsEvent, most_patches}
+use Rattle.lp_text.specs.Words.{header, event_word, line_word, has_word, class_word, fork_word, form_of, event_word_of, line_word_of, class_of, fork_kind_of, is_numeral, number_of}
+use Rattle.lp_text.specs.Traces.{AreNames, name, event_words, patch_words, IsTask, IsEvent, has_event, most_patches}
 use Rattle.lp_text.specs.Reading.{next_word, last_word, no_word, next_number, last_number, symbol_of, task_of, call_line, fork_line, task_line, event_line, patch_line, boot_line}
 use Rattle.lp_text.proofs.Numbers.{own}
 use Rattle.lp_text.proofs.Pushes.{not_same, all_at}
@@ -36,6 +36,7 @@ use Rattle.lp_text.proofs.Pushes.{not_same, all_at}
 pub form_again : (form : TraceForm) → form_of (header form) ≡ Some form
 form_again Single = refl
 form_again Stacked = refl
+form_again WithResched = refl
 
 pub event_word_again : (word : EventKeyword) → event_word_of (event_word word) ≡ Some word
 unfolding event_word_of
@@ -46,6 +47,7 @@ event_word_again event.Wake = refl
 event_word_again event.Enter = refl
 event_word_again event.Exit = refl
 event_word_again event.Idle = refl
+event_word_again event.Resched = refl
 event_word_again event.Fork = refl
 event_word_again event.Die = refl
 event_word_again event.Walk = refl
@@ -66,6 +68,7 @@ line_word_again (line.Event event.Wake) = refl
 line_word_again (line.Event event.Enter) = refl
 line_word_again (line.Event event.Exit) = refl
 line_word_again (line.Event event.Idle) = refl
+line_word_again (line.Event event.Resched) = refl
 line_word_again (line.Event event.Fork) = refl
 line_word_again (line.Event event.Die) = refl
 line_word_again (line.Event event.Walk) = refl
@@ -215,6 +218,7 @@ word_of (Wake task) = event.Wake
 word_of (Enter task) = event.Enter
 word_of (Exit task) = event.Exit
 word_of (Idle task) = event.Idle
+word_of (Resched task) = event.Resched
 word_of (Fork parent child how) = event.Fork
 word_of (Die task) = event.Die
 word_of Walk = event.Walk
@@ -222,6 +226,53 @@ word_of Stop = event.Stop
 word_of Enable = event.Enable
 word_of Disable = event.Disable
 word_of Reverse = event.Reverse
+
+-- the word of an event is one of a text's where the event has a word in it
+pub word_known : (form : TraceForm) (e : Event) → has_event form e ≡ has_word form (line.Event (word_of e))
+unfolding word_of
+word_known form (Call task func) = refl
+word_known form (Ret task) = refl
+word_known form (Sleep task) = refl
+word_known form (Wake task) = refl
+word_known form (Enter task) = refl
+word_known form (Exit task) = refl
+word_known form (Idle task) = refl
+word_known form (Resched task) = refl
+word_known form (Fork parent child how) = refl
+word_known form (Die task) = refl
+word_known form Walk = refl
+word_known form Stop = refl
+word_known form Enable = refl
+word_known form Disable = refl
+word_known form Reverse = refl
+
+-- an event's line begins with its word
+first_of_event : (symbols : List (List ℕ)) (e : Event) → get_or (event_words symbols e) 0 [] ≡ event_word (word_of e)
+unfolding word_of
+first_of_event symbols (Call task func) = refl
+first_of_event symbols (Ret task) = refl
+first_of_event symbols (Sleep task) = refl
+first_of_event symbols (Wake task) = refl
+first_of_event symbols (Enter task) = refl
+first_of_event symbols (Exit task) = refl
+first_of_event symbols (Idle task) = refl
+first_of_event symbols (Resched task) = refl
+first_of_event symbols (Fork parent child how) = refl
+first_of_event symbols (Die task) = refl
+first_of_event symbols Walk = refl
+first_of_event symbols Stop = refl
+first_of_event symbols Enable = refl
+first_of_event symbols Disable = refl
+first_of_event symbols Reverse = refl
+
+same_word : (a b : EventKeyword) → ◌≡◌ {A = Option EventKeyword} (Some a) (Some b) → a ≡ b
+same_word a b e = cc
+
+-- so a line that begins with another word spells no such event
+pub word_is : (symbols : List (List ℕ)) (word : EventKeyword) (given : List (List ℕ)) (e : Event) → event_word word ∷ given ≡ event_words symbols e → word ≡ word_of e
+word_is symbols word given e same =
+    let first : event_word word ≡ event_word (word_of e) = ap (λ ws. get_or ws 0 []) same ∙ first_of_event symbols e in
+    same_word word (word_of e) (sym (event_word_again word) ∙ (ap event_word_of first ∙ event_word_again (word_of e)))
 
 -- a line of an event that is read again
 pub record Again (symbols : List (List ℕ)) (e : Event) : Type 0 where
@@ -238,6 +289,7 @@ event_again symbols (Wake task) names differ h = record { given = decimal task.0
 event_again symbols (Enter task) names differ h = record { given = decimal task.0 ∷ []; words = refl; reads = rw (task_line_again task h) refl }
 event_again symbols (Exit task) names differ h = record { given = decimal task.0 ∷ []; words = refl; reads = rw (task_line_again task h) refl }
 event_again symbols (Idle task) names differ h = record { given = decimal task.0 ∷ []; words = refl; reads = rw (task_line_again task h) refl }
+event_again symbols (Resched task) names differ h = record { given = decimal task.0 ∷ []; words = refl; reads = rw (task_line_again task h) refl }
 event_again symbols (Fork parent child how) names differ h = record { given = decimal parent.0 ∷ decimal child.0 ∷ fork_word how ∷ []; words = refl; reads = fork_line_again parent child how h.0 h.1 }
 event_again symbols (Die task) names differ h = record { given = decimal task.0 ∷ []; words = refl; reads = rw (task_line_again task h) refl }
 event_again symbols Walk names differ h = record { given = []; words = refl; reads = refl }
@@ -254,12 +306,13 @@ boot_line_again task c h =
 -- the words after the first of a patch line
 unfoldable pub patch_given : TraceForm → ℕ → List ℕ → List (List ℕ)
 patch_given Single number func = func ∷ []
-patch_given Stacked number func = decimal number ∷ func ∷ []
+patch_given _ number func = decimal number ∷ func ∷ []
 
 pub patch_given_words : (form : TraceForm) (number : ℕ) (func : List ℕ) → patch_words form number func ≡ line_word line.Patch ∷ patch_given form number func
 unfolding patch_given
 patch_given_words Single number func = refl
 patch_given_words Stacked number func = refl
+patch_given_words WithResched number func = refl
 
 pub patch_line_again : (form : TraceForm) (number : ℕ) (func : List ℕ) → 1 ≤ number → number ≤ most_patches form → 0 < length func → patch_line form (patch_given form number func) ≡ Ok (number, func)
 unfolding patch_line patch_given
@@ -267,3 +320,4 @@ patch_line_again Single number func low high some =
     let one : 1 ≡ number = omega arith in
     rw (last_word_again func some, one) refl
 patch_line_again Stacked number func low high some = rw (next_number_again number (func ∷ []) (omega arith), last_word_again func some) refl
+patch_line_again WithResched number func low high some = rw (next_number_again number (func ∷ []) (omega arith), last_word_again func some) refl

@@ -7,7 +7,7 @@ use Rattle.std.proofs.lemmas.Bool.Decides.{Decides-ltb}
 use Rattle.std.proofs.lemmas.List.{append-nil, length-append}
 use Rattle.std.proofs.lemmas.Grind.{flat_map-append}
 use Rattle.lp_text.specs.declared.form.TraceForm.{TraceForm}
-use Rattle.lp_text.specs.declared.form.TraceForm.TheVariants.{Single, Stacked}
+use Rattle.lp_text.specs.declared.form.TraceForm.TheVariants.{Single, Stacked, WithResched}
 use Rattle.lp_text.specs.declared.of.OfFault.{OfFault}
 use Rattle.lp_text.specs.declared.of.OfFault.TheVariants.{Unwritable}
 use Rattle.lp_text.specs.declared.fault.Cause.{Cause}
@@ -107,6 +107,7 @@ pub built_empty : (form : TraceForm) → IsBuilt (empty form) 1 (length (header 
 unfolding spelling_from lines_after_header patch_lines text_of
 built_empty Single = record { spells = refl; place_is = refl; size_is = refl; few = omega arith }
 built_empty Stacked = record { spells = refl; place_is = refl; size_is = refl; few = omega arith }
+built_empty WithResched = record { spells = refl; place_is = refl; size_is = refl; few = omega arith }
 
 pub built_empty_at : (form : TraceForm) (t : TraceValue) → empty form ≡ t → (t ≡ empty form) × IsBuilt t 1 (length (header form) + 1)
 built_empty_at form t h = let P : TraceValue → Type 0 = λ v. IsBuilt v 1 (length (header form) + 1) in (sym h, subst P h (built_empty form))
@@ -224,6 +225,7 @@ module _ (t : TraceValue) (place size : ℕ) (built : IsBuilt t place size) wher
         boots = limits.boots;
         boots_differ = limits.boots_differ;
         events = limits.events;
+        events_told = limits.events_told;
         events_few = limits.events_few;
         size = omega arith;
       }

@@ -82,7 +82,7 @@ claim_line_spelled given cert h =
       lines = refl;
     })
 
--- the words after a first word spell a reason
+-- the words after a first word spell a line of a certificate
 abbrev SpellsReason : List ℕ → List (List ℕ) → Line → Type 0
 SpellsReason word given line = (word ∷ given ≡ reason_words line) × IsReason line
 

@@ -18,10 +18,10 @@ use Rattle.lp_stack.specs.declared.view.Class.TheVariants as class
 use Rattle.lp_model.specs.declared.check.ForkKind.{ForkKind}
 use Rattle.lp_model.specs.declared.check.ForkKind.TheVariants as fork
 use Rattle.lp_definitions.specs.declared.event.Event.{Event}
-use Rattle.lp_definitions.specs.declared.event.Event.TheVariants.{Call, Ret, Sleep, Wake, Enter, Exit, Idle, Fork, Die, Walk, Stop, Enable, Disable, Reverse}
+use Rattle.lp_definitions.specs.declared.event.Event.TheVariants.{Call, Ret, Sleep, Wake, Enter, Exit, Idle, Resched, Fork, Die, Walk, Stop, Enable, Disable, Reverse}
 use Rattle.lp_patch.specs.Patches.{patch_refusal}
 use Rattle.lp_text.specs.declared.form.TraceForm.{TraceForm}
-use Rattle.lp_text.specs.declared.form.TraceForm.TheVariants.{Single, Stacked}
+use Rattle.lp_text.specs.declared.form.TraceForm.TheVariants.{Single, Stacked, WithResched}
 use Rattle.lp_text.specs.declared.fault.Cause.TheVariants as cause
 use Rattle.lp_text.specs.declared.fault.TraceFault.{TraceFault}
 use Rattle.lp_text.specs.declared.fault.ReadFault.{ReadFault}
@@ -55,7 +55,7 @@ all_fold u t =
     let three : fold_lines (empty f) (map sym_words s ++ patch_lines f s 1 p ++ map boot_words b) ≡ Ok (trace f s p b []) =
     fold_append (empty f) (trace f s p [] []) (map sym_words s ++ patch_lines f s 1 p) (map boot_words b) two ∙ boots_fold f s p [] b some t.boots t.boots_differ
     in
-    fold_append (empty f) (trace f s p b []) (map sym_words s ++ patch_lines f s 1 p ++ map boot_words b) (map (event_words s) u.events) three ∙ events_fold f s p b [] u.events some t.names t.names_differ t.events t.events_few
+    fold_append (empty f) (trace f s p b []) (map sym_words s ++ patch_lines f s 1 p ++ map boot_words b) (map (event_words s) u.events) three ∙ events_fold f s p b [] u.events some t.names t.names_differ t.events t.events_told t.events_few
 
 -- ---- Words without spaces and ends
 
@@ -112,6 +112,7 @@ event_clean s (Wake task) names h = (omega arith, (refl, (task_clean task h, tt)
 event_clean s (Enter task) names h = (omega arith, (refl, (task_clean task h, tt)))
 event_clean s (Exit task) names h = (omega arith, (refl, (task_clean task h, tt)))
 event_clean s (Idle task) names h = (omega arith, (refl, (task_clean task h, tt)))
+event_clean s (Resched task) names h = (omega arith, (refl, (task_clean task h, tt)))
 event_clean s (Fork parent child how) names h = (omega arith, (refl, (task_clean parent h.0, (task_clean child h.1, (fork_clean how, tt)))))
 event_clean s (Die task) names h = (omega arith, (refl, (task_clean task h, tt)))
 event_clean s Walk names h = (omega arith, (refl, tt))
@@ -123,6 +124,7 @@ event_clean s Reverse names h = (omega arith, (refl, tt))
 function_clean : (f : TraceForm) (n : ℕ) (func : List ℕ) → n < 100000 → Clean func → CleanLine (patch_words f n func)
 function_clean Single n func small h = (omega arith, (refl, (h, tt)))
 function_clean Stacked n func small h = (omega arith, (refl, (number_clean n (omega arith), (h, tt))))
+function_clean WithResched n func small h = (omega arith, (refl, (number_clean n (omega arith), (h, tt))))
 
 module _ {A B : Type 0} (P : A → Type 0) (Q : B → Type 0) (g : A → B) (each : (x : A) → P x → Q (g x)) where
   pub all_map : (xs : List A) → AllByRecursion P xs → AllByRecursion Q (map g xs)
@@ -149,6 +151,7 @@ patches_clean f s n (ids ∷ rest) small names good =
 few_enough : (f : TraceForm) (n : ℕ) → n ≤ most_patches f → n ≤ 16
 few_enough Single n h = omega arith
 few_enough Stacked n h = h
+few_enough WithResched n h = h
 
 pub all_clean : (u : TraceValue) → IsTrace u → AllByRecursion CleanLine (lines_after_header u)
 unfolding lines_after_header
@@ -247,6 +250,7 @@ ends_well u h = rw (not_same (length u.patches) 0 (length u.patches == 0) refl (
 header_no_end : (f : TraceForm) → NoEnd (header f)
 header_no_end Single = refl
 header_no_end Stacked = refl
+header_no_end WithResched = refl
 
 -- the lines of a text that begins as a trace does
 pub header_cut : (f : TraceForm) (ls : List (List (List ℕ))) → AllByRecursion CleanLine ls → lines (header f ++ 10 ∷ [] ++ flat_map line_of ls) ≡ header f ∷ texts ls

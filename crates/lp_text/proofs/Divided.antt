@@ -9,7 +9,7 @@ use Rattle.lp_text.specs.Words.{lines, parts}
 use Rattle.lp_text.specs.CheckReading.{divided}
 use Rattle.lp_text.proofs.Cuts.{parts-some_there}
 
--- a text continues here behind some lines, none of which is `lpcert 1`
+-- a text continues here after some lines, none of which is `lpcert 1`
 pub record IsAt (text : List ℕ) (number : ℕ) (rest : List ℕ) : Type 0 where
   pub prefix : List ℕ
   pub before : List (List ℕ)
@@ -56,12 +56,12 @@ module _ (text : List ℕ) (number : ℕ) (rest : List ℕ) (here : IsAt text nu
       let prefix = here.prefix in
       let before = here.before in
       let end : List ℕ = line ++ 10 ∷ [] in
-      let behind : (tail : List ℕ) → (prefix ++ end) ++ tail ≡ prefix ++ (line ++ 10 ∷ tail) = λ tail. append_assoc prefix end tail ∙ ap (λ l. prefix ++ l) (append_assoc line (10 ∷ []) tail) in
+      let after : (tail : List ℕ) → (prefix ++ end) ++ tail ≡ prefix ++ (line ++ 10 ∷ tail) = λ tail. append_assoc prefix end tail ∙ ap (λ l. prefix ++ l) (append_assoc line (10 ∷ []) tail) in
       record {
         prefix = prefix ++ end;
         before = before ++ line ∷ [];
-        split = here.split ∙ (ap (λ l. prefix ++ l) is.whole ∙ sym (behind more));
-        cut = λ tail. ap lines (behind tail) ∙ (here.cut (line ++ 10 ∷ tail) ∙ (ap (λ l. before ++ l) (is.again tail) ∙ sym (append_assoc before (line ∷ []) (lines tail))));
+        split = here.split ∙ (ap (λ l. prefix ++ l) is.whole ∙ sym (after more));
+        cut = λ tail. ap lines (after tail) ∙ (here.cut (line ++ 10 ∷ tail) ∙ (ap (λ l. before ++ l) (is.again tail) ∙ sym (append_assoc before (line ∷ []) (lines tail))));
         divides = λ further some.
             ap divided (append_assoc before (line ∷ []) further)
             ∙ (here.divides (line ∷ further) (omega arith)

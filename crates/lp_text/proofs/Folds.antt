@@ -14,17 +14,17 @@ use Rattle.lp_patch.specs.declared.fault.PatchFault.TheVariants as patch
 use Rattle.lp_patch.specs.Patches.{first_fault, patch_refusal}
 use Rattle.lp_definitions.specs.declared.event.Event.{Event}
 use Rattle.lp_text.specs.declared.form.TraceForm.{TraceForm}
-use Rattle.lp_text.specs.declared.form.TraceForm.TheVariants.{Single, Stacked}
+use Rattle.lp_text.specs.declared.form.TraceForm.TheVariants.{Single, Stacked, WithResched}
 use Rattle.lp_text.specs.declared.keyword.LineKeyword.{LineKeyword}
 use Rattle.lp_text.specs.declared.keyword.LineKeyword.TheVariants as line
 use Rattle.lp_text.specs.declared.fault.Cause.{Cause}
-use Rattle.lp_text.specs.Words.{line_word, class_word}
-use Rattle.lp_text.specs.Traces.{TraceValue, AreNames, IsTask, IsEvent, most_patches, name, sym_words, patch_words, boot_words, event_words, patch_lines}
+use Rattle.lp_text.specs.Words.{line_word, has_word, class_word}
+use Rattle.lp_text.specs.Traces.{TraceValue, AreNames, IsTask, IsEvent, has_event, most_patches, name, sym_words, patch_words, boot_words, event_words, patch_lines}
 use Rattle.lp_text.specs.Reading.{◌>>=◌, add_symbol, begun, grown, add_function, add_boot, add_event, part_of, part_reached, first_word, line_by_word, with_line}
 use Rattle.lp_text.proofs.Choices.{bind_ok}
 use Rattle.lp_text.proofs.Pushes.{not_same, not_less, none_if, or_parts, or_false, same_either_way}
 use Rattle.lp_text.proofs.Writing.{at_most_false}
-use Rattle.lp_text.proofs.Again.{at_most, both, line_word_again, last_word_again, name_some, name_at_some, symbol_again, task_again, boot_line_again, patch_given, patch_given_words, patch_line_again, Again, event_again, word_of}
+use Rattle.lp_text.proofs.Again.{at_most, both, line_word_again, last_word_again, name_some, name_at_some, symbol_again, task_again, boot_line_again, patch_given, patch_given_words, patch_line_again, Again, event_again, word_of, word_known}
 
 abbrev pub trace : TraceForm → List (List ℕ) → List (List SymId) → List (TaskId × Class) → List Event → TraceValue
 trace f s p b e = record { form = f; symbols = s; patches = p; boots = b; events = e }
@@ -53,17 +53,17 @@ and_no : (a b : Bool) → (a ≡ true → b ≡ false) → (a && b) ≡ false
 and_no true b h = h refl
 and_no false b h = refl
 
-pub first_again : (t : TraceValue) (l : LineKeyword) → part_reached t ≤ part_of l → (2 < part_of l → 0 < length t.patches) → first_word t (line_word l) ≡ Ok l
+pub first_again : (t : TraceValue) (l : LineKeyword) → has_word t.form l ≡ true → part_reached t ≤ part_of l → (2 < part_of l → 0 < length t.patches) → first_word t (line_word l) ≡ Ok l
 unfolding first_word
-first_again t l early patched =
+first_again t l known early patched =
     let no : (nat_lt 2 (part_of l) && length t.patches == 0) ≡ false =
     and_no (nat_lt 2 (part_of l)) (length t.patches == 0) (λ h. let some : 0 < length t.patches = patched (ltb-true 2 (part_of l) h) in not_same (length t.patches) 0 (length t.patches == 0) refl (λ e. omega arith))
     in
-    rw (line_word_again l, not_less (part_of l) (part_reached t) (nat_lt (part_of l) (part_reached t)) refl early, no) refl
+    rw (line_word_again l, known, not_less (part_of l) (part_reached t) (nat_lt (part_of l) (part_reached t)) refl early, no) refl
 
-pub line_again : (t : TraceValue) (l : LineKeyword) (given : List (List ℕ)) → part_reached t ≤ part_of l → (2 < part_of l → 0 < length t.patches) → with_line t (line_word l ∷ given) ≡ line_by_word t l given
+pub line_again : (t : TraceValue) (l : LineKeyword) (given : List (List ℕ)) → has_word t.form l ≡ true → part_reached t ≤ part_of l → (2 < part_of l → 0 < length t.patches) → with_line t (line_word l ∷ given) ≡ line_by_word t l given
 unfolding with_line
-line_again t l given early patched = rw (first_again t l early patched) refl
+line_again t l given known early patched = rw (first_again t l known early patched) refl
 
 -- ---- Elements that differ
 
@@ -90,7 +90,7 @@ fresh_name (x ∷ xs) symbol h =
 symbol_step : (f : TraceForm) (done : List (List ℕ)) (symbol : List ℕ) → is_name symbol ≡ true → list_any (bytes_eq symbol) done ≡ false → ¬ (length done ≡ 4096) → with_line (trace f done [] [] []) (sym_words symbol) ≡ Ok (trace f (done ++ symbol ∷ []) [] [] [])
 unfolding line_by_word add_symbol
 symbol_step f done symbol good fresh few =
-    line_again (trace f done [] [] []) line.Sym (symbol ∷ []) (omega arith) (λ h. absurd (omega arith)) ∙ rw (last_word_again symbol (name_some symbol good), good, fresh, not_same (length done) 4096 (length done == 4096) refl few) refl
+    line_again (trace f done [] [] []) line.Sym (symbol ∷ []) refl (omega arith) (λ h. absurd (omega arith)) ∙ rw (last_word_again symbol (name_some symbol good), good, fresh, not_same (length done) 4096 (length done == 4096) refl few) refl
 
 pub symbols_fold : (f : TraceForm) (done rest : List (List ℕ)) → AreNames rest → IsDistinct bytes_eq (done ++ rest) → length (done ++ rest) ≤ 4096 → fold_lines (trace f done [] [] []) (map sym_words rest) ≡ Ok (trace f (done ++ rest) [] [] [])
 symbols_fold f done [] names differ few = ap (λ s. Ok (trace f s [] [] [])) (sym (append-nil done))
@@ -109,7 +109,7 @@ symbols_fold f done (symbol ∷ rest) names differ few =
 boot_step : (f : TraceForm) (s : List (List ℕ)) (p : List (List SymId)) (done : List (TaskId × Class)) (boot : TaskId × Class) → 0 < length p → IsTask boot.0 → list_any (λ other. other.0.0 == boot.0.0) done ≡ false → with_line (trace f s p done []) (boot_words boot) ≡ Ok (trace f s p (done ++ boot ∷ []) [])
 unfolding line_by_word add_boot
 boot_step f s p done boot patched task fresh =
-    line_again (trace f s p done []) line.Boot (decimal boot.0.0 ∷ class_word boot.1 ∷ []) (at_most_either (nat_lt 0 (length done)) 3 _ 3 (omega arith) (at_most_either (nat_lt 0 (length p)) 2 1 3 (omega arith) (omega arith))) (λ h. patched) ∙ rw (boot_line_again boot.0 boot.1 task, task_again boot.0 task, fresh) refl
+    line_again (trace f s p done []) line.Boot (decimal boot.0.0 ∷ class_word boot.1 ∷ []) refl (at_most_either (nat_lt 0 (length done)) 3 _ 3 (omega arith) (at_most_either (nat_lt 0 (length p)) 2 1 3 (omega arith) (omega arith))) (λ h. patched) ∙ rw (boot_line_again boot.0 boot.1 task, task_again boot.0 task, fresh) refl
 
 pub boots_fold : (f : TraceForm) (s : List (List ℕ)) (p : List (List SymId)) (done rest : List (TaskId × Class)) → 0 < length p → AllByRecursion (λ boot. IsTask boot.0) rest → IsDistinct (λ boot other. boot.0.0 == other.0.0) (done ++ rest) → fold_lines (trace f s p done []) (map boot_words rest) ≡ Ok (trace f s p (done ++ rest) [])
 boots_fold f s p done [] patched tasks differ = ap (λ b. Ok (trace f s p b [])) (sym (append-nil done))
@@ -123,67 +123,67 @@ boots_fold f s p done (boot ∷ rest) patched tasks differ =
 
 -- ---- Events
 
-event_step : (f : TraceForm) (s : List (List ℕ)) (p : List (List SymId)) (b : List (TaskId × Class)) (done : List Event) (e : Event) → 0 < length p → Again s e → ¬ (length done ≡ 1000000) → with_line (trace f s p b done) (event_words s e) ≡ Ok (trace f s p b (done ++ e ∷ []))
+event_step : (f : TraceForm) (s : List (List ℕ)) (p : List (List SymId)) (b : List (TaskId × Class)) (done : List Event) (e : Event) → 0 < length p → Again s e → has_event f e ≡ true → ¬ (length done ≡ 1000000) → with_line (trace f s p b done) (event_words s e) ≡ Ok (trace f s p b (done ++ e ∷ []))
 unfolding line_by_word add_event
-event_step f s p b done e patched again few =
+event_step f s p b done e patched again told few =
     let l : LineKeyword = line.Event (word_of e) in
     let all : part_reached (trace f s p b done) ≤ 4 =
     at_most_either (nat_lt 0 (length done)) 4 _ 4 (omega arith) (at_most_either (nat_lt 0 (length b)) 3 _ 4 (omega arith) (at_most_either (nat_lt 0 (length p)) 2 1 4 (omega arith) (omega arith)))
     in
-    ap (with_line (trace f s p b done)) again.words ∙ line_again (trace f s p b done) l again.given all (λ h. patched) ∙ rw (again.reads, not_same (length done) 1000000 (length done == 1000000) refl few) refl
+    ap (with_line (trace f s p b done)) again.words ∙ line_again (trace f s p b done) l again.given (sym (word_known f e) ∙ told) all (λ h. patched) ∙ rw (again.reads, not_same (length done) 1000000 (length done == 1000000) refl few) refl
 
-pub events_fold : (f : TraceForm) (s : List (List ℕ)) (p : List (List SymId)) (b : List (TaskId × Class)) (done rest : List Event) → 0 < length p → AreNames s → IsDistinct bytes_eq s → AllByRecursion (IsEvent (length s)) rest → length (done ++ rest) ≤ 1000000 → fold_lines (trace f s p b done) (map (event_words s) rest) ≡ Ok (trace f s p b (done ++ rest))
-events_fold f s p b done [] patched names differ fits few = ap (λ e. Ok (trace f s p b e)) (sym (append-nil done))
-events_fold f s p b done (e ∷ rest) patched names differ fits few =
+pub events_fold : (f : TraceForm) (s : List (List ℕ)) (p : List (List SymId)) (b : List (TaskId × Class)) (done rest : List Event) → 0 < length p → AreNames s → IsDistinct bytes_eq s → AllByRecursion (IsEvent (length s)) rest → AllByRecursion (λ e. has_event f e ≡ true) rest → length (done ++ rest) ≤ 1000000 → fold_lines (trace f s p b done) (map (event_words s) rest) ≡ Ok (trace f s p b (done ++ rest))
+events_fold f s p b done [] patched names differ fits told few = ap (λ e. Ok (trace f s p b e)) (sym (append-nil done))
+events_fold f s p b done (e ∷ rest) patched names differ fits told few =
     let same : (done ++ e ∷ []) ++ rest ≡ done ++ e ∷ rest = append_assoc done (e ∷ []) rest in
     let long : length (done ++ e ∷ rest) ≡ length done + length (e ∷ rest) = length-append done (e ∷ rest) in
     let L : List Event → Type 0 = λ es. length es ≤ 1000000 in
     let R : List Event → Type 0 = λ es. fold_lines (trace f s p b (done ++ e ∷ [])) (map (event_words s) rest) ≡ Ok (trace f s p b es) in
-    let here = event_step f s p b done e patched (event_again s e names differ fits.0) (λ h. omega arith) in
-    let after = events_fold f s p b (done ++ e ∷ []) rest patched names differ fits.1 (subst L (sym same) few) in
+    let here = event_step f s p b done e patched (event_again s e names differ fits.0) told.0 (λ h. omega arith) in
+    let after = events_fold f s p b (done ++ e ∷ []) rest patched names differ fits.1 told.1 (subst L (sym same) few) in
     fold_step (trace f s p b done) (trace f s p b (done ++ e ∷ [])) (trace f s p b (done ++ e ∷ rest)) (event_words s e) (map (event_words s) rest) here (subst R same after)
 
 -- ---- Patches
 
 -- the patches while one of them is written: it is there from its first function on
-pub standing : List (List SymId) → List SymId → List (List SymId)
-standing prefix [] = prefix
-standing prefix (id ∷ ids) = prefix ++ (id ∷ ids) ∷ []
+pub patches_so_far : List (List SymId) → List SymId → List (List SymId)
+patches_so_far prefix [] = prefix
+patches_so_far prefix (id ∷ ids) = prefix ++ (id ∷ ids) ∷ []
 
 at_end_of : (prefix : List (List SymId)) (had : List SymId) → slice_index_or (prefix ++ had ∷ []) (length prefix) [] ≡ had
 at_end_of [] had = refl
 at_end_of (p ∷ ps) had = at_end_of ps had
 
-pub prefix_of : (prefix : List (List SymId)) (had : List SymId) → take (length prefix) (standing prefix had) ≡ prefix
-unfolding standing
+pub prefix_of : (prefix : List (List SymId)) (had : List SymId) → take (length prefix) (patches_so_far prefix had) ≡ prefix
+unfolding patches_so_far
 prefix_of prefix [] = take_all (length prefix) prefix (omega arith)
 prefix_of [] (id ∷ ids) = refl
 prefix_of (p ∷ ps) (id ∷ ids) = ap (λ r. p ∷ r) (prefix_of ps (id ∷ ids))
 
-pub more_standing : (prefix : List (List SymId)) (had : List SymId) (func : SymId) → prefix ++ (had ++ func ∷ []) ∷ [] ≡ standing prefix (had ++ func ∷ [])
-unfolding standing
-more_standing prefix [] func = refl
-more_standing prefix (id ∷ ids) func = refl
+pub more_so_far : (prefix : List (List SymId)) (had : List SymId) (func : SymId) → prefix ++ (had ++ func ∷ []) ∷ [] ≡ patches_so_far prefix (had ++ func ∷ [])
+unfolding patches_so_far
+more_so_far prefix [] func = refl
+more_so_far prefix (id ∷ ids) func = refl
 
-pub stands : (prefix : List (List SymId)) (ids : List SymId) → 0 < length ids → standing prefix ids ≡ prefix ++ ids ∷ []
-unfolding standing
+pub stands : (prefix : List (List SymId)) (ids : List SymId) → 0 < length ids → patches_so_far prefix ids ≡ prefix ++ ids ∷ []
+unfolding patches_so_far
 stands prefix [] h = absurd (omega arith)
 stands prefix (id ∷ ids) h = refl
 
-pub none_stands : (prefix : List (List SymId)) → standing prefix [] ≡ prefix
-unfolding standing
+pub none_stands : (prefix : List (List SymId)) → patches_so_far prefix [] ≡ prefix
+unfolding patches_so_far
 none_stands prefix = refl
 
-pub standing_last : (prefix : List (List SymId)) (had : List SymId) → slice_index_or (standing prefix had) (length prefix) [] ≡ had
-unfolding standing
-standing_last prefix [] = get_or_past prefix (length prefix) [] (omega arith)
-standing_last prefix (id ∷ ids) = at_end_of prefix (id ∷ ids)
+pub last_so_far : (prefix : List (List SymId)) (had : List SymId) → slice_index_or (patches_so_far prefix had) (length prefix) [] ≡ had
+unfolding patches_so_far
+last_so_far prefix [] = get_or_past prefix (length prefix) [] (omega arith)
+last_so_far prefix (id ∷ ids) = at_end_of prefix (id ∷ ids)
 
 same_number : (n : ℕ) → (n == n) ≡ true
 same_number n = (Decides-eqb n n).1 refl
 
-begun_again : (prefix : List (List SymId)) (had : List SymId) (number : ℕ) → number ≡ length prefix + 1 → number ≤ 16 → begun (standing prefix had) number ≡ Ok had
-unfolding begun standing
+begun_again : (prefix : List (List SymId)) (had : List SymId) (number : ℕ) → number ≡ length prefix + 1 → number ≤ 16 → begun (patches_so_far prefix had) number ≡ Ok had
+unfolding begun patches_so_far
 begun_again prefix [] number at few =
     let here : ((number == length prefix + 1) && nat_le number 16) ≡ true = both (number == length prefix + 1) (nat_le number 16) ((Decides-eqb number (length prefix + 1)).1 at) (at_most number 16 few) in
     rw (not_same number 0 (number == 0) refl (λ e. omega arith), not_same number (length prefix) (number == length prefix) refl (λ e. omega arith), here) refl
@@ -228,34 +228,35 @@ good_from count (id ∷ ids) h =
 few_enough : (f : TraceForm) (n : ℕ) → n ≤ most_patches f → n ≤ 16
 few_enough Single n h = omega arith
 few_enough Stacked n h = h
+few_enough WithResched n h = h
 
 module _ (f : TraceForm) (s : List (List ℕ)) (names : AreNames s) (differ : IsDistinct bytes_eq s) (prefix : List (List SymId)) (room : length prefix + 1 ≤ most_patches f) where
   sixteen : length prefix + 1 ≤ 16
   sixteen = few_enough f (length prefix + 1) room
 
-  function_step : (had : List SymId) (func : SymId) → func.0 < length s → list_any (λ id. id.0 == func.0) had ≡ false → ¬ (length had ≡ 256) → with_line (trace f s (standing prefix had) [] []) (patch_words f (length prefix + 1) (name s func)) ≡ Ok (trace f s (standing prefix (had ++ func ∷ [])) [] [])
+  function_step : (had : List SymId) (func : SymId) → func.0 < length s → list_any (λ id. id.0 == func.0) had ≡ false → ¬ (length had ≡ 256) → with_line (trace f s (patches_so_far prefix had) [] []) (patch_words f (length prefix + 1) (name s func)) ≡ Ok (trace f s (patches_so_far prefix (had ++ func ∷ [])) [] [])
   unfolding line_by_word add_function grown
   function_step had func known fresh few =
-      let t : TraceValue = trace f s (standing prefix had) [] [] in
-      let early : part_reached t ≤ 2 = at_most_either (nat_lt 0 (length (standing prefix had))) 2 1 2 (omega arith) (omega arith) in
+      let t : TraceValue = trace f s (patches_so_far prefix had) [] [] in
+      let early : part_reached t ≤ 2 = at_most_either (nat_lt 0 (length (patches_so_far prefix had))) 2 1 2 (omega arith) (omega arith) in
       let some : 0 < length (name s func) = name_at_some s func names known in
       let place : length prefix + 1 - 1 ≡ length prefix = omega arith in
       ap (with_line t) (patch_given_words f (length prefix + 1) (name s func))
-      ∙ line_again t line.Patch (patch_given f (length prefix + 1) (name s func)) early (λ h. absurd (omega arith))
-      ∙ rw (patch_line_again f (length prefix + 1) (name s func) (omega arith) room some, symbol_again s func differ known, begun_again prefix had (length prefix + 1) refl sixteen, fresh, not_same (length had) 256 (length had == 256) refl few, place, prefix_of prefix had, more_standing prefix had func) refl
+      ∙ line_again t line.Patch (patch_given f (length prefix + 1) (name s func)) refl early (λ h. absurd (omega arith))
+      ∙ rw (patch_line_again f (length prefix + 1) (name s func) (omega arith) room some, symbol_again s func differ known, begun_again prefix had (length prefix + 1) refl sixteen, fresh, not_same (length had) 256 (length had == 256) refl few, place, prefix_of prefix had, more_so_far prefix had func) refl
 
-  functions_fold : (had rest : List SymId) → Good (length s) (had ++ rest) → fold_lines (trace f s (standing prefix had) [] []) (map (λ func. patch_words f (length prefix + 1) (name s func)) rest) ≡ Ok (trace f s (standing prefix (had ++ rest)) [] [])
-  functions_fold had [] good = ap (λ h. Ok (trace f s (standing prefix h) [] [])) (sym (append-nil had))
+  functions_fold : (had rest : List SymId) → Good (length s) (had ++ rest) → fold_lines (trace f s (patches_so_far prefix had) [] []) (map (λ func. patch_words f (length prefix + 1) (name s func)) rest) ≡ Ok (trace f s (patches_so_far prefix (had ++ rest)) [] [])
+  functions_fold had [] good = ap (λ h. Ok (trace f s (patches_so_far prefix h) [] [])) (sym (append-nil had))
   functions_fold had (func ∷ rest) good =
       let same : (had ++ func ∷ []) ++ rest ≡ had ++ func ∷ rest = append_assoc had (func ∷ []) rest in
       let long : length (had ++ func ∷ rest) ≡ length had + length (func ∷ rest) = length-append had (func ∷ rest) in
       let most : length (had ++ func ∷ rest) ≤ 256 = good.few in
       let G : List SymId → Type 0 = λ ids. Good (length s) ids in
       let words : SymId → List (List ℕ) = λ func. patch_words f (length prefix + 1) (name s func) in
-      let R : List SymId → Type 0 = λ ids. fold_lines (trace f s (standing prefix (had ++ func ∷ [])) [] []) (map words rest) ≡ Ok (trace f s (standing prefix ids) [] []) in
+      let R : List SymId → Type 0 = λ ids. fold_lines (trace f s (patches_so_far prefix (had ++ func ∷ [])) [] []) (map words rest) ≡ Ok (trace f s (patches_so_far prefix ids) [] []) in
       let here = function_step had func (fault_known (length s) [] had func rest good.plain) (fault_fresh (length s) [] had func rest good.plain) (λ e. omega arith) in
       let after = functions_fold (had ++ func ∷ []) rest (subst G (sym same) good) in
-      fold_step (trace f s (standing prefix had) [] []) (trace f s (standing prefix (had ++ func ∷ [])) [] []) (trace f s (standing prefix (had ++ func ∷ rest)) [] []) (words func) (map words rest) here (subst R same after)
+      fold_step (trace f s (patches_so_far prefix had) [] []) (trace f s (patches_so_far prefix (had ++ func ∷ [])) [] []) (trace f s (patches_so_far prefix (had ++ func ∷ rest)) [] []) (words func) (map words rest) here (subst R same after)
 
   pub patch_fold : (ids : List SymId) → Good (length s) ids → fold_lines (trace f s prefix [] []) (map (λ func. patch_words f (length prefix + 1) (name s func)) ids) ≡ Ok (trace f s (prefix ++ ids ∷ []) [] [])
   patch_fold ids good =

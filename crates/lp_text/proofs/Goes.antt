@@ -16,7 +16,7 @@ use Rattle.std.proofs.lemmas.Bool.{eqb-true}
 use Rattle.lp_symbols.specs.declared.sym_id.SymId.{SymId}
 use Rattle.lp_text.specs.Build.{spelling_from, asked_patch, asked_patches, IsOfFault, GivesPart}
 use Rattle.lp_text.specs.inside.Builders.{IsBuilt}
-use Rattle.lp_text.proofs.Folds.{standing, prefix_of, more_standing, standing_last}
+use Rattle.lp_text.proofs.Folds.{patches_so_far, prefix_of, more_so_far, last_so_far}
 use Rattle.lp_text.proofs.Builders.{built_append, built_limits, line_refused, spelling_stops}
 use Rattle.lp_text.proofs.Steps.{most_sixteen}
 use Rattle.lp_text.proofs.Parts.{before_boots, no_function_line}
@@ -86,7 +86,7 @@ module _ (from now u : TraceValue) where
       k ∙ ap add h ∙ ap (λ y. put ((from.events ++ take i xs) ++ y ∷ [])) is ∙ ap put (append_next from.events xs i d below)
 
 -- a function more of the patch of a number, which is the next one
-pub functions_next : (from now u : TraceValue) (number : ℕ) (ids : List SymId) (i : ℕ) (d : SymId) → number ≡ length from.patches + 1 → i < length ids → now ≡ record from { patches = standing from.patches (take i ids) } → u ≡ record now { patches = take (number - 1) now.patches ++ (slice_index_or now.patches (number - 1) [] ++ get_or ids i d ∷ []) ∷ [] } → u ≡ record from { patches = standing from.patches (take (i + 1) ids) }
+pub functions_next : (from now u : TraceValue) (number : ℕ) (ids : List SymId) (i : ℕ) (d : SymId) → number ≡ length from.patches + 1 → i < length ids → now ≡ record from { patches = patches_so_far from.patches (take i ids) } → u ≡ record now { patches = take (number - 1) now.patches ++ (slice_index_or now.patches (number - 1) [] ++ get_or ids i d ∷ []) ∷ [] } → u ≡ record from { patches = patches_so_far from.patches (take (i + 1) ids) }
 functions_next from now u number ids i d next below h k =
     let prefix : List (List SymId) = from.patches in
     let had : List SymId = take i ids in
@@ -96,11 +96,11 @@ functions_next from now u number ids i d next below h k =
     let at : number - 1 ≡ length prefix = omega arith in
     k
     ∙ ap (add (number - 1)) h
-    ∙ ap (λ n. add n (put (standing prefix had))) at
-    ∙ ap (λ p. put (p ++ (slice_index_or (standing prefix had) (length prefix) [] ++ func ∷ []) ∷ [])) (prefix_of prefix had)
-    ∙ ap (λ l. put (prefix ++ (l ++ func ∷ []) ∷ [])) (standing_last prefix had)
-    ∙ ap put (more_standing prefix had func)
-    ∙ ap (λ l. put (standing prefix l)) (sym (take_next ids i d below))
+    ∙ ap (λ n. add n (put (patches_so_far prefix had))) at
+    ∙ ap (λ p. put (p ++ (slice_index_or (patches_so_far prefix had) (length prefix) [] ++ func ∷ []) ∷ [])) (prefix_of prefix had)
+    ∙ ap (λ l. put (prefix ++ (l ++ func ∷ []) ∷ [])) (last_so_far prefix had)
+    ∙ ap put (more_so_far prefix had func)
+    ∙ ap (λ l. put (patches_so_far prefix l)) (sym (take_next ids i d below))
 
 -- a patch with functions asks for these
 pub some_there : {X : Type 0} (xs : List X) → (length xs == 0) ≡ false → 0 < length xs

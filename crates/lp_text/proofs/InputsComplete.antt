@@ -14,7 +14,7 @@ use Rattle.lp_text.specs.declared.fault.Cause.TheVariants as cause
 use Rattle.lp_text.specs.declared.fault.TraceFault.{TraceFault}
 use Rattle.lp_text.specs.declared.fault.ReadFault.{ReadFault}
 use Rattle.lp_text.specs.declared.form.TraceForm.{TraceForm}
-use Rattle.lp_text.specs.declared.form.TraceForm.TheVariants.{Single, Stacked}
+use Rattle.lp_text.specs.declared.form.TraceForm.TheVariants.{Single, Stacked, WithResched}
 use Rattle.lp_text.specs.Faults.{Gives}
 use Rattle.lp_text.specs.Words.{event_word_of, header, line_of, line_word_of, lines, parts, words}
 use Rattle.lp_text.specs.Traces.{TraceValue, lines_after_header, text_of}
@@ -79,6 +79,7 @@ divided_again t u (ws ∷ ls) after clean h =
 header_other : (form : TraceForm) → bytes_eq (header form) (codes "lpcert 1") ≡ false
 header_other Single = refl
 header_other Stacked = refl
+header_other WithResched = refl
 
 -- ---- The input
 

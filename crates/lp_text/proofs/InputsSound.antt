@@ -131,9 +131,9 @@ divided_read (line ∷ next ∷ rest) more h =
 
 -- ---- The input
 
-behind : (number : ℕ) (o : Option (List (List ℕ))) (cert : Cert) → cert_after number o ≡ Ok cert → (more : List (List ℕ)) × (o ≡ Some more) × (cert_from (number + 1) more ≡ Ok cert)
-behind number None cert h = absurd (cc h)
-behind number (Some more) cert h = (more, refl, h)
+after : (number : ℕ) (o : Option (List (List ℕ))) (cert : Cert) → cert_after number o ≡ Ok cert → (more : List (List ℕ)) × (o ≡ Some more) × (cert_from (number + 1) more ≡ Ok cert)
+after number None cert h = absurd (cc h)
+after number (Some more) cert h = (more, refl, h)
 
 pub sound_input : (text : List ℕ) (input : CheckInput) → check_reading text ≡ Ok input → IsInput input × (text ≡ input_text input)
 unfolding check_reading
@@ -142,7 +142,7 @@ sound_input text input h =
     let parts : List (List ℕ) × Option (List (List ℕ)) = divided (lines text) in
     let t = bind_ok (reading_lines parts.0) _ input a.1 in
     let d = bind_ok (cert_after (length parts.0) parts.1) _ input t.2 in
-    let e = behind (length parts.0) parts.1 d.0 d.1 in
+    let e = after (length parts.0) parts.1 d.0 d.1 in
     let trace = lines_read parts.0 t.0 t.1 in
     let cert = cert_read (length parts.0 + 1) e.0 d.0 e.2 in
     let cut = divided_read (lines text) e.0 e.1 in

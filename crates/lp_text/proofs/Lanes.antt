@@ -13,8 +13,8 @@ use Rattle.memchr.specs.Find.{NoneBefore, Passes, is_byte}
 abbrev pub IsFirstPlace : ℕ → List ℕ → ℕ → Type 0
 IsFirstPlace byte text place = NoneBefore (Passes (is_byte byte) text) 0 (length text) place × Passes (is_byte byte) text place
 
-behind_some : (byte : ℕ) (text : List ℕ) (place : ℕ) → 32 ≤ length text → place < 32 → place ≡ prefix_len (λ x. not (is_byte byte x)) (chunk 0 32 text) → IsFirstPlace byte text place
-behind_some byte text place enough small is =
+after_some : (byte : ℕ) (text : List ℕ) (place : ℕ) → 32 ≤ length text → place < 32 → place ≡ prefix_len (λ x. not (is_byte byte x)) (chunk 0 32 text) → IsFirstPlace byte text place
+after_some byte text place enough small is =
     let fails = run_in_chunk_fails (is_byte byte) text 0 32 place 0 enough is in
     let stops = run_in_chunk_stops (is_byte byte) text 0 32 place 0 enough is small in (
       record {
@@ -39,7 +39,7 @@ of_marks byte text marks enough are some =
     let lowest : trailing_zeros w64 marks ≡ prefix_len (λ x. not (is_byte byte x)) (chunk 0 32 text) = ap (trailing_zeros w64) are ∙ trailing_mask_l (is_byte byte) 64 (chunk 0 32 text) (omega arith) (omega arith) in
     let bits = bit_at-trailing_zeros w64 marks (omega arith) (omega arith) in
     let small : trailing_zeros w64 marks < length (map (is_byte byte) (chunk 0 32 text)) = within (map (is_byte byte) (chunk 0 32 text)) (trailing_zeros w64 marks) (ap (λ m. bit_at m (trailing_zeros w64 marks)) (sym are) ∙ bits.1) in
-    behind_some byte text (trailing_zeros w64 marks) enough (omega arith) lowest
+    after_some byte text (trailing_zeros w64 marks) enough (omega arith) lowest
 
 pub first_marked : (byte : ℕ) (text : List ℕ) → 32 ≤ length text → ¬ (mask_l (map (top 7) (zip2 (λ a b. cond (eqb a b) 255 0) (chunk 0 32 text) (replicate 32 byte))) % 2 ^ 64 ≡ 0) → IsFirstPlace byte text (trailing_zeros w64 (mask_l (map (top 7) (zip2 (λ a b. cond (eqb a b) 255 0) (chunk 0 32 text) (replicate 32 byte))) % 2 ^ 64))
 first_marked byte text enough some =

@@ -35,3 +35,4 @@ pub mod CertAgain
 pub mod InputsSound
 pub mod InputsComplete
 pub mod StreamFaults
+pub mod Early

@@ -38,7 +38,7 @@ fault_then read.NoMemory x f h = tt
 fault_then (read.Trace fault) x f h = ap (λ y. y >>= f) h
 
 module _ (text line rest : List ℕ) (cut : parts 10 text ≡ line ∷ parts 10 rest) where
-  begins : reading_lines (parts 10 text) ≡ (fault_at 1 (needs cause.Header (form_of line)) >>= λ form. reading_from 2 (empty form) (parts 10 rest))
+  pub begins : reading_lines (parts 10 text) ≡ (fault_at 1 (needs cause.Header (form_of line)) >>= λ form. reading_from 2 (empty form) (parts 10 rest))
   begins = ap reading_lines cut ∙ first_step line rest
 
   pub begins_ok : (parser : TraceValue) → fault_at 1 (needs cause.Header (form_of line)) ≡ Ok parser.form → parser ≡ empty parser.form → reading_lines (parts 10 text) ≡ reading_from 2 parser (parts 10 rest)

@@ -1,5 +1,5 @@
 -- The line of a part, as a reader takes it.
-use Rattle.std.proofs.Common.{◌≡◌, ◌<◌, ◌≤◌, ◌-◌, ℕ, List, [], ◌∷◌, ◌++◌, length, take, Result, Ok, Err, refl, sym, ap, ◌∙◌, arith, ◌⊎◌, inl, inr}
+use Rattle.std.proofs.Common.{◌≡◌, ◌<◌, ◌≤◌, ◌-◌, ℕ, Bool, true, false, List, [], ◌∷◌, ◌++◌, length, take, Result, Ok, Err, refl, sym, ap, ◌∙◌, arith, ◌⊎◌, inl, inr}
 use Rattle.std.specs.Prelude.{nat_lt, nat_le, ◌==◌, ◌&&◌, decimal, slice_index_or, IsErr}
 use Rattle.std.specs.List.{IsDistinct, list_any}
 use Rattle.std.specs.Str.{bytes_eq}
@@ -9,22 +9,22 @@ use Rattle.lp_stack.specs.declared.number.TaskId.{TaskId}
 use Rattle.lp_stack.specs.declared.view.Class.{Class}
 use Rattle.lp_model.specs.declared.check.ForkKind.{ForkKind}
 use Rattle.lp_definitions.specs.declared.event.Event.{Event}
-use Rattle.lp_definitions.specs.declared.event.Event.TheVariants.{Call, Ret, Sleep, Wake, Enter, Exit, Idle, Fork, Die, Walk, Stop, Enable, Disable, Reverse}
+use Rattle.lp_definitions.specs.declared.event.Event.TheVariants.{Call, Ret, Sleep, Wake, Enter, Exit, Idle, Resched, Fork, Die, Walk, Stop, Enable, Disable, Reverse}
 use Rattle.lp_text.specs.declared.form.TraceForm.{TraceForm}
-use Rattle.lp_text.specs.declared.form.TraceForm.TheVariants.{Single, Stacked}
+use Rattle.lp_text.specs.declared.form.TraceForm.TheVariants.{Single, Stacked, WithResched}
 use Rattle.lp_text.specs.declared.keyword.LineKeyword.TheVariants as line
 use Rattle.lp_text.specs.declared.fault.Cause.{Cause}
 use Rattle.lp_text.specs.declared.fault.Cause.TheVariants as cause
 use Rattle.lp_text.specs.declared.keyword.EventKeyword.{EventKeyword}
 use Rattle.lp_text.specs.declared.keyword.EventKeyword.TheVariants as event
 use Rattle.lp_text.specs.inside.Builders.{IsOut}
-use Rattle.lp_text.specs.Words.{class_word, event_word, fork_kind_of, fork_word}
-use Rattle.lp_text.specs.Traces.{TraceValue, AreNames, IsEvent, name, sym_words, patch_words, boot_words, event_words}
-use Rattle.lp_text.specs.Reading.{◌>>=◌, needs, next_number, last_number, last_word, symbol_of, task_of, task_line, call_line, fork_line, patch_line, boot_line, event_line, add_symbol, add_function, add_boot, add_event, grown, part_reached, line_by_word, with_line}
+use Rattle.lp_text.specs.Words.{class_word, event_word, has_word, fork_kind_of, fork_word}
+use Rattle.lp_text.specs.Traces.{TraceValue, AreNames, IsEvent, has_event, name, sym_words, patch_words, boot_words, event_words}
+use Rattle.lp_text.specs.Reading.{◌>>=◌, needs, next_number, last_number, last_word, symbol_of, task_of, task_line, call_line, fork_line, patch_line, boot_line, event_line, add_symbol, add_function, add_boot, add_event, grown, part_reached, first_word, line_by_word, with_line}
 use Rattle.lp_text.proofs.Choices.{guard_ok, pass_ok, bind_ok, ok_is}
 use Rattle.lp_text.proofs.Spelled.{next_number_spelled, task_spelled}
 use Rattle.lp_text.proofs.Steps.{SoFar, grown_parts}
-use Rattle.lp_text.proofs.Again.{last_word_again, next_number_again, last_number_again, class_word_some, class_again, patch_given, patch_given_words, symbol_again, event_again, word_of}
+use Rattle.lp_text.proofs.Again.{last_word_again, next_number_again, last_number_again, class_word_some, class_again, patch_given, patch_given_words, symbol_again, event_again, line_word_again, word_of, word_known}
 use Rattle.lp_text.proofs.Folds.{line_again, at_most_either}
 
 -- ---- Parts that have not begun
@@ -46,7 +46,7 @@ before_end t =
 
 pub symbol_line : (t : TraceValue) (symbol : List ℕ) → part_reached t ≤ 1 → 0 < length symbol → with_line t (sym_words symbol) ≡ add_symbol t symbol
 unfolding line_by_word
-symbol_line t symbol early some = line_again t line.Sym (symbol ∷ []) early (λ h. absurd (omega arith)) ∙ rw (last_word_again symbol some) refl
+symbol_line t symbol early some = line_again t line.Sym (symbol ∷ []) refl early (λ h. absurd (omega arith)) ∙ rw (last_word_again symbol some) refl
 
 pub symbol_added : (t u : TraceValue) (symbol : List ℕ) → add_symbol t symbol ≡ Ok u → u ≡ record t { symbols = t.symbols ++ symbol ∷ [] }
 unfolding add_symbol
@@ -61,15 +61,17 @@ patch_line_of : (form : TraceForm) (number : ℕ) (func : List ℕ) → (form �
 unfolding patch_line patch_given
 patch_line_of Single number func single small some = rw (last_word_again func some, single refl) refl
 patch_line_of Stacked number func single small some = rw (next_number_again number (func ∷ []) small, last_word_again func some) refl
+patch_line_of WithResched number func single small some = rw (next_number_again number (func ∷ []) small, last_word_again func some) refl
 
 patch_line_none : (form : TraceForm) (number : ℕ) → number < 100000 → patch_line form (patch_given form number []) ≡ Err cause.Shape
 unfolding patch_line patch_given last_word
 patch_line_none Single number small = refl
 patch_line_none Stacked number small = rw (next_number_again number ([] ∷ []) small) refl
+patch_line_none WithResched number small = rw (next_number_again number ([] ∷ []) small) refl
 
 module _ (t : TraceValue) (number : ℕ) (early : part_reached t ≤ 2) (small : number < 100000) where
   patch_words_line : (func : List ℕ) → with_line t (patch_words t.form number func) ≡ line_by_word t line.Patch (patch_given t.form number func)
-  patch_words_line func = ap (with_line t) (patch_given_words t.form number func) ∙ line_again t line.Patch (patch_given t.form number func) early (λ h. absurd (omega arith))
+  patch_words_line func = ap (with_line t) (patch_given_words t.form number func) ∙ line_again t line.Patch (patch_given t.form number func) refl early (λ h. absurd (omega arith))
 
   pub function_line : (func : List ℕ) → (t.form ≡ Single → number ≡ 1) → 0 < length func → with_line t (patch_words t.form number func) ≡ add_function t (number, func)
   unfolding line_by_word
@@ -95,7 +97,7 @@ function_added t u number func s known h =
 pub boot_task_line : (t : TraceValue) (task : TaskId) (class : Class) → part_reached t ≤ 3 → 0 < length t.patches → task.0 < 100000 → with_line t (boot_words (task, class)) ≡ add_boot t (task.0, class)
 unfolding line_by_word boot_line
 boot_task_line t task class early patched small =
-    line_again t line.Boot (decimal task.0 ∷ class_word class ∷ []) early (λ h. patched) ∙ rw (next_number_again task.0 (class_word class ∷ []) small, last_word_again (class_word class) (class_word_some class), class_again class) refl
+    line_again t line.Boot (decimal task.0 ∷ class_word class ∷ []) refl early (λ h. patched) ∙ rw (next_number_again task.0 (class_word class ∷ []) small, last_word_again (class_word class) (class_word_some class), class_again class) refl
 
 task_same : (task given : TaskId) → task_of task.0 ≡ Ok given → given ≡ task
 unfolding task_of
@@ -111,14 +113,14 @@ boot_added t u task class h =
 
 -- ---- An event
 
-pub event_read : (t : TraceValue) (e : Event) → AreNames t.symbols → IsDistinct bytes_eq t.symbols → 0 < length t.patches → IsEvent (length t.symbols) e → with_line t (event_words t.symbols e) ≡ add_event t e
+pub event_read : (t : TraceValue) (e : Event) → AreNames t.symbols → IsDistinct bytes_eq t.symbols → 0 < length t.patches → IsEvent (length t.symbols) e → has_event t.form e ≡ true → with_line t (event_words t.symbols e) ≡ add_event t e
 unfolding line_by_word
-event_read t e names differ patched fits =
+event_read t e names differ patched fits told =
     let again = event_again t.symbols e names differ fits in
-    ap (with_line t) again.words ∙ line_again t (line.Event (word_of e)) again.given (before_end t) (λ h. patched) ∙ rw again.reads refl
+    ap (with_line t) again.words ∙ line_again t (line.Event (word_of e)) again.given (sym (word_known t.form e) ∙ told) (before_end t) (λ h. patched) ∙ rw again.reads refl
 
-pub event_line_of : (t : TraceValue) (e : Event) → SoFar t → 0 < length t.patches → IsEvent (length t.symbols) e → with_line t (event_words t.symbols e) ≡ add_event t e
-event_line_of t e s patched fits = event_read t e s.names s.names_differ patched fits
+pub event_line_of : (t : TraceValue) (e : Event) → SoFar t → 0 < length t.patches → IsEvent (length t.symbols) e → has_event t.form e ≡ true → with_line t (event_words t.symbols e) ≡ add_event t e
+event_line_of t e s patched fits told = event_read t e s.names s.names_differ patched fits told
 
 pub event_added : (t u : TraceValue) (e : Event) → add_event t e ≡ Ok u → u ≡ record t { events = t.events ++ e ∷ [] }
 unfolding add_event
@@ -195,27 +197,54 @@ record Unread (s : List (List ℕ)) (e : Event) : Type 0 where
   word : EventKeyword
   given : List (List ℕ)
   words : event_words s e ≡ event_word word ∷ given
+  known : (form : TraceForm) → has_event form e ≡ has_word form (line.Event word)
   refused : IsErr (event_line s word given)
 
 unread : (s : List (List ℕ)) (e : Event) → IsOut (length s) e → Unread s e
 unfolding event_line
-unread s (Call task func) out = record { word = event.Call; given = decimal task.0 ∷ name s func ∷ []; words = refl; refused = no_call_line s task func out }
-unread s (Ret task) out = record { word = event.Ret; given = decimal task.0 ∷ []; words = refl; refused = err_of _ _ (no_task_line task out) }
-unread s (Sleep task) out = record { word = event.Sleep; given = decimal task.0 ∷ []; words = refl; refused = err_of _ _ (no_task_line task out) }
-unread s (Wake task) out = record { word = event.Wake; given = decimal task.0 ∷ []; words = refl; refused = err_of _ _ (no_task_line task out) }
-unread s (Enter task) out = record { word = event.Enter; given = decimal task.0 ∷ []; words = refl; refused = err_of _ _ (no_task_line task out) }
-unread s (Exit task) out = record { word = event.Exit; given = decimal task.0 ∷ []; words = refl; refused = err_of _ _ (no_task_line task out) }
-unread s (Idle task) out = record { word = event.Idle; given = decimal task.0 ∷ []; words = refl; refused = err_of _ _ (no_task_line task out) }
-unread s (Fork parent child how) out = record { word = event.Fork; given = decimal parent.0 ∷ decimal child.0 ∷ fork_word how ∷ []; words = refl; refused = no_fork_line parent child how out }
-unread s (Die task) out = record { word = event.Die; given = decimal task.0 ∷ []; words = refl; refused = err_of _ _ (no_task_line task out) }
+unread s (Call task func) out = record { word = event.Call; given = decimal task.0 ∷ name s func ∷ []; words = refl; known = λ form. refl; refused = no_call_line s task func out }
+unread s (Ret task) out = record { word = event.Ret; given = decimal task.0 ∷ []; words = refl; known = λ form. refl; refused = err_of _ _ (no_task_line task out) }
+unread s (Sleep task) out = record { word = event.Sleep; given = decimal task.0 ∷ []; words = refl; known = λ form. refl; refused = err_of _ _ (no_task_line task out) }
+unread s (Wake task) out = record { word = event.Wake; given = decimal task.0 ∷ []; words = refl; known = λ form. refl; refused = err_of _ _ (no_task_line task out) }
+unread s (Enter task) out = record { word = event.Enter; given = decimal task.0 ∷ []; words = refl; known = λ form. refl; refused = err_of _ _ (no_task_line task out) }
+unread s (Exit task) out = record { word = event.Exit; given = decimal task.0 ∷ []; words = refl; known = λ form. refl; refused = err_of _ _ (no_task_line task out) }
+unread s (Idle task) out = record { word = event.Idle; given = decimal task.0 ∷ []; words = refl; known = λ form. refl; refused = err_of _ _ (no_task_line task out) }
+unread s (Resched task) out = record { word = event.Resched; given = decimal task.0 ∷ []; words = refl; known = λ form. refl; refused = err_of _ _ (no_task_line task out) }
+unread s (Fork parent child how) out = record { word = event.Fork; given = decimal parent.0 ∷ decimal child.0 ∷ fork_word how ∷ []; words = refl; known = λ form. refl; refused = no_fork_line parent child how out }
+unread s (Die task) out = record { word = event.Die; given = decimal task.0 ∷ []; words = refl; known = λ form. refl; refused = err_of _ _ (no_task_line task out) }
 unread s Walk out = absurd out
 unread s Stop out = absurd out
 unread s Enable out = absurd out
 unread s Disable out = absurd out
 unread s Reverse out = absurd out
 
+-- a first word that is none of the text's
+unknown_word : (t : TraceValue) (word : EventKeyword) → has_word t.form (line.Event word) ≡ false → first_word t (event_word word) ≡ Err cause.Word
+unfolding first_word
+unknown_word t word unknown = rw (line_word_again (line.Event word), unknown) refl
+
+no_word_line : (t : TraceValue) (word : EventKeyword) (given : List (List ℕ)) → has_word t.form (line.Event word) ≡ false → with_line t (event_word word ∷ given) ≡ Err cause.Word
+unfolding with_line
+no_word_line t word given unknown = rw (unknown_word t word unknown) refl
+
+err_is : {A E : Type 0} (r : Result A E) (e : E) → r ≡ Err e → IsErr r
+err_is (Ok x) e h = absurd (cc h)
+err_is (Err x) e h = refl
+
+-- an event without a word in the text
+pub event_untold : (t : TraceValue) (e : Event) → has_event t.form e ≡ false → IsErr (with_line t (event_words t.symbols e))
+event_untold t e untold = by e untold
+  where
+    by : (f : Event) → has_event t.form f ≡ false → IsErr (with_line t (event_words t.symbols f))
+    by (Resched task) out = err_is _ cause.Word (no_word_line t event.Resched (decimal task.0 ∷ []) out)
+    by f out = absurd (cc)
+
 pub no_event_line : (t : TraceValue) (e : Event) → 0 < length t.patches → IsOut (length t.symbols) e → IsErr (with_line t (event_words t.symbols e))
 unfolding line_by_word
-no_event_line t e patched out =
-    let u = unread t.symbols e out in
-    rw (u.words, line_again t (line.Event u.word) u.given (before_end t) (λ h. patched)) (err_of _ _ u.refused)
+no_event_line t e patched out = by (has_event t.form e) refl
+  where
+    by : (b : Bool) → has_event t.form e ≡ b → IsErr (with_line t (event_words t.symbols e))
+    by false untold = event_untold t e untold
+    by true told =
+        let u = unread t.symbols e out in
+        rw (u.words, line_again t (line.Event u.word) u.given (sym (u.known t.form) ∙ told) (before_end t) (λ h. patched)) (err_of _ _ u.refused)

@@ -15,9 +15,11 @@ use Rattle.std.proofs.lemmas.Str.{digit_value_digit}
 use Rattle.lp_symbols.specs.declared.sym_id.SymId.{SymId}
 use Rattle.lp_stack.specs.declared.number.TaskId.{TaskId}
 use Rattle.lp_definitions.specs.declared.event.Event.{Event}
-use Rattle.lp_definitions.specs.declared.event.Event.TheVariants.{Call}
+use Rattle.lp_definitions.specs.declared.event.Event.TheVariants.{Call, Resched}
+use Rattle.lp_text.specs.declared.form.TraceForm.{TraceForm}
+use Rattle.lp_text.specs.declared.form.TraceForm.TheVariants.{Single}
 use Rattle.lp_text.specs.Words.{line_of, lines, words}
-use Rattle.lp_text.specs.Traces.{AreNames, TraceValue, event_words}
+use Rattle.lp_text.specs.Traces.{AreNames, TraceValue, has_event, event_words}
 use Rattle.lp_text.specs.Reading.{add_event, last_word, reading_from, symbol_of, with_line}
 use Rattle.lp_text.specs.inside.Cut.{IsCut}
 use Rattle.lp_text.specs.inside.Parsers.{last_symbol}
@@ -73,11 +75,11 @@ number_whole text i n some few within digits first is =
 
 -- first bytes, more of them, a number and the line's end
 pub of_task : (first between text left inner more : List ℕ) (word value n : ℕ) → text ≡ to_le_bytes w32 word ++ left → word ≡ value → to_le_bytes w32 value ≡ first → left ≡ between ++ inner → inner ≡ decimal n ++ 10 ∷ more → text ≡ first ++ (between ++ ((decimal n ++ 10 ∷ []) ++ more))
-of_task first between text left inner more word value n whole is bytes behind number =
+of_task first between text left inner more word value n whole is bytes after number =
     whole
     ∙ (ap (λ w. to_le_bytes w32 w ++ left) is
     ∙ (ap (λ b. b ++ left) bytes
-    ∙ (ap (λ l. first ++ l) behind
+    ∙ (ap (λ l. first ++ l) after
     ∙ (ap (λ l. first ++ (between ++ l)) number ∙ ap (λ l. first ++ (between ++ l)) (sym (append_assoc (decimal n) (10 ∷ []) more))))))
 
 -- first bytes and the line's end
@@ -104,6 +106,11 @@ cached_is symbols name id h =
     let alone : words name ≡ a.0 ∷ [] = last_word_spelled (words name) a.0 a.1 in
     (symbol.1, sym (joined 32 name) ∙ (ap (join_with_byte 32) alone ∙ symbol.0))
 
+-- an event with a word in the first text has one in each
+in_each_text : (form : TraceForm) (e : Event) → has_event Single e ≡ true → has_event form e ≡ true
+in_each_text form (Resched task) h = absurd (cc)
+in_each_text form _ h = refl
+
 -- ---- A line that is taken
 
 event_added : (t u : TraceValue) (e : Event) → length t.events < 1000000 → u ≡ record t { events = t.events ++ e ∷ [] } → add_event t e ≡ Ok u
@@ -114,10 +121,10 @@ pub taken : (t u : TraceValue) (e : Event) (text rest : List ℕ) → AreNames t
 taken t u e text rest names differ patched room begins is =
     let ws : List (List ℕ) = event_words t.symbols e in
     let line : List ℕ = join_with_byte 32 (event_words t.symbols e) in
-    let clean = event_clean t.symbols e names begins.0 in
+    let clean = event_clean t.symbols e names begins.0.0 in
     let whole : text ≡ line ++ 10 ∷ rest = begins.1 ∙ append_assoc line (10 ∷ []) rest in
     let cut : IsCut 10 text line rest = record { whole = whole; again = λ tail. line_cut line tail (joined_no_end ws clean.1) } in
-    let gives : with_line t (words line) ≡ Ok u = ap (with_line t) (words_of_line ws clean) ∙ (event_read t e names differ patched begins.0 ∙ event_added t u e room is) in
+    let gives : with_line t (words line) ≡ Ok u = ap (with_line t) (words_of_line ws clean) ∙ (event_read t e names differ patched begins.0.0 (in_each_text t.form e begins.0.1) ∙ event_added t u e room is) in
     record {
       shorter = omega (arith, ap length whole, length-append line (10 ∷ rest));
       reads = λ number bytes. one_line number t text line rest cut u gives bytes;

@@ -84,7 +84,7 @@ from_read number t (line ∷ next ∷ more) u some s h =
 
 pub empty_limits : (form : TraceForm) → SoFar (empty form)
 unfolding IsDistinct
-empty_limits form = record { names = tt; names_differ = tt; symbols_few = omega arith; patches = tt; patches_few = omega arith; boots = tt; boots_differ = tt; events = tt; events_few = omega arith }
+empty_limits form = record { names = tt; names_differ = tt; symbols_few = omega arith; patches = tt; patches_few = omega arith; boots = tt; boots_differ = tt; events = tt; events_told = tt; events_few = omega arith }
 
 empty_body : (form : TraceForm) → body (empty form) ≡ []
 unfolding body lines_after_header patch_lines
@@ -122,6 +122,7 @@ is_trace u limits some few =
       boots = limits.boots;
       boots_differ = limits.boots_differ;
       events = limits.events;
+      events_told = limits.events_told;
       events_few = limits.events_few;
       size = few;
     }

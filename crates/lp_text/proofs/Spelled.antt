@@ -17,9 +17,9 @@ use Rattle.lp_stack.specs.declared.view.Class.TheVariants as class
 use Rattle.lp_model.specs.declared.check.ForkKind.{ForkKind}
 use Rattle.lp_model.specs.declared.check.ForkKind.TheVariants as fork
 use Rattle.lp_definitions.specs.declared.event.Event.{Event}
-use Rattle.lp_definitions.specs.declared.event.Event.TheVariants.{Ret, Sleep, Wake, Enter, Exit, Idle, Die, Walk, Stop, Enable, Disable, Reverse}
+use Rattle.lp_definitions.specs.declared.event.Event.TheVariants.{Ret, Sleep, Wake, Enter, Exit, Idle, Resched, Die, Walk, Stop, Enable, Disable, Reverse}
 use Rattle.lp_text.specs.declared.form.TraceForm.{TraceForm}
-use Rattle.lp_text.specs.declared.form.TraceForm.TheVariants.{Single, Stacked}
+use Rattle.lp_text.specs.declared.form.TraceForm.TheVariants.{Single, Stacked, WithResched}
 use Rattle.lp_text.specs.declared.keyword.EventKeyword.{EventKeyword}
 use Rattle.lp_text.specs.declared.keyword.EventKeyword.TheVariants as event
 use Rattle.lp_text.specs.declared.keyword.LineKeyword.{LineKeyword}
@@ -51,7 +51,8 @@ pub form_spelled : (line : List ℕ) (form : TraceForm) → form_of line ≡ Som
 form_spelled line form =
     let P : TraceForm → Type 0 = λ f. line ≡ header f in
     pick P (bytes_eq line (header Single)) Single form _ (is line (header Single))
-    (pick P (bytes_eq line (header Stacked)) Stacked form _ (is line (header Stacked)) (nothing P form))
+    (pick P (bytes_eq line (header Stacked)) Stacked form _ (is line (header Stacked))
+    (pick P (bytes_eq line (header WithResched)) WithResched form _ (is line (header WithResched)) (nothing P form)))
 
 pub event_word_spelled : (word : List ℕ) (e : EventKeyword) → event_word_of word ≡ Some e → word ≡ event_word e
 unfolding event_word_of
@@ -66,13 +67,14 @@ event_word_spelled word e =
     (pick P (test event.Enter) event.Enter e _ (got event.Enter)
     (pick P (test event.Exit) event.Exit e _ (got event.Exit)
     (pick P (test event.Idle) event.Idle e _ (got event.Idle)
+    (pick P (test event.Resched) event.Resched e _ (got event.Resched)
     (pick P (test event.Fork) event.Fork e _ (got event.Fork)
     (pick P (test event.Die) event.Die e _ (got event.Die)
     (pick P (test event.Walk) event.Walk e _ (got event.Walk)
     (pick P (test event.Stop) event.Stop e _ (got event.Stop)
     (pick P (test event.Enable) event.Enable e _ (got event.Enable)
     (pick P (test event.Disable) event.Disable e _ (got event.Disable)
-    (pick P (test event.Reverse) event.Reverse e _ (got event.Reverse) (nothing P e))))))))))))))
+    (pick P (test event.Reverse) event.Reverse e _ (got event.Reverse) (nothing P e)))))))))))))))
 
 as_event_spelled : (word : List ℕ) (o : Option EventKeyword) (l : LineKeyword) → event_word_of word ≡ o → as_event o ≡ Some l → word ≡ line_word l
 as_event_spelled word None l e h = absurd (cc h)
@@ -256,6 +258,7 @@ event_line_spelled symbols event.Wake given e h = of_task symbols given e event.
 event_line_spelled symbols event.Enter given e h = of_task symbols given e event.Enter (λ task. Enter task) (λ _. refl) (λ _ fits. fits) h
 event_line_spelled symbols event.Exit given e h = of_task symbols given e event.Exit (λ task. Exit task) (λ _. refl) (λ _ fits. fits) h
 event_line_spelled symbols event.Idle given e h = of_task symbols given e event.Idle (λ task. Idle task) (λ _. refl) (λ _ fits. fits) h
+event_line_spelled symbols event.Resched given e h = of_task symbols given e event.Resched (λ task. Resched task) (λ _. refl) (λ _ fits. fits) h
 event_line_spelled symbols event.Fork given e h = of_fork symbols given e h
 event_line_spelled symbols event.Die given e h = of_task symbols given e event.Die (λ task. Die task) (λ _. refl) (λ _ fits. fits) h
 event_line_spelled symbols event.Walk given e h = of_bare symbols given e event.Walk Walk refl tt h
@@ -271,6 +274,10 @@ patch_line_spelled Single given x h =
     let a = bind_ok (last_word given) _ x h in
     ap (λ g. line_word line.Patch ∷ g) (last_word_spelled given a.0 a.1) ∙ ap (λ y. line_word line.Patch ∷ y.1 ∷ []) (ok_is a.2)
 patch_line_spelled Stacked given x h =
+    let a = bind_ok (next_number given) _ x h in
+    let b = bind_ok (last_word a.0.1) _ x a.2 in
+    ap (λ g. line_word line.Patch ∷ g) (next_number_spelled given a.0 a.1 ∙ ap (λ r. decimal a.0.0 ∷ r) (last_word_spelled a.0.1 b.0 b.1)) ∙ ap (λ y. line_word line.Patch ∷ decimal y.0 ∷ y.1 ∷ []) (ok_is b.2)
+patch_line_spelled WithResched given x h =
     let a = bind_ok (next_number given) _ x h in
     let b = bind_ok (last_word a.0.1) _ x a.2 in
     ap (λ g. line_word line.Patch ∷ g) (next_number_spelled given a.0 a.1 ∙ ap (λ r. decimal a.0.0 ∷ r) (last_word_spelled a.0.1 b.0 b.1)) ∙ ap (λ y. line_word line.Patch ∷ decimal y.0 ∷ y.1 ∷ []) (ok_is b.2)

@@ -1,6 +1,6 @@
 -- A line that is read adds its words to the text, and keeps the limits.
 use Rattle.std.proofs.Common.{◌≡◌, ◌<◌, ◌≤◌, ◌+◌, ◌-◌, ℕ, Bool, true, false, not, List, [], ◌∷◌, ◌++◌, length, map, take, None, Ok, cond, refl, sym, ap, ◌∙◌, arith, subst, append_assoc, inl, inr, ◌⊎◌}
-use Rattle.std.specs.Prelude.{nat_lt, ◌==◌, ◌&&◌, decimal}
+use Rattle.std.specs.Prelude.{nat_lt, ◌==◌, ◌&&◌, ◌||◌, decimal}
 use Rattle.std.specs.List.{AllByRecursion, IsDistinct, list_any}
 use Rattle.std.specs.Str.{bytes_eq}
 use Rattle.std.proofs.lemmas.Bool.{ltb-true, ltb-false}
@@ -11,16 +11,17 @@ use Rattle.lp_stack.specs.declared.view.Class.{Class}
 use Rattle.lp_patch.specs.Patches.{patch_refusal}
 use Rattle.lp_definitions.specs.declared.event.Event.{Event}
 use Rattle.lp_text.specs.declared.form.TraceForm.{TraceForm}
-use Rattle.lp_text.specs.declared.form.TraceForm.TheVariants.{Single, Stacked}
+use Rattle.lp_text.specs.declared.form.TraceForm.TheVariants.{Single, Stacked, WithResched}
 use Rattle.lp_text.specs.declared.keyword.LineKeyword.{LineKeyword}
 use Rattle.lp_text.specs.declared.keyword.LineKeyword.TheVariants as line
 use Rattle.lp_text.specs.declared.fault.Cause.TheVariants as cause
-use Rattle.lp_text.specs.Words.{line_word, class_word, line_word_of}
-use Rattle.lp_text.specs.Traces.{TraceValue, AreNames, IsTask, IsEvent, most_patches, name, sym_words, patch_words, boot_words, event_words, patch_lines, lines_after_header}
+use Rattle.lp_text.specs.Words.{line_word, has_word, class_word, line_word_of}
+use Rattle.lp_text.specs.Traces.{TraceValue, AreNames, IsTask, IsEvent, has_event, most_patches, name, sym_words, patch_words, boot_words, event_words, patch_lines, lines_after_header}
 use Rattle.lp_text.specs.Reading.{needs, last_word, event_line, patch_line, boot_line, add_symbol, grown, begun, add_function, add_boot, add_event, symbol_of, task_of, part_of, part_reached, first_word, line_by_word, with_line}
 use Rattle.lp_text.proofs.Choices.{guard_ok, bind_ok, ok_is}
 use Rattle.lp_text.proofs.Parsers.{Place, begun_ok}
-use Rattle.lp_text.proofs.Pushes.{differ, empty_from, all_push, all_take, all_at, distinct_push, name_fresh, last_back, refusal_push}
+use Rattle.lp_text.proofs.Pushes.{differ, empty_from, all_push, all_take, all_at, or_parts, distinct_push, name_fresh, last_back, refusal_push}
+use Rattle.lp_text.proofs.Again.{word_is, word_known}
 use Rattle.lp_text.proofs.Spelled.{needs_ok, line_word_spelled, last_word_spelled, event_line_spelled, patch_line_spelled, boot_line_spelled, symbol_spelled, task_spelled}
 
 -- the limits of a trace of which lines may still come
@@ -33,6 +34,7 @@ pub record SoFar (trace : TraceValue) : Type 0 where
   pub boots : AllByRecursion (λ boot. IsTask boot.0) trace.boots
   pub boots_differ : IsDistinct (λ boot other. boot.0.0 == other.0.0) trace.boots
   pub events : AllByRecursion (IsEvent (length trace.symbols)) trace.events
+  pub events_told : AllByRecursion (λ event. has_event trace.form event ≡ true) trace.events
   pub events_few : length trace.events ≤ 1000000
 
 -- a trace after one line more
@@ -158,6 +160,7 @@ module _ (patches : List (List SymId)) (number : ℕ) (had : List SymId) (place 
 pub most_sixteen : (form : TraceForm) → most_patches form ≤ 16
 most_sixteen Single = omega arith
 most_sixteen Stacked = omega arith
+most_sixteen WithResched = omega arith
 
 yes_from : (b : Bool) → not b ≡ false → b ≡ true
 yes_from true h = refl
@@ -196,6 +199,7 @@ module _ (t : TraceValue) (s : SoFar t) (u : TraceValue) where
           boots = s.boots;
           boots_differ = s.boots_differ;
           events = rw es tt;
+          events_told = rw es tt;
           events_few = s.events_few;
         };
         lines = rw (ps, bs, es, map-append) (simp append-nil);
@@ -234,6 +238,7 @@ module _ (t : TraceValue) (s : SoFar t) (u : TraceValue) where
           boots = s.boots;
           boots_differ = s.boots_differ;
           events = s.events;
+          events_told = s.events_told;
           events_few = s.events_few;
         };
         lines = after_patches (map sym_words t.symbols) (patch_lines t.form t.symbols 1 t.patches) (patch_lines t.form t.symbols 1 (prefix ++ b.0 ∷ [])) (map boot_words t.boots) (map (event_words t.symbols) t.events) (patch_words t.form x.0 x.1) (ap (map boot_words) bs) (ap (map (event_words t.symbols)) es) more;
@@ -261,14 +266,15 @@ module _ (t : TraceValue) (s : SoFar t) (u : TraceValue) where
           boots = all_push (λ boot. IsTask boot.0) t.boots (a.0, x.1) s.boots task.1;
           boots_differ = distinct_push (λ boot other. boot.0.0 == other.0.0) t.boots (a.0, x.1) s.boots_differ b.0;
           events = s.events;
+          events_told = s.events_told;
           events_few = s.events_few;
         };
         lines = after_boots (map sym_words t.symbols ++ patch_lines t.form t.symbols 1 t.patches) (map boot_words t.boots) (map boot_words (t.boots ++ (a.0, x.1) ∷ [])) (map (event_words t.symbols) t.events) (line_word line.Boot ∷ decimal x.0 ∷ class_word x.1 ∷ []) (ap (map (event_words t.symbols)) es) more;
       })
 
-  is_next_event : (e : Event) → IsEvent (length t.symbols) e → add_event t e ≡ Ok u → IsNext t (event_words t.symbols e) u
+  is_next_event : (e : Event) → IsEvent (length t.symbols) e → has_event t.form e ≡ true → add_event t e ≡ Ok u → IsNext t (event_words t.symbols e) u
   unfolding add_event lines_after_header
-  is_next_event e fits h =
+  is_next_event e fits told h =
       let a = guard_ok (length t.events == 1000000) cause.Many _ u h in
       let P : TraceValue → Type 0 = λ v. IsNext t (event_words t.symbols e) v in
       let most : length t.events ≤ 1000000 = s.events_few in
@@ -285,6 +291,7 @@ module _ (t : TraceValue) (s : SoFar t) (u : TraceValue) where
           boots = s.boots;
           boots_differ = s.boots_differ;
           events = all_push (IsEvent (length t.symbols)) t.events e s.events fits;
+          events_told = all_push (λ event. has_event t.form event ≡ true) t.events e s.events_told told;
           events_few = omega arith;
         };
         lines = rw map-append (simp append_assoc);
@@ -295,16 +302,18 @@ module _ (t : TraceValue) (s : SoFar t) (u : TraceValue) where
 -- a first word that may begin this line
 pub record MayBegin (t : TraceValue) (word : List ℕ) (first : LineKeyword) : Type 0 where
   pub spelled : word ≡ line_word first
+  pub known : has_word t.form first ≡ true
   pub early : part_reached t ≤ part_of first
 
 pub first_word_spelled : (t : TraceValue) (word : List ℕ) (first : LineKeyword) → first_word t word ≡ Ok first → MayBegin t word first
 unfolding first_word
 first_word_spelled t word first h =
     let a = bind_ok (needs cause.Word (line_word_of word)) _ first h in
-    let b = guard_ok (nat_lt (part_of a.0) (part_reached t)) cause.Word _ first a.2 in
+    let b = guard_ok (not (has_word t.form a.0) || nat_lt (part_of a.0) (part_reached t)) cause.Word _ first a.2 in
+    let both = or_parts (not (has_word t.form a.0)) (nat_lt (part_of a.0) (part_reached t)) b.0 in
     let d = guard_ok (nat_lt 2 (part_of a.0) && length t.patches == 0) cause.Patch _ first b.1 in
     let P : LineKeyword → Type 0 = λ l. MayBegin t word l in
-    subst P (ok_is d.1) (record { spelled = line_word_spelled word a.0 (needs_ok cause.Word (line_word_of word) a.0 a.1); early = ltb-false (part_of a.0) (part_reached t) b.0 })
+    subst P (ok_is d.1) (record { spelled = line_word_spelled word a.0 (needs_ok cause.Word (line_word_of word) a.0 a.1); known = yes_from (has_word t.form a.0) both.0; early = ltb-false (part_of a.0) (part_reached t) both.1 })
 
 -- the first text's lines leave the patch's number out: it is 1
 number_few : (form : TraceForm) (given : List (List ℕ)) (x : ℕ × List ℕ) → patch_line form given ≡ Ok x → x.0 ≤ 16 → x.0 ≤ most_patches form
@@ -314,27 +323,28 @@ number_few Single given x h few =
     let one : 1 ≡ x.0 = ap (λ y. y.0) (ok_is a.2) in
     omega arith
 number_few Stacked given x h few = few
+number_few WithResched given x h few = few
 
 module _ (t : TraceValue) (s : SoFar t) (u : TraceValue) where
-  by_word : (first : LineKeyword) (given : List (List ℕ)) → part_reached t ≤ part_of first → line_by_word t first given ≡ Ok u → IsNext t (line_word first ∷ given) u
+  by_word : (first : LineKeyword) (given : List (List ℕ)) → has_word t.form first ≡ true → part_reached t ≤ part_of first → line_by_word t first given ≡ Ok u → IsNext t (line_word first ∷ given) u
   unfolding line_by_word
-  by_word line.Sym given early h =
+  by_word line.Sym given known early h =
       let a = bind_ok (last_word given) _ u h in
       let P : List (List ℕ) → Type 0 = λ g. IsNext t (line_word line.Sym ∷ g) u in
       subst P (sym (last_word_spelled given a.0 a.1)) (is_next_symbol t s u a.0 early a.2)
-  by_word line.Patch given early h =
+  by_word line.Patch given known early h =
       let a = bind_ok (patch_line t.form given) _ u h in
       let P : List (List ℕ) → Type 0 = λ ws. IsNext t ws u in
       subst P (sym (patch_line_spelled t.form given a.0 a.1)) (is_next_function t s u a.0 early (number_few t.form given a.0 a.1) a.2)
-  by_word line.Boot given early h =
+  by_word line.Boot given known early h =
       let a = bind_ok (boot_line given) _ u h in
       let P : List (List ℕ) → Type 0 = λ g. IsNext t (line_word line.Boot ∷ g) u in
       subst P (sym (boot_line_spelled given a.0 a.1)) (is_next_boot t s u a.0 early a.2)
-  by_word (line.Event word) given early h =
+  by_word (line.Event word) given known early h =
       let a = bind_ok (event_line t.symbols word given) _ u h in
       let b = event_line_spelled t.symbols word given a.0 a.1 in
       let P : List (List ℕ) → Type 0 = λ ws. IsNext t ws u in
-      subst P (sym b.0) (is_next_event t s u a.0 b.1 a.2)
+      subst P (sym b.0) (is_next_event t s u a.0 b.1 (word_known t.form a.0 ∙ (ap (λ w. has_word t.form (line.Event w)) (sym (word_is t.symbols word given a.0 b.0)) ∙ known)) a.2)
 
   pub is_next : (ws : List (List ℕ)) → with_line t ws ≡ Ok u → IsNext t ws u
   unfolding with_line
@@ -343,4 +353,4 @@ module _ (t : TraceValue) (s : SoFar t) (u : TraceValue) where
       let a = bind_ok (first_word t word) _ u h in
       let b = first_word_spelled t word a.0 a.1 in
       let P : List ℕ → Type 0 = λ w. IsNext t (w ∷ given) u in
-      subst P (sym b.spelled) (by_word a.0 given b.early a.2)
+      subst P (sym b.spelled) (by_word a.0 given b.known b.early a.2)

@@ -11,18 +11,18 @@ use Rattle.lp_text.specs.declared.input.InputFault.TheVariants as input
 use Rattle.lp_text.specs.declared.stream_fault.StreamFault.{StreamFault}
 use Rattle.lp_text.specs.Faults.{IsReadFault}
 use Rattle.lp_text.specs.Input.{AtText, ReadsAll, of_read}
-use Rattle.lp_text.specs.inside.Streams.{IsFaultBehind, Stream, of_input, reading_after, reading_on}
+use Rattle.lp_text.specs.inside.Streams.{IsFaultAfter, Stream, of_input, reading_after, reading_on}
 use Rattle.lp_text.specs.Reading.{reading, reading_lines}
 use Rattle.lp_text.specs.Words.{lines}
 use Rattle.lp_text.proofs.Inputs.{consumes_more}
 use Rattle.lp_text.proofs.StreamFaults.{all_known, input_fault, long_reading}
 
--- a fault behind some bytes, seen from before them
-pub behind : (before total : ℕ) (a b c : Option (List ℕ)) (bytes : List ℕ) (fault : InputFault) → Consumes a b bytes → before + length bytes ≡ total → IsFaultBehind total b c fault → IsFaultBehind before a c fault
-behind before total a b c bytes input.Long h e much =
+-- a fault after some bytes, seen from before them
+pub after : (before total : ℕ) (a b c : Option (List ℕ)) (bytes : List ℕ) (fault : InputFault) → Consumes a b bytes → before + length bytes ≡ total → IsFaultAfter total b c fault → IsFaultAfter before a c fault
+after before total a b c bytes input.Long h e much =
     (bytes ++ much.0, consumes_more a b c bytes much.0 h much.1, omega (arith, e, much.2, length-append bytes much.0))
-behind before total a b c bytes (input.Failed error) h e much = tt
-behind before total a b c bytes input.NoMemory h e much = tt
+after before total a b c bytes (input.Failed error) h e much = tt
+after before total a b c bytes input.NoMemory h e much = tt
 
 not_above : (n : ℕ) (b : Bool) → n ≤ 134217728 → nat_lt 134217728 n ≡ b → b ≡ false
 not_above n false few e = refl
@@ -65,7 +65,7 @@ pub on_ok : {A E P Q : Type 0} (r : Result A E) → (P → Q) → OnOk r P → O
 on_ok (Ok x) goes h = goes h
 on_ok (Err e) goes h = tt
 
--- a fault in reading behind some bytes, as a fault of a run
-pub input_fault_behind : (a b c : Option (List ℕ)) (bytes : List ℕ) (total : ℕ) (fault : InputFault) (e : StreamFault) → Consumes a b bytes → length bytes ≡ total → IsFaultBehind total b c fault → e ≡ of_input fault → AtText e (λ why. IfSome a (λ t. reading t ≡ Err why))
-input_fault_behind a b c bytes total fault e h same is at =
-    input_fault reading long_reading a c fault e (behind 0 total a b c bytes fault h (omega (arith, same)) is) at
+-- a fault in reading after some bytes, as a fault of a run
+pub input_fault_after : (a b c : Option (List ℕ)) (bytes : List ℕ) (total : ℕ) (fault : InputFault) (e : StreamFault) → Consumes a b bytes → length bytes ≡ total → IsFaultAfter total b c fault → e ≡ of_input fault → AtText e (λ why. IfSome a (λ t. reading t ≡ Err why))
+input_fault_after a b c bytes total fault e h same is at =
+    input_fault reading long_reading a c fault e (after 0 total a b c bytes fault h (omega (arith, same)) is) at

@@ -14,7 +14,7 @@ claim_word Floor = codes "floor"
 abbrev pub claim_words : Cert → List (List ℕ)
 claim_words cert = claim_word cert.claim ∷ map decimal (cert.leg ∷ cert.group.0 ∷ cert.upto ∷ [])
 
--- a reason
+-- a line of a certificate
 abbrev pub reason_words : Line → List (List ℕ)
 reason_words (Hold group task serial from to) = codes "hold" ∷ map decimal (group.0 ∷ task.0 ∷ serial ∷ from ∷ to ∷ [])
 reason_words (Busy group task at) = codes "busy" ∷ map decimal (group.0 ∷ task.0 ∷ at ∷ [])

@@ -123,7 +123,7 @@ divided (line ∷ next ∷ more) =
     let further = divided (next ∷ more) in
     if bytes_eq line (codes "lpcert 1") then ([] ∷ [], Some (next ∷ more)) else (line ∷ further.0, further.1)
 
--- the certificate behind so many lines, of which the last is `lpcert 1`; or it is missing there
+-- the certificate after so many lines, of which the last is `lpcert 1`; or it is missing there
 abbrev pub cert_after : ℕ → Option (List (List ℕ)) → Result Cert TraceFault
 cert_after number None = fault_at number (Err cause.Cert)
 cert_after number (Some more) = cert_from (number + 1) more

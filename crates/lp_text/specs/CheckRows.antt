@@ -27,11 +27,11 @@ each_line_cert = record { claim = Floor; leg = 0; group = record { 0 = 0 }; upto
 abbrev pub each_line_text : List ℕ
 each_line_text = codes "lpcert 1\nfloor 0 0 9999999\nhold 2 1 7 8 12\nbusy 0 0 0\nborn 3 1 10\n"
 
--- this certificate is read behind the short trace
+-- this certificate is read after the short trace
 abbrev pub Reads : List ℕ → Cert → Type 0
 Reads text cert = check_reading (short_text ++ text) ≡ Ok (record { trace = short_trace; cert = cert })
 
--- the first fault is this cause, at this line, where this stands behind the short trace
+-- the first fault is this cause, at this line, where this stands after the short trace
 abbrev pub Fails : List ℕ → ℕ → Cause → Type 0
 Fails text number why = check_reading (short_text ++ text) ≡ Err (record { line = number; cause = why })
 

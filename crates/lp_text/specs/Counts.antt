@@ -9,7 +9,7 @@ pub record Counts (S : Type 0) : Type 0 where
   pub failures : ℕ
   pub ends : ℕ
 
--- a count with one more, in 64 bits: behind the largest number comes 0
+-- a count with one more, in 64 bits: after the largest number comes 0
 abbrev pub next : ℕ → ℕ
 next count = if count == 18446744073709551615 then 0 else suc count
 

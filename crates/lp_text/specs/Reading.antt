@@ -1,5 +1,5 @@
 -- Reading a trace text line by line, with the first fault that is met.
-use Rattle.std.specs.Prelude.{ℕ, ◌+◌, ◌-◌, ◌&&◌, not, List, [], ◌∷◌, ◌++◌, length, take, nat_le, nat_lt, ◌==◌, if◌then◌else◌, Option, None, Some, Result, Ok, Err, position, slice_index_or}
+use Rattle.std.specs.Prelude.{ℕ, ◌+◌, ◌-◌, ◌&&◌, ◌||◌, not, List, [], ◌∷◌, ◌++◌, length, take, nat_le, nat_lt, ◌==◌, if◌then◌else◌, Option, None, Some, Result, Ok, Err, position, slice_index_or}
 use Rattle.std.specs.List.{list_any}
 use Rattle.std.specs.Str.{bytes_eq}
 use Rattle.lp_symbols.specs.declared.sym_id.SymId.{SymId}
@@ -7,9 +7,9 @@ use Rattle.lp_symbols.specs.Names.{is_name}
 use Rattle.lp_stack.specs.declared.number.TaskId.{TaskId}
 use Rattle.lp_stack.specs.declared.view.Class.{Class}
 use Rattle.lp_definitions.specs.declared.event.Event.{Event}
-use Rattle.lp_definitions.specs.declared.event.Event.TheVariants.{Call, Ret, Sleep, Wake, Enter, Exit, Idle, Fork, Die, Walk, Stop, Enable, Disable, Reverse}
+use Rattle.lp_definitions.specs.declared.event.Event.TheVariants.{Call, Ret, Sleep, Wake, Enter, Exit, Idle, Resched, Fork, Die, Walk, Stop, Enable, Disable, Reverse}
 use Rattle.lp_text.specs.declared.form.TraceForm.{TraceForm}
-use Rattle.lp_text.specs.declared.form.TraceForm.TheVariants.{Single, Stacked}
+use Rattle.lp_text.specs.declared.form.TraceForm.TheVariants.{Single}
 use Rattle.lp_text.specs.declared.keyword.EventKeyword.{EventKeyword}
 use Rattle.lp_text.specs.declared.keyword.EventKeyword.TheVariants as event
 use Rattle.lp_text.specs.declared.keyword.LineKeyword.{LineKeyword}
@@ -17,7 +17,7 @@ use Rattle.lp_text.specs.declared.keyword.LineKeyword.TheVariants as line
 use Rattle.lp_text.specs.declared.fault.Cause.{Cause}
 use Rattle.lp_text.specs.declared.fault.Cause.TheVariants as cause
 use Rattle.lp_text.specs.declared.fault.TraceFault.{TraceFault}
-use Rattle.lp_text.specs.Words.{lines, words, form_of, line_word_of, class_of, fork_kind_of, number_of}
+use Rattle.lp_text.specs.Words.{lines, words, form_of, has_word, line_word_of, class_of, fork_kind_of, number_of}
 use Rattle.lp_text.specs.Traces.{TraceValue}
 
 -- one step, then the next with what it gave; a fault is the first one
@@ -106,6 +106,7 @@ event_line symbols event.Wake given = task_line given >>= λ task. Ok (Wake task
 event_line symbols event.Enter given = task_line given >>= λ task. Ok (Enter task)
 event_line symbols event.Exit given = task_line given >>= λ task. Ok (Exit task)
 event_line symbols event.Idle given = task_line given >>= λ task. Ok (Idle task)
+event_line symbols event.Resched given = task_line given >>= λ task. Ok (Resched task)
 event_line symbols event.Fork given = fork_line given
 event_line symbols event.Die given = task_line given >>= λ task. Ok (Die task)
 event_line symbols event.Walk given = no_word Walk given
@@ -114,12 +115,12 @@ event_line symbols event.Enable given = no_word Enable given
 event_line symbols event.Disable given = no_word Disable given
 event_line symbols event.Reverse given = no_word Reverse given
 
--- `patch NAME`, or `patch K NAME` in the second text
+-- `patch NAME`, or `patch K NAME` in the texts after the first
 unfoldable pub patch_line : TraceForm → List (List ℕ) → Result (ℕ × List ℕ) Cause
 patch_line Single given = do
   name ← last_word given
   Ok (1, name)
-patch_line Stacked given = do
+patch_line _ given = do
   number ← next_number given
   name ← last_word number.1
   Ok (number.0, name)
@@ -192,11 +193,11 @@ part_reached so_far =
     else if nat_lt 0 (length so_far.patches) then 2
     else 1
 
--- a first word, which is known and begins no earlier part (Word); tasks and events follow a patch (Patch)
+-- a first word, which is one of the text's and begins no earlier part (Word); tasks and events follow a patch (Patch)
 unfoldable pub first_word : TraceValue → List ℕ → Result LineKeyword Cause
 first_word so_far word = do
   first ← needs cause.Word (line_word_of word)
-  if nat_lt (part_of first) (part_reached so_far) then Err cause.Word
+  if not (has_word so_far.form first) || nat_lt (part_of first) (part_reached so_far) then Err cause.Word
       else if nat_lt 2 (part_of first) && length so_far.patches == 0 then Err cause.Patch
       else Ok first
 

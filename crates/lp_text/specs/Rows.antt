@@ -4,7 +4,7 @@ use Rattle.lp_symbols.specs.declared.sym_id.SymId.{SymId}
 use Rattle.lp_stack.specs.declared.number.TaskId.{TaskId}
 use Rattle.lp_stack.specs.declared.view.Class.TheVariants as class
 use Rattle.lp_model.specs.declared.check.ForkKind.TheVariants.{Own, Share}
-use Rattle.lp_definitions.specs.declared.event.Event.TheVariants.{Call, Ret, Sleep, Wake, Enter, Exit, Idle, Fork, Die, Walk, Stop, Enable, Disable, Reverse}
+use Rattle.lp_definitions.specs.declared.event.Event.TheVariants.{Call, Ret, Sleep, Wake, Enter, Exit, Idle, Resched, Fork, Die, Walk, Stop, Enable, Disable, Reverse}
 use Rattle.lp_text.specs.declared.form.TraceForm.TheVariants.{Single, Stacked}
 use Rattle.lp_text.specs.declared.fault.Cause.{Cause}
 use Rattle.lp_text.specs.declared.fault.Cause.TheVariants.{Header, Unended, Word, Shape, Name, Doubled, Unknown, Patch, Task}
@@ -51,7 +51,7 @@ pub record TextsCompute : Type 0 where
   pub unended_header : Fails (codes "lptrace 1") 1 Unended
   pub unended_word : Fails (codes "x") 1 Unended
   pub empty_first_line : Fails (codes "\n") 1 Header
-  pub other_header : Fails (codes "lptrace 3\n") 1 Header
+  pub other_header : Fails (codes "lptrace 4\n") 1 Header
   pub header_with_zero : Fails (codes "lptrace 01\n") 1 Header
   pub earlier_fault_before_the_end : Fails (codes "lptrace 1\nfoo\nwalk") 2 Word
   pub unended_event : Fails (codes "lptrace 1\nsym a\npatch a\nenable") 4 Unended

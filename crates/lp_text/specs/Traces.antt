@@ -1,5 +1,5 @@
 -- A trace, and its one spelling as a text.
-use Rattle.std.specs.Prelude.{◌≡◌, ℕ, ◌+◌, ◌<◌, ◌≤◌, ◌==◌, true, Vec, List, [], ◌∷◌, ◌++◌, length, map, None, decimal, slice_index_or}
+use Rattle.std.specs.Prelude.{◌≡◌, ℕ, ◌+◌, ◌<◌, ◌≤◌, ◌==◌, Bool, true, Vec, List, [], ◌∷◌, ◌++◌, length, map, None, decimal, slice_index_or}
 use Rattle.std.specs.List.{flat_map, AllByRecursion, IsDistinct}
 use Rattle.std.specs.Str.{bytes_eq}
 use Rattle.lp_symbols.specs.declared.sym_id.SymId.{SymId}
@@ -8,17 +8,17 @@ use Rattle.lp_stack.specs.declared.number.TaskId.{TaskId}
 use Rattle.lp_stack.specs.declared.view.Class.{Class}
 use Rattle.lp_patch.specs.Patches.{patch_refusal}
 use Rattle.lp_definitions.specs.declared.event.Event.{Event}
-use Rattle.lp_definitions.specs.declared.event.Event.TheVariants.{Call, Ret, Sleep, Wake, Enter, Exit, Idle, Fork, Die, Walk, Stop, Enable, Disable, Reverse}
+use Rattle.lp_definitions.specs.declared.event.Event.TheVariants.{Call, Ret, Sleep, Wake, Enter, Exit, Idle, Resched, Fork, Die, Walk, Stop, Enable, Disable, Reverse}
 use Rattle.lp_text.specs.declared.form.TraceForm.{TraceForm}
-use Rattle.lp_text.specs.declared.form.TraceForm.TheVariants.{Single, Stacked}
+use Rattle.lp_text.specs.declared.form.TraceForm.TheVariants.{Single}
 use Rattle.lp_text.specs.declared.keyword.EventKeyword.TheVariants as word
 use Rattle.lp_text.specs.declared.keyword.LineKeyword.TheVariants as line
-use Rattle.lp_text.specs.Words.{header, line_word, event_word, class_word, fork_word, line_of}
+use Rattle.lp_text.specs.Words.{header, line_word, event_word, has_resched, class_word, fork_word, line_of}
 
 -- a trace: names of functions, patches of them with the lowest in front, the tasks that are there at
 -- boot, and what happened, each list in the order in which it is written
 pub record TraceValue : Type 0 where
-  -- which text it is: `lptrace 1` has one patch, `lptrace 2` patches on one another
+  -- which text it is: `lptrace 1` has one patch, `lptrace 2` patches on one another, `lptrace 3` also `resched`
   pub form : TraceForm
   pub symbols : List (List ℕ)
   pub patches : List (List SymId)
@@ -41,7 +41,7 @@ sym_words symbol = line_word line.Sym ∷ symbol ∷ []
 -- a function of the patch of a number, which the first text leaves out
 abbrev pub patch_words : TraceForm → ℕ → List ℕ → List (List ℕ)
 patch_words Single number func = line_word line.Patch ∷ func ∷ []
-patch_words Stacked number func = line_word line.Patch ∷ decimal number ∷ func ∷ []
+patch_words _ number func = line_word line.Patch ∷ decimal number ∷ func ∷ []
 
 abbrev pub boot_words : TaskId × Class → List (List ℕ)
 boot_words boot = line_word line.Boot ∷ decimal boot.0.0 ∷ class_word boot.1 ∷ []
@@ -54,6 +54,7 @@ event_words symbols (Wake task) = event_word word.Wake ∷ decimal task.0 ∷ []
 event_words symbols (Enter task) = event_word word.Enter ∷ decimal task.0 ∷ []
 event_words symbols (Exit task) = event_word word.Exit ∷ decimal task.0 ∷ []
 event_words symbols (Idle task) = event_word word.Idle ∷ decimal task.0 ∷ []
+event_words symbols (Resched task) = event_word word.Resched ∷ decimal task.0 ∷ []
 event_words symbols (Fork parent child how) = event_word word.Fork ∷ decimal parent.0 ∷ decimal child.0 ∷ fork_word how ∷ []
 event_words symbols (Die task) = event_word word.Die ∷ decimal task.0 ∷ []
 event_words symbols Walk = event_word word.Walk ∷ []
@@ -99,6 +100,7 @@ IsEvent symbols (Wake task) = IsTask task
 IsEvent symbols (Enter task) = IsTask task
 IsEvent symbols (Exit task) = IsTask task
 IsEvent symbols (Idle task) = IsTask task
+IsEvent symbols (Resched task) = IsTask task
 IsEvent symbols (Fork parent child how) = IsTask parent × IsTask child
 IsEvent symbols (Die task) = IsTask task
 IsEvent symbols Walk = Unit {0}
@@ -107,10 +109,15 @@ IsEvent symbols Enable = Unit {0}
 IsEvent symbols Disable = Unit {0}
 IsEvent symbols Reverse = Unit {0}
 
+-- the event has a word in the text
+abbrev pub has_event : TraceForm → Event → Bool
+has_event form (Resched task) = has_resched form
+has_event form _ = true
+
 -- how many patches a text has at most
 abbrev pub most_patches : TraceForm → ℕ
 most_patches Single = 1
-most_patches Stacked = 16
+most_patches _ = 16
 
 -- what has a spelling
 pub record IsTrace (trace : TraceValue) : Type 0 where
@@ -125,5 +132,6 @@ pub record IsTrace (trace : TraceValue) : Type 0 where
   pub boots : AllByRecursion (λ boot. IsTask boot.0) trace.boots
   pub boots_differ : IsDistinct (λ boot other. boot.0.0 == other.0.0) trace.boots
   pub events : AllByRecursion (IsEvent (length trace.symbols)) trace.events
+  pub events_told : AllByRecursion (λ event. has_event trace.form event ≡ true) trace.events
   pub events_few : length trace.events ≤ 1000000
   pub size : length (text_of trace) ≤ 134217728

@@ -1,5 +1,5 @@
 -- The words of a trace text, and how a text is cut into lines and a line into words.
-use Rattle.std.specs.Prelude.{ℕ, Bool, ◌&&◌, ◌||◌, not, List, [], ◌∷◌, ◌++◌, length, nat_le, if◌then◌else◌, ◌==◌, Option, None, Some, codes, slice_index}
+use Rattle.std.specs.Prelude.{ℕ, Bool, true, false, ◌&&◌, ◌||◌, not, List, [], ◌∷◌, ◌++◌, length, nat_le, if◌then◌else◌, ◌==◌, Option, None, Some, codes, slice_index}
 use Rattle.std.specs.Char.{is_ascii_digit}
 use Rattle.std.specs.List.{slice_split, join_with_byte, list_all}
 use Rattle.std.specs.Str.{bytes_eq}
@@ -39,6 +39,7 @@ line_of words = join_with_byte 32 words ++ 10 ∷ []
 abbrev pub header : TraceForm → List ℕ
 header form.Single = codes "lptrace 1"
 header form.Stacked = codes "lptrace 2"
+header form.WithResched = codes "lptrace 3"
 
 -- the first word of an event's line
 abbrev pub event_word : EventKeyword → List ℕ
@@ -49,6 +50,7 @@ event_word event.Wake = codes "wake"
 event_word event.Enter = codes "enter"
 event_word event.Exit = codes "exit"
 event_word event.Idle = codes "idle"
+event_word event.Resched = codes "resched"
 event_word event.Fork = codes "fork"
 event_word event.Die = codes "die"
 event_word event.Walk = codes "walk"
@@ -63,6 +65,16 @@ line_word line.Sym = codes "sym"
 line_word line.Patch = codes "patch"
 line_word line.Boot = codes "boot"
 line_word (line.Event word) = event_word word
+
+-- `resched` is a word of the third text alone
+abbrev pub has_resched : TraceForm → Bool
+has_resched form.WithResched = true
+has_resched _ = false
+
+-- the word is one of the text's
+abbrev pub has_word : TraceForm → LineKeyword → Bool
+has_word text (line.Event event.Resched) = has_resched text
+has_word text _ = true
 
 -- a boot task's class
 abbrev pub class_word : Class → List ℕ
@@ -80,6 +92,7 @@ abbrev pub form_of : List ℕ → Option TraceForm
 form_of line =
     if bytes_eq line (header form.Single) then Some form.Single
     else if bytes_eq line (header form.Stacked) then Some form.Stacked
+    else if bytes_eq line (header form.WithResched) then Some form.WithResched
     else None
 
 unfoldable pub event_word_of : List ℕ → Option EventKeyword
@@ -91,6 +104,7 @@ event_word_of word =
     else if bytes_eq word (event_word event.Enter) then Some event.Enter
     else if bytes_eq word (event_word event.Exit) then Some event.Exit
     else if bytes_eq word (event_word event.Idle) then Some event.Idle
+    else if bytes_eq word (event_word event.Resched) then Some event.Resched
     else if bytes_eq word (event_word event.Fork) then Some event.Fork
     else if bytes_eq word (event_word event.Die) then Some event.Die
     else if bytes_eq word (event_word event.Walk) then Some event.Walk

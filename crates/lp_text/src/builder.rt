@@ -57,7 +57,7 @@ impl Builder {
         })
     }
 
-    /// Which of the two texts it is.
+    /// Which of the texts it is.
     fn form(&self) -> TraceForm
         ensures { result ≡ self.now.parser.form }
     {
@@ -144,6 +144,9 @@ impl Builder {
         ensures built { OnOk result (IsBuilt self.new.parser self.new.place self.new.size) }
         ensures added { OnOk result (self.new.parser ≡ record self.old.parser { events = self.old.parser.events ++ event ∷ [] }) }
     {
+        if !self.form().has_event(event) {
+            return Err(OfFault::Unwritable(self.place));
+        }
         let Some(bytes) = event_bytes(symbols, event) else {
             return Err(OfFault::Unwritable(self.place));
         };

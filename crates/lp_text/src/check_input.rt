@@ -37,7 +37,7 @@ struct Division<'a> {
     trace: &'a [u8],
     /// The number of the line `lpcert 1`, or of the one after the last.
     line: u64,
-    /// What stands behind the line `lpcert 1`.
+    /// What stands after the line `lpcert 1`.
     cert: Option<&'a [u8]>,
 }
 
@@ -82,7 +82,7 @@ impl CheckInput {
         ensures read_failed { IfErr result (λ fault. AtRead fault (FailsOnce reader.old reader.new)) }
         // Else no read failed: one that failed is told before a fault of the text.
         ensures unfailed { MatchResult result (λ _. reader.new.failures ≡ reader.old.failures) (λ fault. ButForReads fault (reader.new.failures ≡ reader.old.failures)) }
-        // Without a fault the end was found once: nothing is read behind it.
+        // Without a fault the end was found once: nothing is read after it.
         ensures once { OnOk result (reader.new.ends ≡ next reader.old.ends) }
         // Each read but the last gives a byte at least.
         ensures few { AtMost 134217729 reader.old.calls reader.new.calls }
@@ -126,7 +126,7 @@ fn divide(text: &[u8]) -> Division<'_>
     }
 }
 
-/// The certificate behind the line of this number, if there is one.
+/// The certificate after the line of this number, if there is one.
 fn read_cert(alloc: Global, line: u64, text: Option<&[u8]>) -> Result<Cert, ReadFault>
     requires small { line ≤ 134217729 }
     requires few { IfSome text (λ text. length text.now ≤ 134217728) }
@@ -163,7 +163,7 @@ fn read_claim(alloc: Global, number: u64, text: &[u8]) -> Result<Cert, ReadFault
     Ok(cert)
 }
 
-/// The reasons of a certificate, the first of which stands in the line of this number.
+/// The lines of a certificate, the first of which is the line of this number.
 fn read_reasons(alloc: Global, first: u64, text: &[u8]) -> Result<Vec<Line>, ReadFault>
     requires small { first ≤ 134217731 }
     requires few { length text.now ≤ 134217728 }

@@ -160,7 +160,7 @@ pub(crate) fn claim_line(alloc: Global, line: &[u8]) -> Result<Cert, Cause>
     }
 }
 
-/// The reason of a certificate's later line.
+/// A certificate's later line.
 pub(crate) fn reason_line(line: &[u8]) -> Result<Line, Cause>
     ensures { GivesExactly (λ reason. reason) result (as_cert (reason_line (words line.now))) }
 {

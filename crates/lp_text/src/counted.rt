@@ -9,7 +9,7 @@ use std::marker::Model;
 
 /// A reader or a writer, and how often it was called, how often it failed, and how often a read gave no byte.
 ///
-/// Each count has 64 bits and goes round: behind the largest number comes 0.
+/// Each count has 64 bits and goes round: after the largest number comes 0.
 #[derive(Drop)]
 pub struct Counted<S> {
     stream: S,

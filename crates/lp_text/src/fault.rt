@@ -1,8 +1,8 @@
 //! Why a text is no trace or no input of a check, or could not be read.
-ghost use Rattle.std.specs.Prelude.{◌≡◌};
+ghost use Rattle.std.specs.Prelude.{◌≡◌, Some};
 ghost use Rattle.lp_text.specs.declared.fault.LineFault.TheVariants.{NoMemory as LineNoMemory};
 ghost use Rattle.lp_text.specs.declared.fault.ReadFault.TheVariants.{NoMemory as ReadNoMemory};
-ghost use Rattle.lp_text.specs.Faults.{cause_number};
+ghost use Rattle.lp_text.specs.Faults.{cause_number, cause_text, read_fault_text, trace_fault_text};
 ghost use Rattle.lp_text.specs.inside.LineFaults.{cause_at, read_fault};
 
 use std::alloc::AllocError;
@@ -63,7 +63,9 @@ impl Cause {
     }
 
     /// The number of the cause and what is wrong, in words.
-    fn text(self) -> &'static str {
+    fn text(self) -> &'static str
+        ensures { result.now ≡ cause_text self }
+    {
         match self {
             Cause::Header => "L1: the first line is no header",
             Cause::Unended => "L2: the last line lacks its end",
@@ -90,6 +92,8 @@ impl Cause {
 }
 
 impl fmt::Display for Cause {
+    ghost output = { λ cause. Some (cause_text cause) };
+
     fn fmt<W: fmt::Write>(&self, f: &mut fmt::Formatter<W>) -> fmt::Result {
         f.write_str(self.text())
     }
@@ -97,7 +101,6 @@ impl fmt::Display for Cause {
 
 /// The first fault of a text that is no trace, or no input of a check.
 #[derive(Clone, Copy, Debug, PartialEq, Eq, Error)]
-#[error("line {line}: {cause}")]
 pub struct TraceFault {
     /// The number of the line, from 1; 0 for the text as a whole.
     pub line: u64,
@@ -105,15 +108,33 @@ pub struct TraceFault {
     pub cause: Cause,
 }
 
+impl fmt::Display for TraceFault {
+    ghost output = { λ fault. Some (trace_fault_text fault) };
+
+    fn fmt<W: fmt::Write>(&self, f: &mut fmt::Formatter<W>) -> fmt::Result {
+        let cause = self.cause;
+        write!(f, "line {}: {cause}", self.line)
+    }
+}
+
 /// Why a text was not read.
 #[derive(Clone, Copy, Debug, PartialEq, Eq, Error)]
 pub enum ReadFault {
-    /// The text is no trace; of a check, no trace with a certificate behind it.
-    #[error(transparent)]
+    /// The text is no trace; of a check, no trace with a certificate after it.
     Trace(TraceFault),
     /// An allocation failed.
-    #[error("out of memory")]
     NoMemory,
+}
+
+impl fmt::Display for ReadFault {
+    ghost output = { λ fault. Some (read_fault_text fault) };
+
+    fn fmt<W: fmt::Write>(&self, f: &mut fmt::Formatter<W>) -> fmt::Result {
+        match self {
+            ReadFault::Trace(fault) => write!(f, "{fault}"),
+            ReadFault::NoMemory => f.write_str("out of memory"),
+        }
+    }
 }
 
 /// Why what a line says was not added. What reads its words alone needs no memory, and fails with a `Cause`.

@@ -3,7 +3,7 @@ ghost use Rattle.std.specs.Prelude.{◌≡◌, ℕ, ◌+◌, ◌-◌, ◌<◌, �
 ghost use Rattle.std.specs.Io.KnownBytes.{Consumes, IsAtEnd};
 ghost use Rattle.lp_text.specs.Counts.{AtMost, next};
 ghost use Rattle.lp_text.specs.Input.{ReadsAll};
-ghost use Rattle.lp_text.specs.inside.Streams.{Ended, Gave, InputFails, IsFaultBehind, IsInputFault};
+ghost use Rattle.lp_text.specs.inside.Streams.{Ended, Gave, InputFails, IsFaultAfter, IsInputFault};
 
 use crate::counted::Counted;
 use crate::read::MOST_BYTES;
@@ -69,7 +69,7 @@ fn read_pieces<R: Read>(
     }
 }
 
-/// Reads what is left behind so many bytes, and keeps nothing of it.
+/// Reads what is left after so many bytes, and keeps nothing of it.
 pub(crate) fn skip_rest<R: Read>(
     reader: &mut Counted<R>,
     piece: &mut [u8],
@@ -78,7 +78,7 @@ pub(crate) fn skip_rest<R: Read>(
     requires some { 0 < length piece.old }
     requires few { before ≤ 134217728 }
     ensures end { OnOk result ((rest : List ℕ) × ReadsAll (R.remaining reader.old.stream) (R.remaining reader.new.stream) rest × (before + length rest ≤ 134217728)) }
-    ensures fault { IfErr result (λ fault. IsFaultBehind before (R.remaining reader.old.stream) (R.remaining reader.new.stream) fault) }
+    ensures fault { IfErr result (λ fault. IsFaultAfter before (R.remaining reader.old.stream) (R.remaining reader.new.stream) fault) }
     ensures counted { MatchResult result (λ _. Ended reader.old reader.new) (InputFails reader.old reader.new) }
     ensures calls { AtMost (134217729 - before) reader.old.calls reader.new.calls }
 {
@@ -92,7 +92,7 @@ pub(crate) fn skip_rest<R: Read>(
     }
 }
 
-/// Reads a piece behind so many bytes, and gives how many it has: none at the end.
+/// Reads a piece after so many bytes, and gives how many it has: none at the end.
 pub(crate) fn read_piece<R: Read>(
     reader: &mut Counted<R>,
     piece: &mut [u8],
@@ -105,7 +105,7 @@ pub(crate) fn read_piece<R: Read>(
     ensures within { IfOk result (λ count. count ≤ length piece.new) }
     ensures few { IfOk result (λ count. before + count ≤ 134217728) }
     ensures end { IfOk result (λ count. count ≡ 0 → IsAtEnd (R.remaining reader.new.stream)) }
-    ensures fault { IfErr result (λ fault. IsFaultBehind before (R.remaining reader.old.stream) (R.remaining reader.new.stream) fault) }
+    ensures fault { IfErr result (λ fault. IsFaultAfter before (R.remaining reader.old.stream) (R.remaining reader.new.stream) fault) }
     ensures counted { MatchResult result (Gave reader.old reader.new) (InputFails reader.old reader.new) }
     ensures calls { reader.new.calls ≡ next reader.old.calls }
 {

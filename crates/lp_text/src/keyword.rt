@@ -16,6 +16,7 @@ pub enum EventKeyword {
     Enter,
     Exit,
     Idle,
+    Resched,
     Fork,
     Die,
     Walk,
@@ -55,6 +56,8 @@ impl EventKeyword {
             Some(EventKeyword::Exit)
         } else if is(word, "idle") {
             Some(EventKeyword::Idle)
+        } else if is(word, "resched") {
+            Some(EventKeyword::Resched)
         } else if is(word, "fork") {
             Some(EventKeyword::Fork)
         } else if is(word, "die") {
@@ -86,6 +89,7 @@ impl EventKeyword {
             EventKeyword::Enter => b"enter",
             EventKeyword::Exit => b"exit",
             EventKeyword::Idle => b"idle",
+            EventKeyword::Resched => b"resched",
             EventKeyword::Fork => b"fork",
             EventKeyword::Die => b"die",
             EventKeyword::Walk => b"walk",

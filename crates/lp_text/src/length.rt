@@ -35,7 +35,7 @@ pub(crate) fn function_bytes(form: TraceForm, patch: u16, name: &[u8]) -> usize
     let unnumbered = LineKeyword::Patch.bytes().len() + name.len() + 2;
     match form {
         TraceForm::Single => unnumbered,
-        TraceForm::Stacked => unnumbered + digits(patch) + 1,
+        TraceForm::Stacked | TraceForm::WithResched => unnumbered + digits(patch) + 1,
     }
 }
 
@@ -97,6 +97,7 @@ pub(crate) fn event_bytes(symbols: &Symbols, event: Event) -> Option<usize>
         Event::Enter(task) => task_bytes(EventKeyword::Enter, task),
         Event::Exit(task) => task_bytes(EventKeyword::Exit, task),
         Event::Idle(task) => task_bytes(EventKeyword::Idle, task),
+        Event::Resched(task) => task_bytes(EventKeyword::Resched, task),
         Event::Fork(parent, child, how) => fork_bytes(parent, child, how),
         Event::Die(task) => task_bytes(EventKeyword::Die, task),
         Event::Walk => Some(word_bytes(EventKeyword::Walk)),

@@ -1,4 +1,8 @@
 //! Traces of events and certificates as texts: the grammar, the readers and the writer.
+//!
+//! Costs: reading goes over the text once and allocates for what it keeps; `of` and `of_stack` copy the parts once,
+//! without writing a line; `write` never allocates. `Trace::read_from` keeps of the text the unfinished line,
+//! `CheckInput::read_from` all of it.
 #![tactic(auto)]
 
 mod builder;

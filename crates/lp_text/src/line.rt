@@ -119,6 +119,7 @@ pub(crate) fn event_line(
         EventKeyword::Enter => Ok(Event::Enter(task_line(left)?)),
         EventKeyword::Exit => Ok(Event::Exit(task_line(left)?)),
         EventKeyword::Idle => Ok(Event::Idle(task_line(left)?)),
+        EventKeyword::Resched => Ok(Event::Resched(task_line(left)?)),
         EventKeyword::Fork => fork_line(left),
         EventKeyword::Die => Ok(Event::Die(task_line(left)?)),
         EventKeyword::Walk => no_word(Event::Walk, left),
@@ -129,7 +130,7 @@ pub(crate) fn event_line(
     }
 }
 
-/// The patch's number and the function's name: `patch NAME`, or `patch K NAME` in the second text.
+/// The patch's number and the function's name: `patch NAME`, or `patch K NAME` in the other texts.
 #[tactic(auto, unfolding(crate::specs::Reading::patch_line))]
 pub(crate) fn patch_line(form: TraceForm, left: Option<&[u8]>) -> Result<(u32, &[u8]), Cause>
     ensures { GivesExactly (λ line. (line.0, line.1.now)) result (patch_line form (words_left (option_copied left.entry))) }
@@ -139,7 +140,7 @@ pub(crate) fn patch_line(form: TraceForm, left: Option<&[u8]>) -> Result<(u32, &
             let name = last_word(left)?;
             Ok((1, name))
         }
-        TraceForm::Stacked => {
+        TraceForm::Stacked | TraceForm::WithResched => {
             let (number, left) = next_number(left)?;
             let name = last_word(left)?;
             Ok((number, name))

@@ -4,7 +4,7 @@ ghost use Rattle.lp_text.specs.Build.{GivesPart, of_parts, spelling};
 ghost use Rattle.lp_text.specs.inside.Builders.{IsBuilt};
 ghost use Rattle.lp_text.specs.Reading.{empty};
 ghost use Rattle.lp_text.specs.Traces.{IsTrace};
-ghost use Rattle.lp_text.specs.declared.form.TraceForm.TheVariants.{Single, Stacked};
+ghost use Rattle.lp_text.specs.declared.form.TraceForm.TheVariants.{Single, Stacked, WithResched};
 
 use crate::builder::Builder;
 use crate::form::TraceForm;
@@ -33,7 +33,7 @@ impl Trace {
     /// Unwritable at the first part that has no spelling: a function of the patch that is no symbol,
     /// is there already or is the 257th; the place after the symbols, if the patch is empty; a boot
     /// task with the number 0 or one that is there already; an event of a task 0, a call of no symbol,
-    /// the 1,000,001st event; a part that would carry the text past 134,217,728 bytes. NoMemory where an allocation failed.
+    /// a `Resched`, the 1,000,001st event; a part that would carry the text past 134,217,728 bytes. NoMemory where an allocation failed.
     pub fn of(
         alloc: Global,
         symbols: &Symbols,
@@ -70,6 +70,33 @@ impl Trace {
         ensures exact { GivesPart (λ trace. trace) result (spelling (of_parts Stacked symbols.now (map (λ patch. patch.now) patches.now) boots.now events.now)) }
     {
         make(alloc, TraceForm::Stacked, symbols, patches, boots, events)
+    }
+
+    /// The trace of these parts in the third text, which has what the second has, and `Resched`.
+    ///
+    /// Unwritable as `of_stack`, but for a `Resched`. NoMemory where an allocation failed.
+    pub fn of_with_resched(
+        alloc: Global,
+        symbols: &Symbols,
+        patches: &[&[SymId]],
+        boots: &[(TaskId, Class)],
+        events: &[Event],
+    ) -> Result<Trace, OfFault>
+        // What is made is a trace, of these parts.
+        ensures made { IfOk result (λ trace. IsTrace trace × (trace ≡ of_parts WithResched symbols.now (map (λ patch. patch.now) patches.now) boots.now events.now)) }
+        // Parts that make a trace are made one, unless memory runs out.
+        ensures only { let parts = of_parts WithResched symbols.now (map (λ patch. patch.now) patches.now) boots.now events.now in IsTrace parts → GivesPart (λ trace. trace) result (Ok parts) }
+        // Which trace it is, or which place: that of the first part without a spelling.
+        ensures exact { GivesPart (λ trace. trace) result (spelling (of_parts WithResched symbols.now (map (λ patch. patch.now) patches.now) boots.now events.now)) }
+    {
+        make(
+            alloc,
+            TraceForm::WithResched,
+            symbols,
+            patches,
+            boots,
+            events,
+        )
     }
 }
 

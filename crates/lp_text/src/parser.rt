@@ -84,7 +84,7 @@ impl Parser {
         })
     }
 
-    /// Which of the two texts it is.
+    /// Which of the texts it is.
     pub(crate) fn form(&self) -> TraceForm
         ensures { result ≡ self.now.form }
     {
@@ -153,7 +153,7 @@ impl Parser {
     }
 
     /// Takes the line that a text begins with, if it is a plain one of an event and there is room for the event, and
-    /// gives what stands behind it. A line that isn't taken is left to `add_line`, with its faults.
+    /// gives what stands after it. A line that isn't taken is left to `add_line`, with its faults.
     #[inline(always)]
     pub(crate) fn take_quick<'a>(&mut self, text: &'a [u8]) -> Option<&'a [u8]>
         ensures taken { IfSome result (λ rest. IsTaken self.old self.new text.now rest.now) }
@@ -213,7 +213,7 @@ impl Parser {
         let Some(first) = LineKeyword::of(word) else {
             return Err(Cause::Word);
         };
-        if part_of(first) < self.part_reached() {
+        if !self.form.has_word(first) || part_of(first) < self.part_reached() {
             return Err(Cause::Word);
         }
         if part_of(first) > 2 && self.patches.is_empty() {

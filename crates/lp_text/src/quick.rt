@@ -27,7 +27,7 @@ const EXIT: u32 = 0x7469_7865;
 
 const WALK: u32 = 0x6b6c_6177;
 
-/// The event of the line that a text begins with, and what stands behind the line. None says nothing of
+/// The event of the line that a text begins with, and what stands after the line. None says nothing of
 /// the text, whose line is then read word by word.
 #[inline(always)]
 pub(crate) fn quick_event<'a>(
@@ -51,7 +51,7 @@ pub(crate) fn quick_event<'a>(
     }
 }
 
-/// The rest of a line behind `ret` and a space.
+/// The rest of a line after `ret` and a space.
 #[inline(always)]
 fn ret_rest(text: &[u8]) -> Option<(Event, &[u8])>
     ensures { (symbols : List (List ℕ)) → IfSome result (λ x. BeginsWith symbols (codes "ret " ++ text.now) x.0 x.1.now) }
@@ -60,52 +60,52 @@ fn ret_rest(text: &[u8]) -> Option<(Event, &[u8])>
     Some((Event::Ret(task), more))
 }
 
-/// The rest of a line behind `ente`.
+/// The rest of a line after `ente`.
 #[inline(always)]
 fn enter_rest(text: &[u8]) -> Option<(Event, &[u8])>
     ensures { (symbols : List (List ℕ)) → IfSome result (λ x. BeginsWith symbols (codes "ente" ++ text.now) x.0 x.1.now) }
 {
-    let (task, more) = task_and_end(behind(b' ', behind(b'r', text)?)?)?;
+    let (task, more) = task_and_end(after(b' ', after(b'r', text)?)?)?;
     Some((Event::Enter(task), more))
 }
 
-/// The rest of a line behind `exit`.
+/// The rest of a line after `exit`.
 #[inline(always)]
 fn exit_rest(text: &[u8]) -> Option<(Event, &[u8])>
     ensures { (symbols : List (List ℕ)) → IfSome result (λ x. BeginsWith symbols (codes "exit" ++ text.now) x.0 x.1.now) }
 {
-    let (task, more) = task_and_end(behind(b' ', text)?)?;
+    let (task, more) = task_and_end(after(b' ', text)?)?;
     Some((Event::Exit(task), more))
 }
 
-/// The rest of a line behind `slee`.
+/// The rest of a line after `slee`.
 #[inline(always)]
 fn sleep_rest(text: &[u8]) -> Option<(Event, &[u8])>
     ensures { (symbols : List (List ℕ)) → IfSome result (λ x. BeginsWith symbols (codes "slee" ++ text.now) x.0 x.1.now) }
 {
-    let (task, more) = task_and_end(behind(b' ', behind(b'p', text)?)?)?;
+    let (task, more) = task_and_end(after(b' ', after(b'p', text)?)?)?;
     Some((Event::Sleep(task), more))
 }
 
-/// The rest of a line behind `wake`.
+/// The rest of a line after `wake`.
 #[inline(always)]
 fn wake_rest(text: &[u8]) -> Option<(Event, &[u8])>
     ensures { (symbols : List (List ℕ)) → IfSome result (λ x. BeginsWith symbols (codes "wake" ++ text.now) x.0 x.1.now) }
 {
-    let (task, more) = task_and_end(behind(b' ', text)?)?;
+    let (task, more) = task_and_end(after(b' ', text)?)?;
     Some((Event::Wake(task), more))
 }
 
-/// The rest of a line behind `walk`.
+/// The rest of a line after `walk`.
 #[inline(always)]
 fn walk_rest(text: &[u8]) -> Option<(Event, &[u8])>
     ensures { (symbols : List (List ℕ)) → IfSome result (λ x. BeginsWith symbols (codes "walk" ++ text.now) x.0 x.1.now) }
 {
-    let more = behind(b'\n', text)?;
+    let more = after(b'\n', text)?;
     Some((Event::Walk, more))
 }
 
-/// The rest of a line behind `call`: a task and a name that was looked up before.
+/// The rest of a line after `call`: a task and a name that was looked up before.
 #[inline(always)]
 fn call_rest<'a>(
     symbols: &Symbols,
@@ -115,9 +115,9 @@ fn call_rest<'a>(
     requires names { AreNames symbols.now }
     ensures { IfSome result (λ x. BeginsWith symbols.now (codes "call" ++ text.now) x.0 x.1.now) }
 {
-    let first = behind(b' ', text)?;
+    let first = after(b' ', text)?;
     let (task, second) = task_number(first)?;
-    let third = behind(b' ', second)?;
+    let third = after(b' ', second)?;
     let (name, left) = cut(b'\n', third);
     let Some(more) = left else {
         return None;
@@ -126,18 +126,18 @@ fn call_rest<'a>(
     Some((Event::Call(task, func), more))
 }
 
-/// A task's number that ends a line, and what stands behind the line.
+/// A task's number that ends a line, and what stands after the line.
 #[inline(always)]
 fn task_and_end(text: &[u8]) -> Option<(TaskId, &[u8])>
     ensures task { IfSome result (λ x. IsTask x.0) }
     ensures whole { IfSome result (λ x. text.now ≡ decimal x.0.0 ++ 10 ∷ x.1.now) }
 {
     let (task, rest) = task_number(text)?;
-    let more = behind(b'\n', rest)?;
+    let more = after(b'\n', rest)?;
     Some((task, more))
 }
 
-/// The task's number that a text begins with, and what stands behind it.
+/// The task's number that a text begins with, and what stands after it.
 #[inline(always)]
 fn task_number(text: &[u8]) -> Option<(TaskId, &[u8])>
     ensures task { IfSome result (λ x. IsTask x.0) }
@@ -150,7 +150,7 @@ fn task_number(text: &[u8]) -> Option<(TaskId, &[u8])>
     Some((TaskId(number as u16), rest))
 }
 
-/// The number of up to five digits that a text begins with, and what stands behind it, which is no digit.
+/// The number of up to five digits that a text begins with, and what stands after it, which is no digit.
 #[inline(always)]
 fn number_before(text: &[u8]) -> Option<(u32, &[u8])>
     ensures { IfSome result (λ x. text.now ≡ decimal x.0 ++ x.1.now) }
@@ -176,9 +176,9 @@ fn number_before(text: &[u8]) -> Option<(u32, &[u8])>
     None
 }
 
-/// What stands behind a byte that a text begins with.
+/// What stands after a byte that a text begins with.
 #[inline(always)]
-fn behind(first: u8, text: &[u8]) -> Option<&[u8]>
+fn after(first: u8, text: &[u8]) -> Option<&[u8]>
     ensures { IfSome result (λ rest. text.now ≡ first ∷ rest.now) }
 {
     match text {
@@ -187,7 +187,7 @@ fn behind(first: u8, text: &[u8]) -> Option<&[u8]>
     }
 }
 
-/// The first four bytes of a text as a number, the first one lowest, and what stands behind them.
+/// The first four bytes of a text as a number, the first one lowest, and what stands after them.
 #[inline(always)]
 fn first_four(text: &[u8]) -> Option<(u32, &[u8])>
     ensures { IfSome result (λ x. text.now ≡ to_le_bytes w32 x.0 ++ x.1.now) }

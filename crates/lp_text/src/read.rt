@@ -1,6 +1,6 @@
 //! Reading a trace text.
 ghost use Rattle.std.specs.Prelude.{◌≡◌, ◌+◌, ◌≤◌, length, IfOk, Ok};
-ghost use Rattle.lp_text.specs.Faults.{Gives};
+ghost use Rattle.lp_text.specs.Faults.{Gives, IsToldEarly};
 ghost use Rattle.lp_text.specs.Reading.{empty, fault_at, needs, reading, reading_from, reading_lines};
 ghost use Rattle.lp_text.specs.declared.fault.Cause.TheVariants as cause;
 ghost use Rattle.lp_text.specs.Traces.{IsTrace, TraceValue, text_of};
@@ -25,6 +25,8 @@ impl Trace {
         ensures only { (trace : TraceValue) → IsTrace trace → text.now ≡ text_of trace → Gives (λ read. read) result (Ok trace) }
         // Which trace it is, or which fault: the first one.
         ensures exact { Gives (λ trace. trace) result (reading text.now) }
+        // A text that is too long, or whose first line is no header, is refused whatever memory there is.
+        ensures early { IsToldEarly (reading text.now) result }
     {
         match read_text(alloc, text) {
             Ok(parser) => Ok(parser.into_trace()),
@@ -36,7 +38,8 @@ impl Trace {
 /// What a text spells.
 #[tactic(auto, unfolding(crate::specs::Reading::reading))]
 pub(crate) fn read_text(alloc: Global, text: &[u8]) -> Result<Parser, ReadFault>
-    ensures { Gives (λ parser. parser) result (reading text.now) }
+    ensures exact { Gives (λ parser. parser) result (reading text.now) }
+    ensures early { IsToldEarly (reading text.now) result }
 {
     if text.len() > MOST_BYTES {
         return Err(Cause::Long.at(0));
@@ -48,7 +51,8 @@ pub(crate) fn read_text(alloc: Global, text: &[u8]) -> Result<Parser, ReadFault>
 #[tactic(auto, unfolding(crate::specs::Reading::reading_lines))]
 pub(crate) fn read_all_lines(alloc: Global, text: &[u8]) -> Result<Parser, ReadFault>
     requires { length text.now ≤ 134217728 }
-    ensures { Gives (λ parser. parser) result (reading_lines (lines text.now)) }
+    ensures exact { Gives (λ parser. parser) result (reading_lines (lines text.now)) }
+    ensures early { IsToldEarly (reading_lines (lines text.now)) result }
 {
     let (first, rest) = cut(b'\n', text);
     let Some(rest) = rest else {
@@ -69,6 +73,7 @@ pub(crate) fn read_all_lines(alloc: Global, text: &[u8]) -> Result<Parser, ReadF
 pub(crate) fn parser_of(alloc: Global, first: &[u8]) -> Result<Parser, ReadFault>
     ensures form { Gives (λ parser. parser.form) result (fault_at 1 (needs cause.Header (form_of first.now))) }
     ensures empty { IfOk result (λ parser. parser ≡ empty parser.form) }
+    ensures early { IsToldEarly (fault_at 1 (needs cause.Header (form_of first.now))) result }
 {
     let Some(form) = TraceForm::of(first) else {
         return Err(Cause::Header.at(1));

@@ -227,7 +227,7 @@ impl Trace {
         ensures read_failed { IfErr result (λ fault. AtRead fault (FailsOnce reader.old reader.new)) }
         // Else no read failed: one that failed is told before a fault of the text.
         ensures unfailed { MatchResult result (λ _. reader.new.failures ≡ reader.old.failures) (λ fault. ButForReads fault (reader.new.failures ≡ reader.old.failures)) }
-        // Without a fault the end was found once: nothing is read behind it.
+        // Without a fault the end was found once: nothing is read after it.
         ensures once { OnOk result (reader.new.ends ≡ next reader.old.ends) }
         // Each read but the last gives a byte at least.
         ensures few { AtMost 134217729 reader.old.calls reader.new.calls }

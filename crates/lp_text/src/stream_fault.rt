@@ -10,13 +10,13 @@ use std::alloc::AllocError;
 use std::io;
 use thiserror::Error;
 
-/// Why a reader gave no trace, or no trace with a certificate behind it.
+/// Why a reader gave no trace, or no trace with a certificate after it.
 #[derive(Debug, Drop, Error)]
 pub enum StreamFault {
     /// The reader failed, or was interrupted.
     #[error("the input can't be read: {0}")]
     Read(io::Error),
-    /// The text is no trace; of a check, no trace with a certificate behind it.
+    /// The text is no trace; of a check, no trace with a certificate after it.
     #[error(transparent)]
     Trace(TraceFault),
     /// An allocation failed.

@@ -112,7 +112,7 @@ fn is_same(first: &[u8], second: &[u8]) -> bool
     }
 }
 
-/// Whether two names have the same first eight bytes and are the same behind them.
+/// Whether two names have the same first eight bytes and are the same after them.
 #[inline(always)]
 fn have_same_words(first: &[u8], second: &[u8]) -> bool
     requires same { length first.now ≡ length second.now }

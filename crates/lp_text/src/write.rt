@@ -167,6 +167,7 @@ fn put_event<W: Write>(
         Event::Enter(task) => put_task(writer, EventKeyword::Enter, task),
         Event::Exit(task) => put_task(writer, EventKeyword::Exit, task),
         Event::Idle(task) => put_task(writer, EventKeyword::Idle, task),
+        Event::Resched(task) => put_task(writer, EventKeyword::Resched, task),
         Event::Fork(parent, child, how) => put_fork(writer, parent, child, how),
         Event::Die(task) => put_task(writer, EventKeyword::Die, task),
         Event::Walk => put_word(writer, EventKeyword::Walk),
@@ -217,7 +218,7 @@ fn put_function<W: Write>(
     let name = name_of(symbols, func);
     match form {
         TraceForm::Single => put_line(writer, LineKeyword::Patch.bytes(), &[name]),
-        TraceForm::Stacked => {
+        TraceForm::Stacked | TraceForm::WithResched => {
             let number = number(&mut buffer, patch);
             put_line(writer, LineKeyword::Patch.bytes(), &[number, name])
         }

@@ -1,4 +1,4 @@
--- Faults behind the reader.
+-- Faults after those of the reader.
 use Rattle.std.proofs.Common.{◌≡◌, Result, Ok, Err, sym, subst}
 use Rattle.std.specs.Prelude.{IfErr, IsErrAnd}
 use Rattle.lp_text.specs.declared.write.WriteFault.{WriteFault}

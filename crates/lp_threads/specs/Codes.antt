@@ -3,8 +3,8 @@ use Rattle.std.specs.Prelude.{ℕ, List, Result, Ok, Err, codes}
 use Rattle.lp_transition.specs.declared.engine.boot.BootFault.TheVariants as boot
 use Rattle.lp_board.specs.declared.launch.LaunchFault.{LaunchFault}
 use Rattle.lp_board.specs.declared.launch.LaunchFault.TheVariants as launch
-use Rattle.lp_log.specs.declared.seat.Cause.{Cause}
-use Rattle.lp_log.specs.declared.seat.Cause.TheVariants as sent
+use Rattle.lp_log.specs.declared.seat.TurnedBy.{TurnedBy}
+use Rattle.lp_log.specs.declared.seat.TurnedBy.TheVariants as sent
 use Rattle.lp_log.specs.declared.audit.CloseCause.{CloseCause}
 use Rattle.lp_log.specs.declared.audit.CloseCause.TheVariants as close
 use Rattle.lp_replay.specs.declared.run_fault.RunFault.{RunFault}
@@ -20,10 +20,10 @@ of_launch launch.BadCrew = codes "T4"
 of_launch launch.NoBoard = codes "T5"
 
 -- why an event was turned back
-abbrev pub of_cause : Cause → List ℕ
-of_cause sent.NotYours = codes "D1"
-of_cause sent.JournalFull = codes "E14"
-of_cause sent.NoMemory = codes "E13"
+abbrev pub of_turned_by : TurnedBy → List ℕ
+of_turned_by sent.NotYours = codes "D1"
+of_turned_by sent.JournalFull = codes "E14"
+of_turned_by sent.NoMemory = codes "E13"
 
 -- why a desk wasn't closed
 abbrev pub of_close : CloseCause → List ℕ
@@ -36,6 +36,6 @@ of_close close.NoMemory = codes "E13"
 abbrev pub code_of : ThreadsFault → Result (List ℕ) RunFault
 code_of (threads.Run fault) = Err fault
 code_of (threads.Launch fault) = Ok (of_launch fault)
-code_of (threads.Turned cause) = Ok (of_cause cause)
+code_of (threads.Turned cause) = Ok (of_turned_by cause)
 code_of (threads.Close cause) = Ok (of_close cause)
 code_of threads.NoThread = Ok (codes "D5")

@@ -3,8 +3,8 @@ use Rattle.std.specs.Prelude.{◌≡◌, ◌≢◌}
 use Rattle.lp_transition.specs.declared.engine.boot.BootFault.TheVariants as boot
 use Rattle.lp_board.specs.declared.launch.LaunchFault.{LaunchFault}
 use Rattle.lp_board.specs.declared.launch.LaunchFault.TheVariants as launch
-use Rattle.lp_log.specs.declared.seat.Cause.{Cause}
-use Rattle.lp_log.specs.declared.seat.Cause.TheVariants as sent
+use Rattle.lp_log.specs.declared.seat.TurnedBy.{TurnedBy}
+use Rattle.lp_log.specs.declared.seat.TurnedBy.TheVariants as sent
 use Rattle.lp_log.specs.declared.audit.CloseCause.{CloseCause}
 use Rattle.lp_log.specs.declared.audit.CloseCause.TheVariants as close
 use Rattle.lp_threads.specs.declared.fault.ThreadsFault.{ThreadsFault}
@@ -46,7 +46,7 @@ of_launched launch.BadCrew = threads.Launch launch.BadCrew
 of_launched launch.NoBoard = threads.Launch launch.NoBoard
 
 -- why an event was turned back
-abbrev pub of_turned : Cause → ThreadsFault
+abbrev pub of_turned : TurnedBy → ThreadsFault
 of_turned sent.NotYours = threads.Turned sent.NotYours
 of_turned sent.JournalFull = threads.Turned sent.JournalFull
 of_turned sent.NoMemory = threads.Run NoMemory

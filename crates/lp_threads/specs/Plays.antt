@@ -37,7 +37,7 @@ pub record IsPlay (model : Rules) (trace : TraceValue) (play : Play) : Type 0 wh
   pub entries : play.events ≡ length journal.entries
   pub others : play.skipped ≡ length trace.events - length journal.entries
 
--- a label, its value, and what comes behind it
+-- a label, its value, and what comes after it
 abbrev pub field : List ℕ → List ℕ → List ℕ → List ℕ
 field label value rest = label ++ (value ++ rest)
 

@@ -1,13 +1,13 @@
 //! Why threads didn't play a trace to its end.
 ghost use Rattle.std.specs.Prelude.{◌≡◌, Err, IfErr, IfOk, Ok};
-ghost use Rattle.lp_threads.specs.Codes.{code_of, of_cause, of_close, of_launch};
+ghost use Rattle.lp_threads.specs.Codes.{code_of, of_turned_by, of_close, of_launch};
 ghost use Rattle.lp_threads.specs.Faults.{of_launched, of_turned, of_unclosed};
 ghost use Rattle.lp_threads.specs.declared.fault.ThreadsFault.TheVariants.{Run};
 ghost use Rattle.lp_replay.specs.declared.run_fault.RunFault.TheVariants.{NoMemory, Write};
 
 use lp_board::{DeskName, LaunchFault};
 use lp_desk::Unclosed;
-use lp_log::{Cause, CloseCause};
+use lp_log::{CloseCause, TurnedBy};
 use lp_replay::{ReplayFault, RunFault, WriteFault};
 use lp_transition::BootFault;
 use std::alloc::AllocError;
@@ -24,7 +24,7 @@ pub enum ThreadsFault {
     Launch(LaunchFault),
     /// An event was turned back.
     #[error("an event was turned back")]
-    Turned(Cause),
+    Turned(TurnedBy),
     /// What was sent isn't what the journal says.
     #[error("what was sent isn't what the journal says")]
     Close(CloseCause),
@@ -61,13 +61,13 @@ fn launch_code(fault: LaunchFault) -> &'static str
     }
 }
 
-fn cause_code(cause: Cause) -> &'static str
-    ensures { result.now ≡ of_cause cause }
+fn cause_code(cause: TurnedBy) -> &'static str
+    ensures { result.now ≡ of_turned_by cause }
 {
     match cause {
-        Cause::NotYours => "D1",
-        Cause::JournalFull => "E14",
-        Cause::NoMemory => "E13",
+        TurnedBy::NotYours => "D1",
+        TurnedBy::JournalFull => "E14",
+        TurnedBy::NoMemory => "E13",
     }
 }
 
@@ -126,12 +126,12 @@ impl From<LaunchFault> for ThreadsFault {
     }
 }
 
-impl From<Cause> for ThreadsFault {
+impl From<TurnedBy> for ThreadsFault {
     ghost from_gives = { λ cause e. e ≡ of_turned cause };
 
-    fn from(cause: Cause) -> ThreadsFault {
+    fn from(cause: TurnedBy) -> ThreadsFault {
         match cause {
-            Cause::NoMemory => ThreadsFault::Run(RunFault::NoMemory),
+            TurnedBy::NoMemory => ThreadsFault::Run(RunFault::NoMemory),
             cause => ThreadsFault::Turned(cause),
         }
     }

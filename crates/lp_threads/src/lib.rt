@@ -1,4 +1,7 @@
 //! `lpt threads`: a trace, dealt out to threads that share one desk.
+//!
+//! Costs: a table of scripts by task number, 1.5 MB, and each event once in its script, once in the journal and once
+//! at its seat.
 #![tactic(auto)]
 
 mod fault;
@@ -13,7 +16,7 @@ mod trace_name;
 pub use fault::ThreadsFault;
 pub use lp_board::LaunchFault;
 pub use lp_desk::Unclosed;
-pub use lp_log::{Cause, CloseCause};
+pub use lp_log::{CloseCause, TurnedBy};
 pub use lp_model::Consistency;
 pub use lp_replay::{Counted, ReplayFault, RunFault, WriteFault};
 pub use playing::threads;

@@ -1,13 +1,13 @@
 //! A thread's part of a play.
 ghost use Rattle.std.specs.Prelude.{◌≢◌, IfErr};
-ghost use Rattle.lp_log.specs.declared.seat.Cause.TheVariants.{NotYours};
+ghost use Rattle.lp_log.specs.declared.seat.TurnedBy.TheVariants.{NotYours};
 
 use crate::parts::{NewControl, NewSeat, PlayedControl, PlayedSeat};
 use crate::scripts::Scripts;
 use crate::trace_name::TraceName;
 use lp_board::DeskName;
 use lp_desk::{Commanded, Desk, Submitted};
-use lp_log::Cause;
+use lp_log::TurnedBy;
 use lp_model::Consistency;
 use lp_numbers::NUMBERS;
 use lp_scan::ScanGate;
@@ -30,7 +30,7 @@ pub(crate) fn play_seats<
     desk: &Desk<M, N, G, R>,
     scripts: &Scripts<S>,
     seats: Vec<NewSeat>,
-) -> Result<Vec<PlayedSeat<S>>, Cause>
+) -> Result<Vec<PlayedSeat<S>>, TurnedBy>
     ensures { IfErr result (λ cause. cause ≢ NotYours) }
 {
     let mut played = Vec::with_capacity(alloc, seats.len())?;
@@ -60,7 +60,7 @@ fn play_seat<
     scripts: &Scripts<S>,
     seat: NewSeat,
     waiting: &mut VecDeque<NewSeat>,
-) -> Result<PlayedSeat<S>, Cause>
+) -> Result<PlayedSeat<S>, TurnedBy>
     ensures { IfErr result (λ cause. cause ≢ NotYours) }
 {
     let script = scripts.of(seat.task());
@@ -92,7 +92,7 @@ pub(crate) fn play_control<
     desk: &Desk<M, N, G, R>,
     scripts: &Scripts<S>,
     control: NewControl,
-) -> Result<PlayedControl<S>, Cause>
+) -> Result<PlayedControl<S>, TurnedBy>
     ensures { IfErr result (λ cause. cause ≢ NotYours) }
 {
     let script = scripts.control();

@@ -71,7 +71,7 @@ pub fn threads<T: Threads + Wait + Sync, M: Consistency + Send + Sync, R: Read, 
     ensures read_failed { IfErr result (λ fault. AtRun fault (λ why. AtReading why (FailsOnce reader.old reader.new))) }
     // Else no read failed: one that failed is told before a fault of the text.
     ensures unfailed { MatchResult result (λ _. reader.new.failures ≡ reader.old.failures) (λ fault. ButForReader fault (reader.new.failures ≡ reader.old.failures)) }
-    // Without a fault the end was found once: nothing is read behind it.
+    // Without a fault the end was found once: nothing is read after it.
     ensures once { OnOk result (reader.new.ends ≡ next reader.old.ends) }
     // Each read but the last gives a byte at least.
     ensures few { AtMost 134217729 reader.old.calls reader.new.calls }

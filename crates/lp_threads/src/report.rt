@@ -35,7 +35,7 @@ pub(crate) fn write_play<W: Write>(
     ensures untouched { IfErr result (λ fault. ButForWriter fault (writer.new ≡ writer.old)) }
     ensures write_failed { IfErr result (λ fault. AtRun fault (λ why. AtWrite why (writer.new.failures ≡ next writer.old.failures))) }
     ensures written { OnOk result (writer.new.failures ≡ writer.old.failures) }
-    ensures behind { IfErr result (λ fault. AtRun fault (λ why. AtReading why ⊥)) }
+    ensures not_reading { IfErr result (λ fault. AtRun fault (λ why. AtReading why ⊥)) }
     ensures late { IfErr result (λ fault. AtRun fault (λ why. AtTrace why (λ _. ⊥))) }
     ensures desk { IfErr result (λ fault. AtDesk fault ⊥) }
 {

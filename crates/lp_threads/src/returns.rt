@@ -1,21 +1,21 @@
 //! What the threads of a play hand in as they end.
 ghost use Rattle.std.specs.Prelude.{◌≡◌, ◌≢◌, All, IfErr, IfOk, Some};
 ghost use Rattle.lp_log.specs.Journals.{events_in};
-ghost use Rattle.lp_log.specs.declared.seat.Cause.TheVariants.{NotYours};
+ghost use Rattle.lp_log.specs.declared.seat.TurnedBy.TheVariants.{NotYours};
 ghost use Rattle.lp_threads.specs.Faults.{IsOfPlay};
 ghost use Rattle.lp_threads.specs.Plays.{AreSent, events_of};
 
 use crate::ThreadsFault;
 use crate::parts::{PlayedControl, PlayedSeat};
 use crate::trace_name::TraceName;
-use lp_log::{Cause, Control, Seat};
+use lp_log::{Control, Seat, TurnedBy};
 use std::alloc::{AllocError, Global};
 
 /// The seats and the control that came back so far, and why a thread gave up, if one did.
 pub(crate) struct Returns<S: TraceName> {
     seats: Vec<PlayedSeat<S>>,
     control: Option<PlayedControl<S>>,
-    cause: Option<Cause>,
+    cause: Option<TurnedBy>,
     ghost own: { cause ≢ Some NotYours },
 }
 
@@ -41,13 +41,13 @@ impl<S: TraceName> Returns<S> {
     }
 
     /// A worker has ended.
-    pub(crate) fn add_seats(&mut self, played: Result<Vec<PlayedSeat<S>>, Cause>)
+    pub(crate) fn add_seats(&mut self, played: Result<Vec<PlayedSeat<S>>, TurnedBy>)
         requires { IfErr played (λ cause. cause ≢ NotYours) }
     {
         let cause = match played {
             Ok(mut seats) => match self.seats.append(&mut seats) {
                 Ok(()) => return,
-                Err(_) => Cause::NoMemory,
+                Err(_) => TurnedBy::NoMemory,
             },
             Err(cause) => cause,
         };
@@ -55,7 +55,7 @@ impl<S: TraceName> Returns<S> {
     }
 
     /// The control's thread has ended.
-    pub(crate) fn set_control(&mut self, played: Result<PlayedControl<S>, Cause>)
+    pub(crate) fn set_control(&mut self, played: Result<PlayedControl<S>, TurnedBy>)
         requires { IfErr played (λ cause. cause ≢ NotYours) }
     {
         match played {

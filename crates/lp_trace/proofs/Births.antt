@@ -69,12 +69,12 @@ first_kept births items more text now i next kept same below is first cut =
       starts = starts_taken 0 births i kept.starts;
     })
 
--- a birth that there was room for is behind the others
+-- a birth that there was room for is after the others
 pub pushed : {E : Type 0} (r : Result (Unit {0}) E) (births more : List KeptBirth) (birth : KeptBirth) (count room : ℕ) → more ≡ (if is_ok r then births ++ birth ∷ [] else births) → OnErr r (room ≤ count) → count < room → more ≡ births ++ birth ∷ []
 pushed (Ok x) births more birth count room added full less = added
 pushed (Err e) births more birth count room added full less = absurd (omega arith)
 
--- one more birth, whose line begins behind the text
+-- one more birth, whose line begins after the text
 pub more_kept : (births more : List KeptBirth) (text now : List ℕ) (birth : KeptBirth) → IsKept births text → birth.start ≡ length text → now ≡ text ++ line_of (reason_words (birth_line birth)) → more ≡ births ++ birth ∷ [] → IsKept more now
 more_kept births more text now birth kept start written added =
     rw added (record {
@@ -88,17 +88,17 @@ more_kept births more text now birth kept start written added =
 
 -- ---- The line at hand, and those that are left
 
--- the next line, and those behind it
+-- the next line, and those after it
 pub next_left : (lines left : List Line) (next : Option Line) → next ≡ slice_get lines 0 → left ≡ drop 1 lines → option_to_list next ++ left ≡ lines
 next_left [] left next found rest = rw (found, rest) refl
 next_left (line ∷ lines) left next found rest = rw (found, rest) refl
 
--- nothing is behind the last line
+-- nothing is after the last line
 pub none_left : (lines left : List Line) (next : Option Line) → next ≡ slice_get lines 0 → left ≡ drop 1 lines → IfNone next (left ≡ [])
 none_left [] left next found rest = rw found rest
 none_left (line ∷ lines) left next found rest = rw found tt
 
--- the text of the line at hand, and of those behind it
+-- the text of the line at hand, and of those after it
 pub at_hand : (here next : Option Line) (lines left : List Line) (line : Line) → here ≡ Some line → option_to_list next ++ left ≡ lines → text_of (option_to_list here ++ lines) ≡ line_of (reason_words line) ++ text_of (option_to_list next ++ left)
 at_hand here next lines left line is more = rw (is, more) refl
 

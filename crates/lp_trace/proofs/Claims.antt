@@ -18,7 +18,7 @@ line_around head front back around =
     let rest : List ℕ = decimal head.group.0 ++ line_rest (decimal head.upto ∷ []) in
     let word : List ℕ = claim_word head.claim in
     let leg : List ℕ = decimal head.leg in
-    rw (around.before, around.behind)
+    rw (around.before, around.after)
     (append_assoc word (32 ∷ (leg ++ 32 ∷ [])) rest
     ∙ ap (λ l. word ++ 32 ∷ l) (append_assoc leg (32 ∷ []) rest)
     ∙ sym (line_split word (leg ∷ decimal head.group.0 ∷ decimal head.upto ∷ [])))

@@ -6,7 +6,7 @@ use Rattle.std.proofs.Math.ListN.{set}
 use Rattle.std.proofs.Math.Seq.{take-append-add, take-append_seam}
 use Rattle.lp_trace.specs.inside.Counting.{IsCounter, tens_digits}
 
--- the last digit stands behind those of the tens
+-- the last digit stands after those of the tens
 pub last_digit : (tens ones n : ℕ) → n ≡ 10 * tens + ones → ones < 10 → n < 2 ^ 64 → tens_digits tens ++ (48 + ones) ∷ [] ≡ decimal n
 last_digit zero ones n is few fits =
     let same : ones ≡ n = omega arith in
@@ -29,7 +29,7 @@ tens_put (suc tens) old new len some fits near size same put =
       few = omega (arith, long, ap length put);
     }
 
--- the digits of the tens were there with their room, and the last digit and the end of the line were put behind them
+-- the digits of the tens were there with their room, and the last digit and the end of the line were put after them
 pub counted_put : (old digits now placed end number : List ℕ) (last start count len : ℕ) → now ≡ old ++ digits → start ≡ length old → count < length digits → take count digits ++ last ∷ [] ≡ number → take (start + count + 1 + len) placed ≡ take (start + count + 1) (set now (start + count) last) ++ take len end → take (start + count + 1 + len) placed ≡ take start now ++ (number ++ take len end)
 counted_put old digits now placed end number last start count len is begins within spelled put =
     let below : start + count < length now = omega (arith, ap length is, length-append old digits) in

@@ -45,11 +45,11 @@ placed_at old new later bytes at end moved before written =
     ∙ ap (λ l. take at new ++ l) (take_at bytes later (length bytes) refl)
     ∙ ap (λ l. l ++ bytes) before
 
--- the number at a place, behind its space, and those after it
+-- the number at a place, after its space, and those after it
 pub numbers_at : (numbers : List ℕ) (i d : ℕ) → i < length numbers → line_rest (map decimal (drop i numbers)) ≡ (32 ∷ decimal (get_or numbers i d)) ++ line_rest (map decimal (drop (i + 1) numbers))
 numbers_at numbers i d below = rw (drop-cons numbers i d below, add-one) refl
 
--- a number was put behind its space
+-- a number was put after its space
 pub spaced_put : (before spaced after number : List ℕ) → spaced ≡ before ++ 32 ∷ [] → after ≡ spaced ++ number → after ≡ before ++ 32 ∷ number
 spaced_put before spaced after number first second = second ∙ ap (λ l. l ++ number) first ∙ append_assoc before (32 ∷ []) number
 
@@ -61,7 +61,7 @@ number_put before after spaced rest next whole put is so_far =
     ∙ ap (λ l. before ++ l) (sym is)
     ∙ so_far
 
--- bytes were put where a text had been made longer, and then it was cut behind them
+-- bytes were put where a text had been made longer, and then it was cut after them
 pub put_longer : (old blank held now placed later new rest : List ℕ) (start end room : ℕ) → held ≡ old ++ blank → now ≡ held → start ≡ length old → room ≡ length placed → take end placed ≡ take start now ++ rest → new ≡ take end (take room (placed ++ later)) → new ≡ old ++ rest
 put_longer old blank held now placed later new rest start end room longer is begins long put cut =
     cut

@@ -15,7 +15,7 @@ use Rattle.lp_definitions.specs.Ends.{LegEnd}
 use Rattle.lp_definitions.specs.declared.line.Line.{Line}
 use Rattle.lp_definitions.specs.declared.line.Line.TheVariants.{Hold, Busy, Born}
 use Rattle.lp_text.specs.declared.form.TraceForm.{TraceForm}
-use Rattle.lp_text.specs.declared.form.TraceForm.TheVariants.{Single, Stacked}
+use Rattle.lp_text.specs.declared.form.TraceForm.TheVariants.{Single, Stacked, WithResched}
 use Rattle.lp_definitions.specs.Outcome.{Outcome}
 use Rattle.lp_text.specs.Words.{line_of}
 use Rattle.lp_text.specs.CertTexts.{claim_word, cert_lines, reason_words, end_words}
@@ -34,6 +34,7 @@ AreClean words = AllByRecursion (λ w. Clean w) words
 level_clean : (form : TraceForm) (level : ℕ) → Clean (level_word form (record { 0 = level }))
 level_clean Single level = either_way (λ word. Clean word) (nat_eq level 0) (codes "old") (codes "new") refl refl
 level_clean Stacked level = decimal_clean level
+level_clean WithResched level = decimal_clean level
 
 complete_clean : (completed : Bool) → AreClean (complete_words completed)
 complete_clean true = (refl, tt)
@@ -78,6 +79,7 @@ certs_clean (cert ∷ certs) =
 target_clean : (form : TraceForm) (level : Level) → AreClean (target_words form level)
 target_clean Single level = (level_clean Single level.0, tt)
 target_clean Stacked level = (refl, (level_clean Stacked level.0, tt))
+target_clean WithResched level = (refl, (level_clean WithResched level.0, tt))
 
 end_clean : (completed : Option ℕ) (n : ℕ) → AreClean (end_words completed n)
 end_clean (Some event) n = (refl, (decimal_clean event, tt))
@@ -116,25 +118,26 @@ no_line_end : (c : ℕ) (bytes : List ℕ) → c ≢ 10 → NoLineEnd bytes → 
 no_line_end c bytes p q zero d below = p
 no_line_end c bytes p q (suc k) d below = q k d (omega arith)
 
-behind_no_end : (a b : List ℕ) → list_all (nat_lt 10) a ≡ true → NoLineEnd b → NoLineEnd (a ++ b)
-behind_no_end [] b h q = q
-behind_no_end (c ∷ a) b h q =
+after_no_end : (a b : List ℕ) → list_all (nat_lt 10) a ≡ true → NoLineEnd b → NoLineEnd (a ++ b)
+after_no_end [] b h q = q
+after_no_end (c ∷ a) b h q =
     let test = and_parts (nat_lt 10 c) (list_all (nat_lt 10) a) h in
     let above : 10 < c = ltb-true 10 c test.0 in
-    no_line_end c (a ++ b) (λ e. omega arith) (behind_no_end a b test.1 q)
+    no_line_end c (a ++ b) (λ e. omega arith) (after_no_end a b test.1 q)
 
 header_whole : (form : TraceForm) → NoLineEnd (report_header form)
-header_whole Single = behind_no_end (codes "lpreport 1") [] refl (λ k d below. absurd (omega arith))
-header_whole Stacked = behind_no_end (codes "lpreport 2") [] refl (λ k d below. absurd (omega arith))
+header_whole Single = after_no_end (codes "lpreport 1") [] refl (λ k d below. absurd (omega arith))
+header_whole Stacked = after_no_end (codes "lpreport 2") [] refl (λ k d below. absurd (omega arith))
+header_whole WithResched = after_no_end (codes "lpreport 3") [] refl (λ k d below. absurd (omega arith))
 
 model_whole : (name : List ℕ) → NoLineEnd name → NoLineEnd (model_line name)
-model_whole name h = behind_no_end (codes "model ") name refl h
+model_whole name h = after_no_end (codes "model ") name refl h
 
 module _ (form : TraceForm) (name other_name : List ℕ) (found other : Outcome) (n : NoLineEnd name) (m : NoLineEnd other_name) (p : FitsReport form found) (q : FitsReport form other) where
   same_form : report form name found ≡ report form other_name other → (name ≡ other_name) × (found ≡ other)
   same_form e =
-      let behind = (cut_tells (report_header form) (report_header form) _ _ (header_whole form) (header_whole form) (sym (report_cut form name found) ∙ e ∙ report_cut form other_name other)).1 in
-      let both = cut_tells (model_line name) (model_line other_name) _ _ (model_whole name n) (model_whole other_name m) behind in
+      let after = (cut_tells (report_header form) (report_header form) _ _ (header_whole form) (header_whole form) (sym (report_cut form name found) ∙ e ∙ report_cut form other_name other)).1 in
+      let both = cut_tells (model_line name) (model_line other_name) _ _ (model_whole name n) (model_whole other_name m) after in
       (ap (drop 6) both.0, lines_tell form found other p q (texts_tell (outcome_lines form found) (outcome_lines form other) (lines_clean form found) (lines_clean form other) both.1))
 
 other_forms : (form other_form : TraceForm) (name other_name : List ℕ) (found other : Outcome) → report form name found ≡ report other_form other_name other → report_header form ≡ report_header other_form
@@ -148,7 +151,18 @@ one_outcome Single Single name other_name found other n m p q e =
 one_outcome Stacked Stacked name other_name found other n m p q e =
     let same = same_form Stacked name other_name found other n m p q e in
     (refl, same.0, same.1)
+one_outcome WithResched WithResched name other_name found other n m p q e =
+    let same = same_form WithResched name other_name found other n m p q e in
+    (refl, same.0, same.1)
 one_outcome Single Stacked name other_name found other n m p q e =
     absurd (omega (arith, ap (λ l. get_or l 9 0) (other_forms Single Stacked name other_name found other e)))
 one_outcome Stacked Single name other_name found other n m p q e =
     absurd (omega (arith, ap (λ l. get_or l 9 0) (other_forms Stacked Single name other_name found other e)))
+one_outcome Single WithResched name other_name found other n m p q e =
+    absurd (omega (arith, ap (λ l. get_or l 9 0) (other_forms Single WithResched name other_name found other e)))
+one_outcome WithResched Single name other_name found other n m p q e =
+    absurd (omega (arith, ap (λ l. get_or l 9 0) (other_forms WithResched Single name other_name found other e)))
+one_outcome Stacked WithResched name other_name found other n m p q e =
+    absurd (omega (arith, ap (λ l. get_or l 9 0) (other_forms Stacked WithResched name other_name found other e)))
+one_outcome WithResched Stacked name other_name found other n m p q e =
+    absurd (omega (arith, ap (λ l. get_or l 9 0) (other_forms WithResched Stacked name other_name found other e)))

@@ -84,11 +84,11 @@ pieces_at pieces i d below = rw (drop-cons pieces i d, add-one) refl
 pub pieces_end : (pieces : List (Bor (List ℕ))) (i : ℕ) → length pieces ≤ i → concat (map (λ piece. piece.now) (drop i pieces)) ≡ []
 pieces_end pieces i h = rw (drop_of_length-le pieces h) refl
 
--- a word behind its space
+-- a word after its space
 pub spaced : (word : List ℕ) → 32 ∷ [] ++ word ≡ concat ((32 ∷ []) ∷ word ∷ [])
 spaced word = ap (λ l. 32 ∷ l) (sym (append-nil word))
 
--- the word at a place, behind its space, and the words after it
+-- the word at a place, after its space, and the words after it
 pub words_at : (words : List (Bor (List ℕ))) (i : ℕ) (d : Bor (List ℕ)) → i < length words → line_rest (map (λ word. word.now) (drop i words)) ≡ concat ((32 ∷ []) ∷ (get_or words i d).now ∷ []) ++ line_rest (map (λ word. word.now) (drop (i + 1) words))
 words_at words i d below = rest_at words i d below ∙ ap (λ l. l ++ line_rest (map (λ word. word.now) (drop (i + 1) words))) (spaced (get_or words i d).now)
 

@@ -19,7 +19,7 @@ use Rattle.lp_trace.proofs.Decimals.{decimal_tells}
 use Rattle.lp_trace.proofs.Sections.{Above, blocks, flat_map_blocks, map_blocks, many}
 use Rattle.lp_trace.proofs.ReportWords.{decimal_rank, leg_words_tell, line_rank, what_tells}
 
--- ---- The reasons of a certificate
+-- ---- The lines of a certificate
 
 -- the third byte of the first word, by which the three words differ
 abbrev third : List (List ℕ) → ℕ

@@ -18,7 +18,7 @@ lines_tell (l ∷ ls) (m ∷ ms) c d h =
 pub texts_tell : (ls ms : List (List (List ℕ))) → AllByRecursion CleanLine ls → AllByRecursion CleanLine ms → flat_map line_of ls ≡ flat_map line_of ms → ls ≡ ms
 texts_tell ls ms c d h = lines_tell ls ms c d (sym (lines_again ls c) ∙ ap (parts 10) h ∙ lines_again ms d)
 
--- what stands before the first line end, and what behind it
+-- what stands before the first line end, and what after it
 pub cut_tells : (a b x y : List ℕ) → All (λ byte. byte ≢ 10) a → All (λ byte. byte ≢ 10) b → a ++ 10 ∷ x ≡ b ++ 10 ∷ y → (a ≡ b) × (x ≡ y)
 cut_tells [] [] x y p q h = (refl, cc h)
 cut_tells [] (c ∷ b) x y p q h = absurd (q 0 0 (omega arith) (cc h))

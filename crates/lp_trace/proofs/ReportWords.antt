@@ -12,7 +12,7 @@ use Rattle.lp_definitions.specs.declared.refusal.Refusal.TheVariants.{UnknownTas
 use Rattle.lp_definitions.specs.declared.reply.What.{What}
 use Rattle.lp_definitions.specs.declared.reply.What.TheVariants.{Ran, Done, Switched, Refused}
 use Rattle.lp_text.specs.declared.form.TraceForm.{TraceForm}
-use Rattle.lp_text.specs.declared.form.TraceForm.TheVariants.{Single, Stacked}
+use Rattle.lp_text.specs.declared.form.TraceForm.TheVariants.{Single, Stacked, WithResched}
 use Rattle.lp_text.specs.CertTexts.{end_words}
 use Rattle.lp_trace.specs.Report.{level_word, what_words, complete_words, target_words}
 use Rattle.lp_trace.specs.Laws.{IsWhole, IsWholeLevel, IsWholeWhat, IsWholeEvent}
@@ -65,6 +65,7 @@ old_or_new (suc m) (suc n) p q e = omega arith
 pub level_tells : (form : TraceForm) (a b : Level) → IsWholeLevel form a → IsWholeLevel form b → level_word form a ≡ level_word form b → a ≡ b
 level_tells Single a b p q e = same_level a b (old_or_new a.0 b.0 p q e)
 level_tells Stacked a b p q e = same_level a b (decimal_tells a.0 b.0 p q e)
+level_tells WithResched a b p q e = same_level a b (decimal_tells a.0 b.0 p q e)
 
 -- ---- What an event did
 
@@ -159,3 +160,5 @@ leg_words_tell Single a b completed other m n p q c d e =
     (level_tells Single a b p q (cc e), end_tells completed other m n c d (cc e))
 leg_words_tell Stacked a b completed other m n p q c d e =
     (level_tells Stacked a b p q (cc e), end_tells completed other m n c d (cc e))
+leg_words_tell WithResched a b completed other m n p q c d e =
+    (level_tells WithResched a b p q (cc e), end_tells completed other m n c d (cc e))

@@ -23,7 +23,7 @@ use Rattle.lp_trace.proofs.Pages.{held_start, held_next}
 
 -- ---- The groups of a line
 
--- the group at a place, behind its space, and the groups and the line's end after it
+-- the group at a place, after its space, and the groups and the line's end after it
 pub groups_at : (groups : List GroupId) (i : ℕ) (d : GroupId) (end : List ℕ) → i < length groups → flat_map (λ group. 32 ∷ decimal group) (group_numbers (drop i groups)) ++ end ≡ (32 ∷ decimal (get_or groups i d).0) ++ (flat_map (λ group. 32 ∷ decimal group) (group_numbers (drop (i + 1) groups)) ++ end)
 groups_at groups i d end below =
     rw (drop-cons groups i d below, add-one) (append_assoc (32 ∷ decimal (get_or groups i d).0) (flat_map (λ group. 32 ∷ decimal group) (group_numbers (drop (suc i) groups))) end)
@@ -34,7 +34,7 @@ groups_end groups i end h = rw (drop_of_length-le groups h) refl
 pub switched_split : (event : List ℕ) (groups : List GroupId) (end : List ℕ) → event ++ (codes " over" ++ (flat_map (λ group. 32 ∷ decimal group) (group_numbers groups) ++ end)) ≡ concat (event ∷ codes " over" ∷ []) ++ (flat_map (λ group. 32 ∷ decimal group) (group_numbers groups) ++ end)
 switched_split event groups end = sym (append_assoc event (codes " over") (flat_map (λ group. 32 ∷ decimal group) (group_numbers groups) ++ end))
 
--- the words behind the first two, each behind its space
+-- the words after the first two, each after its space
 pub groups_rest : (groups : List ℕ) (words : List (List ℕ)) → line_rest (map decimal groups ++ words) ≡ flat_map (λ group. 32 ∷ decimal group) groups ++ line_rest words
 groups_rest [] words = refl
 groups_rest (group ∷ groups) words =

@@ -7,13 +7,13 @@ use Rattle.lp_stack.specs.declared.view.Class.{Class}
 use Rattle.lp_patch.specs.Patches.{Patches}
 use Rattle.lp_model.specs.Rules.{Rules}
 use Rattle.lp_definitions.specs.declared.event.Event.{Event}
-use Rattle.lp_definitions.specs.declared.event.Event.TheVariants.{Call, Ret, Sleep, Wake, Enter, Exit, Idle, Fork, Die, Walk, Stop, Enable, Disable, Reverse}
+use Rattle.lp_definitions.specs.declared.event.Event.TheVariants.{Call, Ret, Sleep, Wake, Enter, Exit, Idle, Resched, Fork, Die, Walk, Stop, Enable, Disable, Reverse}
 use Rattle.lp_definitions.specs.declared.refusal.Refusal.TheVariants.{InTransition, AlreadyThere}
 use Rattle.lp_definitions.specs.Tasks.{Bounds, Fate, Unused, Live, Dead, Life, Origin, Stood, Forked, fits, first_of, map_live, on_live}
-use Rattle.lp_definitions.specs.Leg.{Leg, Standing, State, after}
-use Rattle.lp_definitions.specs.Schedule.{Schedule, first_check, has_come, level_by, standing}
+use Rattle.lp_definitions.specs.Leg.{Leg, LegTask, State, after}
+use Rattle.lp_definitions.specs.Schedule.{Schedule, first_check, has_come, level_by, leg_task}
 use Rattle.lp_definitions.specs.Run.{and_then, at_boot, booted, control_tests, is_complete_now, level_now, new_target, next_leg, opened, opens, refused_by, shown, start}
-use Rattle.lp_laws.proofs.Plain.{changed_origin, each_life, none_first, unfit}
+use Rattle.lp_laws.proofs.NextTasks.{changed_origin, each_life, none_first, unfit}
 
 -- ---- Levels of tasks
 
@@ -33,7 +33,7 @@ pub record IsUpTo (n : ℕ) (leg : Leg) : Type 0 where
   pub bounds : leg.bounds.tasks ≤ 65535
   pub target : leg.target ≤ n
   pub from : leg.from ≤ n
-  pub levels : (t : ℕ) (x : Standing) → leg.tasks t ≡ Live x → x.level ≤ n
+  pub levels : (t : ℕ) (x : LegTask) → leg.tasks t ≡ Live x → x.level ≤ n
 
 module _ (model : Rules) (n : ℕ) (leg : Leg) (h : IsUpTo n leg) where
   origin_up_to : (k t : ℕ) (x : Life) → after model leg k t ≡ Live x → IsOriginUpTo n x.origin
@@ -43,14 +43,14 @@ module _ (model : Rules) (n : ℕ) (leg : Leg) (h : IsUpTo n leg) where
       (λ k t y c live was now. subst (IsOriginUpTo n) (sym (changed_origin k c y)) was)
       (λ k p t how y live was unused positive within now. was)
 
-  stands_up_to : (t : ℕ) (f : Fate Life) → after model leg (length leg.events) t ≡ f → (x : Standing) → map_live (standing leg (first_check model leg) (length leg.events)) f ≡ Live x → x.level ≤ n
+  stands_up_to : (t : ℕ) (f : Fate Life) → after model leg (length leg.events) t ≡ f → (x : LegTask) → map_live (leg_task leg (first_check model leg) (length leg.events)) f ≡ Live x → x.level ≤ n
   stands_up_to t Unused e x live = absurd (cc)
   stands_up_to t (Live y) e x live =
-      let same : standing leg (first_check model leg) (length leg.events) y ≡ x = cc in
-      subst (λ (z : Standing). z.level ≤ n) same (level_up_to leg.target (first_check model leg) n (length leg.events) y.group y.origin h.target (origin_up_to (length leg.events) t y e))
+      let same : leg_task leg (first_check model leg) (length leg.events) y ≡ x = cc in
+      subst (λ (z : LegTask). z.level ≤ n) same (level_up_to leg.target (first_check model leg) n (length leg.events) y.group y.origin h.target (origin_up_to (length leg.events) t y e))
   stands_up_to t Dead e x live = absurd (cc)
 
-  pub shown_up_to : (t : ℕ) (x : Standing) → shown model leg t ≡ Live x → x.level ≤ n
+  pub shown_up_to : (t : ℕ) (x : LegTask) → shown model leg t ≡ Live x → x.level ≤ n
   unfolding shown
   shown_up_to t x live = stands_up_to t (after model leg (length leg.events) t) refl x live
 
@@ -84,6 +84,7 @@ module _ (model : Rules) (n : ℕ) (leg : Leg) (h : IsUpTo n leg) where
   target_up_to (Enter t) e = h.target
   target_up_to (Exit t) e = h.target
   target_up_to (Idle t) e = h.target
+  target_up_to (Resched t) e = h.target
   target_up_to (Fork p c how) e = h.target
   target_up_to (Die t) e = h.target
   target_up_to Walk e = h.target
@@ -96,7 +97,7 @@ module _ (model : Rules) (n : ℕ) (leg : Leg) (h : IsUpTo n leg) where
       (λ e. record { patches = h.patches; bounds = h.bounds; target = target_up_to event e; from = h.target; levels = shown_up_to model n leg h })
       (λ e. record { patches = h.patches; bounds = h.bounds; target = h.target; from = h.from; levels = h.levels })
 
-  level_of : (f : Fate Standing) → ((x : Standing) → f ≡ Live x → x.level ≤ n) → on_live 0 (λ x. x.level) f ≤ n
+  level_of : (f : Fate LegTask) → ((x : LegTask) → f ≡ Live x → x.level ≤ n) → on_live 0 (λ x. x.level) f ≤ n
   level_of Unused each = omega arith
   level_of (Live x) each = each x refl
   level_of Dead each = omega arith
@@ -106,12 +107,12 @@ module _ (model : Rules) (n : ℕ) (leg : Leg) (h : IsUpTo n leg) where
 
 -- ---- The start
 
-booted_up_to : (model : Rules) (n : ℕ) (boots : List (TaskId × Class)) (t : ℕ) (x : Standing) → booted model boots t ≡ Live x → x.level ≤ n
+booted_up_to : (model : Rules) (n : ℕ) (boots : List (TaskId × Class)) (t : ℕ) (x : LegTask) → booted model boots t ≡ Live x → x.level ≤ n
 booted_up_to model n [] t x e = absurd (cc)
 booted_up_to model n (boot ∷ boots) t x e = one (nat_eq t boot.0.0) (booted_up_to model n boots t x) e
   where
     one : (b : Bool) → (booted model boots t ≡ Live x → x.level ≤ n) → (if b then Live (at_boot model t boot.1) else booted model boots t) ≡ Live x → x.level ≤ n
-    one true rest h = let same : at_boot model t boot.1 ≡ x = cc in subst (λ (z : Standing). z.level ≤ n) same (omega arith)
+    one true rest h = let same : at_boot model t boot.1 ≡ x = cc in subst (λ (z : LegTask). z.level ≤ n) same (omega arith)
     one false rest h = rest h
 
 pub start_up_to : (model : Rules) (bounds : Bounds) (patches : Patches) (boots : List (TaskId × Class)) → bounds.tasks ≤ 65535 → IsUpTo (length patches) (start model bounds patches boots)

@@ -23,7 +23,7 @@ use Rattle.lp_definitions.specs.Schedule.{first_check, view, waits}
 use Rattle.lp_definitions.specs.Sound.{IsSound}
 use Rattle.lp_laws.proofs.Checks.{accepted-is}
 use Rattle.lp_laws.proofs.First.{first_check_is}
-use Rattle.lp_laws.proofs.Plain.{none_first, numbered, unfit}
+use Rattle.lp_laws.proofs.NextTasks.{none_first, numbered, unfit}
 use Rattle.lp_laws.proofs.SoundAfter.{serials}
 use Rattle.lp_definitions.specs.declared.cert.Claim.{Claim}
 use Rattle.lp_definitions.specs.declared.cert.Claim.TheVariants.{Waiting, Floor}

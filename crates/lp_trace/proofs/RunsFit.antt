@@ -8,7 +8,7 @@ use Rattle.lp_stack.specs.declared.view.Class.{Class}
 use Rattle.lp_model.specs.Rules.{Rules, IsLawful}
 use Rattle.lp_definitions.specs.Run.{AreInRange, first_leg, task_numbers}
 use Rattle.lp_text.specs.declared.form.TraceForm.{TraceForm}
-use Rattle.lp_text.specs.declared.form.TraceForm.TheVariants.{Single, Stacked}
+use Rattle.lp_text.specs.declared.form.TraceForm.TheVariants.{Single, Stacked, WithResched}
 use Rattle.lp_text.specs.Traces.{IsTask, IsTrace, TraceValue, most_patches}
 use Rattle.lp_replay.specs.Outcome.{whole_run, outcome, patch_of, run_of}
 use Rattle.lp_trace.specs.Laws.{FitsReport, IsWholeLevel, ReportsTellRuns, RunsFitReports}
@@ -22,10 +22,12 @@ use Rattle.lp_trace.proofs.RunStays.{mixed_up_to, stays_whole}
 levels_whole : (form : TraceForm) (n : ℕ) → n ≤ most_patches form → (level : ℕ) → level ≤ n → IsWholeLevel form (record { 0 = level })
 levels_whole Single n few level h = omega arith
 levels_whole Stacked n few level h = omega arith
+levels_whole WithResched n few level h = omega arith
 
 few_patches : (form : TraceForm) (n : ℕ) → n ≤ most_patches form → n ≤ 16
 few_patches Single n h = omega arith
 few_patches Stacked n h = h
+few_patches WithResched n h = h
 
 boots_in_range : (symbols : ℕ) (boots : List (TaskId × Class)) → AllByRecursion (λ (boot : TaskId × Class). IsTask boot.0) boots → AreInRange (task_numbers symbols) boots
 boots_in_range symbols [] h = All-nil (λ (boot : TaskId × Class). (0 < boot.0.0) × (boot.0.0 ≤ 65535))

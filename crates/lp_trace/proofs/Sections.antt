@@ -32,7 +32,7 @@ module _ {L : Type 0} (rank : L → ℕ) where
   never_both k [] h above = h
   never_both k (l ∷ a) h above = omega arith
 
--- ---- What is written of several, each behind the one before
+-- ---- What is written of several, each after the one before
 
 module _ {X L : Type 0} (f : ℕ → X → List L) where
   -- the items of each, the first of which has this number

@@ -1,4 +1,4 @@
--- The answer to the input of a check: the verdict on its certificate in the leg of the trace that it names.
+-- The answer to the input of a check: the fault of its certificate, or none, in the leg of the trace that it names.
 use Rattle.std.specs.Prelude.{◌≡◌, ℕ, List, [], ◌∷◌, ◌++◌, decimal, codes, Option, Some, None}
 use Rattle.lp_model.specs.Rules.{Rules}
 use Rattle.lp_definitions.specs.Leg.{Leg}
@@ -7,23 +7,23 @@ use Rattle.lp_definitions.specs.declared.cert_fault.CertFault.{CertFault}
 use Rattle.lp_definitions.specs.declared.cert_fault.CertFault.TheVariants.{NoSuchGroup, NotOnStack, NoBlame, Gap, BadBirth, NoLeg, NoMemory}
 use Rattle.lp_definitions.specs.Faults.{fault_number}
 use Rattle.lp_definitions.specs.Holds.{Holds}
-use Rattle.lp_definitions.specs.Verdict.{verdict_on}
+use Rattle.lp_definitions.specs.Judgement.{cert_fault}
 use Rattle.lp_text.specs.declared.check_input.CheckInput.{CheckInput}
 use Rattle.lp_text.specs.CheckTexts.{IsInput, input_text}
 use Rattle.lp_text.specs.Input.{ReadsAll}
 use Rattle.lp_replay.specs.Legs.{leg_numbered}
 
 module _ (model : Rules) where
-  -- ---- The verdict
+  -- ---- The fault
 
   -- the first fault of a certificate in its leg; C6 where there is no such leg
-  abbrev pub verdict_in : Option Leg → Cert → Option CertFault
-  verdict_in None cert = Some NoLeg
-  verdict_in (Some leg) cert = verdict_on model leg cert.claim cert
+  abbrev pub cert_fault_in : Option Leg → Cert → Option CertFault
+  cert_fault_in None cert = Some NoLeg
+  cert_fault_in (Some leg) cert = cert_fault model leg cert.claim cert
 
   -- the first fault of an input's certificate, if it has one
   abbrev pub answer_to : CheckInput → Option CertFault
-  answer_to input = verdict_in (leg_numbered model input.trace input.cert.leg) input.cert
+  answer_to input = cert_fault_in (leg_numbered model input.trace input.cert.leg) input.cert
 
   -- what the certificate claims holds of the leg that it names
   abbrev pub HoldsInTrace : CheckInput → Type 0

@@ -9,7 +9,7 @@ use Rattle.lp_definitions.specs.Ends.{LegEnd}
 use Rattle.lp_definitions.specs.declared.line.Line.{Line}
 use Rattle.lp_definitions.specs.declared.line.Line.TheVariants.{Hold, Busy, Born}
 use Rattle.lp_text.specs.declared.form.TraceForm.{TraceForm}
-use Rattle.lp_text.specs.declared.form.TraceForm.TheVariants.{Single, Stacked}
+use Rattle.lp_text.specs.declared.form.TraceForm.TheVariants.{Single}
 use Rattle.lp_text.specs.Traces.{TraceValue, IsTrace}
 use Rattle.lp_definitions.specs.Outcome.{Outcome}
 use Rattle.lp_replay.specs.Outcome.{outcome}
@@ -24,7 +24,7 @@ IsWhole number = number < 10 ^ 64
 -- a level. One patch has the levels 0 and 1, which are written as `old` and `new`
 abbrev pub IsWholeLevel : TraceForm → Level → Type 0
 IsWholeLevel Single level = level.0 ≤ 1
-IsWholeLevel Stacked level = IsWhole level.0
+IsWholeLevel _ level = IsWhole level.0
 
 -- what an event did
 abbrev pub IsWholeWhat : TraceForm → What → Type 0
@@ -33,7 +33,7 @@ IsWholeWhat form Done = Unit {0}
 IsWholeWhat form (Switched groups) = All IsWhole groups
 IsWholeWhat form (Refused why) = Unit {0}
 
--- a reason of a certificate
+-- a line of a certificate
 abbrev pub IsWholeReason : Line → Type 0
 IsWholeReason (Hold group task serial from to) = IsWhole group.0 × IsWhole task.0 × IsWhole serial × IsWhole from × IsWhole to
 IsWholeReason (Busy group task at) = IsWhole group.0 × IsWhole task.0 × IsWhole at

@@ -9,7 +9,7 @@ use Rattle.lp_definitions.specs.Events.{refusal_number}
 use Rattle.lp_definitions.specs.Ends.{LegEnd}
 use Rattle.lp_text.specs.CertTexts.{cert_lines, end_words}
 use Rattle.lp_text.specs.declared.form.TraceForm.{TraceForm}
-use Rattle.lp_text.specs.declared.form.TraceForm.TheVariants.{Single, Stacked}
+use Rattle.lp_text.specs.declared.form.TraceForm.TheVariants.{Single, Stacked, WithResched}
 use Rattle.lp_definitions.specs.Outcome.{Outcome}
 use Rattle.lp_text.specs.Words.{line_of}
 
@@ -19,11 +19,12 @@ use Rattle.lp_text.specs.Words.{line_of}
 abbrev pub report_header : TraceForm → List ℕ
 report_header Single = codes "lpreport 1"
 report_header Stacked = codes "lpreport 2"
+report_header WithResched = codes "lpreport 3"
 
 -- a level: with one patch there is an old and a new one
 abbrev pub level_word : TraceForm → Level → List ℕ
 level_word Single level = if nat_eq level.0 0 then codes "old" else codes "new"
-level_word Stacked level = decimal level.0
+level_word _ level = decimal level.0
 
 -- what an event did
 abbrev pub what_words : TraceForm → What → List (List ℕ)
@@ -50,7 +51,7 @@ reply_lines form number (reply ∷ replies) = reply_line form number reply ∷ r
 -- where a leg takes the tasks
 abbrev pub target_words : TraceForm → Level → List (List ℕ)
 target_words Single level = level_word Single level ∷ []
-target_words Stacked level = codes "to" ∷ level_word Stacked level ∷ []
+target_words form level = codes "to" ∷ level_word form level ∷ []
 
 abbrev pub leg_line : TraceForm → LegEnd → List (List ℕ)
 leg_line form leg =

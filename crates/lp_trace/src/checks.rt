@@ -3,7 +3,7 @@ ghost use Rattle.std.specs.Prelude.{◌≡◌, ◌++◌, codes, decimal, None, i
 ghost use Rattle.std.specs.Io.KnownBytes.{Appends};
 ghost use Rattle.lp_checker.specs.Folds.{leg_with};
 ghost use Rattle.lp_definitions.specs.Holds.{Holds};
-ghost use Rattle.lp_definitions.specs.Verdict.{verdict_on};
+ghost use Rattle.lp_definitions.specs.Judgement.{cert_fault};
 ghost use Rattle.lp_trace.specs.Answer.{HoldsInTrace, ReadsInput, answer_to, answer_words, event_of};
 ghost use Rattle.lp_definitions.specs.Faults.{fault_number};
 ghost use Rattle.lp_text.specs.CheckReading.{check_reading};
@@ -55,7 +55,7 @@ pub fn check<M: Consistency, R: Read, W: Write>(
     ensures read_failed { IfErr result (λ fault. AtReading fault (FailsOnce reader.old reader.new)) }
     // Else no read failed: one that failed is told before a fault of the text.
     ensures unfailed { MatchResult result (λ _. reader.new.failures ≡ reader.old.failures) (λ fault. ButForReading fault (reader.new.failures ≡ reader.old.failures)) }
-    // Without a fault the end was found once: nothing is read behind it.
+    // Without a fault the end was found once: nothing is read after it.
     ensures once { OnOk result (reader.new.ends ≡ next reader.old.ends) }
     // Each read but the last gives a byte at least.
     ensures few { AtMost 134217729 reader.old.calls reader.new.calls }
@@ -86,7 +86,7 @@ fn answer_on<M: Consistency, W: Write>(
     ensures late { IfErr result (λ fault. AtTrace fault (λ _. ⊥)) }
     ensures write_failed { IfErr result (λ fault. AtWrite fault (writer.new.failures ≡ next writer.old.failures)) }
     ensures written { OnOk result (writer.new.failures ≡ writer.old.failures) }
-    ensures behind { IfErr result (λ fault. AtReading fault ⊥) }
+    ensures not_reading { IfErr result (λ fault. AtReading fault ⊥) }
 {
     let answer = answer_to(alloc, model, input)?;
     let mut page = Page::new(alloc)?;
@@ -120,19 +120,19 @@ fn answer_to<M: Consistency>(
     ensures sound { IfOk result (λ answer. answer ≡ None → HoldsInTrace M.rules input.now) }
 {
     match leg_numbered(alloc, model, &input.trace, input.cert.leg)? {
-        Some(leg) => verdict(alloc, model, &leg, &input.cert),
+        Some(leg) => judge(alloc, model, &leg, &input.cert),
         None => Ok(Some(CertFault::NoLeg)),
     }
 }
 
 /// The first fault of a certificate in a leg, if it has one.
-fn verdict<M: Consistency>(
+fn judge<M: Consistency>(
     alloc: Global,
     model: M,
     leg: &TraceLeg<'_>,
     cert: &Cert,
 ) -> Result<Option<CertFault>, ReplayFault>
-    ensures answer { IfOk result (λ answer. answer ≡ verdict_on M.rules (leg_with leg.now.opening leg.now.events.now) cert.now.claim cert.now) }
+    ensures answer { IfOk result (λ answer. answer ≡ cert_fault M.rules (leg_with leg.now.opening leg.now.events.now) cert.now.claim cert.now) }
     ensures sound { IfOk result (λ answer. answer ≡ None → Holds M.rules (leg_with leg.now.opening leg.now.events.now) cert.now) }
 {
     let checked = match cert.claim {

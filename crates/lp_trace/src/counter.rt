@@ -58,7 +58,7 @@ impl Counter {
         self.carry();
     }
 
-    /// One more behind a nine. Out of line, as nine of ten don't need it.
+    /// One more after a nine. Out of line, as nine of ten don't need it.
     #[inline(never)]
     fn carry(&mut self)
         requires few { self.old < 18446744073709551615 }

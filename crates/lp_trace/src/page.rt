@@ -14,13 +14,13 @@ use std::io::Write;
 /// How many bytes are gathered.
 const PAGE: usize = 65_536;
 
-/// Room for six numbers, each behind a space, and the line's end.
+/// Room for six numbers, each after a space, and the line's end.
 const ROOM: usize = 128;
 
 /// So much room.
 static BLANK: [u8; ROOM] = [b'\n'; ROOM];
 
-/// Room for a number behind a space.
+/// Room for a number after a space.
 static SHORT_BLANK: [u8; 32] = [b'\n'; 32];
 
 /// Text that waits to be written. No call but `new` allocates.
@@ -71,7 +71,7 @@ impl Page {
         self.held.extend_from_slice(bytes).is_ok()
     }
 
-    /// Takes a number and the first bytes of the end of a line behind it, if there is room for the
+    /// Takes a number and the first bytes of the end of a line after it, if there is room for the
     /// longest, and says whether it did. The last digit and the end are written where they stay, as
     /// in `hold_rest`.
     #[inline(always)]
@@ -103,7 +103,7 @@ impl Page {
         Ok(())
     }
 
-    /// Puts bytes behind those that are held, and writes where there is no room.
+    /// Puts bytes after those that are held, and writes where there is no room.
     #[inline(always)]
     pub(crate) fn put<W: Write>(
         &mut self,
@@ -165,7 +165,7 @@ impl Page {
         self.put(writer, b"\n")
     }
 
-    /// Takes a number behind a space, if there is room for the longest, and says whether it did. It is written where it
+    /// Takes a number after a space, if there is room for the longest, and says whether it did. It is written where it
     /// stays, as in `hold_rest`.
     #[inline(always)]
     pub(crate) fn hold_number(&mut self, number: u64) -> bool
@@ -202,7 +202,7 @@ impl Page {
         false
     }
 
-    /// Takes a word and two numbers, with so many bytes between these, and a line's end behind, if there is room for the
+    /// Takes a word and two numbers, with so many bytes between these, and a line's end after them, if there is room for the
     /// longest, and says whether it did.
     #[inline(always)]
     pub(crate) fn hold_joined(
@@ -228,7 +228,7 @@ impl Page {
         false
     }
 
-    /// The same behind the word.
+    /// The same after the word.
     #[inline(always)]
     fn hold_between(
         &mut self,
@@ -280,7 +280,7 @@ impl Page {
         self.put_rest(writer, numbers)
     }
 
-    /// Puts the end of a line: at most six numbers, each behind a space.
+    /// Puts the end of a line: at most six numbers, each after a space.
     fn put_rest<W: Write>(
         &mut self,
         writer: &mut Counted<W>,

@@ -8,7 +8,7 @@ use std::marker::Model;
 /// The room of a piece: four words of eight bytes, so that a copy is a few stores.
 const PART: usize = 32;
 
-/// A piece of text, with what stands in its room behind it.
+/// A piece of text, with what stands in its room after it.
 ///
 /// Contracts see its bytes.
 #[derive(Drop)]
@@ -28,7 +28,7 @@ impl Model for Part {
 }
 
 impl Part {
-    /// A line's beginning: a word and a number, each with a space behind it.
+    /// A line's beginning: a word and a number, each with a space after it.
     pub(crate) fn of_words(first: &[u8], number: u64) -> Part
         requires { length first.now ≤ 10 }
         ensures { result ≡ first.now ++ (32 ∷ (decimal number ++ 32 ∷ [])) }
@@ -40,7 +40,7 @@ impl Part {
         Part { text, len: end + 1 }
     }
 
-    /// A line's end: a number behind a space.
+    /// A line's end: a number after a space.
     pub(crate) fn of_rest(number: u64) -> Part
         ensures { result ≡ line_rest (decimal number ∷ []) }
     {
@@ -49,7 +49,7 @@ impl Part {
         Part { text, len }
     }
 
-    /// Puts the piece behind the first `at` bytes, and gives where it ends.
+    /// Puts the piece after the first `at` bytes, and gives where it ends.
     #[inline(always)]
     fn place(&self, text: &mut [u8], at: usize) -> usize
         requires { at + 32 ≤ length text.old }
@@ -62,7 +62,7 @@ impl Part {
     }
 }
 
-/// Puts a number between two pieces behind the first `at` bytes, and gives where the second ends.
+/// Puts a number between two pieces after the first `at` bytes, and gives where the second ends.
 #[inline(always)]
 pub(crate) fn place_around(
     text: &mut [u8],

@@ -46,7 +46,7 @@ fn short_count(number: u64) -> usize
     }
 }
 
-/// Puts a number behind the first `at` bytes, and gives where it ends.
+/// Puts a number after the first `at` bytes, and gives where it ends.
 #[inline(always)]
 pub(crate) fn place_number(text: &mut [u8], at: usize, number: u64) -> usize
     requires { at + 20 ≤ length text.old }
@@ -59,7 +59,7 @@ pub(crate) fn place_number(text: &mut [u8], at: usize, number: u64) -> usize
     end
 }
 
-/// Puts a number behind a space behind the first `at` bytes, and gives where it ends.
+/// Puts a number after a space after the first `at` bytes, and gives where it ends.
 #[inline(always)]
 pub(crate) fn place_spaced(text: &mut [u8], at: usize, number: u64) -> usize
     requires { at + 21 ≤ length text.old }
@@ -71,7 +71,7 @@ pub(crate) fn place_spaced(text: &mut [u8], at: usize, number: u64) -> usize
     place_number(text, at + 1, number)
 }
 
-/// Puts the end of a line behind the first `at` bytes: numbers, each behind a space. Gives where it
+/// Puts the end of a line after the first `at` bytes: numbers, each after a space. Gives where it
 /// ends.
 #[inline(always)]
 pub(crate) fn place_rest(text: &mut [u8], at: usize, numbers: &[u64]) -> usize
@@ -87,7 +87,7 @@ pub(crate) fn place_rest(text: &mut [u8], at: usize, numbers: &[u64]) -> usize
     end + 1
 }
 
-/// Puts a short text behind the first `at` bytes, with what stands in its room behind it.
+/// Puts a short text after the first `at` bytes, with what stands in its room after it.
 #[inline(always)]
 pub(crate) fn place_end<const N: usize>(text: &mut [u8], at: usize, end: &[u8; N])
     requires { at + N ≤ length text.old }
@@ -97,7 +97,7 @@ pub(crate) fn place_end<const N: usize>(text: &mut [u8], at: usize, end: &[u8; N
     text[at..at + N].copy_from_slice(end);
 }
 
-/// Puts two numbers behind the first `at` bytes, with so many bytes between them, and a line's end. Gives where it ends.
+/// Puts two numbers after the first `at` bytes, with so many bytes between them, and a line's end. Gives where it ends.
 #[inline(always)]
 pub(crate) fn place_joined(
     text: &mut [u8],

@@ -69,6 +69,7 @@ fn header(form: TraceForm) -> &'static [u8]
     match form {
         TraceForm::Single => b"lpreport 1",
         TraceForm::Stacked => b"lpreport 2",
+        TraceForm::WithResched => b"lpreport 3",
     }
 }
 
@@ -108,7 +109,7 @@ fn level_word<'a>(buffer: &'a mut Buffer, form: TraceForm, level: Level) -> &'a 
     match form {
         TraceForm::Single if level.0 == 0 => b"old",
         TraceForm::Single => b"new",
-        TraceForm::Stacked => number(buffer, u64::from(level.0)),
+        TraceForm::Stacked | TraceForm::WithResched => number(buffer, u64::from(level.0)),
     }
 }
 
@@ -134,7 +135,7 @@ fn short_rest(form: TraceForm, reply: ShortReply) -> Option<(&'static [u8; SHORT
         ShortWhat::Ran(level) => match form {
             TraceForm::Single if level.0 == 0 => Some((b" ran old\n.......", 9)),
             TraceForm::Single => Some((b" ran new\n.......", 9)),
-            TraceForm::Stacked => None,
+            TraceForm::Stacked | TraceForm::WithResched => None,
         },
         _ => None,
     }
@@ -237,7 +238,7 @@ fn put_switched<W: Write>(
     page.put(writer, end)
 }
 
-/// Puts a group behind a space.
+/// Puts a group after a space.
 #[inline(always)]
 fn put_group<W: Write>(
     page: &mut Page,

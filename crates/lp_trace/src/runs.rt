@@ -49,7 +49,7 @@ pub fn run<M: Consistency, R: Read, W: Write>(
     ensures read_failed { IfErr result (λ fault. AtReading fault (FailsOnce reader.old reader.new)) }
     // Else no read failed: one that failed is told before a fault of the text.
     ensures unfailed { MatchResult result (λ _. reader.new.failures ≡ reader.old.failures) (λ fault. ButForReading fault (reader.new.failures ≡ reader.old.failures)) }
-    // Without a fault the end was found once: nothing is read behind it.
+    // Without a fault the end was found once: nothing is read after it.
     ensures once { OnOk result (reader.new.ends ≡ next reader.old.ends) }
     // Each read but the last gives a byte at least.
     ensures few { AtMost 134217729 reader.old.calls reader.new.calls }
@@ -79,7 +79,7 @@ fn report_on<M: Consistency, W: Write>(
     ensures late { IfErr result (λ fault. AtTrace fault (λ _. ⊥)) }
     ensures write_failed { IfErr result (λ fault. AtWrite fault (writer.new.failures ≡ next writer.old.failures)) }
     ensures written { OnOk result (writer.new.failures ≡ writer.old.failures) }
-    ensures behind { IfErr result (λ fault. AtReading fault ⊥) }
+    ensures not_reading { IfErr result (λ fault. AtReading fault ⊥) }
 {
     let mut page = Page::new(alloc)?;
     let mut kept = KeptBirths::new(alloc)?;

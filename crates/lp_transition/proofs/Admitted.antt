@@ -7,7 +7,7 @@ use Rattle.lp_model.specs.declared.check.CheckKind.{CheckKind}
 use Rattle.lp_model.specs.declared.check.CheckKind.TheVariants as kind
 use Rattle.lp_model.specs.declared.verdict.Verdict.{Verdict}
 use Rattle.lp_definitions.specs.Tasks.{Live}
-use Rattle.lp_definitions.specs.Leg.{Standing, State}
+use Rattle.lp_definitions.specs.Leg.{LegTask, State}
 use Rattle.lp_machine.specs.Machine.{view_of}
 use Rattle.lp_transition.specs.Scan.{is_scan_kind, scan_event, verdicts_of, AreEnough}
 use Rattle.lp_transition.specs.Weigh.{AreVerdictsFor}
@@ -36,7 +36,7 @@ none_from (Some a) h = absurd (cc)
 
 module _ (model : Rules) (on : CheckKind) (s : State) where
   -- a task that a check of all that wait admits
-  free-is : (t : ℕ) (x : Standing) → s.tasks t ≡ Live x → list_any (admits_task t) (verdicts_of model on s) ≡ true → model.blame on (view_of t x) s.aim ≡ None
+  free-is : (t : ℕ) (x : LegTask) → s.tasks t ≡ Live x → list_any (admits_task t) (verdicts_of model on s) ≡ true → model.blame on (view_of t x) s.aim ≡ None
   free-is t x live told =
       let j = verdict-is model on s (admits_task t) told in
       let both = and_parts (is_none (model.blame on (view_of j.number j.task) s.aim)) (nat_eq t j.number) j.passed in
@@ -47,7 +47,7 @@ module _ (model : Rules) (on : CheckKind) (s : State) where
       (subst (λ y. model.blame on (view_of j.number y) s.aim ≡ None) life (none_from (model.blame on (view_of j.number j.task) s.aim) both.0))
 
   -- a verdict without blame is what a check finds of its task
-  pub admitted-is : (vs : List Verdict) → AreEnough model on s vs → (t : ℕ) (x : Standing) → s.tasks t ≡ Live x → list_any (admits_task t) vs ≡ true → model.blame on (view_of t x) s.aim ≡ None
+  pub admitted-is : (vs : List Verdict) → AreEnough model on s vs → (t : ℕ) (x : LegTask) → s.tasks t ≡ Live x → list_any (admits_task t) vs ≡ true → model.blame on (view_of t x) s.aim ≡ None
   admitted-is vs enough t x live told =
       free-is t x live (any-filter (admits_task t) _ (verdicts_of model on s) (subst (λ ws. list_any (admits_task t) ws ≡ true) enough.found told))
 
@@ -57,3 +57,4 @@ enough_for model s kind.Walk vs scan enough = enough
 enough_for model s kind.Stop vs scan enough = enough
 enough_for model s kind.KernelExit vs scan enough = absurd (cc)
 enough_for model s kind.IdlePoint vs scan enough = absurd (cc)
+enough_for model s kind.Resched vs scan enough = absurd (cc)

@@ -10,7 +10,7 @@ use Rattle.lp_model.specs.declared.check.Blame.{Blame}
 use Rattle.lp_model.specs.declared.check.CheckKind.{CheckKind}
 use Rattle.lp_model.specs.declared.verdict.Verdict.{Verdict}
 use Rattle.lp_definitions.specs.Tasks.{Fate, Unused, Live, Dead, on_live, first_of}
-use Rattle.lp_definitions.specs.Leg.{Standing, State}
+use Rattle.lp_definitions.specs.Leg.{LegTask, State}
 use Rattle.lp_definitions.specs.Sound.{IsSound}
 use Rattle.lp_machine.specs.Machine.{view_of}
 use Rattle.lp_machine.specs.Table.{Table, Engine, slot, state_in}
@@ -20,7 +20,7 @@ use Rattle.lp_transition.specs.Scan.{waiting_view, views_of, verdict_of, verdict
 use Rattle.lp_tasks.specs.Passing.{passing}
 use Rattle.lp_transition.specs.inside.ScanSteps.{tasks_of, is_judged, is_found, switches_by, all_admit}
 use Rattle.lp_transition.proofs.ScanLists.{any-map, verdict-is, verdict-from}
-use Rattle.lp_laws.proofs.Quantifiers.{same_bool}
+use Rattle.lp_definitions.proofs.Quantifiers.{same_bool}
 use Rattle.lp_transition.proofs.ScanGroups.{found-from, found-is}
 use Rattle.lp_transition.proofs.ScanLemmas.{tasks-waiting}
 
@@ -77,7 +77,7 @@ length-tasks : (vs : List Verdict) → length (tasks_of vs) ≡ length vs
 length-tasks [] = refl
 length-tasks (v ∷ vs) = ap suc (length-tasks vs)
 
--- a verdict's task stands behind those before it
+-- a verdict's task stands after those before it
 pub task-at : (vs : List Verdict) (i : ℕ) (d : Verdict) → i < length vs → (rest : List ℕ) × (tasks_of vs ≡ tasks_of (take i vs) ++ (get_or vs i d).task.0 ∷ rest)
 task-at [] i d h = absurd (omega arith)
 task-at (v ∷ vs) zero d h = (tasks_of vs, refl)
@@ -87,13 +87,13 @@ task-at (v ∷ vs) (suc i) d h =
 
 -- ---- Tests that agree on who waits
 
-module _ (s : State) (p q : ℕ → Bool) (agree : (t : ℕ) (x : Standing) → s.tasks t ≡ Live x → nat_eq x.level s.target ≡ false → p t ≡ q t) where
+module _ (s : State) (p q : ℕ → Bool) (agree : (t : ℕ) (x : LegTask) → s.tasks t ≡ Live x → nat_eq x.level s.target ≡ false → p t ≡ q t) where
   view_kept : (o : Option TaskView) (rest : List TaskView) → ((y : TaskView) → o ≡ Some y → p y.task ≡ q y.task) → filter (λ (v : TaskView). p v.task) rest ≡ filter (λ (v : TaskView). q v.task) rest
       → filter (λ (v : TaskView). p v.task) (cons_option o rest) ≡ filter (λ (v : TaskView). q v.task) (cons_option o rest)
   view_kept None rest same more = more
   view_kept (Some y) rest same more = ap₂ (λ b ys. if b then y ∷ ys else ys) (same y refl) more
 
-  view_agrees : (t : ℕ) (fate : Fate Standing) → s.tasks t ≡ fate → (y : TaskView) → waiting_view s.target t fate ≡ Some y → p y.task ≡ q y.task
+  view_agrees : (t : ℕ) (fate : Fate LegTask) → s.tasks t ≡ fate → (y : TaskView) → waiting_view s.target t fate ≡ Some y → p y.task ≡ q y.task
   view_agrees t Unused e y given = absurd (cc)
   view_agrees t Dead e y given = absurd (cc)
   view_agrees t (Live x) e y given =
@@ -118,7 +118,7 @@ module _ (s : State) (p q : ℕ → Bool) (agree : (t : ℕ) (x : Standing) → 
 pub among_views : (model : Rules) (kind : CheckKind) (s : State) (p : ℕ → Bool) → filter (λ (v : Verdict). p v.task.0) (verdicts_of model kind s) ≡ map (verdict_of model kind s.aim) (filter (λ (v : TaskView). p v.task) (views_of s))
 among_views model kind s p = filter-map (λ (v : Verdict). p v.task.0) (verdict_of model kind s.aim) (views_of s)
 
-pub verdicts-agree : (model : Rules) (kind : CheckKind) (s : State) (p q : ℕ → Bool) → ((t : ℕ) (x : Standing) → s.tasks t ≡ Live x → nat_eq x.level s.target ≡ false → p t ≡ q t)
+pub verdicts-agree : (model : Rules) (kind : CheckKind) (s : State) (p q : ℕ → Bool) → ((t : ℕ) (x : LegTask) → s.tasks t ≡ Live x → nat_eq x.level s.target ≡ false → p t ≡ q t)
     → filter (λ (v : Verdict). p v.task.0) (verdicts_of model kind s) ≡ filter (λ (v : Verdict). q v.task.0) (verdicts_of model kind s)
 verdicts-agree model kind s p q agree = among_views model kind s p ∙ ap (map (verdict_of model kind s.aim)) (views-agree s p q agree) ∙ sym (among_views model kind s q)
 
@@ -128,14 +128,14 @@ module _ (model : Rules) (kind : CheckKind) (s : State) (sound : IsSound s) (loo
   -- a waiting member of a group that is looked at, and refused or admitted
   pub record Found (refused : Bool) (group : ℕ) : Type 0 where
     pub number : ℕ
-    pub task : Standing
+    pub task : LegTask
     pub live : s.tasks number ≡ Live task
     pub off : nat_eq task.level s.target ≡ false
     pub grouped : task.group ≡ group
     pub taken : looked number ≡ true
     pub told : (if refused then is_some (model.blame kind (view_of number task) s.aim) else is_none (model.blame kind (view_of number task) s.aim)) ≡ true
 
-  module _ (table : Table) (there : (t : ℕ) (x : Standing) → s.tasks t ≡ Live x → slot table t ≡ Some x) where
+  module _ (table : Table) (there : (t : ℕ) (x : LegTask) → s.tasks t ≡ Live x → slot table t ≡ Some x) where
     pub among-is : (refused : Bool) (group : ℕ) → list_any (is_found table refused group) (verdicts_at model kind s looked) ≡ true → Found refused group
     among-is refused group h =
         let j = verdict-is model kind s (λ v. looked v.task.0 && is_found table refused group v) (sym (any-filter (λ (v : Verdict). looked v.task.0) (is_found table refused group) (verdicts_of model kind s)) ∙ h) in
@@ -152,7 +152,7 @@ module _ (model : Rules) (kind : CheckKind) (s : State) (sound : IsSound s) (loo
           told = parts.0;
         }
 
-    pub among-from : (refused : Bool) (group t : ℕ) (x : Standing) → s.tasks t ≡ Live x → nat_eq x.level s.target ≡ false → x.group ≡ group → looked t ≡ true → (if refused then is_some (model.blame kind (view_of t x) s.aim) else is_none (model.blame kind (view_of t x) s.aim)) ≡ true
+    pub among-from : (refused : Bool) (group t : ℕ) (x : LegTask) → s.tasks t ≡ Live x → nat_eq x.level s.target ≡ false → x.group ≡ group → looked t ≡ true → (if refused then is_some (model.blame kind (view_of t x) s.aim) else is_none (model.blame kind (view_of t x) s.aim)) ≡ true
         → list_any (is_found table refused group) (verdicts_at model kind s looked) ≡ true
     among-from refused group t x live off grouped taken told =
         let bounds = sound.numbered t x live in
@@ -167,13 +167,13 @@ module _ (model : Rules) (kind : CheckKind) (s : State) (sound : IsSound s) (loo
         }) bounds.0 bounds.1
 
 module _ (model : Rules) (lawful : IsLawful model) (kind : CheckKind) (s : State) (sound : IsSound s) (looked : ℕ → Bool) (others : MayPassOver model kind s looked) where
-  module _ (table : Table) (there : (t : ℕ) (x : Standing) → s.tasks t ≡ Live x → slot table t ≡ Some x) where
+  module _ (table : Table) (there : (t : ℕ) (x : LegTask) → s.tasks t ≡ Live x → slot table t ≡ Some x) where
     -- a member whom a check refuses is one of those refused
     refuses_member : (group : ℕ) → RefusesMember model kind s group → list_any (is_found table true group) (verdicts_of model kind s) ≡ true
     refuses_member group h = found-from model lawful kind s sound table there true group h.member h.life h.live h.off h.grouped h.refused
 
     -- who waits and switches is looked at
-    pub switches-looked : (t : ℕ) (x : Standing) → s.tasks t ≡ Live x → nat_eq x.level s.target ≡ false → switches_by table (verdicts_of model kind s) x.group ≡ true → looked t ≡ true
+    pub switches-looked : (t : ℕ) (x : LegTask) → s.tasks t ≡ Live x → nat_eq x.level s.target ≡ false → switches_by table (verdicts_of model kind s) x.group ≡ true → looked t ≡ true
     switches-looked t x live off switches =
         let whole = verdicts_of model kind s in
         let parts = and_parts (list_any (is_found table false x.group) whole) (not (list_any (is_found table true x.group) whole)) switches in
@@ -273,12 +273,12 @@ first-filter s group p keeps (v ∷ vs) = by (p v) refl (first-filter s group p 
 
 -- a group is asked of whom a verdict is
 pub asked-from : (model : Rules) (kind : CheckKind) (s : State) (looked asked : ℕ → Bool) (group : ℕ) (vs : List Verdict) → vs ≡ verdicts_at model kind s looked
-    → ((t : ℕ) (x : Standing) → s.tasks t ≡ Live x → looked t ≡ true → asked x.group ≡ true) → list_any (is_of s group) vs ≡ true → asked group ≡ true
+    → ((t : ℕ) (x : LegTask) → s.tasks t ≡ Live x → looked t ≡ true → asked x.group ≡ true) → list_any (is_of s group) vs ≡ true → asked group ≡ true
 asked-from model kind s looked asked group vs found only some =
     let seen = sym (any-filter (λ (v : Verdict). looked v.task.0) (is_of s group) (verdicts_of model kind s)) ∙ (ap (list_any (is_of s group)) (sym found) ∙ some) in
     let j = verdict-is model kind s (λ v. looked v.task.0 && is_of s group v) seen in
-    let parts = and_parts (looked j.number) (on_live false (λ (x : Standing). nat_eq x.group group) (s.tasks j.number)) j.passed in
-    let mine : nat_eq j.task.group group ≡ true = sym (ap (on_live false (λ (x : Standing). nat_eq x.group group)) j.live) ∙ parts.1 in
+    let parts = and_parts (looked j.number) (on_live false (λ (x : LegTask). nat_eq x.group group) (s.tasks j.number)) j.passed in
+    let mine : nat_eq j.task.group group ≡ true = sym (ap (on_live false (λ (x : LegTask). nat_eq x.group group)) j.live) ∙ parts.1 in
     ap asked (sym (eqb-true j.task.group group mine)) ∙ only j.number j.task j.live parts.0
 
 -- ---- Verdicts that are enough
@@ -310,8 +310,8 @@ left-out model kind s asked others t x live off out =
     }
   where
     -- a live task's group
-    group_asked : (u : ℕ) (y : Standing) → s.tasks u ≡ Live y → is_asked s asked u ≡ asked y.group
-    group_asked u y there = ap (on_live false (λ (z : Standing). asked z.group)) there
+    group_asked : (u : ℕ) (y : LegTask) → s.tasks u ≡ Live y → is_asked s asked u ≡ asked y.group
+    group_asked u y there = ap (on_live false (λ (z : LegTask). asked z.group)) there
 
 -- the verdicts of the waiting tasks of some groups, where the others may be left out
 pub among-enough : (model : Rules) (kind : CheckKind) (s : State) (asked : ℕ → Bool) (vs : List Verdict) → MayLeaveOut model kind s asked → vs ≡ verdicts_among model kind s asked → AreEnough model kind s vs
@@ -320,18 +320,18 @@ among-enough model kind s asked vs others found = record {
   others = left-out model kind s asked others;
   found = found;
   first = λ group some.
-      let mine = asked-from model kind s (is_asked s asked) asked group vs found (λ t x live seen. sym (ap (on_live false (λ (y : Standing). asked y.group)) live) ∙ seen) some in
+      let mine = asked-from model kind s (is_asked s asked) asked group vs found (λ t x live seen. sym (ap (on_live false (λ (y : LegTask). asked y.group)) live) ∙ seen) some in
       ap (first_refused s group) found ∙ first-filter s group (λ v. is_asked s asked v.task.0) (λ v of. member_asked group mine (s.tasks v.task.0) of) (verdicts_of model kind s);
 }
   where
-    member_asked : (group : ℕ) → asked group ≡ true → (fate : Fate Standing) → on_live false (λ (x : Standing). nat_eq x.group group) fate ≡ true → on_live false (λ (x : Standing). asked x.group) fate ≡ true
+    member_asked : (group : ℕ) → asked group ≡ true → (fate : Fate LegTask) → on_live false (λ (x : LegTask). nat_eq x.group group) fate ≡ true → on_live false (λ (x : LegTask). asked x.group) fate ≡ true
     member_asked group mine Unused of = absurd (false≢true of)
     member_asked group mine (Live x) of = ap asked (eqb-true x.group group of) ∙ mine
     member_asked group mine Dead of = absurd (false≢true of)
 
 -- a scan that leaves out all finds nothing
 pub asked_none : (model : Rules) (kind : CheckKind) (s : State) → [] ≡ verdicts_among model kind s (λ group. false)
-asked_none model kind s = sym (verdicts-agree model kind s (is_asked s (λ group. false)) (λ t. false) (λ t x live off. ap (on_live false (λ (y : Standing). false)) live) ∙ kept_none (verdicts_of model kind s))
+asked_none model kind s = sym (verdicts-agree model kind s (is_asked s (λ group. false)) (λ t. false) (λ t x live off. ap (on_live false (λ (y : LegTask). false)) live) ∙ kept_none (verdicts_of model kind s))
   where
     kept_none : (ws : List Verdict) → filter (λ v. false) ws ≡ []
     kept_none [] = refl
@@ -363,14 +363,14 @@ module _ (model : Rules) (lawful : IsLawful model) (kind : CheckKind) (s : State
       ∙ any-filter (λ (v : Verdict). enough.looked v.task.0) (λ v. nat_eq t v.task.0) (verdicts_of model kind s)
 
   -- who is judged waits
-  pub judged-waits : (t : ℕ) → is_judged vs t ≡ true → (x : Standing) × (s.tasks t ≡ Live x) × (nat_eq x.level s.target ≡ false)
+  pub judged-waits : (t : ℕ) → is_judged vs t ≡ true → (x : LegTask) × (s.tasks t ≡ Live x) × (nat_eq x.level s.target ≡ false)
   judged-waits t h =
       let j = verdict-is model kind s (λ v. enough.looked v.task.0 && nat_eq t v.task.0) (sym (judged_by t) ∙ h) in
       let parts = and_parts (enough.looked j.number) (nat_eq t j.number) j.passed in
       (j.task, ap s.tasks (eqb-true t j.number parts.1) ∙ j.live, j.off)
 
   -- who waits and switches is judged
-  pub switches-judged : (table : Table) → ((u : ℕ) (y : Standing) → s.tasks u ≡ Live y → slot table u ≡ Some y) → (t : ℕ) (x : Standing) → s.tasks t ≡ Live x → nat_eq x.level s.target ≡ false → switches_by table (verdicts_of model kind s) x.group ≡ true → is_judged vs t ≡ true
+  pub switches-judged : (table : Table) → ((u : ℕ) (y : LegTask) → s.tasks u ≡ Live y → slot table u ≡ Some y) → (t : ℕ) (x : LegTask) → s.tasks t ≡ Live x → nat_eq x.level s.target ≡ false → switches_by table (verdicts_of model kind s) x.group ≡ true → is_judged vs t ≡ true
   switches-judged table there t x live off switches =
       let taken = switches-looked model lawful kind s sound enough.looked enough.others table there t x live off switches in
       let bounds = sound.numbered t x live in

@@ -9,7 +9,7 @@ use Rattle.lp_model.specs.declared.check.Blame.{Blame}
 use Rattle.lp_model.specs.declared.verdict.Verdict.{Verdict}
 use Rattle.lp_machine.specs.declared.standing_blame.StandingBlame.{StandingBlame}
 use Rattle.lp_definitions.specs.Tasks.{first_of}
-use Rattle.lp_definitions.specs.Leg.{Standing}
+use Rattle.lp_definitions.specs.Leg.{LegTask}
 use Rattle.lp_machine.specs.Table.{Table, slot}
 use Rattle.lp_transition.specs.Blames.{or_blame, frame_blame}
 use Rattle.lp_tasks.specs.inside.Table.{is_in}
@@ -28,7 +28,7 @@ same_more blames old same g = no_blame_more blames g ∙ same g
 
 -- ---- A look at a task
 
-module _ (table : Table) (t group : ℕ) (x : Standing) (b : StandingBlame) (blames : List (Option StandingBlame)) (live : slot table t ≡ Some x) (grouped : group ≡ x.group) (stands : blame_at blames group ≡ Some b) where
+module _ (table : Table) (t group : ℕ) (x : LegTask) (b : StandingBlame) (blames : List (Option StandingBlame)) (live : slot table t ≡ Some x) (grouped : group ≡ x.group) (stands : blame_at blames group ≡ Some b) where
   -- the blame of another group, or of this group for another task, stays
   apart : (g : ℕ) (o : Option StandingBlame) → (is_in g (slot table t) ≡ false) → o ≡ looked_at table t g o
   apart g None out = refl

@@ -14,10 +14,10 @@ use Rattle.lp_model.specs.declared.verdict.Verdict.{Verdict}
 use Rattle.lp_machine.specs.declared.standing_blame.StandingBlame.{StandingBlame}
 use Rattle.lp_numbers.specs.Numbers.{Numbers, has}
 use Rattle.lp_definitions.specs.Tasks.{Fate, on_live, first_of}
-use Rattle.lp_definitions.specs.Leg.{Standing, State}
+use Rattle.lp_definitions.specs.Leg.{LegTask, State}
 use Rattle.lp_definitions.specs.Sound.{IsSound}
 use Rattle.lp_machine.specs.Machine.{view_of, refusal_of, affected, own_effect}
-use Rattle.lp_machine.specs.Table.{slot, standings, fate_at, Engine, state_in}
+use Rattle.lp_machine.specs.Table.{slot, leg_tasks, fate_at, Engine, state_in}
 use Rattle.lp_transition.specs.Scan.{verdicts_of, AreEnough, member_verdict, first_refused}
 use Rattle.lp_transition.specs.Blames.{frame_blame, while_there, or_blame, has_frame_in}
 use Rattle.lp_tasks.specs.inside.Table.{is_in}
@@ -47,7 +47,7 @@ held-is serial (Some (Held n)) h = ap (λ k. Some (Held k)) (eqb-true n serial h
 
 module _ (s : State) (g t serial : ℕ) where
   abbrev is_member : ℕ → Bool
-  is_member u = on_live false (λ (x : Standing). nat_eq x.group g) (s.tasks u)
+  is_member u = on_live false (λ (x : LegTask). nat_eq x.group g) (s.tasks u)
 
   -- the verdict refuses this member of the group for this frame
   abbrev is_this : Verdict → Bool
@@ -84,7 +84,7 @@ module _ (model : Rules) (lawful : IsLawful model) (on : CheckKind) (s : State) 
       let b = and_parts (is_held serial why) (is_member s g t serial j.number) a.1 in
       let same : j.number ≡ t = eqb-true j.number t a.0 in
       let blamed = held-is serial why b.0 in
-      let grouped : nat_eq j.task.group g ≡ true = sym (ap (on_live false (λ (x : Standing). nat_eq x.group g)) j.live) ∙ b.1 in
+      let grouped : nat_eq j.task.group g ≡ true = sym (ap (on_live false (λ (x : LegTask). nat_eq x.group g)) j.live) ∙ b.1 in
       let holds = lawful.blames_there on (view_of j.number j.task) s.aim serial blamed in
       record {
         life = j.task;
@@ -119,7 +119,7 @@ module _ (model : Rules) (lawful : IsLawful model) (on : CheckKind) (s : State) 
 
 -- ---- In the words of the table
 
-member-same : (o : Option Standing) (used : Bool) (g : ℕ) → is_in g o ≡ on_live false (λ (x : Standing). nat_eq x.group g) (fate_at o used)
+member-same : (o : Option LegTask) (used : Bool) (g : ℕ) → is_in g o ≡ on_live false (λ (x : LegTask). nat_eq x.group g) (fate_at o used)
 member-same None true g = refl
 member-same None false g = refl
 member-same (Some x) used g = refl
@@ -144,6 +144,7 @@ module _ (model : Rules) (lawful : IsLawful model) (e : Engine) where
   accepts (event.Enter t) scan = absurd (cc)
   accepts (event.Exit t) scan = absurd (cc)
   accepts (event.Idle t) scan = absurd (cc)
+  accepts (event.Resched t) scan = absurd (cc)
   accepts (event.Fork p c how) scan = absurd (cc)
   accepts (event.Die t) scan = absurd (cc)
   accepts event.Enable scan = absurd (cc)
@@ -160,13 +161,14 @@ module _ (model : Rules) (lawful : IsLawful model) (e : Engine) where
   scan-plain (event.Enter t) scan = refl
   scan-plain (event.Exit t) scan = refl
   scan-plain (event.Idle t) scan = refl
+  scan-plain (event.Resched t) scan = refl
   scan-plain (event.Fork p c how) scan = refl
   scan-plain (event.Die t) scan = refl
   scan-plain event.Enable scan = absurd (cc)
   scan-plain event.Disable scan = absurd (cc)
   scan-plain event.Reverse scan = absurd (cc)
 
-  own : (event : Event) → is_scan event ≡ true → own_effect model.child_group (suc e.number) event (standings e.table) ≡ standings e.table
+  own : (event : Event) → is_scan event ≡ true → own_effect model.child_group (suc e.number) event (leg_tasks e.table) ≡ leg_tasks e.table
   own event.Walk scan = refl
   own event.Stop scan = refl
   own (event.Call t f) scan = absurd (cc)
@@ -176,6 +178,7 @@ module _ (model : Rules) (lawful : IsLawful model) (e : Engine) where
   own (event.Enter t) scan = absurd (cc)
   own (event.Exit t) scan = absurd (cc)
   own (event.Idle t) scan = absurd (cc)
+  own (event.Resched t) scan = absurd (cc)
   own (event.Fork p c how) scan = absurd (cc)
   own (event.Die t) scan = absurd (cc)
   own event.Enable scan = absurd (cc)
@@ -193,6 +196,7 @@ module _ (model : Rules) (lawful : IsLawful model) (e : Engine) where
   finds (event.Enter t) scan sound vs enough g b e' = absurd (cc)
   finds (event.Exit t) scan sound vs enough g b e' = absurd (cc)
   finds (event.Idle t) scan sound vs enough g b e' = absurd (cc)
+  finds (event.Resched t) scan sound vs enough g b e' = absurd (cc)
   finds (event.Fork p c how) scan sound vs enough g b e' = absurd (cc)
   finds (event.Die t) scan sound vs enough g b e' = absurd (cc)
   finds event.Enable scan sound vs enough g b e' = absurd (cc)
@@ -220,7 +224,7 @@ leaves_scanned model lawful e old new waiting left_waiting step was kept blamed 
     now g within = noted g within ∙ ap (or_blame (blame_at e.blames g)) (found-same e g step.verdicts)
 
     after : (g : ℕ) (b : StandingBlame) → IsBlamed model (state_in e) g b → IsBlamed model (affected model (state_in e) step.event) g b
-    after g b w = still model lawful (state_in e) g b w step.event (ap (λ (tasks : ℕ → Fate Standing). tasks b.task.0) (own model lawful e step.event scan))
+    after g b w = still model lawful (state_in e) g b w step.event (ap (λ (tasks : ℕ → Fate LegTask). tasks b.task.0) (own model lawful e step.event scan))
 
     all_there : (g : ℕ) (o : Option StandingBlame) → blame_at e.blames g ≡ o → o ≡ while_there (affected model (state_in e) step.event) o
     all_there g None is = refl
@@ -255,6 +259,7 @@ no_verdicts model s (event.Wake t) vs plain right = right
 no_verdicts model s (event.Enter t) vs plain right = right
 no_verdicts model s (event.Exit t) vs plain right = right
 no_verdicts model s (event.Idle t) vs plain right = right
+no_verdicts model s (event.Resched t) vs plain right = right
 no_verdicts model s (event.Fork p c how) vs plain right = right
 no_verdicts model s (event.Die t) vs plain right = right
 no_verdicts model s event.Enable vs plain right = right

@@ -20,10 +20,10 @@ use Rattle.lp_stack.specs.declared.number.TaskId.{TaskId}
 use Rattle.lp_model.specs.declared.check.ForkKind.{ForkKind}
 use Rattle.std.specs.Option.{option_map}
 use Rattle.lp_definitions.specs.Tasks.{Fate, Live, on_live, map_live, change}
-use Rattle.lp_definitions.specs.Leg.{Standing, State, check_by, if_used}
+use Rattle.lp_definitions.specs.Leg.{LegTask, State, check_by, if_used}
 use Rattle.lp_definitions.specs.Sound.{IsSound}
 use Rattle.lp_machine.specs.Machine.{view_of, outlines_of, waits_in, admits_all, switches_at, own_effect, affected, returning, switched_task, with_switches, counted, refusal_of, next}
-use Rattle.lp_machine.specs.Table.{Table, Engine, slot, standings, state_in}
+use Rattle.lp_machine.specs.Table.{Table, Engine, slot, leg_tasks, state_in}
 use Rattle.lp_transition.specs.Scan.{RefusesMember, MayLeaveOut, first_refused}
 use Rattle.lp_transition.specs.Blames.{blame_of, is_open, has_frame_in, while_there, or_blame, frame_blame, blame_by, AreBlamesAfter}
 use Rattle.lp_transition.specs.inside.Blames.{blame_at, frame_there, looked_at, IsBlamed, AreBlamed}
@@ -32,7 +32,7 @@ use Rattle.lp_transition.specs.inside.Invariant.{IsEngine}
 use Rattle.lp_machine.proofs.Accept.{fork-new, die-empty}
 use Rattle.std.proofs.lemmas.List.Elements.{All-take, All-contains, All-contains_itself}
 use Rattle.lp_machine.proofs.EngineLemmas.{next-refused, next-accepted}
-use Rattle.lp_laws.proofs.Quantifiers.{each_live-at}
+use Rattle.lp_definitions.proofs.Quantifiers.{each_live-at}
 use Rattle.lp_transition.proofs.Unchanged.{switched_not, touches, own_same}
 use Rattle.lp_transition.proofs.Effects.{HasTaken}
 use Rattle.lp_tasks.proofs.TableLemmas.{slot_from_live, slot-changed}
@@ -68,7 +68,7 @@ none_told (Some why) e = absurd (cc)
 pub blamed_there : (model : Rules) (s : State) (g : ℕ) (b : StandingBlame) → IsBlamed model s g b → has_frame_in s b.task.0 b.serial ≡ true
 blamed_there model s g b w =
     let has_serial = λ (frame : Frame). nat_eq frame.serial b.serial in
-    ap (on_live false (λ (x : Standing). list_any has_serial x.frames)) w.live
+    ap (on_live false (λ (x : LegTask). list_any has_serial x.frames)) w.live
     ∙ list_any_at has_serial w.life.frames w.there.0 w.frame w.there.1 (ap has_serial w.there.2 ∙ eq-eqb w.frame.serial b.serial w.serial)
 
 module _ (model : Rules) (lawful : IsLawful model) (s : State) (g : ℕ) (b : StandingBlame) (w : IsBlamed model s g b) where
@@ -116,7 +116,7 @@ module _ (model : Rules) (lawful : IsLawful model) (s : State) (g : ℕ) (b : St
     after : State
     after = affected model s event
 
-    pub moved : (life : Standing) → (affected model s event).tasks b.task.0 ≡ Live life → life.level ≡ w.life.level → life.group ≡ w.life.group → Contains life.frames w.frame → IsBlamed model (affected model s event) g b
+    pub moved : (life : LegTask) → (affected model s event).tasks b.task.0 ≡ Live life → life.level ≡ w.life.level → life.group ≡ w.life.group → Contains life.frames w.frame → IsBlamed model (affected model s event) g b
     moved life live level group there = record {
       life = life;
       live = live;
@@ -138,10 +138,10 @@ module _ (model : Rules) (lawful : IsLawful model) (s : State) (g : ℕ) (b : St
     still same = moved w.life (same ∙ w.live) refl refl w.there
 
     -- where a task is changed that keeps its level and its group, and the frame if it is this one's
-    pub moves : (a : ℕ) (f : Standing → Standing) → own_effect model.child_group (suc s.number) event s.tasks ≡ change a f s.tasks → ((x : Standing) → (f x).level ≡ x.level) → ((x : Standing) → (f x).group ≡ x.group)
+    pub moves : (a : ℕ) (f : LegTask → LegTask) → own_effect model.child_group (suc s.number) event s.tasks ≡ change a f s.tasks → ((x : LegTask) → (f x).level ≡ x.level) → ((x : LegTask) → (f x).group ≡ x.group)
         → (b.task.0 ≡ a → Contains (f w.life).frames w.frame) → IsBlamed model (affected model s event) g b
     moves a f own levels groups frames =
-        let at = ap (λ (tasks : ℕ → Fate Standing). tasks b.task.0) own in
+        let at = ap (λ (tasks : ℕ → Fate LegTask). tasks b.task.0) own in
         ⊎_elim
         (λ (this : nat_eq b.task.0 a ≡ true).
         moved (f w.life) (at ∙ (cond-true (nat_eq b.task.0 a) (map_live f (s.tasks b.task.0)) (s.tasks b.task.0) this ∙ ap (map_live f) w.live)) (levels w.life) (groups w.life) (frames (eqb-true b.task.0 a this)))
@@ -150,7 +150,7 @@ module _ (model : Rules) (lawful : IsLawful model) (s : State) (g : ℕ) (b : St
 
 -- who isn't switched keeps the blame
 module _ (model : Rules) (lawful : IsLawful model) (s : State) (event : Event) where
-  same_frames : (x : Standing) (level : ℕ) (goes : Bool) → (if goes then record x { level = level } else x).frames ≡ x.frames
+  same_frames : (x : LegTask) (level : ℕ) (goes : Bool) → (if goes then record x { level = level } else x).frames ≡ x.frames
   same_frames x level true = refl
   same_frames x level false = refl
 
@@ -269,6 +269,7 @@ with_blames model old new event waiting blames taken =
         wide = kept.wide;
         waiting_wide = kept.waiting_wide;
         waits = kept.waits;
+        between = kept.between;
         from_fits = kept.from_fits;
         target_fits = kept.target_fits;
         number_fits = kept.number_fits;
@@ -288,14 +289,14 @@ module _ (model : Rules) (lawful : IsLawful model) (e old new : Engine) (waiting
 
     module _ (plain : is_control event ≡ false) where
       -- an event whose own effect is a change of a task, which keeps its level, its group and its frames
-      pub leaves_changed : new.blames ≡ e.blames → (a : ℕ) (f : Standing → Standing) → own_effect model.child_group (suc e.number) event (standings e.table) ≡ change a f (standings e.table) → ((x : Standing) → (f x).level ≡ x.level) → ((x : Standing) → (f x).group ≡ x.group)
-          → ((x : Standing) (frame : Frame) → Contains x.frames frame → Contains (f x).frames frame) → Leaves model old event [] new
+      pub leaves_changed : new.blames ≡ e.blames → (a : ℕ) (f : LegTask → LegTask) → own_effect model.child_group (suc e.number) event (leg_tasks e.table) ≡ change a f (leg_tasks e.table) → ((x : LegTask) → (f x).level ≡ x.level) → ((x : LegTask) → (f x).group ≡ x.group)
+          → ((x : LegTask) (frame : Frame) → Contains x.frames frame → Contains (f x).frames frame) → Leaves model old event [] new
       leaves_changed same a f own levels groups frames =
           leaves_same model lawful e old new event was taken.kept.sound taken.state accepted plain same
           (λ g b at. let w = blamed g b at in moves model lawful (state_in e) g b w event a f own levels groups (λ _. frames w.life w.frame w.there))
 
       -- an event at which nothing happens to those who have a frame
-      pub leaves_apart : new.blames ≡ e.blames → ((t : ℕ) (x : Standing) (frame : Frame) → slot e.table t ≡ Some x → Contains x.frames frame → touches event t ≡ false) → Leaves model old event [] new
+      pub leaves_apart : new.blames ≡ e.blames → ((t : ℕ) (x : LegTask) (frame : Frame) → slot e.table t ≡ Some x → Contains x.frames frame → touches event t ≡ false) → Leaves model old event [] new
       leaves_apart same apart =
           leaves_same model lawful e old new event was taken.kept.sound taken.state accepted plain same
           (λ g b at.
@@ -303,14 +304,14 @@ module _ (model : Rules) (lawful : IsLawful model) (e old new : Engine) (waiting
           still model lawful (state_in e) g b w event (own_same model (state_in e) event event b.task.0 (apart b.task.0 w.life w.frame (slot_from_live e.table b.task.0 w.life w.live) w.there)))
 
 -- a birth is none of one who has a frame
-pub birth_apart : (model : Rules) (e : Engine) (p c : TaskId) (how : ForkKind) → refusal_of model (state_in e) (Fork p c how) ≡ None → (t : ℕ) (x : Standing) (frame : Frame) → slot e.table t ≡ Some x → Contains x.frames frame → touches (Fork p c how) t ≡ false
+pub birth_apart : (model : Rules) (e : Engine) (p c : TaskId) (how : ForkKind) → refusal_of model (state_in e) (Fork p c how) ≡ None → (t : ℕ) (x : LegTask) (frame : Frame) → slot e.table t ≡ Some x → Contains x.frames frame → touches (Fork p c how) t ≡ false
 birth_apart model e p c how accepted t x frame at there =
     false_from_ne_true (nat_eq t c.0) (λ (hit : nat_eq t c.0 ≡ true).
     let none : None ≡ Some x = sym (fork-new model e p c how accepted).0 ∙ (ap (slot e.table) (sym (eqb-true t c.0 hit)) ∙ at) in
     absurd (cc))
 
 -- nor is a death
-pub death_apart : (model : Rules) (e : Engine) (a : TaskId) → refusal_of model (state_in e) (Die a) ≡ None → (t : ℕ) (x : Standing) (frame : Frame) → slot e.table t ≡ Some x → Contains x.frames frame → touches (Die a) t ≡ false
+pub death_apart : (model : Rules) (e : Engine) (a : TaskId) → refusal_of model (state_in e) (Die a) ≡ None → (t : ℕ) (x : LegTask) (frame : Frame) → slot e.table t ≡ Some x → Contains x.frames frame → touches (Die a) t ≡ false
 death_apart model e a accepted t x frame at there =
     false_from_ne_true (nat_eq t a.0) (λ (hit : nat_eq t a.0 ≡ true).
     let empty = die-empty model e a x accepted (ap (slot e.table) (sym (eqb-true t a.0 hit)) ∙ at) in
@@ -349,15 +350,15 @@ module _ (model : Rules) (lawful : IsLawful model) (e : Engine) (a : TaskId) (wa
       let there = list_any (λ (f : Frame). nat_eq f.serial b.serial) (returning w.life).frames in
       let held : frame_there (slot (changed a.0 returning e.table) a.0) b.serial ≡ there = ap (λ o. frame_there o b.serial) now in
       let has_now : has_frame_in (affected model (state_in e) (Ret a)) b.task.0 b.serial ≡ there =
-      ap (on_live false (λ (x : Standing). list_any (λ (f : Frame). nat_eq f.serial b.serial) x.frames))
-      (cond-true (nat_eq b.task.0 a.0) (map_live returning (standings e.table b.task.0)) (standings e.table b.task.0) this ∙ ap (map_live returning) w.live) in
+      ap (on_live false (λ (x : LegTask). list_any (λ (f : Frame). nat_eq f.serial b.serial) x.frames))
+      (cond-true (nat_eq b.task.0 a.0) (map_live returning (leg_tasks e.table b.task.0)) (leg_tasks e.table b.task.0) this ∙ ap (map_live returning) w.live) in
       cond-true (has waiting a.0) (looked_at (changed a.0 returning e.table) a.0 g (Some b)) (Some b) waits
       ∙ (ap (λ p. if p && (nat_eq b.task.0 a.0 && not (frame_there (slot (changed a.0 returning e.table) a.0) b.serial)) then None else Some b) member
       ∙ (ap (λ p. if p && not (frame_there (slot (changed a.0 returning e.table) a.0) b.serial) then None else Some b) this
       ∙ (ap (λ p. if not p then None else Some b) held
       ∙ (turned there ∙ ap (λ p. if p then Some b else None) (sym has_now))))))
       (λ (other : nat_eq b.task.0 a.0 ≡ false).
-      let after = still model lawful (state_in e) g b w (Ret a) (cond-false (nat_eq b.task.0 a.0) (map_live returning (standings e.table b.task.0)) (standings e.table b.task.0) other) in
+      let after = still model lawful (state_in e) g b w (Ret a) (cond-false (nat_eq b.task.0 a.0) (map_live returning (leg_tasks e.table b.task.0)) (leg_tasks e.table b.task.0) other) in
       let there = blamed_there model (affected model (state_in e) (Ret a)) g b after in
       either (has waiting a.0) (looked_at (changed a.0 returning e.table) a.0 g (Some b))
       (ap (λ p. if is_in g (slot (changed a.0 returning e.table) a.0) && (p && not (frame_there (slot (changed a.0 returning e.table) a.0) b.serial)) then None else Some b) other
@@ -390,8 +391,8 @@ module _ (model : Rules) (lawful : IsLawful model) (e : Engine) (a : TaskId) (wa
           (moves model lawful (state_in e) g b w (Ret a) a.0 returning refl (λ x. refl) (λ x. refl)
           (λ here.
           let there : list_any (λ (f : Frame). nat_eq f.serial b.serial) (returning w.life).frames ≡ true =
-          sym (ap (on_live false (λ (x : Standing). list_any (λ (f : Frame). nat_eq f.serial b.serial) x.frames))
-          (cond-true (nat_eq b.task.0 a.0) (map_live returning (standings e.table b.task.0)) (standings e.table b.task.0) (eq-eqb b.task.0 a.0 here) ∙ ap (map_live returning) w.live)) ∙ h in
+          sym (ap (on_live false (λ (x : LegTask). list_any (λ (f : Frame). nat_eq f.serial b.serial) x.frames))
+          (cond-true (nat_eq b.task.0 a.0) (map_live returning (leg_tasks e.table b.task.0)) (leg_tasks e.table b.task.0) (eq-eqb b.task.0 a.0 here) ∙ ap (map_live returning) w.live)) ∙ h in
           left_frame w.life.frames w.frame b.serial (kept.sound.serials_rise b.task.0 w.life w.live) w.there w.serial there))
 
 -- the blames after a return

@@ -3,7 +3,7 @@ use Rattle.std.proofs.Common.{◌≡◌, ℕ, zero, suc, ◌+◌, ◌<◌, ◌�
 use Rattle.std.proofs.Math.Seq.{take-suc}
 use Rattle.std.specs.List.{list_any}
 use Rattle.std.proofs.lemmas.Grind.{common_steps, elements}
-use Rattle.std.proofs.lemmas.Bool.{eqb-true, eq-eqb, cond-false}
+use Rattle.std.proofs.lemmas.Bool.{false≢true, eqb-true, eq-eqb, cond-false}
 use Rattle.std.proofs.lemmas.List.Elements.{All-nil, All-more}
 use Rattle.std.proofs.lemmas.Bool.Decides.{nat_tests}
 use Rattle.std.proofs.lemmas.List.Folds.{list_any_more}
@@ -15,18 +15,18 @@ use Rattle.lp_patch.specs.Patches.{Patches}
 use Rattle.lp_model.specs.Rules.{Rules, IsLawful}
 use Rattle.lp_transition.specs.declared.engine.boot.BootFault.TheVariants.{TaskRange, TaskDoubled}
 use Rattle.lp_definitions.specs.Tasks.{Fate, Unused, Live, on_live}
-use Rattle.lp_definitions.specs.Leg.{Standing, State}
+use Rattle.lp_definitions.specs.Leg.{LegTask, State}
 use Rattle.lp_definitions.specs.Run.{Run, at_boot, booted, AreInRange, start, leg_after}
 use Rattle.lp_definitions.specs.Sound.{IsSound}
 use Rattle.lp_machine.specs.Steps.{StandsIn}
 use Rattle.lp_transition.specs.inside.Invariant.{IsEngine}
 use Rattle.lp_transition.specs.Boot.{boot_fault, boot_refusal}
 use Rattle.lp_machine.specs.declared.standing_blame.StandingBlame.{StandingBlame}
-use Rattle.lp_machine.specs.Table.{Table, Engine, state_in, bounds_of, slot, fate_at, standings, IsWide, LastScan}
+use Rattle.lp_machine.specs.Table.{Table, Engine, state_in, bounds_of, slot, fate_at, leg_tasks, IsWide, LastScan}
 use Rattle.lp_tasks.specs.inside.Table.{IsBlank, with_task, is_off}
-use Rattle.lp_machine.proofs.Runs.{started}
+use Rattle.lp_machine_laws.proofs.Runs.{started}
 use Rattle.lp_laws.proofs.WholeRun.{start_sound}
-use Rattle.lp_tasks.proofs.TableLemmas.{standings-blank, standings-with_task, IsWide-with_task}
+use Rattle.lp_tasks.proofs.TableLemmas.{leg_tasks-blank, leg_tasks-with_task, IsWide-with_task}
 
 -- a boot task has the number
 abbrev pub has_number : ℕ → List (TaskId × Class) → Bool
@@ -123,18 +123,18 @@ module _ (model : Rules) where
       by false rest = rest
 
   -- so no task of the start waits
-  pub none_off : (table : Table) (boots : List (TaskId × Class)) (t : ℕ) → standings table ≡ booted model boots → is_off 0 (slot table t) ≡ false
+  pub none_off : (table : Table) (boots : List (TaskId × Class)) (t : ℕ) → leg_tasks table ≡ booted model boots → is_off 0 (slot table t) ≡ false
   none_off table boots t is = by (slot table t) (ap (λ tasks. on_live 0 (λ x. x.level) (tasks t)) is ∙ booted_low boots t)
     where
-      by : (o : Option Standing) → on_live 0 (λ x. x.level) (fate_at o (has table.used t)) ≡ 0 → is_off 0 o ≡ false
+      by : (o : Option LegTask) → on_live 0 (λ x. x.level) (fate_at o (has table.used t)) ≡ 0 → is_off 0 o ≡ false
       by None low = refl
       by (Some x) low = rw low refl
 
   -- who isn't in the list has no slot
-  pub no_slot : (table : Table) (boots : List (TaskId × Class)) (t : ℕ) → standings table ≡ booted model boots → has_number t boots ≡ false → slot table t ≡ None
+  pub no_slot : (table : Table) (boots : List (TaskId × Class)) (t : ℕ) → leg_tasks table ≡ booted model boots → has_number t boots ≡ false → slot table t ≡ None
   no_slot table boots t is none = by (slot table t) (has table.used t) (ap (λ tasks. tasks t) is ∙ booted-none boots t none)
     where
-      by : (o : Option Standing) (used : Bool) → fate_at o used ≡ Unused → o ≡ None
+      by : (o : Option LegTask) (used : Bool) → fate_at o used ≡ Unused → o ≡ None
       by None used e = refl
       by (Some x) used e = absurd (cc)
 
@@ -143,14 +143,14 @@ module _ (model : Rules) where
 -- the tasks of the list are live
 pub record ArePut (model : Rules) (boots : List (TaskId × Class)) (table : Table) : Type 0 where
   pub wide : IsWide table
-  pub live : standings table ≡ booted model boots
+  pub live : leg_tasks table ≡ booted model boots
   pub in_range : All (λ (boot : TaskId × Class). (0 < boot.0.0) × (boot.0.0 ≤ 65535)) boots
 
 -- no task is put yet
 pub none_put : (model : Rules) (table : Table) → IsBlank table → ArePut model [] table
 none_put model table blank = record {
   wide = blank.wide;
-  live = standings-blank table blank;
+  live = leg_tasks-blank table blank;
   in_range = All-nil (λ (boot : TaskId × Class). (0 < boot.0.0) × (boot.0.0 ≤ 65535));
 }
 
@@ -161,7 +161,7 @@ next_free model boots i boot table free h at put =
     (fit.positive, no_slot model table (take i boots) boot.0.0 put.live fit.fresh)
 
 -- the task at one more place is put
-pub one_put : (model : Rules) (boots : List (TaskId × Class)) (i : ℕ) (boot : TaskId × Class) (table new : Table) (x : Standing) → boot_refusal boots ≡ None → i < length boots → get_or boots i boot ≡ boot → boot.0.0 < 65536 → x ≡ at_boot model boot.0.0 boot.1
+pub one_put : (model : Rules) (boots : List (TaskId × Class)) (i : ℕ) (boot : TaskId × Class) (table new : Table) (x : LegTask) → boot_refusal boots ≡ None → i < length boots → get_or boots i boot ≡ boot → boot.0.0 < 65536 → x ≡ at_boot model boot.0.0 boot.1
     → new ≡ with_task boot.0.0 x table → ArePut model (take i boots) table → ArePut model (take (i + 1) boots) new
 one_put model boots i boot table new x free h at small is made put =
     let fit = subst (λ b. IsFit (take i boots) b) at (fit_at boots i boot free h) in
@@ -169,7 +169,7 @@ one_put model boots i boot table new x free h at small is made put =
     subst (λ now. ArePut model (take (i + 1) boots) now) (sym made)
     (record {
       wide = IsWide-with_task table boot.0.0 x put.wide;
-      live = standings-with_task table boot.0.0 x put.wide small ∙ ap (λ y. λ t. if nat_eq t boot.0.0 then Live y else standings table t) is ∙ ap (λ (old : ℕ → Fate Standing). λ t. if nat_eq t boot.0.0 then Live (at_boot model boot.0.0 boot.1) else old t) put.live ∙ sym more;
+      live = leg_tasks-with_task table boot.0.0 x put.wide small ∙ ap (λ y. λ t. if nat_eq t boot.0.0 then Live y else leg_tasks table t) is ∙ ap (λ (old : ℕ → Fate LegTask). λ t. if nat_eq t boot.0.0 then Live (at_boot model boot.0.0 boot.1) else old t) put.live ∙ sym more;
       in_range = All-more (λ (b : TaskId × Class). (0 < b.0.0) × (b.0.0 ≤ 65535)) boots i boot h put.in_range (subst (λ b. (0 < b.0.0) × (b.0.0 ≤ 65535)) (sym at) (fit.positive, omega arith));
     })
 
@@ -197,13 +197,14 @@ at_start-stands model patches boots now in_range is = record { in_range = in_ran
 pub starts : (model : Rules) → IsLawful model → (patches : Patches) (boots : List (TaskId × Class)) (table : Table) (blames : List (Option StandingBlame)) (last : LastScan) (waiting : Numbers) → ArePut model boots table → IsEmpty waiting → length waiting ≡ 65536 → HasStarted model patches boots (at_start patches table blames last) waiting
 starts model lawful patches boots table blames last waiting put none long =
     let first = start model (bounds_of patches) patches boots in
-    let state : state_in (at_start patches table blames last) ≡ first.opening = ap {A = ℕ → Fate Standing} {B = State} (λ tasks. record { number = 0; bounds = bounds_of patches; from = 0; aim = record { patches = patches; target = 0 }; tasks = tasks }) put.live in
+    let state : state_in (at_start patches table blames last) ≡ first.opening = ap {A = ℕ → Fate LegTask} {B = State} (λ tasks. record { number = 0; bounds = bounds_of patches; from = 0; aim = record { patches = patches; target = 0 }; tasks = tasks }) put.live in
     record {
       kept = record {
         sound = subst IsSound (sym state) (start_sound model lawful (bounds_of patches) patches boots put.in_range);
         wide = put.wide;
         waiting_wide = long;
         waits = λ t. none t ∙ sym (none_off model table boots t put.live);
+        between = λ t off. absurd (false≢true (sym (none_off model table boots t put.live) ∙ off));
         from_fits = omega arith;
         target_fits = omega arith;
         number_fits = omega arith;

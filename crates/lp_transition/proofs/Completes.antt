@@ -65,12 +65,12 @@ completed_by e waiting t last after kept others lone = by after refl (complete_i
       where
         sure : (w : Bool) → has waiting t ≡ w → ((u : ℕ) → u ≢ t → has waiting u ≡ false) → has waiting t ≡ true
         sure true h alone = h
-        sure false h alone = let calm = empty_completes e waiting kept (emptied_all alone h) in absurd (cc)
+        sure false h alone = let quiet = empty_completes e waiting kept (emptied_all alone h) in absurd (cc)
     by false e' a e'' = never last refl
       where
         never : (l : Bool) → last ≡ l → last ≡ false
         never false h = h
-        never true h = let calm = others.1 (lone.0 h).1 in absurd (cc)
+        never true h = let quiet = others.1 (lone.0 h).1 in absurd (cc)
 
 -- so where the last task that waits switches
 pub completed : (e new : Engine) (waiting now : Numbers) (t : ℕ) (last : Bool) → IsEngine e waiting → IsEngine new now → t < 65536 → now ≡ set waiting t false

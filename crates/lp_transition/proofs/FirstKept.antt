@@ -23,7 +23,7 @@ module _ (test : ℕ → Bool) (n : ℕ) (before : (t : ℕ) → test t ≡ true
   past : (t : ℕ) → n < t → or_last t ≡ false
   past t h = ap₂ (λ b c. b || c) (out t (omega arith)) (ne_eqb t n (λ (e : t ≡ n). omega arith))
 
-  -- it stands behind those that pass
+  -- it stands after those that pass
   last_in : (k a : ℕ) → a ≤ n → n < a + k → passes or_last a k ≡ passes test a k ++ n ∷ []
   last_in zero a low high = absurd (omega arith)
   last_in (suc k) a low high =

@@ -13,12 +13,12 @@ use Rattle.lp_model.specs.declared.check.Blame.{Blame}
 use Rattle.lp_model.specs.declared.check.CheckKind.{CheckKind}
 use Rattle.lp_model.specs.declared.verdict.Verdict.{Verdict}
 use Rattle.lp_definitions.specs.Tasks.{Live, on_live, first_of}
-use Rattle.lp_definitions.specs.Leg.{Standing, State}
+use Rattle.lp_definitions.specs.Leg.{LegTask, State}
 use Rattle.lp_machine.specs.Machine.{view_of}
 use Rattle.lp_transition.specs.Blames.{TellOf}
 use Rattle.lp_transition.specs.Scan.{verdict_of, verdicts_of, verdicts_at, RefusesMember, MayLeaveOut, is_asked, AreEnough, member_verdict, first_refused}
 use Rattle.lp_tasks.specs.Passing.{passing}
-use Rattle.lp_machine.specs.Table.{Engine, slot, standings, state_in}
+use Rattle.lp_machine.specs.Table.{Engine, slot, leg_tasks, state_in}
 use Rattle.lp_tasks.specs.inside.Table.{is_off}
 use Rattle.lp_transition.specs.inside.Invariant.{IsEngine}
 use Rattle.lp_transition.specs.inside.ScanSteps.{waiting_slot, is_found}
@@ -34,21 +34,21 @@ use Rattle.lp_tasks.proofs.TableLemmas.{live_from_slot, slot_from_live}
 
 module _ (e : Engine) (waiting : Numbers) (kept : IsEngine e waiting) where
   -- a task that waits
-  record Waits (t : ℕ) (x : Standing) : Type 0 where
+  record Waits (t : ℕ) (x : LegTask) : Type 0 where
     there : slot e.table t ≡ Some x
-    live : standings e.table t ≡ Live x
+    live : leg_tasks e.table t ≡ Live x
     off : nat_eq x.level e.target ≡ false
     member : has waiting t ≡ true
 
-  waiting_from : (t : ℕ) (x : Standing) → standings e.table t ≡ Live x → nat_eq x.level e.target ≡ false → Waits t x
+  waiting_from : (t : ℕ) (x : LegTask) → leg_tasks e.table t ≡ Live x → nat_eq x.level e.target ≡ false → Waits t x
   waiting_from t x live off =
       let at = slot_from_live e.table t x live in
       record { there = at; live = live; off = off; member = kept.waits t ∙ ap (is_off e.target) at ∙ not_from_false (nat_eq x.level e.target) off }
 
-  waiting_slot_of : (t : ℕ) (x : Standing) → Waits t x → waiting_slot e.table waiting t ≡ Some x
+  waiting_slot_of : (t : ℕ) (x : LegTask) → Waits t x → waiting_slot e.table waiting t ≡ Some x
   waiting_slot_of t x w = cond-true (has waiting t) (slot e.table t) None w.member ∙ w.there
 
-  waiting_is : (t : ℕ) (x : Standing) → waiting_slot e.table waiting t ≡ Some x → Waits t x
+  waiting_is : (t : ℕ) (x : LegTask) → waiting_slot e.table waiting t ≡ Some x → Waits t x
   waiting_is t x h = by (has waiting t) refl
     where
       by : (b : Bool) → has waiting t ≡ b → Waits t x
@@ -74,8 +74,8 @@ module _ (e : Engine) (waiting : Numbers) (kept : IsEngine e waiting) where
     listed : (looked : ℕ → Bool) → verdicts_at model kind (state_in e) looked ≡ map told_of (filter_map view_at (passing 0 65536 looked))
     listed looked = among_views model kind (state_in e) looked ∙ ap (map told_of) (sym (views-asked e waiting kept looked))
 
-    -- one more who waits, behind the others
-    pub found-more : (looked : ℕ → Bool) (n : ℕ) (x : Standing) → n < 65536 → ((t : ℕ) → looked t ≡ true → t < n) → waiting_slot e.table waiting n ≡ Some x
+    -- one more who waits, after the others
+    pub found-more : (looked : ℕ → Bool) (n : ℕ) (x : LegTask) → n < 65536 → ((t : ℕ) → looked t ≡ true → t < n) → waiting_slot e.table waiting n ≡ Some x
         → verdicts_at model kind (state_in e) looked ++ told_of (view_of n x) ∷ [] ≡ verdicts_at model kind (state_in e) (λ t. looked t || nat_eq t n)
     found-more looked n x few before waits =
         let done = filter_map view_at (passing 0 65536 looked) in
@@ -93,10 +93,10 @@ module _ (e : Engine) (waiting : Numbers) (kept : IsEngine e waiting) where
       abbrev member_told : TaskView → Option (ℕ × Blame)
       member_told view = member_verdict (state_in e) group (told_of view)
 
-      naming : (t : ℕ) (x : Standing) → Waits t x → named member_told (view_at t) ≡ (if nat_eq x.group group then option_map {U = ℕ × Blame} (λ why. (t, why)) (model.blame kind (view_of t x) (state_in e).aim) else None)
+      naming : (t : ℕ) (x : LegTask) → Waits t x → named member_told (view_at t) ≡ (if nat_eq x.group group then option_map {U = ℕ × Blame} (λ why. (t, why)) (model.blame kind (view_of t x) (state_in e).aim) else None)
       naming t x w =
           ap (λ o. named member_told (option_map (view_of t) o)) (waiting_slot_of t x w)
-          ∙ ap (λ (b : Bool). if b then option_map {U = ℕ × Blame} (λ why. (t, why)) (model.blame kind (view_of t x) (state_in e).aim) else None) (ap (on_live false (λ (y : Standing). nat_eq y.group group)) w.live)
+          ∙ ap (λ (b : Bool). if b then option_map {U = ℕ × Blame} (λ why. (t, why)) (model.blame kind (view_of t x) (state_in e).aim) else None) (ap (on_live false (λ (y : LegTask). nat_eq y.group group)) w.live)
 
       some_blame : (t : ℕ) (b : Bool) (o : Option Blame) → is_some (if b then option_map {U = ℕ × Blame} (λ why. (t, why)) o else None) ≡ true → (b ≡ true) × (is_some o ≡ true)
       some_blame t true (Some why) h = (refl, refl)
@@ -112,7 +112,7 @@ module _ (e : Engine) (waiting : Numbers) (kept : IsEngine e waiting) where
       named_is : (t : ℕ) → is_some (named member_told (view_at t)) ≡ true → (r : RefusesMember model kind (state_in e) group) × (r.member ≡ t)
       named_is t h = by (waiting_slot e.table waiting t) refl
         where
-          by : (o : Option Standing) → waiting_slot e.table waiting t ≡ o → (r : RefusesMember model kind (state_in e) group) × (r.member ≡ t)
+          by : (o : Option LegTask) → waiting_slot e.table waiting t ≡ o → (r : RefusesMember model kind (state_in e) group) × (r.member ≡ t)
           by None none = absurd (false≢true (sym (ap (λ p. is_some (named member_told (option_map (view_of t) p))) none) ∙ h))
           by (Some x) some =
               let w = waiting_is t x some in
@@ -132,11 +132,11 @@ module _ (e : Engine) (waiting : Numbers) (kept : IsEngine e waiting) where
       -- it is the same where each refused one that is passed over has one before it that isn't
       pub first-same : (looked : ℕ → Bool) → ((r : RefusesMember model kind (state_in e) group) → looked r.member ≡ false → SeesRefusedBefore model kind (state_in e) looked group r.member)
           → first_refused (state_in e) group (verdicts_at model kind (state_in e) looked) ≡ first_refused (state_in e) group (verdicts_of model kind (state_in e))
-      first-same looked behind =
+      first-same looked it_waits =
           first_listed looked
           ∙ first-kept view_at member_told looked 65536 (λ t low high out some.
           let r = named_is t some in
-          let h = behind r.0 (ap looked r.1 ∙ out) in
+          let h = it_waits r.0 (ap looked r.1 ∙ out) in
           record { number = h.0.refusal.member; from = omega arith; before = subst (λ u. h.0.refusal.member < u) r.1 h.1; passed = h.0.seen; named_of = named_from h.0.refusal })
           ∙ sym (first_listed (λ t. true))
           ∙ ap (λ vs. first_refused (state_in e) group vs) (all-looked model kind (state_in e))
@@ -162,9 +162,9 @@ module _ (e : Engine) (waiting : Numbers) (kept : IsEngine e waiting) where
           (told.first r.member r.life r.live r.off (ap asked r.grouped ∙ yes) out r.refused));
     }
       where
-        some_seen : (group u : ℕ) (y : Standing) → standings e.table u ≡ Live y → nat_eq y.level e.target ≡ false → y.group ≡ group → told.looked u ≡ true → list_any (λ v. on_live false (λ z. nat_eq z.group group) (standings e.table v.task.0)) vs ≡ true
+        some_seen : (group u : ℕ) (y : LegTask) → leg_tasks e.table u ≡ Live y → nat_eq y.level e.target ≡ false → y.group ≡ group → told.looked u ≡ true → list_any (λ v. on_live false (λ z. nat_eq z.group group) (leg_tasks e.table v.task.0)) vs ≡ true
         some_seen group u y there waits grouped seen =
-            let p = λ (v : Verdict). on_live false (λ (z : Standing). nat_eq z.group group) (standings e.table v.task.0) in
+            let p = λ (v : Verdict). on_live false (λ (z : LegTask). nat_eq z.group group) (leg_tasks e.table v.task.0) in
             let bounds = kept.sound.numbered u y there in
             ap (list_any p) told.found
             ∙ any-filter (λ (v : Verdict). told.looked v.task.0) p (verdicts_of model kind (state_in e))
@@ -173,7 +173,7 @@ module _ (e : Engine) (waiting : Numbers) (kept : IsEngine e waiting) where
               task = y;
               live = there;
               off = waits;
-              passed = and_from (told.looked u) (p (told_of (view_of u y))) seen (ap (on_live false (λ (z : Standing). nat_eq z.group group)) there ∙ eq-eqb y.group group grouped);
+              passed = and_from (told.looked u) (p (told_of (view_of u y))) seen (ap (on_live false (λ (z : LegTask). nat_eq z.group group)) there ∙ eq-eqb y.group group grouped);
             }) bounds.0 bounds.1
 
 -- they are enough, where the other groups may be left out
@@ -204,8 +204,8 @@ among-told model kind s asked vs found = record {
   first = λ t x live off yes out refused. absurd (false≢true (sym out ∙ (group_asked t x live ∙ yes)));
 }
   where
-    group_asked : (t : ℕ) (x : Standing) → s.tasks t ≡ Live x → is_asked s asked t ≡ asked x.group
-    group_asked t x live = ap (on_live false (λ (y : Standing). asked y.group)) live
+    group_asked : (t : ℕ) (x : LegTask) → s.tasks t ≡ Live x → is_asked s asked t ≡ asked x.group
+    group_asked t x live = ap (on_live false (λ (y : LegTask). asked y.group)) live
 
 -- ---- The pass
 
@@ -213,7 +213,7 @@ module _ (e : Engine) (waiting : Numbers) (kept : IsEngine e waiting) (model : R
   abbrev Asked : (place : ℕ) → List Verdict → (ℕ → Bool) → Type 0
   Asked place vs unrefused = HasAsked model kind e candidates may_refuse asked place vs unrefused
 
-  abbrev told_here : ℕ → Standing → Verdict
+  abbrev told_here : ℕ → LegTask → Verdict
   told_here t x = verdict_of model kind (state_in e).aim (view_of t x)
 
   -- nobody was asked before the first candidate
@@ -271,7 +271,7 @@ module _ (e : Engine) (waiting : Numbers) (kept : IsEngine e waiting) (model : R
 
   module _ (place next : ℕ) (vs : List Verdict) (unrefused : ℕ → Bool) (further : place < next) (none : (t : ℕ) → place < t → t < next → candidates t ≡ false) (h : Asked place vs unrefused) where
     -- the candidate doesn't wait, or isn't to be asked
-    pub pass-over : ((x : Standing) → waiting_slot e.table waiting place ≡ Some x → may_refuse place ≡ true → unrefused x.group ≡ false) → Asked next vs unrefused
+    pub pass-over : ((x : LegTask) → waiting_slot e.table waiting place ≡ Some x → may_refuse place ≡ true → unrefused x.group ≡ false) → Asked next vs unrefused
     pass-over over = record {
       looked = h.looked;
       found = h.found;
@@ -294,7 +294,7 @@ module _ (e : Engine) (waiting : Numbers) (kept : IsEngine e waiting) (model : R
     }
 
     -- the candidate is asked
-    pub pass-asks : (x : Standing) (after : ℕ → Bool) → place < 65536 → waiting_slot e.table waiting place ≡ Some x → unrefused x.group ≡ true → ((group : ℕ) → after group ≡ (unrefused group && not (is_found e.table true group (told_here place x))))
+    pub pass-asks : (x : LegTask) (after : ℕ → Bool) → place < 65536 → waiting_slot e.table waiting place ≡ Some x → unrefused x.group ≡ true → ((group : ℕ) → after group ≡ (unrefused group && not (is_found e.table true group (told_here place x))))
         → Asked next (vs ++ told_here place x ∷ []) after
     pass-asks x after few waits still closes = record {
       looked = more;
@@ -309,9 +309,9 @@ module _ (e : Engine) (waiting : Numbers) (kept : IsEngine e waiting) (model : R
           (λ (old : h.looked t ≡ true). h.only t y live old)
           (λ (new : nat_eq t place ≡ true).
           let w = waiting_is e waiting kept place x waits in
-          let one : Live x ≡ Live y = sym w.live ∙ ap (standings e.table) (sym (eqb-true t place new)) ∙ live in
+          let one : Live x ≡ Live y = sym w.live ∙ ap (leg_tasks e.table) (sym (eqb-true t place new)) ∙ live in
           let same : x ≡ y = cc in
-          ap (λ (z : Standing). asked z.group) (sym same) ∙ (and_parts (asked x.group) (not (list_any (is_found e.table true x.group) vs)) (sym (h.left x.group) ∙ still)).0)
+          ap (λ (z : LegTask). asked z.group) (sym same) ∙ (and_parts (asked x.group) (not (list_any (is_found e.table true x.group) vs)) (sym (h.left x.group) ∙ still)).0)
           (or_cases (h.looked t) (nat_eq t place) seen);
       left = λ group.
           closes group
@@ -351,8 +351,8 @@ module _ (e : Engine) (waiting : Numbers) (kept : IsEngine e waiting) (model : R
   pub pass-told : (vs ws : List Verdict) (unrefused : ℕ → Bool) (h : Asked 65536 vs unrefused)
       → ((t : ℕ) → candidates t ≡ true) → AdmitsOthers model kind (state_in e) may_refuse
       → (taken : ℕ → Bool)
-      → ((t : ℕ) (x : Standing) → standings e.table t ≡ Live x → nat_eq x.level e.target ≡ false → (taken t ≡ true) ↔ ((h.looked t ≡ true) ⊎ (unrefused x.group ≡ true)))
-      → ((t : ℕ) (x : Standing) → standings e.table t ≡ Live x → taken t ≡ true → asked x.group ≡ true)
+      → ((t : ℕ) (x : LegTask) → leg_tasks e.table t ≡ Live x → nat_eq x.level e.target ≡ false → (taken t ≡ true) ↔ ((h.looked t ≡ true) ⊎ (unrefused x.group ≡ true)))
+      → ((t : ℕ) (x : LegTask) → leg_tasks e.table t ≡ Live x → taken t ≡ true → asked x.group ≡ true)
       → ws ≡ verdicts_at model kind (state_in e) taken → AreTold model kind (state_in e) asked ws
   pass-told vs ws unrefused h covers sure taken is only found = record {
     looked = taken;
@@ -367,13 +367,13 @@ module _ (e : Engine) (waiting : Numbers) (kept : IsEngine e waiting) (model : R
         (kept_seen x.group r.0, r.1);
   }
     where
-      closed : (t : ℕ) (x : Standing) → standings e.table t ≡ Live x → nat_eq x.level e.target ≡ false → taken t ≡ false → unrefused x.group ≡ false
+      closed : (t : ℕ) (x : LegTask) → leg_tasks e.table t ≡ Live x → nat_eq x.level e.target ≡ false → taken t ≡ false → unrefused x.group ≡ false
       closed t x live off out = false_from_ne_true (unrefused x.group) (λ still. false≢true (sym out ∙ (is t x live off).1 (inr still)))
 
       kept_seen : (group : ℕ) → SeesRefused model kind (state_in e) h.looked group → SeesRefused model kind (state_in e) taken group
       kept_seen group r = record { refusal = r.refusal; seen = (is r.refusal.member r.refusal.life r.refusal.live r.refusal.off).1 (inl r.seen) }
 
-      doubted : (t : ℕ) (x : Standing) → standings e.table t ≡ Live x → nat_eq x.level e.target ≡ false → is_some (model.blame kind (view_of t x) (state_in e).aim) ≡ true → may_refuse t ≡ true
+      doubted : (t : ℕ) (x : LegTask) → leg_tasks e.table t ≡ Live x → nat_eq x.level e.target ≡ false → is_some (model.blame kind (view_of t x) (state_in e).aim) ≡ true → may_refuse t ≡ true
       doubted t x live off refused =
           ⊎_elim
           (λ (yes : may_refuse t ≡ true). yes)
@@ -382,7 +382,7 @@ module _ (e : Engine) (waiting : Numbers) (kept : IsEngine e waiting) (model : R
 
 -- where each who has to be asked is a candidate, all are as good as candidates
 pub pass-covers : (e : Engine) (model : Rules) (kind : CheckKind) (candidates may_refuse asked : ℕ → Bool) (place : ℕ) (vs : List Verdict) (unrefused : ℕ → Bool)
-    → ((t : ℕ) (x : Standing) → standings e.table t ≡ Live x → may_refuse t ≡ true → asked x.group ≡ true → candidates t ≡ true)
+    → ((t : ℕ) (x : LegTask) → leg_tasks e.table t ≡ Live x → may_refuse t ≡ true → asked x.group ≡ true → candidates t ≡ true)
     → HasAsked model kind e candidates may_refuse asked place vs unrefused → HasAsked model kind e (λ t. true) may_refuse asked place vs unrefused
 pass-covers e model kind candidates may_refuse asked place vs unrefused covers h = record {
   looked = h.looked;

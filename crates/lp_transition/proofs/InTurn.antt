@@ -6,7 +6,7 @@ use Rattle.lp_numbers.specs.Ascending.{members_from}
 use Rattle.lp_model.specs.Rules.{Rules}
 use Rattle.lp_model.specs.declared.check.CheckKind.{CheckKind}
 use Rattle.lp_model.specs.declared.verdict.Verdict.{Verdict}
-use Rattle.lp_definitions.specs.Leg.{Standing}
+use Rattle.lp_definitions.specs.Leg.{LegTask}
 use Rattle.lp_machine.specs.Machine.{view_of}
 use Rattle.lp_transition.specs.Scan.{verdict_of}
 use Rattle.lp_machine.specs.Table.{Table, Engine, state_in}
@@ -22,20 +22,20 @@ module _ (table : Table) (waiting may_refuse unrefused : Numbers) (t : ℕ) wher
   asked = has may_refuse t && task_switches (has unrefused) (waiting_slot table waiting t)
 
   -- who is asked waits, and its group isn't refused so far
-  asked_some : (x : Standing) → asked_slot table waiting may_refuse unrefused t ≡ Some x → (waiting_slot table waiting t ≡ Some x) × (has unrefused x.group ≡ true)
+  asked_some : (x : LegTask) → asked_slot table waiting may_refuse unrefused t ≡ Some x → (waiting_slot table waiting t ≡ Some x) × (has unrefused x.group ≡ true)
   asked_some x h = by (has may_refuse t) (waiting_slot table waiting t) h
     where
-      by : (b : Bool) (o : Option Standing) → (if b && task_switches (has unrefused) o then o else None) ≡ Some x → (o ≡ Some x) × (has unrefused x.group ≡ true)
+      by : (b : Bool) (o : Option LegTask) → (if b && task_switches (has unrefused) o then o else None) ≡ Some x → (o ≡ Some x) × (has unrefused x.group ≡ true)
       by false o e = absurd (cc)
       by true None e = absurd (cc)
       by true (Some y) e = of (has unrefused y.group) refl e
         where
           of : (c : Bool) → has unrefused y.group ≡ c → (if c then Some y else None) ≡ Some x → (Some y ≡ Some x) × (has unrefused x.group ≡ true)
           of false is f = absurd (cc)
-          of true is f = let same : y ≡ x = cc in (f, ap (λ (z : Standing). has unrefused z.group) (sym same) ∙ is)
+          of true is f = let same : y ≡ x = cc in (f, ap (λ (z : LegTask). has unrefused z.group) (sym same) ∙ is)
 
   -- who waits and may be refused, and isn't asked, is of a refused group
-  asked_none : asked_slot table waiting may_refuse unrefused t ≡ None → (x : Standing) → waiting_slot table waiting t ≡ Some x → has may_refuse t ≡ true → has unrefused x.group ≡ false
+  asked_none : asked_slot table waiting may_refuse unrefused t ≡ None → (x : LegTask) → waiting_slot table waiting t ≡ Some x → has may_refuse t ≡ true → has unrefused x.group ≡ false
   asked_none none x waits may =
       false_from_ne_true (has unrefused x.group) (λ still.
       let on = and_from (has may_refuse t) (task_switches (has unrefused) (waiting_slot table waiting t)) may (ap (task_switches (has unrefused)) waits ∙ still) in
@@ -70,7 +70,7 @@ module _ (e : Engine) (waiting : Numbers) (kept : IsEngine e waiting) (model : R
           pass-over e waiting kept model kind (has candidates) (has may_refuse) groups n (place_of left) vs (has unrefused) further (λ t low high. before.none t (omega arith) high) here
           (λ x waits may. asked_none e.table waiting may_refuse unrefused n none x waits may)
 
-      pub turn-asks : (x : Standing) (v : Verdict) (ws : List Verdict) (unrefused_after : Numbers) → asked_slot e.table waiting may_refuse unrefused n ≡ Some x → v ≡ verdict_of model kind (state_in e).aim (view_of n x) → ws ≡ vs ++ v ∷ []
+      pub turn-asks : (x : LegTask) (v : Verdict) (ws : List Verdict) (unrefused_after : Numbers) → asked_slot e.table waiting may_refuse unrefused n ≡ Some x → v ≡ verdict_of model kind (state_in e).aim (view_of n x) → ws ≡ vs ++ v ∷ []
           → ((group : ℕ) → has unrefused_after group ≡ (has unrefused group && not (is_found e.table true group v))) → Turn left ws unrefused_after
       turn-asks x v ws unrefused_after some told more closes =
           let w = asked_some e.table waiting may_refuse unrefused n x some in

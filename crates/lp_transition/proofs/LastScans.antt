@@ -7,25 +7,25 @@ use Rattle.lp_model.specs.Rules.{Rules}
 use Rattle.lp_model.specs.declared.check.CheckKind.{CheckKind}
 use Rattle.lp_model.specs.declared.check.CheckKind.TheVariants as kind
 use Rattle.lp_definitions.specs.declared.event.Event.{Event}
-use Rattle.lp_definitions.specs.declared.event.Event.TheVariants.{Call, Ret, Sleep, Wake, Enter, Exit, Idle, Fork, Die, Walk, Stop, Enable, Disable, Reverse}
+use Rattle.lp_definitions.specs.declared.event.Event.TheVariants.{Call, Ret, Sleep, Wake, Enter, Exit, Idle, Resched, Fork, Die, Walk, Stop, Enable, Disable, Reverse}
 use Rattle.lp_definitions.specs.declared.refusal.Refusal.{Refusal}
 use Rattle.lp_definitions.specs.Events.{is_control}
 use Rattle.lp_definitions.specs.Tasks.{Live, change}
-use Rattle.lp_definitions.specs.Leg.{Standing, State}
+use Rattle.lp_definitions.specs.Leg.{LegTask, State}
 use Rattle.lp_machine.specs.Machine.{own_effect, switches_at, switched_task, refusal_of, affected, with_switches, next}
-use Rattle.lp_machine.specs.Table.{Engine, LastScan, standings, state_in}
+use Rattle.lp_machine.specs.Table.{Engine, LastScan, leg_tasks, state_in}
 use Rattle.lp_transition.specs.Scan.{is_scan_kind, scan_event}
 use Rattle.lp_transition.specs.LastScan.{used_kind, used_scan, AreSameMembers, IsLastScanAfter}
 use Rattle.lp_transition.specs.inside.Invariant.{KeptScan, told_scan}
-use Rattle.lp_tasks.specs.inside.Points.{point_event}
-use Rattle.lp_machine.proofs.EngineLemmas.{is_quiet, next-refused, next-accepted}
+use Rattle.lp_tasks.specs.inside.OwnChecks.{own_check_event}
+use Rattle.lp_machine.proofs.EngineLemmas.{is_unchecked, next-refused, next-accepted}
 use Rattle.lp_transition.proofs.Effects.{HasTaken}
 use Rattle.lp_transition.proofs.Unchanged.{touches, live_from, none_some, own_same, switched_not, left, stands_still, TakesIn, stays_in, scan_touches, scan_free, scan_plain, Notes, changes_in}
 
 -- ---- Events that are no scan of use
 
 module _ (model : Rules) where
-  pub quiet_unused : (event : Event) → is_quiet event ≡ true → used_scan model event ≡ None
+  pub quiet_unused : (event : Event) → is_unchecked event ≡ true → used_scan model event ≡ None
   quiet_unused (Call t f) q = refl
   quiet_unused (Ret t) q = refl
   quiet_unused (Sleep t) q = refl
@@ -35,17 +35,19 @@ module _ (model : Rules) where
   quiet_unused (Die t) q = refl
   quiet_unused (Exit t) q = refl
   quiet_unused (Idle t) q = refl
+  quiet_unused (Resched t) q = refl
   quiet_unused Walk q = cc
   quiet_unused Stop q = cc
   quiet_unused Enable q = refl
   quiet_unused Disable q = refl
   quiet_unused Reverse q = refl
 
-  pub point_unused : (on : CheckKind) (t : TaskId) → used_scan model (point_event on t) ≡ None
-  point_unused kind.KernelExit t = refl
-  point_unused kind.IdlePoint t = refl
-  point_unused kind.Walk t = refl
-  point_unused kind.Stop t = refl
+  pub own_check_unused : (on : CheckKind) (t : TaskId) → used_scan model (own_check_event on t) ≡ None
+  own_check_unused kind.KernelExit t = refl
+  own_check_unused kind.IdlePoint t = refl
+  own_check_unused kind.Resched t = refl
+  own_check_unused kind.Walk t = refl
+  own_check_unused kind.Stop t = refl
 
   -- the kind of a scan
   scan_used : (on : CheckKind) → is_scan_kind on ≡ true → used_scan model (scan_event on) ≡ used_kind model on
@@ -53,6 +55,7 @@ module _ (model : Rules) where
   scan_used kind.Stop scan = refl
   scan_used kind.KernelExit scan = absurd (cc)
   scan_used kind.IdlePoint scan = absurd (cc)
+  scan_used kind.Resched scan = absurd (cc)
 
   -- no scan is refused
   used_free : (s : State) (event : Event) (on : CheckKind) → used_scan model event ≡ Some on → refusal_of model s event ≡ None
@@ -63,6 +66,7 @@ module _ (model : Rules) where
   used_free s (Enter t) on used = absurd (cc)
   used_free s (Exit t) on used = absurd (cc)
   used_free s (Idle t) on used = absurd (cc)
+  used_free s (Resched t) on used = absurd (cc)
   used_free s (Fork p c how) on used = absurd (cc)
   used_free s (Die t) on used = absurd (cc)
   used_free s Walk on used = scan_free model s kind.Walk
@@ -73,28 +77,28 @@ module _ (model : Rules) where
 
 -- ---- A group to which nothing happened
 
-grouped_still : (x : Standing) (target : ℕ) (goes : Bool) → (if goes then record x { level = target } else x).group ≡ x.group
+grouped_still : (x : LegTask) (target : ℕ) (goes : Bool) → (if goes then record x { level = target } else x).group ≡ x.group
 grouped_still x target true = refl
 grouped_still x target false = refl
 
 module _ (model : Rules) (s : State) (event : Event) (before after : KeptScan) (takes : TakesIn model s event before after) (group : ℕ) (out : has after.changed group ≡ false) (stays : switches_at model (affected model s event) event group ≡ false) where
   -- nothing happens to a task that is in it before or after the event's own effect
-  apart_from : (t : ℕ) (x : Standing) → x.group ≡ group → (touches event t ≡ true → has after.changed x.group ≡ true) → touches event t ≡ false
+  apart_from : (t : ℕ) (x : LegTask) → x.group ≡ group → (touches event t ≡ true → has after.changed x.group ≡ true) → touches event t ≡ false
   apart_from t x grouped noted =
       false_from_ne_true (touches event t) (λ (hit : touches event t ≡ true). false≢true (sym out ∙ (ap (has after.changed) (sym grouped) ∙ noted hit)))
 
   -- its members stay,
-  stays_member : (t : ℕ) (x : Standing) → x.group ≡ group → s.tasks t ≡ Live x → (with_switches model s event).tasks t ≡ Live x
+  stays_member : (t : ℕ) (x : LegTask) → x.group ≡ group → s.tasks t ≡ Live x → (with_switches model s event).tasks t ≡ Live x
   stays_member t x grouped live =
       stands_still model s event t x (apart_from t x grouped (λ hit. takes.before t x hit live)) live
       (ap (switches_at model (affected model s event) event) grouped ∙ stays)
 
   -- and nobody joins it
-  was_member : (t : ℕ) (x : Standing) → x.group ≡ group → (with_switches model s event).tasks t ≡ Live x → s.tasks t ≡ Live x
+  was_member : (t : ℕ) (x : LegTask) → x.group ≡ group → (with_switches model s event).tasks t ≡ Live x → s.tasks t ≡ Live x
   was_member t x grouped live =
       let now = affected model s event in
       let w = live_from (switched_task model now event) (now.tasks t) x live in
-      let grouped_then : w.0.group ≡ group = sym (grouped_still w.0 s.target (switches_at model now event w.0.group)) ∙ (ap (λ (y : Standing). y.group) w.2 ∙ grouped) in
+      let grouped_then : w.0.group ≡ group = sym (grouped_still w.0 s.target (switches_at model now event w.0.group)) ∙ (ap (λ (y : LegTask). y.group) w.2 ∙ grouped) in
       let same : w.0 ≡ x = sym (switched_not model s event w.0 (ap (switches_at model now event) grouped_then ∙ stays)) ∙ w.2 in
       let there : now.tasks t ≡ Live x = w.1 ∙ ap Live same in
       sym (own_same model s event event t (apart_from t x grouped (λ hit. takes.after t x hit there))) ∙ there
@@ -171,8 +175,8 @@ module _ (model : Rules) (e old new : Engine) (left_waiting : Numbers) (event : 
       })
 
   -- after a change of a task
-  pub last_changes : (a : ℕ) (f : Standing → Standing) → refusal_of model (state_in old) event ≡ None → is_control event ≡ false → used_scan model event ≡ None → after.kind ≡ before.kind → Notes e.table a before after → ((t : ℕ) → touches event t ≡ nat_eq t a)
-      → own_effect model.child_group (suc e.number) event (standings e.table) ≡ change a f (standings e.table) → ((x : Standing) → (f x).group ≡ x.group) → IsLastScanAfter model old event new
+  pub last_changes : (a : ℕ) (f : LegTask → LegTask) → refusal_of model (state_in old) event ≡ None → is_control event ≡ false → used_scan model event ≡ None → after.kind ≡ before.kind → Notes e.table a before after → ((t : ℕ) → touches event t ≡ nat_eq t a)
+      → own_effect model.child_group (suc e.number) event (leg_tasks e.table) ≡ change a f (leg_tasks e.table) → ((x : LegTask) → (f x).group ≡ x.group) → IsLastScanAfter model old event new
   last_changes a f accepted plain unused same noted only own groups =
       last_takes accepted plain unused same (changes_in model e event before after a f noted only own groups)
 

@@ -1,4 +1,4 @@
-pub mod Points
+pub mod OwnChecks
 pub mod Moves
 pub mod Effects
 pub mod Births
@@ -11,6 +11,8 @@ pub mod Completes
 pub mod SwitchedGroups
 pub mod Replies
 pub mod Weighing
+pub mod GroupLevels
+pub mod Turned
 pub mod Turning
 pub mod AskedScans
 pub mod OwnGroups

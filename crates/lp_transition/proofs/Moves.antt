@@ -5,13 +5,13 @@ use Rattle.lp_stack.specs.declared.number.TaskId.{TaskId}
 use Rattle.lp_definitions.specs.Tasks.{Grouping, Fate, change}
 use Rattle.lp_transition.specs.declared.engine.moves.Move.{Move}
 use Rattle.lp_transition.specs.declared.engine.moves.Move.TheVariants.{Sleep, Wake, Enter}
-use Rattle.lp_definitions.specs.Leg.{Standing}
+use Rattle.lp_definitions.specs.Leg.{LegTask}
 use Rattle.lp_machine.specs.Machine.{own_effect, put_in}
 use Rattle.lp_transition.specs.inside.Moves.{mode_after, move_event}
-use Rattle.lp_machine.proofs.EngineLemmas.{is_quiet}
+use Rattle.lp_machine.proofs.EngineLemmas.{is_unchecked}
 use Rattle.lp_transition.proofs.Unchanged.{touches}
 
-pub move_quiet : (kind : Move) (t : TaskId) → is_quiet (move_event kind t) ≡ true
+pub move_quiet : (kind : Move) (t : TaskId) → is_unchecked (move_event kind t) ≡ true
 move_quiet Sleep t = refl
 move_quiet Wake t = refl
 move_quiet Enter t = refl
@@ -21,7 +21,7 @@ move_touches Sleep t u = refl
 move_touches Wake t u = refl
 move_touches Enter t u = refl
 
-pub move_effect : (grouping : Grouping) (number : ℕ) (kind : Move) (t : TaskId) (now : ℕ → Fate Standing) → own_effect grouping number (move_event kind t) now ≡ change t.0 (put_in (mode_after kind)) now
+pub move_effect : (grouping : Grouping) (number : ℕ) (kind : Move) (t : TaskId) (now : ℕ → Fate LegTask) → own_effect grouping number (move_event kind t) now ≡ change t.0 (put_in (mode_after kind)) now
 move_effect grouping number Sleep t now = refl
 move_effect grouping number Wake t now = refl
 move_effect grouping number Enter t now = refl

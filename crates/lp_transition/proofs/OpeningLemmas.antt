@@ -4,12 +4,12 @@ use Rattle.std.proofs.lemmas.Bool.{cond-true}
 use Rattle.lp_model.specs.Rules.{Rules}
 use Rattle.lp_definitions.specs.declared.event.Event.{Event}
 use Rattle.lp_definitions.specs.Tasks.{Fate}
-use Rattle.lp_definitions.specs.Leg.{Standing, State, Leg}
+use Rattle.lp_definitions.specs.Leg.{LegTask, State, Leg}
 use Rattle.lp_definitions.specs.Run.{plus, first_leg, leg_of, next_leg, opens, opened, and_then}
 use Rattle.lp_machine.specs.Machine.{state_of}
 use Rattle.lp_machine.specs.Steps.{OpensLegs}
-use Rattle.lp_machine.proofs.Steps.{open_shown}
-use Rattle.lp_machine.proofs.Runs.{leg_after-plus}
+use Rattle.lp_machine_laws.proofs.Steps.{open_shown}
+use Rattle.lp_machine_laws.proofs.Runs.{leg_after-plus}
 
 -- ---- Openings of legs
 
@@ -17,7 +17,7 @@ module _ (model : Rules) where
   -- a leg without events is where it opened
   pub open_state : (o : State) → state_of model (record { opening = o; events = [] }) ≡ o
   open_state o =
-      ap₂ {A = ℕ} {B = ℕ → Fate Standing} {C = State} (λ number tasks. record { number = number; bounds = o.bounds; from = o.from; aim = o.aim; tasks = tasks }) (add-zero o.number) (open_shown model o)
+      ap₂ {A = ℕ} {B = ℕ → Fate LegTask} {C = State} (λ number tasks. record { number = number; bounds = o.bounds; from = o.from; aim = o.aim; tasks = tasks }) (add-zero o.number) (open_shown model o)
 
   opened_next : (leg : Leg) (event : Event) → opens model leg event ≡ true → next_leg model leg event ≡ opened model leg event
   unfolding next_leg

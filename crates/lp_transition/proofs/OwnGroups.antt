@@ -4,8 +4,8 @@ use Rattle.std.proofs.lemmas.Bool.{eqb-true, eq-eqb}
 use Rattle.std.specs.List.{list_any}
 use Rattle.lp_numbers.specs.Numbers.{Numbers, has}
 use Rattle.lp_definitions.specs.Tasks.{Live, on_live}
-use Rattle.lp_definitions.specs.Leg.{Standing}
-use Rattle.lp_machine.specs.Table.{Table, Engine, slot, standings, state_in}
+use Rattle.lp_definitions.specs.Leg.{LegTask}
+use Rattle.lp_machine.specs.Table.{Table, Engine, slot, leg_tasks, state_in}
 use Rattle.lp_tasks.specs.inside.Table.{is_in}
 use Rattle.lp_transition.specs.inside.Invariant.{IsEngine}
 use Rattle.lp_transition.specs.Scan.{is_asked}
@@ -13,7 +13,7 @@ use Rattle.lp_tasks.specs.Passing.{passing}
 use Rattle.lp_transition.specs.inside.ScanSteps.{IsOwnGroup}
 use Rattle.lp_tasks.proofs.MemberLemmas.{IsLone, slot-below}
 use Rattle.lp_tasks.proofs.Passing.{passing-both_is, passing-both_from}
-use Rattle.lp_laws.proofs.Quantifiers.{same_bool}
+use Rattle.lp_definitions.proofs.Quantifiers.{same_bool}
 use Rattle.lp_transition.proofs.ScanTakes.{group_fits}
 use Rattle.lp_tasks.proofs.TableLemmas.{slot_from_live}
 
@@ -34,16 +34,16 @@ module _ (e : Engine) (waiting : Numbers) (kept : IsEngine e waiting) where
   -- ---- Whom a scan looks at
 
   -- where the groups are of their own numbers, the tasks of these numbers
-  pub own-agrees : (groups : Numbers) → ((group : ℕ) → group < 65536 → has groups group ≡ true → IsOwnGroup e.table group) → (t : ℕ) (x : Standing) → standings e.table t ≡ Live x → has groups t ≡ is_asked (state_in e) (has groups) t
+  pub own-agrees : (groups : Numbers) → ((group : ℕ) → group < 65536 → has groups group ≡ true → IsOwnGroup e.table group) → (t : ℕ) (x : LegTask) → leg_tasks e.table t ≡ Live x → has groups t ≡ is_asked (state_in e) (has groups) t
   own-agrees groups own t x live =
       let at = slot_from_live e.table t x live in
       same_bool (has groups t) (has groups x.group)
       (λ h. ap (has groups) ((own t (slot-below e.table t x kept.wide at) h t x at).1 refl) ∙ h)
       (λ h. ap (has groups) ((own x.group (group_fits e t x kept.sound kept.wide at) h t x at).0 refl) ∙ h)
-      ∙ sym (ap (on_live false (λ (y : Standing). has groups y.group)) live)
+      ∙ sym (ap (on_live false (λ (y : LegTask). has groups y.group)) live)
 
   -- else the live tasks of these groups
-  pub member-agrees : (groups set : Numbers) → ((task : ℕ) → has set task ≡ list_any (λ group. is_in group (slot e.table task)) (passing 0 65536 (has groups))) → (t : ℕ) (x : Standing) → standings e.table t ≡ Live x → has set t ≡ is_asked (state_in e) (has groups) t
+  pub member-agrees : (groups set : Numbers) → ((task : ℕ) → has set task ≡ list_any (λ group. is_in group (slot e.table task)) (passing 0 65536 (has groups))) → (t : ℕ) (x : LegTask) → leg_tasks e.table t ≡ Live x → has set t ≡ is_asked (state_in e) (has groups) t
   member-agrees groups set told t x live =
       let at = slot_from_live e.table t x live in
       let p = λ (group : ℕ). is_in group (slot e.table t) in
@@ -60,4 +60,4 @@ module _ (e : Engine) (waiting : Numbers) (kept : IsEngine e waiting) where
         member = h;
         passed = ap (is_in x.group) at ∙ eq-eqb x.group x.group refl;
       }))
-      ∙ sym (ap (on_live false (λ (y : Standing). has groups y.group)) live)
+      ∙ sym (ap (on_live false (λ (y : LegTask). has groups y.group)) live)

@@ -27,7 +27,7 @@ use Rattle.lp_transition.proofs.AskedScans.{asked_none, among-enough, left-out, 
 use Rattle.lp_transition.proofs.Blames.{Leaves, blamed_out}
 use Rattle.lp_transition.proofs.BlamedScans.{leaves_scanned, blame_within}
 use Rattle.lp_transition.proofs.Effects.{HasTaken, with_table, with_scan}
-use Rattle.lp_machine.proofs.Runs.{is_step}
+use Rattle.lp_machine_laws.proofs.Runs.{is_step}
 use Rattle.lp_transition.proofs.ScanAnswers.{answer-scan, born-scan, still, verdicts-scan}
 use Rattle.lp_transition.proofs.ScanTakes.{takes_scan, group_fits}
 use Rattle.lp_tasks.proofs.TableLemmas.{slot_from_live}
@@ -70,6 +70,7 @@ event_scans kind.Walk = refl
 event_scans kind.Stop = refl
 event_scans kind.KernelExit = refl
 event_scans kind.IdlePoint = refl
+event_scans kind.Resched = refl
 
 kept_and : (b : Bool) → b ≡ (b && not false)
 kept_and true = refl

@@ -8,17 +8,17 @@ use Rattle.lp_numbers.specs.Numbers.{has}
 use Rattle.lp_definitions.specs.declared.event.Event.{Event}
 use Rattle.lp_definitions.specs.Events.{is_control}
 use Rattle.lp_definitions.specs.Tasks.{Life, Fate, Unused, Live, Dead, on_live, map_live, is_unused, outlines}
-use Rattle.lp_definitions.specs.Leg.{Standing, State, Leg, after, is_alone}
-use Rattle.lp_definitions.specs.Schedule.{Schedule, level, view, standing, waits, first_check}
+use Rattle.lp_definitions.specs.Leg.{LegTask, State, Leg, after, is_alone}
+use Rattle.lp_definitions.specs.Schedule.{Schedule, level, view, leg_task, waits, first_check}
 use Rattle.lp_definitions.specs.Run.{is_complete_now, refused_by, shown, next_leg}
 use Rattle.lp_machine.specs.Machine.{outlines_of, waits_in, switches_at, switched_task, affected, with_switches, state_of}
 use Rattle.lp_transition.specs.Scan.{waiting_view, views_of}
-use Rattle.lp_machine.specs.Table.{Engine, slot, fate_at, standings, state_in}
+use Rattle.lp_machine.specs.Table.{Engine, slot, fate_at, leg_tasks, state_in}
 use Rattle.lp_transition.specs.Blames.{has_frame_in}
 use Rattle.lp_transition.specs.Laws.{TellsLeg, TellsTask, StatesTell}
-use Rattle.lp_laws.proofs.Quantifiers.{some_live-map}
-use Rattle.lp_machine.proofs.Cut.{outlines_same}
-use Rattle.lp_machine.proofs.Steps.{complete_is, refusal_is, new_target_same, does}
+use Rattle.lp_definitions.proofs.Quantifiers.{some_live-map}
+use Rattle.lp_machine_laws.proofs.Cut.{outlines_same}
+use Rattle.lp_machine_laws.proofs.Steps.{complete_is, refusal_is, new_target_same, does}
 use Rattle.lp_machine.proofs.EngineLemmas.{next-accepted}
 use Rattle.lp_definitions.specs.Sound.{IsSound}
 
@@ -26,14 +26,14 @@ use Rattle.lp_definitions.specs.Sound.{IsSound}
 
 -- switching leaves a task's frames
 module _ (model : Rules) (s : State) (event : Event) (serial : ℕ) where
-  abbrev has_serial : Standing → Bool
+  abbrev has_serial : LegTask → Bool
   has_serial x = list_any (λ frame. nat_eq frame.serial serial) x.frames
 
-  switched_frames : (b : Bool) (x : Standing) → has_serial (if b then record x { level = s.target } else x) ≡ has_serial x
+  switched_frames : (b : Bool) (x : LegTask) → has_serial (if b then record x { level = s.target } else x) ≡ has_serial x
   switched_frames true x = refl
   switched_frames false x = refl
 
-  switched_fate : (fate : Fate Standing) → on_live false has_serial (map_live (switched_task model s event) fate) ≡ on_live false has_serial fate
+  switched_fate : (fate : Fate LegTask) → on_live false has_serial (map_live (switched_task model s event) fate) ≡ on_live false has_serial fate
   switched_fate Unused = refl
   switched_fate (Live x) = switched_frames (switches_at model s event x.group) x
   switched_fate Dead = refl
@@ -53,12 +53,12 @@ module _ (model : Rules) (leg : Leg) where
   waits_is : (group : ℕ) → waits_in (state_of model leg) group ≡ waits model leg s k group
   unfolding waits shown
   waits_is group =
-      some_live-map leg.bounds (standing leg s k) (after model leg k) (λ t y. nat_eq y.group group && not (nat_eq y.level leg.target))
+      some_live-map leg.bounds (leg_task leg s k) (after model leg k) (λ t y. nat_eq y.group group && not (nat_eq y.level leg.target))
 
   abbrev waiting : ℕ → Life → Option TaskView
   waiting t x = if nat_eq (level leg s k x) leg.target then None else Some (view leg s t x)
 
-  waiting_fate : (t : ℕ) (fate : Fate Life) → waiting_view leg.target t (map_live (standing leg s k) fate) ≡ on_live None (waiting t) fate
+  waiting_fate : (t : ℕ) (fate : Fate Life) → waiting_view leg.target t (map_live (leg_task leg s k) fate) ≡ on_live None (waiting t) fate
   waiting_fate t Unused = refl
   waiting_fate t (Live x) = refl
   waiting_fate t Dead = refl
@@ -95,17 +95,17 @@ module _ (model : Rules) (leg : Leg) where
 
   -- ---- A task
 
-  slot_fate : (o : Option Standing) (used : Bool) → o ≡ on_live None (λ x. Some x) (fate_at o used)
+  slot_fate : (o : Option LegTask) (used : Bool) → o ≡ on_live None (λ x. Some x) (fate_at o used)
   slot_fate (Some x) used = refl
   slot_fate None true = refl
   slot_fate None false = refl
 
-  standing_fate : (fate : Fate Life) → on_live None (λ x. Some x) (map_live (standing leg s k) fate) ≡ on_live None (λ x. Some (standing leg s k x)) fate
-  standing_fate Unused = refl
-  standing_fate (Live x) = refl
-  standing_fate Dead = refl
+  leg_task_fate : (fate : Fate Life) → on_live None (λ x. Some x) (map_live (leg_task leg s k) fate) ≡ on_live None (λ x. Some (leg_task leg s k x)) fate
+  leg_task_fate Unused = refl
+  leg_task_fate (Live x) = refl
+  leg_task_fate Dead = refl
 
-  unused_fate : (fate : Fate Life) → is_unused (map_live (standing leg s k) fate) ≡ is_unused fate
+  unused_fate : (fate : Fate Life) → is_unused (map_live (leg_task leg s k) fate) ≡ is_unused fate
   unused_fate Unused = refl
   unused_fate (Live x) = refl
   unused_fate Dead = refl
@@ -113,9 +113,9 @@ module _ (model : Rules) (leg : Leg) where
   tells_task : (e : Engine) → state_in e ≡ state_of model leg → (t : ℕ) → TellsTask model leg e t
   unfolding shown
   tells_task e there t =
-      let fate : standings e.table t ≡ map_live (standing leg s k) (after model leg k t) = ap (λ now. now.tasks t) there in
+      let fate : leg_tasks e.table t ≡ map_live (leg_task leg s k) (after model leg k t) = ap (λ now. now.tasks t) there in
       record {
-        live = slot_fate (slot e.table t) (has e.table.used t) ∙ (ap (on_live None (λ x. Some x)) fate ∙ standing_fate (after model leg k t));
+        live = slot_fate (slot e.table t) (has e.table.used t) ∙ (ap (on_live None (λ x. Some x)) fate ∙ leg_task_fate (after model leg k t));
         used = ap is_unused fate ∙ unused_fate (after model leg k t);
       }
 

@@ -5,7 +5,7 @@ use Rattle.lp_definitions.specs.declared.event.Event.{Event}
 use Rattle.lp_machine.specs.Machine.{answer}
 use Rattle.lp_machine.specs.Steps.{IsReply}
 use Rattle.lp_machine.specs.Table.{Engine, state_in}
-use Rattle.lp_machine.proofs.Runs.{is_reply}
+use Rattle.lp_machine_laws.proofs.Runs.{is_reply}
 use Rattle.lp_transition.specs.Weigh.{Weighed, IsWeighed}
 
 -- it is the definitions'

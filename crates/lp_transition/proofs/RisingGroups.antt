@@ -121,19 +121,19 @@ module _ (table : Table) (vs : List Verdict) (v : Verdict) (group : ℕ) (member
       told (Some x) true e = absurd (cc)
       told (Some x) false e = refl
 
--- behind the last verdict no group switches
+-- after the last verdict no group switches
 pub turn-all : (table : Table) (vs : List Verdict) (from : ℕ) (groups : List ℕ) → AreInTurn table vs from groups → groups ≡ passing 0 65536 (switches_by table vs)
 unfolding passing
 turn-all table vs from groups turn =
     let test = switches_by table vs in
     let fits = turn.within in
     let count : 65536 - 0 ≡ from + (65536 - from) = omega arith in
-    let behind = none_in test (65536 - from) (0 + from) (λ n low high. ap (λ a. a && not (list_any (is_found table true n) vs)) (turn.none false n (omega arith))) in
+    let none_later = none_in test (65536 - from) (0 + from) (λ n low high. ap (λ a. a && not (list_any (is_found table true n) vs)) (turn.none false n (omega arith))) in
     let whole : from - 0 ≡ from = omega arith in
     turn.listed
     ∙ ap (passes test 0) whole
     ∙ sym (append-nil (passes test 0 from))
-    ∙ ap (λ ns. passes test 0 from ++ ns) (sym behind)
+    ∙ ap (λ ns. passes test 0 from ++ ns) (sym none_later)
     ∙ sym (split test from (65536 - from) 0)
     ∙ ap (passes test 0) (sym count)
 

@@ -6,14 +6,14 @@ use mathlib.Core.Path.{fun_ext}
 use Rattle.lp_numbers.specs.Numbers.{Numbers, has}
 use Rattle.lp_model.specs.Rules.{Rules, IsLawful}
 use Rattle.lp_model.specs.declared.check.CheckKind.{CheckKind}
-use Rattle.lp_model.specs.declared.check.CheckKind.TheVariants.{KernelExit, IdlePoint, Walk, Stop}
+use Rattle.lp_model.specs.declared.check.CheckKind.TheVariants.{KernelExit, IdlePoint, Resched, Walk, Stop}
 use Rattle.lp_model.specs.declared.verdict.Verdict.{Verdict}
 use Rattle.lp_definitions.specs.declared.event.Event.{Event}
 use Rattle.lp_definitions.specs.declared.event.Event.TheVariants.{Walk, Stop}
 use Rattle.lp_definitions.specs.declared.reply.What.TheVariants.{Done}
 use Rattle.lp_definitions.specs.declared.reply.Reply.{Reply}
 use Rattle.lp_definitions.specs.Tasks.{Live}
-use Rattle.lp_definitions.specs.Leg.{Standing, State}
+use Rattle.lp_definitions.specs.Leg.{LegTask, State}
 use Rattle.lp_definitions.specs.Run.{switched}
 use Rattle.lp_definitions.specs.Sound.{IsSound}
 use Rattle.lp_machine.specs.Machine.{switches_at, switched_groups, affected, refusal_of, answer}
@@ -57,7 +57,7 @@ switching_by model limit now event switches e same =
     let count : suc now.bounds.tasks ≡ limit - 0 = omega arith in
     ap₂ (λ (test : ℕ → Bool) (n : ℕ). filter test (range_with_len 0 n)) (fun_ext same) count
 
-module _ (model : Rules) (lawful : IsLawful model) (limit : ℕ) (s : State) (wide : suc s.bounds.tasks ≡ limit) (sound : IsSound s) (table : Table) (there : (t : ℕ) (x : Standing) → s.tasks t ≡ Live x → slot table t ≡ Some x) where
+module _ (model : Rules) (lawful : IsLawful model) (limit : ℕ) (s : State) (wide : suc s.bounds.tasks ≡ limit) (sound : IsSound s) (table : Table) (there : (t : ℕ) (x : LegTask) → s.tasks t ≡ Live x → slot table t ≡ Some x) where
   -- the groups that switch are those that the verdicts tell
   pub switches-walk : (group : ℕ) → switches_at model (affected model s Walk) Walk group ≡ switches_by table (verdicts_of model Walk s) group
   unfolding switches_at
@@ -87,6 +87,7 @@ module _ (model : Rules) (lawful : IsLawful model) (limit : ℕ) (s : State) (wi
   pub answer-scan : (kind : CheckKind) → is_scan_kind kind ≡ true → answer model s (scan_event kind) ≡ record { what = switched (passing 0 limit (switches_by table (verdicts_of model kind s))); completed = all_admit (verdicts_of model kind s) }
   answer-scan KernelExit scan = absurd (cc)
   answer-scan IdlePoint scan = absurd (cc)
+  answer-scan Resched scan = absurd (cc)
   answer-scan Walk scan = answer-walk
   answer-scan Stop scan = answer-stop
 
@@ -95,6 +96,7 @@ pub born-scan : (model : Rules) (s : State) (kind : CheckKind) → None ≡ born
 unfolding refusal_of
 born-scan model s KernelExit = refl
 born-scan model s IdlePoint = refl
+born-scan model s Resched = refl
 born-scan model s Walk = refl
 born-scan model s Stop = refl
 
@@ -113,6 +115,7 @@ Completes waiting vs completed = (completed ≡ true) ↔ ((all_admit vs ≡ tru
 pub verdicts-scan : (model : Rules) (s : State) (kind : CheckKind) (vs : List Verdict) → is_scan_kind kind ≡ true → AreEnough model kind s vs → AreVerdictsFor model s (scan_event kind) vs
 verdicts-scan model s KernelExit vs h enough = absurd (false≢true h)
 verdicts-scan model s IdlePoint vs h enough = absurd (false≢true h)
+verdicts-scan model s Resched vs h enough = absurd (false≢true h)
 verdicts-scan model s Walk vs h enough = enough
 verdicts-scan model s Stop vs h enough = enough
 

@@ -8,15 +8,15 @@ use Rattle.lp_model.specs.declared.check.CheckKind.{CheckKind}
 use Rattle.lp_model.specs.declared.verdict.Verdict.{Verdict}
 use Rattle.lp_definitions.specs.declared.event.Event.{Event}
 use Rattle.lp_definitions.specs.Tasks.{Live, map_live}
-use Rattle.lp_definitions.specs.Leg.{Standing, State, each_live, has_member, check_by, when, if_used}
+use Rattle.lp_definitions.specs.Leg.{LegTask, State, each_live, has_member, check_by, when, if_used}
 use Rattle.lp_definitions.specs.Sound.{IsSound}
 use Rattle.lp_machine.specs.Machine.{view_of, outline_of, outlines_of, complete_in, waits_in, admits_all, switches_at}
 use Rattle.lp_machine.specs.Table.{Table, slot}
 use Rattle.lp_tasks.specs.inside.Table.{is_in}
 use Rattle.lp_transition.specs.Scan.{verdict_of, verdicts_of}
 use Rattle.lp_transition.specs.inside.ScanSteps.{is_found, switches_by, all_admit}
-use Rattle.lp_laws.proofs.Quantifiers.{same_bool, each_live-at, each_live-from, some_live-is, some_live-from, some_live-map, each_live-map}
-use Rattle.lp_machine.proofs.States.{waiting_suffice}
+use Rattle.lp_definitions.proofs.Quantifiers.{same_bool, each_live-at, each_live-from, some_live-is, some_live-from, some_live-map, each_live-map}
+use Rattle.lp_machine_laws.proofs.States.{waiting_suffice}
 use Rattle.lp_transition.proofs.ScanLists.{verdict-is, verdict-from}
 
 none_is : (o : Option Blame) → is_none o ≡ true → o ≡ None
@@ -36,9 +36,9 @@ kind_is uses true kind other e = at (uses kind) e
 kind_from : (uses : CheckKind → Bool) (b : Bool) (kind : CheckKind) → b ≡ true → uses kind ≡ true → if_used uses (when b kind) ≡ Some kind
 kind_from uses b kind has used = ap (λ c. if_used uses (when c kind)) has ∙ ap (λ c. when c kind) used
 
-module _ (model : Rules) (lawful : IsLawful model) (kind : CheckKind) (s : State) (sound : IsSound s) (table : Table) (there : (t : ℕ) (x : Standing) → s.tasks t ≡ Live x → slot table t ≡ Some x) where
+module _ (model : Rules) (lawful : IsLawful model) (kind : CheckKind) (s : State) (sound : IsSound s) (table : Table) (there : (t : ℕ) (x : LegTask) → s.tasks t ≡ Live x → slot table t ≡ Some x) where
   -- a waiting task's verdict is one of its group's
-  pub found-from : (refused : Bool) (group t : ℕ) (x : Standing) → s.tasks t ≡ Live x → nat_eq x.level s.target ≡ false → x.group ≡ group → (if refused then is_some (model.blame kind (view_of t x) s.aim) else is_none (model.blame kind (view_of t x) s.aim)) ≡ true
+  pub found-from : (refused : Bool) (group t : ℕ) (x : LegTask) → s.tasks t ≡ Live x → nat_eq x.level s.target ≡ false → x.group ≡ group → (if refused then is_some (model.blame kind (view_of t x) s.aim) else is_none (model.blame kind (view_of t x) s.aim)) ≡ true
       → list_any (is_found table refused group) (verdicts_of model kind s) ≡ true
   found-from refused group t x live off grouped told =
       let bounds = sound.numbered t x live in
@@ -53,7 +53,7 @@ module _ (model : Rules) (lawful : IsLawful model) (kind : CheckKind) (s : State
   -- what a verdict of a group says
   pub record Told (refused : Bool) (group : ℕ) : Type 0 where
     pub number : ℕ
-    pub task : Standing
+    pub task : LegTask
     pub live : s.tasks number ≡ Live task
     pub off : nat_eq task.level s.target ≡ false
     pub grouped : task.group ≡ group
@@ -74,7 +74,7 @@ module _ (model : Rules) (lawful : IsLawful model) (kind : CheckKind) (s : State
 
   -- ---- Who switches is admitted
 
-  each_of : (group : ℕ) (check : Option CheckKind) → ((other : CheckKind) → check ≡ Some other → other ≡ kind) → admits_all model s check group ≡ true → (t : ℕ) (x : Standing) → s.tasks t ≡ Live x → x.group ≡ group → model.admits kind (view_of t x) s.aim ≡ true
+  each_of : (group : ℕ) (check : Option CheckKind) → ((other : CheckKind) → check ≡ Some other → other ≡ kind) → admits_all model s check group ≡ true → (t : ℕ) (x : LegTask) → s.tasks t ≡ Live x → x.group ≡ group → model.admits kind (view_of t x) s.aim ≡ true
   each_of group None same h t x live grouped = absurd (cc)
   each_of group (Some other) same h t x live grouped =
       let bounds = sound.numbered t x live in
@@ -109,7 +109,7 @@ module _ (model : Rules) (lawful : IsLawful model) (kind : CheckKind) (s : State
 
     -- ---- Who is admitted switches
 
-    none_refused : (group : ℕ) → list_any (is_found table true group) (verdicts_of model kind s) ≡ false → (t : ℕ) (x : Standing) → s.tasks t ≡ Live x → x.group ≡ group → nat_eq x.level s.target ≡ false → model.admits kind (view_of t x) s.aim ≡ true
+    none_refused : (group : ℕ) → list_any (is_found table true group) (verdicts_of model kind s) ≡ false → (t : ℕ) (x : LegTask) → s.tasks t ≡ Live x → x.group ≡ group → nat_eq x.level s.target ≡ false → model.admits kind (view_of t x) s.aim ≡ true
     none_refused group no_refusal t x live grouped off =
         lawful.blames kind (view_of t x) s.aim
         (⊎_elim
@@ -117,7 +117,7 @@ module _ (model : Rules) (lawful : IsLawful model) (kind : CheckKind) (s : State
         (λ (free : is_some (model.blame kind (view_of t x) s.aim) ≡ false). none_is (model.blame kind (view_of t x) s.aim) (not_from_false (is_some (model.blame kind (view_of t x) s.aim)) free))
         (cases_Bool (is_some (model.blame kind (view_of t x) s.aim))))
 
-    member_passes : (group : ℕ) → list_any (is_found table true group) (verdicts_of model kind s) ≡ false → (t : ℕ) (x : Standing) → s.tasks t ≡ Live x → (not (nat_eq x.group group) || (nat_eq x.level s.target || model.admits kind (view_of t x) s.aim)) ≡ true
+    member_passes : (group : ℕ) → list_any (is_found table true group) (verdicts_of model kind s) ≡ false → (t : ℕ) (x : LegTask) → s.tasks t ≡ Live x → (not (nat_eq x.group group) || (nat_eq x.level s.target || model.admits kind (view_of t x) s.aim)) ≡ true
     member_passes group no_refusal t x live =
         let admits = model.admits kind (view_of t x) s.aim in
         ⊎_elim
@@ -139,7 +139,7 @@ module _ (model : Rules) (lawful : IsLawful model) (kind : CheckKind) (s : State
         let no_refusal = not-true (list_any (is_found table true group) (verdicts_of model kind s)) parts.1 in
         let admitted = none_refused group no_refusal j.number j.task j.live j.grouped j.off in
         let used = lawful.unused kind (view_of j.number j.task) s.aim admitted in
-        let behind = some_live-from s.bounds s.tasks (λ t x. nat_eq x.group group && not (nat_eq x.level s.target)) (record {
+        let it_waits = some_live-from s.bounds s.tasks (λ t x. nat_eq x.group group && not (nat_eq x.level s.target)) (record {
           task = j.number;
           life = j.task;
           positive = bounds.0;
@@ -156,9 +156,9 @@ module _ (model : Rules) (lawful : IsLawful model) (kind : CheckKind) (s : State
           passed = eq-eqb j.task.group group j.grouped;
         }) in
         let check = ap (if_used model.uses) (checks group) ∙ kind_from model.uses (has_member s.bounds (outlines_of s.tasks) group) kind member used in
-        and_from (waits_in s group) (admits_all model s (if_used model.uses (check_by s.bounds (outlines_of s.tasks) (Some event) group)) group) behind
+        and_from (waits_in s group) (admits_all model s (if_used model.uses (check_by s.bounds (outlines_of s.tasks) (Some event) group)) group) it_waits
         (ap (λ k. admits_all model s k group) check
-        ∙ waiting_suffice s sound group behind (λ t x. model.admits kind (view_of t x) s.aim)
+        ∙ waiting_suffice s sound group it_waits (λ t x. model.admits kind (view_of t x) s.aim)
         ∙ each_live-from s.bounds s.tasks (λ t x. not (nat_eq x.group group) || (nat_eq x.level s.target || model.admits kind (view_of t x) s.aim)) (λ t x positive within live. member_passes group no_refusal t x live))
 
     -- the groups that switch are those that the verdicts tell
@@ -167,7 +167,7 @@ module _ (model : Rules) (lawful : IsLawful model) (kind : CheckKind) (s : State
 
   -- ---- When a scan completes the transition
 
-  waiting_judged : (p : Verdict → Bool) (t : ℕ) (x : Standing) → s.tasks t ≡ Live x → nat_eq x.level s.target ≡ false → p (verdict_of model kind s.aim (view_of t x)) ≡ true → list_any p (verdicts_of model kind s) ≡ true
+  waiting_judged : (p : Verdict → Bool) (t : ℕ) (x : LegTask) → s.tasks t ≡ Live x → nat_eq x.level s.target ≡ false → p (verdict_of model kind s.aim (view_of t x)) ≡ true → list_any p (verdicts_of model kind s) ≡ true
   waiting_judged p t x live off passed =
       let bounds = sound.numbered t x live in
       verdict-from model kind s p (record { number = t; task = x; live = live; off = off; passed = passed }) bounds.0 bounds.1
@@ -211,16 +211,16 @@ module _ (model : Rules) (lawful : IsLawful model) (kind : CheckKind) (s : State
 
   module _ (switches : ℕ → Bool) (by : (group : ℕ) → switches group ≡ switches_by table (verdicts_of model kind s) group) where
     -- a task after the groups that switch did so
-    abbrev pub after_switch : Standing → Standing
+    abbrev pub after_switch : LegTask → LegTask
     after_switch x = if switches x.group then record x { level = s.target } else x
 
-    after_switch_off : (x : Standing) → switches x.group ≡ false → (after_switch x).level ≡ x.level
-    after_switch_off x stays = ap (λ (y : Standing). y.level) (cond-false (switches x.group) (record x { level = s.target }) x stays)
+    after_switch_off : (x : LegTask) → switches x.group ≡ false → (after_switch x).level ≡ x.level
+    after_switch_off x stays = ap (λ (y : LegTask). y.level) (cond-false (switches x.group) (record x { level = s.target }) x stays)
 
-    after_switch_on : (x : Standing) → switches x.group ≡ true → (after_switch x).level ≡ s.target
-    after_switch_on x went = ap (λ (y : Standing). y.level) (cond-true (switches x.group) (record x { level = s.target }) x went)
+    after_switch_on : (x : LegTask) → switches x.group ≡ true → (after_switch x).level ≡ s.target
+    after_switch_on x went = ap (λ (y : LegTask). y.level) (cond-true (switches x.group) (record x { level = s.target }) x went)
 
-    on_after : (x : Standing) → nat_eq x.level s.target ≡ true → nat_eq (after_switch x).level s.target ≡ true
+    on_after : (x : LegTask) → nat_eq x.level s.target ≡ true → nat_eq (after_switch x).level s.target ≡ true
     on_after x on =
         ⊎_elim
         (λ (went : switches x.group ≡ true). eq-eqb (after_switch x).level s.target (after_switch_on x went))

@@ -7,17 +7,17 @@ use mathlib.Core.Path.{fun_ext}
 use Rattle.lp_stack.specs.TaskView.{TaskView}
 use Rattle.lp_numbers.specs.Numbers.{Numbers, has}
 use Rattle.lp_definitions.specs.Tasks.{Fate, Unused, Live, Dead}
-use Rattle.lp_definitions.specs.Leg.{Standing, State}
+use Rattle.lp_definitions.specs.Leg.{LegTask, State}
 use Rattle.lp_machine.specs.Machine.{view_of, waits_in}
-use Rattle.lp_machine.specs.Table.{Engine, slot, fate_at, standings, state_in}
+use Rattle.lp_machine.specs.Table.{Engine, slot, fate_at, leg_tasks, state_in}
 use Rattle.lp_tasks.specs.inside.Table.{is_off, is_in}
 use Rattle.lp_transition.specs.inside.Invariant.{IsEngine}
 use Rattle.lp_transition.specs.Scan.{waiting_view, views_of}
 use Rattle.lp_tasks.specs.Passing.{passing}
 use Rattle.lp_transition.specs.inside.ScanSteps.{waiting_slot}
 use Rattle.lp_tasks.proofs.Passing.{passing-skip, passing-both_is, passing-both_from}
-use Rattle.lp_tasks.proofs.MemberLemmas.{slot-below, member-is, member-from, behind-is, behind-from}
-use Rattle.lp_laws.proofs.Quantifiers.{same_bool}
+use Rattle.lp_tasks.proofs.MemberLemmas.{slot-below, member-is, member-from, waits-is, waits-from}
+use Rattle.lp_definitions.proofs.Quantifiers.{same_bool}
 use Rattle.lp_tasks.proofs.TableLemmas.{slot-zero}
 
 -- ---- The views of the waiting tasks
@@ -46,20 +46,20 @@ views_by limit s f test wide none is =
     ∙ ap (λ n. filter_map f (filter test (range_with_len 1 n))) (sym count)
     ∙ ap (filter_map f) (sym (passing-skip 0 1 limit test (omega arith) (omega arith) (λ k low high. let zero_is : k ≡ 0 = omega arith in rw zero_is none)))
 
-by_level : (target t : ℕ) (x : Standing) (used : Bool) (b : Bool) → nat_eq x.level target ≡ b → waiting_view target t (fate_at (Some x) used) ≡ (if not b then Some (view_of t x) else None)
+by_level : (target t : ℕ) (x : LegTask) (used : Bool) (b : Bool) → nat_eq x.level target ≡ b → waiting_view target t (fate_at (Some x) used) ≡ (if not b then Some (view_of t x) else None)
 by_level target t x used true e = cond-true (nat_eq x.level target) None (Some (view_of t x)) e
 by_level target t x used false e = cond-false (nat_eq x.level target) None (Some (view_of t x)) e
 
-in_slot : (target t : ℕ) (o : Option Standing) (used : Bool) → waiting_view target t (fate_at o used) ≡ (if is_off target o then option_map (view_of t) o else None)
+in_slot : (target t : ℕ) (o : Option LegTask) (used : Bool) → waiting_view target t (fate_at o used) ≡ (if is_off target o then option_map (view_of t) o else None)
 in_slot target t None true = refl
 in_slot target t None false = refl
 in_slot target t (Some x) used = by_level target t x used (nat_eq x.level target) refl
 
-view_where_waits : (t : ℕ) (b : Bool) (o : Option Standing) → (if b then option_map (view_of t) o else None) ≡ option_map (view_of t) (if b then o else None)
+view_where_waits : (t : ℕ) (b : Bool) (o : Option LegTask) → (if b then option_map (view_of t) o else None) ≡ option_map (view_of t) (if b then o else None)
 view_where_waits t true o = refl
 view_where_waits t false o = refl
 
-view_twice : (t : ℕ) (b : Bool) (o : Option Standing) → option_map (view_of t) (if b then o else None) ≡ (if b then option_map (view_of t) (if b then o else None) else None)
+view_twice : (t : ℕ) (b : Bool) (o : Option LegTask) → option_map (view_of t) (if b then o else None) ≡ (if b then option_map (view_of t) (if b then o else None) else None)
 view_twice t true o = refl
 view_twice t false o = refl
 
@@ -84,7 +84,7 @@ given_asked : (h : ℕ → Option TaskView) (asked : ℕ → Bool) → ((t : ℕ
 given_asked h asked same [] = refl
 given_asked h asked same (t ∷ ns) = given_cons h asked t (filter_map h ns) (filter asked ns) (h t) (asked t) refl refl (same t) (given_asked h asked same ns)
 
-view_task : (target t : ℕ) (fate : Fate Standing) (y : TaskView) → waiting_view target t fate ≡ Some y → y.task ≡ t
+view_task : (target t : ℕ) (fate : Fate LegTask) (y : TaskView) → waiting_view target t fate ≡ Some y → y.task ≡ t
 view_task target t Unused y e = absurd (cc)
 view_task target t Dead y e = absurd (cc)
 view_task target t (Live x) y e = of (nat_eq x.level target) e
@@ -115,10 +115,10 @@ tasks_given : (h : ℕ → Option TaskView) (test : ℕ → Bool) → ((t : ℕ)
 tasks_given h test is [] = refl
 tasks_given h test is (t ∷ ns) = task_cons t (filter_map h ns) (filter test ns) (h t) (test t) (is t) (tasks_given h test is ns)
 
-task_where : (target t : ℕ) (o : Option Standing) (used b : Bool) → b ≡ is_off target o → option_map (λ (y : TaskView). y.task) (waiting_view target t (fate_at o used)) ≡ (if b then Some t else None)
+task_where : (target t : ℕ) (o : Option LegTask) (used b : Bool) → b ≡ is_off target o → option_map (λ (y : TaskView). y.task) (waiting_view target t (fate_at o used)) ≡ (if b then Some t else None)
 task_where target t o used b e = ap (option_map (λ (y : TaskView). y.task)) (in_slot target t o used ∙ ap (λ c. if c then option_map (view_of t) o else None) (sym e)) ∙ of o b e
   where
-    of : (p : Option Standing) (c : Bool) → c ≡ is_off target p → option_map (λ (y : TaskView). y.task) (if c then option_map (view_of t) p else None) ≡ (if c then Some t else None)
+    of : (p : Option LegTask) (c : Bool) → c ≡ is_off target p → option_map (λ (y : TaskView). y.task) (if c then option_map (view_of t) p else None) ≡ (if c then Some t else None)
     of None true h = absurd (cc)
     of None false h = refl
     of (Some x) true h = refl
@@ -134,7 +134,7 @@ tasks_by limit s test wide none is =
 
 module _ (e : Engine) (waiting : Numbers) (kept : IsEngine e waiting) where
   -- the waiting set says who has a view
-  pub view-waiting : (t : ℕ) → waiting_view e.target t (standings e.table t) ≡ option_map (view_of t) (waiting_slot e.table waiting t)
+  pub view-waiting : (t : ℕ) → waiting_view e.target t (leg_tasks e.table t) ≡ option_map (view_of t) (waiting_slot e.table waiting t)
   view-waiting t =
       in_slot e.target t (slot e.table t) (has e.table.used t)
       ∙ ap (λ b. if b then option_map (view_of t) (slot e.table t) else None) (sym (kept.waits t))
@@ -162,15 +162,15 @@ module _ (e : Engine) (waiting : Numbers) (kept : IsEngine e waiting) where
 -- ---- The groups that wait
 
 -- a group waits where a waiting task is a member
-pub behind-in_order : (e : Engine) (waiting : Numbers) → IsEngine e waiting → (group : ℕ) → list_any (λ t. is_in group (slot e.table t)) (passing 0 65536 (has waiting)) ≡ waits_in (state_in e) group
-behind-in_order e waiting kept group =
+pub waits-in_order : (e : Engine) (waiting : Numbers) → IsEngine e waiting → (group : ℕ) → list_any (λ t. is_in group (slot e.table t)) (passing 0 65536 (has waiting)) ≡ waits_in (state_in e) group
+waits-in_order e waiting kept group =
     let empty = slot-zero e kept.sound in
     same_bool (list_any (λ t. is_in group (slot e.table t)) (passing 0 65536 (has waiting))) (waits_in (state_in e) group)
     (λ h.
     let b = passing-both_is 65536 (has waiting) (λ t. is_in group (slot e.table t)) h in
-    behind-from e.table e.patches kept.wide empty waiting e.target kept.waits group (record { number = b.number; waits = b.member; member = member-is e.table group b.number b.passed }))
+    waits-from e.table e.patches kept.wide empty waiting e.target kept.waits group (record { number = b.number; waits = b.member; member = member-is e.table group b.number b.passed }))
     (λ h.
-    let w = behind-is e.table e.patches kept.wide empty waiting e.target kept.waits group h in
+    let w = waits-is e.table e.patches kept.wide empty waiting e.target kept.waits group h in
     passing-both_from 65536 (has waiting) (λ t. is_in group (slot e.table t)) (record {
       number = w.number;
       below = slot-below e.table w.number w.member.task kept.wide w.member.there;

@@ -7,7 +7,7 @@ use Rattle.lp_model.specs.Rules.{Rules}
 use Rattle.lp_model.specs.declared.check.CheckKind.{CheckKind}
 use Rattle.lp_model.specs.declared.verdict.Verdict.{Verdict}
 use Rattle.lp_definitions.specs.Tasks.{Fate, Unused, Live, Dead}
-use Rattle.lp_definitions.specs.Leg.{Standing, State}
+use Rattle.lp_definitions.specs.Leg.{LegTask, State}
 use Rattle.lp_machine.specs.Machine.{view_of}
 use Rattle.lp_transition.specs.Scan.{waiting_view, views_of, verdict_of, verdicts_of}
 
@@ -42,9 +42,9 @@ range-is : {Y : Type 0} (h : ℕ → Option Y) (p : Y → Bool) (k a : ℕ) → 
 range-is h p zero a t = absurd (cc)
 range-is h p (suc k) a t = first-is h p a k (filter_map h (range_with_len (a + 1) k)) (h a) refl t (λ later. range-is h p k (a + 1) later)
 
-behind_first : {Y : Type 0} (p : Y → Bool) (o : Option Y) (rest : List Y) → list_any p rest ≡ true → list_any p (cons_option o rest) ≡ true
-behind_first p None rest t = t
-behind_first p (Some y) rest t = or_right (p y) (list_any p rest) t
+any_first : {Y : Type 0} (p : Y → Bool) (o : Option Y) (rest : List Y) → list_any p rest ≡ true → list_any p (cons_option o rest) ≡ true
+any_first p None rest t = t
+any_first p (Some y) rest t = or_right (p y) (list_any p rest) t
 
 range-from : {Y : Type 0} (h : ℕ → Option Y) (p : Y → Bool) (k a n : ℕ) (y : Y) → a ≤ n → n < a + k → h n ≡ Some y → p y ≡ true → list_any p (filter_map h (range_with_len a k)) ≡ true
 range-from h p zero a n y low high e t = absurd (omega arith)
@@ -52,7 +52,7 @@ range-from h p (suc k) a n y low high e t =
     let rest = filter_map h (range_with_len (a + 1) k) in
     ⊎_elim
     (λ (same : n ≡ a). ap (λ o. list_any p (cons_option o rest)) (ap h (sym same) ∙ e) ∙ or_left (p y) (list_any p rest) t)
-    (λ (ne : n ≡ a → ⊥). behind_first p (h a) rest (range-from h p k (a + 1) n y (omega (arith, ne)) (omega arith) e t))
+    (λ (ne : n ≡ a → ⊥). any_first p (h a) rest (range-from h p k (a + 1) n y (omega (arith, ne)) (omega arith) e t))
     (cases_eq n a)
 
 -- ---- The verdicts
@@ -60,12 +60,12 @@ range-from h p (suc k) a n y low high e t =
 -- a waiting task, whose verdict passes a test
 pub record Judged (model : Rules) (kind : CheckKind) (s : State) (p : Verdict → Bool) : Type 0 where
   pub number : ℕ
-  pub task : Standing
+  pub task : LegTask
   pub live : s.tasks number ≡ Live task
   pub off : nat_eq task.level s.target ≡ false
   pub passed : p (verdict_of model kind s.aim (view_of number task)) ≡ true
 
-judged : (model : Rules) (kind : CheckKind) (s : State) (p : Verdict → Bool) (t : ℕ) (y : TaskView) (fate : Fate Standing) → s.tasks t ≡ fate → waiting_view s.target t fate ≡ Some y → p (verdict_of model kind s.aim y) ≡ true → Judged model kind s p
+judged : (model : Rules) (kind : CheckKind) (s : State) (p : Verdict → Bool) (t : ℕ) (y : TaskView) (fate : Fate LegTask) → s.tasks t ≡ fate → waiting_view s.target t fate ≡ Some y → p (verdict_of model kind s.aim y) ≡ true → Judged model kind s p
 judged model kind s p t y Unused e given passed = absurd (cc)
 judged model kind s p t y Dead e given passed = absurd (cc)
 judged model kind s p t y (Live x) e given passed =

@@ -3,7 +3,7 @@ use Rattle.std.proofs.Common.{◌≡◌, ◌≢◌, ℕ, Bool, true, false, not,
 use Rattle.std.proofs.lemmas.Bool.{cond-true, cond-false, cases_Bool, cases_eq, eq-eqb, ne_eqb}
 use Rattle.std.specs.Option.{option_map}
 use Rattle.lp_numbers.specs.Numbers.{Numbers, has}
-use Rattle.lp_definitions.specs.Leg.{Standing}
+use Rattle.lp_definitions.specs.Leg.{LegTask}
 use Rattle.lp_machine.specs.Table.{Table, slot}
 use Rattle.lp_transition.specs.inside.ScanSteps.{switched_if, task_switches, IsTaskSwitched, AreSwitched}
 
@@ -17,20 +17,20 @@ and-false : (b : Bool) → (b && false) ≡ false
 and-false true = refl
 and-false false = refl
 
-switched-group : (switches : ℕ → Bool) (target : ℕ) (x : Standing) → (switched_if switches target x).group ≡ x.group
+switched-group : (switches : ℕ → Bool) (target : ℕ) (x : LegTask) → (switched_if switches target x).group ≡ x.group
 switched-group switches target x =
     ⊎_elim
-    (λ (went : switches x.group ≡ true). ap (λ (y : Standing). y.group) (cond-true (switches x.group) (record x { level = target }) x went))
-    (λ (stays : switches x.group ≡ false). ap (λ (y : Standing). y.group) (cond-false (switches x.group) (record x { level = target }) x stays))
+    (λ (went : switches x.group ≡ true). ap (λ (y : LegTask). y.group) (cond-true (switches x.group) (record x { level = target }) x went))
+    (λ (stays : switches x.group ≡ false). ap (λ (y : LegTask). y.group) (cond-false (switches x.group) (record x { level = target }) x stays))
     (cases_Bool (switches x.group))
 
-pub slot_stays : (switches : ℕ → Bool) (target : ℕ) (o : Option Standing) → task_switches switches o ≡ false → o ≡ option_map (switched_if switches target) o
+pub slot_stays : (switches : ℕ → Bool) (target : ℕ) (o : Option LegTask) → task_switches switches o ≡ false → o ≡ option_map (switched_if switches target) o
 slot_stays switches target None h = refl
 slot_stays switches target (Some x) h = ap Some (sym (cond-false (switches x.group) (record x { level = target }) x h))
 
 -- ---- One task after another
 
-switched-again : (switches : ℕ → Bool) (target : ℕ) (x : Standing) → switched_if switches target (switched_if switches target x) ≡ switched_if switches target x
+switched-again : (switches : ℕ → Bool) (target : ℕ) (x : LegTask) → switched_if switches target (switched_if switches target x) ≡ switched_if switches target x
 switched-again switches target x =
     ⊎_elim
     (λ (went : switches x.group ≡ true).
@@ -40,13 +40,13 @@ switched-again switches target x =
     (cases_Bool (switches x.group))
 
 -- who switched already stays where it is
-slot_again : (switches : ℕ → Bool) (target : ℕ) (b : Bool) (o : Option Standing) → option_map (switched_if switches target) (if b then option_map (switched_if switches target) o else o) ≡ option_map (switched_if switches target) o
+slot_again : (switches : ℕ → Bool) (target : ℕ) (b : Bool) (o : Option LegTask) → option_map (switched_if switches target) (if b then option_map (switched_if switches target) o else o) ≡ option_map (switched_if switches target) o
 slot_again switches target false o = refl
 slot_again switches target true None = refl
 slot_again switches target true (Some x) = ap Some (switched-again switches target x)
 
 -- who switched is still of its group
-switches_again : (switches : ℕ → Bool) (target : ℕ) (b : Bool) (o : Option Standing) → task_switches switches (if b then option_map (switched_if switches target) o else o) ≡ task_switches switches o
+switches_again : (switches : ℕ → Bool) (target : ℕ) (b : Bool) (o : Option LegTask) → task_switches switches (if b then option_map (switched_if switches target) o else o) ≡ task_switches switches o
 switches_again switches target false o = refl
 switches_again switches target true None = refl
 switches_again switches target true (Some x) = ap switches (switched-group switches target x)

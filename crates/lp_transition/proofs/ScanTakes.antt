@@ -12,15 +12,15 @@ use Rattle.lp_model.specs.declared.check.CheckKind.{CheckKind}
 use Rattle.lp_model.specs.declared.check.CheckKind.TheVariants as Check
 use Rattle.lp_model.specs.declared.verdict.Verdict.{Verdict}
 use Rattle.lp_definitions.specs.declared.event.Event.{Event}
-use Rattle.lp_definitions.specs.declared.event.Event.TheVariants.{Call, Ret, Sleep, Wake, Enter, Exit, Idle, Fork, Die, Walk, Stop, Enable, Disable, Reverse}
+use Rattle.lp_definitions.specs.declared.event.Event.TheVariants.{Call, Ret, Sleep, Wake, Enter, Exit, Idle, Resched, Fork, Die, Walk, Stop, Enable, Disable, Reverse}
 use Rattle.lp_definitions.specs.Events.{is_scan}
 use Rattle.lp_definitions.specs.Tasks.{Unused, Live, map_live}
-use Rattle.lp_definitions.specs.Leg.{Standing, State}
+use Rattle.lp_definitions.specs.Leg.{LegTask, State}
 use Rattle.lp_definitions.specs.Sound.{IsSound}
 use Rattle.lp_machine.specs.Machine.{switches_at, switched_groups, affected, refusal_of, next, answer}
-use Rattle.lp_machine.specs.Table.{Table, Engine, IsWide, slot, fate_at, standings, state_in}
+use Rattle.lp_machine.specs.Table.{Table, Engine, IsWide, slot, fate_at, leg_tasks, state_in}
 use Rattle.lp_tasks.specs.inside.Table.{is_off}
-use Rattle.lp_transition.specs.inside.Invariant.{IsEngine}
+use Rattle.lp_transition.specs.inside.Invariant.{IsBetween, IsEngine}
 use Rattle.lp_transition.specs.Weigh.{Weighed, IsWeighed, AreVerdictsFor}
 use Rattle.lp_transition.specs.Scan.{verdicts_of, AreEnough}
 use Rattle.lp_transition.specs.inside.ScanSteps.{is_judged, switches_by, switched_if, task_switches, AreSwitched, groups_of, is_listed}
@@ -35,21 +35,21 @@ use Rattle.lp_transition.proofs.ScanAnswers.{groups_of-switched, switching_by, s
 
 -- ---- The tasks
 
-fate-map : (f : Standing → Standing) (o : Option Standing) (used : Bool) → fate_at (option_map f o) used ≡ map_live f (fate_at o used)
+fate-map : (f : LegTask → LegTask) (o : Option LegTask) (used : Bool) → fate_at (option_map f o) used ≡ map_live f (fate_at o used)
 fate-map f None true = refl
 fate-map f None false = refl
 fate-map f (Some x) used = refl
 
 -- a task on the target is as it was, whether its group switches or not
-switched_on : (switches : ℕ → Bool) (target : ℕ) (x : Standing) → x.level ≡ target → x ≡ switched_if switches target x
+switched_on : (switches : ℕ → Bool) (target : ℕ) (x : LegTask) → x.level ≡ target → x ≡ switched_if switches target x
 switched_on switches target x e =
     ⊎_elim
-    (λ (went : switches x.group ≡ true). ap (λ (l : ℕ). let y : Standing = record x { level = l } in y) e ∙ sym (cond-true (switches x.group) (record x { level = target }) x went))
+    (λ (went : switches x.group ≡ true). ap (λ (l : ℕ). let y : LegTask = record x { level = l } in y) e ∙ sym (cond-true (switches x.group) (record x { level = target }) x went))
     (λ (stays : switches x.group ≡ false). sym (cond-false (switches x.group) (record x { level = target }) x stays))
     (cases_Bool (switches x.group))
 
 -- who doesn't wait is on the target
-slot_switched : (switches all : ℕ → Bool) (target : ℕ) (b : Bool) (o : Option Standing) → b ≡ is_off target o → ((x : Standing) → o ≡ Some x → switches x.group ≡ all x.group) → (if b then option_map (switched_if switches target) o else o) ≡ option_map (switched_if all target) o
+slot_switched : (switches all : ℕ → Bool) (target : ℕ) (b : Bool) (o : Option LegTask) → b ≡ is_off target o → ((x : LegTask) → o ≡ Some x → switches x.group ≡ all x.group) → (if b then option_map (switched_if switches target) o else o) ≡ option_map (switched_if all target) o
 slot_switched switches all target true None e same = refl
 slot_switched switches all target false None e same = refl
 slot_switched switches all target true (Some x) e same = ap (λ (c : Bool). Some (if c then record x { level = target } else x)) (same x refl)
@@ -60,16 +60,30 @@ slot_switched switches all target false (Some x) e same =
     (cases_Bool (nat_eq x.level target))))
 
 -- who switched waits no longer
-waits_switched : (switches : ℕ → Bool) (target : ℕ) (b : Bool) (o : Option Standing) → b ≡ is_off target o → (b && not (task_switches switches o)) ≡ is_off target (if b then option_map (switched_if switches target) o else o)
+waits_switched : (switches : ℕ → Bool) (target : ℕ) (b : Bool) (o : Option LegTask) → b ≡ is_off target o → (b && not (task_switches switches o)) ≡ is_off target (if b then option_map (switched_if switches target) o else o)
 waits_switched switches target true None e = absurd (cc)
 waits_switched switches target false None e = refl
 waits_switched switches target false (Some x) e = e
 waits_switched switches target true (Some x) e =
     ⊎_elim
     (λ (went : switches x.group ≡ true).
-    ap not went ∙ sym (ap (λ (y : Standing). not (nat_eq y.level target)) (cond-true (switches x.group) (record x { level = target }) x went) ∙ not_from_true (nat_eq target target) (eq-eqb target target refl)))
+    ap not went ∙ sym (ap (λ (y : LegTask). not (nat_eq y.level target)) (cond-true (switches x.group) (record x { level = target }) x went) ∙ not_from_true (nat_eq target target) (eq-eqb target target refl)))
     (λ (stays : switches x.group ≡ false).
-    ap not stays ∙ e ∙ sym (ap (λ (y : Standing). not (nat_eq y.level target)) (cond-false (switches x.group) (record x { level = target }) x stays)))
+    ap not stays ∙ e ∙ sym (ap (λ (y : LegTask). not (nat_eq y.level target)) (cond-false (switches x.group) (record x { level = target }) x stays)))
+    (cases_Bool (switches x.group))
+
+-- who switched is on the target, and who didn't stays where it was
+between_switched : (switches : ℕ → Bool) (from target : ℕ) (b : Bool) (o : Option LegTask) → IsBetween from target o → IsBetween from target (if b then option_map (switched_if switches target) o else o)
+between_switched switches from target false o between off = between off
+between_switched switches from target true None between off = between off
+between_switched switches from target true (Some x) between off =
+    ⊎_elim
+    (λ (went : switches x.group ≡ true).
+    let there : switched_if switches target x ≡ record x { level = target } = cond-true (switches x.group) (record x { level = target }) x went in
+    absurd (false≢true (sym (not_from_true (nat_eq target target) (eq-eqb target target refl)) ∙ sym (ap (λ (y : LegTask). not (nat_eq y.level target)) there) ∙ off)))
+    (λ (stays : switches x.group ≡ false).
+    let same : switched_if switches target x ≡ x = cond-false (switches x.group) (record x { level = target }) x stays in
+    ap (λ (y : LegTask). not (nat_eq y.level from)) same ∙ between (sym (ap (λ (y : LegTask). not (nat_eq y.level target)) same) ∙ off))
     (cases_Bool (switches x.group))
 
 -- ---- All that wait
@@ -82,7 +96,7 @@ record Went (switches : ℕ → Bool) (target : ℕ) (old new : Table) (waiting 
   used : new.used ≡ old.used
   wide : IsWide new
 
-slot_taken : (switches : ℕ → Bool) (target : ℕ) (taken waits : Bool) (o : Option Standing) → (taken ≡ true → waits ≡ true) → (waits ≡ true → task_switches switches o ≡ true → taken ≡ true) → (if taken then option_map (switched_if switches target) o else o) ≡ (if waits then option_map (switched_if switches target) o else o)
+slot_taken : (switches : ℕ → Bool) (target : ℕ) (taken waits : Bool) (o : Option LegTask) → (taken ≡ true → waits ≡ true) → (waits ≡ true → task_switches switches o ≡ true → taken ≡ true) → (if taken then option_map (switched_if switches target) o else o) ≡ (if waits then option_map (switched_if switches target) o else o)
 slot_taken switches target true true o waiting switched_groups = refl
 slot_taken switches target true false o waiting switched_groups = absurd (false≢true (waiting refl))
 slot_taken switches target false false o waiting switched_groups = refl
@@ -106,26 +120,26 @@ went_all taken switches target old new waiting left wide are_switched waits swit
 
 -- a waiting task is live and off the target
 record OffTarget (e : Engine) (t : ℕ) : Type 0 where
-  task : Standing
+  task : LegTask
   there : slot e.table t ≡ Some task
   off : nat_eq task.level e.target ≡ false
 
-off_target : (e : Engine) (t : ℕ) (o : Option Standing) → slot e.table t ≡ o → is_off e.target o ≡ true → OffTarget e t
+off_target : (e : Engine) (t : ℕ) (o : Option LegTask) → slot e.table t ≡ o → is_off e.target o ≡ true → OffTarget e t
 off_target e t None there h = absurd (cc)
 off_target e t (Some x) there h = record { task = x; there = there; off = not-true (nat_eq x.level e.target) h }
 
 -- ---- The groups
 
-unused_past : (table : Table) (g : ℕ) → IsWide table → 65536 ≤ g → standings table g ≡ Unused
+unused_past : (table : Table) (g : ℕ) → IsWide table → 65536 ≤ g → leg_tasks table g ≡ Unused
 unused_past table g wide h =
     ap₂ fate_at (get_or_past table.slots g None (omega (arith, wide.slots))) (get_or_past table.used g false (omega (arith, wide.used)))
 
 -- a live task's group is a 16-bit number
-pub group_fits : (e : Engine) (t : ℕ) (x : Standing) → IsSound (state_in e) → IsWide e.table → slot e.table t ≡ Some x → x.group < 65536
+pub group_fits : (e : Engine) (t : ℕ) (x : LegTask) → IsSound (state_in e) → IsWide e.table → slot e.table t ≡ Some x → x.group < 65536
 group_fits e t x sound wide there =
     ⊎_elim
     (λ (zero_is : x.group ≡ 0). omega arith)
-    (λ (known : standings e.table x.group ≡ Unused → ⊥). ⊎_elim (λ (h : x.group < 65536). h) (λ (h : 65536 ≤ x.group). absurd (known (unused_past e.table x.group wide h))) (cases_lt x.group 65536))
+    (λ (known : leg_tasks e.table x.group ≡ Unused → ⊥). ⊎_elim (λ (h : x.group < 65536). h) (λ (h : 65536 ≤ x.group). absurd (known (unused_past e.table x.group wide h))) (cases_lt x.group 65536))
     (sound.grouped t x (live_from_slot e.table t x there))
 
 module _ (model : Rules) (lawful : IsLawful model) where
@@ -135,8 +149,8 @@ module _ (model : Rules) (lawful : IsLawful model) where
       same g h ∙ ap (list_any (nat_eq g)) (e ∙ switching_by model 65536 now event (switches_at model now event) wide (λ group. refl)) ∙ passing-any 65536 (switches_at model now event) g h
 
   -- the tasks after the groups switched
-  standings_switched : (e : Engine) (waiting left : Numbers) (table : Table) (switches all : ℕ → Bool) → IsEngine e waiting → Went switches e.target e.table table waiting left → ((g : ℕ) → g < 65536 → switches g ≡ all g) → standings table ≡ (λ t. map_live (switched_if all e.target) (standings e.table t))
-  standings_switched e waiting left table switches all kept went same =
+  leg_tasks_switched : (e : Engine) (waiting left : Numbers) (table : Table) (switches all : ℕ → Bool) → IsEngine e waiting → Went switches e.target e.table table waiting left → ((g : ℕ) → g < 65536 → switches g ≡ all g) → leg_tasks table ≡ (λ t. map_live (switched_if all e.target) (leg_tasks e.table t))
+  leg_tasks_switched e waiting left table switches all kept went same =
       fun_ext (λ t.
       ap₂ fate_at
       (went.tasks t ∙ slot_switched switches all e.target (has waiting t) (slot e.table t) (kept.waits t) (λ x there. same x.group (group_fits e t x kept.sound kept.wide there)))
@@ -149,6 +163,7 @@ module _ (model : Rules) (lawful : IsLawful model) where
     wide = went.wide;
     waiting_wide = went.numbers ∙ kept.waiting_wide;
     waits = λ t. went.waits t ∙ waits_switched switches e.target (has waiting t) (slot e.table t) (kept.waits t) ∙ ap (is_off e.target) (sym (went.tasks t));
+    between = λ t. subst (IsBetween e.from e.target) (sym (went.tasks t)) (between_switched switches e.from e.target (has waiting t) (slot e.table t) (kept.between t));
     from_fits = kept.from_fits;
     target_fits = kept.target_fits;
     number_fits = omega arith;
@@ -185,6 +200,7 @@ module _ (model : Rules) (lawful : IsLawful model) where
   scan-rises s (Enter t) scan = absurd (cc)
   scan-rises s (Exit t) scan = absurd (cc)
   scan-rises s (Idle t) scan = absurd (cc)
+  scan-rises s (Resched t) scan = absurd (cc)
   scan-rises s (Fork p c how) scan = absurd (cc)
   scan-rises s (Die t) scan = absurd (cc)
   scan-rises s Enable scan = absurd (cc)
@@ -200,7 +216,7 @@ module _ (model : Rules) (lawful : IsLawful model) where
   accepted_stop s = refl
 
   module _ (e : Engine) (waiting left : Numbers) (table : Table) (switching : ℕ → Bool) (vs : List Verdict) (kept : IsEngine e waiting) (room : e.number < 1000000) (are_switched : AreSwitched (is_judged vs) switching e.target e.table table waiting left) where
-    there : (t : ℕ) (x : Standing) → standings e.table t ≡ Live x → slot e.table t ≡ Some x
+    there : (t : ℕ) (x : LegTask) → leg_tasks e.table t ≡ Live x → slot e.table t ≡ Some x
     there t x live = slot_from_live e.table t x live
 
     -- who was taken waits, and who waits and switches was taken
@@ -223,7 +239,7 @@ module _ (model : Rules) (lawful : IsLawful model) where
         let switches = over_is now Walk switching (groups_of (answer model s Walk).what) (omega arith) (walk_listed s) same in
         let went = went_by Check.Walk enough (λ g h. switches g h ∙ switches-walk model lawful 65536 s (omega arith) kept.sound e.table there g) in
         switches_there e waiting left table switching Walk kept room went
-        (state-with_table e table (λ t. map_live (switched_if (switches_at model now Walk) e.target) (standings e.table t)) (standings_switched e waiting left table switching (switches_at model now Walk) kept went switches)
+        (state-with_table e table (λ t. map_live (switched_if (switches_at model now Walk) e.target) (leg_tasks e.table t)) (leg_tasks_switched e waiting left table switching (switches_at model now Walk) kept went switches)
         ∙ sym (next-accepted model s Walk (accepted s) refl))
 
     takes_stop : AreEnough model Check.Stop (state_in e) vs → ((g : ℕ) → g < 65536 → switching g ≡ list_any (nat_eq g) (groups_of (answer model (state_in e) Stop).what)) → HasTaken model e Stop (with_table table e) left
@@ -233,7 +249,7 @@ module _ (model : Rules) (lawful : IsLawful model) where
         let switches = over_is now Stop switching (groups_of (answer model s Stop).what) (omega arith) (stop_listed s) same in
         let went = went_by Check.Stop enough (λ g h. switches g h ∙ switches-stop model lawful 65536 s (omega arith) kept.sound e.table there g) in
         switches_there e waiting left table switching Stop kept room went
-        (state-with_table e table (λ t. map_live (switched_if (switches_at model now Stop) e.target) (standings e.table t)) (standings_switched e waiting left table switching (switches_at model now Stop) kept went switches)
+        (state-with_table e table (λ t. map_live (switched_if (switches_at model now Stop) e.target) (leg_tasks e.table t)) (leg_tasks_switched e waiting left table switching (switches_at model now Stop) kept went switches)
         ∙ sym (next-accepted model s Stop (accepted_stop s) refl))
 
     takes_event : (event : Event) → is_scan event ≡ true → AreVerdictsFor model (state_in e) event vs → ((g : ℕ) → g < 65536 → switching g ≡ list_any (nat_eq g) (groups_of (answer model (state_in e) event).what)) → HasTaken model e event (with_table table e) left
@@ -246,6 +262,7 @@ module _ (model : Rules) (lawful : IsLawful model) where
     takes_event (Enter t) scan enough same = absurd (cc)
     takes_event (Exit t) scan enough same = absurd (cc)
     takes_event (Idle t) scan enough same = absurd (cc)
+    takes_event (Resched t) scan enough same = absurd (cc)
     takes_event (Fork p c how) scan enough same = absurd (cc)
     takes_event (Die t) scan enough same = absurd (cc)
     takes_event Enable scan enough same = absurd (cc)

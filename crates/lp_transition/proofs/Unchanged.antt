@@ -12,19 +12,19 @@ use Rattle.lp_model.specs.declared.check.ForkKind.{ForkKind}
 use Rattle.lp_model.specs.declared.check.CheckKind.TheVariants as kind
 use Rattle.lp_model.specs.declared.verdict.Verdict.{Verdict}
 use Rattle.lp_definitions.specs.declared.event.Event.{Event}
-use Rattle.lp_definitions.specs.declared.event.Event.TheVariants.{Call, Ret, Sleep, Wake, Enter, Exit, Idle, Fork, Die, Walk, Stop, Enable, Disable, Reverse}
+use Rattle.lp_definitions.specs.declared.event.Event.TheVariants.{Call, Ret, Sleep, Wake, Enter, Exit, Idle, Resched, Fork, Die, Walk, Stop, Enable, Disable, Reverse}
 use Rattle.lp_definitions.specs.declared.refusal.Refusal.{Refusal}
 use Rattle.lp_definitions.specs.Events.{is_control}
 use Rattle.lp_definitions.specs.Tasks.{Fate, Unused, Live, Dead, map_live, change}
-use Rattle.lp_definitions.specs.Leg.{Standing, State}
+use Rattle.lp_definitions.specs.Leg.{LegTask, State}
 use Rattle.lp_definitions.specs.Sound.{IsSound}
 use Rattle.lp_machine.specs.Machine.{view_of, put_in, calling, returning, bearing, own_effect, switches_at, switched_task, refusal_of, counted, affected, with_switches, next}
-use Rattle.lp_machine.specs.Table.{Table, Engine, IsWide, slot, standings, state_in}
+use Rattle.lp_machine.specs.Table.{Table, Engine, IsWide, slot, leg_tasks, state_in}
 use Rattle.lp_transition.specs.Scan.{is_scan_kind, scan_event, verdicts_of, RefusesMember, MayLeaveOut, AreEnough}
 use Rattle.lp_transition.specs.Weigh.{child_of, born_by, born_of, AreVerdictsFor}
 use Rattle.lp_tasks.specs.inside.Table.{changed, is_off, is_in, with_task}
 use Rattle.lp_transition.specs.inside.Invariant.{IsEngine, KeptScan, AreUnchanged, IsNoted, IsCore}
-use Rattle.lp_tasks.specs.inside.Points.{point_event}
+use Rattle.lp_tasks.specs.inside.OwnChecks.{own_check_event}
 use Rattle.lp_transition.specs.inside.ScanSteps.{is_found, switches_by, admits_task}
 use Rattle.lp_machine.proofs.EngineLemmas.{next-refused, next-accepted}
 use Rattle.lp_transition.proofs.Effects.{HasTaken}
@@ -43,6 +43,7 @@ touches (Wake a) t = nat_eq t a.0
 touches (Enter a) t = nat_eq t a.0
 touches (Exit a) t = nat_eq t a.0
 touches (Idle a) t = nat_eq t a.0
+touches (Resched a) t = nat_eq t a.0
 touches (Fork p c how) t = nat_eq t c.0
 touches (Die a) t = nat_eq t a.0
 touches Walk t = false
@@ -72,6 +73,7 @@ module _ (model : Rules) (s : State) (event : Event) where
   own_same (Enter a) t out = cond-false (nat_eq t a.0) (map_live (put_in Kernel) (s.tasks t)) (s.tasks t) out
   own_same (Exit a) t out = cond-false (nat_eq t a.0) (map_live (put_in User) (s.tasks t)) (s.tasks t) out
   own_same (Idle a) t out = refl
+  own_same (Resched a) t out = refl
   own_same (Fork p c how) t out = cond-false (nat_eq t c.0) (map_live (bearing model.child_group c.0 how) (s.tasks p.0)) (s.tasks t) out
   own_same (Die a) t out = cond-false (nat_eq t a.0) Dead (s.tasks t) out
   own_same Walk t out = refl
@@ -81,17 +83,17 @@ module _ (model : Rules) (s : State) (event : Event) where
   own_same Reverse t out = refl
 
   -- who is off the target afterwards didn't switch
-  not_switched : (y : Standing) (goes : Bool) → switches_at model now event y.group ≡ goes → nat_eq (switched_task model now event y).level s.target ≡ false → switches_at model now event y.group ≡ false
+  not_switched : (y : LegTask) (goes : Bool) → switches_at model now event y.group ≡ goes → nat_eq (switched_task model now event y).level s.target ≡ false → switches_at model now event y.group ≡ false
   not_switched y true e off =
       let there : nat_eq s.target s.target ≡ false = ap (λ b. nat_eq (if b then record y { level = s.target } else y).level s.target) (sym e) ∙ off in
       absurd (false≢true (sym there ∙ eq-eqb s.target s.target refl))
   not_switched y false e off = e
 
-  pub switched_not : (y : Standing) → switches_at model now event y.group ≡ false → switched_task model now event y ≡ y
+  pub switched_not : (y : LegTask) → switches_at model now event y.group ≡ false → switched_task model now event y ≡ y
   switched_not y stays = cond-false (switches_at model now event y.group) (record y { level = s.target }) y stays
 
   -- who waits afterwards stands as after the event's own effect, and its group didn't switch
-  pub left : (t : ℕ) (x : Standing) → (with_switches model s event).tasks t ≡ Live x → nat_eq x.level s.target ≡ false → (now.tasks t ≡ Live x) × (switches_at model now event x.group ≡ false)
+  pub left : (t : ℕ) (x : LegTask) → (with_switches model s event).tasks t ≡ Live x → nat_eq x.level s.target ≡ false → (now.tasks t ≡ Live x) × (switches_at model now event x.group ≡ false)
   left t x live off =
       let w = live_from (switched_task model now event) (now.tasks t) x live in
       let stays = not_switched w.0 (switches_at model now event w.0.group) refl (ap (λ y. nat_eq y.level s.target) w.2 ∙ off) in
@@ -99,15 +101,15 @@ module _ (model : Rules) (s : State) (event : Event) where
       (w.1 ∙ ap Live same, ap (λ y. switches_at model now event y.group) (sym same) ∙ stays)
 
   -- to whom nothing happens, and whose group doesn't switch, stands as before
-  pub stands_still : (t : ℕ) (x : Standing) → touches event t ≡ false → s.tasks t ≡ Live x → switches_at model now event x.group ≡ false → (with_switches model s event).tasks t ≡ Live x
+  pub stands_still : (t : ℕ) (x : LegTask) → touches event t ≡ false → s.tasks t ≡ Live x → switches_at model now event x.group ≡ false → (with_switches model s event).tasks t ≡ Live x
   stands_still t x apart live stays =
       ap (map_live (switched_task model now event)) (own_same event t apart ∙ live) ∙ ap Live (switched_not x stays)
 
   -- the groups of those to whom something happens are in the set before it and after it, and no group left the set; so too with those tasks
   pub record TakesIn (old new : KeptScan) : Type 0 where
     pub keeps : (group : ℕ) → has new.changed group ≡ false → has old.changed group ≡ false
-    pub before : (t : ℕ) (x : Standing) → touches event t ≡ true → s.tasks t ≡ Live x → has new.changed x.group ≡ true
-    pub after : (t : ℕ) (x : Standing) → touches event t ≡ true → (affected model s event).tasks t ≡ Live x → has new.changed x.group ≡ true
+    pub before : (t : ℕ) (x : LegTask) → touches event t ≡ true → s.tasks t ≡ Live x → has new.changed x.group ≡ true
+    pub after : (t : ℕ) (x : LegTask) → touches event t ≡ true → (affected model s event).tasks t ≡ Live x → has new.changed x.group ≡ true
     pub spares : (t : ℕ) → has new.may_refuse t ≡ false → has old.may_refuse t ≡ false
     pub doubts : (t : ℕ) → touches event t ≡ true → has new.may_refuse t ≡ true
 
@@ -163,13 +165,15 @@ scan_touches kind.Walk t = refl
 scan_touches kind.Stop t = refl
 scan_touches kind.KernelExit t = refl
 scan_touches kind.IdlePoint t = refl
+scan_touches kind.Resched t = refl
 
-module _ (model : Rules) (lawful : IsLawful model) (limit : ℕ) (s : State) (wide : suc s.bounds.tasks ≡ limit) (sound : IsSound s) (table : Table) (there : (t : ℕ) (x : Standing) → s.tasks t ≡ Live x → slot table t ≡ Some x) where
+module _ (model : Rules) (lawful : IsLawful model) (limit : ℕ) (s : State) (wide : suc s.bounds.tasks ≡ limit) (sound : IsSound s) (table : Table) (there : (t : ℕ) (x : LegTask) → s.tasks t ≡ Live x → slot table t ≡ Some x) where
   scan_switches : (on : CheckKind) → is_scan_kind on ≡ true → (group : ℕ) → switches_at model (affected model s (scan_event on)) (scan_event on) group ≡ switches_by table (verdicts_of model on s) group
   scan_switches kind.Walk scan group = switches-walk model lawful limit s wide sound table there group
   scan_switches kind.Stop scan group = switches-stop model lawful limit s wide sound table there group
   scan_switches kind.KernelExit scan group = absurd (cc)
   scan_switches kind.IdlePoint scan group = absurd (cc)
+  scan_switches kind.Resched scan group = absurd (cc)
 
   -- of a group that waits after a scan, the scan refused a member
   scan_refused : (on : CheckKind) → is_scan_kind on ≡ true → (asked : ℕ → Bool) → MayLeaveOut model on (with_switches model s (scan_event on)) asked
@@ -205,14 +209,14 @@ module _ (model : Rules) (lawful : IsLawful model) (limit : ℕ) (s : State) (wi
 
 -- who waits after a scan, and isn't among those that one of its kind may refuse, was admitted by it or by one before
 module _ (model : Rules) (s : State) (on : CheckKind) (verdicts : List Verdict) (enough : AreEnough model on s verdicts) (waiting : Numbers) (before after : KeptScan) (noted : IsNoted on waiting verdicts before after) (was : ForSome before.kind (λ k. AreUnchanged model k s before)) where
-  scan_admits : (t : ℕ) (x : Standing) → (with_switches model s (scan_event on)).tasks t ≡ Live x → nat_eq x.level s.target ≡ false → has waiting t ≡ true → has after.may_refuse t ≡ false → model.blame on (view_of t x) s.aim ≡ None
+  scan_admits : (t : ℕ) (x : LegTask) → (with_switches model s (scan_event on)).tasks t ≡ Live x → nat_eq x.level s.target ≡ false → has waiting t ≡ true → has after.may_refuse t ≡ false → model.blame on (view_of t x) s.aim ≡ None
   scan_admits t x live off waits out =
       let w = left model s (scan_event on) t x live off in
       let stood : s.tasks t ≡ Live x = sym (own_same model s (scan_event on) (scan_event on) t (scan_touches on t)) ∙ w.0 in
       ⊎_elim
       (λ (told : list_any (admits_task t) verdicts ≡ true). admitted-is model on s verdicts enough t x stood told)
-      (λ (silent : list_any (admits_task t) verdicts ≡ false).
-      let sure = spared (has noted.doubted t) (list_any (admits_task t) verdicts) silent (sym (noted.left t) ∙ out) in
+      (λ (unsaid : list_any (admits_task t) verdicts ≡ false).
+      let sure = spared (has noted.doubted t) (list_any (admits_task t) verdicts) unsaid (sym (noted.left t) ∙ out) in
       ⊎_elim
       (λ (again : (before.kind ≡ Some on) × (noted.doubted ≡ before.may_refuse)). (was on again.0).admitted t x stood off (ap (λ set. has set t) (sym again.1) ∙ sure))
       (λ (all : noted.doubted ≡ waiting). absurd (false≢true (sym sure ∙ (ap (λ set. has set t) all ∙ waits))))
@@ -220,9 +224,9 @@ module _ (model : Rules) (s : State) (on : CheckKind) (verdicts : List Verdict) 
       (cases_Bool (list_any (admits_task t) verdicts))
     where
       spared : (a b : Bool) → b ≡ false → (a && not b) ≡ false → a ≡ false
-      spared false b silent h = refl
-      spared true false silent h = absurd (cc)
-      spared true true silent h = absurd (cc)
+      spared false b unsaid h = refl
+      spared true false unsaid h = absurd (cc)
+      spared true true unsaid h = absurd (cc)
 
 -- ---- What code keeps
 
@@ -265,7 +269,7 @@ module _ (model : Rules) (e old new : Engine) (waiting left_waiting : Numbers) (
     core_stays apart same = core_takes (ap (λ (l : KeptScan). l.kind) same) (λ some. stays_in model (state_in e) event before after apart same)
 
     -- who waits after the event is in the set of those that wait
-    waits_after : (t : ℕ) (x : Standing) → (with_switches model (state_in e) event).tasks t ≡ Live x → nat_eq x.level (state_in e).target ≡ false → has left_waiting t ≡ true
+    waits_after : (t : ℕ) (x : LegTask) → (with_switches model (state_in e) event).tasks t ≡ Live x → nat_eq x.level (state_in e).target ≡ false → has left_waiting t ≡ true
     waits_after t x live off =
         let there = slot_from_live new.table t x (ap (λ (st : State). st.tasks t) switched ∙ live) in
         taken.kept.waits t ∙ ap (is_off new.target) there ∙ not_from_false (nat_eq x.level new.target) (ap (λ (st : State). nat_eq x.level st.target) switched ∙ off)
@@ -304,12 +308,12 @@ Notes table a before after =
     ((group : ℕ) → has after.changed group ≡ (has before.changed group || (is_some before.kind && is_in group (slot table a))))
     × ((t : ℕ) → has after.may_refuse t ≡ (has before.may_refuse t || (is_some before.kind && nat_eq t a)))
 
-in_same : (group : ℕ) (f : Standing → Standing) → ((x : Standing) → (f x).group ≡ x.group) → (slot : Option Standing) → is_in group (option_map f slot) ≡ is_in group slot
+in_same : (group : ℕ) (f : LegTask → LegTask) → ((x : LegTask) → (f x).group ≡ x.group) → (slot : Option LegTask) → is_in group (option_map f slot) ≡ is_in group slot
 in_same group f groups None = refl
 in_same group f groups (Some x) = ap (λ n. nat_eq n group) (groups x)
 
--- what is noted of a task behind a change that leaves it in its group is what is noted of it before the change
-pub notes_before : (table new : Table) (a : ℕ) (f : Standing → Standing) (before after : KeptScan) → IsWide table → a < 65536 → new ≡ changed a f table → ((x : Standing) → (f x).group ≡ x.group) → Notes new a before after → Notes table a before after
+-- what is noted of a task after a change that leaves it in its group is what is noted of it before the change
+pub notes_before : (table new : Table) (a : ℕ) (f : LegTask → LegTask) (before after : KeptScan) → IsWide table → a < 65536 → new ≡ changed a f table → ((x : LegTask) → (f x).group ≡ x.group) → Notes new a before after → Notes table a before after
 notes_before table new a f before after wide h is groups noted = (
   λ group.
       let same : is_in group (slot new a) ≡ is_in group (slot table a) =
@@ -334,7 +338,7 @@ module _ (table : Table) (a : ℕ) (before after : KeptScan) (noted : Notes tabl
       noted.1 t
       ∙ or_right (has before.may_refuse t) (is_some before.kind && nat_eq t a) (and_from (is_some before.kind) (nat_eq t a) some hit)
 
-  taken_in : (x : Standing) → slot table a ≡ Some x → has after.changed x.group ≡ true
+  taken_in : (x : LegTask) → slot table a ≡ Some x → has after.changed x.group ≡ true
   taken_in x there =
       noted.0 x.group
       ∙ or_right (has before.changed x.group) (is_some before.kind && is_in x.group (slot table a))
@@ -342,15 +346,15 @@ module _ (table : Table) (a : ℕ) (before after : KeptScan) (noted : Notes tabl
 
 module _ (model : Rules) (e : Engine) (event : Event) (before after : KeptScan) where
   -- an event whose own effect is a change of a task, which keeps its group
-  pub changes_in : (a : ℕ) (f : Standing → Standing) → Notes e.table a before after → ((t : ℕ) → touches event t ≡ nat_eq t a) → own_effect model.child_group (suc e.number) event (standings e.table) ≡ change a f (standings e.table) → ((x : Standing) → (f x).group ≡ x.group)
+  pub changes_in : (a : ℕ) (f : LegTask → LegTask) → Notes e.table a before after → ((t : ℕ) → touches event t ≡ nat_eq t a) → own_effect model.child_group (suc e.number) event (leg_tasks e.table) ≡ change a f (leg_tasks e.table) → ((x : LegTask) → (f x).group ≡ x.group)
       → is_some before.kind ≡ true → TakesIn model (state_in e) event before after
   changes_in a f noted only own groups some = record {
     keeps = kept_out e.table a before after noted some;
     before = λ t x hit live. taken_in e.table a before after noted some x (slot_at t x hit live);
     after = λ t x hit live.
-        let is = sym (only_t t hit) ∙ (sym (ap (λ (w : ℕ → Fate Standing). w t) own) ∙ live) in
-        let w = live_from f (standings e.table t) x is in
-        ap (has after.changed) (sym (sym (groups w.0) ∙ ap (λ (y : Standing). y.group) w.2)) ∙ taken_in e.table a before after noted some w.0 (slot_at t w.0 hit w.1);
+        let is = sym (only_t t hit) ∙ (sym (ap (λ (w : ℕ → Fate LegTask). w t) own) ∙ live) in
+        let w = live_from f (leg_tasks e.table t) x is in
+        ap (has after.changed) (sym (sym (groups w.0) ∙ ap (λ (y : LegTask). y.group) w.2)) ∙ taken_in e.table a before after noted some w.0 (slot_at t w.0 hit w.1);
     spares = spared_out e.table a before after noted some;
     doubts = λ t hit. doubted_in e.table a before after noted some t (at t hit);
   }
@@ -358,37 +362,37 @@ module _ (model : Rules) (e : Engine) (event : Event) (before after : KeptScan) 
       at : (t : ℕ) → touches event t ≡ true → nat_eq t a ≡ true
       at t hit = sym (only t) ∙ hit
 
-      slot_at : (t : ℕ) (x : Standing) → touches event t ≡ true → standings e.table t ≡ Live x → slot e.table a ≡ Some x
+      slot_at : (t : ℕ) (x : LegTask) → touches event t ≡ true → leg_tasks e.table t ≡ Live x → slot e.table a ≡ Some x
       slot_at t x hit live = ap (slot e.table) (sym (eqb-true t a (at t hit))) ∙ slot_from_live e.table t x live
 
-      only_t : (t : ℕ) → touches event t ≡ true → change a f (standings e.table) t ≡ map_live f (standings e.table t)
-      only_t t hit = cond-true (nat_eq t a) (map_live f (standings e.table t)) (standings e.table t) (at t hit)
+      only_t : (t : ℕ) → touches event t ≡ true → change a f (leg_tasks e.table) t ≡ map_live f (leg_tasks e.table t)
+      only_t t hit = cond-true (nat_eq t a) (map_live f (leg_tasks e.table t)) (leg_tasks e.table t) (at t hit)
 
 -- the end of a task
 pub dies_in : (model : Rules) (e : Engine) (a : TaskId) (before after : KeptScan) → Notes e.table a.0 before after → is_some before.kind ≡ true → TakesIn model (state_in e) (Die a) before after
 dies_in model e a before after noted some = record {
   keeps = kept_out e.table a.0 before after noted some;
   before = λ t x hit live. taken_in e.table a.0 before after noted some x (ap (slot e.table) (sym (eqb-true t a.0 hit)) ∙ slot_from_live e.table t x live);
-  after = λ t x hit live. absurd (dead_live x (sym (cond-true (nat_eq t a.0) Dead (standings e.table t) hit) ∙ live));
+  after = λ t x hit live. absurd (dead_live x (sym (cond-true (nat_eq t a.0) Dead (leg_tasks e.table t) hit) ∙ live));
   spares = spared_out e.table a.0 before after noted some;
   doubts = λ t hit. doubted_in e.table a.0 before after noted some t hit;
 }
   where
-    dead_live : (x : Standing) → Dead ≡ Live x → ⊥
+    dead_live : (x : LegTask) → Dead ≡ Live x → ⊥
     dead_live x e = absurd (cc)
 
 -- and a birth, which is noted of the table with the child
-pub bears_in : (model : Rules) (e : Engine) (p c : TaskId) (how : ForkKind) (x : Standing) (before after : KeptScan) → IsWide e.table → c.0 < 65536 → refusal_of model (state_in e) (Fork p c how) ≡ None → born_of model (state_in e) (Fork p c how) ≡ Some x
+pub bears_in : (model : Rules) (e : Engine) (p c : TaskId) (how : ForkKind) (x : LegTask) (before after : KeptScan) → IsWide e.table → c.0 < 65536 → refusal_of model (state_in e) (Fork p c how) ≡ None → born_of model (state_in e) (Fork p c how) ≡ Some x
     → Notes (with_task c.0 x e.table) c.0 before after → is_some before.kind ≡ true → TakesIn model (state_in e) (Fork p c how) before after
 bears_in model e p c how x before after wide h accepted born noted some = record {
   keeps = kept_out (with_task c.0 x e.table) c.0 before after noted some;
   before = λ t y hit live. absurd (none_some y (sym new.0 ∙ (ap (slot e.table) (sym (eqb-true t c.0 hit)) ∙ slot_from_live e.table t y live)));
   after = λ t y hit live.
-      let is = sym (cond-true (nat_eq t c.0) (map_live (bearing model.child_group c.0 how) (standings e.table p.0)) (standings e.table t) hit) ∙ live in
-      let w = live_from (bearing model.child_group c.0 how) (standings e.table p.0) y is in
-      let same : Some x ≡ Some y = sym brought ∙ (ap (child_of model.child_group c.0 (Fork p c how)) w.1 ∙ ap {A = Standing} {B = Option Standing} Some w.2) in
+      let is = sym (cond-true (nat_eq t c.0) (map_live (bearing model.child_group c.0 how) (leg_tasks e.table p.0)) (leg_tasks e.table t) hit) ∙ live in
+      let w = live_from (bearing model.child_group c.0 how) (leg_tasks e.table p.0) y is in
+      let same : Some x ≡ Some y = sym brought ∙ (ap (child_of model.child_group c.0 (Fork p c how)) w.1 ∙ ap {A = LegTask} {B = Option LegTask} Some w.2) in
       let one : x ≡ y = cc in
-      ap (λ (z : Standing). has after.changed z.group) (sym one) ∙ taken_in (with_task c.0 x e.table) c.0 before after noted some x (slot-with_task e.table c.0 x wide h);
+      ap (λ (z : LegTask). has after.changed z.group) (sym one) ∙ taken_in (with_task c.0 x e.table) c.0 before after noted some x (slot-with_task e.table c.0 x wide h);
   spares = spared_out (with_task c.0 x e.table) c.0 before after noted some;
   doubts = λ t hit. doubted_in (with_task c.0 x e.table) c.0 before after noted some t hit;
 }
@@ -396,20 +400,21 @@ bears_in model e p c how x before after wide h accepted born noted some = record
     new : (slot e.table c.0 ≡ None) × (has e.table.used c.0 ≡ false)
     new = fork-new model e p c how accepted
 
-    brought : child_of model.child_group c.0 (Fork p c how) (standings e.table p.0) ≡ Some x
-    brought = subst (λ o. born_by model.child_group o (Fork p c how) (standings e.table) ≡ Some x) accepted born
+    brought : child_of model.child_group c.0 (Fork p c how) (leg_tasks e.table p.0) ≡ Some x
+    brought = subst (λ o. born_by model.child_group o (Fork p c how) (leg_tasks e.table) ≡ Some x) accepted born
 
-pub point_touches : (on : CheckKind) (t : TaskId) (u : ℕ) → touches (point_event on t) u ≡ nat_eq u t.0
-point_touches kind.KernelExit t u = refl
-point_touches kind.IdlePoint t u = refl
-point_touches kind.Walk t u = refl
-point_touches kind.Stop t u = refl
+pub own_check_touches : (on : CheckKind) (t : TaskId) (u : ℕ) → touches (own_check_event on t) u ≡ nat_eq u t.0
+own_check_touches kind.KernelExit t u = refl
+own_check_touches kind.IdlePoint t u = refl
+own_check_touches kind.Resched t u = refl
+own_check_touches kind.Walk t u = refl
+own_check_touches kind.Stop t u = refl
 
 -- ---- The engine with what it noted
 
 module _ (model : Rules) (e old new : Engine) (waiting left_waiting : Numbers) (event : Event) (before after : KeptScan) (was : e ≡ old) (core : IsCore model e waiting before) (taken : HasTaken model old event new left_waiting) (accepted : refusal_of model (state_in old) event ≡ None) (kind : after.kind ≡ before.kind) where
   -- after a change of a task
-  pub core_changes : (a : ℕ) (f : Standing → Standing) → is_control event ≡ false → Notes e.table a before after → ((t : ℕ) → touches event t ≡ nat_eq t a) → own_effect model.child_group (suc e.number) event (standings e.table) ≡ change a f (standings e.table) → ((x : Standing) → (f x).group ≡ x.group)
+  pub core_changes : (a : ℕ) (f : LegTask → LegTask) → is_control event ≡ false → Notes e.table a before after → ((t : ℕ) → touches event t ≡ nat_eq t a) → own_effect model.child_group (suc e.number) event (leg_tasks e.table) ≡ change a f (leg_tasks e.table) → ((x : LegTask) → (f x).group ≡ x.group)
       → IsCore model new left_waiting after
   core_changes a f plain noted only own groups =
       core_takes model e old new waiting left_waiting event before after was core taken accepted plain kind (changes_in model e event before after a f noted only own groups)
@@ -422,12 +427,14 @@ scan_free model s kind.Walk = refl
 scan_free model s kind.Stop = refl
 scan_free model s kind.KernelExit = refl
 scan_free model s kind.IdlePoint = refl
+scan_free model s kind.Resched = refl
 
 pub scan_plain : (on : CheckKind) → is_control (scan_event on) ≡ false
 scan_plain kind.Walk = refl
 scan_plain kind.Stop = refl
 scan_plain kind.KernelExit = refl
 scan_plain kind.IdlePoint = refl
+scan_plain kind.Resched = refl
 
 module _ (model : Rules) (lawful : IsLawful model) (e old new : Engine) (waiting left_waiting : Numbers) (event : Event) (before after : KeptScan) (was : e ≡ old) (core : IsCore model e waiting before) (taken : HasTaken model old event new left_waiting) where
   -- after a scan, whether it was noted or not

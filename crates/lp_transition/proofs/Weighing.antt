@@ -10,22 +10,22 @@ use Rattle.lp_model.specs.Rules.{Rules, IsLawful}
 use Rattle.lp_model.specs.declared.check.CheckKind.{CheckKind}
 use Rattle.lp_model.specs.declared.check.ForkKind.{ForkKind}
 use Rattle.lp_definitions.specs.declared.event.Event.{Event}
-use Rattle.lp_definitions.specs.declared.event.Event.TheVariants.{Call, Ret, Sleep, Wake, Enter, Exit, Idle, Fork, Die, Walk, Stop, Enable, Disable, Reverse}
+use Rattle.lp_definitions.specs.declared.event.Event.TheVariants.{Call, Ret, Sleep, Wake, Enter, Exit, Idle, Resched, Fork, Die, Walk, Stop, Enable, Disable, Reverse}
 use Rattle.lp_definitions.specs.declared.refusal.Refusal.{Refusal}
 use Rattle.lp_definitions.specs.declared.reply.What.{What}
 use Rattle.lp_definitions.specs.declared.reply.What.TheVariants.{Done}
 use Rattle.lp_definitions.specs.declared.reply.Reply.{Reply}
 use Rattle.lp_definitions.specs.Events.{is_control, is_scan}
 use Rattle.lp_definitions.specs.Tasks.{Unused, Live, Dead, change}
-use Rattle.lp_definitions.specs.Leg.{Standing, State}
+use Rattle.lp_definitions.specs.Leg.{LegTask, State}
 use Rattle.lp_definitions.specs.Run.{switched}
 use Rattle.lp_machine.specs.Machine.{complete_in, switches_at, switched_groups, bearing, refusal_of, affected, own_effect, calling, returning, put_in, told, answer_by, answer}
-use Rattle.lp_machine.specs.Table.{Engine, slot, fate_at, standings, state_in, bounds_of}
+use Rattle.lp_machine.specs.Table.{Engine, slot, fate_at, leg_tasks, state_in, bounds_of}
 use Rattle.lp_tasks.specs.inside.Table.{changed, is_off}
 use Rattle.lp_transition.specs.inside.Invariant.{IsEngine}
-use Rattle.lp_transition.specs.Weigh.{Weighed, IsWeighed, AreVerdictsFor, is_silent, silent_task, child_of, born_by, born_of, is_switched, refusal_in}
-use Rattle.lp_machine.proofs.EngineLemmas.{is_quiet, quiet-control, quiet-stays, switched-still, answer-accepted}
-use Rattle.lp_laws.proofs.Quantifiers.{each_live-at, each_live-from}
+use Rattle.lp_transition.specs.Weigh.{Weighed, IsWeighed, AreVerdictsFor, is_answered_done, done_task, child_of, born_by, born_of, is_switched, refusal_in}
+use Rattle.lp_machine.proofs.EngineLemmas.{is_unchecked, unchecked-control, unchecked-stays, switched-still, answer-accepted}
+use Rattle.lp_definitions.proofs.Quantifiers.{each_live-at, each_live-from}
 use Rattle.lp_machine.proofs.Accept.{fork-new}
 use Rattle.lp_tasks.proofs.TableLemmas.{slot-zero, slot_from_live, live_from_slot}
 use Rattle.lp_transition.proofs.Effects.{with_table, takes_change_still}
@@ -37,8 +37,8 @@ use Rattle.lp_transition.proofs.Completes.{answer-taken, not-completed, complete
 
 module _ (model : Rules) (lawful : IsLawful model) (e : Engine) (waiting : Numbers) (kept : IsEngine e waiting) (room : e.number < 1000000) where
   -- an event that changes one task and takes no group over completes nothing
-  pub answer-change : (event : Event) (t : ℕ) (f : Standing → Standing) → t < 65536 → is_control event ≡ false → ((group : ℕ) → switches_at model (affected model (state_in e) event) event group ≡ false) → refusal_of model (state_in e) event ≡ None
-      → own_effect model.child_group (suc e.number) event (standings e.table) ≡ change t f (standings e.table) → ((x : Standing) → (f x).level ≡ x.level) → ((x : Standing) → (f x).group ≡ x.group)
+  pub answer-change : (event : Event) (t : ℕ) (f : LegTask → LegTask) → t < 65536 → is_control event ≡ false → ((group : ℕ) → switches_at model (affected model (state_in e) event) event group ≡ false) → refusal_of model (state_in e) event ≡ None
+      → own_effect model.child_group (suc e.number) event (leg_tasks e.table) ≡ change t f (leg_tasks e.table) → ((x : LegTask) → (f x).level ≡ x.level) → ((x : LegTask) → (f x).group ≡ x.group)
       → answer model (state_in e) event ≡ record { what = told model (state_in e) event; completed = false }
   answer-change event t f small plain none accepted own levels groups =
       let taken = takes_change_still model lawful e e (changed t f e.table) waiting event t f refl refl kept small room plain none accepted own levels groups in
@@ -49,24 +49,24 @@ module _ (model : Rules) (lawful : IsLawful model) (e : Engine) (waiting : Numbe
   pub done-still : (event : Event) → ((group : ℕ) → switches_at model (affected model (state_in e) event) event group ≡ false) → told model (state_in e) event ≡ switched (switched_groups model (affected model (state_in e) event) event) → told model (state_in e) event ≡ Done
   done-still event none is = is ∙ ap switched (switched-none model (affected model (state_in e) event) event none)
 
-  still : (event : Event) → is_quiet event ≡ true → (group : ℕ) → switches_at model (affected model (state_in e) event) event group ≡ false
-  still event quiet group = quiet-stays model (affected model (state_in e) event) event group quiet
+  still : (event : Event) → is_unchecked event ≡ true → (group : ℕ) → switches_at model (affected model (state_in e) event) event group ≡ false
+  still event quiet group = unchecked-stays model (affected model (state_in e) event) event group quiet
 
-  by : (event : Event) (t : ℕ) (f : Standing → Standing) → t < 65536 → is_quiet event ≡ true → refusal_of model (state_in e) event ≡ None
-      → own_effect model.child_group (suc e.number) event (standings e.table) ≡ change t f (standings e.table) → ((x : Standing) → (f x).level ≡ x.level) → ((x : Standing) → (f x).group ≡ x.group)
+  by : (event : Event) (t : ℕ) (f : LegTask → LegTask) → t < 65536 → is_unchecked event ≡ true → refusal_of model (state_in e) event ≡ None
+      → own_effect model.child_group (suc e.number) event (leg_tasks e.table) ≡ change t f (leg_tasks e.table) → ((x : LegTask) → (f x).level ≡ x.level) → ((x : LegTask) → (f x).group ≡ x.group)
       → told model (state_in e) event ≡ switched (switched_groups model (affected model (state_in e) event) event)
       → answer model (state_in e) event ≡ record { what = Done; completed = false }
   by event t f small quiet accepted own levels groups reports =
-      answer-change event t f small (quiet-control model event quiet) (still event quiet) accepted own levels groups
+      answer-change event t f small (unchecked-control model event quiet) (still event quiet) accepted own levels groups
       ∙ ap {A = What} {B = Reply} (λ what. record { what = what; completed = false }) (done-still event (still event quiet) reports)
 
   -- a return, a sleep, a wake-up and an entry into the kernel are done
-  pub answer-silent : (event : Event) → is_silent event ≡ true → silent_task event < 65536 → refusal_of model (state_in e) event ≡ None → answer model (state_in e) event ≡ record { what = Done; completed = false }
-  answer-silent (Ret t) m small accepted = by (Ret t) t.0 returning small refl accepted refl (λ x. refl) (λ x. refl) refl
-  answer-silent (Sleep t) m small accepted = by (Sleep t) t.0 (put_in Asleep) small refl accepted refl (λ x. refl) (λ x. refl) refl
-  answer-silent (Wake t) m small accepted = by (Wake t) t.0 (put_in Kernel) small refl accepted refl (λ x. refl) (λ x. refl) refl
-  answer-silent (Enter t) m small accepted = by (Enter t) t.0 (put_in Kernel) small refl accepted refl (λ x. refl) (λ x. refl) refl
-  answer-silent _ m small accepted = cc
+  pub answer-done : (event : Event) → is_answered_done event ≡ true → done_task event < 65536 → refusal_of model (state_in e) event ≡ None → answer model (state_in e) event ≡ record { what = Done; completed = false }
+  answer-done (Ret t) m small accepted = by (Ret t) t.0 returning small refl accepted refl (λ x. refl) (λ x. refl) refl
+  answer-done (Sleep t) m small accepted = by (Sleep t) t.0 (put_in Asleep) small refl accepted refl (λ x. refl) (λ x. refl) refl
+  answer-done (Wake t) m small accepted = by (Wake t) t.0 (put_in Kernel) small refl accepted refl (λ x. refl) (λ x. refl) refl
+  answer-done (Enter t) m small accepted = by (Enter t) t.0 (put_in Kernel) small refl accepted refl (λ x. refl) (λ x. refl) refl
+  answer-done _ m small accepted = cc
 
   -- a call runs its task's level
   pub answer-call : (t : TaskId) (f : SymId) → t.0 < 65536 → refusal_of model (state_in e) (Call t f) ≡ None → answer model (state_in e) (Call t f) ≡ record { what = told model (state_in e) (Call t f); completed = false }
@@ -77,8 +77,8 @@ module _ (model : Rules) (lawful : IsLawful model) (e : Engine) (waiting : Numbe
   fork-complete : (p c : TaskId) (how : ForkKind) → refusal_of model (state_in e) (Fork p c how) ≡ None → IsTrue (complete_in (affected model (state_in e) (Fork p c how))) → IsTrue (complete_in (state_in e))
   fork-complete p c how accepted all =
       let now = affected model (state_in e) (Fork p c how) in
-      each_live-from (bounds_of e.patches) (standings e.table) (λ u y. nat_eq y.level e.target) (λ u y positive within live.
-      let other : u ≢ c.0 = λ same. let none = (fork-new model e p c how accepted).0 in let there = slot_from_live e.table c.0 y (subst (λ v. standings e.table v ≡ Live y) same live) in absurd (cc) in
+      each_live-from (bounds_of e.patches) (leg_tasks e.table) (λ u y. nat_eq y.level e.target) (λ u y positive within live.
+      let other : u ≢ c.0 = λ same. let none = (fork-new model e p c how accepted).0 in let there = slot_from_live e.table c.0 y (subst (λ v. leg_tasks e.table v ≡ Live y) same live) in absurd (cc) in
       each_live-at (bounds_of e.patches) now.tasks (λ v z. nat_eq z.level e.target) all u y positive within (cond-false _ _ _ (ne_eqb u c.0 other) ∙ live))
 
   pub answer-fork : (p c : TaskId) (how : ForkKind) → refusal_of model (state_in e) (Fork p c how) ≡ None → answer model (state_in e) (Fork p c how) ≡ record { what = Done; completed = false }
@@ -101,14 +101,14 @@ module _ (model : Rules) (lawful : IsLawful model) (e : Engine) (waiting : Numbe
       others : IsTrue (complete_in (affected model (state_in e) (Die t))) → (u : ℕ) → u ≢ t.0 → has waiting u ≡ false
       others all u ne = kept.waits u ∙ by (slot e.table u) refl
         where
-          by : (o : Option Standing) → slot e.table u ≡ o → is_off e.target o ≡ false
+          by : (o : Option LegTask) → slot e.table u ≡ o → is_off e.target o ≡ false
           by None there = refl
           by (Some y) there =
               let positive = slot-positive e.table u y (slot-zero e kept.sound) there in
               let below = slot-below e.table u y kept.wide there in
               ap not (each_live-at (bounds_of e.patches) (affected model (state_in e) (Die t)).tasks (λ v z. nat_eq z.level e.target) all u y positive (omega arith) (cond-false _ _ _ (ne_eqb u t.0 ne) ∙ live_from_slot e.table u y there))
 
-      apart : (u : ℕ) (y : Standing) → (if nat_eq u t.0 then Dead else standings e.table u) ≡ Live y → u ≢ t.0
+      apart : (u : ℕ) (y : LegTask) → (if nat_eq u t.0 then Dead else leg_tasks e.table u) ≡ Live y → u ≢ t.0
       apart u y live same = let dead : Dead ≡ Live y = sym (cond-true _ _ _ (eq-eqb u t.0 same)) ∙ live in cc
 
       back : ((u : ℕ) → u ≢ t.0 → has waiting u ≡ false) → IsTrue (complete_in (affected model (state_in e) (Die t)))
@@ -128,8 +128,8 @@ module _ (model : Rules) (lawful : IsLawful model) (e : Engine) (waiting : Numbe
       ∙ ap₂ {A = What} {B = Bool} {C = Reply} (λ what b. record { what = what; completed = b }) (done-still event none refl)
       (ap {A = State} {B = Bool} (λ now. complete_in now && not (complete_in s)) (switched-still model s event none) ∙ sym (completed_by e waiting t.0 last (complete_in (affected model s event)) kept (die-complete t) lone))
 
-  -- a check that a task makes alone
-  module _ (event : Event) (kind : CheckKind) (t : ℕ) (small : t < 65536) (f : Standing → Standing) (levels : (x : Standing) → (f x).level ≡ x.level) (groups : (x : Standing) → (f x).group ≡ x.group) (x : Standing) (there : slot e.table t ≡ Some x) (checks : ChecksAlone (bounds_of e.patches) (change t f (standings e.table)) event t kind) (plain : is_control event ≡ false) (accepted : refusal_of model (state_in e) event ≡ None) (own : own_effect model.child_group (suc e.number) event (standings e.table) ≡ change t f (standings e.table)) (reports : told model (state_in e) event ≡ switched (switched_groups model (affected model (state_in e) event) event)) where
+  -- an own check
+  module _ (event : Event) (kind : CheckKind) (t : ℕ) (small : t < 65536) (f : LegTask → LegTask) (levels : (x : LegTask) → (f x).level ≡ x.level) (groups : (x : LegTask) → (f x).group ≡ x.group) (x : LegTask) (there : slot e.table t ≡ Some x) (checks : ChecksAlone (bounds_of e.patches) (change t f (leg_tasks e.table)) event t kind) (plain : is_control event ≡ false) (accepted : refusal_of model (state_in e) event ≡ None) (own : own_effect model.child_group (suc e.number) event (leg_tasks e.table) ≡ change t f (leg_tasks e.table)) (reports : told model (state_in e) event ≡ switched (switched_groups model (affected model (state_in e) event) event)) where
     -- its group stays
     pub answer-stays : switches_at model (affected model (state_in e) event) event (f x).group ≡ false → answer model (state_in e) event ≡ record { what = Done; completed = false }
     answer-stays stays =
@@ -180,6 +180,7 @@ refused-as model s event = by (refusal_of model s event)
     told-none (Enter t) = listed (switched_groups model (affected model s (Enter t)) (Enter t))
     told-none (Exit t) = listed (switched_groups model (affected model s (Exit t)) (Exit t))
     told-none (Idle t) = listed (switched_groups model (affected model s (Idle t)) (Idle t))
+    told-none (Resched t) = listed (switched_groups model (affected model s (Resched t)) (Resched t))
     told-none (Fork p c how) = listed (switched_groups model (affected model s (Fork p c how)) (Fork p c how))
     told-none (Die t) = listed (switched_groups model (affected model s (Die t)) (Die t))
     told-none Walk = listed (switched_groups model (affected model s Walk) Walk)
@@ -197,14 +198,14 @@ refused-as model s event = by (refusal_of model s event)
     by None = accepted (is_control event) refl
 
 -- the child that an accepted fork brings
-pub born-child : (model : Rules) (e : Engine) (p c : TaskId) (how : ForkKind) (x : Standing) → refusal_of model (state_in e) (Fork p c how) ≡ None → slot e.table p.0 ≡ Some x
+pub born-child : (model : Rules) (e : Engine) (p c : TaskId) (how : ForkKind) (x : LegTask) → refusal_of model (state_in e) (Fork p c how) ≡ None → slot e.table p.0 ≡ Some x
     → Some (bearing model.child_group c.0 how x) ≡ born_of model (state_in e) (Fork p c how)
 born-child model e p c how x accepted there =
-    sym (ap (λ r. born_by model.child_group r (Fork p c how) (standings e.table)) accepted ∙ ap (child_of model.child_group c.0 (Fork p c how)) (live_from_slot e.table p.0 x there))
+    sym (ap (λ r. born_by model.child_group r (Fork p c how) (leg_tasks e.table)) accepted ∙ ap (child_of model.child_group c.0 (Fork p c how)) (live_from_slot e.table p.0 x there))
 
 -- a refused event brings none
 pub born-refused : (model : Rules) (e : Engine) (event : Event) (why : Refusal) → refusal_of model (state_in e) event ≡ Some why → None ≡ born_of model (state_in e) event
-born-refused model e event why refused = sym (ap (λ r. born_by model.child_group r event (standings e.table)) refused)
+born-refused model e event why refused = sym (ap (λ r. born_by model.child_group r event (leg_tasks e.table)) refused)
 
 -- an event that is no scan is answered by no verdicts
 pub verdicts-none : (model : Rules) (s : State) (event : Event) → is_scan event ≡ false → AreVerdictsFor model s event []
@@ -215,6 +216,7 @@ verdicts-none model s (Wake t) h = refl
 verdicts-none model s (Enter t) h = refl
 verdicts-none model s (Exit t) h = refl
 verdicts-none model s (Idle t) h = refl
+verdicts-none model s (Resched t) h = refl
 verdicts-none model s (Fork p c how) h = refl
 verdicts-none model s (Die t) h = refl
 verdicts-none model s Walk h = absurd (false≢true (sym h))
@@ -224,7 +226,7 @@ verdicts-none model s Disable h = refl
 verdicts-none model s Reverse h = refl
 
 -- an event that is no scan was weighed with its answer and its child
-pub weighed-as : (model : Rules) (e : Engine) (step : Weighed) (event : Event) (reply : Reply) (born : Option Standing) → is_scan event ≡ false → e.number < 1000000 → step ≡ record { event = event; reply = reply; verdicts = []; born = born } → reply ≡ answer model (state_in e) event → born ≡ born_of model (state_in e) event
+pub weighed-as : (model : Rules) (e : Engine) (step : Weighed) (event : Event) (reply : Reply) (born : Option LegTask) → is_scan event ≡ false → e.number < 1000000 → step ≡ record { event = event; reply = reply; verdicts = []; born = born } → reply ≡ answer model (state_in e) event → born ≡ born_of model (state_in e) event
     → IsWeighed model e step
 weighed-as model e step event reply born plain room is answers bears =
     let weighed : Weighed = record { event = event; reply = reply; verdicts = []; born = born } in
@@ -233,11 +235,11 @@ weighed-as model e step event reply born plain room is answers bears =
     subst (IsWeighed model e) (sym is) there
 
 -- the group of a live task is a number below 65,536
-pub group-below : (e : Engine) (waiting : Numbers) (t : ℕ) (x : Standing) → IsEngine e waiting → slot e.table t ≡ Some x → x.group < 65536
+pub group-below : (e : Engine) (waiting : Numbers) (t : ℕ) (x : LegTask) → IsEngine e waiting → slot e.table t ≡ Some x → x.group < 65536
 group-below e waiting t x kept there = ⊎_elim (λ (h : x.group < 65536). h) (λ (h : 65536 ≤ x.group). absurd (past h)) (cases_lt x.group 65536)
   where
-    unused : 65536 ≤ x.group → standings e.table x.group ≡ Unused
+    unused : 65536 ≤ x.group → leg_tasks e.table x.group ≡ Unused
     unused h = ap₂ fate_at (get_or_past e.table.slots x.group None (omega (arith, h, kept.wide.slots))) (get_or_past e.table.used x.group false (omega (arith, h, kept.wide.used)))
 
     past : 65536 ≤ x.group → ⊥
-    past h = ⊎_elim (λ (zero : x.group ≡ 0). omega (arith, h, zero)) (λ (some : standings e.table x.group ≡ Unused → ⊥). some (unused h)) (kept.sound.grouped t x (live_from_slot e.table t x there))
+    past h = ⊎_elim (λ (zero : x.group ≡ 0). omega (arith, h, zero)) (λ (some : leg_tasks e.table x.group ≡ Unused → ⊥). some (unused h)) (kept.sound.grouped t x (live_from_slot e.table t x there))

@@ -7,10 +7,10 @@ use Rattle.lp_model.specs.Rules.{Rules}
 use Rattle.lp_model.specs.declared.check.CheckKind.{CheckKind}
 use Rattle.lp_model.specs.declared.verdict.Verdict.{Verdict}
 use Rattle.lp_definitions.specs.Tasks.{Live, on_live}
-use Rattle.lp_definitions.specs.Leg.{Standing}
+use Rattle.lp_definitions.specs.Leg.{LegTask}
 use Rattle.lp_transition.specs.Scan.{verdict_of, verdicts_of, verdicts_at, is_asked}
 use Rattle.lp_tasks.specs.Passing.{passing}
-use Rattle.lp_machine.specs.Table.{Engine, slot, standings, state_in}
+use Rattle.lp_machine.specs.Table.{Engine, slot, leg_tasks, state_in}
 use Rattle.lp_tasks.specs.inside.Table.{is_in}
 use Rattle.lp_transition.specs.inside.Invariant.{IsEngine}
 use Rattle.lp_transition.specs.inside.ScanSteps.{IsOwnGroup, is_found, is_judged}
@@ -23,11 +23,11 @@ use Rattle.lp_transition.proofs.ScanLists.{any-map, verdict-is, verdict-from}
 
 module _ (e : Engine) (waiting : Numbers) (kept : IsEngine e waiting) (model : Rules) (kind : CheckKind) where
   -- the group of a live task
-  group_asked : (groups : ℕ → Bool) (t : ℕ) (x : Standing) → standings e.table t ≡ Live x → is_asked (state_in e) groups t ≡ groups x.group
-  group_asked groups t x live = ap (on_live false (λ (y : Standing). groups y.group)) live
+  group_asked : (groups : ℕ → Bool) (t : ℕ) (x : LegTask) → leg_tasks e.table t ≡ Live x → is_asked (state_in e) groups t ≡ groups x.group
+  group_asked groups t x live = ap (on_live false (λ (y : LegTask). groups y.group)) live
 
   -- each live member of some groups is a candidate
-  pub members-cover : (groups set : Numbers) → ((task : ℕ) → has set task ≡ list_any (λ group. is_in group (slot e.table task)) (passing 0 65536 (has groups))) → (t : ℕ) (x : Standing) → standings e.table t ≡ Live x → has groups x.group ≡ true → has set t ≡ true
+  pub members-cover : (groups set : Numbers) → ((task : ℕ) → has set task ≡ list_any (λ group. is_in group (slot e.table task)) (passing 0 65536 (has groups))) → (t : ℕ) (x : LegTask) → leg_tasks e.table t ≡ Live x → has groups x.group ≡ true → has set t ≡ true
   members-cover groups set told t x live mine = member-agrees e waiting kept groups set told t x live ∙ (group_asked (has groups) t x live ∙ mine)
 
   -- the tasks of own groups are their members
@@ -65,7 +65,7 @@ module _ (e : Engine) (waiting : Numbers) (kept : IsEngine e waiting) (model : R
         ap looked (eqb-true t j.number parts.1) ∙ parts.0
 
     -- and who waits, and was looked at, is judged
-    looked_judged : (t : ℕ) (x : Standing) → standings e.table t ≡ Live x → nat_eq x.level e.target ≡ false → looked t ≡ true → is_judged vs t ≡ true
+    looked_judged : (t : ℕ) (x : LegTask) → leg_tasks e.table t ≡ Live x → nat_eq x.level e.target ≡ false → looked t ≡ true → is_judged vs t ≡ true
     looked_judged t x live off seen =
         let bounds = kept.sound.numbered t x live in
         judged_by t

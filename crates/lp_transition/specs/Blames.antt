@@ -12,7 +12,7 @@ use Rattle.lp_definitions.specs.declared.refusal.Refusal.{Refusal}
 use Rattle.lp_machine.specs.declared.standing_blame.StandingBlame.{StandingBlame}
 use Rattle.lp_definitions.specs.Events.{is_control}
 use Rattle.lp_definitions.specs.Tasks.{Live, on_live, first_of}
-use Rattle.lp_definitions.specs.Leg.{Standing, State}
+use Rattle.lp_definitions.specs.Leg.{LegTask, State}
 use Rattle.lp_machine.specs.Machine.{view_of, affected, refusal_of}
 use Rattle.lp_transition.specs.Scan.{verdicts_of, verdicts_at, is_of, first_refused}
 use Rattle.lp_machine.specs.Table.{Engine, state_in}
@@ -40,10 +40,10 @@ pub record TellOf (model : Rules) (kind : CheckKind) (s : State) (asked : ℕ �
   pub looked : ℕ → Bool
   pub found : verdicts ≡ verdicts_at model kind s looked
   -- nobody of another group is looked at
-  pub only : (t : ℕ) (x : Standing) → s.tasks t ≡ Live x → looked t ≡ true → asked x.group ≡ true
+  pub only : (t : ℕ) (x : LegTask) → s.tasks t ≡ Live x → looked t ≡ true → asked x.group ≡ true
   -- somebody of each that waits is
   pub each :
-      (t : ℕ) (x : Standing) → s.tasks t ≡ Live x → nat_eq x.level s.target ≡ false → asked x.group ≡ true →
+      (t : ℕ) (x : LegTask) → s.tasks t ≡ Live x → nat_eq x.level s.target ≡ false → asked x.group ≡ true →
       list_any (is_of s x.group) verdicts ≡ true
   pub first : (group : ℕ) → asked group ≡ true → first_refused s group verdicts ≡ first_refused s group (verdicts_of model kind s)
 
@@ -78,8 +78,8 @@ or_blame (Some b) found = Some b
 
 module _ (model : Rules) (e : Engine) (event : Event) (verdicts : List Verdict) (group : ℕ) where
   -- the group's blame after an accepted event. It goes at a control event, and when its frame is popped; a scan finds
-  -- one of a group that has none where the first member that it refuses is refused for a frame. An exit and an idle point
-  -- find none, since they are refused while there is a frame
+  -- one of a group that has none where the first member that it refuses is refused for a frame. An own check finds
+  -- none: at an exit and an idle point there is no frame, and what the task finds elsewhere the next scan finds too
   abbrev pub blame_taken : Option StandingBlame
   blame_taken =
       if is_control event then None

@@ -8,7 +8,7 @@ use Rattle.lp_definitions.specs.declared.event.Event.{Event}
 use Rattle.lp_definitions.specs.declared.event.Event.TheVariants.{Walk, Stop}
 use Rattle.lp_definitions.specs.Events.{is_control}
 use Rattle.lp_definitions.specs.Tasks.{Live}
-use Rattle.lp_definitions.specs.Leg.{Standing, State}
+use Rattle.lp_definitions.specs.Leg.{LegTask, State}
 use Rattle.lp_machine.specs.Machine.{refusal_of}
 use Rattle.lp_machine.specs.Table.{Engine, state_in}
 
@@ -24,7 +24,7 @@ used_scan model _ = None
 
 -- the members of the group are who they were, and each stands as it stood
 abbrev pub AreSameMembers : (before after : State) → (group : ℕ) → Type 0
-AreSameMembers before after group = (t : ℕ) (x : Standing) → x.group ≡ group → (before.tasks t ≡ Live x) ↔ (after.tasks t ≡ Live x)
+AreSameMembers before after group = (t : ℕ) (x : LegTask) → x.group ≡ group → (before.tasks t ≡ Live x) ↔ (after.tasks t ≡ Live x)
 
 -- what the engine knows of the last scan after an event: it may know of none at any time
 pub record IsLastScanAfter (model : Rules) (old : Engine) (event : Event) (new : Engine) : Type 0 where
@@ -39,5 +39,5 @@ pub record IsLastScanAfter (model : Rules) (old : Engine) (event : Event) (new :
   -- and a waiting group counts as unchanged where it did so, and nothing happened to it
   pub others :
       used_scan model event ≡ None → (on : CheckKind) → new.last_scan.kind ≡ Some on →
-      (t : ℕ) (x : Standing) → (state_in new).tasks t ≡ Live x → nat_eq x.level (state_in new).target ≡ false → has new.last_scan.changed x.group ≡ false →
+      (t : ℕ) (x : LegTask) → (state_in new).tasks t ≡ Live x → nat_eq x.level (state_in new).target ≡ false → has new.last_scan.changed x.group ≡ false →
       (has old.last_scan.changed x.group ≡ false) × AreSameMembers (state_in old) (state_in new) x.group

@@ -5,13 +5,13 @@ use Rattle.lp_model.specs.Rules.{Rules}
 use Rattle.lp_definitions.specs.declared.event.Event.{Event}
 use Rattle.lp_definitions.specs.Tasks.{Life, on_live, is_unused, outlines}
 use Rattle.lp_definitions.specs.Leg.{Leg, is_alone, after}
-use Rattle.lp_definitions.specs.Schedule.{Schedule, level, view, standing, waits, complete, first_check}
+use Rattle.lp_definitions.specs.Schedule.{Schedule, level, view, leg_task, waits, complete, first_check}
 use Rattle.lp_definitions.specs.Sound.{IsSound}
 use Rattle.lp_definitions.specs.Run.{new_target, refused_by, shown, next_leg, reply}
 use Rattle.lp_machine.specs.Machine.{outlines_of, view_of, complete_in, waits_in, refusal_of, affected, answer, next, state_of}
 use Rattle.lp_definitions.specs.Events.{is_control}
 use Rattle.lp_transition.specs.Scan.{views_of}
-use Rattle.lp_machine.specs.Table.{Engine, slot, standings, state_in}
+use Rattle.lp_machine.specs.Table.{Engine, slot, leg_tasks, state_in}
 use Rattle.lp_transition.specs.Blames.{has_frame_in}
 
 module _ (model : Rules) (leg : Leg) where
@@ -31,7 +31,7 @@ module _ (model : Rules) (leg : Leg) where
         is_alone leg.bounds (outlines_of (shown model leg)) group t
         ≡ is_alone leg.bounds (outlines (after model leg count)) group t
     -- what a check sees of a live task
-    pub seen : (t : ℕ) (x : Life) → view_of t (standing leg first count x) ≡ view leg first t x
+    pub seen : (t : ℕ) (x : Life) → view_of t (leg_task leg first count x) ≡ view leg first t x
     -- a scan looks at the live tasks off the target, by increasing number
     pub views :
         let waiting_view = λ (t : ℕ) (x : Life).
@@ -55,8 +55,8 @@ module _ (model : Rules) (leg : Leg) where
 
   -- an engine that stands there has each live task in its slot, with its class, mode, group, level and frames
   pub record TellsTask (e : Engine) (t : ℕ) : Type 0 where
-    pub live : slot e.table t ≡ on_live None (λ x. Some (standing leg first count x)) (after model leg count t)
-    pub used : is_unused (standings e.table t) ≡ is_unused (after model leg count t)
+    pub live : slot e.table t ≡ on_live None (λ x. Some (leg_task leg first count x)) (after model leg count t)
+    pub used : is_unused (leg_tasks e.table t) ≡ is_unused (after model leg count t)
 
 -- what the readers of an engine tell of where it stands, in words of the machine, is what the definitions say there
 pub record StatesTell (model : Rules) : Type 0 where

@@ -3,7 +3,7 @@ use Rattle.std.specs.Prelude.{◌≡◌, ℕ, Bool, true, false, List, [], map, 
 use Rattle.std.specs.List.{filter, filter_map, list_any, range_with_len}
 use Rattle.std.specs.Option.{option_map}
 use Rattle.lp_stack.specs.TaskView.{TaskView}
-use Rattle.lp_patch.specs.Patches.{Goal}
+use Rattle.lp_patch.specs.Patches.{Aim}
 use Rattle.lp_model.specs.Rules.{Rules}
 use Rattle.lp_model.specs.declared.check.Blame.{Blame}
 use Rattle.lp_model.specs.declared.check.CheckKind.{CheckKind}
@@ -12,7 +12,7 @@ use Rattle.lp_model.specs.declared.verdict.Verdict.{Verdict}
 use Rattle.lp_definitions.specs.declared.event.Event.{Event}
 use Rattle.lp_definitions.specs.declared.event.Event.TheVariants.{Walk, Stop}
 use Rattle.lp_definitions.specs.Tasks.{Fate, Unused, Live, Dead, on_live, first_of}
-use Rattle.lp_definitions.specs.Leg.{Standing, State}
+use Rattle.lp_definitions.specs.Leg.{LegTask, State}
 use Rattle.lp_machine.specs.Machine.{view_of}
 
 -- ---- Kinds of scans
@@ -31,7 +31,7 @@ scan_event _ = Walk
 -- ---- What a scan looks at
 
 -- a task as a check sees it, where it waits: it is live and off the target
-abbrev pub waiting_view : ℕ → ℕ → Fate Standing → Option TaskView
+abbrev pub waiting_view : ℕ → ℕ → Fate LegTask → Option TaskView
 waiting_view target t Unused = None
 waiting_view target t (Live x) = if nat_eq x.level target then None else Some (view_of t x)
 waiting_view target t Dead = None
@@ -43,7 +43,7 @@ views_of s = filter_map (λ t. waiting_view s.target t (s.tasks t)) (range_with_
 -- ---- What a scan finds
 
 -- what a check finds of a task
-abbrev pub verdict_of : Rules → CheckKind → Goal → TaskView → Verdict
+abbrev pub verdict_of : Rules → CheckKind → Aim → TaskView → Verdict
 verdict_of model kind aim view = record { task = record { 0 = view.task }; blame = model.blame kind view aim }
 
 -- what a check finds of the waiting tasks, by increasing number
@@ -55,7 +55,7 @@ verdicts_of model kind s = map (verdict_of model kind s.aim) (views_of s)
 -- a waiting member of the group whom a check of this kind refuses
 pub record RefusesMember (model : Rules) (kind : CheckKind) (s : State) (group : ℕ) : Type 0 where
   pub member : ℕ
-  pub life : Standing
+  pub life : LegTask
   pub live : s.tasks member ≡ Live life
   pub off : nat_eq life.level s.target ≡ false
   pub grouped : life.group ≡ group
@@ -64,7 +64,7 @@ pub record RefusesMember (model : Rules) (kind : CheckKind) (s : State) (group :
 -- a scan of this kind may leave out the groups that fail a test: of each that waits it would refuse a member
 abbrev pub MayLeaveOut : Rules → CheckKind → State → (asked : ℕ → Bool) → Type 0
 MayLeaveOut model kind s asked =
-    (t : ℕ) (x : Standing) → s.tasks t ≡ Live x → nat_eq x.level s.target ≡ false → asked x.group ≡ false →
+    (t : ℕ) (x : LegTask) → s.tasks t ≡ Live x → nat_eq x.level s.target ≡ false → asked x.group ≡ false →
     RefusesMember model kind s x.group
 
 -- the group of a live task passes a test
@@ -101,14 +101,14 @@ first_refused s group verdicts = first_of (map (member_verdict s group) verdicts
 -- a check of this kind refuses a waiting member of the group, and a scan that looks at any waiting member looks at this one
 pub record RefusesLooked (model : Rules) (kind : CheckKind) (s : State) (looked : ℕ → Bool) (group : ℕ) : Type 0 where
   pub refusal : RefusesMember model kind s group
-  pub seen : (t : ℕ) (x : Standing) → s.tasks t ≡ Live x → nat_eq x.level s.target ≡ false → x.group ≡ group → looked t ≡ true → looked refusal.member ≡ true
+  pub seen : (t : ℕ) (x : LegTask) → s.tasks t ≡ Live x → nat_eq x.level s.target ≡ false → x.group ≡ group → looked t ≡ true → looked refusal.member ≡ true
 
 -- a scan of this kind may pass over the tasks that fail a test: of the group of each that waits it would refuse a member, and it
 -- looks at that one where it looks at any member. So the members of a group that switches are all looked at, and one that is
 -- refused is not taken for one that switches
 abbrev pub MayPassOver : Rules → CheckKind → State → (looked : ℕ → Bool) → Type 0
 MayPassOver model kind s looked =
-    (t : ℕ) (x : Standing) → s.tasks t ≡ Live x → nat_eq x.level s.target ≡ false → looked t ≡ false →
+    (t : ℕ) (x : LegTask) → s.tasks t ≡ Live x → nat_eq x.level s.target ≡ false → looked t ≡ false →
     RefusesLooked model kind s looked x.group
 
 -- what a scan finds of the waiting tasks that pass a test, by increasing number

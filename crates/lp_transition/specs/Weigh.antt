@@ -4,13 +4,13 @@ use Rattle.lp_model.specs.Rules.{Rules}
 use Rattle.lp_model.specs.declared.check.CheckKind.TheVariants as check
 use Rattle.lp_model.specs.declared.verdict.Verdict.{Verdict}
 use Rattle.lp_definitions.specs.declared.event.Event.{Event}
-use Rattle.lp_definitions.specs.declared.event.Event.TheVariants.{Ret, Sleep, Wake, Enter, Exit, Idle, Fork, Walk, Stop}
+use Rattle.lp_definitions.specs.declared.event.Event.TheVariants.{Ret, Sleep, Wake, Enter, Exit, Idle, Resched, Fork, Walk, Stop}
 use Rattle.lp_definitions.specs.declared.refusal.Refusal.{Refusal}
 use Rattle.lp_definitions.specs.declared.reply.What.{What}
 use Rattle.lp_definitions.specs.declared.reply.What.TheVariants.{Switched, Refused}
 use Rattle.lp_definitions.specs.declared.reply.Reply.{Reply}
 use Rattle.lp_definitions.specs.Tasks.{Fate, Live, Grouping}
-use Rattle.lp_definitions.specs.Leg.{Standing, State}
+use Rattle.lp_definitions.specs.Leg.{LegTask, State}
 use Rattle.lp_machine.specs.Machine.{bearing, refusal_of, answer}
 use Rattle.lp_transition.specs.Scan.{verdicts_used, AreEnough}
 use Rattle.lp_machine.specs.Table.{Engine, state_in}
@@ -20,20 +20,20 @@ pub record Weighed : Type 0 where
   pub event : Event
   pub reply : Reply
   pub verdicts : List Verdict
-  pub born : Option Standing
+  pub born : Option LegTask
 
 -- the child that a fork brings, if its parent lives
-abbrev pub child_of : Grouping → ℕ → Event → Fate Standing → Option Standing
+abbrev pub child_of : Grouping → ℕ → Event → Fate LegTask → Option LegTask
 child_of grouping c (Fork p _ how) (Live x) = Some (bearing grouping c how x)
 child_of grouping c _ _ = None
 
 -- the child that an accepted fork brings
-abbrev pub born_by : Grouping → Option Refusal → Event → (ℕ → Fate Standing) → Option Standing
+abbrev pub born_by : Grouping → Option Refusal → Event → (ℕ → Fate LegTask) → Option LegTask
 born_by grouping None (Fork p c how) now = child_of grouping c.0 (Fork p c how) (now p.0)
 born_by grouping _ event now = None
 
 -- the child that an event brings in a state; none where it is refused
-abbrev pub born_of : Rules → State → Event → Option Standing
+abbrev pub born_of : Rules → State → Event → Option LegTask
 born_of model s event = born_by model.child_group (refusal_of model s event) event s.tasks
 
 -- the verdicts that an event is answered by where no waiting task is left out: of a scan that the model uses, what it finds
@@ -57,20 +57,20 @@ pub record IsWeighed (model : Rules) (engine : Engine) (step : Weighed) : Type 0
   pub verdicts : AreVerdictsFor model (state_in engine) step.event step.verdicts
 
 -- a return, a sleep, a wake-up or an entry into the kernel: it moves one task, and is no check
-abbrev pub is_silent : Event → Bool
-is_silent (Ret t) = true
-is_silent (Sleep t) = true
-is_silent (Wake t) = true
-is_silent (Enter t) = true
-is_silent _ = false
+abbrev pub is_answered_done : Event → Bool
+is_answered_done (Ret t) = true
+is_answered_done (Sleep t) = true
+is_answered_done (Wake t) = true
+is_answered_done (Enter t) = true
+is_answered_done _ = false
 
 -- its task
-abbrev pub silent_task : Event → ℕ
-silent_task (Ret t) = t.0
-silent_task (Sleep t) = t.0
-silent_task (Wake t) = t.0
-silent_task (Enter t) = t.0
-silent_task _ = 0
+abbrev pub done_task : Event → ℕ
+done_task (Ret t) = t.0
+done_task (Sleep t) = t.0
+done_task (Wake t) = t.0
+done_task (Enter t) = t.0
+done_task _ = 0
 
 -- a fork
 abbrev pub is_fork : Event → Bool
@@ -89,11 +89,12 @@ abbrev pub refusal_in : What → Option Refusal
 refusal_in (Refused why) = Some why
 refusal_in _ = None
 
--- the event may allocate, which did this: at a scan, for a child, and where an exit or an idle point switches a group
+-- the event may allocate, which did this: at a scan, for a child, and where an own check switches a group
 abbrev pub may_allocate : Event → What → Bool
 may_allocate Walk what = true
 may_allocate Stop what = true
 may_allocate (Fork p c how) what = is_none (refusal_in what)
 may_allocate (Exit t) what = is_switched what
 may_allocate (Idle t) what = is_switched what
+may_allocate (Resched t) what = is_switched what
 may_allocate _ what = false

@@ -4,3 +4,4 @@ pub mod Blames
 pub mod Invariant
 pub mod ScanSteps
 pub mod FirstRefusals
+pub mod Turning

@@ -1,11 +1,13 @@
 //! The engine: the tasks, and the transition that takes them from one level to another.
-ghost use Rattle.std.specs.Prelude.{◌≡◌, ◌≤◌, None, not, is_some, false};
+ghost use Rattle.std.specs.Prelude.{◌≡◌, ◌≤◌, ◌<◌, ℕ, None, Some, not, is_some, length, true, false, IfSome, IfNone};
+ghost use Rattle.lp_numbers.specs.Numbers.{has};
+ghost use Rattle.lp_tasks.specs.inside.Table.{is_in};
 ghost use Rattle.std.specs.Option.{ForSome, option_map};
 ghost use Rattle.lp_patch.specs.Aimed.{aimed};
 ghost use Rattle.lp_tasks.specs.Passing.{passing};
 ghost use Rattle.lp_transition.specs.Scan.{MayLeaveOut};
 ghost use Rattle.lp_definitions.specs.Sound.{IsSound};
-ghost use Rattle.lp_machine.specs.Table.{IsWide, slot, standings, bounds_of, state_in};
+ghost use Rattle.lp_machine.specs.Table.{IsWide, slot, leg_tasks, bounds_of, state_in};
 ghost use Rattle.lp_transition.specs.Blames.{blame_of, has_frame_in, is_open};
 ghost use Rattle.lp_model.specs.declared.check.CheckKind.{CheckKind};
 ghost use Rattle.lp_definitions.specs.Leg.{is_alone};
@@ -21,8 +23,8 @@ mod first_refusals;
 mod moves;
 mod open_scan;
 mod opening;
-mod plain_events;
-mod point;
+mod own_check;
+mod quiet_events;
 mod quiet_scan;
 mod refuse;
 mod scan;
@@ -91,7 +93,7 @@ impl<M: Consistency> Model for Core<M> {
 }
 
 impl<M: Consistency> Core<M> {
-    ghost use Rattle.lp_patch.specs.Patches.{Goal};
+    ghost use Rattle.lp_patch.specs.Patches.{Aim};
 
     /// How many events are numbered.
     pub fn events(&self) -> u64
@@ -177,7 +179,7 @@ impl<M: Consistency> Core<M> {
     /// Whether a task is live, and the only live member of its group.
     pub fn is_alone(&self, task: TaskId) -> bool
         ensures dead { slot self.now.table task.0 ≡ None → result ≡ false }
-        ensures alone { ForSome (slot self.now.table task.0) (λ x. result ≡ is_alone (bounds_of self.now.patches) (outlines_of (standings self.now.table)) x.group task.0) }
+        ensures alone { ForSome (slot self.now.table task.0) (λ x. result ≡ is_alone (bounds_of self.now.patches) (outlines_of (leg_tasks self.now.table)) x.group task.0) }
     {
         match self.tasks.get(task) {
             Some(live) => self.tasks.is_alone(live.group(), task),
@@ -192,5 +194,24 @@ impl<M: Consistency> Core<M> {
         ensures wide { IsWide self.now.table }
     {
         self.tasks.live()
+    }
+
+    /// The groups that have a live task.
+    pub fn groups(&self) -> &NumberSet
+        ensures some { (group : ℕ) → has result.now group ≡ true → (t : ℕ) × (is_in group (slot self.now.table t) ≡ true) }
+        ensures none { (group : ℕ) → has result.now group ≡ false → (t : ℕ) → is_in group (slot self.now.table t) ≡ false }
+        ensures few { (group : ℕ) → has result.now group ≡ true → group < 65536 }
+    {
+        self.tasks.groups()
+    }
+
+    /// The level of a group's live tasks, which are all on one; None where it has none.
+    pub fn group_level(&self, group: GroupId) -> Option<Level>
+        ensures member { IfSome result (λ level. (t : ℕ) × (is_in group.0 (slot self.now.table t) ≡ true)) }
+        ensures members { IfSome result (λ level. (t : ℕ) → is_in group.0 (slot self.now.table t) ≡ true → option_map (λ x. x.level) (slot self.now.table t) ≡ Some level.0) }
+        ensures none { IfNone result ((t : ℕ) → is_in group.0 (slot self.now.table t) ≡ false) }
+    {
+        let task = self.tasks.first_of(group)?;
+        self.tasks.level_of(task)
     }
 }

@@ -10,7 +10,7 @@ pub use lp_laws::{
     no_stay_is_mixed, no_wait_without_a_reason, one_first_check, one_version,
     permissive_models_never_lose, the_past_stays,
 };
-pub use lp_machine::laws::{a_leg_may_be_cut, the_machine_steps_as_defined};
+pub use lp_machine_laws::{a_leg_may_be_cut, the_machine_steps_as_defined};
 use lp_model::Consistency;
 
 /// What an engine's readers tell, by words of the machine, is what the definitions say where it stands.

@@ -9,12 +9,12 @@ use Rattle.clap.specs.declared.ArgMatches.{ArgMatches}
 use Rattle.clap.specs.declared.error.ErrorKind.{ErrorKind}
 use Rattle.clap.specs.declared.error.ErrorKind.TheVariants.{OutOfMemory}
 use Rattle.lp_models.specs.Names.{name_of}
-use Rattle.lp_words.specs.declared.words.Task.{Task}
-use Rattle.lp_words.specs.declared.words.Task.TheVariants.{Run, Check, Compare, Threads}
+use Rattle.lp_words.specs.declared.words.Job.{Job}
+use Rattle.lp_words.specs.declared.words.Job.TheVariants.{Run, Check, Compare, Threads}
 use Rattle.lp_words.specs.declared.words.WordsFault.{WordsFault}
 use Rattle.lp_words.specs.declared.words.WordsFault.TheVariants.{Usage, UnknownModel, NoMemory}
 use Rattle.lp_words.specs.Asked.{Asked, AsksNothing, IsUnknown, TakesModel, argument_of, asked, asked_in, flag_word, lpt, words_of}
-use Rattle.lp_words.specs.inside.WordsFaults.{IsNoFlag, IsRefusal, NamesNoModel, NamesNoTask}
+use Rattle.lp_words.specs.inside.WordsFaults.{IsNoFlag, IsRefusal, NamesNoModel, NamesNoJob}
 
 named : {X : Type 0} (o : Option X) (f : X → Text) (g : X → List Row) (name : Text) (rows : List Row)
     → option_map f o ≡ Some name → option_map (λ (p : Text × List Row). p.1) (option_map (λ x. (f x, g x)) o) ≡ Some rows
@@ -36,28 +36,28 @@ asked_of m sub name id is e h =
 abbrev given_model : Asked → Option Text
 given_model words = option_and_then (λ (p : Text × Option Text). p.1) words
 
--- where the model has a fault, there is no task
-pub no_task_of : (found : Option Text) (words : Asked) (name : Text) (fault : WordsFault)
-    → TakesModel name → words ≡ Some (name, found) → NamesNoModel found fault → NamesNoTask words fault
-no_task_of found words name Usage takes e h = (go, known)
+-- where the model has a fault, there is no job
+pub no_job_of : (found : Option Text) (words : Asked) (name : Text) (fault : WordsFault)
+    → TakesModel name → words ≡ Some (name, found) → NamesNoModel found fault → NamesNoJob words fault
+no_job_of found words name Usage takes e h = (go, known)
   where
     known : IsUnknown words → ⊥
     known (other, text, is, also, none) = none-some text (sym h ∙ ap given_model (sym e ∙ is))
 
-    go : (task : Task) → words ≢ Some (words_of task)
+    go : (job : Job) → words ≢ Some (words_of job)
     go (Run model) is = none-some (name_of model) (sym h ∙ ap given_model (sym e ∙ is))
     go (Check model) is = none-some (name_of model) (sym h ∙ ap given_model (sym e ∙ is))
     go (Compare json) is = none-some (flag_word json) (sym h ∙ ap given_model (sym e ∙ is))
     go (Threads model) is = none-some (name_of model) (sym h ∙ ap given_model (sym e ∙ is))
-no_task_of found words name UnknownModel takes e h = (name, h.0, e ∙ ap (λ v. Some (name, v)) h.1, takes, h.2)
-no_task_of found words name NoMemory takes e h = absurd h
+no_job_of found words name UnknownModel takes e h = (name, h.0, e ∙ ap (λ v. Some (name, v)) h.1, takes, h.2)
+no_job_of found words name NoMemory takes e h = absurd h
 
 abbrev given_name : Asked → Text
 given_name words = option_map_or (λ (p : Text × Option Text). p.0) words []
 
 -- the same where a flag has one
 pub no_flag_of : (found : Option Text) (words : Asked) (name : Text) (fault : WordsFault)
-    → name ≡ codes "compare" → words ≡ Some (name, found) → IsNoFlag found fault → NamesNoTask words fault
+    → name ≡ codes "compare" → words ≡ Some (name, found) → IsNoFlag found fault → NamesNoJob words fault
 no_flag_of found words name Usage compares e h = (go, known)
   where
     taken_name : (other : Text) (text : Text) → words ≡ Some (other, Some text) → other ≡ codes "compare"
@@ -71,10 +71,10 @@ no_flag_of found words name Usage compares e h = (go, known)
     known : IsUnknown words → ⊥
     known (other, text, is, takes, rest) = no_model other (taken_name other text is) takes
 
-    same_name : (task : Task) → words ≡ Some (words_of task) → (words_of task).0 ≡ codes "compare"
-    same_name task is = sym (ap given_name (sym e ∙ is)) ∙ compares
+    same_name : (job : Job) → words ≡ Some (words_of job) → (words_of job).0 ≡ codes "compare"
+    same_name job is = sym (ap given_name (sym e ∙ is)) ∙ compares
 
-    go : (task : Task) → words ≢ Some (words_of task)
+    go : (job : Job) → words ≢ Some (words_of job)
     go (Run model) is = let letter : 117 ≡ 111 = ap (λ n. slice_index n 1) (same_name (Run model) is) in absurd (omega (arith, letter))
     go (Check model) is = let letter : 104 ≡ 111 = ap (λ n. slice_index n 1) (same_name (Check model) is) in absurd (omega (arith, letter))
     go (Compare json) is = h json (ap given_model (sym e ∙ is))
@@ -82,10 +82,10 @@ no_flag_of found words name Usage compares e h = (go, known)
 no_flag_of found words name UnknownModel compares e h = absurd h
 no_flag_of found words name NoMemory compares e h = absurd h
 
--- words that clap takes, and that name no task
-pub asks_nothing : (given : List Text) (fault : WordsFault) → fault_of lpt given ≡ [] → NamesNoTask (asked given) fault
+-- words that clap takes, and that name no job
+pub asks_nothing : (given : List Text) (fault : WordsFault) → fault_of lpt given ≡ [] → NamesNoJob (asked given) fault
     → AsksNothing given fault
-asks_nothing given Usage none h = (λ task asks. h.0 task asks.1, λ unknown. h.1 unknown.1)
+asks_nothing given Usage none h = (λ job asks. h.0 job asks.1, λ unknown. h.1 unknown.1)
 asks_nothing given UnknownModel none h = (none, h)
 asks_nothing given NoMemory none h = absurd h
 
@@ -94,7 +94,7 @@ pub refused_asks_nothing : (given : List Text) (cause : ErrorKind) (fault : Word
     → (cause ≡ OutOfMemory) ⊎ IsAmong cause (fault_of lpt given) → IsRefusal cause fault → AsksNothing given fault
 refused_asks_nothing given cause Usage (inl e) h = absurd (h e)
 refused_asks_nothing given cause Usage (inr e) h = (
-  λ task asks. subst (λ kinds. IsAmong cause kinds) asks.0 e,
+  λ job asks. subst (λ kinds. IsAmong cause kinds) asks.0 e,
   λ unknown. subst (λ kinds. IsAmong cause kinds) unknown.0 e,
 )
 refused_asks_nothing given cause UnknownModel e h = absurd h

@@ -5,8 +5,8 @@ use Rattle.clap.specs.Words.{App, Row, Rule, Text, fault_of, new_app, new_rule, 
 use Rattle.clap.specs.declared.builder.ArgAction.TheVariants.{Set, SetTrue}
 use Rattle.lp_models.specs.declared.name.ModelName.{ModelName}
 use Rattle.lp_models.specs.Names.{name_of}
-use Rattle.lp_words.specs.declared.words.Task.{Task}
-use Rattle.lp_words.specs.declared.words.Task.TheVariants.{Run, Check, Compare, Threads}
+use Rattle.lp_words.specs.declared.words.Job.{Job}
+use Rattle.lp_words.specs.declared.words.Job.TheVariants.{Run, Check, Compare, Threads}
 use Rattle.lp_words.specs.declared.words.WordsFault.{WordsFault}
 use Rattle.lp_words.specs.declared.words.WordsFault.TheVariants as words
 
@@ -55,16 +55,16 @@ abbrev pub flag_word : Bool → Text
 flag_word true = codes "true"
 flag_word false = codes "false"
 
--- the words of a task
-abbrev pub words_of : Task → Text × Option Text
+-- the words of a job
+abbrev pub words_of : Job → Text × Option Text
 words_of (Run model) = (codes "run", Some (name_of model))
 words_of (Check model) = (codes "check", Some (name_of model))
 words_of (Compare json) = (codes "compare", Some (flag_word json))
 words_of (Threads model) = (codes "threads", Some (name_of model))
 
--- clap takes the words, and they are a task's
-abbrev pub Asks : List Text → Task → Type 0
-Asks words task = (fault_of lpt words ≡ []) × (asked words ≡ Some (words_of task))
+-- clap takes the words, and they are a job's
+abbrev pub Asks : List Text → Job → Type 0
+Asks words job = (fault_of lpt words ≡ []) × (asked words ≡ Some (words_of job))
 
 -- ---- Faults
 
@@ -81,8 +81,8 @@ IsUnknown asked =
 abbrev pub AsksUnknown : List Text → Type 0
 AsksUnknown given = (fault_of lpt given ≡ []) × IsUnknown (asked given)
 
--- why words ask for no task: usage where that isn't so
+-- why words ask for no job: usage where that isn't so
 abbrev pub AsksNothing : List Text → WordsFault → Type 0
-AsksNothing given words.Usage = ((task : Task) → Asks given task → ⊥) × (AsksUnknown given → ⊥)
+AsksNothing given words.Usage = ((job : Job) → Asks given job → ⊥) × (AsksUnknown given → ⊥)
 AsksNothing given words.UnknownModel = AsksUnknown given
 AsksNothing given words.NoMemory = Unit {0}

@@ -4,4 +4,4 @@
 mod words;
 
 pub use lp_models::ModelName;
-pub use words::{Task, WordsFault, task_of};
+pub use words::{Job, WordsFault, job_of};

@@ -4,7 +4,7 @@ ghost use Rattle.clap.specs.Words.{app_of, first_value, found_of, kind_of, subco
 ghost use Rattle.lp_models.specs.Names.{name_of};
 ghost use Rattle.lp_words.specs.Asked.{Asks, AsksNothing, asked_in, comparing, flag_word, lpt, subcommand, words_of};
 ghost use Rattle.lp_words.specs.inside.Subcommands.{IsAddedAs};
-ghost use Rattle.lp_words.specs.inside.WordsFaults.{IsNoFlag, IsRefusal, NamesNoModel, NamesNoTask};
+ghost use Rattle.lp_words.specs.inside.WordsFaults.{IsNoFlag, IsRefusal, NamesNoModel, NamesNoJob};
 
 use clap::error::ErrorKind;
 use clap::{Arg, ArgAction, ArgMatches, Command, Error};
@@ -14,7 +14,7 @@ use std::convert::AsStr;
 
 /// What the program is asked to do.
 #[derive(Clone, Copy, Debug, PartialEq, Eq)]
-pub enum Task {
+pub enum Job {
     /// `run MODEL`: reads a trace and writes the report of its run under the model.
     Run(ModelName),
     /// `check MODEL`: reads a trace and a certificate, and writes the answer to it under the model.
@@ -129,29 +129,29 @@ fn model_of(matches: &ArgMatches<'_>) -> Result<ModelName, WordsFault>
 }
 
 /// What the words ask for that clap has matched.
-fn task_in(matches: &ArgMatches<'_>) -> Result<Task, WordsFault>
-    ensures task { IfOk result (λ task. asked_in (subcommand_rows_of matches.now) ≡ Some (words_of task)) }
-    ensures fault { IfErr result (λ fault. NamesNoTask (asked_in (subcommand_rows_of matches.now)) fault) }
+fn job_in(matches: &ArgMatches<'_>) -> Result<Job, WordsFault>
+    ensures job { IfOk result (λ job. asked_in (subcommand_rows_of matches.now) ≡ Some (words_of job)) }
+    ensures fault { IfErr result (λ fault. NamesNoJob (asked_in (subcommand_rows_of matches.now)) fault) }
 {
     match matches.subcommand() {
-        Some(("run", run)) => Ok(Task::Run(model_of(run)?)),
-        Some(("check", check)) => Ok(Task::Check(model_of(check)?)),
-        Some(("compare", compare)) => Ok(Task::Compare {
+        Some(("run", run)) => Ok(Job::Run(model_of(run)?)),
+        Some(("check", check)) => Ok(Job::Check(model_of(check)?)),
+        Some(("compare", compare)) => Ok(Job::Compare {
             json: flag_of(compare)?,
         }),
-        Some(("threads", threads)) => Ok(Task::Threads(model_of(threads)?)),
+        Some(("threads", threads)) => Ok(Job::Threads(model_of(threads)?)),
         _ => Err(WordsFault::Usage),
     }
 }
 
 /// What these words ask for, the first of which is the program's name. UnknownModel where they are right but for
 /// the model's name, Usage for any other words that ask for nothing, NoMemory where an allocation failed.
-pub fn task_of<S: AsStr>(alloc: Global, words: &[S]) -> Result<Task, WordsFault>
-    ensures task { IfOk result (Asks (map S.text words.now)) }
+pub fn job_of<S: AsStr>(alloc: Global, words: &[S]) -> Result<Job, WordsFault>
+    ensures job { IfOk result (Asks (map S.text words.now)) }
     ensures fault { IfErr result (AsksNothing (map S.text words.now)) }
 {
     match command(alloc)?.try_get_matches_from(words) {
-        Ok(matches) => task_in(&matches),
+        Ok(matches) => job_in(&matches),
         Err(error) => Err(refused(&error)),
     }
 }

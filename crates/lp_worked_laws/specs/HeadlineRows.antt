@@ -37,6 +37,10 @@ completed opened before at =
       certs = cert Floor opened 1 before [] ∷ [];
     }
 
+-- the same leg, said to take the tasks to another level
+abbrev pub bound_for : ℕ → LegEnd → LegEnd
+bound_for level end = record end { target = record { 0 = level } }
+
 -- it wasn't complete by the last event, as this group waited, for these reasons
 abbrev pub incomplete : (opened group last : ℕ) → List Line → LegEnd
 incomplete opened group last lines =
@@ -74,6 +78,14 @@ forks_and_leaves = of_task_1 (enter 1 ∷ Enable ∷ fork 1 2 Own ∷ exit 1 ∷
 abbrev pub dies_before_a_walk : Run
 dies_before_a_walk = of_task_1 (enter 1 ∷ Enable ∷ die 1 ∷ Walk ∷ [])
 
+-- a task that waits calls a function that changes
+abbrev pub calls_and_waits : Run
+calls_and_waits = of_task_1 (Enable ∷ enter 1 ∷ call 1 a ∷ [])
+
+-- a task has left the kernel, and calls the function
+abbrev pub calls_and_has_switched : Run
+calls_and_has_switched = of_task_1 (Enable ∷ enter 1 ∷ exit 1 ∷ enter 1 ∷ call 1 a ∷ [])
+
 -- ---- What they come to, and what wrong engines would answer
 
 -- under the one model that the rows speak of
@@ -98,3 +110,22 @@ pub record HeadlineRefuses (hybrid : Rules) : Type 0 where
       TellsApart hybrid dies_before_a_walk
       (answer (done ∷ done ∷ complete done ∷ done ∷ []) (completed 2 2 3) 0)
       (answer (done ∷ done ∷ done ∷ complete done ∷ []) (completed 2 3 4) 0)
+  -- until its group switches, a task runs the old version, whatever is enabled
+  pub new_version_too_early :
+      TellsApart hybrid calls_and_waits
+      (answer (done ∷ done ∷ ran 0 ∷ []) (incomplete 1 1 3 []) 1)
+      (answer (done ∷ done ∷ ran 1 ∷ []) (incomplete 1 1 3 []) 1)
+  -- and from then on the new one
+  pub old_version_too_long :
+      TellsApart hybrid calls_and_has_switched
+      (answer (done ∷ done ∷ complete (over 1) ∷ done ∷ ran 1 ∷ []) (completed 1 2 3) 1)
+      (answer (done ∷ done ∷ complete (over 1) ∷ done ∷ ran 0 ∷ []) (completed 1 2 3) 1)
+  -- a leg that `enable` opened is bound for the patch, and is named by that event
+  pub wrong_target :
+      TellsApart hybrid calls_and_waits
+      (answer (done ∷ done ∷ ran 0 ∷ []) (incomplete 1 1 3 []) 1)
+      (answer (done ∷ done ∷ ran 0 ∷ []) (bound_for 0 (incomplete 1 1 3 [])) 1)
+  pub wrong_opening :
+      TellsApart hybrid calls_and_waits
+      (answer (done ∷ done ∷ ran 0 ∷ []) (incomplete 1 1 3 []) 1)
+      (answer (done ∷ done ∷ ran 0 ∷ []) (record (incomplete 1 1 3 []) { opened = 2 }) 1)

@@ -1,4 +1,4 @@
 pub mod Rows
 pub mod CertRows
 pub mod HeadlineRows
-pub mod VerdictRows
+pub mod FaultRows

@@ -5,11 +5,11 @@ use Rattle.lp_stack.specs.declared.number.Level.{Level}
 use Rattle.lp_stack.specs.declared.number.TaskId.{TaskId}
 use Rattle.lp_model.specs.declared.verdict.Verdict.{Verdict}
 use Rattle.lp_definitions.specs.declared.event.Event.{Event}
-use Rattle.lp_definitions.specs.declared.event.Event.TheVariants.{Exit, Idle, Fork, Die, Enable, Disable, Reverse}
+use Rattle.lp_definitions.specs.declared.event.Event.TheVariants.{Exit, Idle, Resched, Fork, Die, Enable, Disable, Reverse}
 use Rattle.lp_definitions.specs.declared.reply.What.{What}
 use Rattle.lp_definitions.specs.declared.reply.What.TheVariants.{Done, Switched, Refused}
 use Rattle.lp_definitions.specs.declared.reply.Reply.{Reply}
-use Rattle.lp_machine.specs.Table.{Engine, standings, slot}
+use Rattle.lp_machine.specs.Table.{Engine, leg_tasks, slot}
 use Rattle.lp_transition.specs.inside.ScanSteps.{task_switches}
 use Rattle.lp_board.specs.declared.sheet.Heading.{Heading}
 use Rattle.lp_board.specs.Pages.{level_of}
@@ -27,11 +27,12 @@ target_among e groups verdicts = filter_map (target_if e (λ n. list_any (nat_eq
 abbrev pub levels_switched : Engine → Event → List ℕ → List Verdict → List (TaskId × Option Level)
 levels_switched e (Exit t) groups verdicts = (t, Some (record { 0 = e.target })) ∷ []
 levels_switched e (Idle t) groups verdicts = (t, Some (record { 0 = e.target })) ∷ []
+levels_switched e (Resched t) groups verdicts = (t, Some (record { 0 = e.target })) ∷ []
 levels_switched e _ groups verdicts = target_among e groups verdicts
 
 -- those that change by an event that switched none
 abbrev pub levels_done : Engine → Event → List (TaskId × Option Level)
-levels_done e (Fork p c how) = (c, level_of (standings e.table p.0)) ∷ []
+levels_done e (Fork p c how) = (c, level_of (leg_tasks e.table p.0)) ∷ []
 levels_done e (Die t) = (t, None) ∷ []
 levels_done e _ = []
 

@@ -6,7 +6,7 @@ use Rattle.lp_stack.specs.declared.number.Level.{Level}
 use Rattle.lp_patch.specs.Patches.{Patches}
 use Rattle.lp_definitions.specs.declared.event.Event.{Event}
 use Rattle.lp_machine.specs.Steps.{StandsIn}
-use Rattle.lp_machine.specs.Table.{Engine, standings, state_in}
+use Rattle.lp_machine.specs.Table.{Engine, leg_tasks, state_in}
 use Rattle.lp_board.specs.declared.sheet.Page.{Page}
 use Rattle.lp_board.specs.Names.{Name, run_of}
 use Rattle.lp_board.specs.Pages.{IsPageOf, level_of}
@@ -15,7 +15,7 @@ use Rattle.lp_board.specs.inside.History.{head_of}
 
 -- the level of each task number
 unfoldable pub levels_of : Engine → List (Option Level)
-levels_of core = map (λ t. level_of (standings core.table t)) (range_with_len 0 65536)
+levels_of core = map (λ t. level_of (leg_tasks core.table t)) (range_with_len 0 65536)
 
 -- the engine is at the start, of which both sheets are pages, and the history is empty
 pub record IsBlank (name : Name) (core : Engine) (patches : Patches) (first second : Page) (events : List Event) (head : Named) (readers : ℕ) : Type 0 where

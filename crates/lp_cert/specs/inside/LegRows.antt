@@ -14,7 +14,7 @@ abbrev pub claim_in : RowKind → Claim
 claim_in Complete = claim.Floor
 claim_in _ = claim.Waiting
 
--- a leg is complete behind the last event up to which its certificates go
+-- a leg is complete after the last event up to which its certificates go
 abbrev pub completed_in : RowKind → (upto : ℕ) → Option ℕ
 completed_in Complete upto = Some (upto + 1)
 completed_in _ upto = None

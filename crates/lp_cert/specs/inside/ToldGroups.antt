@@ -7,7 +7,7 @@ use Rattle.lp_model.specs.declared.check.CheckKind.{CheckKind}
 use Rattle.lp_model.specs.declared.verdict.Verdict.{Verdict}
 use Rattle.lp_definitions.specs.declared.event.Event.{Event}
 use Rattle.lp_definitions.specs.Tasks.{Live}
-use Rattle.lp_definitions.specs.Leg.{Standing, State}
+use Rattle.lp_definitions.specs.Leg.{LegTask, State}
 use Rattle.lp_transition.specs.LastScan.{used_scan}
 use Rattle.lp_transition.specs.Scan.{is_of, verdicts_of}
 use Rattle.lp_machine.specs.Table.{Engine, LastScan, slot, state_in}
@@ -24,7 +24,7 @@ is_of_group e group verdict = is_in group (slot e.table verdict.task.0)
 -- a reason is a hold whose frame is still on its task's stack
 abbrev pub is_held : (has_frame : (task serial : ℕ) → Bool) → Ongoing → Bool
 is_held has_frame Nothing = false
-is_held has_frame (Hold task serial from) = has_frame task.0 serial
+is_held has_frame (Hold task serial from last) = has_frame task.0 serial
 is_held has_frame (Busy task first) = false
 
 -- the newest reason of the group is one
@@ -36,7 +36,7 @@ IsHeld s reasons group = is_held (has_frame_in s) (head_of reasons group).ongoin
 abbrev pub TellOfChanged : State → Option CheckKind → List Verdict → LastScan → Type 0
 TellOfChanged s None verdicts last_scan = Unit {0}
 TellOfChanged s (Some kind) verdicts last_scan =
-    (t : ℕ) (x : Standing) → s.tasks t ≡ Live x → nat_eq x.level s.target ≡ false →
+    (t : ℕ) (x : LegTask) → s.tasks t ≡ Live x → nat_eq x.level s.target ≡ false →
     (list_any (is_of s x.group) verdicts ≡ true) ⊎ ((last_scan.kind ≡ Some kind) × (has last_scan.changed x.group ≡ false))
 
 -- of a scan that the model uses the verdicts are of all waiting tasks, or one is of a member of each group that waits and has changed

@@ -1,5 +1,5 @@
 -- What events make of the groups that wait, and of their lines.
-use Rattle.std.specs.Prelude.{◌≡◌, ℕ, suc, ◌+◌, ◌<◌, ◌≤◌, Bool, true, false, not, ◌&&◌, List, [], ◌++◌, ◌∷◌, length, nat_eq, Option, Some, None, is_some, IfSome, if◌then◌else◌}
+use Rattle.std.specs.Prelude.{◌≡◌, ◌≢◌, ◌⊎◌, ℕ, suc, ◌+◌, ◌<◌, ◌≤◌, Bool, true, false, not, ◌&&◌, List, [], ◌++◌, ◌∷◌, length, nat_eq, Option, Some, None, is_some, IfSome, if◌then◌else◌}
 use Rattle.std.specs.List.{AllByRecursion, list_any}
 use Rattle.std.specs.Option.{option_map}
 use Rattle.lp_numbers.specs.Numbers.{Numbers, has}
@@ -11,11 +11,11 @@ use Rattle.lp_model.specs.declared.verdict.Verdict.{Verdict}
 use Rattle.lp_model.specs.declared.check.CheckKind.{CheckKind}
 use Rattle.lp_model.specs.declared.check.CheckKind.TheVariants as check
 use Rattle.lp_definitions.specs.declared.event.Event.{Event}
-use Rattle.lp_definitions.specs.declared.event.Event.TheVariants.{Walk, Stop, Fork, Die}
+use Rattle.lp_definitions.specs.declared.event.Event.TheVariants.{Resched, Walk, Stop, Fork, Die}
 use Rattle.lp_definitions.specs.Tasks.{on_live}
-use Rattle.lp_definitions.specs.Leg.{Standing, State, some_live, is_alone}
-use Rattle.lp_machine.specs.Machine.{outlines_of}
-use Rattle.lp_machine.specs.Table.{Table, Engine, slot, standings, bounds_of, state_in}
+use Rattle.lp_definitions.specs.Leg.{LegTask, State, some_live, is_alone}
+use Rattle.lp_machine.specs.Machine.{outlines_of, view_of}
+use Rattle.lp_machine.specs.Table.{Table, Engine, slot, leg_tasks, bounds_of, state_in}
 use Rattle.lp_tasks.specs.inside.Table.{is_in, is_off}
 use Rattle.lp_definitions.specs.declared.line.Line.{Line}
 use Rattle.lp_cert.specs.declared.reason.Reason.{Reason}
@@ -135,20 +135,31 @@ AreHeads lists scans waiters = AllByRecursion (λ waiter. IsHead lists scans wai
 abbrev pub is_off_here : Table → (level group task : ℕ) → Bool
 is_off_here table level group t = is_in group (slot table t) && is_off level (slot table t)
 
--- the task's group begins to wait, if the task is off the level
-pub record IsTakenIn (table : Table) (level task : ℕ) (groups left : Numbers) (old new : LegReasons) : Type 0 where
-  pub taken : (group : ℕ) → is_off_here table level group task ≡ true → (has left group ≡ true) × (head_of new group ≡ no_head)
-  pub others :
-      (group : ℕ) → is_off_here table level group task ≡ false →
-      (has left group ≡ has groups group) × (head_of new group ≡ head_of old group)
+-- a group begins to wait, as a live task of it is off the level
+pub record BeginsToWait (table : Table) (level group : ℕ) (left : Numbers) (new : LegReasons) : Type 0 where
+  pub task : ℕ
+  pub off : is_off_here table level group task ≡ true
+  pub waits : has left group ≡ true
+  pub headless : head_of new group ≡ no_head
+
+-- a group stays as it was, as no live task of it is off the level
+pub record Stays (table : Table) (level group : ℕ) (groups left : Numbers) (old new : LegReasons) : Type 0 where
+  pub on : (task : ℕ) → is_off_here table level group task ≡ false
+  pub waits : has left group ≡ has groups group
+  pub head : head_of new group ≡ head_of old group
+
+-- a group begins to wait, if a live task of it is off the level
+pub record IsTakenIn (table : Table) (level group : ℕ) (groups left : Numbers) (old new : LegReasons) : Type 0 where
+  pub here : BeginsToWait table level group left new ⊎ Stays table level group groups left old new
+  pub others : (other : ℕ) → other ≢ group → (has left other ≡ has groups other) × (head_of new other ≡ head_of old other)
   pub lists : new.lists ≡ old.lists
   pub scans : new.scans ≡ old.scans
 
--- the groups of the tasks below a number that are off the level wait
+-- the groups below a number that have a live task off the level wait
 pub record AreTakenIn (table : Table) (level bound : ℕ) (groups : Numbers) (old new : LegReasons) : Type 0 where
-  pub all : (group task : ℕ) → task < bound → is_off_here table level group task ≡ true → has groups group ≡ true
+  pub all : (group task : ℕ) → group < bound → is_off_here table level group task ≡ true → has groups group ≡ true
   pub only : (group : ℕ) → has groups group ≡ true → (task : ℕ) × (is_off_here table level group task ≡ true)
-  pub calm : (group : ℕ) → has groups group ≡ true → head_of new group ≡ no_head
+  pub headless : (group : ℕ) → has groups group ≡ true → head_of new group ≡ no_head
   pub lists : new.lists ≡ old.lists
   pub scans : new.scans ≡ old.scans
 
@@ -167,13 +178,26 @@ after_fork model p c how at parents lines group =
 abbrev pub after_death : (mine : ℕ) → (alone : Bool) → (ℕ → Option (List Line)) → (group : ℕ) → Option (List Line)
 after_death mine alone lines group = if nat_eq group mine && alone then None else lines group
 
+-- why a task's own check with frames on its stack doesn't admit it, if the model uses the check
+abbrev pub own_blame : Rules → Engine → ℕ → Option Blame
+own_blame model e t =
+    if model.uses check.Resched
+    then on_live None (λ x. model.blame check.Resched (view_of t x) (state_in e).aim) (leg_tasks e.table t)
+    else None
+
+-- the lines of a group after such a check by a task, which may be alone in its own group
+abbrev pub after_own_check : State → (t mine : ℕ) → (alone : Bool) → Option Blame → (ℕ → Option (List Line)) → (group : ℕ) → Option (List Line)
+after_own_check s t mine alone None lines group = lines group
+after_own_check s t mine alone (Some blame) lines group =
+    if nat_eq group mine && alone then option_map (after_refusal (has_frame_in s) group (suc s.number) (t, blame)) (lines group) else lines group
+
 -- the lines of a group after these groups switched
 abbrev pub after_switch : List ℕ → (ℕ → Option (List Line)) → (group : ℕ) → Option (List Line)
 after_switch gone lines group = if list_any (nat_eq group) gone then None else lines group
 
 -- a task is the only live member of a group
 abbrev pub is_lone : Engine → (task group : ℕ) → Bool
-is_lone e t group = is_alone (bounds_of e.patches) (outlines_of (standings e.table)) group t
+is_lone e t group = is_alone (bounds_of e.patches) (outlines_of (leg_tasks e.table)) group t
 
 -- what the verdicts of a scan make of the lines of a group, where the model uses its kind
 abbrev pub after_scan_of : Rules → State → CheckKind → List Verdict → (ℕ → Option (List Line)) → (group : ℕ) → Option (List Line)
@@ -185,12 +209,14 @@ abbrev pub own_lines : Rules → Engine → Event → List Verdict → (ℕ → 
 own_lines model e Walk verdicts lines group = after_scan_of model (state_in e) check.Walk verdicts lines group
 own_lines model e Stop verdicts lines group = after_scan_of model (state_in e) check.Stop verdicts lines group
 own_lines model e (Fork p c how) verdicts lines group =
-    on_live (lines group) (λ x. after_fork model p c how (suc e.number) x.group lines group) (standings e.table p.0)
+    on_live (lines group) (λ x. after_fork model p c how (suc e.number) x.group lines group) (leg_tasks e.table p.0)
 own_lines model e (Die t) verdicts lines group =
-    on_live (lines group) (λ x. after_death x.group (is_lone e t.0 x.group) lines group) (standings e.table t.0)
+    on_live (lines group) (λ x. after_death x.group (is_lone e t.0 x.group) lines group) (leg_tasks e.table t.0)
+own_lines model e (Resched t) verdicts lines group =
+    on_live (lines group) (λ x. after_own_check (state_in e) t.0 x.group (is_lone e t.0 x.group) (own_blame model e t.0) lines group) (leg_tasks e.table t.0)
 own_lines model e _ verdicts lines group = lines group
 
 -- the group of a task that forks is a number below 65,536
 abbrev pub HasFewGroups : Engine → Event → Type 0
-HasFewGroups e (Fork p c how) = (x : Standing) → slot e.table p.0 ≡ Some x → x.group < 65536
+HasFewGroups e (Fork p c how) = (x : LegTask) → slot e.table p.0 ≡ Some x → x.group < 65536
 HasFewGroups e _ = Unit {0}

@@ -1,6 +1,6 @@
-//! Plain events that are noted together, once they are over.
+//! Quiet events that are noted together, once they are over.
 ghost use Rattle.std.specs.Prelude.{◌≡◌, ◌+◌, ◌<◌, true};
-ghost use Rattle.lp_definitions.specs.Plain.{is_plain};
+ghost use Rattle.lp_definitions.specs.TaskEvents.{is_quiet};
 ghost use Rattle.lp_definitions.specs.declared.event.Event.{Event};
 ghost use Rattle.lp_cert.specs.Ends.{IsMadeFurther, made_upto};
 
@@ -15,7 +15,7 @@ impl Maker {
     #[inline(always)]
     pub fn let_pass<M: Consistency>(&self, core: &Core<M>)
         requires room { core.now.number < 1000000 }
-        ensures made { (event : Event) → is_plain event ≡ true → IsMadeFurther M.rules core.now event (made_upto core.now.number self.now) (made_upto (core.now.number + 1) self.now) }
+        ensures made { (event : Event) → is_quiet event ≡ true → IsMadeFurther M.rules core.now event (made_upto core.now.number self.now) (made_upto (core.now.number + 1) self.now) }
     {
         // For the proof alone, which knows what every value keeps once a field is read.
         let _ = &self.waiters;

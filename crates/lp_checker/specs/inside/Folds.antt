@@ -4,7 +4,7 @@ use Rattle.lp_model.specs.Rules.{Rules}
 use Rattle.lp_definitions.specs.declared.event.Event.{Event}
 use Rattle.lp_machine.specs.inside.Unswitched.{unswitched}
 use Rattle.lp_tasks.specs.Openings.{IsOpening}
-use Rattle.lp_machine.specs.Table.{Engine, standings}
+use Rattle.lp_machine.specs.Table.{Engine, leg_tasks}
 use Rattle.lp_checker.specs.declared.fold.Fold.{Fold}
 use Rattle.lp_checker.specs.Folds.{leg_with}
 
@@ -14,4 +14,4 @@ pub record IsAt (model : Rules) (opening : Engine) (events : List Event) (k : �
   pub number : fold.number ≡ opening.number + k
   pub target : fold.target.0 ≡ opening.target
   pub patches : fold.patches ≡ opening.patches
-  pub tasks : standings fold.tasks ≡ unswitched model.child_group (leg_with opening events) k
+  pub tasks : leg_tasks fold.tasks ≡ unswitched model.child_group (leg_with opening events) k

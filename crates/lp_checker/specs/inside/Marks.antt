@@ -5,7 +5,7 @@ use Rattle.lp_definitions.specs.Leg.{Leg}
 use Rattle.lp_definitions.specs.declared.line.Line.{Line}
 use Rattle.lp_checker.specs.declared.marks.Mark.{Mark}
 use Rattle.lp_checker.specs.declared.marks.Mark.TheVariants.{Open, Blamed, Sound}
-use Rattle.lp_definitions.specs.Verdict.{Section, blame_at, is_busy, lies_in, line_test, moment_of}
+use Rattle.lp_definitions.specs.Judgement.{Section, blame_at, is_busy, lies_in, line_test, moment_of}
 use Rattle.lp_laws.specs.Blamed.{is_blamed}
 
 module _ (model : Rules) (leg : Leg) (section : Section) where

@@ -1,9 +1,9 @@
 -- How the check keeps the sections of a certificate.
 use Rattle.std.specs.Prelude.{◌≡◌, ℕ, ◌-◌, ◌<◌, ◌≤◌, Bool, false, not, ◌&&◌, Option, Some, None, nat_eq, List, [], ◌∷◌, slice_range}
 use Rattle.lp_definitions.specs.declared.line.Line.{Line}
-use Rattle.lp_definitions.specs.Leg.{Leg, Standing}
+use Rattle.lp_definitions.specs.Leg.{Leg, LegTask}
 use Rattle.lp_checker.specs.declared.sections.Section.{Section as Part}
-use Rattle.lp_definitions.specs.Verdict.{Birth, Section}
+use Rattle.lp_definitions.specs.Judgement.{Birth, Section}
 
 -- its group and its time, with these lines
 abbrev pub with_lines : List Line → Part → Section
@@ -31,6 +31,6 @@ FollowOn size last begin (part ∷ more) =
     × FollowOn size last part.until more
 
 -- a live member of the group that is off the target
-abbrev pub is_waiting_member : (target group : ℕ) → Option Standing → Bool
+abbrev pub is_waiting_member : (target group : ℕ) → Option LegTask → Bool
 is_waiting_member target group None = false
 is_waiting_member target group (Some x) = nat_eq x.group group && not (nat_eq x.level target)

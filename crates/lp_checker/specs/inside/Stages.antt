@@ -8,7 +8,7 @@ use Rattle.lp_definitions.specs.declared.line.Line.{Line}
 use Rattle.lp_definitions.specs.declared.cert_fault.CertFault.{CertFault}
 use Rattle.lp_definitions.specs.declared.cert_fault.CertFault.TheVariants.{NoSuchGroup}
 use Rattle.lp_checker.specs.inside.Cursors.{Range, leg_in}
-use Rattle.lp_definitions.specs.Verdict.{Section, births, birth_tests, first_group, first_lines, gap_test, line_tests, no_such_group, sections}
+use Rattle.lp_definitions.specs.Judgement.{Section, births, birth_tests, first_group, first_lines, gap_test, line_tests, no_such_group, sections}
 
 -- C3 and C2, then C4
 abbrev pub part_tests : Rules → Leg → List Section → List (Option CertFault)

@@ -1,12 +1,12 @@
 -- How the fold keeps the tasks.
 use Rattle.std.specs.Prelude.{◌≡◌, ℕ, ◌-◌, ◌<◌, ◌≤◌, ◌++◌, true, List, Option, None, length, count_by, slice_index, is_some, replicate}
 use Rattle.lp_numbers.specs.Numbers.{Numbers, has}
-use Rattle.lp_definitions.specs.Leg.{Standing}
+use Rattle.lp_definitions.specs.Leg.{LegTask}
 use Rattle.lp_machine.specs.Table.{Table, IsWide, slot}
 use Rattle.lp_tasks.specs.inside.Table.{is_in}
 
--- a slot for each number: those behind the ones that there are have no task
-unfoldable pub all_slots : List (Option Standing) → List (Option Standing)
+-- a slot for each number: those after the ones that there are have no task
+unfoldable pub all_slots : List (Option LegTask) → List (Option LegTask)
 all_slots slots = slots ++ replicate (65536 - length slots) None
 
 -- the numbers that were used, and the number of live members of each group
@@ -19,6 +19,6 @@ pub record IsCounted (table : Table) (members : List ℕ) : Type 0 where
   pub counted : (group : ℕ) → group < 65536 → slice_index members group ≡ count_by (is_in group) table.slots
 
 -- as many slots as were wanted so far
-pub record IsKept (slots : List (Option Standing)) (used : Numbers) (members : List ℕ) : Type 0 where
+pub record IsKept (slots : List (Option LegTask)) (used : Numbers) (members : List ℕ) : Type 0 where
   pub few : length slots ≤ 65536
   pub counted : IsCounted (record { slots = all_slots slots; used = used }) members

@@ -1,6 +1,6 @@
 //! Which events are accepted. Control events are: in a leg they change nothing.
 ghost use Rattle.std.specs.Prelude.{◌≡◌, [], ◌∷◌, is_none};
-ghost use Rattle.lp_machine.specs.Table.{standings};
+ghost use Rattle.lp_machine.specs.Table.{leg_tasks};
 ghost use Rattle.lp_definitions.specs.Run.{task_numbers};
 ghost use Rattle.lp_definitions.specs.Tasks.{first_of, tests, unknown_task, not_of, not_in, stack_not_empty};
 ghost use Rattle.lp_machine.specs.Machine.{outlines_of};
@@ -13,7 +13,7 @@ use lp_symbols::SymId;
 
 /// Whether an event is accepted, with this many symbols.
 pub(crate) fn accepts(tasks: &FoldedTable, symbols: usize, event: Event) -> bool
-    ensures { result ≡ is_none (first_of (tests (task_numbers symbols) (outlines_of (standings tasks.now)) event)) }
+    ensures { result ≡ is_none (first_of (tests (task_numbers symbols) (outlines_of (leg_tasks tasks.now)) event)) }
 {
     match event {
         Event::Call(task, func) => accepts_call(tasks, symbols, task, func),
@@ -23,6 +23,7 @@ pub(crate) fn accepts(tasks: &FoldedTable, symbols: usize, event: Event) -> bool
         Event::Enter(task) => accepts_enter(tasks, symbols, task),
         Event::Exit(task) => accepts_empty(tasks, task, Class::Normal),
         Event::Idle(task) => accepts_empty(tasks, task, Class::Idle),
+        Event::Resched(task) => accepts_kernel(tasks, task, Class::Normal),
         Event::Fork(parent, child, how) => accepts_fork(tasks, symbols, parent, child, how),
         Event::Die(task) => accepts_empty(tasks, task, Class::Normal),
         Event::Walk | Event::Stop | Event::Enable | Event::Disable | Event::Reverse => true,
@@ -31,7 +32,7 @@ pub(crate) fn accepts(tasks: &FoldedTable, symbols: usize, event: Event) -> bool
 
 /// Whether a call is accepted.
 fn accepts_call(tasks: &FoldedTable, symbols: usize, task: TaskId, func: SymId) -> bool
-    ensures { result ≡ is_none (first_of (tests (task_numbers symbols) (outlines_of (standings tasks.now)) (Event.Call task func))) }
+    ensures { result ≡ is_none (first_of (tests (task_numbers symbols) (outlines_of (leg_tasks tasks.now)) (Event.Call task func))) }
 {
     let Some(live) = tasks.get(task) else {
         return false;
@@ -50,7 +51,7 @@ fn accepts_call(tasks: &FoldedTable, symbols: usize, task: TaskId, func: SymId) 
 
 /// Whether a return is accepted.
 fn accepts_ret(tasks: &FoldedTable, symbols: usize, task: TaskId) -> bool
-    ensures { result ≡ is_none (first_of (tests (task_numbers symbols) (outlines_of (standings tasks.now)) (Event.Ret task))) }
+    ensures { result ≡ is_none (first_of (tests (task_numbers symbols) (outlines_of (leg_tasks tasks.now)) (Event.Ret task))) }
 {
     let Some(live) = tasks.get(task) else {
         return false;
@@ -66,7 +67,7 @@ fn accepts_ret(tasks: &FoldedTable, symbols: usize, task: TaskId) -> bool
 
 /// Whether an event that needs no more than a mode is accepted: a sleep, a wake-up.
 fn accepts_mode(tasks: &FoldedTable, task: TaskId, mode: Mode) -> bool
-    ensures { let now = outlines_of (standings tasks.now) in result ≡ is_none (first_of (unknown_task now task.0 ∷ not_in mode now task.0 ∷ [])) }
+    ensures { let now = outlines_of (leg_tasks tasks.now) in result ≡ is_none (first_of (unknown_task now task.0 ∷ not_in mode now task.0 ∷ [])) }
 {
     let Some(live) = tasks.get(task) else {
         return false;
@@ -76,7 +77,7 @@ fn accepts_mode(tasks: &FoldedTable, task: TaskId, mode: Mode) -> bool
 
 /// Whether entering the kernel is accepted.
 fn accepts_enter(tasks: &FoldedTable, symbols: usize, task: TaskId) -> bool
-    ensures { result ≡ is_none (first_of (tests (task_numbers symbols) (outlines_of (standings tasks.now)) (Event.Enter task))) }
+    ensures { result ≡ is_none (first_of (tests (task_numbers symbols) (outlines_of (leg_tasks tasks.now)) (Event.Enter task))) }
 {
     let Some(live) = tasks.get(task) else {
         return false;
@@ -93,7 +94,21 @@ fn accepts_enter(tasks: &FoldedTable, symbols: usize, task: TaskId) -> bool
 /// Whether an event is accepted at which a task of this class leaves the kernel or is done with it:
 /// an exit, an idle point, an end.
 fn accepts_empty(tasks: &FoldedTable, task: TaskId, class: Class) -> bool
-    ensures { let now = outlines_of (standings tasks.now) in result ≡ is_none (first_of (unknown_task now task.0 ∷ not_of class now task.0 ∷ not_in Mode.Kernel now task.0 ∷ stack_not_empty now task.0 ∷ [])) }
+    ensures { let now = outlines_of (leg_tasks tasks.now) in result ≡ is_none (first_of (unknown_task now task.0 ∷ not_of class now task.0 ∷ not_in Mode.Kernel now task.0 ∷ stack_not_empty now task.0 ∷ [])) }
+{
+    let Some(live) = tasks.get(task) else {
+        return false;
+    };
+    if live.depth() != 0 {
+        return false;
+    }
+    accepts_kernel(tasks, task, class)
+}
+
+/// Whether an event is accepted that a task of this class makes in the kernel on a CPU, whatever is on
+/// its stack.
+fn accepts_kernel(tasks: &FoldedTable, task: TaskId, class: Class) -> bool
+    ensures { let now = outlines_of (leg_tasks tasks.now) in result ≡ is_none (first_of (unknown_task now task.0 ∷ not_of class now task.0 ∷ not_in Mode.Kernel now task.0 ∷ [])) }
 {
     let Some(live) = tasks.get(task) else {
         return false;
@@ -101,10 +116,7 @@ fn accepts_empty(tasks: &FoldedTable, task: TaskId, class: Class) -> bool
     if live.class() != class {
         return false;
     }
-    if live.mode() != Mode::Kernel {
-        return false;
-    }
-    live.depth() == 0
+    live.mode() == Mode::Kernel
 }
 
 /// Whether a fork is accepted.
@@ -115,7 +127,7 @@ fn accepts_fork(
     child: TaskId,
     how: ForkKind,
 ) -> bool
-    ensures { result ≡ is_none (first_of (tests (task_numbers symbols) (outlines_of (standings tasks.now)) (Event.Fork parent child how))) }
+    ensures { result ≡ is_none (first_of (tests (task_numbers symbols) (outlines_of (leg_tasks tasks.now)) (Event.Fork parent child how))) }
 {
     let Some(live) = tasks.get(parent) else {
         return false;

@@ -46,8 +46,8 @@ impl Model for FoldedTable {
 }
 
 impl FoldedTable {
-    ghost use Rattle.lp_definitions.specs.Leg.{Standing};
-    ghost use Rattle.lp_machine.specs.Table.{slot, standings, IsWide};
+    ghost use Rattle.lp_definitions.specs.Leg.{LegTask};
+    ghost use Rattle.lp_machine.specs.Table.{slot, leg_tasks, IsWide};
     ghost use Rattle.lp_tasks.specs.inside.Table.{is_in, IsKnown, IsBlank};
 
     /// A table without tasks.
@@ -79,7 +79,7 @@ impl FoldedTable {
     pub(crate) fn is_used(&self, task: TaskId) -> bool
         ensures value { result ≡ has self.now.used task.0 }
         ensures known { IsKnown self.now task.0 }
-        ensures fate { result ≡ not (is_unused (standings self.now task.0)) }
+        ensures fate { result ≡ not (is_unused (leg_tasks self.now task.0)) }
     {
         self.used.contains(task.0)
     }
@@ -101,7 +101,7 @@ impl FoldedTable {
     /// Says that a number was used, if no live task has it.
     pub(crate) fn bury(&mut self, task: TaskId)
         requires { slot self.old task.0 ≡ None }
-        ensures { standings self.new ≡ (λ t. if nat_eq t task.0 then Dead else standings self.old t) }
+        ensures { leg_tasks self.new ≡ (λ t. if nat_eq t task.0 then Dead else leg_tasks self.old t) }
     {
         self.used.insert(task.0);
     }
@@ -110,8 +110,8 @@ impl FoldedTable {
     pub(crate) fn put(&mut self, task: TaskId, live: FoldedTask) -> Result<(), AllocError>
         requires positive { 0 < task.0 }
         requires free { slot self.old task.0 ≡ None }
-        ensures put { OnOk result (standings self.new ≡ (λ t. if nat_eq t task.0 then Live live else standings self.old t)) }
-        ensures unchanged { OnErr result (standings self.new ≡ standings self.old) }
+        ensures put { OnOk result (leg_tasks self.new ≡ (λ t. if nat_eq t task.0 then Live live else leg_tasks self.old t)) }
+        ensures unchanged { OnErr result (leg_tasks self.new ≡ leg_tasks self.old) }
     {
         let place = usize::from(task.0);
         let group = usize::from(live.group().0);
@@ -126,7 +126,7 @@ impl FoldedTable {
     /// Ends a live task of a group.
     pub(crate) fn remove(&mut self, task: TaskId, group: GroupId)
         requires { option_map (λ x. x.group) (slot self.old task.0) ≡ Some group.0 }
-        ensures { standings self.new ≡ (λ t. if nat_eq t task.0 then Dead else standings self.old t) }
+        ensures { leg_tasks self.new ≡ (λ t. if nat_eq t task.0 then Dead else leg_tasks self.old t) }
     {
         self.members[usize::from(group.0)] -= 1;
         self.slots[usize::from(task.0)] = None;
@@ -135,8 +135,8 @@ impl FoldedTable {
     /// The task calls a function, if it is live; it has room for one more frame.
     pub(crate) fn call(&mut self, task: TaskId, func: SymId, serial: u32) -> Result<(), AllocError>
         requires { ForSome (slot self.old task.0) (λ x. length x.frames < 100) }
-        ensures called { OnOk result (standings self.new ≡ change task.0 (calling serial func) (standings self.old)) }
-        ensures unchanged { OnErr result (standings self.new ≡ standings self.old) }
+        ensures called { OnOk result (leg_tasks self.new ≡ change task.0 (calling serial func) (leg_tasks self.old)) }
+        ensures unchanged { OnErr result (leg_tasks self.new ≡ leg_tasks self.old) }
     {
         let place = usize::from(task.0);
         if place >= self.slots.len() {
@@ -150,7 +150,7 @@ impl FoldedTable {
 
     /// The task returns from the function that it called last, if it is live.
     pub(crate) fn ret(&mut self, task: TaskId)
-        ensures { standings self.new ≡ change task.0 returning (standings self.old) }
+        ensures { leg_tasks self.new ≡ change task.0 returning (leg_tasks self.old) }
     {
         let place = usize::from(task.0);
         if place >= self.slots.len() {
@@ -163,7 +163,7 @@ impl FoldedTable {
 
     /// Puts the task in a mode, if it is live.
     pub(crate) fn set_mode(&mut self, task: TaskId, mode: Mode)
-        ensures { standings self.new ≡ change task.0 (put_in mode) (standings self.old) }
+        ensures { leg_tasks self.new ≡ change task.0 (put_in mode) (leg_tasks self.old) }
     {
         let place = usize::from(task.0);
         if place >= self.slots.len() {

@@ -20,9 +20,9 @@ pub(crate) struct FoldedTask {
 
 impl Model for FoldedTask {
     ghost use Rattle.std.specs.Prelude.{◌≤◌, length};
-    ghost use Rattle.lp_definitions.specs.Leg.{Standing};
+    ghost use Rattle.lp_definitions.specs.Leg.{LegTask};
 
-    ghost Value = { Standing };
+    ghost Value = { LegTask };
 
     ghost view = { λ t. record { class = t.class; mode = t.mode; group = t.group.0; level = t.level.0; frames = t.frames.items } };
 

@@ -1,7 +1,7 @@
 //! Events that are sent to a book from seats and from the control.
 ghost use Rattle.std.specs.Prelude.{◌≡◌, ◌≢◌, ◌≤◌, ◌<◌, ◌↔◌, ◌∷◌, ◌++◌, [], None, Some, IfErr, IfOk, IfSome, OnErr, OnOk, length};
 ghost use Rattle.lp_definitions.specs.declared.event.Event.TheVariants.{Walk};
-ghost use Rattle.lp_log.specs.declared.seat.Cause.TheVariants.{NotYours, JournalFull as Full};
+ghost use Rattle.lp_log.specs.declared.seat.TurnedBy.TheVariants.{NotYours, JournalFull as Full};
 ghost use mathlib.Core.List.{IsPrefix};
 ghost use Rattle.lp_log.specs.Journals.{and_entry, events_in, next_entry};
 ghost use Rattle.lp_log.specs.Logs.{AreSame};
@@ -10,7 +10,7 @@ ghost use Rattle.lp_desk.specs.Books.{IsSent};
 
 use super::{Book, publish};
 use lp_board::{DeskName, Told};
-use lp_log::{Cause, Control, Seat, Turned};
+use lp_log::{Control, Seat, Turned, TurnedBy};
 use lp_model::Consistency;
 use lp_scan::{Judged, ScanGate};
 use lp_transition::{Event, Reply};
@@ -68,9 +68,9 @@ impl<M: Consistency, N: DeskName> Book<M, N> {
     {
         let sending = self.log.prepare(alloc, seat, event)?;
         if publish(rt, alloc, &self.log, &mut self.board, sending.step()).is_err() {
-            return Err(sending.turn_back(Cause::NoMemory));
+            return Err(sending.turn_back(TurnedBy::NoMemory));
         }
-        let lp_log::Submitted { seat, reply, child } = self.log.send(alloc, sending);
+        let lp_log::SeatAnswer { seat, reply, child } = self.log.send(alloc, sending);
         Ok(Submitted {
             seat,
             reply,
@@ -107,7 +107,7 @@ impl<M: Consistency, N: DeskName> Book<M, N> {
             return self.submit(rt, alloc, seat, event);
         }
         match self.log.prepare(alloc, seat, event) {
-            Ok(sending) => Err(sending.turn_back(Cause::NoMemory)),
+            Ok(sending) => Err(sending.turn_back(TurnedBy::NoMemory)),
             Err(turned) => Err(turned),
         }
     }
@@ -145,9 +145,9 @@ impl<M: Consistency + Sync, N: DeskName> Book<M, N> {
         let log = &mut self.log;
         let commanding = log.prepare_command(rt, alloc, workers, gate, judged, control, event)?;
         if publish(rt, alloc, &self.log, &mut self.board, commanding.step()).is_err() {
-            return Err(commanding.turn_back(Cause::NoMemory));
+            return Err(commanding.turn_back(TurnedBy::NoMemory));
         }
-        let lp_log::Commanded { control, reply } = self.log.send_command(commanding);
+        let lp_log::ControlAnswer { control, reply } = self.log.send_command(commanding);
         Ok(Commanded {
             control,
             reply,
@@ -187,7 +187,7 @@ impl<M: Consistency + Sync, N: DeskName> Book<M, N> {
         }
         let log = &mut self.log;
         match log.prepare_command(rt, alloc, workers, gate, judged, control, event) {
-            Ok(commanding) => Err(commanding.turn_back(Cause::NoMemory)),
+            Ok(commanding) => Err(commanding.turn_back(TurnedBy::NoMemory)),
             Err(turned) => Err(turned),
         }
     }

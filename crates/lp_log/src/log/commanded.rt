@@ -6,13 +6,13 @@ ghost use Rattle.lp_machine.specs.Table.{state_in};
 ghost use Rattle.lp_transition.specs.Weigh.{IsWeighed};
 ghost use Rattle.lp_transition.specs.declared.engine.step.Halt.TheVariants.{JournalFull};
 ghost use Rattle.lp_definitions.specs.declared.event.Event.TheVariants.{Walk};
-ghost use Rattle.lp_log.specs.declared.seat.Cause.TheVariants.{NotYours, JournalFull as Full};
+ghost use Rattle.lp_log.specs.declared.seat.TurnedBy.TheVariants.{NotYours, JournalFull as Full};
 ghost use Rattle.lp_log.specs.Journals.{IsReplayed, next_entry, reply_to, and_entry};
 ghost use Rattle.lp_log.specs.Logs.{AreSame};
 ghost use Rattle.lp_log.specs.Seats.{owner};
 
 use super::Log;
-use crate::seat::{Commanded, Control, Turned};
+use crate::seat::{Control, ControlAnswer, Turned};
 use lp_model::{CheckKind, Consistency, Verdict};
 use lp_scan::{Judged, ScanGate, scan_shared};
 use lp_transition::{Event, Halt, MOST_EVENTS, Step};
@@ -36,7 +36,7 @@ impl<M: Consistency + Sync> Log<M> {
         judged: Option<&Judged<M>>,
         control: Control,
         event: Event,
-    ) -> Result<Commanded, Turned<Control>>
+    ) -> Result<ControlAnswer, Turned<Control>>
         requires some { 0 < workers }
         requires few { workers ≤ 64 }
         requires walk { IfSome judged (λ _. event ≡ Walk) }

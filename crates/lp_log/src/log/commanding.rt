@@ -1,7 +1,7 @@
 //! An event of the control between its weighing and its place in the journal.
 ghost use Rattle.std.specs.Prelude.{◌≡◌, ◌≢◌, ◌≤◌, ◌<◌, ◌↔◌, ◌∷◌, ◌++◌, [], None, IfOk, IfErr, IfSome, OnOk, length, vec_len, vec_capacity};
 ghost use Rattle.lp_definitions.specs.declared.event.Event.TheVariants.{Walk};
-ghost use Rattle.lp_log.specs.declared.seat.Cause.TheVariants.{NotYours, JournalFull as Full};
+ghost use Rattle.lp_log.specs.declared.seat.TurnedBy.TheVariants.{NotYours, JournalFull as Full};
 ghost use Rattle.lp_log.specs.Journals.{IsReplayed, next_entry, reply_to, and_entry};
 ghost use Rattle.lp_log.specs.Logs.{AreSame, IsReady};
 ghost use Rattle.lp_log.specs.Seats.{owner};
@@ -9,7 +9,7 @@ ghost use Rattle.lp_log.specs.Seats.{owner};
 use super::commanded::is_owned;
 use super::{Log, Ready};
 use crate::Entry;
-use crate::seat::{Cause, Commanded, Control, Turned};
+use crate::seat::{Control, ControlAnswer, Turned, TurnedBy};
 use lp_model::Consistency;
 use lp_scan::{Judged, ScanGate};
 use lp_transition::{Event, Reply, Step};
@@ -48,7 +48,7 @@ impl Commanding {
     }
 
     /// Gives the event up, and hands the control back.
-    pub fn turn_back(self, cause: Cause) -> Turned<Control>
+    pub fn turn_back(self, cause: TurnedBy) -> Turned<Control>
         ensures part { result.part ≡ self.control }
         ensures cause { result.cause ≡ cause }
     {
@@ -119,7 +119,7 @@ impl<M: Consistency + Sync> Log<M> {
         judged: Option<&Judged<M>>,
         sent: &mut Vec<Entry>,
         event: Event,
-    ) -> Result<(Ready, Reply), Cause>
+    ) -> Result<(Ready, Reply), TurnedBy>
         requires some { 0 < workers }
         requires few { workers ≤ 64 }
         requires walk { IfSome judged (λ _. event ≡ Walk) }
@@ -134,16 +134,16 @@ impl<M: Consistency + Sync> Log<M> {
         ensures full { IfErr result (λ cause. (cause ≡ Full) ↔ ((owner event ≡ None) × (1000000 ≤ length self.old.journal.entries))) }
     {
         if is_owned(event) {
-            return Err(Cause::NotYours);
+            return Err(TurnedBy::NotYours);
         }
         match self.weigh_shared(rt, alloc, workers, gate, judged, event) {
             Ok(step) => self.ready_with(alloc, step, sent),
-            Err(halt) => Err(Cause::from(halt)),
+            Err(halt) => Err(TurnedBy::from(halt)),
         }
     }
 
     /// Takes an event that was made ready, with the entry in the journal and at the control. Never allocates.
-    pub fn send_command(&mut self, commanding: Commanding) -> Commanded
+    pub fn send_command(&mut self, commanding: Commanding) -> ControlAnswer
         requires { IsReady M.rules self.old commanding.step }
         ensures reply { result.reply ≡ reply_to M.rules self.old.journal commanding.step.event }
         ensures journal { self.new.journal ≡ and_entry self.old.journal commanding.step.event result.reply }
@@ -155,7 +155,7 @@ impl<M: Consistency + Sync> Log<M> {
             answer,
         } = commanding;
         let reply = self.commit_into(ready, answer, &mut entries);
-        Commanded {
+        ControlAnswer {
             control: Control { entries },
             reply,
         }

@@ -8,12 +8,12 @@ ghost use Rattle.lp_transition.specs.Blames.{is_open};
 ghost use Rattle.lp_transition.specs.Scan.{is_asked, views_of};
 ghost use Rattle.lp_machine.specs.Table.{state_in};
 ghost use Rattle.lp_transition.specs.Weigh.{IsWeighed};
-ghost use Rattle.lp_log.specs.declared.seat.Cause.TheVariants.{NotYours, JournalFull as Full};
+ghost use Rattle.lp_log.specs.declared.seat.TurnedBy.TheVariants.{NotYours, JournalFull as Full};
 ghost use Rattle.lp_log.specs.Journals.{reply_to, and_entry};
 ghost use Rattle.lp_log.specs.Logs.{AreSame};
 
 use super::Log;
-use crate::seat::Cause;
+use crate::seat::TurnedBy;
 use lp_model::{CheckKind, Consistency};
 use lp_scan::{Batch, Judged};
 use lp_stack::{View, ViewCopy};
@@ -41,7 +41,7 @@ impl<M: Consistency> Log<M> {
 
     /// What a walk is to be judged over before the log takes it: a batch, where the event is a walk and the model looks at
     /// tasks in walks. None else. Refused where no event is left, else where an allocation failed.
-    pub fn batch_for(&self, alloc: Global, event: Event) -> Result<Option<Batch>, Cause>
+    pub fn batch_for(&self, alloc: Global, event: Event) -> Result<Option<Batch>, TurnedBy>
         ensures walk { IfOk result (λ batch. IfSome batch (λ _. event ≡ Walk)) }
         ensures yours { IfErr result (λ cause. (event ≡ Walk) × (cause ≢ NotYours)) }
         ensures full { IfErr result (λ cause. (cause ≡ Full) ↔ (1000000 ≤ length self.now.journal.entries)) }
@@ -50,7 +50,7 @@ impl<M: Consistency> Log<M> {
             return Ok(None);
         }
         if self.is_full() {
-            return Err(Cause::JournalFull);
+            return Err(TurnedBy::JournalFull);
         }
         let batch = self.batch(alloc)?;
         Ok(Some(batch))

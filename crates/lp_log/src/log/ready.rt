@@ -5,13 +5,13 @@ ghost use Rattle.lp_transition.specs.Blames.{is_open};
 ghost use Rattle.lp_machine.specs.Table.{state_in};
 ghost use Rattle.lp_transition.specs.Weigh.{IsWeighed};
 ghost use Rattle.lp_transition.specs.declared.engine.step.Halt.TheVariants.{JournalFull};
-ghost use Rattle.lp_log.specs.declared.seat.Cause.TheVariants.{NoMemory};
+ghost use Rattle.lp_log.specs.declared.seat.TurnedBy.TheVariants.{NoMemory};
 ghost use Rattle.lp_log.specs.Journals.{reply_to, and_entry};
 ghost use Rattle.lp_log.specs.Logs.{IsReady, AreSame};
 
 use super::Log;
 use crate::Entry;
-use crate::seat::Cause;
+use crate::seat::TurnedBy;
 use lp_model::{CheckKind, Consistency, Verdict};
 use lp_transition::{Event, Halt, Reply, Step};
 use std::alloc::{AllocError, Global};
@@ -124,7 +124,7 @@ impl<M: Consistency> Log<M> {
         alloc: Global,
         step: Step,
         sent: &mut Vec<Entry>,
-    ) -> Result<(Ready, Reply), Cause>
+    ) -> Result<(Ready, Reply), TurnedBy>
         requires { IsWeighed M.rules self.old.core step }
         ensures ready { IfOk result (λ both. IsReady M.rules self.new both.0) }
         ensures step { IfOk result (λ both. both.0 ≡ step) }
@@ -137,7 +137,7 @@ impl<M: Consistency> Log<M> {
             Ok((answer, other)) => Ok((Ready { step, answer }, other)),
             Err(_) => {
                 drop(step);
-                Err(Cause::NoMemory)
+                Err(TurnedBy::NoMemory)
             }
         }
     }

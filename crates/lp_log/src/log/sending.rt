@@ -1,7 +1,7 @@
 //! An event of a seat between its weighing and its place in the journal: where a board stands beside the log, it is
 //! published there, when nothing can fail any more.
 ghost use Rattle.std.specs.Prelude.{◌≡◌, ◌≢◌, ◌≤◌, ◌<◌, ◌↔◌, Some, IfOk, IfErr, OnOk, length, vec_len, vec_capacity};
-ghost use Rattle.lp_log.specs.declared.seat.Cause.TheVariants.{NotYours, JournalFull as Full};
+ghost use Rattle.lp_log.specs.declared.seat.TurnedBy.TheVariants.{NotYours, JournalFull as Full};
 ghost use Rattle.lp_log.specs.Journals.{IsReplayed, next_entry, reply_to, and_entry};
 ghost use Rattle.lp_log.specs.Logs.{AreSame, IsReady};
 ghost use Rattle.lp_log.specs.Seats.{owner, and_sent, child_seat};
@@ -9,7 +9,7 @@ ghost use Rattle.lp_log.specs.Seats.{owner, and_sent, child_seat};
 use super::sent::{child_seat, is_own};
 use super::{Log, Ready};
 use crate::Entry;
-use crate::seat::{Cause, Seat, Submitted, Turned};
+use crate::seat::{Seat, SeatAnswer, Turned, TurnedBy};
 use lp_model::Consistency;
 use lp_stack::TaskId;
 use lp_transition::{Event, Reply, Step};
@@ -48,7 +48,7 @@ impl Sending {
     }
 
     /// Gives the event up, and hands the seat back.
-    pub fn turn_back(self, cause: Cause) -> Turned<Seat>
+    pub fn turn_back(self, cause: TurnedBy) -> Turned<Seat>
         ensures part { result.part ≡ self.seat }
         ensures cause { result.cause ≡ cause }
     {
@@ -110,7 +110,7 @@ impl<M: Consistency> Log<M> {
         task: TaskId,
         sent: &mut Vec<Entry>,
         event: Event,
-    ) -> Result<(Ready, Reply), Cause>
+    ) -> Result<(Ready, Reply), TurnedBy>
         ensures yours { OnOk result (owner event ≡ Some task.0) }
         ensures ready { IfOk result (λ both. IsReady M.rules self.new both.0) }
         ensures event { IfOk result (λ both. both.0.event ≡ event) }
@@ -122,17 +122,17 @@ impl<M: Consistency> Log<M> {
         ensures full { IfErr result (λ cause. (cause ≡ Full) ↔ ((owner event ≡ Some task.0) × (1000000 ≤ length self.old.journal.entries))) }
     {
         if !is_own(event, task) {
-            return Err(Cause::NotYours);
+            return Err(TurnedBy::NotYours);
         }
         match self.weigh(alloc, event) {
             Ok(step) => self.ready_with(alloc, step, sent),
-            Err(halt) => Err(Cause::from(halt)),
+            Err(halt) => Err(TurnedBy::from(halt)),
         }
     }
 
     /// Takes an event that was made ready, with the entry in the journal and at the seat, and the seat of the child where a
     /// fork was accepted. Never allocates.
-    pub fn send(&mut self, alloc: Global, sending: Sending) -> Submitted
+    pub fn send(&mut self, alloc: Global, sending: Sending) -> SeatAnswer
         requires { IsReady M.rules self.old sending.step }
         ensures reply { result.reply ≡ reply_to M.rules self.old.journal sending.step.event }
         ensures journal { self.new.journal ≡ and_entry self.old.journal sending.step.event result.reply }
@@ -148,7 +148,7 @@ impl<M: Consistency> Log<M> {
         let event = ready.step().event();
         let reply = self.commit_into(ready, answer, &mut entries);
         let child = child_seat(alloc, event, &reply.what);
-        Submitted {
+        SeatAnswer {
             seat: Seat { task, entries },
             reply,
             child,

@@ -1,15 +1,15 @@
 //! Events that are sent from seats and from the control.
 ghost use Rattle.std.specs.Prelude.{◌≡◌, ◌≢◌, ◌+◌, ◌≤◌, ◌<◌, ◌↔◌, [], ◌∷◌, ◌++◌, true, Some, None, Err, IfOk, IfErr, IfSome, IfNone, IsTrue, OnErr, OnOk, length, vec_len, vec_capacity};
-ghost use Rattle.lp_log.specs.declared.seat.Cause.TheVariants.{NotYours, JournalFull as Full};
+ghost use Rattle.lp_log.specs.declared.seat.TurnedBy.TheVariants.{NotYours, JournalFull as Full};
 ghost use Rattle.lp_log.specs.Journals.{IsReplayed, next_entry, reply_to, and_entry};
 ghost use Rattle.lp_log.specs.Logs.{AreSame, IsReady};
 ghost use Rattle.lp_log.specs.Seats.{owner, and_sent, child_seat};
-ghost use Rattle.lp_log.specs.inside.Plain.{is_calm};
+ghost use Rattle.lp_log.specs.inside.Quiet.{is_quiet_now};
 ghost use Rattle.lp_machine.specs.Table.{state_in};
 
 use super::{Log, Ready};
 use crate::Entry;
-use crate::seat::{Seat, Submitted, Turned};
+use crate::seat::{Seat, SeatAnswer, Turned};
 use lp_model::Consistency;
 use lp_stack::TaskId;
 use lp_transition::{Event, Reply, What};
@@ -26,7 +26,7 @@ impl<M: Consistency> Log<M> {
         alloc: Global,
         seat: Seat,
         event: Event,
-    ) -> Result<Submitted, Turned<Seat>>
+    ) -> Result<SeatAnswer, Turned<Seat>>
         ensures yours { OnOk result (owner event ≡ Some seat.task) }
         ensures reply { IfOk result (λ done. done.reply ≡ reply_to M.rules self.old.journal event) }
         ensures journal { IfOk result (λ done. self.new.journal ≡ and_entry self.old.journal event done.reply) }
@@ -39,8 +39,8 @@ impl<M: Consistency> Log<M> {
         ensures not_yours { IfErr result (λ turned. (turned.cause ≡ NotYours) ↔ (owner event ≢ Some seat.task)) }
         ensures full { IfErr result (λ turned. (turned.cause ≡ Full) ↔ ((owner event ≡ Some seat.task) × (1000000 ≤ length self.old.journal.entries))) }
     {
-        if is_own(event, seat.task) && self.is_calm(event) {
-            return self.submit_calm(alloc, seat, event);
+        if is_own(event, seat.task) && self.is_quiet_now(event) {
+            return self.submit_quiet(alloc, seat, event);
         }
         match self.prepare(alloc, seat, event) {
             Ok(sending) => Ok(self.send(alloc, sending)),
@@ -49,14 +49,14 @@ impl<M: Consistency> Log<M> {
     }
 
     /// Takes an event of the seat's task that switches nobody, without a step between.
-    fn submit_calm(
+    fn submit_quiet(
         &mut self,
         alloc: Global,
         mut seat: Seat,
         event: Event,
-    ) -> Result<Submitted, Turned<Seat>>
+    ) -> Result<SeatAnswer, Turned<Seat>>
         requires own { owner event ≡ Some seat.task }
-        requires calm { is_calm (state_in self.old.core) event ≡ true }
+        requires quiet { is_quiet_now (state_in self.old.core) event ≡ true }
         ensures reply { IfOk result (λ done. done.reply ≡ reply_to M.rules self.old.journal event) }
         ensures journal { IfOk result (λ done. self.new.journal ≡ and_entry self.old.journal event done.reply) }
         ensures seat { IfOk result (λ done. done.seat ≡ and_sent seat (next_entry self.old.journal.entries event done.reply)) }
@@ -73,7 +73,7 @@ impl<M: Consistency> Log<M> {
         match self.step_into(alloc, event, &mut seat.entries) {
             Ok(reply) => {
                 let child = child_seat(alloc, event, &reply.what);
-                Ok(Submitted { seat, reply, child })
+                Ok(SeatAnswer { seat, reply, child })
             }
             Err(cause) => Err(Turned { part: seat, cause }),
         }
@@ -116,7 +116,7 @@ pub(super) fn is_own(event: Event, task: TaskId) -> bool
     match event {
         Event::Call(of, _) | Event::Fork(of, _, _) => of == task,
         Event::Ret(of) | Event::Sleep(of) | Event::Wake(of) | Event::Enter(of) => of == task,
-        Event::Exit(of) | Event::Idle(of) | Event::Die(of) => of == task,
+        Event::Exit(of) | Event::Idle(of) | Event::Resched(of) | Event::Die(of) => of == task,
         Event::Walk | Event::Stop | Event::Enable | Event::Disable | Event::Reverse => false,
     }
 }

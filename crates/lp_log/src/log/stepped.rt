@@ -2,16 +2,16 @@
 //! no step has to stand between. They are nearly all events of a recording.
 ghost use Rattle.std.specs.Prelude.{◌≡◌, ◌≢◌, ◌≤◌, ◌<◌, ◌↔◌, [], ◌∷◌, ◌++◌, true, false, IfOk, IfErr, OnErr, OnOk, length};
 ghost use Rattle.lp_transition.specs.Weigh.{is_switched};
-ghost use Rattle.lp_log.specs.declared.seat.Cause.TheVariants.{NotYours, JournalFull as Full};
+ghost use Rattle.lp_log.specs.declared.seat.TurnedBy.TheVariants.{NotYours, JournalFull as Full};
 ghost use Rattle.lp_log.specs.Journals.{next_entry, reply_to, and_entry};
 ghost use Rattle.lp_log.specs.Logs.{AreSame};
 ghost use Rattle.lp_machine.specs.Table.{state_in};
-ghost use Rattle.lp_log.specs.inside.Plain.{is_calm};
-ghost use Rattle.lp_definitions.specs.Plain.{is_point};
+ghost use Rattle.lp_log.specs.inside.Quiet.{is_quiet_now};
+ghost use Rattle.lp_definitions.specs.TaskEvents.{is_own_check};
 
 use super::Log;
 use crate::Entry;
-use crate::seat::Cause;
+use crate::seat::TurnedBy;
 use lp_model::Consistency;
 use lp_transition::laws::the_machine_steps_as_defined;
 use lp_transition::{Event, Reply, What};
@@ -20,10 +20,10 @@ use std::alloc::Global;
 impl<M: Consistency> Log<M> {
     /// Whether an event switches nobody, as far as one sees without weighing it.
     #[inline(always)]
-    pub(super) fn is_calm(&self, event: Event) -> bool
-        ensures { result ≡ is_calm (state_in self.now.core) event }
+    pub(super) fn is_quiet_now(&self, event: Event) -> bool
+        ensures { result ≡ is_quiet_now (state_in self.now.core) event }
     {
-        event.is_plain() || (is_point(event) && !self.core.in_transition())
+        event.is_quiet() || (is_own_check(event) && !self.core.in_transition())
     }
 
     /// Takes an event that switches nobody, and adds its entry to a list of the sender's too.
@@ -32,8 +32,8 @@ impl<M: Consistency> Log<M> {
         alloc: Global,
         event: Event,
         sent: &mut Vec<Entry>,
-    ) -> Result<Reply, Cause>
-        requires { is_calm (state_in self.old.core) event ≡ true }
+    ) -> Result<Reply, TurnedBy>
+        requires { is_quiet_now (state_in self.old.core) event ≡ true }
         ensures reply { IfOk result (λ given. given ≡ reply_to M.rules self.old.journal event) }
         ensures journal { IfOk result (λ given. self.new.journal ≡ and_entry self.old.journal event given) }
         ensures sent { IfOk result (λ given. sent.new.items ≡ sent.old.items ++ next_entry self.old.journal.entries event given ∷ []) }
@@ -43,10 +43,10 @@ impl<M: Consistency> Log<M> {
         ensures full { IfErr result (λ cause. (cause ≡ Full) ↔ (1000000 ≤ length self.old.journal.entries)) }
     {
         if self.is_full() {
-            return Err(Cause::JournalFull);
+            return Err(TurnedBy::JournalFull);
         }
         if self.room_with(sent).is_err() {
-            return Err(Cause::NoMemory);
+            return Err(TurnedBy::NoMemory);
         }
         let number = self.next_number();
         let reply = self.step_reserved(alloc, event);
@@ -56,11 +56,11 @@ impl<M: Consistency> Log<M> {
 
     /// Takes an event that switches nobody, for whose entry there is memory. Never allocates.
     fn step_reserved(&mut self, alloc: Global, event: Event) -> Reply
-        requires calm { is_calm (state_in self.old.core) event ≡ true }
+        requires quiet { is_quiet_now (state_in self.old.core) event ≡ true }
         requires left { self.old.core.number < 1000000 }
         requires room { 0 < self.old.room }
         ensures reply { result ≡ reply_to M.rules self.old.journal event }
-        ensures calm { is_switched result.what ≡ false }
+        ensures quiet { is_switched result.what ≡ false }
         ensures journal { self.new.journal ≡ and_entry self.old.journal event result }
     {
         the_machine_steps_as_defined::<M>();
@@ -75,12 +75,12 @@ impl<M: Consistency> Log<M> {
     }
 }
 
-/// Whether an event is a check that a task makes alone.
+/// Whether an event is an own check.
 #[inline(always)]
-fn is_point(event: Event) -> bool
-    ensures { result ≡ is_point event }
+fn is_own_check(event: Event) -> bool
+    ensures { result ≡ is_own_check event }
 {
-    matches!(event, Event::Exit(_) | Event::Idle(_))
+    matches!(event, Event::Exit(_) | Event::Idle(_) | Event::Resched(_))
 }
 
 /// The same reply once more. It names no groups, and so takes no memory.

@@ -9,23 +9,23 @@ use Rattle.std.proofs.lemmas.List.Folds.{list_any_at}
 use Rattle.lp_stack.specs.declared.frame.Frame.{Frame}
 use Rattle.lp_stack.specs.declared.view.Mode.{Mode}
 use Rattle.lp_stack.specs.TaskView.{TaskView}
-use Rattle.lp_patch.specs.Patches.{Goal, is_stale}
+use Rattle.lp_patch.specs.Patches.{Aim, is_stale}
 use Rattle.lp_model.specs.declared.check.CheckKind.{CheckKind}
 use Rattle.lp_model.specs.declared.check.CheckKind.TheVariants.{KernelExit, IdlePoint, Walk, Stop}
 use Rattle.lp_model.specs.declared.check.ForkKind.{ForkKind}
 use Rattle.lp_model.specs.declared.check.Blame.{Blame}
 use Rattle.lp_model.specs.declared.check.Blame.TheVariants.{Unused, Frame as Held, Busy}
-use Rattle.lp_model.specs.Rules.{SerialsRise, IsCalmAt, IsLawful}
+use Rattle.lp_model.specs.Rules.{SerialsRise, AdmitsEmptyIn, IsLawful}
 use Rattle.lp_model.specs.Row.{ModelRow, admits_of, blame_of, rules_of}
 
 -- what a row has to keep, for its model to be lawful
 pub record IsSound (table : ModelRow) : Type 0 where
   -- the kinds used can reach every task
   pub reaches : IsTrue (table.uses Walk) ⊎ IsTrue (table.uses Stop) ⊎ (IsTrue (table.uses KernelExit) × IsTrue (table.uses IdlePoint))
-  -- at a kind used, no mode keeps a calm task back
-  pub calm : (kind : CheckKind) (mode : Mode) → IsTrue (table.uses kind) → IsCalmAt kind mode → IsFalse (table.busy kind mode)
+  -- at a kind used, no mode keeps a free task back
+  pub free : (kind : CheckKind) (mode : Mode) → IsTrue (table.uses kind) → AdmitsEmptyIn kind mode → IsFalse (table.busy kind mode)
   -- under a whole-call model a stale frame keeps its task back
-  pub stale : IsTrue table.whole_call → (aim : Goal) (frame : Frame) → IsTrue (is_stale aim frame) → IsTrue (table.keeps aim frame)
+  pub stale : IsTrue table.whole_call → (aim : Aim) (frame : Frame) → IsTrue (is_stale aim frame) → IsTrue (table.keeps aim frame)
   -- groups
   pub first : (task : ℕ) → table.first_group task ≡ task ⊎ table.first_group task ≡ 0
   pub child : (group task : ℕ) (how : ForkKind) → table.child_group group task how ≡ group ⊎ table.child_group group task how ≡ task
@@ -102,7 +102,7 @@ is_none_answer None false e = absurd (cc)
 is_none_answer (Some x) true e = absurd (cc)
 is_none_answer (Some x) false e = refl
 
-module _ (table : ModelRow) (kind : CheckKind) (view : TaskView) (aim : Goal) where
+module _ (table : ModelRow) (kind : CheckKind) (view : TaskView) (aim : Aim) where
   -- a task is admitted exactly where nothing is blamed
   pub none_blamed : is_none (blame_of table kind view aim) ≡ admits_of table kind view aim
   none_blamed = none_parts (table.uses kind) (find (table.keeps aim) view.frames) (table.busy kind view.mode) ∙ ap (λ b. table.uses kind && b && not (table.busy kind view.mode)) (is_none-find (table.keeps aim) view.frames)
@@ -142,17 +142,17 @@ module _ (table : ModelRow) (kind : CheckKind) (view : TaskView) (aim : Goal) wh
 -- ---- The laws
 
 module _ (table : ModelRow) (sound : IsSound table) where
-  holds : (kind kind' : CheckKind) (view view' : TaskView) (aim : Goal) (frame : Frame) → SerialsRise view.frames → blame_of table kind view aim ≡ Some (Held frame.serial) → Contains view.frames frame → Contains view'.frames frame → admits_of table kind' view' aim ≡ false
+  holds : (kind kind' : CheckKind) (view view' : TaskView) (aim : Aim) (frame : Frame) → SerialsRise view.frames → blame_of table kind view aim ≡ Some (Held frame.serial) → Contains view.frames frame → Contains view'.frames frame → admits_of table kind' view' aim ≡ false
   holds kind kind' view view' aim frame rise e here there =
       let b = blamed table kind view aim frame.serial e in
       let same : b.frame ≡ frame = same_frame view.frames b.frame frame rise b.there here b.same in
       let keeps : table.keeps aim (get_or view'.frames there.0 frame) ≡ true = ap (table.keeps aim) (there.2 ∙ sym same) ∙ b.keeps in
       refused table kind' view' aim there.0 frame there.1 keeps
 
-  empties : (kind : CheckKind) (view : TaskView) (aim : Goal) → IsTrue (table.uses kind) → IsCalmAt kind view.mode → view.frames ≡ [] → admits_of table kind view aim ≡ true
-  empties kind view aim used calm empty = let still = sound.calm kind view.mode used calm in rw (used, empty, still) refl
+  empties : (kind : CheckKind) (view : TaskView) (aim : Aim) → IsTrue (table.uses kind) → AdmitsEmptyIn kind view.mode → view.frames ≡ [] → admits_of table kind view aim ≡ true
+  empties kind view aim used free empty = let still = sound.free kind view.mode used free in rw (used, empty, still) refl
 
-  whole : (kind : CheckKind) (view : TaskView) (aim : Goal) → IsTrue table.whole_call → admits_of table kind view aim ≡ true → All (λ frame. IsFalse (is_stale aim frame)) view.frames
+  whole : (kind : CheckKind) (view : TaskView) (aim : Aim) → IsTrue table.whole_call → admits_of table kind view aim ≡ true → All (λ frame. IsFalse (is_stale aim frame)) view.frames
   whole kind view aim w h i d lt = false_from_ne_true _ (λ stale. both_ways _ (refused table kind view aim i d lt (sound.stale w aim (get_or view.frames i d) stale)) h)
 
   -- the model of a sound row is lawful

@@ -1,7 +1,8 @@
 -- How the members of groups are kept: the first member of each group, and the next one and the one before it of each member.
-use Rattle.std.specs.Prelude.{◌≡◌, ℕ, zero, suc, ◌-◌, ◌<◌, ◌≤◌, Bool, true, false, List, [], ◌∷◌, ◌++◌, length, map, replicate, if◌then◌else◌, nat_eq, slice_index}
+use Rattle.std.specs.Prelude.{◌≡◌, ℕ, zero, suc, ◌-◌, ◌<◌, ◌≤◌, Bool, true, false, List, [], ◌∷◌, ◌++◌, length, map, replicate, if◌then◌else◌, nat_eq, not, slice_index}
 use Rattle.std.specs.List.{list_any}
 use Rattle.lp_numbers.specs.Groups.{Groups}
+use Rattle.lp_numbers.specs.Numbers.{Numbers, has}
 
 -- the links of all numbers, 0 where none is written yet
 unfoldable pub all_links : List ℕ → List ℕ
@@ -46,3 +47,12 @@ pub record IsLinked (first next before : List ℕ) : Type 0 where
   pub nexts : length next ≡ 65536
   pub befores : length before ≡ 65536
   pub lists : AreLists first next before (λ group. list_from next (slice_index first group))
+
+-- the set has the groups that have a first member
+abbrev pub AreNamed : List ℕ → Numbers → Type 0
+AreNamed first groups = (group : ℕ) → has groups group ≡ not (nat_eq (slice_index first group) 0)
+
+-- linked tables, with the set of the groups that have a member
+pub record AreMembers (first next before : List ℕ) (groups : Numbers) : Type 0 where
+  pub linked : IsLinked first next before
+  pub named : AreNamed first groups

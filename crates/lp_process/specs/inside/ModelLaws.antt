@@ -1,6 +1,6 @@
 -- The model is lawful.
 use Rattle.std.proofs.Common.{◌≡◌, ◌⊎◌, ℕ, inl, inr, refl, ap}
-use Rattle.lp_model.specs.declared.check.CheckKind.TheVariants.{KernelExit, IdlePoint, Walk, Stop}
+use Rattle.lp_model.specs.declared.check.CheckKind.TheVariants.{KernelExit, IdlePoint, Resched, Walk, Stop}
 use Rattle.lp_model.specs.declared.check.ForkKind.{ForkKind}
 use Rattle.lp_model.specs.declared.check.ForkKind.TheVariants.{Own, Share}
 use Rattle.lp_model.specs.Rules.{IsLawful}
@@ -16,7 +16,7 @@ pub process_group_lawful : IsLawful (rules_of process_group)
 process_group_lawful =
     lawful_row process_group (record {
       reaches = inl refl;
-      calm = elim [ KernelExit ↦ λ mode used calm. refl | IdlePoint ↦ λ mode used calm. refl | Walk ↦ λ mode used calm. ap is_in_kernel calm | Stop ↦ λ mode used calm. refl ];
+      free = elim [ KernelExit ↦ λ mode used free. refl | IdlePoint ↦ λ mode used free. refl | Resched ↦ λ mode used free. refl | Walk ↦ λ mode used free. ap is_in_kernel free | Stop ↦ λ mode used free. refl ];
       stale = λ whole aim frame stale. stale;
       first = λ task. inl refl;
       child = own_or_parents;

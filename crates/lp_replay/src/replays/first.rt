@@ -1,27 +1,24 @@
 //! The first leg of a trace alone.
 ghost use Rattle.std.specs.Prelude.{◌≡◌, ◌≤◌, ◌+◌, ◌++◌, length, option_to_list, slice_get, IfOk, OnOk};
 ghost use Rattle.lp_definitions.specs.Run.{Run, first_leg};
-ghost use Rattle.lp_machine.specs.Steps.{StandsIn};
-ghost use Rattle.lp_machine.specs.Table.{state_in};
-ghost use Rattle.lp_cert.specs.Ends.{IsMadeWith};
+ghost use Rattle.lp_cert.specs.Explained.{IsExplained, made_in};
 ghost use Rattle.lp_definitions.specs.Outcome.{leg_ends};
 ghost use Rattle.lp_replay.specs.Outcome.{run_of};
 ghost use Rattle.lp_replay.specs.inside.Recording.{first_made};
 
 use super::fault::ReplayFault;
 use super::own_code::{FirstLeg, OwnCode};
-use super::recorder::take_other;
 use super::start;
-use lp_cert::{LegList, Maker};
+use lp_cert::{ExplainedCore, LegList};
 use lp_model::Consistency;
 use lp_text::Trace;
-use lp_transition::{Core, Event};
+use lp_transition::Event;
 use std::alloc::Global;
 
 /// How the first leg of a trace ended under a model, as `replay` tells it: a list of that end alone,
 /// empty where no event opened one; NoMemory where an allocation failed.
 ///
-/// The events behind the leg's end aren't taken, nor are those behind its completion, from which on
+/// The events after the leg's end aren't taken, nor are those after its completion, from which on
 /// its end stays the same. Neither replies nor stays are kept.
 pub fn first_leg_end<M: Consistency>(
     alloc: Global,
@@ -30,46 +27,44 @@ pub fn first_leg_end<M: Consistency>(
 ) -> Result<LegList, ReplayFault>
     ensures { IfOk result (λ found. found ≡ option_to_list (slice_get (leg_ends M.rules (first_leg M.rules (run_of trace.now)) trace.now.events) 0)) }
 {
-    let mut maker = Maker::new(alloc)?;
     let model = OwnCode::<M, FirstLeg>::new(model);
-    let mut core = start::engine(alloc, model, trace)?;
-    take_first_leg(alloc, &mut core, &mut maker, trace.events())?;
-    first_of(alloc, maker)
+    let core = start::engine(alloc, model, trace)?;
+    let mut explained = ExplainedCore::new(alloc, core)?;
+    take_first_leg(alloc, &mut explained, trace.events())?;
+    first_of(alloc, explained)
 }
 
 /// Takes these events up to the one that completes or ends the first leg.
 fn take_first_leg<M: Consistency>(
     alloc: Global,
-    core: &mut Core<M>,
-    maker: &mut Maker,
+    explained: &mut ExplainedCore<M>,
     events: &[Event],
 ) -> Result<(), ReplayFault>
-    requires { (run : Run) × StandsIn M.rules run (state_in core.old) × IsMadeWith M.rules run core.old.last_scan maker.old × (length run.events + length events.now ≤ 1000000) }
-    ensures { OnOk result ((run : Run) → StandsIn M.rules run (state_in core.old) → IsMadeWith M.rules run core.old.last_scan maker.old → first_made maker.new ≡ slice_get (leg_ends M.rules (first_leg M.rules run) (run.events ++ events.now)) 0) }
+    requires { (run : Run) × IsExplained M.rules run explained.old × (length run.events + length events.now ≤ 1000000) }
+    ensures { OnOk result ((run : Run) → IsExplained M.rules run explained.old → first_made (made_in explained.new) ≡ slice_get (leg_ends M.rules (first_leg M.rules run) (run.events ++ events.now)) 0) }
 {
     for event in events {
-        // No plain event completes or ends a leg. Nearly all events are plain, so they are noted together.
-        if event.is_plain() {
-            maker.let_pass(core);
-            core.step_plain(*event);
+        explained.step(alloc, *event)?;
+        // No quiet event completes or ends a leg, and nearly all events are quiet.
+        if event.is_quiet() {
             continue;
         }
-        maker.note_passed(core);
-        take_other(alloc, core, maker, *event)?;
-        if maker.is_complete() {
+        if explained.is_complete() {
             return Ok(());
         }
-        if !maker.ended().is_empty() {
+        if !explained.ended().is_empty() {
             return Ok(());
         }
     }
-    maker.note_passed(core);
     Ok(())
 }
 
 /// The first end that was made, alone.
-fn first_of(alloc: Global, maker: Maker) -> Result<LegList, ReplayFault>
-    ensures { IfOk result (λ found. found ≡ option_to_list (first_made maker)) }
+fn first_of<M: Consistency>(
+    alloc: Global,
+    explained: ExplainedCore<M>,
+) -> Result<LegList, ReplayFault>
+    ensures { IfOk result (λ found. found ≡ option_to_list (first_made (made_in explained))) }
 {
-    Ok(maker.into_ends(alloc)?.into_first())
+    Ok(explained.into_ends(alloc)?.into_first())
 }

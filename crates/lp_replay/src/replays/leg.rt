@@ -6,13 +6,13 @@ ghost use Rattle.lp_definitions.specs.Run.{Run, leg_of, opens, plus};
 ghost use Rattle.lp_machine.specs.Steps.{StandsIn};
 ghost use Rattle.lp_machine.specs.Table.{state_in};
 ghost use Rattle.lp_replay.specs.Legs.{leg_numbered, opened_by, to_end};
-ghost use Rattle.lp_replay.specs.inside.Recording.{is_opened};
 
 use super::fault::ReplayFault;
 use super::start;
+use lp_cert::opens_leg;
 use lp_model::Consistency;
 use lp_text::Trace;
-use lp_transition::{Core, Event, Halt, Opening, What};
+use lp_transition::{Core, Event, Halt, Opening};
 use std::alloc::Global;
 
 /// A leg of a trace.
@@ -82,7 +82,7 @@ fn step<M: Consistency>(
     ensures { IfOk result (λ opened. (run : Run) → StandsIn M.rules run (state_in core.old) → (opened ≡ opens M.rules (leg_of M.rules run) event) × StandsIn M.rules (plus run event) (state_in core.new)) }
 {
     match core.step(alloc, event) {
-        Ok(reply) => Ok(opens(event, &reply.what)),
+        Ok(reply) => Ok(opens_leg(event, &reply.what)),
         Err(Halt::NoMemory) => Err(ReplayFault::NoMemory),
         Err(Halt::JournalFull) => unreachable!(),
     }
@@ -127,12 +127,4 @@ fn to_end<M: Consistency>(
         }
     }
     Ok(events.len())
-}
-
-/// Whether an event opened a leg: it is a control event, and was accepted.
-#[inline(always)]
-fn opens(event: Event, what: &What) -> bool
-    ensures { result ≡ is_opened event what.now }
-{
-    event.is_control() && !matches!(what, What::Refused(_))
 }

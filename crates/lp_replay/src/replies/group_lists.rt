@@ -8,7 +8,7 @@ use lp_stack::GroupId;
 use std::alloc::{AllocError, Global};
 use std::marker::Model;
 
-/// Lists of groups, one behind the other in one store: most are of one group, and an allocation for each
+/// Lists of groups, one after the other in one store: most are of one group, and an allocation for each
 /// would take many times the memory of the group.
 ///
 /// Contracts see the lists.
@@ -58,7 +58,7 @@ impl GroupLists {
         Ok(())
     }
 
-    /// The groups of the list at a place, from 0; none behind the last one.
+    /// The groups of the list at a place, from 0; none after the last one.
     pub fn at(&self, place: usize) -> &[GroupId]
         ensures { group_numbers result.now ≡ first_groups (drop place self.now) }
     {
@@ -69,7 +69,7 @@ impl GroupLists {
         &self.groups[start_of(ends, place)..ends[place]]
     }
 
-    /// The place after one, or the same behind the last one.
+    /// The place after one, or the same after the last one.
     pub(super) fn place_after(&self, place: usize) -> usize
         ensures { drop result self.now ≡ drop 1 (drop place self.now) }
     {

@@ -15,7 +15,7 @@ pub struct KeptReply<'a> {
     pub groups: &'a [GroupId],
 }
 
-/// As the report of a stack of patches writes it, behind the event's number.
+/// As the report of a stack of patches writes it, after the event's number.
 impl fmt::Display for KeptReply<'_> {
     fn fmt<W: fmt::Write>(&self, f: &mut fmt::Formatter<W>) -> fmt::Result {
         fmt_what(self, f)?;

@@ -7,7 +7,7 @@ use Rattle.lp_definitions.specs.declared.event.Event.{Event}
 use Rattle.lp_definitions.specs.declared.event.Event.TheVariants.{Call, Ret}
 use Rattle.lp_definitions.specs.declared.reply.What.{What}
 use Rattle.lp_definitions.specs.declared.reply.What.TheVariants.{Ran, Refused}
-use Rattle.lp_stays.specs.Invariant.{Ongoing, Counted, outside, place, kept}
+use Rattle.lp_stays.specs.Invariant.{Ongoing, Tally, outside, place, kept}
 
 -- ---- The stay that one task is in, for one patch
 
@@ -39,7 +39,7 @@ abbrev pub mixes : Bool → Ongoing → ℕ
 mixes side x = one_if (is_both (called side x) && not (is_both x))
 
 -- a call of a patch's function, on its new side or its old
-abbrev pub after_call : ℕ → ℕ → Bool → Counted → Counted
+abbrev pub after_call : ℕ → ℕ → Bool → Tally → Tally
 after_call below t side count =
     let x = kept count below t in
     record count {
@@ -49,38 +49,38 @@ after_call below t side count =
     }
 
 -- a return from one
-abbrev pub after_return : ℕ → ℕ → Counted → Counted
+abbrev pub after_return : ℕ → ℕ → Tally → Tally
 after_return below t count =
     record count { present = slice_set count.present (place below t) (returned (kept count below t)) }
 
 -- a call of any function at a level, in as many of the patches, from the lowest
-unfoldable pub calls : ℕ → ℕ → ℕ → ℕ → Counted → Counted
+unfoldable pub calls : ℕ → ℕ → ℕ → ℕ → Tally → Tally
 calls zero t func level count = count
 calls (suc below) t func level count =
     let before = calls below t func level count in
     if patch_has count.patches (suc below) func then after_call below t (nat_le (suc below) level) before else before
 
 -- a return from any function
-unfoldable pub returns : ℕ → ℕ → ℕ → Counted → Counted
+unfoldable pub returns : ℕ → ℕ → ℕ → Tally → Tally
 returns zero t func count = count
 returns (suc below) t func count =
     let before = returns below t func count in
     if patch_has count.patches (suc below) func then after_return below t before else before
 
-abbrev pub one_more : Counted → Counted
+abbrev pub one_more : Tally → Tally
 one_more count = record count { events = count.events + 1 }
 
-abbrev pub by_return : ℕ → What → Option SymId → Counted → Counted
+abbrev pub by_return : ℕ → What → Option SymId → Tally → Tally
 by_return t (Refused why) top count = count
 by_return t _ None count = count
 by_return t _ (Some func) count = returns (length count.patches) t func.0 count
 
-abbrev pub by_call : ℕ → SymId → What → Counted → Counted
+abbrev pub by_call : ℕ → SymId → What → Tally → Tally
 by_call t func (Ran level) count = calls (length count.patches) t func.0 level.0 count
 by_call t func _ count = count
 
 -- after an event with what it did, and the function of its task's last frame before it
-abbrev pub after_event : Event → What → Option SymId → Counted → Counted
+abbrev pub after_event : Event → What → Option SymId → Tally → Tally
 after_event (Call t func) what top count = by_call t.0 func what (one_more count)
 after_event (Ret t) what top count = by_return t.0 what top (one_more count)
 after_event _ what top count = one_more count

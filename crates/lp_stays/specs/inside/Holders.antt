@@ -2,7 +2,7 @@
 use Rattle.std.specs.Prelude.{◌≡◌, ℕ, suc, ◌<◌, ◌≤◌, Bool, false, List, length, slice_index, ◌==◌}
 use Rattle.std.specs.Int.{bit_at}
 use Rattle.lp_patch.specs.Patches.{Patches, patch_has}
-use Rattle.lp_stays.specs.Invariant.{Counted, IsKept}
+use Rattle.lp_stays.specs.Invariant.{Tally, IsKept}
 
 -- whether a bit of a mask is 1; bit 0 is the lowest
 unfoldable pub mask_has : ℕ → ℕ → Bool
@@ -22,6 +22,6 @@ abbrev pub AreHolders : Patches → List ℕ → Type 0
 AreHolders patches masks = (func : ℕ) → func < length masks → IsHolders patches func (slice_index masks func)
 
 -- what every count keeps, with the masks that it has of the functions
-pub record IsCount (count : Counted) (masks : List ℕ) : Type 0 where
+pub record IsCount (count : Tally) (masks : List ℕ) : Type 0 where
   pub kept : IsKept count
   pub holders : AreHolders count.patches masks

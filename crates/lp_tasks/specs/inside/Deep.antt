@@ -5,7 +5,7 @@ use Rattle.std.specs.Option.{option_map}
 use Rattle.lp_stack.specs.declared.frame.Frame.{Frame}
 use Rattle.lp_numbers.specs.Numbers.{Numbers, has}
 use Rattle.lp_numbers.specs.Groups.{Groups}
-use Rattle.lp_definitions.specs.Leg.{Standing}
+use Rattle.lp_definitions.specs.Leg.{LegTask}
 use Rattle.lp_tasks.specs.inside.Slots.{slots_of, padded, IsTable}
 
 -- for each task its stack, if that is deep; none past the end
@@ -76,31 +76,31 @@ pub record IsLowest (own frames : List Frame) : Type 0 where
   pub deep : own_frames < length frames
 
 -- a task with a deep stack is live, and its record keeps the lowest frames
-abbrev pub IsRecorded : Option Standing → Option (List Frame) → Type 0
+abbrev pub IsRecorded : Option LegTask → Option (List Frame) → Type 0
 IsRecorded o None = Unit {0}
 IsRecorded None (Some frames) = ⊥
 IsRecorded (Some x) (Some frames) = IsLowest x.frames frames
 
 -- a task as it stands, by its record and its deep stack
-abbrev pub with_deep : Option Standing → Option (List Frame) → Option Standing
+abbrev pub with_deep : Option LegTask → Option (List Frame) → Option LegTask
 with_deep None deep = None
 with_deep (Some x) None = Some x
 with_deep (Some x) (Some frames) = Some (record x { frames = frames })
 
 -- each task as it stands, by the records and the deep stacks
-abbrev pub with_stacks : List (Option Standing) → (deep : ℕ → Option (List Frame)) → List (Option Standing)
+abbrev pub with_stacks : List (Option LegTask) → (deep : ℕ → Option (List Frame)) → List (Option LegTask)
 with_stacks [] deep = []
 with_stacks (o ∷ records) deep = with_deep o (deep 0) ∷ with_stacks records (λ t. deep (suc t))
 
 -- the table by its records and the deep stacks
-pub record IsKept (records : List (Option Standing)) (deep : ℕ → Option (List Frame)) (live used : Numbers) (members : Groups) : Type 0 where
+pub record IsKept (records : List (Option LegTask)) (deep : ℕ → Option (List Frame)) (live used : Numbers) (members : Groups) : Type 0 where
   pub records_wide : length records ≡ 65536
   pub table : IsTable (with_stacks records deep) live used members
   pub open table use {slots_wide, used_wide, living, known, grouped}
   pub recorded : (t : ℕ) → IsRecorded (slice_index_or records t None) (deep t)
 
 -- the table by its boxes: no more than numbers, and room for one of each
-pub record IsStored (boxes : List (Option (Box Standing))) (capacity : ℕ) (deep : ℕ → Option (List Frame)) (live used : Numbers) (members : Groups) : Type 0 where
+pub record IsStored (boxes : List (Option (Box LegTask))) (capacity : ℕ) (deep : ℕ → Option (List Frame)) (live used : Numbers) (members : Groups) : Type 0 where
   pub few : length boxes ≤ 65536
   pub room : 65536 ≤ capacity
   pub kept : IsKept (slots_of (padded boxes)) deep live used members

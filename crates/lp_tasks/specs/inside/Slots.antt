@@ -4,19 +4,19 @@ use Rattle.std.specs.Global.{Box}
 use Rattle.std.specs.Option.{option_map}
 use Rattle.lp_numbers.specs.Numbers.{Numbers, has}
 use Rattle.lp_numbers.specs.Groups.{Groups, is_member}
-use Rattle.lp_definitions.specs.Leg.{Standing}
+use Rattle.lp_definitions.specs.Leg.{LegTask}
 use Rattle.lp_tasks.specs.inside.Table.{is_in}
 
 -- a slot of each number, empty where none is made yet
-unfoldable pub padded : List (Option (Box Standing)) → List (Option (Box Standing))
+unfoldable pub padded : List (Option (Box LegTask)) → List (Option (Box LegTask))
 padded boxes = boxes ++ replicate (65536 - length boxes) None
 
 -- the live tasks that the boxes hold
-abbrev pub slots_of : List (Option (Box Standing)) → List (Option Standing)
-slots_of boxes = map (option_map (λ (b : Box Standing). b.value)) boxes
+abbrev pub slots_of : List (Option (Box LegTask)) → List (Option LegTask)
+slots_of boxes = map (option_map (λ (b : Box LegTask). b.value)) boxes
 
 -- slots for all numbers, the set of those that have a live task, and the members of each group
-pub record IsTable (slots : List (Option Standing)) (live used : Numbers) (members : Groups) : Type 0 where
+pub record IsTable (slots : List (Option LegTask)) (live used : Numbers) (members : Groups) : Type 0 where
   pub slots_wide : length slots ≡ 65536
   pub used_wide : length used ≡ 65536
   pub living : (t : ℕ) → has live t ≡ is_some (slice_index_or slots t None)

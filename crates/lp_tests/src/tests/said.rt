@@ -1,6 +1,6 @@
 //! What a reply says, in short, as tests write it.
 
-use lp_log::Cause;
+use lp_log::TurnedBy;
 use lp_stack::GroupId;
 use lp_transition::{Reply, What};
 
@@ -19,7 +19,7 @@ pub(super) enum Said {
     SwitchedLast(u16),
     Refused(u8),
     /// The event is turned back.
-    Turned(Cause),
+    Turned(TurnedBy),
     /// Anything else.
     Other,
 }

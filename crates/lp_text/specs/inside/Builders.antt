@@ -1,7 +1,7 @@
 -- What is built of parts so far, and its helpers.
 use Rattle.std.specs.Prelude.{◌≡◌, ℕ, ◌+◌, ◌≤◌, ◌⊎◌, length, Ok}
 use Rattle.lp_definitions.specs.declared.event.Event.{Event}
-use Rattle.lp_definitions.specs.declared.event.Event.TheVariants.{Call, Ret, Sleep, Wake, Enter, Exit, Idle, Fork, Die, Walk, Stop, Enable, Disable, Reverse}
+use Rattle.lp_definitions.specs.declared.event.Event.TheVariants.{Call, Ret, Sleep, Wake, Enter, Exit, Idle, Resched, Fork, Die, Walk, Stop, Enable, Disable, Reverse}
 use Rattle.lp_text.specs.declared.fault.LineFault.{LineFault}
 use Rattle.lp_text.specs.declared.fault.LineFault.TheVariants as line
 use Rattle.lp_text.specs.declared.of.OfFault.{OfFault}
@@ -31,6 +31,7 @@ IsOut symbols (Wake task) = task.0 ≡ 0
 IsOut symbols (Enter task) = task.0 ≡ 0
 IsOut symbols (Exit task) = task.0 ≡ 0
 IsOut symbols (Idle task) = task.0 ≡ 0
+IsOut symbols (Resched task) = task.0 ≡ 0
 IsOut symbols (Fork parent child how) = (parent.0 ≡ 0) ⊎ (child.0 ≡ 0)
 IsOut symbols (Die task) = task.0 ≡ 0
 IsOut symbols Walk = ⊥

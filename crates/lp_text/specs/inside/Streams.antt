@@ -31,21 +31,21 @@ reading_after came bytes = reading_on came.parser came.number (lines (came.held 
 -- ---- Faults
 
 -- a reader gave more bytes than a text may have, of which so many came before
-abbrev pub ReadsTooMuchBehind : ℕ → Option (List ℕ) → Option (List ℕ) → Type 0
-ReadsTooMuchBehind before old new = (bytes : List ℕ) × Consumes old new bytes × (134217728 < before + length bytes)
+abbrev pub ReadsTooMuchAfter : ℕ → Option (List ℕ) → Option (List ℕ) → Type 0
+ReadsTooMuchAfter before old new = (bytes : List ℕ) × Consumes old new bytes × (134217728 < before + length bytes)
 
 abbrev pub ReadsTooMuch : Option (List ℕ) → Option (List ℕ) → Type 0
-ReadsTooMuch old new = ReadsTooMuchBehind 0 old new
+ReadsTooMuch old new = ReadsTooMuchAfter 0 old new
 
--- behind so many bytes an input is too long only where the reader gave too much
-abbrev pub IsFaultBehind : ℕ → Option (List ℕ) → Option (List ℕ) → InputFault → Type 0
-IsFaultBehind before old new input.Long = ReadsTooMuchBehind before old new
-IsFaultBehind before old new (input.Failed error) = Unit {0}
-IsFaultBehind before old new input.NoMemory = Unit {0}
+-- after so many bytes an input is too long only where the reader gave too much
+abbrev pub IsFaultAfter : ℕ → Option (List ℕ) → Option (List ℕ) → InputFault → Type 0
+IsFaultAfter before old new input.Long = ReadsTooMuchAfter before old new
+IsFaultAfter before old new (input.Failed error) = Unit {0}
+IsFaultAfter before old new input.NoMemory = Unit {0}
 
 -- an input is too long only where the reader gave too much
 abbrev pub IsInputFault : Option (List ℕ) → Option (List ℕ) → InputFault → Type 0
-IsInputFault old new fault = IsFaultBehind 0 old new fault
+IsInputFault old new fault = IsFaultAfter 0 old new fault
 
 -- a fault in reading, as a fault of a stream
 abbrev pub of_input : InputFault → StreamFault

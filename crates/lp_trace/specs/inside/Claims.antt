@@ -8,7 +8,7 @@ use Rattle.lp_text.specs.inside.Writing.{line_rest}
 abbrev pub head_words : CertHead → List (List ℕ)
 head_words head = claim_word head.claim ∷ map decimal (head.leg ∷ head.group.0 ∷ head.upto ∷ [])
 
--- what stands in front of the group, and what behind it
+-- what stands in front of the group, and what after it
 pub record IsAround (head : CertHead) (front back : List ℕ) : Type 0 where
   pub before : front ≡ claim_word head.claim ++ (32 ∷ (decimal head.leg ++ 32 ∷ []))
-  pub behind : back ≡ line_rest (decimal head.upto ∷ [])
+  pub after : back ≡ line_rest (decimal head.upto ∷ [])

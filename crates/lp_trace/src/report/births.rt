@@ -96,7 +96,7 @@ impl KeptBirths {
         self.add(next, lines)
     }
 
-    /// With how many of the kept births these lines begin, and the line behind those.
+    /// With how many of the kept births these lines begin, and the line after those.
     fn same(&self, first: Line, lines: &mut CertLines<'_>) -> (usize, Option<Line>)
         ensures within { result.0 ≤ length self.now }
         ensures lines { first ∷ lines.old ≡ take result.0 self.now ++ (option_to_list result.1 ++ lines.new) }
@@ -122,7 +122,7 @@ impl KeptBirths {
         }
     }
 
-    /// Keeps the births that these lines begin with behind the others, while there is room, and gives the next line.
+    /// Keeps the births that these lines begin with after the others, while there is room, and gives the next line.
     fn add(&mut self, first: Option<Line>, lines: &mut CertLines<'_>) -> Option<Line>
         requires { IfNone first (lines.old ≡ []) }
         ensures lines { self.old ++ (option_to_list first ++ lines.old) ≡ self.new ++ (option_to_list result ++ lines.new) }
@@ -138,7 +138,7 @@ impl KeptBirths {
         next
     }
 
-    /// Keeps a line behind the others, where it is a birth and there is room, and says whether it did.
+    /// Keeps a line after the others, where it is a birth and there is room, and says whether it did.
     fn push(&mut self, line: Line) -> bool
         ensures taken { IsTrue result → self.new ≡ self.old ++ line ∷ [] }
         ensures kept { IsFalse result → self.new ≡ self.old }

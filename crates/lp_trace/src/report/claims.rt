@@ -12,7 +12,7 @@ use lp_text::{Counted, WriteFault};
 use std::io::Write;
 use std::marker::Model;
 
-/// The first lines of the certificates of a leg: what stands in front of the group, and what behind it.
+/// The first lines of the certificates of a leg: what stands in front of the group, and what after it.
 ///
 /// The certificates of a leg follow one another and mostly differ in the group alone, so the other numbers are written
 /// out once and copied for each.
@@ -103,7 +103,7 @@ fn claim_word(claim: Claim) -> &'static [u8]
     }
 }
 
-/// The numbers behind the first word of a certificate that begins so.
+/// The numbers after the first word of a certificate that begins so.
 #[inline(always)]
 fn claim_numbers(head: CertHead) -> [u64; 3]
     ensures { result ≡ head.leg ∷ head.group.0 ∷ head.upto ∷ [] }

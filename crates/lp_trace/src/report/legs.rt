@@ -67,7 +67,7 @@ fn end_parts(form: TraceForm, leg: &LegEndRef<'_>) -> Option<(&'static [u8; SHOR
     ensures size { IfSome result (λ end. end.1 ≤ 16) }
     ensures words { IfSome result (λ end. line_rest (target_words form leg.now.target ++ end_words leg.now.completed (length leg.now.certs)) ≡ take end.1 end.0.now ++ (decimal end.2 ++ 10 ∷ [])) }
 {
-    if matches!(form, TraceForm::Stacked) {
+    if !matches!(form, TraceForm::Single) {
         return None;
     }
     let is_old = leg.target.0 == 0;
@@ -125,7 +125,9 @@ fn put_end_line<W: Write>(
     let (end, count) = end_words(&mut third, leg);
     match form {
         TraceForm::Single => page.put_line(writer, b"leg", &[opened, target, end, count]),
-        TraceForm::Stacked => page.put_line(writer, b"leg", &[opened, b"to", target, end, count]),
+        TraceForm::Stacked | TraceForm::WithResched => {
+            page.put_line(writer, b"leg", &[opened, b"to", target, end, count])
+        }
     }
 }
 

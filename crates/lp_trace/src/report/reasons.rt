@@ -10,7 +10,7 @@ use lp_cert::{CertLines, Line};
 use lp_text::{Counted, WriteFault};
 use std::io::Write;
 
-/// Puts the first of these reasons, where there is one, and those that are left behind it.
+/// Puts the first of these reasons, where there is one, and those that are left after it.
 #[inline(always)]
 pub(super) fn put_each<W: Write>(
     page: &mut Page,

@@ -12,7 +12,7 @@ use Rattle.lp_model.specs.declared.verdict.Verdict.{Verdict}
 use Rattle.lp_model.specs.Rules.{Rules, SerialsRise}
 use Rattle.lp_machine.specs.declared.standing_blame.StandingBlame.{StandingBlame}
 use Rattle.lp_definitions.specs.Tasks.{Live, first_of}
-use Rattle.lp_definitions.specs.Leg.{Standing, State}
+use Rattle.lp_definitions.specs.Leg.{LegTask, State}
 use Rattle.lp_machine.specs.Table.{Table, slot}
 use Rattle.lp_tasks.specs.inside.Table.{is_in}
 use Rattle.lp_transition.specs.Blames.{frame_blame, or_blame}
@@ -34,7 +34,7 @@ pub record AreNoted (blames : List (Option StandingBlame)) (noted : Numbers) : T
 -- ---- After a return
 
 -- a live task has a frame with this serial
-abbrev pub frame_there : Option Standing → (serial : ℕ) → Bool
+abbrev pub frame_there : Option LegTask → (serial : ℕ) → Bool
 frame_there None serial = false
 frame_there (Some x) serial = list_any (λ frame. nat_eq frame.serial serial) x.frames
 
@@ -66,7 +66,7 @@ pub record IsDecided (told : ℕ → Option (ℕ × Blame)) (old new : List (Opt
 
 -- a waiting member has a frame for which a check against the present target refused it
 pub record IsBlamed (model : Rules) (s : State) (group : ℕ) (b : StandingBlame) : Type 0 where
-  pub life : Standing
+  pub life : LegTask
   pub live : s.tasks b.task.0 ≡ Live life
   pub off : nat_eq life.level s.target ≡ false
   pub grouped : life.group ≡ group

@@ -6,21 +6,21 @@ use Rattle.lp_model.specs.declared.check.CheckKind.{CheckKind}
 use Rattle.lp_model.specs.declared.verdict.Verdict.{Verdict}
 use Rattle.lp_model.specs.Rules.{Rules}
 use Rattle.lp_definitions.specs.Tasks.{Live}
-use Rattle.lp_definitions.specs.Leg.{Standing, State}
+use Rattle.lp_definitions.specs.Leg.{LegTask, State}
 use Rattle.lp_machine.specs.Machine.{view_of}
 use Rattle.lp_transition.specs.Scan.{RefusesMember, verdicts_at}
 use Rattle.lp_machine.specs.Table.{Table, Engine, state_in}
 use Rattle.lp_transition.specs.inside.ScanSteps.{is_found, task_switches, waiting_slot}
 
 -- the task of a number, where it waits, may be refused, and is of a group that isn't refused so far
-abbrev pub asked_slot : Table → (waiting may_refuse unrefused : Numbers) → ℕ → Option Standing
+abbrev pub asked_slot : Table → (waiting may_refuse unrefused : Numbers) → ℕ → Option LegTask
 asked_slot table waiting may_refuse unrefused t =
     if has may_refuse t && task_switches (has unrefused) (waiting_slot table waiting t) then waiting_slot table waiting t else None
 
 -- a scan of this kind would admit each waiting task that fails a test
 abbrev pub AdmitsOthers : Rules → CheckKind → State → (may_refuse : ℕ → Bool) → Type 0
 AdmitsOthers model kind s may_refuse =
-    (t : ℕ) (x : Standing) → s.tasks t ≡ Live x → nat_eq x.level s.target ≡ false → may_refuse t ≡ false →
+    (t : ℕ) (x : LegTask) → s.tasks t ≡ Live x → nat_eq x.level s.target ≡ false → may_refuse t ≡ false →
     model.blame kind (view_of t x) s.aim ≡ None
 
 -- a scan that looks at who passes a test looks at a waiting member of the group, and refuses it
@@ -37,10 +37,10 @@ pub record HasAsked (model : Rules) (kind : CheckKind) (e : Engine) (candidates 
   pub looked : ℕ → Bool
   pub found : verdicts ≡ verdicts_at model kind (state_in e) looked
   pub before : (t : ℕ) → looked t ≡ true → t < place
-  pub only : (t : ℕ) (x : Standing) → (state_in e).tasks t ≡ Live x → looked t ≡ true → asked x.group ≡ true
+  pub only : (t : ℕ) (x : LegTask) → (state_in e).tasks t ≡ Live x → looked t ≡ true → asked x.group ≡ true
   pub left : (group : ℕ) → unrefused group ≡ (asked group && not (list_any (is_found e.table true group) verdicts))
-  -- a candidate is passed over only behind a refused member of its group
-  pub passed : (t : ℕ) (x : Standing) → (state_in e).tasks t ≡ Live x → nat_eq x.level e.target ≡ false → t < place →
+  -- a candidate is passed over only after a refused member of its group
+  pub passed : (t : ℕ) (x : LegTask) → (state_in e).tasks t ≡ Live x → nat_eq x.level e.target ≡ false → t < place →
       candidates t ≡ true → may_refuse t ≡ true → asked x.group ≡ true → looked t ≡ false →
       SeesRefusedBefore model kind (state_in e) looked x.group t
 
@@ -48,10 +48,10 @@ pub record HasAsked (model : Rules) (kind : CheckKind) (e : Engine) (candidates 
 pub record AreTold (model : Rules) (kind : CheckKind) (s : State) (asked : ℕ → Bool) (verdicts : List Verdict) : Type 0 where
   pub looked : ℕ → Bool
   pub found : verdicts ≡ verdicts_at model kind s looked
-  pub only : (t : ℕ) (x : Standing) → s.tasks t ≡ Live x → looked t ≡ true → asked x.group ≡ true
+  pub only : (t : ℕ) (x : LegTask) → s.tasks t ≡ Live x → looked t ≡ true → asked x.group ≡ true
   -- who is passed over has a refused member in its group
-  pub others : (t : ℕ) (x : Standing) → s.tasks t ≡ Live x → nat_eq x.level s.target ≡ false → asked x.group ≡ true → looked t ≡ false →
+  pub others : (t : ℕ) (x : LegTask) → s.tasks t ≡ Live x → nat_eq x.level s.target ≡ false → asked x.group ≡ true → looked t ≡ false →
       SeesRefused model kind s looked x.group
   -- and has it before itself, if a scan refuses it
-  pub first : (t : ℕ) (x : Standing) → s.tasks t ≡ Live x → nat_eq x.level s.target ≡ false → asked x.group ≡ true → looked t ≡ false →
+  pub first : (t : ℕ) (x : LegTask) → s.tasks t ≡ Live x → nat_eq x.level s.target ≡ false → asked x.group ≡ true → looked t ≡ false →
       is_some (model.blame kind (view_of t x) s.aim) ≡ true → SeesRefusedBefore model kind s looked x.group t

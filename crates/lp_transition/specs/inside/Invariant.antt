@@ -1,12 +1,12 @@
 -- What holds of an engine between events, with what it keeps beside the tasks so as not to look at each.
-use Rattle.std.specs.Prelude.{◌≡◌, ◌⊎◌, ℕ, ◌≤◌, not, ◌&&◌, List, length, Option, Some}
+use Rattle.std.specs.Prelude.{◌≡◌, ◌⊎◌, ℕ, ◌≤◌, true, false, not, ◌&&◌, List, length, Option, Some}
 use Rattle.std.specs.List.{list_any}
 use Rattle.std.specs.Option.{ForSome}
 use Rattle.lp_numbers.specs.Numbers.{Numbers, has, IsEmpty}
 use Rattle.lp_model.specs.Rules.{Rules}
 use Rattle.lp_model.specs.declared.check.CheckKind.{CheckKind}
 use Rattle.lp_model.specs.declared.verdict.Verdict.{Verdict}
-use Rattle.lp_definitions.specs.Leg.{State}
+use Rattle.lp_definitions.specs.Leg.{LegTask, State}
 use Rattle.lp_transition.specs.Scan.{MayLeaveOut}
 use Rattle.lp_definitions.specs.Sound.{IsSound}
 use Rattle.lp_machine.specs.Table.{Engine, LastScan, IsWide, state_in, slot}
@@ -15,6 +15,10 @@ use Rattle.lp_transition.specs.inside.ScanSteps.{admits_task}
 use Rattle.lp_transition.specs.inside.Blames.{AreBlamed}
 use Rattle.lp_transition.specs.inside.FirstRefusals.{AdmitsOthers}
 
+-- a live task that is off the level to which tasks go is on the one that they come from
+abbrev pub IsBetween : (from target : ℕ) → Option LegTask → Type 0
+IsBetween from target o = is_off target o ≡ true → is_off from o ≡ false
+
 -- an engine, and the numbers of the tasks that wait
 pub record IsEngine (engine : Engine) (waiting : Numbers) : Type 0 where
   pub sound : IsSound (state_in engine)
@@ -22,6 +26,8 @@ pub record IsEngine (engine : Engine) (waiting : Numbers) : Type 0 where
   -- the tasks that wait are the live ones off the target
   pub waiting_wide : length waiting ≡ 65536
   pub waits : (t : ℕ) → has waiting t ≡ is_off engine.target (slot engine.table t)
+  -- so an opening takes whole sets of tasks from one level to the other
+  pub between : (t : ℕ) → IsBetween engine.from engine.target (slot engine.table t)
   pub from_fits : engine.from ≤ length engine.patches
   pub target_fits : engine.target ≤ length engine.patches
   pub number_fits : engine.number ≤ 1000000

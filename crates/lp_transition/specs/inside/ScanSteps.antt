@@ -6,14 +6,14 @@ use Rattle.lp_model.specs.declared.verdict.Verdict.{Verdict}
 use Rattle.lp_numbers.specs.Numbers.{Numbers, has}
 use Rattle.lp_definitions.specs.declared.reply.What.{What}
 use Rattle.lp_definitions.specs.declared.reply.What.TheVariants.{Switched}
-use Rattle.lp_definitions.specs.Leg.{Standing}
+use Rattle.lp_definitions.specs.Leg.{LegTask}
 use Rattle.lp_machine.specs.Table.{Table, slot, IsWide}
 use Rattle.lp_tasks.specs.inside.Table.{is_in}
 
 -- ---- Who is looked at
 
 -- the live task of a number, where it is in the waiting set
-abbrev pub waiting_slot : Table → Numbers → ℕ → Option Standing
+abbrev pub waiting_slot : Table → Numbers → ℕ → Option LegTask
 waiting_slot table waiting t = if has waiting t then slot table t else None
 
 -- the task numbers of verdicts
@@ -57,16 +57,16 @@ is_listed groups group = list_any (nat_eq group) groups
 
 -- the task of this number and no other live task is a member of the group of this number, if one is
 abbrev pub IsOwnGroup : Table → ℕ → Type 0
-IsOwnGroup table number = (t : ℕ) (x : Standing) → slot table t ≡ Some x → (x.group ≡ number) ↔ (t ≡ number)
+IsOwnGroup table number = (t : ℕ) (x : LegTask) → slot table t ≡ Some x → (x.group ≡ number) ↔ (t ≡ number)
 
 -- ---- What a scan leaves
 
 -- a live task after its group switched, if it switches
-abbrev pub switched_if : (ℕ → Bool) → ℕ → Standing → Standing
+abbrev pub switched_if : (ℕ → Bool) → ℕ → LegTask → LegTask
 switched_if switches target x = if switches x.group then record x { level = target } else x
 
 -- a live task's group switches
-abbrev pub task_switches : (ℕ → Bool) → Option Standing → Bool
+abbrev pub task_switches : (ℕ → Bool) → Option LegTask → Bool
 task_switches switches None = false
 task_switches switches (Some x) = switches x.group
 

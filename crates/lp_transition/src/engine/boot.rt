@@ -3,7 +3,7 @@ ghost use Rattle.std.specs.Prelude.{◌≡◌, ℕ, ◌<◌, ◌≤◌, [], Err,
 ghost use Rattle.lp_definitions.specs.Run.{start, booted, at_boot, first_mode};
 ghost use Rattle.lp_machine.specs.Steps.{StandsIn};
 ghost use Rattle.lp_transition.specs.Boot.{boot_refusal};
-ghost use Rattle.lp_machine.specs.Table.{IsWide, standings, state_in, bounds_of};
+ghost use Rattle.lp_machine.specs.Table.{IsWide, leg_tasks, state_in, bounds_of};
 ghost use Rattle.lp_transition.specs.Blames.{blame_of};
 ghost use Rattle.lp_tasks.specs.inside.Table.{IsBlank};
 ghost use Rattle.lp_transition.specs.declared.engine.boot.BootFault.TheVariants.{NoMemory};
@@ -148,7 +148,7 @@ fn put_all<M: Consistency>(
 ) -> Result<(), AllocError>
     requires no_fault { boot_refusal boots.now ≡ None }
     requires blank { IsBlank tasks.old }
-    ensures live { OnOk result (standings tasks.new ≡ booted M.rules boots.now) }
+    ensures live { OnOk result (leg_tasks tasks.new ≡ booted M.rules boots.now) }
     ensures wide { OnOk result (IsWide tasks.new) }
     ensures in_range { OnOk result (All (λ boot. (0 < boot.0.0) × (boot.0.0 ≤ 65535)) boots.now) }
 {

@@ -6,16 +6,15 @@ ghost use Rattle.lp_definitions.specs.Tasks.{first_of};
 ghost use Rattle.lp_definitions.specs.Run.{control_tests, new_target};
 ghost use Rattle.lp_transition.specs.Blames.{AreBlamesAfter};
 ghost use Rattle.lp_transition.specs.LastScan.{IsLastScanAfter};
-ghost use Rattle.lp_machine.specs.Table.{slot, state_in};
-ghost use Rattle.lp_tasks.specs.inside.Table.{is_off};
+ghost use Rattle.lp_machine.specs.Table.{state_in};
+ghost use Rattle.lp_transition.specs.inside.Turning.{waits_turned};
 ghost use Rattle.lp_machine.specs.Machine.{complete_in, refusal_of, answer, next};
 
 use super::Core;
 use crate::{Event, Refusal, Reply, What};
 use lp_model::Consistency;
 use lp_numbers::NumberSet;
-use lp_stack::{Level, TaskId};
-use lp_tasks::TaskTable;
+use lp_stack::Level;
 
 impl<M: Consistency> Core<M> {
     /// Why the enabling of the next patch is refused.
@@ -67,14 +66,14 @@ impl<M: Consistency> Core<M> {
         requires control { is_control event ≡ true }
         ensures { result ≡ answer M.rules (state_in self.now) event }
     {
-        let level = self.new_level(event);
         Reply {
             what: What::Done,
-            completed: all_on(&self.tasks, level),
+            completed: nobody_turns(self.tasks.live_set(), &self.waiting, event),
         }
     }
 
-    /// The set of waiting tasks is made anew: against another target others wait, or none.
+    /// Each live task is on the level that it came from or on the target, so those that wait turn as one set: no task is looked
+    /// at, however many there are.
     pub(super) fn take_control(&mut self, event: Event)
         requires room { self.old.number < 1000000 }
         requires accepted { refusal_of M.rules (state_in self.old) event ≡ None }
@@ -87,7 +86,7 @@ impl<M: Consistency> Core<M> {
         self.events += 1;
         self.from = self.target;
         self.target = level;
-        collect_off(&self.tasks, &mut self.waiting, level);
+        turn(&mut self.waiting, self.tasks.live_set(), event);
         self.unchanged.reset();
         self.blames.clear();
     }
@@ -103,37 +102,25 @@ impl<M: Consistency> Core<M> {
     }
 }
 
-/// Whether a live task is off a level; not, where there is no live task.
-fn is_off_level(tasks: &TaskTable, number: u16, level: Level) -> bool
-    ensures { result ≡ is_off level.0 (slot tasks.now number) }
+/// Whether a control event opens a transition in which nobody waits: at a reversal those wait that didn't before.
+fn nobody_turns(live: &NumberSet, waiting: &NumberSet, event: Event) -> bool
+    ensures { IsTrue result ↔ ((t : ℕ) → waits_turned event (has live.now t) (has waiting.now t) ≡ false) }
 {
-    match tasks.get(TaskId(number)) {
-        Some(live) => live.level() != level,
-        None => false,
+    match event {
+        Event::Reverse => live.is_same(waiting),
+        _ => live.is_empty(),
     }
 }
 
-/// Over the live tasks alone: 65,536 numbers for a handful of tasks would make a control event dear.
-fn collect_off(tasks: &TaskTable, waiting: &mut NumberSet, level: Level)
-    ensures members { (t : ℕ) → has waiting.new t ≡ is_off level.0 (slot tasks.now t) }
+/// Makes those wait who do so once a control event has opened a transition.
+fn turn(waiting: &mut NumberSet, live: &NumberSet, event: Event)
+    ensures members { (t : ℕ) → has waiting.new t ≡ waits_turned event (has live.now t) (has waiting.old t) }
     ensures numbers { length waiting.new ≡ 65536 }
 {
-    waiting.clear();
-    for number in tasks.live() {
-        put_number(waiting, number, is_off_level(tasks, number, level));
+    match event {
+        Event::Reverse => waiting.turn(live),
+        _ => waiting.copy_from(live),
     }
-}
-
-/// Whether every live task is on a level.
-fn all_on(tasks: &TaskTable, level: Level) -> bool
-    ensures { IsTrue result ↔ ((t : ℕ) → is_off level.0 (slot tasks.now t) ≡ false) }
-{
-    for number in tasks.live() {
-        if is_off_level(tasks, number, level) {
-            return false;
-        }
-    }
-    true
 }
 
 /// Makes a number a member of a set, or no member.

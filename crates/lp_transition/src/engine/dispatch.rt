@@ -25,11 +25,11 @@ use std::alloc::{AllocError, Global};
 impl<M: Consistency> Core<M> {
     ghost use Rattle.std.specs.Prelude.{Box};
     ghost use Rattle.std.specs.Global.{Global};
-    ghost use Rattle.lp_definitions.specs.Leg.{Standing};
+    ghost use Rattle.lp_definitions.specs.Leg.{LegTask};
 
     /// One event: answers and takes it. Where it fails the engine is as it was: NoMemory where an
-    /// allocation failed, which may be at scans, at accepted forks, and at exits and idle points
-    /// that switch a group, and JournalFull where no event is left.
+    /// allocation failed, which may be at scans, at accepted forks, and at own checks
+    /// where they switch a group, and JournalFull where no event is left.
     #[inline(always)]
     pub fn step(&mut self, alloc: Global, event: Event) -> Result<Reply, Halt>
         ensures full { (result ≡ Err JournalFull) ↔ (1000000 ≤ self.old.number) }
@@ -39,13 +39,13 @@ impl<M: Consistency> Core<M> {
         ensures last_scan { IfOk result (λ reply. IsLastScanAfter M.rules self.old event self.new) }
         ensures unchanged { OnErr result (self.new ≡ self.old) }
     {
-        if event.is_plain() && self.has_room() {
-            return Ok(self.step_plain(event));
+        if event.is_quiet() && self.has_room() {
+            return Ok(self.step_quiet(event));
         }
         self.step_weighed(alloc, event)
     }
 
-    /// Out of line, so that a plain event pays nothing for what scans, forks and legs need.
+    /// Out of line, so that a quiet event pays nothing for what scans, forks and legs need.
     #[inline(never)]
     fn step_weighed(&mut self, alloc: Global, event: Event) -> Result<Reply, Halt>
         ensures full { (result ≡ Err JournalFull) ↔ (1000000 ≤ self.old.number) }
@@ -101,7 +101,7 @@ impl<M: Consistency> Core<M> {
         reply
     }
 
-    /// Without room a plain event has to fail as any other does, so it goes the long way.
+    /// Without room a quiet event has to fail as any other does, so it goes the long way.
     #[inline(always)]
     fn has_room(&self) -> bool
         ensures { IsTrue result ↔ (self.now.number < 1000000) }
@@ -164,7 +164,7 @@ impl<M: Consistency> Core<M> {
         requires accepted { refusal_of M.rules (state_in self.old) event ≡ None }
         requires scan { is_scan event ≡ false }
         requires switching { switching ≡ is_switched (answer M.rules (state_in self.old) event).what }
-        requires born { option_map (λ (b : Box Standing Global). b.value) born ≡ born_of M.rules (state_in self.old) event }
+        requires born { option_map (λ (b : Box LegTask Global). b.value) born ≡ born_of M.rules (state_in self.old) event }
         ensures state { state_in self.new ≡ next M.rules (state_in self.old) event }
         ensures blames { AreBlamesAfter M.rules self.old event [] self.new }
         ensures last_scan { IsLastScanAfter M.rules self.old event self.new }
@@ -173,9 +173,10 @@ impl<M: Consistency> Core<M> {
         let _ = &self.tasks;
         match event {
             Event::Call(..) | Event::Ret(_) | Event::Sleep(_) | Event::Wake(_) | Event::Enter(_) =>
-                self.take_plain(event),
-            Event::Exit(task) => self.take_point(CheckKind::KernelExit, task, switching),
-            Event::Idle(task) => self.take_point(CheckKind::IdlePoint, task, switching),
+                self.take_quiet(event),
+            Event::Exit(task) => self.take_own_check(CheckKind::KernelExit, task, switching),
+            Event::Idle(task) => self.take_own_check(CheckKind::IdlePoint, task, switching),
+            Event::Resched(task) => self.take_own_check(CheckKind::Resched, task, switching),
             Event::Fork(parent, child, how) => {
                 let Some(live) = born else { unreachable!() };
                 self.take_fork(parent, child, how, live);

@@ -27,7 +27,7 @@ const SMALL_GROUP: usize = 64;
 impl<M: Consistency> Core<M> {
     /// A walk or a stop, weighed after a look at the waiting tasks of some groups: of each of the
     /// others that waits it would refuse a member. Of a group that it refuses it needn't look at the
-    /// members behind the first refused one. NoMemory where an allocation failed, JournalFull where
+    /// members after the first refused one. NoMemory where an allocation failed, JournalFull where
     /// no event is left.
     pub fn weigh_first_refusals(
         &self,
@@ -98,7 +98,7 @@ impl<M: Consistency> Core<M> {
 
     /// Asks the members of some groups that may be refused. Where the groups are small it goes over
     /// their members, and else over all tasks that may be refused: a scan of one large group is then
-    /// over at the first refusal, at no cost for the members behind it.
+    /// over at the first refusal, at no cost for the members after it.
     fn ask_members(
         &self,
         alloc: Global,

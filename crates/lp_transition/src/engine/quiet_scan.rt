@@ -17,7 +17,7 @@ use lp_stack::GroupId;
 impl<M: Consistency> Core<M> {
     /// True only where a walk or a stop of this kind may leave out every group that waits: the leg's last
     /// scan was of this kind, and each group to which something happened since has a standing blame.
-    pub fn is_quiet(&self, kind: CheckKind) -> bool
+    pub fn is_quiet_scan(&self, kind: CheckKind) -> bool
         ensures last { IsTrue result → self.now.last_scan.kind ≡ Some kind }
         ensures quiet { IsTrue result → MayLeaveOut M.rules kind (state_in self.now) (λ group. false) }
     {
@@ -50,7 +50,7 @@ impl<M: Consistency> Core<M> {
     /// whom that one would admit stands as it is. Afterwards nothing has happened to anybody since the
     /// last scan, which is this one. Never allocates.
     #[inline(always)]
-    pub fn step_quiet(&mut self, kind: CheckKind) -> Reply
+    pub fn step_quiet_scan(&mut self, kind: CheckKind) -> Reply
         requires scan { is_scan_kind kind ≡ true }
         requires room { self.old.number < 1000000 }
         requires quiet { MayLeaveOut M.rules kind (state_in self.old) (λ group. false) }

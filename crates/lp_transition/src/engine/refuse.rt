@@ -1,6 +1,6 @@
 //! Which events are refused.
 ghost use Rattle.std.specs.Prelude.{◌≡◌, [], ◌∷◌, None, not};
-ghost use Rattle.lp_machine.specs.Table.{state_in, standings};
+ghost use Rattle.lp_machine.specs.Table.{state_in, leg_tasks};
 ghost use Rattle.lp_definitions.specs.Run.{task_numbers};
 ghost use Rattle.lp_definitions.specs.Tasks.{first_of, tests, unknown_task, not_of, not_in, stack_not_empty};
 ghost use Rattle.lp_machine.specs.Machine.{refusal_of, outlines_of};
@@ -28,6 +28,7 @@ impl<M: Consistency> Core<M> {
             Event::Enter(task) => enter_refusal(&self.tasks, symbols, task),
             Event::Exit(task) => empty_refusal(&self.tasks, task, Class::Normal),
             Event::Idle(task) => empty_refusal(&self.tasks, task, Class::Idle),
+            Event::Resched(task) => kernel_refusal(&self.tasks, task, Class::Normal),
             Event::Fork(parent, child, how) => {
                 fork_refusal(&self.tasks, symbols, parent, child, how)
             }
@@ -43,7 +44,7 @@ impl<M: Consistency> Core<M> {
 /// Why a call is refused.
 #[inline(always)]
 fn call_refusal(tasks: &TaskTable, symbols: usize, task: TaskId, func: SymId) -> Option<Refusal>
-    ensures { result ≡ first_of (tests (task_numbers symbols) (outlines_of (standings tasks.now)) (Event.Call task func)) }
+    ensures { result ≡ first_of (tests (task_numbers symbols) (outlines_of (leg_tasks tasks.now)) (Event.Call task func)) }
 {
     let Some(live) = tasks.get(task) else {
         return Some(Refusal::UnknownTask);
@@ -63,7 +64,7 @@ fn call_refusal(tasks: &TaskTable, symbols: usize, task: TaskId, func: SymId) ->
 /// Why a return is refused.
 #[inline(always)]
 fn ret_refusal(tasks: &TaskTable, symbols: usize, task: TaskId) -> Option<Refusal>
-    ensures { result ≡ first_of (tests (task_numbers symbols) (outlines_of (standings tasks.now)) (Event.Ret task)) }
+    ensures { result ≡ first_of (tests (task_numbers symbols) (outlines_of (leg_tasks tasks.now)) (Event.Ret task)) }
 {
     let Some(live) = tasks.get(task) else {
         return Some(Refusal::UnknownTask);
@@ -80,7 +81,7 @@ fn ret_refusal(tasks: &TaskTable, symbols: usize, task: TaskId) -> Option<Refusa
 /// Why an event that needs no more than a mode is refused: a sleep, a wake-up.
 #[inline(always)]
 fn mode_refusal(tasks: &TaskTable, task: TaskId, mode: Mode) -> Option<Refusal>
-    ensures { let now = outlines_of (standings tasks.now) in result ≡ first_of (unknown_task now task.0 ∷ not_in mode now task.0 ∷ []) }
+    ensures { let now = outlines_of (leg_tasks tasks.now) in result ≡ first_of (unknown_task now task.0 ∷ not_in mode now task.0 ∷ []) }
 {
     let Some(live) = tasks.get(task) else {
         return Some(Refusal::UnknownTask);
@@ -94,7 +95,7 @@ fn mode_refusal(tasks: &TaskTable, task: TaskId, mode: Mode) -> Option<Refusal>
 /// Why entering the kernel is refused.
 #[inline(always)]
 fn enter_refusal(tasks: &TaskTable, symbols: usize, task: TaskId) -> Option<Refusal>
-    ensures { result ≡ first_of (tests (task_numbers symbols) (outlines_of (standings tasks.now)) (Event.Enter task)) }
+    ensures { result ≡ first_of (tests (task_numbers symbols) (outlines_of (leg_tasks tasks.now)) (Event.Enter task)) }
 {
     let Some(live) = tasks.get(task) else {
         return Some(Refusal::UnknownTask);
@@ -111,7 +112,25 @@ fn enter_refusal(tasks: &TaskTable, symbols: usize, task: TaskId) -> Option<Refu
 /// Why an event is refused at which a task of this class leaves the kernel or is done with it: an
 /// exit, an idle point, an end. A frame left there would be a call that never returns.
 fn empty_refusal(tasks: &TaskTable, task: TaskId, class: Class) -> Option<Refusal>
-    ensures { let now = outlines_of (standings tasks.now) in result ≡ first_of (unknown_task now task.0 ∷ not_of class now task.0 ∷ not_in Mode.Kernel now task.0 ∷ stack_not_empty now task.0 ∷ []) }
+    ensures { let now = outlines_of (leg_tasks tasks.now) in result ≡ first_of (unknown_task now task.0 ∷ not_of class now task.0 ∷ not_in Mode.Kernel now task.0 ∷ stack_not_empty now task.0 ∷ []) }
+{
+    if let Some(why) = kernel_refusal(tasks, task, class) {
+        return Some(why);
+    }
+    let Some(live) = tasks.get(task) else {
+        return Some(Refusal::UnknownTask);
+    };
+    if live.depth() != 0 {
+        return Some(Refusal::StackNotEmpty);
+    }
+    None
+}
+
+/// Why an event is refused that a task of this class makes in the kernel on a CPU, whatever is on its
+/// stack.
+#[inline(always)]
+fn kernel_refusal(tasks: &TaskTable, task: TaskId, class: Class) -> Option<Refusal>
+    ensures { let now = outlines_of (leg_tasks tasks.now) in result ≡ first_of (unknown_task now task.0 ∷ not_of class now task.0 ∷ not_in Mode.Kernel now task.0 ∷ []) }
 {
     let Some(live) = tasks.get(task) else {
         return Some(Refusal::UnknownTask);
@@ -121,9 +140,6 @@ fn empty_refusal(tasks: &TaskTable, task: TaskId, class: Class) -> Option<Refusa
     }
     if live.mode() != Mode::Kernel {
         return Some(Refusal::WrongMode);
-    }
-    if live.depth() != 0 {
-        return Some(Refusal::StackNotEmpty);
     }
     None
 }
@@ -136,7 +152,7 @@ fn fork_refusal(
     child: TaskId,
     how: ForkKind,
 ) -> Option<Refusal>
-    ensures { result ≡ first_of (tests (task_numbers symbols) (outlines_of (standings tasks.now)) (Event.Fork parent child how)) }
+    ensures { result ≡ first_of (tests (task_numbers symbols) (outlines_of (leg_tasks tasks.now)) (Event.Fork parent child how)) }
 {
     let Some(live) = tasks.get(parent) else {
         return Some(Refusal::UnknownTask);

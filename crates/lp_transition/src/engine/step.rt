@@ -62,18 +62,18 @@ impl Model for Step {
     ghost use Rattle.std.specs.Prelude.{Box};
     ghost use Rattle.std.specs.Global.{Global};
     ghost use Rattle.std.specs.Option.{option_map};
-    ghost use Rattle.lp_definitions.specs.Leg.{Standing};
+    ghost use Rattle.lp_definitions.specs.Leg.{LegTask};
     ghost use Rattle.lp_transition.specs.Weigh.{Weighed};
 
     ghost Value = { Weighed };
 
-    ghost view = { λ s. record { event = s.event; reply = s.reply; verdicts = s.verdicts.items; born = option_map (λ (b : Box Standing Global). b.value) s.born } };
+    ghost view = { λ s. record { event = s.event; reply = s.reply; verdicts = s.verdicts.items; born = option_map (λ (b : Box LegTask Global). b.value) s.born } };
 }
 
 impl Step {
     ghost use Rattle.std.specs.Prelude.{Box};
     ghost use Rattle.std.specs.Global.{Global};
-    ghost use Rattle.lp_definitions.specs.Leg.{Standing};
+    ghost use Rattle.lp_definitions.specs.Leg.{LegTask};
     ghost use Rattle.lp_transition.specs.Weigh.{Weighed};
 
     /// The event.
@@ -113,7 +113,7 @@ impl Step {
     /// The answer, and the child that an accepted fork brings. Never allocates.
     pub(super) fn into_parts(self) -> (Reply, Option<Box<LiveTask>>)
         ensures reply { result.0 ≡ self.reply }
-        ensures born { option_map (λ (b : Box Standing Global). b.value) result.1 ≡ self.born }
+        ensures born { option_map (λ (b : Box LegTask Global). b.value) result.1 ≡ self.born }
     {
         let Self {
             event: _,

@@ -1,6 +1,6 @@
 //! What an accepted event does to the engine. Nothing here allocates.
 //!
-//! A plain event changes its task before anything else is written: so the record by which it was found acceptable is still
+//! A quiet event changes its task before anything else is written: so the record by which it was found acceptable is still
 //! known and isn't looked up once more.
 ghost use Rattle.std.specs.Prelude.{◌≡◌, [], ◌<◌, None, Some};
 ghost use Rattle.lp_transition.specs.Weigh.{born_of};

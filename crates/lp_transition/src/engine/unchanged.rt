@@ -83,7 +83,7 @@ impl Unchanged {
     }
 
     /// Something happens to a task, or it is born. Without a scan before there is nothing to note,
-    /// so that a plain event then costs a look at the kind.
+    /// so that a quiet event then costs a look at the kind.
     #[inline(always)]
     pub(super) fn touch(&mut self, tasks: &TaskTable, task: TaskId)
         ensures kind { self.new.kind ≡ self.old.kind }

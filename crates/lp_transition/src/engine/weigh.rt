@@ -5,8 +5,8 @@ ghost use Rattle.lp_definitions.specs.Events.{is_scan};
 ghost use Rattle.std.specs.Option.{ForSome};
 ghost use Rattle.lp_numbers.specs.Numbers.{has};
 ghost use Rattle.lp_definitions.specs.Tasks.{on_live};
-ghost use Rattle.lp_machine.specs.Table.{slot, standings, state_in};
-ghost use Rattle.lp_transition.specs.Weigh.{IsWeighed, born_of, may_allocate, is_silent, silent_task, is_fork};
+ghost use Rattle.lp_machine.specs.Table.{slot, leg_tasks, state_in};
+ghost use Rattle.lp_transition.specs.Weigh.{IsWeighed, born_of, may_allocate, is_answered_done, done_task, is_fork};
 ghost use Rattle.lp_machine.specs.Steps.{IsReply};
 ghost use Rattle.lp_machine.specs.Machine.{refusal_of, answer};
 
@@ -58,9 +58,10 @@ impl<M: Consistency> Core<M> {
     {
         match event {
             Event::Call(..) | Event::Ret(_) | Event::Sleep(_) | Event::Wake(_) | Event::Enter(_) =>
-                Ok(self.answer_plain(event)),
-            Event::Exit(task) => self.answer_point(alloc, CheckKind::KernelExit, task),
-            Event::Idle(task) => self.answer_point(alloc, CheckKind::IdlePoint, task),
+                Ok(self.answer_quiet(event)),
+            Event::Exit(task) => self.answer_own_check(alloc, CheckKind::KernelExit, task),
+            Event::Idle(task) => self.answer_own_check(alloc, CheckKind::IdlePoint, task),
+            Event::Resched(task) => self.answer_own_check(alloc, CheckKind::Resched, task),
             Event::Die(task) => Ok(self.answer_die(task)),
             Event::Enable | Event::Disable | Event::Reverse => Ok(self.answer_control(event)),
             Event::Fork(..) | Event::Walk | Event::Stop => unreachable!(),
@@ -83,11 +84,11 @@ impl<M: Consistency> Core<M> {
     /// A return, a sleep, a wake-up or an entry into the kernel is no check and ends no task, so there
     /// is nothing to look at.
     #[inline(always)]
-    pub(super) fn answer_silent(&self, event: Event, task: TaskId) -> Reply
+    pub(super) fn answer_done(&self, event: Event, task: TaskId) -> Reply
         requires room { self.now.number < 1000000 }
         requires accepted { refusal_of M.rules (state_in self.now) event ≡ None }
-        requires is_silent { is_silent event ≡ true }
-        requires task { silent_task event ≡ task.0 }
+        requires is_answered_done { is_answered_done event ≡ true }
+        requires task { done_task event ≡ task.0 }
         ensures { result ≡ answer M.rules (state_in self.now) event }
     {
         // For the proof alone, which knows what every value keeps once a field is read.
@@ -164,7 +165,7 @@ pub(super) fn group_of(tasks: &TaskTable, task: TaskId) -> GroupId
 /// The level of a live task; 0 for any other.
 #[inline(always)]
 pub(super) fn level_of(tasks: &TaskTable, task: TaskId) -> Level
-    ensures { result.0 ≡ on_live 0 (λ x. x.level) (standings tasks.now task.0) }
+    ensures { result.0 ≡ on_live 0 (λ x. x.level) (leg_tasks tasks.now task.0) }
 {
     match tasks.level_of(task) {
         Some(level) => level,

@@ -5,7 +5,7 @@ use Rattle.clap.specs.declared.error.ErrorKind.{ErrorKind}
 use Rattle.clap.specs.declared.error.ErrorKind.TheVariants as kind
 use Rattle.lp_models.specs.declared.name.ModelName.{ModelName}
 use Rattle.lp_models.specs.Names.{name_of}
-use Rattle.lp_words.specs.declared.words.Task.{Task}
+use Rattle.lp_words.specs.declared.words.Job.{Job}
 use Rattle.lp_words.specs.declared.words.WordsFault.{WordsFault}
 use Rattle.lp_words.specs.declared.words.WordsFault.TheVariants as words
 use Rattle.lp_words.specs.Asked.{Asked, IsUnknown, flag_word, words_of}
@@ -22,10 +22,10 @@ IsNoFlag found words.Usage = (json : Bool) → found ≢ Some (flag_word json)
 IsNoFlag found words.UnknownModel = ⊥
 IsNoFlag found words.NoMemory = ⊥
 
-abbrev pub NamesNoTask : Asked → WordsFault → Type 0
-NamesNoTask asked words.Usage = ((task : Task) → asked ≢ Some (words_of task)) × (IsUnknown asked → ⊥)
-NamesNoTask asked words.UnknownModel = IsUnknown asked
-NamesNoTask asked words.NoMemory = ⊥
+abbrev pub NamesNoJob : Asked → WordsFault → Type 0
+NamesNoJob asked words.Usage = ((job : Job) → asked ≢ Some (words_of job)) × (IsUnknown asked → ⊥)
+NamesNoJob asked words.UnknownModel = IsUnknown asked
+NamesNoJob asked words.NoMemory = ⊥
 
 -- the fault of words that clap refuses for such a cause
 abbrev pub IsRefusal : ErrorKind → WordsFault → Type 0

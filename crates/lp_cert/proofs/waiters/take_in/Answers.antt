@@ -1,6 +1,2 @@
-use Rattle.std.proofs.Common.{arith}
-use Rattle.std.proofs.lemmas.Grind.{common_steps}
+use Rattle.lp_cert.proofs.Taken.{none_taken_in, on_taken_in, off_taken_in}
 use Rattle.lp_cert.proofs.waiters.take_in.Goals as goal
-
-pub returns-then-eq : goal.returns-then-eq
-returns-then-eq c = grind (arith, common_steps)

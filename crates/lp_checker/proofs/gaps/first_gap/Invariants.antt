@@ -1,6 +1,6 @@
 use Rattle.std.proofs.Common.{◌≡◌, ℕ, suc, ◌-◌, ◌||◌, is_none, nat_le, slice_index}
 use Rattle.lp_definitions.specs.Leg.{check}
-use Rattle.lp_definitions.specs.Verdict.{first_bad}
+use Rattle.lp_definitions.specs.Judgement.{first_bad}
 use Rattle.lp_checker.specs.inside.Cursors.{leg_in}
 use Rattle.lp_checker.proofs.gaps.first_gap.Given as goal
 

@@ -1,6 +1,6 @@
 use Rattle.std.proofs.Common.{◌≡◌, ℕ, length, map, drop}
 use Rattle.lp_definitions.specs.Tasks.{first_of}
-use Rattle.lp_definitions.specs.Verdict.{gap_test}
+use Rattle.lp_definitions.specs.Judgement.{gap_test}
 use Rattle.lp_checker.specs.inside.Cursors.{leg_in}
 use Rattle.lp_checker.specs.inside.Sections.{section_of, FollowOn}
 use Rattle.lp_checker.proofs.gaps.gap_fault.Given as goal

@@ -1,7 +1,7 @@
 use Rattle.std.proofs.Common.{◌≡◌, ℕ, ◌+◌, ◌-◌, ◌<◌, ◌≤◌, List, nat_le, slice_index, sym, ap, ◌∙◌, arith}
 use Rattle.std.specs.List.{list_any}
 use Rattle.lp_checker.specs.inside.Cursors.{leg_in}
-use Rattle.lp_definitions.specs.Verdict.{covers}
+use Rattle.lp_definitions.specs.Judgement.{covers}
 use Rattle.lp_checker.proofs.GapLines.{gap_at, no_gap, found_within}
 use Rattle.lp_checker.proofs.gaps.gap_in.Goals as goal
 

@@ -9,7 +9,7 @@ use Rattle.lp_definitions.specs.declared.line.Line.{Line}
 use Rattle.lp_definitions.specs.declared.line.Line.TheVariants.{Born}
 use Rattle.lp_checker.specs.inside.Cursors.{leg_in}
 use Rattle.lp_checker.specs.inside.Sections.{AreInOrder}
-use Rattle.lp_definitions.specs.Verdict.{births, first_group}
+use Rattle.lp_definitions.specs.Judgement.{births, first_group}
 use Rattle.lp_checker.proofs.SectionLines.{ends_in_time}
 use Rattle.lp_checker.proofs.groups.first_group.Goals as goal
 

@@ -1,5 +1,5 @@
 use Rattle.std.proofs.Common.{◌≡◌, drop}
-use Rattle.lp_definitions.specs.Verdict.{births}
+use Rattle.lp_definitions.specs.Judgement.{births}
 use Rattle.lp_checker.proofs.groups.first_group.Given as goal
 
 -- no birth so far

@@ -6,7 +6,7 @@ use Rattle.lp_definitions.specs.Leg.{after, has_member}
 use Rattle.lp_definitions.specs.Schedule.{waits}
 use Rattle.lp_definitions.specs.Tasks.{outlines}
 use Rattle.lp_checker.specs.inside.Cursors.{leg_in}
-use Rattle.lp_definitions.specs.Verdict.{births, first_lines, has_stray, last_group, sections}
+use Rattle.lp_definitions.specs.Judgement.{births, first_lines, has_stray, last_group, sections}
 use Rattle.lp_checker.proofs.groups.is_no_such_group.Goals as goal
 
 -- the four tests, where the first ones pass

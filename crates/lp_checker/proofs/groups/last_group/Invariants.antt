@@ -1,5 +1,5 @@
 use Rattle.std.proofs.Common.{◌≡◌, drop}
-use Rattle.lp_definitions.specs.Verdict.{births, last_group}
+use Rattle.lp_definitions.specs.Judgement.{births, last_group}
 use Rattle.lp_checker.proofs.groups.last_group.Given as goal
 
 -- the group so far leads on to the last one

@@ -5,7 +5,7 @@ use Rattle.lp_definitions.specs.declared.line.Line.{Line}
 use Rattle.lp_definitions.specs.declared.line.Line.TheVariants.{Hold}
 use Rattle.lp_checker.specs.inside.Cursors.{leg_in}
 use Rattle.lp_checker.specs.inside.Sections.{timed}
-use Rattle.lp_definitions.specs.Verdict.{line_test}
+use Rattle.lp_definitions.specs.Judgement.{line_test}
 use Rattle.lp_checker.proofs.MarkLines.{line_here, line_passed, passes_sound}
 use Rattle.lp_checker.proofs.lines.fault_in.Goals as goal
 

@@ -1,6 +1,6 @@
 use Rattle.std.proofs.Common.{◌≡◌, map, drop}
 use Rattle.lp_definitions.specs.Tasks.{first_of}
-use Rattle.lp_definitions.specs.Verdict.{line_test}
+use Rattle.lp_definitions.specs.Judgement.{line_test}
 use Rattle.lp_checker.specs.inside.Cursors.{leg_in}
 use Rattle.lp_checker.specs.inside.Sections.{timed}
 use Rattle.lp_checker.proofs.lines.fault_in.Given as goal

@@ -5,7 +5,7 @@ use Rattle.lp_definitions.specs.declared.line.Line.TheVariants.{Hold, Busy}
 use Rattle.lp_definitions.specs.declared.cert_fault.CertFault.{CertFault}
 use Rattle.lp_checker.specs.inside.Cursors.{leg_in}
 use Rattle.lp_checker.specs.inside.Sections.{timed}
-use Rattle.lp_definitions.specs.Verdict.{line_test}
+use Rattle.lp_definitions.specs.Judgement.{line_test}
 use Rattle.lp_checker.proofs.lines.fault_of.Goals as goal
 
 pub returns-in-Hold-clause-fault : goal.returns-in-Hold-clause-fault

@@ -1,7 +1,7 @@
 use Rattle.std.proofs.Common.{ℕ, suc, ◌+◌, ◌-◌, sym, ap, ◌∙◌, arith}
 use Rattle.lp_checker.specs.inside.Cursors.{Range, leg_in}
 use Rattle.lp_checker.specs.inside.Sections.{timed}
-use Rattle.lp_definitions.specs.Verdict.{is_on_stack}
+use Rattle.lp_definitions.specs.Judgement.{is_on_stack}
 use Rattle.lp_laws.proofs.FirstBad.{none_bad, bad_here, good_here}
 use Rattle.lp_laws.proofs.Held.{hold_within}
 use Rattle.lp_checker.proofs.lines.first_off.Goals as goal

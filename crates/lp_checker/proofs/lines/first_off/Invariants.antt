@@ -1,5 +1,5 @@
 use Rattle.std.proofs.Common.{◌≡◌, ℕ, suc, ◌-◌}
-use Rattle.lp_definitions.specs.Verdict.{first_bad, is_on_stack}
+use Rattle.lp_definitions.specs.Judgement.{first_bad, is_on_stack}
 use Rattle.lp_checker.specs.inside.Cursors.{leg_in}
 use Rattle.lp_checker.proofs.lines.first_off.Given as goal
 

@@ -3,7 +3,7 @@ use Rattle.std.specs.Option.{option_map}
 use Rattle.lp_definitions.specs.declared.cert_fault.CertFault.TheVariants.{NotOnStack}
 use Rattle.lp_checker.specs.inside.Cursors.{leg_in}
 use Rattle.lp_checker.specs.inside.Sections.{timed}
-use Rattle.lp_definitions.specs.Verdict.{is_on_stack}
+use Rattle.lp_definitions.specs.Judgement.{is_on_stack}
 use Rattle.lp_laws.proofs.FirstBad.{bad_within}
 use Rattle.lp_laws.proofs.Held.{hold_within, no_hold, hold_by}
 use Rattle.lp_checker.proofs.lines.hold_fault.Goals as goal

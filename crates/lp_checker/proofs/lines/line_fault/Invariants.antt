@@ -1,7 +1,7 @@
 use Rattle.std.proofs.Common.{◌≡◌, ℕ, length, map, drop}
 use Rattle.std.specs.List.{flat_map}
 use Rattle.lp_definitions.specs.Tasks.{first_of}
-use Rattle.lp_definitions.specs.Verdict.{line_tests}
+use Rattle.lp_definitions.specs.Judgement.{line_tests}
 use Rattle.lp_checker.specs.inside.Cursors.{leg_in}
 use Rattle.lp_checker.specs.inside.Sections.{section_of, FollowOn}
 use Rattle.lp_checker.proofs.lines.line_fault.Given as goal

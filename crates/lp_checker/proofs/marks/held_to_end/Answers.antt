@@ -1,7 +1,7 @@
 use Rattle.std.proofs.Common.{◌-◌, ap, sym, ◌∙◌}
 use Rattle.lp_checker.specs.inside.Cursors.{leg_in}
 use Rattle.lp_checker.specs.inside.Sections.{timed}
-use Rattle.lp_definitions.specs.Verdict.{is_on_stack}
+use Rattle.lp_definitions.specs.Judgement.{is_on_stack}
 use Rattle.lp_checker.proofs.BirthLines.{fits_some}
 use Rattle.lp_laws.proofs.Held.{sound_hold}
 use Rattle.lp_checker.proofs.marks.held_to_end.Goals as goal

@@ -191,6 +191,41 @@ fn sees_one_settled<N: DeskName>(reader: &mut BoardReader<N>) -> bool {
         && reader.seen() == 1
 }
 
+/// The task of the highest number is shown as the first is, and so is one halfway that isn't there.
+#[test]
+fn the_highest_task_is_shown(rt: HostRuntime) {
+    let setting = Setting {
+        boots: &HIGHEST,
+        ..OF_FIRST
+    };
+    assert!(rt; is_right(&rt, rt.alloc(), Hybrid, setting, Play::Highest));
+}
+
+const HIGHEST: [(TaskId, Class); 1] = [(LAST, Class::Normal)];
+
+const LAST: TaskId = TaskId(65_535);
+
+/// Whether the task of the highest number is shown, from the start on.
+pub(super) fn is_highest_shown<M: Consistency + Sync, N: DeskName, R: Threads + Wait + Sync>(
+    run: &mut Run<'_, M, N, R>,
+) -> bool {
+    shows_the_last(run.hands.readers.as_mut_slice(), 0)
+        && run.send(Some(0), Event::Enter(LAST)) == Said::Done
+        && shows_the_last(run.hands.readers.as_mut_slice(), 1)
+}
+
+/// Whether there is one reader, which sees the last task alone, after so many events.
+fn shows_the_last<N: DeskName>(readers: &mut [BoardReader<N>], count: u64) -> bool {
+    match readers {
+        [reader] => {
+            reader.state_of(LAST) == Some(Shown::Settled)
+                && reader.state_of(TaskId(40_000)) == Some(Shown::Absent)
+                && reader.seen() == count
+        }
+        _ => false,
+    }
+}
+
 #[test]
 fn a_board_has_1_to_64_readers(rt: HostRuntime) {
     assert!(rt; blank_fault(rt.alloc(), &[], 0) == Some(LaunchFault::BadCrew));

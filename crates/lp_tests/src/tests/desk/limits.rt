@@ -1,6 +1,7 @@
 //! What a seat and the control may send, how much fits, and what a launch refuses.
 use super::boards::blank_fault;
 use super::*;
+use lp_board::Shown;
 use lp_log::Entry;
 use std::mem::size_of;
 
@@ -12,14 +13,15 @@ fn a_seat_sends_its_tasks_events_alone(rt: HostRuntime) {
 
 /// None of these is the task's, or the control's at the end.
 const NOT_THEIRS: [Row; 5] = [
-    (Some(0), Event::Enter(TWO), Said::Turned(Cause::NotYours)),
-    (Some(0), Event::Walk, Said::Turned(Cause::NotYours)),
-    (Some(0), Event::Stop, Said::Turned(Cause::NotYours)),
-    (Some(0), Event::Enable, Said::Turned(Cause::NotYours)),
-    (None, Event::Enter(ONE), Said::Turned(Cause::NotYours)),
+    (Some(0), Event::Enter(TWO), Said::Turned(TurnedBy::NotYours)),
+    (Some(0), Event::Walk, Said::Turned(TurnedBy::NotYours)),
+    (Some(0), Event::Stop, Said::Turned(TurnedBy::NotYours)),
+    (Some(0), Event::Enable, Said::Turned(TurnedBy::NotYours)),
+    (None, Event::Enter(ONE), Said::Turned(TurnedBy::NotYours)),
 ];
 
-/// After 1,000,000 events every event is turned back, also one that would be another task's first.
+/// After 1,000,000 events every event is turned back, also one that would be another task's first. A reader that never looked
+/// is shown all of them.
 #[test]
 fn a_full_journal_turns_back(rt: HostRuntime) {
     assert!(rt; is_right(&rt, rt.alloc(), Hybrid, OF_FIRST, Play::Filled));
@@ -29,12 +31,28 @@ fn a_full_journal_turns_back(rt: HostRuntime) {
 pub(super) fn is_filled<M: Consistency + Sync, N: DeskName, R: Threads + Wait + Sync>(
     run: &mut Run<'_, M, N, R>,
 ) -> bool {
-    wakes_a_million(run) && run.takes(&FULL)
+    wakes_a_million(run) && run.takes(&FULL) && sees_a_million(run.hands.readers.as_mut_slice())
+}
+
+/// Whether there is one reader, which sees task 1 after 1,000,000 events.
+fn sees_a_million<N: DeskName>(readers: &mut [BoardReader<N>]) -> bool {
+    match readers {
+        [reader] => {
+            reader.seen() == 0
+                && reader.state_of(ONE) == Some(Shown::Settled)
+                && reader.seen() == 1_000_000
+        }
+        _ => false,
+    }
 }
 
 const FULL: [Row; 2] = [
-    (Some(0), Event::Enter(ONE), Said::Turned(Cause::JournalFull)),
-    (None, Event::Walk, Said::Turned(Cause::JournalFull)),
+    (
+        Some(0),
+        Event::Enter(ONE),
+        Said::Turned(TurnedBy::JournalFull),
+    ),
+    (None, Event::Walk, Said::Turned(TurnedBy::JournalFull)),
 ];
 
 /// Whether 1,000,000 events are answered, each of which the engine refuses.

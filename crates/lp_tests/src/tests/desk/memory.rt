@@ -2,6 +2,7 @@
 //!
 //! `scripts/refuse-memory` runs these tests with each allocation refused in turn.
 use super::*;
+use lp_board::BoardFault;
 use lp_model::ForkKind;
 use lp_models::AllAtOnce;
 
@@ -61,7 +62,8 @@ impl Ending {
     fn of(played: Result<bool, LaunchFault>) -> Ending {
         match played {
             Ok(true) => Ending::Right,
-            Err(NO_MEMORY | LaunchFault::NoBoard) => Ending::NoDesk,
+            // Not NoBoard: no reader is refused for want of memory, as none is made before the board has room for all.
+            Err(NO_MEMORY) => Ending::NoDesk,
             Ok(false) | Err(_) => Ending::Wrong,
         }
     }
@@ -92,7 +94,7 @@ pub(super) fn is_played<M: Consistency + Sync, N: DeskName, R: Threads + Wait + 
     rows: &[Row],
 ) -> bool {
     are_played(run, rows)
-        && are_seen(run.hands.readers.as_mut_slice(), rows.len())
+        && are_seen(run.alloc, run.hands.readers.as_mut_slice(), rows.len())
         && is_closed(run, rows.len())
 }
 
@@ -109,10 +111,14 @@ fn are_played<M: Consistency + Sync, N: DeskName, R: Threads + Wait + Sync>(
     true
 }
 
-/// Whether there is one reader, and it has seen so many events, and task 1.
-fn are_seen<N: DeskName>(readers: &mut [BoardReader<N>], count: usize) -> bool {
+/// Whether there is one reader, and it has seen so many events, and task 1; and a snapshot fails for want of memory alone.
+fn are_seen<N: DeskName>(alloc: Global, readers: &mut [BoardReader<N>], count: usize) -> bool {
     match readers {
-        [reader] => reader.state_of(ONE).is_some() && reader.seen() == count as u64,
+        [reader] => {
+            reader.state_of(ONE).is_some()
+                && reader.seen() == count as u64
+                && matches!(reader.snapshot(alloc), Ok(_) | Err(BoardFault::NoMemory))
+        }
         _ => false,
     }
 }
@@ -142,7 +148,7 @@ fn answer_at_last<M: Consistency + Sync, N: DeskName, R: Threads + Wait + Sync>(
 ) -> Said {
     let sent = sent_from(&run.hands, place);
     match run.send(place, event) {
-        Said::Turned(Cause::NoMemory) if sent_from(&run.hands, place) == sent => {
+        Said::Turned(TurnedBy::NoMemory) if sent_from(&run.hands, place) == sent => {
             run.send(place, event)
         }
         said => said,

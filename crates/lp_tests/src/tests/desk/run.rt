@@ -190,7 +190,9 @@ pub(super) enum Play<'a> {
     Watched,
     /// All its readers see an entry.
     Seen,
-    /// It is full after 1,000,000 events.
+    /// Its reader sees the task of the highest number.
+    Highest,
+    /// It is full after 1,000,000 events, all of which its reader sees.
     Filled,
     /// It misses a seat at the close.
     KeptBack,
@@ -245,6 +247,7 @@ fn plays<M: Consistency + Send + Sync, N: DeskName + Send + Sync, R: Threads + W
         Play::Shown => boards::is_shown(run),
         Play::Watched => boards::is_watched(run),
         Play::Seen => boards::is_seen(run),
+        Play::Highest => boards::is_highest_shown(run),
         Play::Filled => limits::is_filled(run),
         Play::KeptBack => threads::is_kept_back(run, parts),
         Play::Entered => closes::enters(run, parts),

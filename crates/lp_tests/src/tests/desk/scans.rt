@@ -1,4 +1,4 @@
-//! The calls of a log and of a book that nothing else here makes: plain events, and scans by what was found of the tasks.
+//! The calls of a log and of a book that nothing else here makes: quiet events, and scans by what was found of the tasks.
 ghost use Rattle.std.specs.Prelude.{◌≡◌, IfOk};
 ghost use Rattle.lp_model.specs.declared.check.CheckKind.TheVariants.{Walk};
 ghost use Rattle.lp_transition.specs.Scan.{verdicts_of};

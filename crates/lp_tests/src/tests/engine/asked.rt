@@ -1,7 +1,7 @@
 //! Walks that leave out who would be refused.
 ghost use Rattle.std.specs.Prelude.{◌≡◌, ℕ, true, false, Some, IsTrue, IfOk, is_some, nat_eq};
 ghost use Rattle.lp_numbers.specs.Numbers.{has};
-ghost use Rattle.lp_definitions.specs.Leg.{Standing};
+ghost use Rattle.lp_definitions.specs.Leg.{LegTask};
 ghost use Rattle.lp_machine.specs.Machine.{view_of};
 ghost use Rattle.lp_transition.specs.Scan.{MayLeaveOut};
 ghost use Rattle.lp_machine.specs.Table.{slot, state_in};
@@ -23,7 +23,7 @@ const ASLEEP: [Event; 6] = [
 
 /// Whether a task waits, and a check refuses it.
 fn is_refused<M: Consistency>(core: &Core<M>, kind: CheckKind, task: TaskId) -> bool
-    ensures { IsTrue result → (x : Standing) → slot core.now.table task.0 ≡ Some x → (nat_eq x.level core.now.target ≡ false) × (is_some (M.rules.blame kind (view_of task.0 x) (state_in core.now).aim) ≡ true) }
+    ensures { IsTrue result → (x : LegTask) → slot core.now.table task.0 ≡ Some x → (nat_eq x.level core.now.target ≡ false) × (is_some (M.rules.blame kind (view_of task.0 x) (state_in core.now).aim) ≡ true) }
 {
     let Some(view) = core.task(task) else {
         return false;
@@ -36,7 +36,7 @@ fn is_refused<M: Consistency>(core: &Core<M>, kind: CheckKind, task: TaskId) -> 
 /// Takes in the group of a task that waits.
 fn take_in<M: Consistency>(core: &Core<M>, task: TaskId, groups: &mut NumberSet)
     ensures kept { (group : ℕ) → has groups.old group ≡ true → has groups.new group ≡ true }
-    ensures taken { (x : Standing) → slot core.now.table task.0 ≡ Some x → nat_eq x.level core.now.target ≡ false → has groups.new x.group ≡ true }
+    ensures taken { (x : LegTask) → slot core.now.table task.0 ≡ Some x → nat_eq x.level core.now.target ≡ false → has groups.new x.group ≡ true }
 {
     let Some(group) = core.group_of(task) else {
         return;
@@ -51,7 +51,7 @@ pub(super) fn waiting<M: Consistency>(
     alloc: Global,
     core: &Core<M>,
 ) -> Result<NumberSet, AllocError>
-    ensures { IfOk result (λ set. (task : ℕ) (x : Standing) → slot core.now.table task ≡ Some x → nat_eq x.level core.now.target ≡ false → has set x.group ≡ true) }
+    ensures { IfOk result (λ set. (task : ℕ) (x : LegTask) → slot core.now.table task ≡ Some x → nat_eq x.level core.now.target ≡ false → has set x.group ≡ true) }
 {
     let mut set = NumberSet::new(alloc)?;
     for number in core.live() {

@@ -5,10 +5,11 @@ use lp_model::ForkKind;
 use lp_transition::{GroupList, Refusal};
 
 /// An event, whether it is a scan, and whether it is a control event.
-const KINDS: [(Event, bool, bool); 8] = [
+const KINDS: [(Event, bool, bool); 9] = [
     (Event::Call(ONE, A), false, false),
     (Event::Fork(ONE, TWO, ForkKind::Own), false, false),
     (Event::Idle(ONE), false, false),
+    (Event::Resched(ONE), false, false),
     (Event::Walk, true, false),
     (Event::Stop, true, false),
     (Event::Enable, false, true),

@@ -90,7 +90,7 @@ fn a_million_events_are_numbered(rt: HostRuntime) {
 }
 
 /// An event of each kind.
-const EACH_KIND: [Event; 14] = [
+const EACH_KIND: [Event; 15] = [
     Event::Call(ONE, A),
     Event::Ret(ONE),
     Event::Sleep(ONE),
@@ -98,6 +98,7 @@ const EACH_KIND: [Event; 14] = [
     Event::Enter(ONE),
     Event::Exit(ONE),
     Event::Idle(ONE),
+    Event::Resched(ONE),
     Event::Fork(ONE, TWO, ForkKind::Own),
     Event::Die(ONE),
     Event::Walk,

@@ -301,7 +301,7 @@ fn faults_have_numbers(rt: HostRuntime) {
 fn laws_are_called(_rt: HostRuntime) {
     lp_worked_laws::worked_rows();
     lp_worked_laws::worked_certificates();
-    lp_worked_laws::worked_verdicts();
+    lp_worked_laws::worked_faults();
     lp_worked_laws::headline_refuses();
     laws::accepted_certificates_hold::<Hybrid>();
     laws::made_certificates_are_accepted::<Hybrid>();

@@ -96,7 +96,7 @@ fn kind_of(end: End) -> ErrorKind {
     }
 }
 
-/// The child's trace, with a certificate behind it.
+/// The child's trace, with a certificate after it.
 const CHILD_WITH_CERT: &str =
     "lptrace 1\nsym a\nsym b\nsym c\npatch a\nboot 1 normal\nenter 1\nenable\nwalk\nfork 1 2 own\nexit 1\ncall 2 a\nsleep 2\nwalk\nlpcert 1\nwaiting 2 2 8\n";
 
@@ -141,7 +141,7 @@ fn a_reader_that_failed_is_not_read_again(rt: HostRuntime) {
 /// A trace of no task.
 const OF_NOBODY: &str = "lptrace 1\nsym a\npatch a\nenable\n";
 
-/// The same, with a certificate behind it.
+/// The same, with a certificate after it.
 const WITH_CERT: &str = "lptrace 1\nsym a\npatch a\nenable\nlpcert 1\nwaiting 1 1 1\n";
 
 const REPORT: &str =
@@ -307,4 +307,27 @@ fn has_a_text(alloc: Global) -> bool {
 #[test]
 fn a_fault_has_a_text(rt: HostRuntime) {
     assert!(rt; has_a_text(rt.alloc()));
+}
+
+/// A call that fails, or takes or gives no byte, is not made again: no clause says that the stream is called once a call.
+#[test]
+fn a_counted_call_is_one_call(rt: HostRuntime) {
+    for end in [End::FailsOnce, End::NothingOnce] {
+        assert!(rt; is_written_once(rt.alloc(), end));
+        assert!(rt; is_read_once(end));
+    }
+}
+
+/// Whether one write to a sink that ends so is one write of the sink.
+fn is_written_once(alloc: Global, end: End) -> bool {
+    let mut sink = Counted::new(Sink::full(alloc, 2, 0, end));
+    let took_some = matches!(sink.write(b"ab"), Ok(count) if count > 0);
+    !took_some && sink.stream().is_left() && sink.stream().taken().is_empty()
+}
+
+/// Whether one read of a source that ends so is one read of the source.
+fn is_read_once(end: End) -> bool {
+    let mut source = Counted::new(Source::broken(b"ab", 2, 0, end));
+    let gave_some = matches!(source.read(&mut [0; 2]), Ok(count) if count > 0);
+    !gave_some && source.stream().is_left()
 }

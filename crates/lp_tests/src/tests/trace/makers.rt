@@ -152,7 +152,7 @@ fn a_child_waits_with_its_parents_reasons(rt: HostRuntime) {
     assert!(rt; child_is_told_of(rt.alloc()));
 }
 
-/// A transition in which one task switches and one waits, reversed, with a walk behind it.
+/// A transition in which one task switches and one waits, reversed, with a walk after it.
 const TURNED: &str =
     "lptrace 1\nsym a\nsym b\nsym c\npatch a\nboot 1 normal\nboot 2 normal\nenable\nenter 1\nexit 1\nenter 1\ncall 1 a\nsleep 1\nreverse\nwalk\n";
 
@@ -255,7 +255,7 @@ fn reasons() -> [Line; 5] {
     ]
 }
 
-/// Whether these are the child's reasons, line by line, with nothing behind them.
+/// Whether these are the child's reasons, line by line, with nothing after them.
 fn are_reasons(mut lines: CertLines<'_>) -> bool {
     for line in reasons() {
         if lines.next() != Some(line) {

@@ -155,10 +155,11 @@ fn a_patch_has_up_to_256_functions(rt: HostRuntime) {
     assert!(rt; has_up_to_256_functions(rt.alloc()));
 }
 
-/// Events of no task or of an unknown function.
-const WRONG: [Event; 6] = [
+/// Events of no task or of an unknown function, and one that the first text has no word for.
+const WRONG: [Event; 7] = [
     Event::Ret(NOBODY),
     Event::Idle(NOBODY),
+    Event::Resched(TaskId(1)),
     Event::Call(NOBODY, A),
     Event::Call(TaskId(1), D),
     Event::Fork(NOBODY, TaskId(2), ForkKind::Own),

@@ -12,7 +12,7 @@ const TRACE: &str =
 const LINES: &str =
     "1 refused E12\n2 done\n3 ran 0\n4 done\n5 over 1 2 complete\n6 ran 1\n7 done\n8 done complete\n";
 
-/// Writes the replies of a list, each behind its event's number.
+/// Writes the replies of a list, each after its event's number.
 fn print(text: &mut String, replies: &ReplyList) -> Result<(), AllocError> {
     let mut number = 0_u32;
     for reply in replies {

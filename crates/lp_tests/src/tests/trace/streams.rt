@@ -15,13 +15,15 @@ pub(super) enum End {
     Interrupted,
     /// It gives or takes nothing more.
     Nothing,
+    /// It gives or takes nothing, and would then go on.
+    NothingOnce,
 }
 
 impl End {
-    /// How often it would go on behind its end.
+    /// How often it would go on after its end.
     fn further(self) -> usize {
         match self {
-            End::FailsOnce => usize::MAX,
+            End::FailsOnce | End::NothingOnce => usize::MAX,
             _ => 0,
         }
     }
@@ -32,7 +34,7 @@ impl End {
         match self {
             End::Fails | End::FailsOnce => Err(io::Error::from(ErrorKind::BrokenPipe)),
             End::Interrupted => Err(io::Error::from(ErrorKind::Interrupted)),
-            End::Nothing => Ok(0),
+            End::Nothing | End::NothingOnce => Ok(0),
         }
     }
 }
@@ -62,7 +64,7 @@ impl<'a> Source<'a> {
         }
     }
 
-    /// Whether it has failed once, and was not read again.
+    /// Whether it has ended once, and was not read again.
     pub(super) fn is_left(&self) -> bool {
         self.reads == usize::MAX
     }
@@ -124,6 +126,11 @@ impl Sink {
             writes,
             end,
         }
+    }
+
+    /// Whether it has ended once, and was not written to again.
+    pub(super) fn is_left(&self) -> bool {
+        self.writes == usize::MAX
     }
 
     /// What it took.

@@ -4,7 +4,7 @@ use Rattle.std.proofs.lemmas.List.{length-take-le}
 use Rattle.std.specs.Io.KnownBytes.{Consumes}
 use Rattle.lp_text.proofs.Counts.{going_on, none_called, one_more_called}
 use Rattle.lp_text.proofs.Inputs.{consumes_more, consumes_none}
-use Rattle.lp_text.proofs.Streams.{behind}
+use Rattle.lp_text.proofs.Streams.{after}
 use Rattle.lp_text.proofs.input.read_pieces.Goals as goal
 
 pub loop-text-init : goal.loop-text-init
@@ -46,7 +46,7 @@ returns-in_default-clause-calls g c =
 
 pub returns-in-Err-clause-fault : goal.returns-in-Err-clause-fault
 returns-in-Err-clause-fault g c =
-    behind 0 c.len.result (g.R.Read.remaining c.args.reader.now.stream) (g.R.Read.remaining c.loop-text.reader.stream) (g.R.Read.remaining c.read_piece.new.reader.stream) c.loop-text.text.items c.in-Err.fault c.loop-text.invariant.0 (omega (arith, c.loop-text.invariant.2, c.len.ensures)) c.in-Err.ensures.fault
+    after 0 c.len.result (g.R.Read.remaining c.args.reader.now.stream) (g.R.Read.remaining c.loop-text.reader.stream) (g.R.Read.remaining c.read_piece.new.reader.stream) c.loop-text.text.items c.in-Err.fault c.loop-text.invariant.0 (omega (arith, c.loop-text.invariant.2, c.len.ensures)) c.in-Err.ensures.fault
 
 pub returns-in_default-clause-counted : goal.returns-in_default-clause-counted
 returns-in_default-clause-counted g c = grind (arith, common_steps)

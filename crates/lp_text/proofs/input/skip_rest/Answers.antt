@@ -3,7 +3,7 @@ use Rattle.std.proofs.lemmas.Grind.{common_steps}
 use Rattle.std.proofs.lemmas.List.{length-append, length-take-le}
 use Rattle.lp_text.proofs.Counts.{going_on, none_called, one_more_called}
 use Rattle.lp_text.proofs.Inputs.{consumes_more, consumes_none}
-use Rattle.lp_text.proofs.Streams.{behind}
+use Rattle.lp_text.proofs.Streams.{after}
 use Rattle.lp_text.proofs.input.skip_rest.Goals as goal
 
 pub loop-count-init : goal.loop-count-init
@@ -32,7 +32,7 @@ returns-in-Err-clause-calls g c =
 
 pub returns-in-Err-clause-fault : goal.returns-in-Err-clause-fault
 returns-in-Err-clause-fault g c =
-    behind c.args.before c.loop-count.total (g.R.Read.remaining c.args.reader.now.stream) (g.R.Read.remaining c.loop-count.reader.stream) (g.R.Read.remaining c.read_piece.new.reader.stream) c.loop-count.invariant.0.0 c.in-Err.fault c.loop-count.invariant.0.1 c.loop-count.invariant.0.2 c.in-Err.ensures.fault
+    after c.args.before c.loop-count.total (g.R.Read.remaining c.args.reader.now.stream) (g.R.Read.remaining c.loop-count.reader.stream) (g.R.Read.remaining c.read_piece.new.reader.stream) c.loop-count.invariant.0.0 c.in-Err.fault c.loop-count.invariant.0.1 c.loop-count.invariant.0.2 c.in-Err.ensures.fault
 
 pub returns-in-Ok-eq0-clause-end : goal.returns-in-Ok-eq0-clause-end
 returns-in-Ok-eq0-clause-end g c = grind (arith, common_steps)

@@ -4,7 +4,7 @@ use Rattle.std.proofs.lemmas.List.{length-append, length-take-le}
 use Rattle.lp_text.specs.inside.Streams.{Stream, reading_after}
 use Rattle.lp_text.proofs.Counts.{called_more, going_on, going_to_end, going_to_fault, input_told, none_called, one_more_called, text_told}
 use Rattle.lp_text.proofs.Inputs.{consumes_more, consumes_none}
-use Rattle.lp_text.proofs.Streams.{input_fault_behind, one_more, trace_fault, whole}
+use Rattle.lp_text.proofs.Streams.{input_fault_after, one_more, trace_fault, whole}
 use Rattle.lp_text.proofs.stream.add_all.Goals as goal
 
 pub loop-count-init : goal.loop-count-init
@@ -30,7 +30,7 @@ returns-in-Err-clause-calls g c =
 pub returns-in-Err-clause-trace : goal.returns-in-Err-clause-trace
 returns-in-Err-clause-trace g c =
     let so_far = c.loop-count.invariant.0 in
-    input_fault_behind (g.R.Read.remaining c.args.reader.now.stream) (g.R.Read.remaining c.loop-count.reader.stream) (g.R.Read.remaining c.read_piece.new.reader.stream) so_far.0 c.loop-count.total c.in-Err.fault c.from.result so_far.1 so_far.2 c.in-Err.ensures.fault c.from.ensures
+    input_fault_after (g.R.Read.remaining c.args.reader.now.stream) (g.R.Read.remaining c.loop-count.reader.stream) (g.R.Read.remaining c.read_piece.new.reader.stream) so_far.0 c.loop-count.total c.in-Err.fault c.from.result so_far.1 so_far.2 c.in-Err.ensures.fault c.from.ensures
 
 pub returns-then-count-eq0-clause-found : goal.returns-then-count-eq0-clause-found
 returns-then-count-eq0-clause-found g c =
@@ -94,7 +94,7 @@ returns-in-Err-skip_rest-clause-trace g c =
     let last : Option (List ℕ) = g.R.Read.remaining c.skip_rest.new.reader.stream in
     let piece : List ℕ = take c.in-Ok.count c.read_piece.new.piece in
     let size : length piece ≡ c.in-Ok.count = length-take-le c.in-Ok.count c.read_piece.new.piece c.in-Ok.ensures.within in
-    input_fault_behind before then last (so_far.0 ++ piece) (c.loop-count.total + c.in-Ok.count) c.in-Err-skip_rest.later c.from-in-Err-skip_rest.result (consumes_more before now then so_far.0 piece so_far.1 c.in-Ok.ensures.bytes) (omega (arith, so_far.2, size, length-append so_far.0 piece)) c.in-Err-skip_rest.ensures.fault c.from-in-Err-skip_rest.ensures
+    input_fault_after before then last (so_far.0 ++ piece) (c.loop-count.total + c.in-Ok.count) c.in-Err-skip_rest.later c.from-in-Err-skip_rest.result (consumes_more before now then so_far.0 piece so_far.1 c.in-Ok.ensures.bytes) (omega (arith, so_far.2, size, length-append so_far.0 piece)) c.in-Err-skip_rest.ensures.fault c.from-in-Err-skip_rest.ensures
 
 pub loop-count-preserved : goal.loop-count-preserved
 loop-count-preserved g c =

@@ -3,7 +3,7 @@ use Rattle.std.proofs.lemmas.Result.{IfErr-weaker}
 use Rattle.lp_threads.proofs.Faults.{at_desk}
 use Rattle.lp_threads.proofs.playing.threads.Goals as goal
 
--- the report is written behind the play, where no fault is the desk's
+-- the report is written after the play, where no fault is the desk's
 pub returns-clause-desk : goal.returns-clause-desk
 returns-clause-desk g c = IfErr-weaker c.write_play.result _ _ (λ fault none. at_desk fault ⊥ _ (λ no. absurd no) none) c.write_play.ensures.desk
 

@@ -13,7 +13,7 @@ pub returns-clause-trace : goal.returns-clause-trace
 returns-clause-trace g c = no_text c.in-Err.fault _ c.in-Err.ensures.late
 
 pub returns-clause-read_failed : goal.returns-clause-read_failed
-returns-clause-read_failed g c = no_read _ c.in-Err.fault c.in-Err.ensures.behind
+returns-clause-read_failed g c = no_read _ c.in-Err.fault c.in-Err.ensures.not_reading
 
 pub returns-clause-unfailed : goal.returns-clause-unfailed
 returns-clause-unfailed g c = still_unread _ c.in-Err.fault c.in_ok-input.ensures.unfailed

@@ -1,7 +1,8 @@
 use Rattle.std.proofs.Common.{rules, ◌≡◌, IfOk, subst}
 use Rattle.lp_models.specs.declared.name.ModelName.TheVariants as called
 use Rattle.lp_definitions.specs.Run.{leg_of, reply}
-use Rattle.livepatch.specs.Named.{NamedRun, rules_named}
+use Rattle.lp_models.specs.Names.{rules_named}
+use Rattle.livepatch.specs.Named.{NamedRun}
 use Rattle.livepatch.proofs.any.AnySimulator.step.Goals.{in-Hybrid, in-LeaveKernel, in-AllAtOnce, in-Immediate, in-ProcessGroup}
 use Rattle.livepatch.proofs.any.AnySimulator.step.Goals as goal
 

@@ -15,4 +15,4 @@ invariant_of-result g c =
     let none : c.new-3.result.items ≡ [] = c.new-3.ensures.items in
     let run : Run = run_with c.in_ok-patches.patches c.in_ok-boots.boots.items c.new-3.result.items in
     let stands : StandsIn model run (state_in c.in_ok-core.core.value) = rw (core, patches, boots, none) c.requires.stands in
-    kept_first model run c.in_ok-core.core.value c.in_ok-maker.maker none stands (ap (λ (e : Engine). e.last_scan.kind) core ∙ c.requires.unscanned) c.in_ok-maker.ensures
+    kept_first model run c.in_ok-core.core.value c.in_ok-explained.explained none stands (ap (λ (e : Engine). e.last_scan.kind) core ∙ c.requires.unscanned) c.in_ok-explained.ensures

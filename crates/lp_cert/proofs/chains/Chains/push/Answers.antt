@@ -14,20 +14,20 @@ overflow_add-count c =
 pub invariant_of-self : goal.invariant_of-self
 invariant_of-self c =
     let entries = c.self.inside.entries.items in
-    let entry : Entry = record { reason = c.args.reason; older = c.args.older; count = c.count-count.result + 1; jump = c.jump_behind-jump.result } in
+    let entry : Entry = record { reason = c.args.reason; older = c.args.older; count = c.count-count.result + 1; jump = c.jump_after-jump.result } in
     let known = rw (← c.self.view_is) at c.requires.known in
     let all = rw (← c.self.view_is) at c.count-count.ensures.all in
     rw c.push_reserved.ensures.items (AreLinked-push entries entry c.self.invariant (record {
       older = known;
       count = omega (arith, all);
       few = omega (arith, c.count-count.ensures.few);
-      jump = rw (← c.self.view_is) at c.jump_behind-jump.ensures.known;
-      tail = rw (← c.self.view_is) at c.jump_behind-jump.ensures.tail;
+      jump = rw (← c.self.view_is) at c.jump_after-jump.ensures.known;
+      tail = rw (← c.self.view_is) at c.jump_after-jump.ensures.tail;
     }))
 
 pub returns-clause-lists : goal.returns-clause-lists
 returns-clause-lists c =
-    let entry : Entry = record { reason = c.args.reason; older = c.args.older; count = c.count-count.result + 1; jump = c.jump_behind-jump.result } in
+    let entry : Entry = record { reason = c.args.reason; older = c.args.older; count = c.count-count.result + 1; jump = c.jump_after-jump.result } in
     rw (c.push_reserved.ensures.items, ← c.self.view_is) (lists_of-push c.self.inside.entries.items entry)
 
 pub returns-clause-id : goal.returns-clause-id

@@ -6,7 +6,7 @@ pub returns-clause-born : goal.returns-clause-born
 returns-clause-born c = grind (arith, common_steps)
 
 pub bear-next-requires-clause-head : goal.bear-next-requires-clause-head
-bear-next-requires-clause-head c = grind (arith, common_steps)
+bear-next-requires-clause-head c = rw (c.as_slice.ensures.value, c.head-head.ensures, ← c.self.view_is) (rw (← c.self.view_is) at c.requires.head)
 
 pub returns-clause-others : goal.returns-clause-others
 returns-clause-others c = grind (arith, common_steps)

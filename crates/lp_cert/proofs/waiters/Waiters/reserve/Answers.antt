@@ -1,15 +1,23 @@
-use Rattle.std.proofs.Common.{arith}
+use Rattle.std.proofs.Common.{get_or, refl, ap, ◌∙◌, arith}
 use Rattle.std.proofs.lemmas.Grind.{common_steps}
+use Rattle.lp_cert.specs.Waiters.{no_head}
+use Rattle.lp_cert.proofs.StillStanding.{still_standing}
 use Rattle.lp_cert.proofs.waiters.Waiters.reserve.Goals as goal
 
 pub invariant_of-self-in_err-reserve_all : goal.invariant_of-self-in_err-reserve_all
-invariant_of-self-in_err-reserve_all c = grind (arith, common_steps)
+invariant_of-self-in_err-reserve_all c =
+    let i = c.self.inside in
+    still_standing (record { groups = i.groups; reasons = i.reasons }) (record { groups = i.groups; reasons = c.reserve_all.new.self }) c.self.invariant refl (λ g. ap (λ hs. get_or hs g no_head) c.reserve_all.ensures.heads ∙ c.reserve.ensures.heads g) (c.reserve_all.ensures.lists ∙ c.reserve.ensures.lists) (c.reserve_all.ensures.scans ∙ c.reserve.ensures.scans)
 
 pub invariant_of-self-else-matches : goal.invariant_of-self-else-matches
-invariant_of-self-else-matches c = grind (arith, common_steps)
+invariant_of-self-else-matches c =
+    let i = c.self.inside in
+    still_standing (record { groups = i.groups; reasons = i.reasons }) (record { groups = i.groups; reasons = c.reserve.new.self }) c.self.invariant refl (c.reserve.ensures.heads) (c.reserve.ensures.lists) (c.reserve.ensures.scans)
 
 pub invariant_of-self : goal.invariant_of-self
-invariant_of-self c = grind (arith, common_steps)
+invariant_of-self c =
+    let i = c.self.inside in
+    still_standing (record { groups = i.groups; reasons = i.reasons }) (record { groups = i.groups; reasons = c.reserve.new.self }) c.self.invariant refl (c.reserve.ensures.heads) (c.reserve.ensures.lists) (c.reserve.ensures.scans)
 
 pub returns-in_ok-reserve_all-clause-wide : goal.returns-in_ok-reserve_all-clause-wide
 returns-in_ok-reserve_all-clause-wide c = grind (arith, common_steps)

@@ -6,9 +6,9 @@ use Rattle.lp_log.specs.Logs.{IsLogged, Logged}
 use Rattle.lp_transition.specs.declared.engine.step.Halt.{Halt}
 use Rattle.lp_machine.specs.Machine.{answer}
 use Rattle.lp_machine.specs.Table.{state_in}
-use Rattle.lp_log.specs.inside.Plain.{is_calm}
+use Rattle.lp_log.specs.inside.Quiet.{is_quiet_now}
 use Rattle.lp_log.proofs.Longer.{number_of, logged_longer}
-use Rattle.lp_log.proofs.Plain.{calm_allocates, calm_reply, calm_taken}
+use Rattle.lp_log.proofs.Quiet.{quiet_allocates, quiet_reply, quiet_taken}
 use Rattle.lp_log.proofs.log.Log.step_reserved.Goals as goal
 
 pub overflow_cast-number : goal.overflow_cast-number
@@ -28,8 +28,8 @@ overflow_add-number g c =
 pub copy_of-requires : goal.copy_of-requires
 copy_of-requires g c =
     let journal : Written = record { patches = c.self.inside.patches; boots = c.self.inside.boots.items; entries = c.self.inside.entries.items } in
-    let calm : is_calm (state_in c.self.inside.core) c.args.event ≡ true = subst (λ (l : Logged). is_calm (state_in l.core) c.args.event ≡ true) (sym c.self.view_is) c.requires.calm in
-    calm_reply g.M.Consistency.rules _ (run_of journal) c.args.event c.in-Ok.reply _ c.the_machine_steps_as_defined.ensures c.self.invariant.stands c.in-Ok.ensures.step calm
+    let quiet : is_quiet_now (state_in c.self.inside.core) c.args.event ≡ true = subst (λ (l : Logged). is_quiet_now (state_in l.core) c.args.event ≡ true) (sym c.self.view_is) c.requires.quiet in
+    quiet_reply g.M.Consistency.rules _ (run_of journal) c.args.event c.in-Ok.reply _ c.the_machine_steps_as_defined.ensures c.self.invariant.stands c.in-Ok.ensures.step quiet
 
 pub invariant_of-self : goal.invariant_of-self
 invariant_of-self g c =
@@ -48,19 +48,19 @@ returns-clause-reply g c =
     let there : journal ≡ c.args.self.now.journal = ap (λ (l : Logged). l.journal) c.self.view_is in
     c.in-Ok.ensures.step.replies (run_of journal) c.self.invariant.stands ∙ ap (λ (j : Written). reply_to model j c.args.event) there
 
-pub returns-clause-calm : goal.returns-clause-calm
-returns-clause-calm g c =
+pub returns-clause-quiet : goal.returns-clause-quiet
+returns-clause-quiet g c =
     let journal : Written = record { patches = c.self.inside.patches; boots = c.self.inside.boots.items; entries = c.self.inside.entries.items } in
-    let calm : is_calm (state_in c.self.inside.core) c.args.event ≡ true = subst (λ (l : Logged). is_calm (state_in l.core) c.args.event ≡ true) (sym c.self.view_is) c.requires.calm in
-    calm_reply g.M.Consistency.rules _ (run_of journal) c.args.event c.in-Ok.reply _ c.the_machine_steps_as_defined.ensures c.self.invariant.stands c.in-Ok.ensures.step calm
+    let quiet : is_quiet_now (state_in c.self.inside.core) c.args.event ≡ true = subst (λ (l : Logged). is_quiet_now (state_in l.core) c.args.event ≡ true) (sym c.self.view_is) c.requires.quiet in
+    quiet_reply g.M.Consistency.rules _ (run_of journal) c.args.event c.in-Ok.reply _ c.the_machine_steps_as_defined.ensures c.self.invariant.stands c.in-Ok.ensures.step quiet
 
 pub unreachable-requires : goal.unreachable-requires
 unreachable-requires g c =
     let model = g.M.Consistency.rules in
-    let calm : is_calm (state_in c.self.inside.core) c.args.event ≡ true = subst (λ (l : Logged). is_calm (state_in l.core) c.args.event ≡ true) (sym c.self.view_is) c.requires.calm in
+    let quiet : is_quiet_now (state_in c.self.inside.core) c.args.event ≡ true = subst (λ (l : Logged). is_quiet_now (state_in l.core) c.args.event ≡ true) (sym c.self.view_is) c.requires.quiet in
     let left : c.self.inside.core.number < 1000000 = subst (λ (l : Logged). l.core.number < 1000000) (sym c.self.view_is) c.requires.left in
-    calm_taken c.args.event (answer model (state_in c.self.inside.core) c.args.event).what c.self.inside.core.number c.in_default.field-0 left
-    (calm_allocates model (state_in c.self.inside.core) c.args.event calm)
+    quiet_taken c.args.event (answer model (state_in c.self.inside.core) c.args.event).what c.self.inside.core.number c.in_default.field-0 left
+    (quiet_allocates model (state_in c.self.inside.core) c.args.event quiet)
     (λ same. c.step.ensures.full.0 (c.in_default.is ∙ ap (λ (h : Halt). Err h) same))
     (λ same. c.step.ensures.memory (c.in_default.is ∙ ap (λ (h : Halt). Err h) same))
 

@@ -8,6 +8,6 @@ returns c =
     let i = c.self.inside in
     let first = c.get.ensures.link in
     rw (← c.self.view_is) (
-      λ none. empty-is i.first i.next i.before c.args.group c.self.invariant (sym first ∙ eqb-true c.get.result 0 none),
-      λ nobody. eq-eqb c.get.result 0 (first ∙ empty-from i.first i.next i.before c.args.group c.self.invariant nobody),
+      λ none. empty-is i.first i.next i.before c.args.group c.self.invariant.linked (sym first ∙ eqb-true c.get.result 0 none),
+      λ nobody. eq-eqb c.get.result 0 (first ∙ empty-from i.first i.next i.before c.args.group c.self.invariant.linked nobody),
     )

@@ -9,8 +9,14 @@ invariant_of-self c =
     let group_within : c.args.group < 65536 = omega arith in
     let member = rw (← c.self.view_is) at c.requires in
     elim c.if-before-eq0.branch [
-      | then-before-eq0 w ↦ rw (c.put-2.ensures.links, c.put-3.ensures.links, w.self-inside-is, w.put.ensures.links) (linked-removed i.first i.next i.before _ c.args.group c.args.number c.get-before.result c.get-next.result c.self.invariant member c.get-next.ensures.link c.get-before.ensures.link (inl (w.if-before-eq0.true, refl)) group_within)
-      | else-before-eq0 w ↦ rw (c.put-2.ensures.links, c.put-3.ensures.links, w.self-inside-is) (linked-removed i.first i.next i.before _ c.args.group c.args.number c.get-before.result c.get-next.result c.self.invariant member c.get-next.ensures.link c.get-before.ensures.link (inr (w.if-before-eq0.false, refl)) group_within)
+      | then-before-eq0 w ↦ record {
+        linked = rw (c.put.ensures.links, c.put-2.ensures.links, w.self-inside-is, w.put_first.ensures.first) (linked-removed i.first i.next i.before _ c.args.group c.args.number c.get-before.result c.get-next.result c.self.invariant.linked member c.get-next.ensures.link c.get-before.ensures.link (inl (w.if-before-eq0.true, refl)) group_within);
+        named = rw w.self-inside-is w.put_first.ensures.named;
+      }
+      | else-before-eq0 w ↦ record {
+        linked = rw (c.put.ensures.links, c.put-2.ensures.links, w.self-inside-is) (linked-removed i.first i.next i.before _ c.args.group c.args.number c.get-before.result c.get-next.result c.self.invariant.linked member c.get-next.ensures.link c.get-before.ensures.link (inr (w.if-before-eq0.false, refl)) group_within);
+        named = rw w.self-inside-is c.self.invariant.named;
+      }
     ]
 
 pub returns : goal.returns
@@ -19,6 +25,6 @@ returns c =
     let group_within : c.args.group < 65536 = omega arith in
     let member = rw (← c.self.view_is) at c.requires in
     elim c.if-before-eq0.branch [
-      | then-before-eq0 w ↦ rw (c.put-2.ensures.links, w.self-inside-is, w.put.ensures.links, ← c.self.view_is) (member-removed i.first i.next i.before _ c.args.group c.args.number c.get-before.result c.get-next.result c.self.invariant member c.get-next.ensures.link c.get-before.ensures.link (inl (w.if-before-eq0.true, refl)) group_within)
-      | else-before-eq0 w ↦ rw (c.put-2.ensures.links, w.self-inside-is, ← c.self.view_is) (member-removed i.first i.next i.before _ c.args.group c.args.number c.get-before.result c.get-next.result c.self.invariant member c.get-next.ensures.link c.get-before.ensures.link (inr (w.if-before-eq0.false, refl)) group_within)
+      | then-before-eq0 w ↦ rw (c.put.ensures.links, w.self-inside-is, w.put_first.ensures.first, ← c.self.view_is) (member-removed i.first i.next i.before _ c.args.group c.args.number c.get-before.result c.get-next.result c.self.invariant.linked member c.get-next.ensures.link c.get-before.ensures.link (inl (w.if-before-eq0.true, refl)) group_within)
+      | else-before-eq0 w ↦ rw (c.put.ensures.links, w.self-inside-is, ← c.self.view_is) (member-removed i.first i.next i.before _ c.args.group c.args.number c.get-before.result c.get-next.result c.self.invariant.linked member c.get-next.ensures.link c.get-before.ensures.link (inr (w.if-before-eq0.false, refl)) group_within)
     ]

@@ -1,5 +1,4 @@
-use Rattle.std.proofs.Common.{◌≡◌, ◌∷◌, ◌++◌, [], List, Option, Some, IfOk, ℕ, true, ap, subst, sym, ◌∙◌, refl}
-use Rattle.lp_definitions.specs.declared.event.Event.{Event}
+use Rattle.std.proofs.Common.{◌≡◌, ◌∷◌, ◌++◌, [], List, Option, Some, IfOk, ℕ, true, ap, subst, sym, ◌∙◌}
 use Rattle.lp_definitions.specs.declared.reply.Reply.{Reply}
 use Rattle.lp_machine.specs.Steps.{StandsIn}
 use Rattle.lp_machine.specs.Table.{state_in}
@@ -8,7 +7,7 @@ use Rattle.lp_log.specs.Entries.{Entry}
 use Rattle.lp_log.specs.Journals.{Written, and_entry, next_entry, run_of}
 use Rattle.lp_log.specs.Logs.{Logged}
 use Rattle.lp_log.specs.Seats.{Seated, owner}
-use Rattle.lp_parts.specs.Parts.{Among, Whole, part_for}
+use Rattle.lp_parts.specs.Parts.{Among, part_for}
 use Rattle.lp_parts.proofs.Moves.{part_own}
 use Rattle.lp_owned.specs.Owned.{IsKept, key_of}
 use Rattle.lp_owned.proofs.Kept.{child_has_none, child_if, child_is_free, kept_as, kept_longer, kept_seated}

@@ -5,7 +5,7 @@ use Rattle.lp_machine.specs.Steps.{StandsIn}
 use Rattle.lp_machine.specs.Table.{Engine, state_in}
 use Rattle.lp_replay.specs.Legs.{opened_by}
 use Rattle.lp_replay.proofs.Legs.{none_opened, opened_at}
-use Rattle.lp_replay.proofs.Recording.{number_is}
+use Rattle.lp_cert.proofs.Explaining.{number_is}
 use Rattle.lp_replay.proofs.replays.leg.opened_by.Goals as goal
 
 pub step-requires : goal.step-requires

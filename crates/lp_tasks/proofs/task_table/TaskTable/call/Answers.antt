@@ -2,7 +2,7 @@ use Rattle.std.proofs.Common.{◌≡◌, ◌<◌, ◌≤◌, length, vec_capacit
 use Rattle.std.proofs.lemmas.Grind.{common_steps}
 use Rattle.std.specs.Option.{option_map}
 use Rattle.lp_machine.specs.Machine.{calling}
-use Rattle.lp_definitions.specs.Leg.{Standing}
+use Rattle.lp_definitions.specs.Leg.{LegTask}
 use Rattle.lp_tasks.specs.inside.Deep.{deep_at, with_deep, IsRecorded}
 use Rattle.lp_tasks.proofs.SlotLemmas.{boxed}
 use Rattle.lp_tasks.proofs.KeptLemmas.{box-task, box-recorded, boxes-moved, kept-moved, unchanged-past}
@@ -43,7 +43,7 @@ returns-in-Some c =
     let read = rw c.from-at.ensures at c.index_mut.ensures.value in
     let was : boxed c.index_mut.result.now ≡ Some c.deref_mut.result.now = rw c.in-Some.is (rw c.deref_mut.ensures.value refl) in
     let is = c.call.ensures.called ∙ ap (λ o. option_map (calling c.args.serial c.args.func) (with_deep o (deep_at i.deep t))) (sym was) in
-    rw (← c.self.view_is, c.from-at.ensures) (ap (λ (slots : List (Option Standing)). record { slots = slots; used = i.used }) (boxes-moved i.slots.items (vec_capacity i.slots) (deep_at i.deep) i.live i.used i.members c.self.invariant t made c.index_mut.result.now read (deep_at c.call.new.deep) c.call.ensures.others _ (calling c.args.serial c.args.func) is))
+    rw (← c.self.view_is, c.from-at.ensures) (ap (λ (slots : List (Option LegTask)). record { slots = slots; used = i.used }) (boxes-moved i.slots.items (vec_capacity i.slots) (deep_at i.deep) i.live i.used i.members c.self.invariant t made c.index_mut.result.now read (deep_at c.call.new.deep) c.call.ensures.others _ (calling c.args.serial c.args.func) is))
 
 pub returns-in_default : goal.returns-in_default
 returns-in_default c =
@@ -51,13 +51,13 @@ returns-in_default c =
     let t = c.args.task.0 in
     let made : c.args.task.0 < length i.slots.items = omega arith in
     let read = rw c.from-at.ensures at c.index_mut.ensures.value in
-    rw (← c.self.view_is, c.from-at.ensures) (ap (λ (slots : List (Option Standing)). record { slots = slots; used = i.used }) (boxes-moved i.slots.items (vec_capacity i.slots) (deep_at i.deep) i.live i.used i.members c.self.invariant t made c.index_mut.result.now read (deep_at i.deep) (λ u ne. refl) c.index_mut.result.now (calling c.args.serial c.args.func) (rw c.in_default.is refl)))
+    rw (← c.self.view_is, c.from-at.ensures) (ap (λ (slots : List (Option LegTask)). record { slots = slots; used = i.used }) (boxes-moved i.slots.items (vec_capacity i.slots) (deep_at i.deep) i.live i.used i.members c.self.invariant t made c.index_mut.result.now read (deep_at i.deep) (λ u ne. refl) c.index_mut.result.now (calling c.args.serial c.args.func) (rw c.in_default.is refl)))
 
 pub returns-then-at-len : goal.returns-then-at-len
 returns-then-at-len c =
     let i = c.self.inside in
     let past : length i.slots.items ≤ c.args.task.0 = omega arith in
-    rw (← c.self.view_is) (ap (λ (slots : List (Option Standing)). record { slots = slots; used = i.used }) (unchanged-past i.slots.items (deep_at i.deep) c.args.task.0 past (calling c.args.serial c.args.func)))
+    rw (← c.self.view_is) (ap (λ (slots : List (Option LegTask)). record { slots = slots; used = i.used }) (unchanged-past i.slots.items (deep_at i.deep) c.args.task.0 past (calling c.args.serial c.args.func)))
 
 pub invariant_of-self-in_default : goal.invariant_of-self-in_default
 invariant_of-self-in_default c = grind (arith, common_steps)

@@ -1,6 +1,6 @@
 use Rattle.std.proofs.Common.{◌≡◌, List, Option, length, sym, ap, ◌∙◌, arith}
 use Rattle.std.proofs.lemmas.List.{length-map}
-use Rattle.lp_definitions.specs.Leg.{Standing}
+use Rattle.lp_definitions.specs.Leg.{LegTask}
 use Rattle.lp_tasks.specs.inside.Slots.{slots_of}
 use Rattle.lp_tasks.specs.inside.Deep.{deep_at, with_stacks}
 use Rattle.lp_tasks.proofs.SlotLemmas.{boxed, padded-same}
@@ -23,4 +23,4 @@ returns c =
     let copied = c.in_ok-copied_slots.field-0.items in
     let boxes = c.self.inside.slots.items in
     let same : slots_of copied ≡ slots_of boxes = rw c.as_slice.ensures.value at c.in_ok-copied_slots.ensures.same in
-    rw (← c.self.view_is, c.in_ok-copy.ensures, c.in_ok-copy-3.ensures.same) (ap (λ (slots : List (Option Standing)). record { slots = with_stacks slots (deep_at c.self.inside.deep); used = c.self.inside.used }) (padded-same copied boxes same))
+    rw (← c.self.view_is, c.in_ok-copy.ensures, c.in_ok-copy-3.ensures.same) (ap (λ (slots : List (Option LegTask)). record { slots = with_stacks slots (deep_at c.self.inside.deep); used = c.self.inside.used }) (padded-same copied boxes same))

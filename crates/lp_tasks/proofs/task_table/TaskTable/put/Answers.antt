@@ -5,7 +5,7 @@ use Rattle.lp_numbers.specs.Groups.{is_member}
 use Rattle.lp_tasks.proofs.SlotLemmas.{slots_of-set, padded-set}
 use Rattle.lp_tasks.proofs.KeptLemmas.{tasks-put, kept-put}
 use Rattle.lp_tasks.specs.inside.Deep.{deep_at, with_stacks}
-use Rattle.lp_definitions.specs.Leg.{Standing}
+use Rattle.lp_definitions.specs.Leg.{LegTask}
 use Rattle.lp_tasks.specs.inside.Slots.{slots_of, padded}
 use Rattle.lp_tasks.specs.inside.Table.{is_in}
 use Rattle.lp_tasks.proofs.task_table.TaskTable.put.Goals as goal
@@ -22,9 +22,9 @@ invariant_of-self c =
     let within : c.from-at.result < 65536 = omega arith in
     let free = rw (← c.self.view_is) at c.requires.free in
     let empty : get_or (with_stacks (slots_of (padded boxes)) (deep_at i.deep)) c.from-at.result None ≡ None = ap (λ t. get_or (with_stacks (slots_of (padded boxes)) (deep_at i.deep)) t None) c.from-at.ensures ∙ free in
-    let own : c.group.result.0 ≡ c.args.live.value.group = c.group.ensures ∙ ap (λ (x : Standing). x.group) c.deref.ensures in
+    let own : c.group.result.0 ≡ c.args.live.value.group = c.group.ensures ∙ ap (λ (x : LegTask). x.group) c.deref.ensures in
     let entered : (group n : ℕ) → is_member c.insert.new.self group n ≡ (is_member i.members group n || (nat_eq group c.args.live.value.group && nat_eq n c.from-at.result)) = λ group n. c.insert.ensures group n ∙ rw (own, c.from-at.ensures) refl in
-    let filled : slots_of (padded (set c.reach.new.slots.items c.from-at.result (Some c.args.live))) ≡ set (slots_of (padded boxes)) c.from-at.result (Some c.args.live.value) = ap slots_of (padded-set c.reach.new.slots.items c.from-at.result (Some c.args.live) c.reach.ensures.reached) ∙ slots_of-set (padded c.reach.new.slots.items) c.from-at.result (Some c.args.live) ∙ ap (λ (all : List (Option (Box Standing))). set (slots_of all) c.from-at.result (Some c.args.live.value)) c.reach.ensures.same in
+    let filled : slots_of (padded (set c.reach.new.slots.items c.from-at.result (Some c.args.live))) ≡ set (slots_of (padded boxes)) c.from-at.result (Some c.args.live.value) = ap slots_of (padded-set c.reach.new.slots.items c.from-at.result (Some c.args.live) c.reach.ensures.reached) ∙ slots_of-set (padded c.reach.new.slots.items) c.from-at.result (Some c.args.live) ∙ ap (λ (all : List (Option (Box LegTask))). set (slots_of all) c.from-at.result (Some c.args.live.value)) c.reach.ensures.same in
     record {
       few = omega (arith, length-set c.reach.new.slots.items c.from-at.result (Some c.args.live), c.reach.ensures.few);
       room = omega (arith, c.reach.ensures.room, c.self.invariant.room);
@@ -38,5 +38,5 @@ returns c =
     let within : c.from-at.result < 65536 = omega arith in
     let free = rw (← c.self.view_is) at c.requires.free in
     let empty : get_or (with_stacks (slots_of (padded boxes)) (deep_at i.deep)) c.from-at.result None ≡ None = ap (λ t. get_or (with_stacks (slots_of (padded boxes)) (deep_at i.deep)) t None) c.from-at.ensures ∙ free in
-    let filled : slots_of (padded (set c.reach.new.slots.items c.from-at.result (Some c.args.live))) ≡ set (slots_of (padded boxes)) c.from-at.result (Some c.args.live.value) = ap slots_of (padded-set c.reach.new.slots.items c.from-at.result (Some c.args.live) c.reach.ensures.reached) ∙ slots_of-set (padded c.reach.new.slots.items) c.from-at.result (Some c.args.live) ∙ ap (λ (all : List (Option (Box Standing))). set (slots_of all) c.from-at.result (Some c.args.live.value)) c.reach.ensures.same in
-    rw (← c.self.view_is, c.insert-3.ensures.after, ← c.from-at.ensures, filled) (ap (λ (slots : List (Option Standing)). record { slots = slots; used = set i.used c.from-at.result true }) (tasks-put (slots_of (padded boxes)) (deep_at i.deep) i.live i.used i.members c.self.invariant.kept c.from-at.result within c.args.live.value empty))
+    let filled : slots_of (padded (set c.reach.new.slots.items c.from-at.result (Some c.args.live))) ≡ set (slots_of (padded boxes)) c.from-at.result (Some c.args.live.value) = ap slots_of (padded-set c.reach.new.slots.items c.from-at.result (Some c.args.live) c.reach.ensures.reached) ∙ slots_of-set (padded c.reach.new.slots.items) c.from-at.result (Some c.args.live) ∙ ap (λ (all : List (Option (Box LegTask))). set (slots_of all) c.from-at.result (Some c.args.live.value)) c.reach.ensures.same in
+    rw (← c.self.view_is, c.insert-3.ensures.after, ← c.from-at.ensures, filled) (ap (λ (slots : List (Option LegTask)). record { slots = slots; used = set i.used c.from-at.result true }) (tasks-put (slots_of (padded boxes)) (deep_at i.deep) i.live i.used i.members c.self.invariant.kept c.from-at.result within c.args.live.value empty))

@@ -1,5 +1,5 @@
 use Rattle.std.proofs.Common.{◌<◌, List, Option, None, ap, arith}
-use Rattle.lp_definitions.specs.Leg.{Standing}
+use Rattle.lp_definitions.specs.Leg.{LegTask}
 use Rattle.lp_tasks.specs.inside.Slots.{slots_of, padded}
 use Rattle.lp_tasks.specs.inside.Deep.{deep_at}
 use Rattle.lp_tasks.proofs.KeptLemmas.{stack-here, stack-other, tasks-removed, kept-removed}
@@ -31,4 +31,4 @@ returns-clause-removed c =
     let i = c.self.inside in
     let t = c.args.task.0 in
     let small : t < 65536 = omega arith in
-    rw (← c.self.view_is, c.empty.ensures.emptied) (ap (λ (slots : List (Option Standing)). record { slots = slots; used = i.used }) (tasks-removed (slots_of (padded i.slots.items)) (deep_at i.deep) i.live i.used i.members c.self.invariant.kept t small (deep_at c.remove.new.self) (stack-other (deep_at c.remove.new.self) (deep_at i.deep) t None c.remove.ensures) (stack-here (deep_at c.remove.new.self) (deep_at i.deep) t None c.remove.ensures)))
+    rw (← c.self.view_is, c.empty.ensures.emptied) (ap (λ (slots : List (Option LegTask)). record { slots = slots; used = i.used }) (tasks-removed (slots_of (padded i.slots.items)) (deep_at i.deep) i.live i.used i.members c.self.invariant.kept t small (deep_at c.remove.new.self) (stack-other (deep_at c.remove.new.self) (deep_at i.deep) t None c.remove.ensures) (stack-here (deep_at c.remove.new.self) (deep_at i.deep) t None c.remove.ensures)))

@@ -36,15 +36,17 @@ fn is_blamed<M: Consistency>(
         && model.admits(kind, view, aim) == want.is_none()
 }
 
-/// What a model blames a task for at a kernel exit, an idle point, a walk and a stop.
-type Blames = [Option<Blame>; 4];
+/// What a model blames a task for at a kernel exit, an idle point, its own check in the kernel, a walk
+/// and a stop.
+type Blames = [Option<Blame>; 5];
 
 /// Whether a model blames a task for these.
 fn are_blamed<M: Consistency>(model: M, aim: &Aim<'_>, task: &TaskStack, want: &Blames) -> bool {
     let view = task.view();
-    let [exit, idle, walk, stop] = *want;
+    let [exit, idle, resched, walk, stop] = *want;
     is_blamed(model, aim, &view, CheckKind::KernelExit, exit)
         && is_blamed(model, aim, &view, CheckKind::IdlePoint, idle)
+        && is_blamed(model, aim, &view, CheckKind::Resched, resched)
         && is_blamed(model, aim, &view, CheckKind::Walk, walk)
         && is_blamed(model, aim, &view, CheckKind::Stop, stop)
 }
@@ -60,24 +62,24 @@ const FIRST: Option<Blame> = Some(Blame::Frame(2));
 type Blamed = [Blames; 4];
 
 const ASLEEP_IN_C: Blamed = [
-    [None, None, None, UNUSED],
-    [FIRST, FIRST, UNUSED, UNUSED],
-    [UNUSED, UNUSED, UNUSED, None],
-    [None; 4],
+    [None, None, None, None, UNUSED],
+    [FIRST, FIRST, UNUSED, UNUSED, UNUSED],
+    [UNUSED, UNUSED, UNUSED, UNUSED, None],
+    [None; 5],
 ];
 
 const ASLEEP_IN_A: Blamed = [
-    [FIRST, FIRST, FIRST, UNUSED],
-    [FIRST, FIRST, UNUSED, UNUSED],
-    [UNUSED, UNUSED, UNUSED, FIRST],
-    [None; 4],
+    [FIRST, FIRST, FIRST, FIRST, UNUSED],
+    [FIRST, FIRST, UNUSED, UNUSED, UNUSED],
+    [UNUSED, UNUSED, UNUSED, UNUSED, FIRST],
+    [None; 5],
 ];
 
 const ON_A_CPU: Blamed = [
-    [None, None, BUSY, UNUSED],
-    [None, None, UNUSED, UNUSED],
-    [UNUSED, UNUSED, UNUSED, None],
-    [None; 4],
+    [None, None, None, BUSY, UNUSED],
+    [None, None, UNUSED, UNUSED, UNUSED],
+    [UNUSED, UNUSED, UNUSED, UNUSED, None],
+    [None; 5],
 ];
 
 /// A task with these calls in a mode, and what each of the four blames it for.
@@ -126,10 +128,10 @@ fn models_blame_frames_and_cpus(rt: HostRuntime) {
 type GroupRow<'a> = (Mode, &'a [SymId], Blames);
 
 const BLAMED_IN_A_GROUP: [GroupRow<'static>; 4] = [
-    (Mode::User, &[], [None, None, None, UNUSED]),
-    (Mode::Kernel, &[], [None, None, BUSY, UNUSED]),
-    (Mode::Asleep, &[], [None, None, None, UNUSED]),
-    (Mode::Kernel, &[A], [FIRST, FIRST, FIRST, UNUSED]),
+    (Mode::User, &[], [None, None, None, None, UNUSED]),
+    (Mode::Kernel, &[], [None, None, None, BUSY, UNUSED]),
+    (Mode::Asleep, &[], [None, None, None, None, UNUSED]),
+    (Mode::Kernel, &[A], [FIRST, FIRST, FIRST, FIRST, UNUSED]),
 ];
 
 /// Whether a row of `BLAMED_IN_A_GROUP` is right.

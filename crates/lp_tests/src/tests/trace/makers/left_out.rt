@@ -43,8 +43,8 @@ fn tells_of_both(alloc: Global, maker: &Maker) -> bool {
     )
 }
 
-/// Whether it does behind these events and a walk with one verdict.
-fn tells_of_both_behind(
+/// Whether it does after these events and a walk with one verdict.
+fn tells_of_both_after(
     alloc: Global,
     core: &mut Core<Hybrid>,
     events: &[Event],
@@ -53,15 +53,15 @@ fn tells_of_both_behind(
     Ok(note(alloc, core, &mut maker)? == 1 && tells_of_both(alloc, &maker))
 }
 
-/// Whether it does behind the events of a trace.
+/// Whether it does after the events of a trace.
 fn tells_of_both_of(alloc: Global, trace: &Trace) -> bool {
     match boot(alloc, Hybrid, trace) {
-        Some(mut core) => tells_of_both_behind(alloc, &mut core, trace.events()) == Ok(true),
+        Some(mut core) => tells_of_both_after(alloc, &mut core, trace.events()) == Ok(true),
         None => false,
     }
 }
 
-/// Whether it does behind such a walk.
+/// Whether it does after such a walk.
 fn both_are_told_of(alloc: Global) -> bool {
     match read(alloc, HELD_AND_BUSY) {
         Some(trace) => tells_of_both_of(alloc, &trace),

@@ -1,7 +1,7 @@
 use Rattle.std.proofs.Common.{◌∙◌, ap, arith, sym}
 use Rattle.std.proofs.lemmas.List.{take_all}
 use Rattle.lp_text.specs.Traces.{name, patch_words}
-use Rattle.lp_text.proofs.Folds.{standing, stands, none_stands}
+use Rattle.lp_text.proofs.Folds.{patches_so_far, stands, none_stands}
 use Rattle.lp_text.proofs.Goes.{passed_on, goes_first, goes_on, goes_err, goes_end, functions_next, asked_some, none_asked, some_there, err_in_form, ok_in_form}
 use Rattle.lp_text.proofs.builder.Builder.add_patch.Goals as goal
 
@@ -26,4 +26,4 @@ returns-clause-gives c = rw (asked_some _ c.args.patch.now (sym c.if-is_empty.en
 
 pub returns-clause-added : goal.returns-clause-added
 returns-clause-added c =
-    c.loop-func.invariant.1 ∙ ap (λ l. record c.args.self.now.parser { patches = standing c.args.self.now.parser.patches l }) (take_all c.loop-func.func-index c.args.patch.now c.loop-func-test.false) ∙ ap (λ p. record c.args.self.now.parser { patches = p }) (stands c.args.self.now.parser.patches c.args.patch.now (some_there c.args.patch.now (sym c.if-is_empty.ensures)))
+    c.loop-func.invariant.1 ∙ ap (λ l. record c.args.self.now.parser { patches = patches_so_far c.args.self.now.parser.patches l }) (take_all c.loop-func.func-index c.args.patch.now c.loop-func-test.false) ∙ ap (λ p. record c.args.self.now.parser { patches = p }) (stands c.args.self.now.parser.patches c.args.patch.now (some_there c.args.patch.now (sym c.if-is_empty.ensures)))

@@ -1,8 +1,8 @@
 use Rattle.std.proofs.Common.{sym, ◌∙◌, arith}
 use Rattle.std.proofs.lemmas.Grind.{common_steps}
 use Rattle.lp_machine.specs.Table.{state_in}
-use Rattle.lp_tasks.specs.inside.Points.{point_event}
-use Rattle.lp_machine.proofs.Runs.{is_step}
+use Rattle.lp_tasks.specs.inside.OwnChecks.{own_check_event}
+use Rattle.lp_machine_laws.proofs.Runs.{is_step}
 use Rattle.lp_machine.proofs.EngineLemmas.{answer-refused}
 use Rattle.lp_transition.proofs.engine.Core.step_kind.Goals as goal
 
@@ -13,7 +13,7 @@ returns-in-Some-clause-step g c =
 
 pub returns-clause-step : goal.returns-clause-step
 returns-clause-step g c =
-    rw c.requires.event (is_step g.M.Consistency.rules g.met.M.Consistency.lawful (state_in c.args.self.now) (state_in c.take_point.new.self) (point_event c.args.kind c.args.task) c.in_ok-reply.reply c.in_ok-reply.ensures.answer c.take_point.ensures.state)
+    rw c.requires.event (is_step g.M.Consistency.rules g.met.M.Consistency.lawful (state_in c.args.self.now) (state_in c.take_own_check.new.self) (own_check_event c.args.kind c.args.task) c.in_ok-reply.reply c.in_ok-reply.ensures.answer c.take_own_check.ensures.state)
 
 pub returns-clause-last_scan : goal.returns-clause-last_scan
 returns-clause-last_scan g c = grind (arith, common_steps)

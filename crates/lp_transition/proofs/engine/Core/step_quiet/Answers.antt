@@ -1,30 +1,32 @@
-use Rattle.std.proofs.Common.{refl}
-use Rattle.lp_machine.specs.Table.{Engine}
-use Rattle.lp_transition.proofs.QuietScans.{quiet_whole, quiet_steps, quiet_blames, quiet_last}
-use Rattle.lp_transition.specs.inside.Invariant.{told_scan}
+use Rattle.std.proofs.Common.{[], sym, subst, arith}
+use Rattle.std.proofs.lemmas.Grind.{common_steps}
+use Rattle.lp_definitions.specs.declared.event.Event.{Event}
+use Rattle.lp_transition.specs.Blames.{AreBlamesAfter}
+use Rattle.lp_transition.specs.LastScan.{IsLastScanAfter}
+use Rattle.lp_machine.specs.Steps.{IsStep}
+use Rattle.lp_machine.specs.Table.{state_in}
 use Rattle.lp_transition.proofs.engine.Core.step_quiet.Goals as goal
 
-pub invariant_of-self : goal.invariant_of-self
-invariant_of-self g c =
-    let i = c.self.inside in
-    let e : Engine = record { number = i.events; from = i.from.0; target = i.target.0; patches = i.patches; table = i.tasks; blames = i.blames; last_scan = told_scan i.unchanged } in
-    quiet_whole g.M.Consistency.rules g.met.M.Consistency.lawful e c.args.self.now i.waiting i.unchanged c.clear_changed.new.self c.args.kind c.self.view_is c.self.invariant c.requires.scan c.requires.room c.requires.quiet refl c.requires.last c.clear_changed.ensures.kind c.clear_changed.ensures.may_refuse c.clear_changed.ensures.changed
+pub returns-in-Ret-clause-step : goal.returns-in-Ret-clause-step
+returns-in-Ret-clause-step g c =
+    subst (λ (event : Event). IsStep g.M.Consistency.rules (state_in c.args.self.now) event c.step_one-in-Ret.result (state_in c.step_one-in-Ret.new.self)) (sym c.in-Ret.is) c.step_one-in-Ret.ensures.step
 
-pub returns-clause-step : goal.returns-clause-step
-returns-clause-step g c =
-    let i = c.self.inside in
-    let e : Engine = record { number = i.events; from = i.from.0; target = i.target.0; patches = i.patches; table = i.tasks; blames = i.blames; last_scan = told_scan i.unchanged } in
-    let steps = quiet_steps g.M.Consistency.rules g.met.M.Consistency.lawful e c.args.self.now i.waiting i.unchanged c.clear_changed.new.self c.args.kind c.self.view_is c.self.invariant c.requires.scan c.requires.room c.requires.quiet in
-    rw c.done.ensures steps
+pub returns-in-Ret-clause-blames : goal.returns-in-Ret-clause-blames
+returns-in-Ret-clause-blames g c =
+    subst (λ (event : Event). AreBlamesAfter g.M.Consistency.rules c.args.self.now event [] c.step_one-in-Ret.new.self) (sym c.in-Ret.is) c.step_one-in-Ret.ensures.blames
 
-pub returns-clause-blames : goal.returns-clause-blames
-returns-clause-blames g c =
-    let i = c.self.inside in
-    let e : Engine = record { number = i.events; from = i.from.0; target = i.target.0; patches = i.patches; table = i.tasks; blames = i.blames; last_scan = told_scan i.unchanged } in
-    quiet_blames g.M.Consistency.rules g.met.M.Consistency.lawful e c.args.self.now i.waiting i.unchanged c.clear_changed.new.self c.args.kind c.self.view_is c.self.invariant c.requires.scan c.requires.room c.requires.quiet
+pub returns-in-Ret-clause-last_scan : goal.returns-in-Ret-clause-last_scan
+returns-in-Ret-clause-last_scan g c =
+    subst (λ (event : Event). IsLastScanAfter g.M.Consistency.rules c.args.self.now event c.step_one-in-Ret.new.self) (sym c.in-Ret.is) c.step_one-in-Ret.ensures.last_scan
 
-pub returns-clause-last_scan : goal.returns-clause-last_scan
-returns-clause-last_scan g c =
-    let i = c.self.inside in
-    let e : Engine = record { number = i.events; from = i.from.0; target = i.target.0; patches = i.patches; table = i.tasks; blames = i.blames; last_scan = told_scan i.unchanged } in
-    quiet_last g.M.Consistency.rules g.met.M.Consistency.lawful e c.args.self.now i.waiting i.unchanged c.clear_changed.new.self c.args.kind c.self.view_is c.self.invariant c.requires.scan c.requires.room c.requires.quiet refl c.requires.last c.clear_changed.ensures.kind c.clear_changed.ensures.may_refuse c.clear_changed.ensures.changed c.requires.used
+pub returns-in-Call-clause-last_scan : goal.returns-in-Call-clause-last_scan
+returns-in-Call-clause-last_scan g c = grind (arith, common_steps)
+
+pub returns-in-Enter-clause-last_scan : goal.returns-in-Enter-clause-last_scan
+returns-in-Enter-clause-last_scan g c = grind (arith, common_steps)
+
+pub returns-in-Wake-clause-last_scan : goal.returns-in-Wake-clause-last_scan
+returns-in-Wake-clause-last_scan g c = grind (arith, common_steps)
+
+pub returns-in-Sleep-clause-last_scan : goal.returns-in-Sleep-clause-last_scan
+returns-in-Sleep-clause-last_scan g c = grind (arith, common_steps)

@@ -7,7 +7,7 @@ use Rattle.lp_definitions.specs.declared.reply.Reply.{Reply}
 use Rattle.lp_machine.specs.Table.{state_in}
 use Rattle.lp_transition.specs.Weigh.{refusal_in}
 use Rattle.lp_machine.specs.Machine.{next}
-use Rattle.lp_machine.proofs.Runs.{is_step}
+use Rattle.lp_machine_laws.proofs.Runs.{is_step}
 use Rattle.lp_transition.proofs.Weighing.{refused-as}
 use Rattle.lp_transition.proofs.engine.Core.take.Goals as goal
 use Rattle.lp_transition.proofs.engine.Core.take.Goals.{in-Some, in-None}

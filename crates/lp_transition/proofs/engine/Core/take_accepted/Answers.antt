@@ -23,6 +23,9 @@ returns-in-Some-clause-last_scan g c = grind (arith, common_steps)
 pub returns-in-Idle-clause-last_scan : goal.returns-in-Idle-clause-last_scan
 returns-in-Idle-clause-last_scan g c = grind (arith, common_steps)
 
+pub returns-in-Resched-clause-last_scan : goal.returns-in-Resched-clause-last_scan
+returns-in-Resched-clause-last_scan g c = grind (arith, common_steps)
+
 pub returns-in-Exit-clause-last_scan : goal.returns-in-Exit-clause-last_scan
 returns-in-Exit-clause-last_scan g c = grind (arith, common_steps)
 

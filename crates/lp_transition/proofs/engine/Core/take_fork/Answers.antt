@@ -1,7 +1,7 @@
 use Rattle.std.proofs.Common.{refl, ◌≡◌, ◌<◌, if◌then◌else◌, nat_eq, not, ap, ◌∙◌, arith}
 use Rattle.lp_numbers.specs.Numbers.{has}
 use Rattle.lp_definitions.specs.declared.event.Event.TheVariants.{Fork}
-use Rattle.lp_definitions.specs.Leg.{Standing}
+use Rattle.lp_definitions.specs.Leg.{LegTask}
 use Rattle.lp_machine.proofs.Accept.{fork-new, fork-positive}
 use Rattle.lp_transition.proofs.Births.{takes_birth}
 use Rattle.lp_machine.specs.Table.{Engine}
@@ -16,7 +16,7 @@ pub invariant_of-self : goal.invariant_of-self
 invariant_of-self g c =
     let i = c.self.inside in
     let h : c.args.child.0 < 65536 = omega arith in
-    let off : c.ne-waits.result ≡ not (nat_eq c.args.live.value.level i.target.0) = c.ne-waits.ensures ∙ ap (λ l. not (nat_eq l i.target.0)) (c.level.ensures ∙ ap (λ (x : Standing). x.level) c.deref.ensures) in
+    let off : c.ne-waits.result ≡ not (nat_eq c.args.live.value.level i.target.0) = c.ne-waits.ensures ∙ ap (λ l. not (nat_eq l i.target.0)) (c.level.ensures ∙ ap (λ (x : LegTask). x.level) c.deref.ensures) in
     let e : Engine = record { number = i.events; from = i.from.0; target = i.target.0; patches = i.patches; table = i.tasks; blames = i.blames; last_scan = told_scan i.unchanged } in
     let accepted = rw (← c.self.view_is) at c.requires.accepted in
     let born = rw (← c.self.view_is) at c.requires.born in
@@ -36,7 +36,7 @@ pub returns-clause-state : goal.returns-clause-state
 returns-clause-state g c =
     let i = c.self.inside in
     let h : c.args.child.0 < 65536 = omega arith in
-    let off : c.ne-waits.result ≡ not (nat_eq c.args.live.value.level i.target.0) = c.ne-waits.ensures ∙ ap (λ l. not (nat_eq l i.target.0)) (c.level.ensures ∙ ap (λ (x : Standing). x.level) c.deref.ensures) in
+    let off : c.ne-waits.result ≡ not (nat_eq c.args.live.value.level i.target.0) = c.ne-waits.ensures ∙ ap (λ l. not (nat_eq l i.target.0)) (c.level.ensures ∙ ap (λ (x : LegTask). x.level) c.deref.ensures) in
     (takes_birth g.M.Consistency.rules g.met.M.Consistency.lawful (record { number = i.events; from = i.from.0; target = i.target.0; patches = i.patches; table = i.tasks; blames = i.blames; last_scan = told_scan i.unchanged }) c.args.self.now c.put.new.self i.waiting c.put_number.new.set c.args.parent c.args.child c.args.how c.args.live.value c.self.view_is c.put.ensures c.self.invariant.engine c.put_number.ensures.numbers h c.requires.room c.requires.accepted c.requires.born (λ n. c.put_number.ensures.after n ∙ ap (λ b. if nat_eq n c.args.child.0 then b else has i.waiting n) off)).state
 
 pub returns-clause-blames : goal.returns-clause-blames
@@ -44,7 +44,7 @@ returns-clause-blames g c =
     let i = c.self.inside in
     let e : Engine = record { number = i.events; from = i.from.0; target = i.target.0; patches = i.patches; table = i.tasks; blames = i.blames; last_scan = told_scan i.unchanged } in
     let h : c.args.child.0 < 65536 = omega arith in
-    let off : c.ne-waits.result ≡ not (nat_eq c.args.live.value.level i.target.0) = c.ne-waits.ensures ∙ ap (λ l. not (nat_eq l i.target.0)) (c.level.ensures ∙ ap (λ (x : Standing). x.level) c.deref.ensures) in
+    let off : c.ne-waits.result ≡ not (nat_eq c.args.live.value.level i.target.0) = c.ne-waits.ensures ∙ ap (λ l. not (nat_eq l i.target.0)) (c.level.ensures ∙ ap (λ (x : LegTask). x.level) c.deref.ensures) in
     let accepted = rw (← c.self.view_is) at c.requires.accepted in
     let taken = takes_birth g.M.Consistency.rules g.met.M.Consistency.lawful (record { number = i.events; from = i.from.0; target = i.target.0; patches = i.patches; table = i.tasks; blames = i.blames; last_scan = told_scan i.unchanged }) c.args.self.now c.put.new.self i.waiting c.put_number.new.set c.args.parent c.args.child c.args.how c.args.live.value c.self.view_is c.put.ensures c.self.invariant.engine c.put_number.ensures.numbers h c.requires.room c.requires.accepted c.requires.born (λ n. c.put_number.ensures.after n ∙ ap (λ b. if nat_eq n c.args.child.0 then b else has i.waiting n) off) in
     (leaves_apart g.M.Consistency.rules g.met.M.Consistency.lawful e c.args.self.now _ i.waiting c.put_number.new.set (Fork c.args.parent c.args.child c.args.how) c.self.view_is c.self.invariant.engine c.self.invariant.blamed taken c.requires.accepted refl refl (birth_apart g.M.Consistency.rules e c.args.parent c.args.child c.args.how accepted)).after
@@ -53,7 +53,7 @@ pub returns-clause-last_scan : goal.returns-clause-last_scan
 returns-clause-last_scan g c =
     let i = c.self.inside in
     let h : c.args.child.0 < 65536 = omega arith in
-    let off : c.ne-waits.result ≡ not (nat_eq c.args.live.value.level i.target.0) = c.ne-waits.ensures ∙ ap (λ l. not (nat_eq l i.target.0)) (c.level.ensures ∙ ap (λ (x : Standing). x.level) c.deref.ensures) in
+    let off : c.ne-waits.result ≡ not (nat_eq c.args.live.value.level i.target.0) = c.ne-waits.ensures ∙ ap (λ l. not (nat_eq l i.target.0)) (c.level.ensures ∙ ap (λ (x : LegTask). x.level) c.deref.ensures) in
     let e : Engine = record { number = i.events; from = i.from.0; target = i.target.0; patches = i.patches; table = i.tasks; blames = i.blames; last_scan = told_scan i.unchanged } in
     let accepted = rw (← c.self.view_is) at c.requires.accepted in
     let born = rw (← c.self.view_is) at c.requires.born in

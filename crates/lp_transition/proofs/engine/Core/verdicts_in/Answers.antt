@@ -24,7 +24,7 @@ returns g c =
     let listed = views-asked e i.waiting c.self.invariant.engine looked in
     let same = ap (map (verdict_of model c.args.kind (state_in e).aim)) listed ∙ sym (among_views model c.args.kind (state_in e) looked) in
     let here = ap (λ (o : Engine). verdicts_at model c.args.kind (state_in o) looked) c.self.view_is in
-    ok_map c.found_in.result c.found_in.ensures (ap (λ goal. map (verdict_of model c.args.kind goal) (filter_map (λ t. option_map (view_of t) (waiting_slot i.tasks i.waiting t)) (passing 0 65536 looked))) aim ∙ same ∙ here)
+    ok_map c.found_in.result c.found_in.ensures (ap (λ aim. map (verdict_of model c.args.kind aim) (filter_map (λ t. option_map (view_of t) (waiting_slot i.tasks i.waiting t)) (passing 0 65536 looked))) aim ∙ same ∙ here)
   where
     ok_map : {E : Type 0} {vs ws : List Verdict} (r : Result (Vec Verdict Global) E) → IfOk r (λ all. all.items ≡ vs) → vs ≡ ws → IfOk r (λ all. all.items ≡ ws)
     ok_map (Ok all) told same = told ∙ same

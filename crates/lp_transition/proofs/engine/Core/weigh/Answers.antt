@@ -2,14 +2,14 @@ use Rattle.std.proofs.Common.{◌<◌, Option, None, Some, is_none, refl, sym, a
 use Rattle.std.proofs.lemmas.Grind.{common_steps}
 use Rattle.lp_definitions.specs.declared.event.Event.{Event}
 use Rattle.lp_definitions.specs.declared.event.Event.TheVariants.{Fork}
-use Rattle.lp_definitions.specs.Leg.{Standing}
+use Rattle.lp_definitions.specs.Leg.{LegTask}
 use Rattle.lp_machine.specs.Machine.{refusal_of, answer}
 use Rattle.lp_transition.specs.Weigh.{Weighed, may_allocate}
 use Rattle.lp_machine.specs.Table.{Engine, state_in}
 use Rattle.lp_machine.proofs.EngineLemmas.{answer-refused}
 use Rattle.lp_transition.proofs.Weighing.{answer-fork, born-refused, refused-as, weighed-as}
 use Rattle.lp_transition.proofs.Replies.{weighed_reply}
-use Rattle.lp_machine.proofs.Runs.{is_reply}
+use Rattle.lp_machine_laws.proofs.Runs.{is_reply}
 use Rattle.lp_transition.specs.inside.Invariant.{told_scan}
 use Rattle.lp_transition.proofs.engine.Core.weigh.Goals as goal
 
@@ -29,7 +29,7 @@ returns-in-Fork-clause-weighed g c =
     let room : e.number < 1000000 = omega (arith, c.if-self-ge-MOST_EVENTS.false) in
     let accepted = rw (← c.self.view_is) at (sym (c.in_default.ensures ∙ ap (refusal_of g.M.Consistency.rules (state_in c.args.self.now)) c.in-Fork.is)) in
     let answered = c.done.ensures ∙ sym (answer-fork g.M.Consistency.rules g.met.M.Consistency.lawful e i.waiting c.self.invariant.engine room c.in-Fork.parent c.in-Fork.child c.in-Fork.how accepted) in
-    let born = rw (← c.self.view_is) at (ap {A = Standing} {B = Option Standing} Some c.in_ok-born.ensures.ok ∙ c.child.ensures) in
+    let born = rw (← c.self.view_is) at (ap {A = LegTask} {B = Option LegTask} Some c.in_ok-born.ensures.ok ∙ c.child.ensures) in
     rw (← c.self.view_is)
     (weighed-as g.M.Consistency.rules e c.birth.result (Fork c.in-Fork.parent c.in-Fork.child c.in-Fork.how) c.done.result (Some c.in_ok-born.born.value) refl room c.birth.ensures answered born)
 

@@ -3,9 +3,9 @@ use Rattle.std.proofs.lemmas.List.{take_all, get_or_default}
 use Rattle.lp_stack.specs.declared.number.TaskId.{TaskId}
 use Rattle.lp_stack.specs.declared.view.Class.{Class}
 use Rattle.lp_stack.specs.declared.view.Class.TheVariants.{Normal}
-use Rattle.lp_definitions.specs.Leg.{Standing}
+use Rattle.lp_definitions.specs.Leg.{LegTask}
 use Rattle.lp_definitions.specs.Run.{at_boot, booted}
-use Rattle.lp_machine.specs.Table.{standings}
+use Rattle.lp_machine.specs.Table.{leg_tasks}
 use Rattle.lp_transition.proofs.BootLemmas.{none_put, next_free, one_put}
 use Rattle.lp_transition.proofs.engine.boot.put_all.Goals as goal
 
@@ -19,7 +19,7 @@ loop-task-preserved g c =
     let i = c.loop-task.task-index in
     let d : TaskId × Class = (record { 0 = 0 }, Normal) in
     let boot = get_or boots i d in
-    let x : Standing = c.in_ok-new.field-0.value in
+    let x : LegTask = c.in_ok-new.field-0.value in
     let h : i < length boots = omega arith in
     let at : get_or boots i boot ≡ boot = get_or_default boots i boot d h in
     let small : boot.0.0 < 65536 = omega (arith, c.at_boot-live.ensures.number) in
@@ -39,7 +39,7 @@ put-requires g c =
 
 pub returns-clause-live : goal.returns-clause-live
 returns-clause-live g c =
-    subst (λ boots. standings c.loop-task.tasks ≡ booted g.M.Consistency.rules boots) (take_all c.loop-task.task-index c.args.boots.now (omega arith)) c.loop-task.invariant.live
+    subst (λ boots. leg_tasks c.loop-task.tasks ≡ booted g.M.Consistency.rules boots) (take_all c.loop-task.task-index c.args.boots.now (omega arith)) c.loop-task.invariant.live
 
 pub returns-clause-in_range : goal.returns-clause-in_range
 returns-clause-in_range g c =

@@ -2,7 +2,7 @@ use Rattle.std.proofs.Common.{◌≡◌, ◌<◌, ◌+◌, ◌-◌, ◌≤◌, l
 use Rattle.lp_machine.specs.Table.{Table}
 use Rattle.lp_tasks.proofs.TableLemmas.{value_at}
 use Rattle.lp_checker.specs.inside.Tables.{all_slots, IsKept}
-use Rattle.lp_checker.proofs.Tables.{group-there, within, one_there, group_within, kept-remove, standings-remove}
+use Rattle.lp_checker.proofs.Tables.{group-there, within, one_there, group_within, kept-remove, leg_tasks-remove}
 use Rattle.lp_checker.proofs.fold.table.FoldedTable.remove.Goals as goal
 
 pub index_mut-requires : goal.index_mut-requires
@@ -54,4 +54,4 @@ returns c =
     let table : Table = record { slots = all_slots i.slots.items; used = i.used } in
     let there = group-there table c.args.task.0 c.args.group.0 (rw (← c.self.view_is) at c.requires) in
     let small : there.0.group < 65536 = omega (arith, there.2) in
-    rw (← c.self.view_is, c.from-2.ensures) (standings-remove i.slots.items i.used i.members.items c.self.invariant c.args.task.0 there.0 there.1 small)
+    rw (← c.self.view_is, c.from-2.ensures) (leg_tasks-remove i.slots.items i.used i.members.items c.self.invariant c.args.task.0 there.0 there.1 small)

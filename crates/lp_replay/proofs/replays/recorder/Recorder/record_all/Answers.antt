@@ -13,7 +13,7 @@ step-requires g c =
     let h = c.requires in
     let here = c.loop-event.invariant h.0 h.1 in
     let room = room_left g.M.Consistency.rules h.0 c.args.events.now c.loop-event.event-index c.loop-event.self (omega arith) h.2 here in
-    record { numbered = room.0; counted = room.1; recorded = (record h.0 { events = h.0.events ++ take c.loop-event.event-index c.args.events.now }, here) }
+    record { numbered = room.0; counted = room.1 }
 
 pub loop-event-preserved : goal.loop-event-preserved
 loop-event-preserved g c = λ run is.

@@ -1,0 +1,98 @@
+//! Quiet events of one task, which never allocate: each is weighed and taken in one, as no step has
+//! to stand between. They are nearly all events of a recording.
+ghost use Rattle.std.specs.Prelude.{◌≡◌, [], ◌<◌, true, None};
+ghost use Rattle.lp_definitions.specs.TaskEvents.{is_quiet};
+ghost use Rattle.lp_machine.specs.Steps.{IsStep};
+ghost use Rattle.lp_transition.specs.Blames.{AreBlamesAfter};
+ghost use Rattle.lp_transition.specs.LastScan.{IsLastScanAfter};
+ghost use Rattle.lp_machine.specs.Table.{state_in};
+ghost use Rattle.lp_machine.specs.Machine.{refusal_of, answer, next};
+
+use super::Core;
+use super::moves::Move;
+use super::weigh::refused;
+use crate::{Event, Reply};
+use lp_model::Consistency;
+
+impl<M: Consistency> Core<M> {
+    /// A call, a return, a sleep, a wake-up or an entry into the kernel: answers and takes it. There has to be an event
+    /// left, so nothing can fail. Never allocates.
+    #[inline(always)]
+    pub fn step_quiet(&mut self, event: Event) -> Reply
+        requires room { self.old.number < 1000000 }
+        requires quiet { is_quiet event ≡ true }
+        ensures step { IsStep M.rules (state_in self.old) event result (state_in self.new) }
+        ensures blames { AreBlamesAfter M.rules self.old event [] self.new }
+        ensures last_scan { IsLastScanAfter M.rules self.old event self.new }
+    {
+        // For the proof alone, which knows what every value keeps once a field is read.
+        let _ = &self.tasks;
+        match event {
+            Event::Call(task, func) => self.step_one(Event::Call(task, func)),
+            Event::Ret(task) => self.step_one(Event::Ret(task)),
+            Event::Sleep(task) => self.step_one(Event::Sleep(task)),
+            Event::Wake(task) => self.step_one(Event::Wake(task)),
+            Event::Enter(task) => self.step_one(Event::Enter(task)),
+            _ => unreachable!(),
+        }
+    }
+
+    /// What all of these have in common. It is compiled once for each of them, so that none pays for telling them apart
+    /// again.
+    #[inline(always)]
+    fn step_one(&mut self, event: Event) -> Reply
+        requires room { self.old.number < 1000000 }
+        requires quiet { is_quiet event ≡ true }
+        ensures step { IsStep M.rules (state_in self.old) event result (state_in self.new) }
+        ensures blames { AreBlamesAfter M.rules self.old event [] self.new }
+        ensures last_scan { IsLastScanAfter M.rules self.old event self.new }
+    {
+        if let Some(why) = self.refusal(event) {
+            self.take_refused(event, why);
+            return refused(why);
+        }
+        let reply = self.answer_quiet(event);
+        self.take_quiet(event);
+        reply
+    }
+
+    /// The reply to a call names the level before it is taken: a call never switches its task.
+    #[inline(always)]
+    pub(super) fn answer_quiet(&self, event: Event) -> Reply
+        requires room { self.now.number < 1000000 }
+        requires quiet { is_quiet event ≡ true }
+        requires accepted { refusal_of M.rules (state_in self.now) event ≡ None }
+        ensures { result ≡ answer M.rules (state_in self.now) event }
+    {
+        match event {
+            Event::Call(task, func) => self.answer_call(task, func),
+            Event::Ret(task) => self.answer_done(event, task),
+            Event::Sleep(task) => self.answer_done(event, task),
+            Event::Wake(task) => self.answer_done(event, task),
+            Event::Enter(task) => self.answer_done(event, task),
+            _ => unreachable!(),
+        }
+    }
+
+    /// What an accepted quiet event does. Never allocates.
+    #[inline(always)]
+    pub(super) fn take_quiet(&mut self, event: Event)
+        requires room { self.old.number < 1000000 }
+        requires quiet { is_quiet event ≡ true }
+        requires accepted { refusal_of M.rules (state_in self.old) event ≡ None }
+        ensures state { state_in self.new ≡ next M.rules (state_in self.old) event }
+        ensures blames { AreBlamesAfter M.rules self.old event [] self.new }
+        ensures last_scan { IsLastScanAfter M.rules self.old event self.new }
+    {
+        // For the proof alone, which knows what every value keeps once a field is read.
+        let _ = &self.tasks;
+        match event {
+            Event::Call(task, func) => self.take_call(task, func),
+            Event::Ret(task) => self.take_ret(task),
+            Event::Sleep(task) => self.take_move(Move::Sleep, task),
+            Event::Wake(task) => self.take_move(Move::Wake, task),
+            Event::Enter(task) => self.take_move(Move::Enter, task),
+            _ => unreachable!(),
+        }
+    }
+}
