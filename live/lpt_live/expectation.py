@@ -51,7 +51,7 @@ class KernelLeg(NamedTuple):
 
 
 class Decision(NamedTuple):
-    """Any other line: `after` is A of a `shown` and else its event; `rest` are the words behind the task."""
+    """Any other line: `after` is A of a `shown` and else its event; `rest` are the words after the task."""
     word: str
     event: int
     task: int
@@ -77,7 +77,7 @@ class Expectation:
         self.decisions: List[Decision] = []
 
     def take(self, words: List[str]) -> None:
-        """Takes a line behind the two first; ValueError, IndexError or KeyError where it is none."""
+        """Takes a line after the two first; ValueError, IndexError or KeyError where it is none."""
         if words[0] == 'task':
             self.tasks[int(words[1])] = Known(words[2], words[3])
         elif words[0] == 'leg':

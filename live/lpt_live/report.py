@@ -1,8 +1,9 @@
-"""A report text (`lpreport 1` or `2`, of `lpt run MODEL`): replies, legs, certificates with their lines."""
+"""A report text (`lpreport 1`, `2` or `3`, of `lpt run MODEL`): replies, legs, certificates with their lines."""
 from typing import Dict, List, NamedTuple, Optional, Tuple
 
 from .errors import NoEngine
 from .lpt import ask
+from .trace import VERSIONS
 
 
 class Reply(NamedTuple):
@@ -54,7 +55,7 @@ class Certificate(NamedTuple):
     reasons: List[Reason]
 
     def lines(self) -> List[str]:
-        """Its lines as `lpt check` takes them, behind the line `lpcert 1`."""
+        """Its lines as `lpt check` takes them, after the line `lpcert 1`."""
         return [f'{self.claim} {self.leg} {self.group} {self.upto}'] + [
             ' '.join([reason.word, *map(str, reason.numbers)]) for reason in self.reasons]
 
@@ -91,7 +92,7 @@ class Report:
         return {reply.event: reply.groups for reply in self.replies if reply.word == 'over'}
 
     def take(self, words: List[str]) -> None:
-        """Takes the words of a line behind the two first."""
+        """Takes the words of a line after the two first."""
         if words[0].isdigit():
             complete = words[-1] == 'complete'
             rest = words[2:-1] if complete else words[2:]
@@ -114,7 +115,7 @@ class Report:
 def parse(text: str) -> Report:
     """The report of a text; NoEngine where it is none, since only the engine's program writes one."""
     lines = text.splitlines()
-    if len(lines) < 2 or lines[0] not in ('lpreport 1', 'lpreport 2') or not lines[1].startswith('model '):
+    if len(lines) < 2 or lines[0] not in [f'lpreport {version}' for version in VERSIONS] or not lines[1].startswith('model '):
         raise NoEngine('the answer of lpt is no report')
     report = Report(int(lines[0][-1]), lines[1].split()[1])
     for line in lines[2:]:

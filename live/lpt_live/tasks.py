@@ -19,7 +19,8 @@ class Need(NamedTuple):
 
 NEEDS = {'call': Need(None, KERNEL, 0, DEEPEST - 1), 'ret': Need(None, KERNEL, 1), 'sleep': Need(None, KERNEL),
          'wake': Need(None, ASLEEP), 'enter': Need('normal', USER), 'exit': Need('normal', KERNEL, 0, 0),
-         'idle': Need('idle', KERNEL, 0, 0), 'fork': Need('normal', KERNEL), 'die': Need('normal', KERNEL, 0, 0)}
+         'idle': Need('idle', KERNEL, 0, 0), 'resched': Need('normal', KERNEL), 'fork': Need('normal', KERNEL),
+         'die': Need('normal', KERNEL, 0, 0)}
 
 
 class Frame(NamedTuple):

@@ -2,18 +2,19 @@
 
 Kept are, in their order,
 
-- each walk, stop and control; each fork and each death; each call of a function that some patch has, and its return;
+- each walk, stop and control; each fork and each death; each check at `resched`; each call of a function that some patch
+  has, and its return;
 - of each task's stretches between those, its first `exit` or `idle`, with the `enter` or `wake` that it needs before it, and
-  behind it the fewest moves into the mode that the stretch ends in.
+  after it the fewest moves into the mode that the stretch ends in.
 
-A stretch of a task ends at a walk, stop or control; at a call or return of its own that is kept; at its fork; and where a
-thread of its process dies.  Left out is all else: calls and returns of functions that no patch has,
+A stretch of a task ends at a walk, stop or control; at a call, a return or a `resched` of its own that is kept; at its fork;
+and where a thread of its process dies.  Left out is all else: calls and returns of functions that no patch has,
 further exits, idle points, sleeps and wake-ups of a stretch, and events that every model refuses (E1 to E9).
 
 Why that can't matter:
 
 1. Which version runs and which frame is stale depend on frames of functions that some patch has.  Those are all kept.
-2. At a walk or a stop each task's mode is what it was: its stretch has ended there.
+2. At a walk or a stop each task's mode is what it was: its stretch has ended there.  So it is of a task at its `resched`.
 3. At an exit or idle point a task has no frame (E9), so a check there asks the same at each of a stretch: the same stack,
    the same mode, the same target, and the same answer to "is it its group's only live member": nobody dies in its
    process meanwhile, and who is born there by another thread finds two already.  If the first switches the group, the
@@ -22,8 +23,8 @@ Why that can't matter:
 
 So it holds of a model whose groups are tasks or processes, or which checks at walks and stops alone, and whose verdict
 depends on frames of patched functions alone, or is asked for where there is no frame: hybrid, leave-kernel, all-at-once,
-immediate and process-group.  It wouldn't hold of one that looks at other frames in a walk, or of groups beyond
-processes that switch at an exit.
+immediate and process-group.  It wouldn't hold of one that looks at other frames in a walk or at `resched`, or of groups
+beyond processes that switch at an exit.
 """
 from typing import Dict, Iterable, List, NamedTuple, Optional, Set, Tuple
 

@@ -1,4 +1,4 @@
-"""A trace text (`lptrace 1` or `2`): its parts, the line of each event, the trace cut at an event.
+"""A trace text (`lptrace 1`, `2` or `3`): its parts, the line of each event, the trace cut at an event.
 
 What stands here reads the shape of lines alone.  Whether a text is a trace, and which of its lines is at fault and
 why, is for `lpt` to say: ask it first, then read.
@@ -7,7 +7,9 @@ from typing import Dict, Iterable, List, NamedTuple, Optional
 
 from .errors import Refused
 
-TASK_WORDS = ('call', 'ret', 'sleep', 'wake', 'enter', 'exit', 'idle', 'fork', 'die')
+VERSIONS = (1, 2, 3)
+OWN_CHECK = 'resched'           # a word of `lptrace 3` alone
+TASK_WORDS = ('call', 'ret', 'sleep', 'wake', 'enter', 'exit', 'idle', OWN_CHECK, 'fork', 'die')
 SCANS = ('walk', 'stop')
 CONTROLS = ('enable', 'disable', 'reverse')
 ARGUMENTS = {'call': 2, 'fork': 3, **{word: 1 for word in TASK_WORDS if word not in ('call', 'fork')},
@@ -52,7 +54,7 @@ class Event(NamedTuple):
 
 
 class Trace:
-    """A trace: `version` 1 or 2, `symbols`, `patches` (level to functions), `boots` (task to class), `events`."""
+    """A trace: `version` 1 to 3, `symbols`, `patches` (level to functions), `boots` (task to class), `events`."""
 
     def __init__(self, version: int = 1) -> None:
         self.version = version
@@ -63,25 +65,34 @@ class Trace:
         self.header: List[str] = [f'lptrace {version}']
 
     @property
-    def stacked(self) -> bool:
-        """Whether the text has several patches, so that levels are numbers."""
-        return self.version == 2
+    def numbered(self) -> bool:
+        """Whether the text numbers its patches, so that levels and versions are numbers."""
+        return self.version > 1
 
     @property
     def top(self) -> int:
         """The highest level."""
         return max(self.patches, default=0)
 
+    @property
+    def stacked(self) -> bool:
+        """Whether there are several patches, so that a level has to be told by its number."""
+        return self.top > 1
+
+    def knows(self, word: str) -> bool:
+        """Whether a word of an event is one of this version of the text."""
+        return word != OWN_CHECK or self.version == 3
+
     def take(self, line: str, number: int) -> None:
         """Takes the next line; `number` is its number in the text."""
         words = line.split(' ')
         if words[0] == 'sym' and len(words) == 2:
             self.symbols.append(words[1])
-        elif words[0] == 'patch' and len(words) == self.version + 1:
-            self.patches.setdefault(int(words[1]) if self.stacked else 1, []).append(words[-1])
+        elif words[0] == 'patch' and len(words) == (3 if self.numbered else 2):
+            self.patches.setdefault(int(words[1]) if self.numbered else 1, []).append(words[-1])
         elif words[0] == 'boot' and len(words) == 3:
             self.boots[int(words[1])] = words[2]
-        elif ARGUMENTS.get(words[0]) == len(words) - 1:
+        elif ARGUMENTS.get(words[0]) == len(words) - 1 and self.knows(words[0]):
             self.events.append(Event(len(self.events) + 1, number, words))
             return
         else:
@@ -95,7 +106,7 @@ class Trace:
         return self.events[number - 1].line if number else 0
 
     def cut(self, number: int, more: Iterable[str] = ()) -> str:
-        """The text up to and with this event, and further lines behind it."""
+        """The text up to and with this event, and further lines after it."""
         return '\n'.join([*self.header, *(event.text for event in self.events[:number]), *more]) + '\n'
 
     def text(self) -> str:
@@ -110,7 +121,7 @@ class Trace:
 def parse(text: str) -> Trace:
     """The trace of a text; Refused with the line that can't be read."""
     lines = text.split('\n')
-    if lines[0] not in ('lptrace 1', 'lptrace 2'):
+    if lines[0] not in [f'lptrace {version}' for version in VERSIONS]:
         raise Refused(f'this is no trace: its first line is {lines[0][:40]!r}')
     if lines.pop():
         raise Refused(f'line {len(lines) + 1} has no end: the trace is cut')

@@ -16,8 +16,9 @@ class Generator:
 
     def __init__(self, seed: int) -> None:
         self.random = random.Random(seed)
+        self.has_own_check = seed % 3 == 0      # the word `resched`, of `lptrace 3` alone
         self.weights: Dict[str, float] = {word: self.random.choice([0.3, 1, 3]) for word in (
-            'call', 'ret', 'sleep', 'wake', 'enter', 'exit', 'idle', 'own', 'share', 'die', 'walk', 'stop', *CONTROLS)}
+            'call', 'ret', 'sleep', 'wake', 'enter', 'exit', 'idle', 'own', 'share', 'die', 'walk', 'stop', *CONTROLS, 'resched')}
         rare = self.random.choice([3, 12, 50])
         for word in ('walk', 'stop'):
             self.weights[word] /= rare
@@ -29,10 +30,11 @@ class Generator:
     def header(self) -> List[str]:
         """Symbols, one to three patches, boot tasks."""
         height = self.random.choice([1, 1, 2, 3])
-        lines = [f'lptrace {1 if height == 1 else 2}'] + [f'sym {name}' for name in NAMES]
+        version = 3 if self.has_own_check else 1 if height == 1 else 2
+        lines = [f'lptrace {version}'] + [f'sym {name}' for name in NAMES]
         for level in range(1, height + 1):
             for name in self.random.sample(NAMES, self.random.choice([1, 2, 3])):
-                lines.append(f'patch {name}' if height == 1 else f'patch {level} {name}')
+                lines.append(f'patch {name}' if version == 1 else f'patch {level} {name}')
         for number in self.random.sample(NUMBERS, self.random.choice([1, 2, 4])):
             lines.append(f'boot {number} {self.random.choice(["normal", "normal", "normal", "idle"])}')
         return lines
@@ -45,7 +47,7 @@ class Generator:
             return ['wake']
         words = ['call', 'sleep', 'ret' if task.frames else 'idle' if task.kind == 'idle' else 'exit']
         if task.kind == 'normal':
-            words += ['own', 'share'] + ([] if task.frames else ['die'])
+            words += ['own', 'share'] + ([] if task.frames else ['die']) + (['resched'] if self.has_own_check else [])
         return words
 
     def text(self) -> str:
@@ -55,7 +57,8 @@ class Generator:
             return self.pick(scans)
         number = self.random.choice(sorted(self.tasks.live))
         if self.random.random() < 0.03:         # an event that may be refused
-            return self.random.choice([f'{word} {number}' for word in ('ret', 'sleep', 'wake', 'enter', 'exit', 'idle', 'die')]
+            words = ['ret', 'sleep', 'wake', 'enter', 'exit', 'idle', 'die'] + (['resched'] if self.has_own_check else [])
+            return self.random.choice([f'{word} {number}' for word in words]
                                       + [f'enter {self.random.randrange(1, 50)}', f'fork {number} {self.random.choice(NUMBERS)} own'])
         word = self.pick(self.fitting(self.tasks.live[number]))
         if word == 'call':

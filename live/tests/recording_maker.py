@@ -151,7 +151,7 @@ class Kernel:
         return converted(self.recording(), whole)
 
     def events(self, *tasks: int) -> List[str]:
-        """The events behind the prologue; with tasks only theirs and those of no task."""
+        """The events after the prologue; with tasks only theirs and those of no task."""
         result = self.converted()
         events = [event.text for event in parse(result.trace).events[result.names.prologue:]]
         return [event for event in events if not tasks or len(event.split()) < 2 or int(event.split()[1]) in tasks]

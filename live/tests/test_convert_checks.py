@@ -180,8 +180,8 @@ class OwnChecks(unittest.TestCase):
         machine.switch(0, 11)
         machine.call(11, 'other')
         machine.check(11, 11, 0, 0)
-        self.assertEqual(machine.events(11)[-6:], ['wake 11', 'call 11 other', 'ret 11', 'exit 11', 'enter 11', 'call 11 other'])
-        self.assertEqual(machine.decisions('over'), ['over [exit 11] 11 resched'])
+        self.assertEqual(machine.events(11)[-3:], ['wake 11', 'call 11 other', 'resched 11'])
+        self.assertEqual(machine.decisions('over'), ['over [resched 11] 11 resched'])
 
     def test_at_cond_resched_the_verdict_ends_frames_of_the_patch(self) -> None:
         machine = loaded('6.12.0')
@@ -190,15 +190,14 @@ class OwnChecks(unittest.TestCase):
         machine.call(11, 'a', 0xfe00)
         machine.check(11, 11, 0, 0)
         machine.fork(11, 12)
-        self.assertEqual(machine.events(11)[-7:], ['call 11 a', 'ret 11', 'ret 11', 'exit 11', 'enter 11', 'call 11 other',
-                                                   'fork 11 12 own'])
+        self.assertEqual(machine.events(11)[-5:], ['call 11 other', 'call 11 a', 'ret 11', 'resched 11', 'fork 11 12 own'])
         self.assertEqual(machine.decisions('born'), ['born [fork 11 12 own] 12 over'])
 
     def test_at_cond_resched_the_verdict_tells_of_a_frame_that_no_probe_saw(self) -> None:
         machine = loaded('6.12.0')
         machine.switch(0, 11)
         machine.check(11, 11, 0, EADDRINUSE)
-        self.assertEqual(machine.events(11)[-2:], ['wake 11', 'call 11 a'])
+        self.assertEqual(machine.events(11)[-3:], ['wake 11', 'call 11 a', 'resched 11'])
 
     def test_at_cond_resched_a_task_is_in_the_kernel(self) -> None:
         machine = loaded('6.12.0')
@@ -206,7 +205,7 @@ class OwnChecks(unittest.TestCase):
         machine.sys_exit(11)
         machine.update(11, 0, pending=False)
         machine.check(11, 11, 0, 0)             # no system calls are recorded
-        self.assertEqual(machine.events(11)[-4:], ['exit 11', 'enter 11', 'exit 11', 'enter 11'])
+        self.assertEqual(machine.events(11)[-3:], ['exit 11', 'enter 11', 'resched 11'])
 
     def test_at_cond_resched_on_the_way_out_the_exit_comes_later(self) -> None:
         machine = loaded('6.12.0')
@@ -214,15 +213,24 @@ class OwnChecks(unittest.TestCase):
         machine.sys_exit(11)
         machine.check(11, 11, 0, 0)
         machine.sys_enter(11)
-        self.assertEqual(machine.events(11)[-5:], ['wake 11', 'exit 11', 'enter 11', 'exit 11', 'enter 11'])
+        self.assertEqual(machine.events(11)[-4:], ['wake 11', 'resched 11', 'exit 11', 'enter 11'])
 
-    def test_at_cond_resched_that_is_refused_is_left_out(self) -> None:
+    def test_at_cond_resched_that_is_refused(self) -> None:
         machine = loaded('6.12.0')
         machine.switch(0, 11)
         machine.call(11, 'a')
         machine.check(11, 11, 0, EADDRINUSE)
-        self.assertEqual(machine.events(11)[-2:], ['wake 11', 'call 11 a'])
-        self.assertEqual(machine.decisions('over', 'stays'), [])
+        machine.check(11, 11, 0, EINVAL)
+        self.assertEqual(machine.events(11)[-4:], ['wake 11', 'call 11 a', 'resched 11', 'resched 11'])
+        self.assertEqual(machine.decisions('over', 'stays'), ['stays [resched 11] 11 frame', 'stays [resched 11] 11 unreliable'])
+
+    def test_a_kernel_with_this_check_has_a_text_with_its_word(self) -> None:
+        for release, first, patch in (('6.3.9', 'lptrace 1\n', 'patch a\n'), ('6.4.0', 'lptrace 3\n', 'patch 1 a\n'),
+                                      ('6.12.0', 'lptrace 3\n', 'patch 1 a\n')):
+            with self.subTest(release=release):
+                text = loaded(release).converted().trace
+                self.assertTrue(text.startswith(first))
+                self.assertIn(f'\n{patch}boot ', text)
 
     def test_a_check_of_another_task_outside_of_a_walk_is_refused(self) -> None:
         machine = loaded('6.12.0')

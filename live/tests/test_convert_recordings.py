@@ -3,15 +3,16 @@ import os
 import tempfile
 import unittest
 
-from support import data, needs_lpt, text_of
+from support import ROOT, data, needs_lpt, text_of
 from test_foundation import outcome
 
-from lpt_live import recording, report
+from lpt_live import expectation, recording, report
 from lpt_live.convert import converted
 from lpt_live.thin import thin
 from test_thin import MODELS
 
 NAMES = ('attach', 'attach-6.12', 'attach-disable', 'attach-enable', 'hang', 'kernel-thread-6.12')
+ROWS = os.path.join(ROOT, 'crates', 'lp_rows', 'data')
 FAST = ('attach', 'attach-disable', 'attach-enable', 'hang', 'kernel-thread-6.12')
 
 
@@ -25,6 +26,19 @@ class Recordings(unittest.TestCase):
                 for end in ('.lptrace', '.expect', '.names'):
                     with open(base + end, encoding='utf-8', newline='') as file:
                         self.assertEqual(file.read(), text_of('recordings', name + end))
+
+    def test_the_gate_plays_one_of_them(self) -> None:
+        """The trace and the lists of crates/lp_rows/data are this recording's."""
+        told = expectation.parse(text_of('recordings', 'kernel-thread-6.12.expect'))
+        decisions, legs = told.decisions, told.legs
+        rows = {'over': sorted((one.event, one.task) for one in decisions if one.word == 'over'),
+                'transitions': sorted((at, word) for leg in legs for at, word in ((leg.opened, leg.word), (leg.complete or 0, 'complete'))),
+                'versions': [(one.event, one.task, one.rest[0]) for one in decisions if one.word == 'ran']}
+        for end, wanted in rows.items():
+            with open(os.path.join(ROWS, f'resched.{end}'), encoding='utf-8') as file:
+                self.assertEqual(file.read(), ''.join(' '.join(map(str, row)) + '\n' for row in wanted))
+        with open(os.path.join(ROWS, 'resched.lptrace'), encoding='utf-8') as file:
+            self.assertEqual(file.read(), text_of('recordings', 'kernel-thread-6.12.lptrace'))
 
     @needs_lpt
     def test_each_kernel_decided_as_the_engine_does(self) -> None:

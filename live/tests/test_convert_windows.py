@@ -164,7 +164,7 @@ class Windows(unittest.TestCase):
         machine.switch(11, 12, cpu=1)
         machine.check(20, 12, 0, EBUSY)
         machine.probe('walked', 20)
-        with self.assertRaisesRegex(Refused, 'keeps the child\'s acts behind its birth'):
+        with self.assertRaisesRegex(Refused, 'keeps the child\'s acts after its birth'):
             machine.converted()
 
     def test_an_update_overtakes_a_check(self) -> None:

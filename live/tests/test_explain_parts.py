@@ -150,12 +150,11 @@ class Recorded(unittest.TestCase):
         self.assertIn('by the engine alone', self.page(kernel_says=says[:-1]))
 
     def test_checks_at_cond_resched(self) -> None:
-        """Linux 6.4 and later: said where they are, since the trace has no event for them."""
+        """Linux 6.4 and later: said how many of the moves were there."""
         says = [line.replace('over 14 2 exit', 'over 14 2 resched') for line in names_data()['kernel_says']]
         told = self.page(kernel_says=says)
         self.assertIn('1 of these moves was at the task\'s own check at cond_resched (Linux 6.4 and later)', told)
         self.assertIn('WENT OVER 12:00:03.0 (event 14), at its own check, cond_resched, 3.0 s after the opening (2 walks refused it)\n', told)
-        self.assertIn('as it leaves the kernel, or at a walk, or at its own check at cond_resched\n', told)
         self.assertIn('goes over when its CPU goes through the idle loop\n', told)
 
     def test_what_the_recording_lacks(self) -> None:

@@ -190,6 +190,12 @@ class Examples(unittest.TestCase):
         self.assertIn('Trace stacked.lptrace: patch 2 of 2 replaces b\n', self.page('stacked', '--leg', '2'))
         self.assertIn('TRANSITION 4 of 4: unpatching, to level 0 (nothing patched); opened at line 17 (event 11)\n', self.page('stacked'))
 
+    def test_a_task_that_never_leaves_its_cpu(self) -> None:
+        told = self.page('resched')
+        self.assertIn('  task 1 is in a (line 7), refused at event 4 (line 9)\n', told)
+        self.assertIn('    WENT OVER at line 14 (event 9), at its own check, cond_resched, 6 events after the opening (3 checks refused it)\n', told)
+        self.assertIn('STILL OPEN at the end of the trace', self.page('resched', '--model', 'leave-kernel'))
+
     def test_one_task_holds_up_all(self) -> None:
         told = self.page('stop', '--model', 'all-at-once', '--at', '4')
         self.assertIn('  all 2 tasks: task 2 is in a (line 9), refused at event 4 (line 11)\n', told)

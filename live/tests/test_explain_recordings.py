@@ -18,6 +18,7 @@ from lpt_live.expectation import Expectation
 
 NAMES = sorted(os.path.basename(path)[:-len('.rec')] for path in glob.glob(data('recordings', '*.rec')))
 WORDS = ('--timeline', '--what-if', 'reverse')
+CHECKS = '(?:walk|own check|check)s?'         # what pages count
 
 
 @functools.lru_cache(maxsize=None)
@@ -131,11 +132,11 @@ class Kernel(unittest.TestCase):
             for told in tasks_of(page):
                 task = task_of[told.pid]
                 refused = [event for event in facts.refusals.get(task, []) if opened < event <= upto]
-                self.assertEqual(told.number(r'(\d+) walks? found it'), len(refused), (name, told))
+                self.assertEqual(told.number(rf'(\d+) {CHECKS} found it'), len(refused), (name, told))
                 moved = [event for event in facts.moves.get(task, []) if event > upto]
                 if moved:
                     before = [event for event in facts.refusals[task] if opened < event < moved[0]]
-                    self.assertEqual(told.number(r'\((\d+) walks?(?: in the recording)? refused it\)'), len(before), (name, told))
+                    self.assertEqual(told.number(rf'\((\d+) {CHECKS}(?: in the recording)? refused it\)'), len(before), (name, told))
                 self.assertEqual(told.number(r'WENT OVER [^(]*\(event (\d+)\)'), moved[0] if moved else None, (name, told))
                 seen += 1
         self.assertGreater(seen, 6)

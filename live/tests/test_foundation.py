@@ -147,9 +147,18 @@ class Traces(unittest.TestCase):
         got = trace.parse('lptrace 2\nsym a\nsym b\npatch 1 a\npatch 1 b\npatch 2 b\n')
         self.assertEqual([got.version_of('b', k) for k in (0, 1, 2)], [0, 1, 2])
         self.assertEqual((got.version_of('a', 2), got.top), (1, 2))
+        self.assertEqual((got.numbered, got.stacked), (True, True))
+
+    def test_the_word_of_the_third_text(self) -> None:
+        text = 'lptrace 3\nsym a\npatch 1 a\nboot 1 normal\nenter 1\nresched 1\n'
+        got = trace.parse(text)
+        self.assertEqual((got.text(), got.events[1].task, got.numbered, got.stacked), (text, 1, True, False))
+        for other in (text.replace('lptrace 3', 'lptrace 2'), LEAVING + 'resched 1\n'):
+            with self.assertRaisesRegex(errors.Refused, 'none of a trace: \'resched 1\''):
+                trace.parse(other)
 
     def test_what_is_no_trace_is_refused_with_its_line(self) -> None:
-        for text, reason in (('lptrace 3\n', 'no trace'), ('lptrace 1\nsym a\npatch a', 'line 3 has no end'),
+        for text, reason in (('lptrace 4\n', 'no trace'), ('lptrace 1\nsym a\npatch a', 'line 3 has no end'),
                              ('lptrace 1\nsym a\nPatch a\n', 'line 3 is none'), ('lptrace 1\nboot x normal\n', 'line 2 is none'),
                              ('lptrace 1\nwalk\nsym a\n', 'line 3 belongs before')):
             with self.assertRaisesRegex(errors.Refused, reason):

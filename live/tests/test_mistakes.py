@@ -16,6 +16,7 @@ from lpt_live.explain.refusals import Refusals
 HEADER = 'lptrace 1\nsym a\npatch a\n'
 ONE = HEADER + 'boot 1 normal\n'
 INSIDE = ONE + 'enter 1\n'
+NEW = 'lptrace 3\nsym a\npatch 1 a\n'        # of a kernel whose tasks check themselves at cond_resched
 
 
 class Try(NamedTuple):
@@ -30,9 +31,9 @@ REFUSED_TEXTS: Dict[Tuple[str, str], List[Try]] = {
     ('L1', 'the input is empty: a wrong file, or a program before `lpt` failed'): [Try('', 1, 'ends before it')],
     ('L1', 'a byte order mark before `lptrace`'): [Try('\ufeff' + HEADER, 1, 'byte order mark')],
     ('L1', 'all lines end in CR LF'): [Try(INSIDE.replace('\n', '\r\n'), 1, 'CR LF')],
-    ('L1', 'a space, a tab or another number behind the header'): [
+    ('L1', 'a space, a tab or another number after the header'): [
         Try(HEADER.replace('1\n', '1 \n', 1), 1, 'ends with a space'), Try(HEADER.replace('1\n', '1\t\n', 1), 1, 'a tab'),
-        Try(HEADER.replace('1', '3', 1), 1)],
+        Try(HEADER.replace('1', '4', 1), 1)],
     ('L1', 'another text: a report, JSON'): [Try('lpreport 1\nmodel hybrid\n', 1, 'this is a report'), Try('{"leg":1}\n', 1)],
     ('L2', 'the last line has no line feed at its end'): [Try(INSIDE[:-1], 5), Try('lptrace 1', 1)],
     ('L2', 'a copy was cut'): [Try(INSIDE[:-4], 5)],
@@ -40,15 +41,18 @@ REFUSED_TEXTS: Dict[Tuple[str, str], List[Try]] = {
     ('L3', 'an empty line, often the last'): [Try(INSIDE + '\n', 6, 'is empty'), Try(INSIDE.replace('boot', '\nboot'), 4, 'is empty')],
     ('L3', 'a tab between the words, or a space before the first'): [
         Try(HEADER.replace('sym ', 'sym\t'), 2, 'a tab'), Try(HEADER.replace('sym', ' sym'), 2, 'begins with a space')],
-    ('L3', '`sym` behind `patch`, or `boot` behind an event'): [
+    ('L3', '`sym` after `patch`, or `boot` after an event'): [
         Try(ONE.replace('boot', 'sym b\nboot'), 4, '`sym` lines come first'), Try(INSIDE + 'boot 2 normal\n', 6, '`sym` lines come first')],
     ('L3', 'a word in capitals, or one that no trace has'): [Try(ONE + 'Enter 1\n', 5, 'small letters'), Try(ONE + 'exec 1\n', 5)],
+    ('L3', '`resched` in `lptrace 1` or `lptrace 2`'): [
+        Try(INSIDE + 'resched 1\n', 6, 'a word of `lptrace 3` alone'),
+        Try(INSIDE.replace('patch', 'patch 1').replace('1', '2', 1) + 'resched 1\n', 6, 'a word of `lptrace 3` alone')],
     ('L3', 'CR LF at the end of `walk`, `stop` or a control'): [
         Try(ONE + f'{word}\r\n', 5, 'CR LF') for word in ('walk', 'stop', 'enable', 'disable', 'reverse')],
     ('L4', 'CR LF at the end of another line'): [Try(HEADER + 'boot 1 normal\r\n', 4, 'CR LF'), Try(ONE + 'enter 1\r\n', 5, 'CR LF')],
     ('L4', 'two spaces, or a space at the end'): [
         Try(ONE + 'enter  1\n', 5, 'two spaces'), Try(HEADER.replace('sym a', 'sym a '), 2, 'ends with a space')],
-    ('L4', 'a comment behind an event'): [Try(ONE + 'enter 1 # reads\n', 5, 'a comment')],
+    ('L4', 'a comment after an event'): [Try(ONE + 'enter 1 # reads\n', 5, 'a comment')],
     ('L4', 'a number of six digits, such as a large pid'): [
         Try(HEADER + 'boot 123456 normal\n', 4, 'up to 65,535'), Try(INSIDE + 'fork 1 123456 own\n', 6)],
     ('L4', 'a leading zero'): [Try(HEADER + 'boot 01 normal\n', 4, 'leading zeros'), Try(ONE + 'enter 01\n', 5, 'leading zeros')],
@@ -58,8 +62,8 @@ REFUSED_TEXTS: Dict[Tuple[str, str], List[Try]] = {
     ('L4', '`ret 1 a`, `call 1`, `walk 1` or `enable 2`'): [
         Try(INSIDE + 'call 1 a\nret 1 a\n', 7, 'names no function'), Try(INSIDE + 'call 1\n', 6, 'names the function'),
         Try(ONE + 'walk 1\n', 5, 'no further words'), Try(ONE + 'enable 2\n', 5, 'no further words')],
-    ('L4', '`patch a` in `lptrace 2`, or `patch 1 a` in `lptrace 1`'): [
-        Try('lptrace 2\nsym a\npatch a\n', 3), Try('lptrace 1\nsym a\npatch 1 a\n', 3)],
+    ('L4', '`patch a` in `lptrace 2` or `3`, or `patch 1 a` in `lptrace 1`'): [
+        Try('lptrace 2\nsym a\npatch a\n', 3), Try('lptrace 3\nsym a\npatch a\n', 3), Try('lptrace 1\nsym a\npatch 1 a\n', 3)],
     ('L4', 'a name with a space'): [Try('lptrace 1\nsym do read\npatch do read\n', 2)],
     ('L5', 'CR LF at the end of a `sym` line'): [Try('lptrace 1\nsym a\r\npatch a\n', 2, 'CR LF')],
     ('L5', 'a name with a letter outside ASCII, or longer than 512 bytes'): [
@@ -89,7 +93,8 @@ REFUSED_EVENTS: Dict[Tuple[str, str], List[Try]] = {
     ('E4', 'a fork gives a number that was used before'): [
         Try(INSIDE + 'fork 1 2 own\nfork 1 2 own\n', 7, 'in use from line 6 (event 2) on'),
         Try(INSIDE + 'fork 1 1 own\n', 6, 'in use from the start')],
-    ('E5', '`enter`, `exit`, `fork` or `die` of an idle task, or `idle` of a normal one'): [
+    ('E5', '`enter`, `exit`, `resched`, `fork` or `die` of an idle task, or `idle` of a normal one'): [
+        Try(NEW + 'boot 9 idle\nresched 9\n', 5, '`resched` is an event of a normal task, and task 9 is idle'),
         Try(HEADER + 'boot 9 idle\nenter 9\n', 5, '`enter` is an event of a normal task, and task 9 is idle'),
         Try(INSIDE + 'idle 1\n', 6, '`idle` is an event of an idle task, and task 1 is normal')],
     ('E6', 'an `enter` before the call is missing'): [
@@ -128,7 +133,7 @@ class Rows(unittest.TestCase):
     """The tables and the tries have the same rows."""
 
     def test_each_row_of_a_refused_text_is_tried(self) -> None:
-        elsewhere = [('L11', 'more than 134,217,728 bytes'), ('L12', 'no line `lpcert 1` behind the trace'),
+        elsewhere = [('L11', 'more than 134,217,728 bytes'), ('L12', 'no line `lpcert 1` after the trace'),
                      ('L12', 'a certificate that begins without its claim, or has two')]
         self.assertEqual(rows('L'), [*REFUSED_TEXTS, *elsewhere])
 
@@ -193,10 +198,10 @@ class Page(unittest.TestCase):
     """What else the page says."""
 
     def trace(self) -> str:
-        """The trace on the page."""
-        found = re.search(r'```\n(lptrace .*?)```', page(), re.S)
-        assert found is not None
-        return found[1]
+        """The trace that the page names."""
+        self.assertIn('`examples/roles.lptrace`', page())
+        with open(os.path.join(ROOT, 'examples', 'roles.lptrace'), encoding='utf-8') as file:
+            return file.read()
 
     def test_the_trace_of_who_is_who(self) -> None:
         """None of its events is refused, and it comes to what the page says."""
@@ -220,12 +225,12 @@ class Page(unittest.TestCase):
     def test_modes_are_the_engines(self) -> None:
         """Each row of what an event needs: accepted in that mode, refused as E6 in the others."""
         begin = {'user': '', 'kernel': 'enter 1\n', 'asleep': 'enter 1\nsleep 1\n'}
-        needs = {'enter': 'user', 'call': 'kernel', 'ret': 'kernel', 'sleep': 'kernel', 'wake': 'asleep', 'exit': 'kernel', 'fork': 'kernel',
-                 'die': 'kernel'}
+        needs = {'enter': 'user', 'call': 'kernel', 'ret': 'kernel', 'sleep': 'kernel', 'wake': 'asleep', 'exit': 'kernel', 'resched': 'kernel',
+                 'fork': 'kernel', 'die': 'kernel'}
         words = {'call': 'call 1 a', 'fork': 'fork 1 2 own'}
         for word, need in needs.items():
             for mode, before in begin.items():
-                text = ONE + before + words.get(word, f'{word} 1') + '\n'
+                text = NEW + 'boot 1 normal\n' + before + words.get(word, f'{word} 1') + '\n'
                 if word == 'ret' and mode == 'kernel':
                     text = INSIDE + 'call 1 a\nret 1\n'
                 refused = set(Case(text, 'hybrid', None, 'T').refused.values())

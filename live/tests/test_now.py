@@ -56,6 +56,14 @@ class EnableTest(OnAPicture):
         self.assertEqual([row['t'] for row in seen.waiting()], self.WAITING)
 
     @needs_lpt
+    def test_a_later_kernel_has_a_further_check(self) -> None:
+        machine = self.picture('enable-6.1.json')
+        self.assertNotIn('cond_resched', self.told(machine))
+        machine.file('/proc/version', 'Linux version 6.12.1-test (build@test) #1 SMP')
+        self.assertTrue(look(machine).converted().trace.startswith('lptrace 3\n'))
+        self.assertIn(', or at its own check at cond_resched\n', self.told(machine))
+
+    @needs_lpt
     def test_the_engine_names_the_same_tasks_and_frames(self) -> None:
         got = look(self.picture('enable-6.1.json')).converted()
         legs = report.run('hybrid', got.trace).legs

@@ -42,11 +42,6 @@ class Names(unittest.TestCase):
         self.assertEqual(status, 0)
         self.assertEqual(said.splitlines()[0], 'caution: the probe check missed 3 records; what follows may be wrong')
 
-    def test_switches_at_cond_resched_are_noted(self) -> None:
-        status, said, _ = outcome(['verify', data('recordings', 'kernel-thread-6.12.lptrace')])
-        self.assertEqual((status, said.splitlines()[0]), (
-            0, 'note: 5 switches at a task\'s own check at cond_resched, written as exits: right for hybrid alone'))
-
     def test_names_of_tasks_are_those_of_the_names(self) -> None:
         with tempfile.TemporaryDirectory() as folder:
             for end in ('.lptrace', '.names'):

@@ -60,7 +60,7 @@ def play(stage: Stage, records: List[Record]) -> None:
 
 
 def staged(reading: Reading, log: Counter[str]) -> Stage:
-    """The stage behind the last record."""
+    """The stage after the last record."""
     records = mark_gone(without_failed_forks(reading.records, log), reading.prior)
     levels = Levels(reading.meta['before'], reading.functions.load_order, reading.prior)
     levels.follow(records)
@@ -73,7 +73,7 @@ def staged(reading: Reading, log: Counter[str]) -> Stage:
     states = states_at_start(reading, records, born)
     if reading.prior:
         settle_births(records, states, reading.prior[1])
-    records, within = sort(records, reading.prior[1] if reading.prior else UNDEFINED, states, reading.turns_late, log)
+    records, within = sort(records, reading.prior[1] if reading.prior else UNDEFINED, states, reading.has_own_check, log)
     stage = Stage(reading, levels, Beginning(reading, records, born, log), records, within, log)
     prologue.tell(stage, states)
     stage.coming_stacks = looks.stacks_to_come(records, reading.samples, reading.roster, reading.functions)
@@ -95,7 +95,7 @@ def converted(source: Recording, whole: bool = False) -> Converted:
 
 
 def add_arguments(parser: argparse.ArgumentParser) -> None:
-    """The words behind `convert`."""
+    """The words after `convert`."""
     parser.add_argument('file', metavar='FILE', help='a recording')
     parser.add_argument('base', metavar='BASE', help='where to write: BASE.lptrace, BASE.names, BASE.expect')
     parser.add_argument('--whole', action='store_true', help='keep each event, also those that change no decision')

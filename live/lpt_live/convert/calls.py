@@ -24,7 +24,7 @@ def call(stage: Stage, place: int, record: Record) -> None:
     position = stage.call(task, place, record.text, record.sp)
     stage.last_call.pop(task, None)
     if stage.reading.functions.versions_known and record.text in stage.patched:
-        note = stage.note(position, 'ran', task, '0' if stage.levels.stacked else 'old')
+        note = stage.note(position, 'ran', task, '0' if stage.numbered else 'old')
         stage.last_call[task] = (record.text, note)
 
 
@@ -41,7 +41,7 @@ def new_version(stage: Stage, _: int, record: Record) -> None:
         if note is not None:
             stage.last_call[record.task] = (symbol, note)
         return
-    note.rest = str(stage.levels.of_patch.get(record.module, 1)) if stage.levels.stacked else 'new'
+    note.rest = str(stage.levels.of_patch.get(record.module, 1)) if stage.numbered else 'new'
 
 
 RULES: Dict[str, Rule] = {'call': call, 'newcall': new_version}

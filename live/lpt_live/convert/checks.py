@@ -45,11 +45,7 @@ def update(stage: Stage, place: int, record: Record) -> None:
 
 
 def resched(stage: Stage, place: int, record: Record) -> None:
-    """Linux 6.4 and later: at cond_resched a task with its flag set checks its own stack, on a CPU.
-
-    There is no event for it.  One that succeeds is written as `ret`.., `exit`, `enter`, `call`..: the same switch under
-    hybrid alone, since the frames that stay are called anew.  One that is refused changes nothing and is left out.
-    """
+    """`resched` (Linux 6.4 and later): at cond_resched a task with its flag set checks its own stack, while it runs."""
     task = record.task
     if task in stage.beginning.idle:
         raise Refused(f'{record}: an idle task in cond_resched')
@@ -61,14 +57,10 @@ def resched(stage: Stage, place: int, record: Record) -> None:
     agree_on_frames(stage, place, record)
     over = record.result == 0
     stage.log[f'rescheds {"over" if over else "stay"}, {"kthread" if task in stage.reading.roster.kthreads else "user"}'] += 1
+    position = stage.emit(place, f'resched {task}')
     if not over:
+        stage.note(position, 'stays', task, why(record.result))
         return
-    for _ in stage.frames[task]:
-        stage.emit(place, f'ret {task}')
-    position = stage.emit(place, f'exit {task}')
-    stage.emit(place, f'enter {task}')
-    for frame in stage.frames[task]:
-        stage.emit(place, f'call {task} {frame.symbol}')
     stage.note(position, 'over', task, 'resched')
     if stage.target is not None:
         stage.states[task] = stage.target

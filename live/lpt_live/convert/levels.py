@@ -26,7 +26,7 @@ class Levels:
 
     @property
     def stacked(self) -> bool:
-        """Whether there are several patches, so that the trace is an `lptrace 2`."""
+        """Whether there are several patches, which `lptrace 1` can't say."""
         return self.top > 1
 
     def at(self, height: int) -> List[str]:
@@ -38,7 +38,7 @@ class Levels:
         return sorted(self.of_patch, key=lambda patch: self.of_patch[patch])
 
     def follow(self, records: List[Record]) -> None:
-        """Gives each patch that is loaded its height.  Refused where a trace can't say what happened: `lptrace 2` has the
+        """Gives each patch that is loaded its height.  Refused where a trace can't say what happened: it has its
         patches on one another, and only the last one on can go."""
         stack = list(self.order)
         for record in records:
@@ -66,7 +66,7 @@ class Levels:
 
 
 def mark_gone(records: List[Record], prior: Optional[Tuple[str, int]]) -> List[Record]:
-    """The records, with a record `gone` behind the completion of each unpatching: the patch is off the stack from there."""
+    """The records, with a record `gone` after the completion of each unpatching: the patch is off the stack from there."""
     out: List[Record] = []
     patch, target = prior or ('', UNDEFINED)
     for record in records:
@@ -83,7 +83,7 @@ def mark_gone(records: List[Record], prior: Optional[Tuple[str, int]]) -> List[R
 
 
 def without_failed_forks(records: List[Record], log: Counter[str]) -> List[Record]:
-    """The records without the copies whose fork failed behind them (a fatal signal): there is no child."""
+    """The records without the copies whose fork failed after them (a fatal signal): there is no child."""
     forked = {record.about for record in records if record.kind == 'forked'}
     kept = [record for record in records if record.kind != 'copy' or record.about in forked]
     if len(kept) != len(records):

@@ -29,7 +29,7 @@ class Line(NamedTuple):
         return len(self.flags) > 2 and self.flags[2] in INTERRUPT_FLAGS
 
     def fields(self) -> 'Fields':
-        """What a probe fetched: `name=value` behind its places in parentheses."""
+        """What a probe fetched: `name=value` after its places in parentheses."""
         if not self.rest.startswith('('):
             return Fields(self, {})
         return Fields(self, {name: int(number, 0) if number else word or quoted

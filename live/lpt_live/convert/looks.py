@@ -22,7 +22,7 @@ def ask(stage: Stage, place: int, record: Record) -> None:
 
 
 def told(stage: Stage, place: int, record: Record) -> None:
-    """A look is over: what it showed was so at some moment up to here, or up to behind the point in whose time it lies."""
+    """A look is over: what it showed was so at some moment up to here, or up to after the point in whose time it lies."""
     point = stage.within.get(id(record))
     for row in stage.reading.samples.get(record.about, ()):
         task = stage.reading.roster.present.get(row['t'])

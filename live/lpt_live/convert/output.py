@@ -41,9 +41,9 @@ class Output:
         """The trace before its events."""
         levels, functions = self.stage.levels, self.stage.reading.functions
         symbols = {function.symbol for function in functions.of_probe.values() if function.patch is None} | self.stage.patched
-        lines = [f'lptrace {2 if levels.stacked else 1}'] + [f'sym {symbol}' for symbol in sorted(symbols)]
+        lines = [f'lptrace {self.stage.version}'] + [f'sym {symbol}' for symbol in sorted(symbols)]
         for patch in levels.in_order():
-            height = f'{levels.of_patch[patch]} ' if levels.stacked else ''
+            height = f'{levels.of_patch[patch]} ' if self.stage.numbered else ''
             lines += [f'patch {height}{symbol}' for symbol in functions.of_patch[patch]]
         idle = self.stage.beginning.idle
         return lines + [f'boot {task} {"idle" if task in idle else "normal"}' for task in self.stage.beginning.boots]
@@ -75,7 +75,7 @@ class Output:
 
     def leg(self, leg: Opening) -> KernelLeg:
         """A transition as the kernel had it."""
-        side = str(leg.target) if self.stage.levels.stacked else 'new' if leg.target else 'old'
+        side = str(leg.target) if self.stage.numbered else 'new' if leg.target else 'old'
         return KernelLeg(self.number(leg.position), leg.word, side,
                          self.number(leg.begins) - 1 if leg.begins else None,
                          self.number(leg.complete) if leg.complete else None,

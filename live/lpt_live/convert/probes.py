@@ -29,7 +29,7 @@ def reverse(reading: Reading, task: int, line: Line) -> None:
     """klp_reverse_transition.  Before 6.4 it turns the target first; from then on only once the flags are cleared, so that
     a check in between still goes to the old target."""
     states = reading.states
-    if states.target != UNDEFINED and not reading.turns_late:
+    if states.target != UNDEFINED and not reading.has_own_check:
         states.target = 1 - states.target
     reading.add('reverse', task, line)
 
@@ -37,7 +37,7 @@ def reverse(reading: Reading, task: int, line: Line) -> None:
 def start(reading: Reading, task: int, line: Line) -> None:
     """klp_start_transition: the pending flags are set, one by one."""
     fields = line.fields()
-    if reading.turns_late and 'target' not in fields and any(
+    if reading.has_own_check and 'target' not in fields and any(
             record.kind == 'reverse' and record.task == task for record in reading.records[-RECENT:]):
         raise Refused('klp_target_state can\'t be read on this kernel, so a reversal\'s moment isn\'t known')
     reading.states.target = target_of(reading, fields)

@@ -9,8 +9,9 @@ from .lines import Line, parse
 from .record import UNDEFINED, Record
 from .roster import Roster
 
-# From Linux 6.4 on klp_reverse_transition turns the target after it has cleared the flags, before that it turned it first.
-TURNS_LATE = (6, 4)
+# From Linux 6.4 on a task checks itself at cond_resched, and klp_reverse_transition turns the target after it has cleared the
+# flags; before that it turned it first.
+WITH_OWN_CHECK = (6, 4)
 
 
 class States:
@@ -40,6 +41,12 @@ class OpenUpdate:
         self.record: Optional[Record] = record
 
 
+def has_own_check(release: str) -> bool:
+    """Whether tasks of a kernel check themselves at cond_resched."""
+    found = re.match(r'(\d+)\.(\d+)', release)
+    return found is not None and (int(found[1]), int(found[2])) >= WITH_OWN_CHECK
+
+
 class Reading:
     """What is known of a recording; `read` fills `records`."""
 
@@ -52,8 +59,7 @@ class Reading:
         self.samples: Dict[int, List[Dict[str, Any]]] = {}      # a look's number to what /proc said of those who wait
         self.take_looks(recording.proc)
         self.marks: Dict[int, List[Optional[int]]] = {}         # a look's number to the places of its beginning and end
-        release = re.match(r'(\d+)\.(\d+)', self.meta['uname'][2])
-        self.turns_late = release is not None and (int(release[1]), int(release[2])) >= TURNS_LATE
+        self.has_own_check = has_own_check(self.meta['uname'][2])
         self.prior = prior(self.meta)
         self.states = States(self.prior[1] if self.prior else UNDEFINED)
         self.records: List[Record] = []

@@ -45,7 +45,7 @@ class Roster:
         return number
 
     def take_snapshot(self, rows: Dict[int, Dict[str, Any]]) -> None:
-        """Takes what /proc said of the tasks of the start, behind what the records said of them."""
+        """Takes what /proc said of the tasks of the start, after what the records said of them."""
         first: Dict[int, int] = {}
         for number, pid in self.pid_of.items():
             first.setdefault(pid, number)

@@ -80,13 +80,23 @@ class Stage:
         self.switches = 'sched/sched_switch' in reading.meta['events']
         self.prologue = 0
 
+    @property
+    def version(self) -> int:
+        """The version of the trace's text: 3 has the word for a check at cond_resched, 2 has several patches."""
+        return 3 if self.reading.has_own_check else 2 if self.levels.stacked else 1
+
+    @property
+    def numbered(self) -> bool:
+        """Whether the text numbers its patches, so that levels and versions are numbers."""
+        return self.version > 1
+
     def emit(self, place: int, text: str) -> Position:
         """Writes an event at a record."""
         self.slots[place].append(text)
         return place, len(self.slots[place]) - 1
 
     def here(self, place: int) -> Position:
-        """The position behind the events that a record has so far."""
+        """The position after the events that a record has so far."""
         return place, len(self.slots[place])
 
     def note(self, position: Position, word: str, task: int, rest: str = '') -> Note:

@@ -41,7 +41,7 @@ def sched_process_exit(reading: Reading, task: int, line: Line) -> None:
 
 
 def sched_process_fork(reading: Reading, task: int, line: Line) -> None:
-    """The child is there: a fork can still fail behind klp_copy_process, and then this never comes."""
+    """The child is there: a fork can still fail after klp_copy_process, and then this never comes."""
     match = FORK.search(line.rest)
     if match is None:
         raise Refused(f'record {line.place} is no sched_process_fork: {line.rest}')

@@ -17,7 +17,7 @@ from typing import Counter, Dict, List, Optional, Tuple
 from ..errors import Refused
 from .record import UNDEFINED, Record
 
-# Of these kinds the opener's own are within an opening; any other record of it is behind the opening's end.
+# Of these kinds the opener's own are within an opening; any other record of it is after the opening's end.
 WITHIN_OPENING = ('in', 'out', 'check')
 
 
@@ -119,7 +119,7 @@ class Windows:
         acting = {record.task for record in before}
         for record in after:
             if record.kind == 'copy' and record.about in acting:
-                raise Refused(f'{record}: no point of the walk or opening round it keeps the child\'s acts behind its birth')
+                raise Refused(f'{record}: no point of the walk or opening round it keeps the child\'s acts after its birth')
 
 
 class Sides:

@@ -3,7 +3,7 @@ import os
 import sys
 from typing import Dict, List, NamedTuple, Optional, Set
 
-from .. import lpt, names, recording, report, trace
+from .. import lpt, names, recording, report, rules, trace
 from ..errors import NoEngine, Refused
 from ..escape import printable
 from ..files import read_text
@@ -27,6 +27,7 @@ class Case:
         self.trace = trace.parse(text)
         self.refused = self.report.refused()
         self.told: Optional[Story] = None
+        self.looked: Optional[Dict[int, List[int]]] = None
         if names_of_it:
             self.fit(names_of_it)
 
@@ -87,6 +88,22 @@ class Case:
     def scans(self, first: int, last: int) -> List[int]:
         """The walks and stops from one event to another, reconstructed ones left out."""
         return [event.number for event in self.trace.events[max(first - 1, self.prologue):last] if event.word in trace.SCANS]
+
+    def looks(self, group: int, first: int, last: int) -> List[int]:
+        """The model's looks at a group from one event to another: the scans, and the group's own checks at `resched`."""
+        if self.looked is None:
+            self.looked = rules.own_checks(self.trace, self.model, self.refused)
+        used = rules.CHECKS[self.model]
+        scans = [number for number in self.scans(first, last) if self.events[number - 1].word in used]
+        own = [number for number in self.looked.get(group, []) if max(first, self.prologue + 1) <= number <= last]
+        return sorted(scans + own)
+
+    def count_looks(self, looks: List[int]) -> str:
+        """How many these are: 3 walks, 2 own checks, 5 checks."""
+        words = {self.events[number - 1].word for number in looks}
+        word = words.pop() if len(words) == 1 else 'check'
+        word = 'own check' if word == trace.OWN_CHECK else word
+        return f'{len(looks)} {word}{"" if len(looks) == 1 else "s"}'
 
 
 def judged(text: str, model: str) -> Report:

@@ -5,7 +5,7 @@ from typing import Callable, List, NamedTuple, Sequence
 from ..escape import printable
 
 CAUSES = {
-    'L1': 'the first line is neither `lptrace 1` nor `lptrace 2`',
+    'L1': 'the first line is none of `lptrace 1`, `lptrace 2` and `lptrace 3`',
     'L2': 'the last line lacks its end, a byte 10',
     'L3': 'the first word is none of a trace, or belongs to an earlier part (sym, patch, boot, events, in this order)',
     'L4': 'a wrong number of words, an empty word, a number not of 1 to 5 digits without leading zeros, another class or kind '
@@ -50,6 +50,7 @@ SIGNS: Sequence[Sign] = (
     Sign(has(r'^ret \d+ \S'), '`ret` names no function: it is the last one called'),
     Sign(has(r'^call \d+$'), '`call` names the function'),
     Sign(has(r'^(walk|stop|enable|disable|reverse) '), 'walks, stops and controls have no further words'),
+    Sign(has(r'^resched \d+$'), '`resched` is a word of `lptrace 3` alone'),
     Sign(has(r'[^\x00-\x7f]'), 'a name has a letter outside ASCII'),
     Sign(has(r'^(sym|patch|boot)\b'), '`sym` lines come first, then `patch`, then `boot`, then the events'),
     Sign(has(r'^[a-z]*[A-Z]'), 'the words of a trace are in small letters'))

@@ -53,17 +53,12 @@ class Kernel:
         return lines + self.own_checks(kernel) + self.refusals(first, last)
 
     def own_checks(self, moves: Set[Tuple[int, int]]) -> List[str]:
-        """What the page must say of moves at cond_resched, for which a trace has no event."""
+        """How many of the moves were at cond_resched."""
         count = sum(self.moves[move] == 'resched' for move in moves)
         if not count:
             return []
         return [f'{count} of these moves {"was" if count == 1 else "were"} at the task\'s own check at cond_resched (Linux 6.4 and '
-                'later), written as an exit: right for hybrid alone, so the other models may be told too early.']
-
-    @property
-    def has_own_checks(self) -> bool:
-        """Whether a task of this kernel checks itself at cond_resched: it did so somewhere in the recording."""
-        return any('resched' in told.rest[:1] for told in self.decisions)
+                'later).']
 
     def refusals(self, first: int, last: int) -> List[str]:
         """Controls that the kernel refused, and stacks that it called unreliable."""

@@ -4,6 +4,7 @@ from typing import Dict, List, NamedTuple, Optional
 from .. import lpt
 from ..names import Who
 from ..tasks import ASLEEP, USER, Tasks, tasks_after
+from ..trace import OWN_CHECK
 from .case import MOST_EVENTS, Case, Transition
 from .naming import Naming, RecordedNaming
 
@@ -35,8 +36,9 @@ class LegTrace:
         self.case, self.known = case, known
         self.tasks: Tasks = tasks_after(case.trace, transition.opened - 1, case.refused)
         self.leaders = {known[task].pid: task for task in self.tasks.live if task in known and known[task].kind == 'user'}
-        header = ['lptrace 1', *(f'sym {symbol}' for symbol in case.trace.symbols),
-                  *(f'patch {symbol}' for symbol in case.trace.patches[transition.patch])]
+        version, height = (3, '1 ') if case.trace.knows(OWN_CHECK) else (1, '')
+        header = [f'lptrace {version}', *(f'sym {symbol}' for symbol in case.trace.symbols),
+                  *(f'patch {height}{symbol}' for symbol in case.trace.patches[transition.patch])]
         opening = self.boots(header) + self.states()
         self.numbers = [0] * len(opening)
         self.lines = opening

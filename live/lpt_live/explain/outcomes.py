@@ -1,12 +1,11 @@
 """What became of the groups that waited at a moment, in the rest of their transition."""
 from typing import Dict, Optional, Sequence
 
-from .. import rules
 from .case import Case, Transition
 from .kernel import Kernel
-from .naming import Naming, plural
+from .naming import Naming
 
-CHECKS = {'exit': 'as it left the kernel', 'idle': 'at its idle point'}
+CHECKS = {'exit': 'as it left the kernel', 'idle': 'at its idle point', 'resched': 'at its own check, cond_resched'}
 
 
 class Outcomes:
@@ -29,17 +28,15 @@ class Outcomes:
         if number is not None:
             span = self.naming.span(self.opened, number)
             return (f'WENT OVER {self.naming.at(number)}, {self.how(number, group)}, {span} after the opening'
-                    + self.refusals(since, number))
+                    + self.refusals(group, since, number))
         end = self.ends.get(members[0]) if len(members) == 1 else None
         return '' if end is None else f'DIED {self.naming.at(end)}'
 
-    def refusals(self, since: int, number: int) -> str:
-        """How often it was refused in all: at each scan of the model's while it waited."""
-        seen = [event for event in self.case.scans(since + 1, number - 1)
-                if self.case.events[event - 1].word in rules.CHECKS[self.case.model]]
-        words = {self.case.events[event - 1].word for event in seen}
+    def refusals(self, group: int, since: int, number: int) -> str:
+        """How often it was refused in all: at each look of the model's while it waited."""
+        seen = self.case.looks(group, since + 1, number - 1)
         within = ' in the recording' if since <= self.case.prologue else ''
-        return f' ({plural(len(seen), words.pop() if len(words) == 1 else "check")}{within} refused it)' if seen else ''
+        return f' ({self.case.count_looks(seen)}{within} refused it)' if seen else ''
 
     def how(self, number: int, group: int) -> str:
         """At which check it went over: by the kernel's word, else by the trace's."""

@@ -4,6 +4,7 @@ from typing import Dict, List, Optional, Tuple
 
 from .. import progress
 from ..tasks import ASLEEP, KERNEL, USER, Task, Tasks
+from ..trace import OWN_CHECK
 from .case import Case, Transition
 from .clock import Clock
 from .kernel import Kernel
@@ -15,7 +16,7 @@ MOST = 40
 RANK = ' .sS=#'     # where several modes fall into one column, the one further right in this list is shown
 SIGNS = {USER: '..', KERNEL: '=#', ASLEEP: 'sS'}
 LEGEND = ('. in user space   = in the kernel   s off its CPU   # S in a patched function   '
-          'x refused at a walk   O over   E opening   w walk   C complete')
+          'x refused{}   O over   E opening   w walk   C complete')
 
 
 def chosen(case: Case, transition: Transition) -> List[int]:
@@ -70,7 +71,7 @@ class Timeline:
         for task in self.tasks[:MOST]:
             lines.append(f'{self.naming.columns(task)} {"".join(self.rows[task])}'.rstrip())
         more = [f'and {len(self.tasks) - MOST} more'] if len(self.tasks) > MOST else []
-        return lines + more + [LEGEND]
+        return lines + more + [LEGEND.format('' if self.case.trace.knows(OWN_CHECK) else ' at a walk')]
 
     def edges(self) -> Tuple[str, str]:
         """What stands above the first column and the last."""
@@ -134,7 +135,7 @@ class Timeline:
                 row[column] = sign
 
     def put_refusals(self) -> None:
-        """A cross where a walk refused a task: by the kernel's word, of a plain trace by the engine's rules."""
+        """A cross where a check refused a task: by the kernel's word, of a plain trace by the engine's rules."""
         if self.kernel:
             refused = [(told.event, told.task) for told in self.kernel.decisions if told.word == 'stays']
         else:

@@ -5,7 +5,7 @@ from .. import report
 from ..report import Certificate, Reason
 from ..rules import CHECKS, MODE_IN_WORDS
 from ..tasks import Frame, Tasks, tasks_after
-from ..trace import SCANS
+from ..trace import OWN_CHECK
 from .advice import advice, goes_over
 from .case import MOST_EVENTS, Case, Transition, level
 from .kernel import Kernel
@@ -156,15 +156,12 @@ class Moment:
         seen = sorted({number for reason in reasons for number in self.checks(reason)})
         if not seen:
             return ''
-        words = {self.case.events[number - 1].word for number in seen}
-        word = words.pop() if len(words) == 1 else 'check'
         busy = all(reason.word == 'busy' for reason in reasons)
-        return self.naming.refused_at(plural(len(seen), word), seen, busy)
+        return self.naming.refused_at(self.case.count_looks(seen), seen, busy)
 
     def checks(self, reason: Reason) -> List[int]:
-        """The scans at which a reason refused it, reconstructed ones left out."""
-        return [number for number in self.case.scans(reason.first, reason.last)
-                if self.case.events[number - 1].word in CHECKS[self.case.model] and self.case.events[number - 1].word in SCANS]
+        """The scans and own checks at which a reason refused it, reconstructed ones left out."""
+        return self.case.looks(reason.group, reason.first, reason.last)
 
     def stack(self, number: int, frame: Optional[Frame]) -> Tuple[List[str], str]:
         """The stack, the innermost first, and the task's state: by /proc where there is a recording, else by the trace's calls."""
@@ -173,7 +170,7 @@ class Moment:
         return [f'{one.symbol} ({self.naming.time(one.serial)})' for one in reversed(self.tasks.live[number].frames)], ''
 
     def own_check(self, number: int) -> str:
-        """A further chance that tasks of later kernels have; an idle task was never seen to take it."""
-        has_it = self.kernel is not None and self.kernel.has_own_checks and self.naming.kind(number) != 'idle'
+        """A further chance that tasks of later kernels have, but for idle tasks."""
+        has_it = self.case.trace.knows(OWN_CHECK) and OWN_CHECK in CHECKS[self.case.model] and self.naming.kind(number) != 'idle'
         return ', or at its own check at cond_resched' if has_it else ''
 

@@ -2,6 +2,7 @@
 import time
 from typing import Dict, List
 
+from ..convert.reading import has_own_check
 from ..explain.case import Case, chosen
 from ..explain.hints import by_signal, what_ends
 from ..explain.page import naming_of
@@ -46,19 +47,24 @@ def by_engine(seen: Seen) -> str:
     lines = head(seen, 'by /proc; why by lpt, under hybrid')
     apart = {waiter.group for waiter in waiters} ^ {numbers[row['t']] for row in seen.waiting() if row['t'] in numbers}
     for waiter in waiters:
-        lines += entry(waiter, row_of)
+        lines += entry(waiter, row_of, own_check(seen))
     if apart:
         lines.append('CAUTION: the engine and /proc don\'t name the same waiting tasks: a task moved while they were looked at')
     return '\n'.join(lines + ([] if seen.waiting() else [NONE_SEEN])) + '\n'
 
 
-def entry(waiter: Waiter, row_of: Dict[int, Row]) -> List[str]:
+def own_check(seen: Seen) -> str:
+    """A further chance of a task that runs, on kernels that have it."""
+    return ', or at its own check at cond_resched' if has_own_check(seen.release[2]) else ''
+
+
+def entry(waiter: Waiter, row_of: Dict[int, Row], own: str) -> List[str]:
     """One task that waits."""
     row = row_of.get(waiter.group)
     if row is None:
         return [f'  {waiter.who}: {waiter.place}']
     if not waiter.function:
-        return [title(row), f'    {without_frame(row)}', *stack_line(row)]
+        return [title(row), f'    {without_frame(row, own)}', *stack_line(row)]
     ends = waiter.help or what_helps(row, waiter.function)
     return [title(row), f'    {waiter.place}, which the patch changes', *stack_line(row),
             f'    goes over {waiter.goes_over}', *([f'    to help: {ends}'] if ends else [])]
@@ -69,13 +75,13 @@ def stack_line(row: Row) -> List[str]:
     return [f'    stack: {" < ".join(row["stack"])}'] if row['stack'] else []
 
 
-def without_frame(row: Row) -> str:
+def without_frame(row: Row, own: str) -> str:
     """What is said of a task that waits without a replaced function on its stack, or whose stack isn't known."""
     if row['stack'] is None:
         return 'its stack is unknown (root sees it): it waits in a replaced function, or ran at each walk so far'
     if row['s'] == 'R' and not row['stack']:
-        return ('is on a CPU, so its stack is unknown: goes over at its next return to user space'
-                if not row['kt'] else 'is on a CPU, so its stack is unknown: goes over at the first walk that finds it off its CPU')
+        return ('is on a CPU, so its stack is unknown: goes over at its next return to user space' if not row['kt'] else
+                'is on a CPU, so its stack is unknown: goes over at the first walk that finds it off its CPU') + own
     return 'has no replaced function on its stack now: goes over at the next walk that finds it off its CPU'
 
 
@@ -94,7 +100,8 @@ def by_proc(seen: Seen, reason: str) -> str:
     lines.append('What follows are stacks with the names of replaced functions on them, and no decision of anybody.')
     for row in seen.waiting():
         found = frames(seen, row)
-        lines += [title(row), f'    {"is in " + ", ".join(found) if found else without_frame(row)}', *stack_line(row)]
+        told = f'is in {", ".join(found)}' if found else without_frame(row, own_check(seen))
+        lines += [title(row), f'    {told}', *stack_line(row)]
     return '\n'.join(lines + ([] if seen.waiting() else [NONE_SEEN])) + '\n'
 
 

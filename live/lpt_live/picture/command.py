@@ -1,6 +1,6 @@
 """Draws a run as a picture.
 
-Reads a trace and, behind it, its report, as `cat T.lptrace R.report` gives them, and writes SVG, which every browser shows.
+Reads a trace and, after it, its report, as `cat T.lptrace R.report` gives them, and writes SVG, which every browser shows.
 Tasks go down and events across; the legend tells the signs. Pointing at a bar, a mark or a leg tells more.
 """
 import argparse

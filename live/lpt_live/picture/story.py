@@ -123,7 +123,7 @@ class Story:
         if event.word != 'call':
             return ''
         level = self.called[event.number]
-        return str(level) if self.trace.stacked else ('old', 'new')[level]
+        return str(level) if self.trace.numbered else ('old', 'new')[level]
 
     def bear(self, number: int, event: int, level: int) -> None:
         """A task is there from now on."""

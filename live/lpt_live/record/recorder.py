@@ -19,7 +19,7 @@ from .tracefs import Instance
 
 LEAST, NO_SYSCALLS, ALL = 'least', 'no-syscalls', 'all'
 PAUSE = 0.1             # seconds between marks; times between two marks are interpolated
-AFTER = 0.5             # seconds to go on after the completion, for what comes right behind it
+AFTER = 0.5             # seconds to go on after the completion, for what comes right after it
 TRIES = 20              # to begin between two changes of the patches
 TELL = 10.0             # seconds between lines of progress
 ENDINGS = (signal.SIGINT, signal.SIGTERM, signal.SIGHUP)

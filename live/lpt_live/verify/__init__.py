@@ -75,7 +75,7 @@ def case_of(path: str, source: Source) -> Case:
 
 
 def add_arguments(parser: argparse.ArgumentParser) -> None:
-    """The words behind `verify`."""
+    """The words after `verify`."""
     parser.add_argument('file', metavar='FILE', help='a recording, or BASE.lptrace with BASE.expect beside it')
     parser.add_argument('--json', action='store_true', help='write one line of JSON')
 
@@ -124,12 +124,8 @@ def write_text(case: Case, found: List[Difference], counts: Dict[str, int], whic
 
 def cautions(case: Case) -> List[str]:
     """What to know before what follows."""
-    lines = [f'caution: the probe {probe} missed {missed} records; what follows may be wrong'
+    return [f'caution: the probe {probe} missed {missed} records; what follows may be wrong'
              for probe, missed in (case.names['missed'] if case.names else {}).items()]
-    own = sum(decision.word == 'over' and decision.rest[0] == 'resched' for decision in case.decisions.decisions)
-    if own:
-        lines.append(f'note: {told(own, "switches")} at a task\'s own check at cond_resched, written as exits: right for hybrid alone')
-    return lines
 
 
 def told(number: int, what: str) -> str:

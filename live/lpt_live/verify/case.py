@@ -68,7 +68,7 @@ class Case:
 
     def level(self, word: str) -> int:
         """The level of a word of a report or an expectation: old, new, or a number."""
-        known = [str(level) for level in range(self.trace.top + 1)] if self.trace.stacked else ['old', 'new']
+        known = [str(level) for level in range(self.trace.top + 1)] if self.trace.numbered else ['old', 'new']
         if word not in known:
             raise Refused(f'the decisions are of another trace: {word!r} is none of its levels ({", ".join(known)})')
         return known.index(word)

@@ -28,7 +28,7 @@ class Engine:
         self.over: Dict[int, int] = {}                  # in this leg: a task to the event that switched it
 
     def events(self) -> Iterator[Tuple[Event, bool]]:
-        """Each event, behind its own effect and before its switches; and whether it was accepted."""
+        """Each event, after its own effect and before its switches; and whether it was accepted."""
         for event in progress.over(self.case.trace.events, 'holding decisions'):
             reply = self.case.report.reply(event.number)
             if reply.word == 'refused':

@@ -79,7 +79,7 @@ def late_refusals(case: Case) -> Dict[Tuple[int, int], List[Decision]]:
 
 def waits(engine: Engine, event: Event, task: int) -> bool:
     """Whether a task waits at an event that looks at it."""
-    looks = event.word == 'walk' or (event.word in ('exit', 'idle') and event.task == task)
+    looks = event.word == 'walk' or (event.word in ('exit', 'idle', 'resched') and event.task == task)
     return looks and engine.moving and not engine.on_target(task)
 
 
