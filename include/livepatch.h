@@ -70,6 +70,7 @@ enum {
     LP_ENABLE = 12,      /* a transition to the next higher level begins */
     LP_DISABLE = 13,     /* a transition to the next lower level begins */
     LP_REVERSE = 14,     /* the transition under way turns round */
+    LP_RESCHED = 15,     /* the task, in the kernel, would let another run, and looks at its own stack (cond_resched) */
 };
 
 /* What an event did. */
@@ -159,7 +160,7 @@ typedef struct lp_line_code {
     uint64_t to;
 } lp_line_code;
 
-/* Makes an engine in an empty slot: a model, so many symbols, the functions of all patches one patch behind the
+/* Makes an engine in an empty slot: a model, so many symbols, the functions of all patches one patch after the
  * other, how many each patch has, and the boot tasks. */
 uint32_t lp_create(lp_slot *slot, uint32_t model, uint16_t symbols, const uint16_t *functions, size_t functions_len,
                    const uint32_t *lengths, size_t lengths_len, const lp_boot_task *tasks, size_t tasks_len);

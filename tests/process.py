@@ -37,7 +37,7 @@ class Ended:
 
 
 def file_of(text: bytes, size: Optional[int]) -> int:
-    """A file of these bytes, and of bytes 0 behind them up to a size, which take no room."""
+    """A file of these bytes, and of bytes 0 after them up to a size, which take no room."""
     file = os.memfd_create("input")
     os.write(file, text)
     os.truncate(file, len(text) if size is None else size)
@@ -46,7 +46,7 @@ def file_of(text: bytes, size: Optional[int]) -> int:
 
 
 def broken(text: bytes) -> int:
-    """A stream of these bytes that fails behind them: its other end is closed with bytes unread, which resets a connection."""
+    """A stream of these bytes that fails after them: its other end is closed with bytes unread, which resets a connection."""
     source, other = socket.socketpair()
     source.send(b"unread")
     with other:

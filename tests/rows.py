@@ -33,7 +33,7 @@ def lines_of(text: str) -> bytes:
 
 
 def repeated(text: str) -> Tuple[str, bytes]:
-    """What a line `repeat` stands for: a word, and the lines behind it, once for each number, which stands in place of `\\i`."""
+    """What a line `repeat` stands for: a word, and the lines after it, once for each number, which stands in place of `\\i`."""
     first, last, word, lines = text.split(" ", 3)
     parts = lines_of(lines).split(b"\\i")
     return word, b"".join((b"%d" % number).join(parts) for number in range(int(first), int(last) + 1))
@@ -71,7 +71,7 @@ class Row:
         return 4 if self.commands[0][1:2] == [b"check"] and self.output.startswith(b"refused ") else 0
 
     def add(self, word: str, rest: str) -> None:
-        """Takes in a line: its first word, and what stands behind it."""
+        """Takes in a line: its first word, and what stands after it."""
         if word not in LINES:
             raise NoRow(f"no line begins with {word}")
         LINES[word](self, rest)
@@ -147,7 +147,7 @@ class Rows:
         self.is_head = False
 
     def add(self, word: str, rest: str) -> None:
-        """Takes in a line: its first word, and what stands behind it."""
+        """Takes in a line: its first word, and what stands after it."""
         if word == "repeat":
             self.add_text(*repeated(rest))
         elif word in ("head", "in", "out"):

@@ -37,7 +37,7 @@ class PlantedFaults(unittest.TestCase):
 
     @classmethod
     def setUpClass(cls) -> None:
-        files = sorted((ROOT / "tests" / "program").glob("*.rows"))
+        files = [*sorted((ROOT / "tests" / "program").glob("*.rows")), ROOT / "crates" / "lp_rows" / "data" / "comparisons.rows"]
         cls.rows = {row.name: row for file in files for row in rows_of(file)}
 
     def refuses(self, name: str, script: str) -> None:
@@ -49,7 +49,7 @@ class PlantedFaults(unittest.TestCase):
         self.refuses("words_too_few_or_too_many", f'[ $# -le 2 ] || set -- "$1" "$2"\n{HONEST}')
 
     def test_two_words_are_always_usage(self) -> None:
-        self.refuses("the_first_transition_under_each_model", f'[ $# -ge 2 ] || {{ echo "lpt: usage" >&2; exit 2; }}\n{HONEST}')
+        self.refuses("compare_without_a_flag", f'[ $# -ge 2 ] || {{ echo "lpt: usage" >&2; exit 2; }}\n{HONEST}')
 
     def test_a_word_that_is_no_text_is_want_of_memory(self) -> None:
         decode = f"'{sys.executable}' -c 'import os, sys; [os.fsencode(word).decode() for word in sys.argv]' \"$@\" 2>/dev/null"
@@ -81,7 +81,7 @@ class PlantedFaults(unittest.TestCase):
 
     def test_a_failed_write_is_passed_over(self) -> None:
         script = '"$PROGRAM" "$@" >"$FOLDER/report" || exit $?\ncat "$FOLDER/report" 2>/dev/null\nexit 0'
-        for name in ("output_closed", "output_full", "output_gone", "output_gone_behind_two_lines", "output_full_behind_many_lines"):
+        for name in ("output_closed", "output_full", "output_gone", "output_gone_after_two_lines", "output_full_after_many_lines"):
             self.refuses(name, script)
 
     def test_a_failed_read_is_an_end(self) -> None:

@@ -14,7 +14,7 @@ import os
 from typing import Dict, NamedTuple, Optional, Sequence, Tuple, Type, Union
 
 MODELS = ("hybrid", "leave-kernel", "all-at-once", "immediate", "process-group")
-KINDS = tuple("call ret sleep wake enter exit idle fork thread die walk stop enable disable reverse".split())
+KINDS = tuple("call ret sleep wake enter exit idle fork thread die walk stop enable disable reverse resched".split())
 MODES = ("user", "kernel", "asleep")
 STATUSES = {13: "NO_MEMORY", 14: "JOURNAL_FULL"}
 STATUSES.update(enumerate("NO_ENGINE HAS_ENGINE NO_MODEL NO_EVENT NOT_THERE".split(), 20))
@@ -79,7 +79,7 @@ class Blame(NamedTuple):
 
 
 class Certificate(NamedTuple):
-    """Why a group waits; as a text, what `lpt check` reads behind `lpcert 1`."""
+    """Why a group waits; as a text, what `lpt check` reads after `lpcert 1`."""
 
     leg: int
     group: int

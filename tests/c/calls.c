@@ -30,7 +30,7 @@ static int misuse(void) {
     CHECK(lp_create(&slot, LP_HYBRID, 3, functions, 1, lengths, 1, boots, 2) == LP_TASK_RANGE && !slot.at);
     CHECK(lp_create(&slot, LP_HYBRID, 3, functions, 1, lengths, 1, &boots[2], 1) == LP_OK && slot.at);
     CHECK(lp_create(&slot, LP_HYBRID, 3, functions, 1, lengths, 1, boots, 1) == LP_HAS_ENGINE && slot.at);
-    CHECK(lp_step(&slot, EVENT(15, 0, 0), &told) == LP_NO_EVENT && told.what == 7);
+    CHECK(lp_step(&slot, EVENT(LP_RESCHED + 1, 0, 0), &told) == LP_NO_EVENT && told.what == 7);
     CHECK(lp_step(&slot, EVENT(UINT32_MAX, 0, 0), &told) == LP_NO_EVENT && told.what == 7);
     CHECK(lp_task(&slot, 2, &task) == LP_NOT_THERE && task.level == 7);
     CHECK(lp_blame(&slot, 65535, &blame) == LP_NOT_THERE && blame.serial == 7);

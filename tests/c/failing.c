@@ -35,6 +35,22 @@ static int create(lp_slot *slot) {
     return lp_create(slot, LP_HYBRID, 2, (uint16_t[]){0, 1}, 2, (uint32_t[]){1, 1}, 2, boots, 2);
 }
 
+/* The certificate that group 1 waits, if it does: its lines are all there, also where it was refused first. */
+static int certify(lp_slot *slot) {
+    lp_cert_code cert = {9, 9, 9};
+    lp_line_code line;
+    uint32_t status = lp_certificate(slot, 1, &cert);
+    if (status == LP_NO_MEMORY) {
+        if (!refused || cert.leg != 9) return 1;
+        status = lp_certificate(slot, 1, &cert);
+    }
+    if (status == LP_NOT_THERE) return 0;
+    if (status != LP_OK) return 2;
+    for (size_t i = 0; i < cert.lines; i++)
+        if (lp_line(slot, i, &line)) return 3;
+    return lp_line(slot, cert.lines, &line) != LP_NOT_THERE;
+}
+
 static int play(long nth) {
     lp_slot slot = LP_EMPTY;
     refused = 0;
@@ -58,6 +74,7 @@ static int play(long nth) {
         if (told.what != wanted[i].what || told.level != wanted[i].level || told.refusal != wanted[i].refusal
             || told.complete != wanted[i].complete || told.groups != wanted[i].groups)
             return 5;
+        if (certify(&slot)) return 6;
     }
     left = 0;
     lp_free(&slot);

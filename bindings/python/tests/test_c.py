@@ -64,7 +64,7 @@ class Programs(unittest.TestCase):
 
     def test_speed(self) -> None:
         """It ends well: each of its events is accepted."""
-        self.assertRegex(self.said([self.built("tests/c/speed.c")]), r"^\d+\.\d ns an event\n$")
+        self.assertEqual(self.said([self.built("tests/c/speed.c")]), "1000000 events\n")
 
     def test_example(self) -> None:
         self.assertEqual(self.said([self.built("examples/livepatch.c")]), EXAMPLE)
@@ -79,13 +79,13 @@ class Programs(unittest.TestCase):
         assert spec is not None
         checker = module_from_spec(spec)
         loader.exec_module(checker)
-        header, exports, codes = map(
-            checker.read, ("include/livepatch.h", "crates/lp_c/src/exports.rt", "crates/lp_c/src/codes.rt")
-        )
+        header, exports = map(checker.read, ("include/livepatch.h", checker.EXPORTS))
+        codes = "".join(map(checker.read, checker.CODES))
         self.assertEqual(checker.differences(header, exports, codes), [])
         for old, new in (
             ("LP_JOURNAL_FULL = 14", "LP_JOURNAL_FULL = 15"),
             ("LP_SLEEP = 2", "LP_SLEEP = 3"),
+            ("LP_IMMEDIATE = 3", "LP_IMMEDIATE = 5"),
             ("    uint16_t other;\n", "    uint32_t other;\n"),
             ("size_t place, uint32_t *group", "uint32_t place, uint32_t *group"),
             ("void lp_free(lp_slot *slot);", ""),

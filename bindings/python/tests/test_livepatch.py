@@ -27,7 +27,7 @@ except OSError as error:
 def random_event(at: random.Random, tasks: List[int]) -> List[str]:
     task = str(at.choice(tasks))
     kind = at.choice(
-        "call call call ret ret ret sleep wake enter enter exit exit exit fork die walk walk stop enable disable reverse idle".split()
+        "call call call ret ret ret sleep wake enter enter exit exit exit fork die walk walk stop enable disable reverse idle resched resched".split()
     )
     if kind == "call":
         return [kind, task, at.choice("ab")]
@@ -39,7 +39,7 @@ def random_event(at: random.Random, tasks: List[int]) -> List[str]:
 
 def random_trace(seed: int) -> List[str]:
     at = random.Random(seed)
-    lines = ["lptrace 2", "sym a", "sym b", "sym c", "patch 1 a"]
+    lines = ["lptrace 3", "sym a", "sym b", "sym c", "patch 1 a"]
     lines += ["patch 2 b"] * at.randrange(2)
     tasks = list(range(1, 2 + at.randrange(4)))
     lines += [f"boot {task} {'idle' if at.random() < 0.2 else 'normal'}" for task in tasks]

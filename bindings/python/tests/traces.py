@@ -13,7 +13,7 @@ DATA = os.path.join(TOP, "crates", "lp_rows", "data")
 
 
 class Trace(NamedTuple):
-    """What a trace text tells; `form` is 1 or 2."""
+    """What a trace text tells; `form` is 1, 2 or 3."""
 
     form: int
     symbols: List[str]
