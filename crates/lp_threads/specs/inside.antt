@@ -1,2 +1,3 @@
 -- What code and proofs share and no public contract names.
 pub mod Dealt
+pub mod Players

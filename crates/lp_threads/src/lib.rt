@@ -5,18 +5,14 @@
 #![tactic(auto)]
 
 mod fault;
-mod parts;
+mod hands;
 mod play;
 mod playing;
 mod report;
-mod returns;
 mod scripts;
 mod trace_name;
 
 pub use fault::ThreadsFault;
-pub use lp_board::LaunchFault;
-pub use lp_desk::Unclosed;
-pub use lp_log::{CloseCause, TurnedBy};
 pub use lp_model::Consistency;
 pub use lp_replay::{Counted, ReplayFault, RunFault, WriteFault};
 pub use playing::threads;

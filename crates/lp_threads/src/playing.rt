@@ -1,5 +1,5 @@
 //! A trace, played by threads.
-ghost use Rattle.std.specs.Prelude.{◌≡◌, [], All, Err, IfErr, IfOk, IfSome, MatchResult, OnOk};
+ghost use Rattle.std.specs.Prelude.{◌≡◌, [], All, Err, IfErr, IfOk, IfSome, MatchResult, OnOk, map};
 ghost use Rattle.std.specs.Io.KnownBytes.{Appends};
 ghost use Rattle.lp_board.specs.Blanks.{name_of};
 ghost use Rattle.lp_replay.specs.Outcome.{run_of};
@@ -9,31 +9,27 @@ ghost use Rattle.lp_text.specs.Reading.{reading};
 ghost use Rattle.lp_text.specs.Writing.{AppendsPrefix};
 ghost use Rattle.lp_replay.specs.Runs.{AtReading, AtTrace, AtWrite, ReadsTrace};
 ghost use Rattle.lp_threads.specs.Faults.{AtDesk, AtRun, ButForReader, ButForWriter, IsOfPlay};
+ghost use Rattle.lp_log.specs.Seats.{new_seat};
+ghost use Rattle.lp_owned.specs.Owned.{AreAllIn};
 ghost use Rattle.lp_threads.specs.Plays.{AreSent, IsPlay, play_text};
+ghost use Rattle.lp_threads.specs.inside.Players.{AreCovered};
 ghost use Rattle.lp_threads.specs.declared.report.Play.{Play};
 
 use crate::ThreadsFault;
-use crate::parts::{NewControl, NewSeat};
-use crate::play::{play_control, play_seats};
+use crate::hands::{Started, gather, start};
 use crate::report::{Play, write_play};
-use crate::returns::Returns;
 use crate::scripts::Scripts;
 use crate::trace_name::TraceName;
-use lp_board::{Blank, DeskName};
-use lp_desk::{Desk, Launched};
-use lp_log::{Control, Seat};
+use lp_board::DeskName;
 use lp_model::Consistency;
+use lp_owned::{OwnedBlank, OwnedControl, OwnedDesk, OwnedLaunched, OwnedSeat, Place};
 use lp_replay::{Counted, Trace, read_trace, stack};
 use lp_scan::{OpenGate, ScanGate};
 use std::alloc::{AllocError, Global};
-use std::collections::VecDeque;
 use std::io::{Read, Write};
 use std::marker::Brand;
-use std::sync::{Mutex, Wait};
+use std::sync::Wait;
 use std::thread::{self, Threads};
-
-/// The most threads that play tasks.
-const MOST_PLAYERS: usize = 64;
 
 /// The workers of a walk or a stop.
 const SCAN_WORKERS: usize = 2;
@@ -96,8 +92,10 @@ fn play<T: Threads + Wait + Sync, M: Consistency + Send + Sync>(
     ensures fault { IfErr result (λ fault. IsOfPlay fault) }
 {
     let patches = stack(alloc, trace)?;
-    let blank = Blank::new(alloc, model, patches, trace.boots(), READERS)?;
-    play_blank::<T, M, Brand, Brand>(rt, alloc, trace, boxed(alloc, blank)?)
+    match OwnedBlank::new(alloc, model, patches, trace.boots(), READERS) {
+        Ok(blank) => { play_blank::<T, M, Brand, Brand>(rt, alloc, trace, boxed(alloc, blank)?) }
+        Err(fault) => Err(ThreadsFault::of_launch(fault)),
+    }
 }
 
 /// The same, through the desk that starts as a blank. Both are in boxes: the proof goes over each part of what a function
@@ -105,36 +103,40 @@ fn play<T: Threads + Wait + Sync, M: Consistency + Send + Sync>(
 fn play_blank<
     T: Threads + Wait + Sync,
     M: Consistency + Send + Sync,
-    N: DeskName + Send + Sync,
+    N: DeskName + Place + Send + Sync,
     S: TraceName + Send + Sync,
->(rt: &T, alloc: Global, trace: &Trace, blank: Box<Blank<M>>) -> Result<Play, ThreadsFault>
-    requires desk { name_of M.rules blank.value ≡ N.desk }
+>(rt: &T, alloc: Global, trace: &Trace, blank: Box<OwnedBlank<M>>) -> Result<Play, ThreadsFault>
+    requires desk { name_of M.rules blank.value.start ≡ N.desk }
+    requires table { blank.value.table ≡ N.table }
     requires events { trace.now.events ≡ S.events }
-    requires patches { blank.value.patches ≡ (run_of trace.now).patches }
-    requires boots { blank.value.boots ≡ trace.now.boots }
+    requires patches { blank.value.start.patches ≡ (run_of trace.now).patches }
+    requires boots { blank.value.start.boots ≡ trace.now.boots }
     ensures play { IfOk result (λ play. IsPlay M.rules trace.now play) }
     ensures fault { IfErr result (λ fault. IsOfPlay fault) }
 {
     let scripts = Scripts::<S>::deal(alloc, trace.events())?;
     let blank = Box::into_inner(blank);
-    let launched = Desk::<M, N, OpenGate, &T>::launch(rt, alloc, blank, SCAN_WORKERS, OpenGate)?;
-    play_launched(rt, alloc, trace, &scripts, launched)
+    match OwnedDesk::<M, N, OpenGate, &T>::launch(rt, alloc, blank, SCAN_WORKERS, OpenGate) {
+        Ok(launched) => play_launched(rt, alloc, trace, &scripts, launched),
+        Err(fault) => Err(ThreadsFault::of_launch(fault)),
+    }
 }
 
 /// The same, through a desk at its start.
 fn play_launched<
     T: Threads + Wait + Sync,
     M: Consistency + Send + Sync,
-    N: DeskName + Send + Sync,
+    N: DeskName + Place + Send + Sync,
     S: TraceName + Send + Sync,
 >(
     rt: &T,
     alloc: Global,
     trace: &Trace,
     scripts: &Scripts<S>,
-    launched: Launched<M, N, OpenGate, &T>,
+    launched: OwnedLaunched<M, N, OpenGate, &T>,
 ) -> Result<Play, ThreadsFault>
-    requires seats { All (λ seat. seat.entries ≡ []) launched.seats.items }
+    requires new { All (λ seat. seat.entries ≡ []) launched.seats.items }
+    requires seats { launched.seats.items ≡ map (λ boot. new_seat boot.0.0) N.desk.boots }
     requires control { launched.control ≡ [] }
     requires events { trace.now.events ≡ S.events }
     requires patches { N.desk.patches ≡ (run_of trace.now).patches }
@@ -142,16 +144,18 @@ fn play_launched<
     ensures play { IfOk result (λ play. IsPlay M.rules trace.now play) }
     ensures fault { IfErr result (λ fault. IsOfPlay fault) }
 {
-    let Launched {
+    let OwnedLaunched {
         desk,
         seats,
         control,
         readers,
     } = launched;
     drop(readers);
-    let (seats, control) = sent(rt, alloc, &desk, scripts, seats, control)?;
+    let (seats, control) = played(rt, alloc, &desk, scripts, seats, control)?;
     let given = seats.len();
-    let closed = desk.close(rt, alloc, seats, control)?;
+    let Ok(closed) = desk.close(rt, seats, control) else {
+        unreachable!()
+    };
     let events = closed.journal.entries().len();
     let skipped = trace.events().len().saturating_sub(events);
     Ok(Play {
@@ -161,30 +165,6 @@ fn play_launched<
     })
 }
 
-/// Lets threads send all scripts from these seats and the control, and gives what comes back.
-fn sent<
-    T: Threads + Wait + Sync,
-    M: Consistency + Send + Sync,
-    N: DeskName + Send + Sync,
-    S: TraceName + Send + Sync,
->(
-    rt: &T,
-    alloc: Global,
-    desk: &Desk<M, N, OpenGate, &T>,
-    scripts: &Scripts<S>,
-    seats: Vec<Seat>,
-    control: Control,
-) -> Result<(Vec<Seat>, Control), ThreadsFault>
-    requires seats { All (λ seat. seat.entries ≡ []) seats.items }
-    requires control { control ≡ [] }
-    ensures sent { IfOk result (λ parts. AreSent S.events parts.0.items parts.1) }
-    ensures fault { IfErr result (λ fault. IsOfPlay fault) }
-{
-    let control = NewControl::new(control);
-    let hands = dealt(alloc, seats)?;
-    played(rt, alloc, desk, scripts, hands, control)
-}
-
 /// A value in a box; AllocError where an allocation failed.
 pub(crate) fn boxed<X: Drop>(alloc: Global, value: X) -> Result<Box<X>, AllocError>
     ensures { IfOk result (λ inside. inside.value ≡ value) }
@@ -192,69 +172,42 @@ pub(crate) fn boxed<X: Drop>(alloc: Global, value: X) -> Result<Box<X>, AllocErr
     Ok(Box::new(alloc, value)?)
 }
 
-/// The seats, dealt out to the players in turn.
-fn dealt(alloc: Global, seats: Vec<Seat>) -> Result<Vec<Vec<NewSeat>>, AllocError>
-    requires { All (λ seat. seat.entries ≡ []) seats.items }
-{
-    let count = seats.len();
-    let players = count.min(MOST_PLAYERS);
-    let mut hands = Vec::with_capacity(alloc, players)?;
-    for _player in 0..players {
-        hands.push(Vec::new(alloc))?;
-    }
-    let mut left = VecDeque::from(seats);
-    for place in 0..count {
-        let Some(seat) = left.pop_front() else {
-            break;
-        };
-        if let Some(hand) = hands.get_mut(place % MOST_PLAYERS) {
-            hand.push(NewSeat::new(seat))?;
-        }
-    }
-    Ok(hands)
-}
-
-/// Plays all scripts, each hand and the control in a thread of its own, and gives what comes back.
+/// Lets threads send all scripts from these seats and the control, and gives what comes back: these seats, and those of all
+/// children.
 fn played<
     T: Threads + Wait + Sync,
     M: Consistency + Send + Sync,
-    N: DeskName + Send + Sync,
+    N: DeskName + Place + Send + Sync,
     S: TraceName + Send + Sync,
     G: ScanGate + Sync + Drop,
 >(
     rt: &T,
     alloc: Global,
-    desk: &Desk<M, N, G, &T>,
+    desk: &OwnedDesk<M, N, G, &T>,
     scripts: &Scripts<S>,
-    hands: Vec<Vec<NewSeat>>,
-    control: NewControl,
-) -> Result<(Vec<Seat>, Control), ThreadsFault>
+    seats: Vec<OwnedSeat<N>>,
+    control: OwnedControl<N>,
+) -> Result<(Vec<OwnedSeat<N>>, OwnedControl<N>), ThreadsFault>
+    requires new { All (λ seat. seat.entries ≡ []) seats.items }
+    requires seats { seats.items ≡ map (λ boot. new_seat boot.0.0) N.desk.boots }
+    requires control { control ≡ [] }
     ensures sent { IfOk result (λ parts. AreSent S.events parts.0.items parts.1) }
+    ensures all_in { IfOk result (λ parts. AreAllIn N.desk.boots parts.0.items) }
     ensures fault { IfErr result (λ fault. IsOfPlay fault) }
 {
-    let returns = Mutex::new(Returns::<S>::new(alloc));
-    let shared = &returns;
-    let started = thread::scope(thread::scope_env(), rt, |scope| {
-        let commanding = move || {
-            let played = play_control(rt, alloc, desk, scripts, control);
-            shared.lock(rt).set_control(played);
-        };
-        if scope.spawn(commanding).is_err() {
-            return false;
-        }
-        for hand in hands {
-            let playing = move || {
-                let played = play_seats(rt, alloc, desk, scripts, hand);
-                shared.lock(rt).add_seats(played);
-            };
-            if scope.spawn(playing).is_err() {
-                return false;
-            }
-        }
-        true
-    });
-    if !started {
-        return Err(ThreadsFault::NoThread);
+    let started = thread::scope(
+        thread::scope_env(),
+        rt,
+        |scope| -> Result<Started<S, N>, ThreadsFault>
+            requires seats { All (λ seat. seat.entries ≡ []) seats.items }
+            requires control { control ≡ [] }
+            ensures covered { IfOk result (λ started. AreCovered (λ h. h.promise.hand.value.items) seats.items [] started.hands.items) }
+            ensures fault { IfErr result (λ fault. IsOfPlay fault) }
+        { start(scope, rt, alloc, desk, scripts, seats, control) },
+    );
+    let Started { control, hands } = started?;
+    match (control.join(rt), gather(rt, alloc, hands)) {
+        (Ok(control), Ok(seats)) => Ok((seats, control)),
+        (Err(cause), _) | (_, Err(cause)) => Err(ThreadsFault::of_turned(cause)),
     }
-    returns.into_inner().into_parts(alloc)
 }
