@@ -105,7 +105,9 @@ class KilledTest(OnAMachine):
     def test_signals_end_it_and_the_recording_is_whole(self) -> None:
         for each in (signal.SIGINT, signal.SIGTERM, signal.SIGHUP):
             with self.subTest(each):
+                before = signal.signal(each, signal.SIG_DFL)            # under nohup the child would inherit that it is ignored
                 process = self.start()
+                signal.signal(each, before)
                 process.send_signal(each)
                 self.assertEqual(process.wait(120), 0)
                 self.assertTrue(self.kernel.is_clean())
