@@ -7,6 +7,7 @@ from itertools import chain, cycle, islice, repeat
 from typing import Callable, Dict, NamedTuple, Tuple
 
 import traces
+from mixtures import mixtures
 from traces import Trace, head, names
 
 MILLION = 1_000_000
@@ -116,6 +117,8 @@ WORKLOADS: Dict[str, Workload] = {
     "check-held": Workload(traces.held, 130_001, "check hybrid",
         "a certificate of a task that was held at 10,000 walks, beside 40,000 others"),
 }
+
+WORKLOADS.update((name, Workload(of.make, 400_000, f"run {of.model}", of.what())) for name, of in mixtures())
 
 # What there are more of, the greatest number that is tried, and the lines before the events and the events of a trace with so
 # many.
