@@ -11,7 +11,7 @@ use Rattle.lp_stack.specs.declared.view.Class.{Class}
 use Rattle.lp_model.specs.Rules.{Rules, IsLawful}
 use Rattle.lp_models.specs.declared.name.ModelName.{ModelName}
 use Rattle.lp_models.specs.declared.name.ModelName.TheVariants.{Hybrid}
-use Rattle.lp_models.specs.Names.{rules_named}
+use Rattle.lp_models.specs.Models.{rules_named}
 use Rattle.lp_models.specs.inside.ModelLaws.{hybrid_lawful, lawful_named}
 use Rattle.lp_definitions.specs.declared.event.Event.{Event}
 use Rattle.lp_definitions.specs.declared.event.Event.TheVariants.{Enable, Disable, Reverse}

@@ -20,7 +20,7 @@ use Rattle.lp_laws.proofs.LegByLeg.{IsLeg, legs_of}
 use Rattle.lp_compare.specs.declared.comparison.Comparison.{Comparison}
 use Rattle.lp_compare.specs.declared.comparison.Row.{Row}
 use Rattle.lp_compare.specs.declared.first_end.FirstEnd.{FirstEnd}
-use Rattle.lp_models.specs.Names.{models, rules_named}
+use Rattle.lp_models.specs.Models.{models, rules_named}
 use Rattle.lp_compare.specs.Comparison.{comparison, first_end, row_of}
 use Rattle.lp_compare.specs.inside.FirstEnds.{FewBirths, kept_end, row_with}
 use Rattle.lp_compare.proofs.Births.{few_births}

@@ -16,7 +16,7 @@ use Rattle.lp_text.specs.Traces.{TraceValue, IsTrace}
 use Rattle.lp_replay.specs.Outcome.{run_of}
 use Rattle.lp_compare.specs.declared.comparison.Comparison.{Comparison}
 use Rattle.lp_compare.specs.declared.comparison.Row.{Row}
-use Rattle.lp_models.specs.Names.{models, rules_named}
+use Rattle.lp_models.specs.Models.{models, rules_named}
 use Rattle.lp_compare.specs.Comparison.{comparison, first_end, row_of}
 use Rattle.lp_compare.specs.Permissive.{CompletesNoLater}
 use Rattle.lp_compare.proofs.FirstLegs.{in_range}

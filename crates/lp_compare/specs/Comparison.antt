@@ -17,7 +17,7 @@ use Rattle.lp_definitions.specs.Outcome.{leg_ends}
 use Rattle.lp_replay.specs.Outcome.{run_of}
 use Rattle.lp_compare.specs.declared.comparison.Comparison.{Comparison}
 use Rattle.lp_compare.specs.declared.comparison.Row.{Row}
-use Rattle.lp_models.specs.Names.{models, rules_named}
+use Rattle.lp_models.specs.Models.{models, rules_named}
 
 -- how the first leg ended that a control event of a trace opened, if one did
 abbrev pub first_end : Rules → TraceValue → Option LegEnd

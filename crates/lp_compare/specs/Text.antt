@@ -4,7 +4,7 @@ use Rattle.std.specs.List.{flat_map}
 use Rattle.serde_json.specs.Data.{Data, null, number, unsigned, string, array, object, member, no_members}
 use Rattle.serde_json.specs.View.{items_of}
 use Rattle.serde_json.specs.Written.{compact_text}
-use Rattle.lp_models.specs.Names.{name_of}
+use Rattle.lp_models.specs.Models.{name_of}
 use Rattle.lp_text.specs.Words.{line_of}
 use Rattle.lp_text.specs.CertTexts.{end_words}
 use Rattle.lp_compare.specs.declared.comparison.Comparison.{Comparison}

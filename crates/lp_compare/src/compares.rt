@@ -1,7 +1,7 @@
 //! The comparison of a trace.
 ghost use Rattle.std.specs.Prelude.{◌≡◌, IfOk, map};
 ghost use Rattle.std.specs.Option.{option_map};
-ghost use Rattle.lp_models.specs.Names.{rules_named};
+ghost use Rattle.lp_models.specs.Models.{rules_named};
 ghost use Rattle.lp_compare.specs.Comparison.{comparison, first_enable, first_end, opening, row_of};
 ghost use Rattle.lp_compare.specs.Permissive.{CompletesNoLater};
 ghost use Rattle.lp_compare.specs.inside.FirstEnds.{kept_end, row_with};

@@ -1,3 +1,2 @@
 pub mod Models
-pub mod Names
 pub mod inside

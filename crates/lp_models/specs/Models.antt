@@ -1,11 +1,15 @@
--- Four models, each as a row of the table.
-use Rattle.std.specs.Prelude.{Bool, true, false}
+-- The models: each as a row of the table, with its name.
+use Rattle.std.specs.Prelude.{ℕ, Bool, true, false, List, [], ◌∷◌, codes}
 use Rattle.lp_stack.specs.declared.view.Mode.{Mode}
 use Rattle.lp_stack.specs.declared.view.Mode.TheVariants.{Asleep}
 use Rattle.lp_patch.specs.Patches.{is_stale}
 use Rattle.lp_model.specs.declared.check.CheckKind.{CheckKind}
 use Rattle.lp_model.specs.declared.check.CheckKind.TheVariants.{KernelExit, IdlePoint, Stop}
-use Rattle.lp_model.specs.Row.{ModelRow, is_no_stop, at_walk}
+use Rattle.lp_model.specs.Rules.{Rules}
+use Rattle.lp_model.specs.Row.{ModelRow, rules_of, is_no_stop, at_walk}
+use Rattle.lp_process.specs.Models.{process_group}
+use Rattle.lp_models.specs.declared.name.ModelName.{ModelName}
+use Rattle.lp_models.specs.declared.name.ModelName.TheVariants as called
 
 -- a task's way out of the kernel, or an idle task's idle point
 abbrev pub is_own_kind : CheckKind → Bool
@@ -77,3 +81,25 @@ immediate =
       child_group = λ group child how. child;
       whole_call = false;
     }
+
+-- ---- Their names
+
+-- the bytes of a model's name
+abbrev pub name_of : ModelName → List ℕ
+name_of called.Hybrid = codes "hybrid"
+name_of called.LeaveKernel = codes "leave-kernel"
+name_of called.AllAtOnce = codes "all-at-once"
+name_of called.Immediate = codes "immediate"
+name_of called.ProcessGroup = codes "process-group"
+
+-- the rules of the model that a name names
+abbrev pub rules_named : ModelName → Rules
+rules_named called.Hybrid = rules_of hybrid
+rules_named called.LeaveKernel = rules_of leave_kernel
+rules_named called.AllAtOnce = rules_of all_at_once
+rules_named called.Immediate = rules_of immediate
+rules_named called.ProcessGroup = rules_of process_group
+
+-- the models, in the order in which they are compared, which is that of their numbers in C
+abbrev pub models : List ModelName
+models = called.Hybrid ∷ called.LeaveKernel ∷ called.AllAtOnce ∷ called.Immediate ∷ called.ProcessGroup ∷ []

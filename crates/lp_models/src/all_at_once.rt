@@ -1,5 +1,6 @@
 //! The model `all-at-once`.
 
+use crate::row::{Row, admits};
 use lp_model::{Blame, CheckKind, Consistency, ForkKind, lowest_stale};
 use lp_patch::Aim;
 use lp_stack::{GroupId, TaskId, View};
@@ -10,6 +11,12 @@ use lp_stack::{GroupId, TaskId, View};
 /// instruction pointer or return address is in a replaced function.
 #[derive(Clone, Copy, Debug, PartialEq, Eq)]
 pub struct AllAtOnce;
+
+impl Row for AllAtOnce {
+    ghost use Rattle.lp_models.specs.Models.{all_at_once};
+
+    ghost table = { all_at_once };
+}
 
 impl Consistency for AllAtOnce {
     ghost use Rattle.lp_model.specs.Row.{rules_of};
@@ -25,7 +32,7 @@ impl Consistency for AllAtOnce {
     }
 
     fn admits(&self, kind: CheckKind, view: &View<'_>, aim: &Aim<'_>) -> bool {
-        self.blame(kind, view, aim).is_none()
+        admits(self, kind, view, aim, self.blame(kind, view, aim))
     }
 
     fn blame(&self, kind: CheckKind, view: &View<'_>, aim: &Aim<'_>) -> Option<Blame> {

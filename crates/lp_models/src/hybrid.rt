@@ -1,5 +1,6 @@
 //! The model `hybrid`.
 
+use crate::row::{Row, admits};
 use lp_model::{Blame, CheckKind, Consistency, ForkKind, lowest_stale};
 use lp_patch::Aim;
 use lp_stack::{GroupId, Mode, TaskId, View};
@@ -12,6 +13,12 @@ use lp_stack::{GroupId, Mode, TaskId, View};
 /// a task also looks at its own stack at `cond_resched`.
 #[derive(Clone, Copy, Debug, PartialEq, Eq)]
 pub struct Hybrid;
+
+impl Row for Hybrid {
+    ghost use Rattle.lp_models.specs.Models.{hybrid};
+
+    ghost table = { hybrid };
+}
 
 impl Consistency for Hybrid {
     ghost use Rattle.lp_model.specs.Row.{rules_of};
@@ -27,7 +34,7 @@ impl Consistency for Hybrid {
     }
 
     fn admits(&self, kind: CheckKind, view: &View<'_>, aim: &Aim<'_>) -> bool {
-        self.blame(kind, view, aim).is_none()
+        admits(self, kind, view, aim, self.blame(kind, view, aim))
     }
 
     fn blame(&self, kind: CheckKind, view: &View<'_>, aim: &Aim<'_>) -> Option<Blame> {

@@ -1,5 +1,6 @@
 //! The model `leave-kernel`.
 
+use crate::row::{Row, admits};
 use lp_model::{Blame, CheckKind, Consistency, ForkKind};
 use lp_patch::Aim;
 use lp_stack::{GroupId, TaskId, View};
@@ -10,6 +11,12 @@ use lp_stack::{GroupId, TaskId, View};
 /// point, and no stack is searched for the functions that change.
 #[derive(Clone, Copy, Debug, PartialEq, Eq)]
 pub struct LeaveKernel;
+
+impl Row for LeaveKernel {
+    ghost use Rattle.lp_models.specs.Models.{leave_kernel};
+
+    ghost table = { leave_kernel };
+}
 
 impl Consistency for LeaveKernel {
     ghost use Rattle.lp_model.specs.Row.{rules_of};
@@ -25,7 +32,7 @@ impl Consistency for LeaveKernel {
     }
 
     fn admits(&self, kind: CheckKind, view: &View<'_>, aim: &Aim<'_>) -> bool {
-        self.blame(kind, view, aim).is_none()
+        admits(self, kind, view, aim, self.blame(kind, view, aim))
     }
 
     fn blame(&self, kind: CheckKind, view: &View<'_>, _aim: &Aim<'_>) -> Option<Blame> {

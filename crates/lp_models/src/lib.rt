@@ -6,6 +6,7 @@ mod hybrid;
 mod immediate;
 mod leave_kernel;
 mod name;
+mod row;
 
 pub use all_at_once::AllAtOnce;
 pub use hybrid::Hybrid;

@@ -1,6 +1,6 @@
 //! The names of the models, and what a name stands for.
 ghost use Rattle.std.specs.Prelude.{◌≡◌, ◌↔◌};
-ghost use Rattle.lp_models.specs.Names.{models, name_of};
+ghost use Rattle.lp_models.specs.Models.{models, name_of};
 
 /// A consistency model, by its name.
 #[derive(Clone, Copy, Debug, PartialEq, Eq)]

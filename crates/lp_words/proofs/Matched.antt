@@ -8,7 +8,7 @@ use Rattle.clap.proofs.WalkLemmas.{first_value-rows}
 use Rattle.clap.specs.declared.ArgMatches.{ArgMatches}
 use Rattle.clap.specs.declared.error.ErrorKind.{ErrorKind}
 use Rattle.clap.specs.declared.error.ErrorKind.TheVariants.{OutOfMemory}
-use Rattle.lp_models.specs.Names.{name_of}
+use Rattle.lp_models.specs.Models.{name_of}
 use Rattle.lp_words.specs.declared.words.Job.{Job}
 use Rattle.lp_words.specs.declared.words.Job.TheVariants.{Run, Check, Compare, Threads}
 use Rattle.lp_words.specs.declared.words.WordsFault.{WordsFault}

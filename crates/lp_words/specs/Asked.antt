@@ -4,7 +4,7 @@ use Rattle.std.specs.Str.{bytes_eq}
 use Rattle.clap.specs.Words.{App, Row, Rule, Text, fault_of, new_app, new_rule, subcommand_of, with_rule, with_subcommand, first_of}
 use Rattle.clap.specs.declared.builder.ArgAction.TheVariants.{Set, SetTrue}
 use Rattle.lp_models.specs.declared.name.ModelName.{ModelName}
-use Rattle.lp_models.specs.Names.{name_of}
+use Rattle.lp_models.specs.Models.{name_of}
 use Rattle.lp_words.specs.declared.words.Job.{Job}
 use Rattle.lp_words.specs.declared.words.Job.TheVariants.{Run, Check, Compare, Threads}
 use Rattle.lp_words.specs.declared.words.WordsFault.{WordsFault}

@@ -1,7 +1,7 @@
 //! The words that the program is given.
 ghost use Rattle.std.specs.Prelude.{◌≡◌, IfOk, IfErr, Some, None, codes, map};
 ghost use Rattle.clap.specs.Words.{app_of, first_value, found_of, kind_of, subcommand_rows_of, with_subcommand};
-ghost use Rattle.lp_models.specs.Names.{name_of};
+ghost use Rattle.lp_models.specs.Models.{name_of};
 ghost use Rattle.lp_words.specs.Asked.{Asks, AsksNothing, asked_in, comparing, flag_word, lpt, subcommand, words_of};
 ghost use Rattle.lp_words.specs.inside.Subcommands.{IsAddedAs};
 ghost use Rattle.lp_words.specs.inside.WordsFaults.{IsNoFlag, IsRefusal, NamesNoModel, NamesNoJob};

@@ -11,8 +11,7 @@ use Rattle.lp_model.specs.inside.RowLaws.{lawful_row}
 use Rattle.lp_process.specs.inside.ModelLaws.{process_group_lawful}
 use Rattle.lp_models.specs.declared.name.ModelName.{ModelName}
 use Rattle.lp_models.specs.declared.name.ModelName.TheVariants as called
-use Rattle.lp_models.specs.Models.{is_awake, hybrid, leave_kernel, all_at_once, immediate}
-use Rattle.lp_models.specs.Names.{rules_named}
+use Rattle.lp_models.specs.Models.{is_awake, hybrid, leave_kernel, all_at_once, immediate, rules_named}
 
 pub hybrid_lawful : IsLawful (rules_of hybrid)
 hybrid_lawful =

@@ -4,7 +4,7 @@ use Rattle.clap.specs.Words.{Text}
 use Rattle.clap.specs.declared.error.ErrorKind.{ErrorKind}
 use Rattle.clap.specs.declared.error.ErrorKind.TheVariants as kind
 use Rattle.lp_models.specs.declared.name.ModelName.{ModelName}
-use Rattle.lp_models.specs.Names.{name_of}
+use Rattle.lp_models.specs.Models.{name_of}
 use Rattle.lp_words.specs.declared.words.Job.{Job}
 use Rattle.lp_words.specs.declared.words.WordsFault.{WordsFault}
 use Rattle.lp_words.specs.declared.words.WordsFault.TheVariants as words

@@ -1,5 +1,5 @@
 use Rattle.std.proofs.Common.{◌≡◌, map, take}
-use Rattle.lp_models.specs.Names.{rules_named}
+use Rattle.lp_models.specs.Models.{rules_named}
 use Rattle.lp_compare.specs.Comparison.{first_end, row_of}
 use Rattle.lp_compare.proofs.compares.rows_under.Given as goal
 
