@@ -1,12 +1,14 @@
 //! The livepatch transition engine under one name: all that a program over the engine needs.
 //!
-//! `Simulator` is one engine with why its groups wait; the crates below it are here by their names.
+//! `Simulator` is one engine with why its groups wait; the crates below it are here by their names, and `models` has each
+//! model that `ModelName` names.
 //!
 //! Costs: `step` is the engine's and the maker's. The first event of each leg copies the tasks, and every event takes
 //! its place in the journal.
 #![tactic(auto)]
 
 mod any;
+mod named;
 mod simulator;
 
 pub use any::AnySimulator;
@@ -16,6 +18,7 @@ pub use lp_cert::{
 };
 pub use lp_checker::{CertFault, check_floor, check_waiting};
 pub use lp_model::{Blame, CheckKind, Consistency, ForkKind, Verdict};
+pub use lp_models as models;
 pub use lp_models::{AllAtOnce, Hybrid, Immediate, LeaveKernel, ModelName};
 pub use lp_patch::{Aim, PatchFault, PatchSet, PatchStack};
 pub use lp_process::ProcessGroup;
