@@ -44,7 +44,7 @@ enum {
     LP_TASK_DOUBLED = 42,     /* T2: two boot tasks have one number */
 };
 
-/* The models. */
+/* The models; `lp_model_name` has their names. */
 enum {
     LP_HYBRID = 0,
     LP_LEAVE_KERNEL = 1,
@@ -189,6 +189,9 @@ uint32_t lp_line(lp_slot *slot, size_t place, lp_line_code *line);
 
 /* Frees the engine, if one is there. The slot is then empty, and may be used again. */
 void lp_free(lp_slot *slot);
+
+/* The letter at a place of a model's name: LP_NO_MODEL where the number names no model, LP_NOT_THERE past the name's end. */
+uint32_t lp_model_name(uint32_t model, size_t place, uint32_t *letter);
 
 #ifdef __cplusplus
 }

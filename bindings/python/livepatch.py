@@ -10,17 +10,18 @@ Functions are given by their names, which are kept on this side and numbered in 
 from __future__ import annotations
 
 import ctypes
+import functools
+import itertools
 import os
 from typing import Dict, NamedTuple, Optional, Sequence, Tuple, Type, Union
 
-MODELS = ("hybrid", "leave-kernel", "all-at-once", "immediate", "process-group")
 KINDS = tuple("call ret sleep wake enter exit idle fork thread die walk stop enable disable reverse resched".split())
 MODES = ("user", "kernel", "asleep")
 STATUSES = {13: "NO_MEMORY", 14: "JOURNAL_FULL"}
 STATUSES.update(enumerate("NO_ENGINE HAS_ENGINE NO_MODEL NO_EVENT NOT_THERE".split(), 20))
 STATUSES.update(enumerate("PATCH_EMPTY PATCH_UNKNOWN PATCH_DOUBLED PATCH_TOO_MANY".split(), 31))
 STATUSES.update({36: "TOO_MANY_PATCHES", 37: "PATCH_LENGTHS", 41: "TASK_RANGE", 42: "TASK_DOUBLED"})
-NOT_THERE = 24
+NO_MODEL, NOT_THERE = 22, 24
 
 
 class LivepatchError(Exception):
@@ -161,6 +162,7 @@ def library() -> ctypes.CDLL:
             "lp_certificate": (slot, short, to(_Cert)),
             "lp_line": (slot, size, to(_Line)),
             "lp_free": (slot,),
+            "lp_model_name": (number, size, to(number)),
         }
         for name, arguments in shapes.items():
             call = getattr(opened, name)
@@ -168,6 +170,21 @@ def library() -> ctypes.CDLL:
             call.restype = None if name == "lp_free" else number
         _LIBRARY = opened
     return _LIBRARY
+
+
+@functools.lru_cache(maxsize=None)
+def models() -> Tuple[str, ...]:
+    """The names of the models, each at the place of its number: what the library has."""
+    names = map(_model_name, itertools.count())
+    return tuple(itertools.takewhile(bool, names))
+
+
+def _model_name(model: int) -> str:
+    """The name of the model of a number; empty where there is none."""
+    letter, name = ctypes.c_uint32(), ""
+    while library().lp_model_name(model, len(name), ctypes.byref(letter)) == 0:
+        name += chr(letter.value)
+    return name
 
 
 def _raise_on(status: int) -> None:
@@ -187,8 +204,8 @@ class Engine:
     ) -> None:
         self._library = library()
         self._slot = _Slot()
-        if model not in MODELS:
-            raise LivepatchError(22)
+        if model not in models():
+            raise LivepatchError(NO_MODEL)
         self._names: Dict[str, int] = {}
         for name in [*symbols, *(name for patch in patches for name in patch)]:
             self._names.setdefault(name, len(self._names))
@@ -199,7 +216,7 @@ class Engine:
         _raise_on(
             self._library.lp_create(
                 ctypes.byref(self._slot),
-                MODELS.index(model),
+                models().index(model),
                 len(self._names),
                 (ctypes.c_uint16 * max(1, len(functions)))(*functions),
                 len(functions),

@@ -21,7 +21,7 @@ static int misuse(void) {
     CHECK(lp_task(&slot, 1, &task) == LP_NO_ENGINE && task.level == 7);
     CHECK(lp_blame(&slot, 1, &blame) == LP_NO_ENGINE && blame.serial == 7);
     lp_free(&slot);
-    CHECK(lp_create(&slot, 5, 3, functions, 1, lengths, 1, boots, 1) == LP_NO_MODEL && !slot.at);
+    CHECK(lp_create(&slot, UINT32_MAX, 3, functions, 1, lengths, 1, boots, 1) == LP_NO_MODEL && !slot.at);
     CHECK(lp_create(&slot, LP_HYBRID, 3, functions, 0, lengths, 0, boots, 1) == LP_PATCH_EMPTY && !slot.at);
     CHECK(lp_create(&slot, LP_HYBRID, 3, functions, 2, lengths, 2, boots, 1) == LP_PATCH_UNKNOWN && !slot.at);
     CHECK(lp_create(&slot, LP_HYBRID, 3, functions, 2, lengths, 1, boots, 1) == LP_PATCH_LENGTHS && !slot.at);
@@ -38,6 +38,9 @@ static int misuse(void) {
     CHECK(!slot.at);
     lp_free(&slot);
     CHECK(lp_step(&slot, EVENT(LP_WALK, 0, 0), &told) == LP_NO_ENGINE);
+    CHECK(lp_model_name(UINT32_MAX, 0, &group) == LP_NO_MODEL && group == 7);
+    CHECK(lp_model_name(LP_HYBRID, 6, &group) == LP_NOT_THERE && group == 7);
+    CHECK(lp_model_name(LP_HYBRID, 5, &group) == LP_OK && group == 'd');
     return 0;
 }
 

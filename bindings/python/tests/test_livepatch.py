@@ -62,7 +62,7 @@ class Rows(unittest.TestCase):
         """What the program gives, event by event."""
         for seed in range(200):
             lines = random_trace(seed)
-            model = livepatch.MODELS[seed % 5]
+            model = livepatch.models()[seed % len(livepatch.models())]
             text = "".join(line + "\n" for line in lines)
             ran = subprocess.run([PROGRAM, "run", model], input=text, capture_output=True, text=True, check=True)
             trace = traces.trace_of(lines)
@@ -76,7 +76,7 @@ class Rows(unittest.TestCase):
         count = 0
         for seed in range(30):
             lines = random_trace(seed)
-            model = livepatch.MODELS[seed % 5]
+            model = livepatch.models()[seed % len(livepatch.models())]
             trace = traces.trace_of(lines)
             with traces.engine_of(trace, model) as engine:
                 for words in trace.events:
@@ -115,6 +115,11 @@ class Calls(unittest.TestCase):
             self.assertEqual(str(engine.step("exit", 1)), "over 1")
             self.assertEqual(str(engine.step("idle", 2)), "over 2 complete")
             self.assertEqual(engine.state(), livepatch.State(9, 1, False))
+
+    def test_models(self) -> None:
+        """The names in the order of their numbers."""
+        names = ("hybrid", "leave-kernel", "all-at-once", "immediate", "process-group")
+        self.assertEqual(livepatch.models()[:5], names)
 
     def test_refusals(self) -> None:
         """Each status by its name; an engine that was refused can still be freed."""

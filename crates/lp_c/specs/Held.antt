@@ -1,6 +1,5 @@
 -- What C keeps in a slot, and what it is told.
 use Rattle.std.specs.Prelude.{◌≡◌, ℕ, not, List, [], length, Option, None, Some, slice_get}
-use Rattle.std.specs.Option.{option_map}
 use Rattle.lp_stack.specs.declared.number.TaskId.{TaskId}
 use Rattle.lp_stack.specs.declared.view.Class.{Class}
 use Rattle.lp_patch.specs.Patches.{Patches}
@@ -8,17 +7,14 @@ use Rattle.lp_definitions.specs.declared.event.Event.{Event}
 use Rattle.lp_definitions.specs.declared.reply.Reply.{Reply}
 use Rattle.lp_definitions.specs.Leg.{LegTask}
 use Rattle.lp_machine.specs.Machine.{complete_in}
-use Rattle.lp_definitions.specs.Run.{leg_of, plus, reply}
+use Rattle.lp_definitions.specs.Run.{plus}
 use Rattle.lp_machine.specs.Table.{state_in}
 use Rattle.lp_definitions.specs.declared.cert.Cert.{Cert}
 use Rattle.lp_definitions.specs.declared.line.Line.{Line}
-use Rattle.lp_definitions.specs.Ends.{end_of}
-use Rattle.lp_cert.specs.Ends.{leg_under_way, waiting_in}
-use Rattle.lp_models.specs.Names.{rules_named}
-use Rattle.livepatch.specs.Named.{NamedRun}
+use Rattle.livepatch.specs.Named.{NamedRun, reply_in, waiting_cert}
 use Rattle.livepatch.specs.Simulated.{run_with}
 use Rattle.lp_c.specs.Arrays.{AreSets}
-use Rattle.lp_models.specs.Names.{models}
+use Rattle.lp_models.specs.Models.{models}
 use Rattle.lp_c.specs.Codes.{cert_code, events_of, flag, groups_in, mode_number, told_of}
 use Rattle.lp_c.specs.declared.codes.CertCode.{CertCode}
 use Rattle.lp_c.specs.declared.codes.EngineState.{EngineState}
@@ -35,8 +31,7 @@ pub record Held : Type 0 where
 
 -- the certificate that a group waits in the leg under way, if it does
 abbrev pub cert_of : Held → (group : ℕ) → Option Cert
-cert_of held group =
-    waiting_in (option_map (end_of (rules_named held.named.model)) (leg_under_way (rules_named held.named.model) held.named.simulated.run)) group
+cert_of held group = waiting_cert held.named group
 
 -- the lines of the certificate that was asked for
 abbrev pub lines_in : Option Cert → List Line
@@ -45,7 +40,7 @@ lines_in (Some cert) = cert.lines
 
 -- the reply that the definitions give to an event that comes now
 abbrev pub reply_to : Held → Event → Reply
-reply_to held event = reply (rules_named held.named.model) (leg_of (rules_named held.named.model) held.named.simulated.run) event
+reply_to held event = reply_in held.named event
 
 -- the event was taken once: the run has it, under the same model, and the groups are those of its reply
 pub record IsStepped (event : Event) (old new : Held) : Type 0 where

@@ -1,6 +1,6 @@
 //! The numbers by which C names what it cannot see.
 ghost use Rattle.std.specs.Prelude.{◌≡◌, slice_get};
-ghost use Rattle.lp_models.specs.Names.{models};
+ghost use Rattle.lp_models.specs.Models.{models};
 ghost use Rattle.lp_c.specs.Codes.{boot_of, cert_code as code_of_cert, events_of, line_code as code_of_line, mode_number as mode_code, told_of};
 
 use livepatch::{Cert, Class, Event, ForkKind, Line, Mode, ModelName, Reply, SymId, TaskId, What};

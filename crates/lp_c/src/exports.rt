@@ -5,7 +5,7 @@ ghost use Rattle.lp_transition.specs.Blames.{blame_of};
 ghost use Rattle.lp_machine.specs.Table.{slot as live_in};
 ghost use Rattle.lp_definitions.specs.declared.cert.Cert.{Cert};
 ghost use Rattle.livepatch.specs.Simulated.{run_with};
-ghost use Rattle.lp_models.specs.Names.{models};
+ghost use Rattle.lp_models.specs.Models.{models, name_of};
 ghost use Rattle.lp_c.specs.Codes.{boot_of, line_code as code_of_line};
 ghost use Rattle.lp_c.specs.Held.{IsCertified, IsCreated, IsFirst, IsStep, IsTaken, TellsState, TellsTask, cert_of, lines_in};
 
@@ -199,6 +199,26 @@ pub extern "C" fn lp_free(alloc: Global, slot: &mut Slot)
     ensures { slot.new.held ≡ None }
 {
     drop(slot.take(alloc));
+}
+
+/// The letter at a place of the name of the model of a number, so that nobody has to list the models again.
+#[unsafe(no_mangle)]
+pub extern "C" fn lp_model_name(model: u32, place: usize, letter: &mut u32) -> u32
+    ensures letter { ForSome (slice_get models model) (λ named. ForSome (slice_get (name_of named) place) (λ found. (result ≡ 0) × (letter.new ≡ found))) }
+    ensures past { ForSome (slice_get models model) (λ named. slice_get (name_of named) place ≡ None → result ≡ 24) }
+    ensures no_model { slice_get models model ≡ None → result ≡ 22 }
+    ensures silent { 0 < result → letter.new ≡ letter.old }
+{
+    let Some(model) = model_of(model) else {
+        return NO_MODEL;
+    };
+    match model.name().as_bytes().get(place) {
+        None => NOT_THERE,
+        Some(found) => {
+            *letter = u32::from(*found);
+            OK
+        }
+    }
 }
 
 /// A session with a run before its first event, or the status of the first fault.
