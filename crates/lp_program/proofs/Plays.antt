@@ -4,7 +4,7 @@ use Rattle.std.specs.Prelude.{IfErr}
 use Rattle.std.specs.Io.KnownBytes.{Appends}
 use Rattle.lp_model.specs.Rules.{Rules}
 use Rattle.lp_models.specs.declared.name.ModelName.{ModelName}
-use Rattle.lp_models.specs.Names.{name_of, rules_named}
+use Rattle.lp_models.specs.Models.{name_of, rules_named}
 use Rattle.lp_text.specs.Writing.{AppendsPrefix}
 use Rattle.lp_threads.specs.Faults.{AtRun}
 use Rattle.lp_threads.specs.Plays.{IsPlay, play_text}

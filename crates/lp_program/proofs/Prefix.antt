@@ -7,7 +7,7 @@ use Rattle.lp_trace.specs.Answer.{ReadsInput, answer_to, answer_words}
 use Rattle.lp_replay.specs.Runs.{AtWrite}
 use Rattle.lp_text.specs.Words.{line_of}
 use Rattle.lp_text.specs.Writing.{AppendsPrefix}
-use Rattle.lp_models.specs.Names.{rules_named}
+use Rattle.lp_models.specs.Models.{rules_named}
 
 abbrev HasPrefix : Option (List ℕ) → Option (List ℕ) → Option (List ℕ) → Option (List ℕ) → RunFault → Rules → Type 0
 HasPrefix before after old new fault rules =

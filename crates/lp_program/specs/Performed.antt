@@ -2,7 +2,7 @@
 use Rattle.std.specs.Prelude.{◌≡◌, ◌⊎◌, ℕ, Bool, List, Option, None, IsSome, IfSome, Ok, Err}
 use Rattle.std.specs.Io.KnownBytes.{Appends}
 use Rattle.lp_models.specs.declared.name.ModelName.{ModelName}
-use Rattle.lp_models.specs.Names.{name_of, rules_named}
+use Rattle.lp_models.specs.Models.{name_of, rules_named}
 use Rattle.lp_definitions.specs.declared.cert_fault.CertFault.{CertFault}
 use Rattle.lp_text.specs.declared.check_input.CheckInput.{CheckInput}
 use Rattle.lp_text.specs.declared.fault.TraceFault.{TraceFault}

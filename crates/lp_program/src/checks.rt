@@ -8,12 +8,12 @@ ghost use Rattle.lp_text.specs.Input.{FailsOnce};
 ghost use Rattle.lp_replay.specs.Runs.{AtReading, AtTrace, AtWrite, BeforeWriting, ButForReading};
 ghost use Rattle.lp_text.specs.Words.{line_of};
 ghost use Rattle.lp_text.specs.Writing.{AppendsPrefix};
-ghost use Rattle.lp_models.specs.Names.{rules_named};
+ghost use Rattle.lp_models.specs.Models.{rules_named};
 ghost use Rattle.lp_program.specs.Performed.{EndsBy, IsDone};
 ghost use Rattle.lp_words.specs.declared.words.Job.TheVariants.{Check};
 
 use crate::fault::Fault;
-use lp_models::{ModelName, with_model};
+use lp_models::{Consistency, ModelName, with_model};
 use lp_trace::{Counted, RunFault};
 use std::alloc::Global;
 use std::io::{Read, Write};
@@ -41,7 +41,33 @@ pub fn check<R: Read, W: Write>(
     ensures write_failed { IfErr result (λ fault. AtWrite fault (writer.new.failures ≡ next writer.old.failures)) }
     ensures written { OnOk result (writer.new.failures ≡ writer.old.failures) }
 {
-    with_model!(model, model => lp_trace::check(alloc, model, reader, writer))
+    with_model!(model, rules => check_by(alloc, model, rules, reader, writer))
+}
+
+/// The same by a model that has this name: what is said of its rules is said of the name here, once for all models.
+fn check_by<M: Consistency, R: Read, W: Write>(
+    alloc: Global,
+    name: ModelName,
+    model: M,
+    reader: &mut Counted<R>,
+    writer: &mut Counted<W>,
+) -> Result<bool, RunFault>
+    requires { M.rules ≡ rules_named name }
+    ensures answer { IfOk result (λ accepted. ReadsInput (R.remaining reader.old.stream) (R.remaining reader.new.stream)
+        (λ input. (accepted ≡ is_none (answer_to (rules_named name) input)) × Appends (W.contents writer.old.stream) (W.contents writer.new.stream) (line_of (answer_words (answer_to (rules_named name) input))))) }
+    ensures sound { IfOk result (λ accepted. IsTrue accepted → ReadsInput (R.remaining reader.old.stream) (R.remaining reader.new.stream) (λ input. HoldsInTrace (rules_named name) input)) }
+    ensures prefix { IfErr result (λ fault. AtWrite fault (ReadsInput (R.remaining reader.old.stream) (R.remaining reader.new.stream)
+        (λ input. AppendsPrefix (W.contents writer.old.stream) (W.contents writer.new.stream) (line_of (answer_words (answer_to (rules_named name) input)))))) }
+    ensures untouched { IfErr result (λ fault. BeforeWriting fault (writer.new ≡ writer.old)) }
+    ensures trace { IfErr result (λ fault. AtTrace fault (λ why. IfSome (R.remaining reader.old.stream) (λ text. check_reading text ≡ Err why))) }
+    ensures read_failed { IfErr result (λ fault. AtReading fault (FailsOnce reader.old reader.new)) }
+    ensures unfailed { MatchResult result (λ _. reader.new.failures ≡ reader.old.failures) (λ fault. ButForReading fault (reader.new.failures ≡ reader.old.failures)) }
+    ensures once { OnOk result (reader.new.ends ≡ next reader.old.ends) }
+    ensures few { AtMost 134217729 reader.old.calls reader.new.calls }
+    ensures write_failed { IfErr result (λ fault. AtWrite fault (writer.new.failures ≡ next writer.old.failures)) }
+    ensures written { OnOk result (writer.new.failures ≡ writer.old.failures) }
+{
+    lp_trace::check(alloc, model, reader, writer)
 }
 
 /// Writes the answer to a certificate; Refused where that is a refusal, and any other fault as [`Fault`] says.

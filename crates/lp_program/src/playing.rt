@@ -1,6 +1,7 @@
 //! A play by threads under the model of a name.
 ghost use Rattle.std.specs.Prelude.{◌≡◌, ◌≢◌, Err, IfErr, IfSome, MatchResult, OnOk};
 ghost use Rattle.std.specs.Io.KnownBytes.{Appends};
+ghost use Rattle.lp_models.specs.Models.{rules_named};
 ghost use Rattle.lp_text.specs.Counts.{AtMost, next};
 ghost use Rattle.lp_text.specs.Input.{FailsOnce};
 ghost use Rattle.lp_text.specs.Reading.{reading};
@@ -13,7 +14,7 @@ ghost use Rattle.lp_threads.specs.Codes.{code_of};
 ghost use Rattle.lp_program.specs.Faults.{IsOfThreads};
 
 use crate::fault::Fault;
-use lp_models::{ModelName, with_model};
+use lp_models::{Consistency, ModelName, with_model};
 use lp_threads::ThreadsFault;
 use lp_trace::Counted;
 use std::alloc::Global;
@@ -56,8 +57,35 @@ pub fn threads<T: Threads + Wait + Sync, R: Read, W: Write>(
     ensures write_failed { IfErr result (λ fault. AtRun fault (λ why. AtWrite why (writer.new.failures ≡ next writer.old.failures))) }
     ensures written { OnOk result (writer.new.failures ≡ writer.old.failures) }
 {
-    let called = model.name();
-    with_model!(model, model => lp_threads::threads(rt, alloc, called, model, reader, writer))
+    with_model!(model, rules => threads_by(rt, alloc, model, rules, reader, writer))
+}
+
+/// The same by a model that has this name: what is said of its rules is said of the name here, once for all models.
+fn threads_by<T: Threads + Wait + Sync, M: Consistency + Send + Sync, R: Read, W: Write>(
+    rt: &T,
+    alloc: Global,
+    name: ModelName,
+    model: M,
+    reader: &mut Counted<R>,
+    writer: &mut Counted<W>,
+) -> Result<(), ThreadsFault>
+    requires { M.rules ≡ rules_named name }
+    ensures report { OnOk result (ReadsTrace (R.remaining reader.old.stream) (R.remaining reader.new.stream)
+        (λ trace. IsPlayed name trace (Appends (W.contents writer.old.stream) (W.contents writer.new.stream)))) }
+    ensures prefix { IfErr result (λ fault. AtRun fault (λ why. AtWrite why (ReadsTrace (R.remaining reader.old.stream) (R.remaining reader.new.stream)
+        (λ trace. IsPlayed name trace (AppendsPrefix (W.contents writer.old.stream) (W.contents writer.new.stream)))))) }
+    ensures untouched { IfErr result (λ fault. ButForWriter fault (writer.new ≡ writer.old)) }
+    ensures trace { IfErr result (λ fault. AtRun fault (λ why. AtTrace why (λ why. IfSome (R.remaining reader.old.stream) (λ text. reading text ≡ Err why)))) }
+    ensures desk { IfErr result (λ fault. AtDesk fault (IsOfPlay fault × ReadsTrace (R.remaining reader.old.stream) (R.remaining reader.new.stream) (λ trace. Unit {0}))) }
+    ensures read_failed { IfErr result (λ fault. AtRun fault (λ why. AtReading why (FailsOnce reader.old reader.new))) }
+    ensures unfailed { MatchResult result (λ _. reader.new.failures ≡ reader.old.failures) (λ fault. ButForReader fault (reader.new.failures ≡ reader.old.failures)) }
+    ensures once { OnOk result (reader.new.ends ≡ next reader.old.ends) }
+    ensures few { AtMost 134217729 reader.old.calls reader.new.calls }
+    ensures write_failed { IfErr result (λ fault. AtRun fault (λ why. AtWrite why (writer.new.failures ≡ next writer.old.failures))) }
+    ensures written { OnOk result (writer.new.failures ≡ writer.old.failures) }
+{
+    let called = name.name();
+    lp_threads::threads(rt, alloc, called, model, reader, writer)
 }
 
 /// Writes what came of a trace that threads play.

@@ -1,7 +1,7 @@
 //! A run under the model of a name.
 ghost use Rattle.std.specs.Prelude.{◌≡◌, ◌≢◌, Err, IfErr, IfSome, MatchResult, OnOk};
 ghost use Rattle.std.specs.Io.KnownBytes.{Appends};
-ghost use Rattle.lp_models.specs.Names.{name_of, rules_named};
+ghost use Rattle.lp_models.specs.Models.{name_of, rules_named};
 ghost use Rattle.lp_text.specs.Counts.{AtMost, next};
 ghost use Rattle.lp_text.specs.Input.{FailsOnce};
 ghost use Rattle.lp_definitions.specs.Headline.{Headline};
