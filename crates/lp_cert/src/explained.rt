@@ -69,6 +69,9 @@ impl<M: Consistency> ExplainedCore<M> {
             self.maker.let_pass(core);
             return Ok(core.step_quiet(event));
         }
+        if is_own_check(event) && self.maker.lets_own_check_pass(core) {
+            return core.step_own_check(alloc, event);
+        }
         self.maker.note_passed(core);
         take(alloc, core, &mut self.maker, event)
     }
@@ -156,9 +159,6 @@ fn take<M: Consistency>(
     match event {
         Event::Walk => take_scan(alloc, core, maker, CheckKind::Walk, event),
         Event::Stop => take_scan(alloc, core, maker, CheckKind::Stop, event),
-        Event::Exit(_) | Event::Idle(_) | Event::Resched(_) => {
-            take_own_check(alloc, core, maker, event)
-        }
         _ => take_weighed(alloc, core, maker, event),
     }
 }
@@ -184,29 +184,6 @@ fn take_scan<M: Consistency>(
 {
     if maker.note_quiet_scan(core, kind) {
         return Ok(core.step_quiet_scan(kind));
-    }
-    take_weighed(alloc, core, maker, event)
-}
-
-/// Takes an own check, an exit, an idle point or a resched: at once where no transition is under way, as most do, since then it switches nobody and
-/// no group waits.
-fn take_own_check<M: Consistency>(
-    alloc: Global,
-    core: &mut Core<M>,
-    maker: &mut Maker,
-    event: Event,
-) -> Result<Reply, AllocError>
-    requires own_check { is_own_check event ≡ true }
-    requires room { core.old.number < 1000000 }
-    ensures step { IfOk result (λ reply. IsStep M.rules (state_in core.old) event reply (state_in core.new)) }
-    ensures made { OnOk result ((run : Run) → StandsIn M.rules run (state_in core.old) → IsMadeWith M.rules run core.old.last_scan maker.old → IsMadeWith M.rules (plus run event) core.new.last_scan maker.new) }
-    ensures blames { OnOk result (HasBlamesAfter M.rules core.old event core.new) }
-    ensures unchanged { OnErr result (core.new ≡ core.old) }
-    ensures ended { OnErr result (maker.new.ended ≡ maker.old.ended) }
-    ensures current { OnErr result (maker.new.current ≡ maker.old.current) }
-{
-    if maker.note_own_check(core) {
-        return core.step_own_check(alloc, event);
     }
     take_weighed(alloc, core, maker, event)
 }
@@ -243,4 +220,12 @@ fn take_weighed<M: Consistency>(
             Err(error)
         }
     }
+}
+
+/// Whether an event is a check that a task makes of itself.
+#[inline(always)]
+fn is_own_check(event: Event) -> bool
+    ensures { result ≡ is_own_check event }
+{
+    matches!(event, Event::Exit(_) | Event::Idle(_) | Event::Resched(_))
 }

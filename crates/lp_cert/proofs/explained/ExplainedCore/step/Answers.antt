@@ -13,6 +13,15 @@ returns-then-is_quiet-clause-explained g c = λ run is.
     let passed = rw c.deref_mut-core.ensures.value at c.let_pass.ensures.made in
     explained_passed model run c.args.event i.core.value c.step_quiet.new.self c.step_quiet.result step i.maker last (passed c.args.event (sym c.is_quiet.ensures ∙ c.if-is_quiet.true)) (subst (IsExplained model run) (sym c.self.view_is) is)
 
+pub returns-then-lets_own_check_pass-clause-explained : goal.returns-then-lets_own_check_pass-clause-explained
+returns-then-lets_own_check_pass-clause-explained g c =
+    let model = g.M.Consistency.rules in
+    let i = c.self.inside in
+    let passed = rw c.deref_mut-core.ensures.value at c.lets_own_check_pass.ensures.made in
+    on_ok _ _ _ (λ reply step last. λ run is.
+    explained_passed model run c.args.event i.core.value c.step_own_check.new.self reply step i.maker last (passed c.if-lets_own_check_pass.true c.args.event (sym c.is_own_check.ensures ∙ c.if-is_own_check.true)) (subst (IsExplained model run) (sym c.self.view_is) is))
+    c.step_own_check.result (rw c.deref_mut-core.ensures.value at c.step_own_check.ensures.step) (rw c.deref_mut-core.ensures.value at c.step_own_check.ensures.last_scan)
+
 pub returns-clause-explained : goal.returns-clause-explained
 returns-clause-explained g c =
     let model = g.M.Consistency.rules in
