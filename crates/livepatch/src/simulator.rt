@@ -124,11 +124,12 @@ impl<M: Consistency> Simulator<M> {
         ensures blames { OnOk result (HasBlamesAfter M.rules self.old.core event self.new.core) }
         ensures unchanged { OnErr result (self.new ≡ self.old) }
     {
-        if self.explained.core().events() >= u64::from(MOST_EVENTS) {
-            return Err(Halt::JournalFull);
-        }
-        self.events.reserve(1)?;
-        keep_opening(alloc, self.explained.core(), &mut self.opening)?;
+        ready(
+            alloc,
+            self.explained.core(),
+            &mut self.events,
+            &mut self.opening,
+        )?;
         let reply = self.explained.step(alloc, event)?;
         self.events.push_reserved(event);
         give_up_opening(event, &reply.what, &mut self.opening);
@@ -229,26 +230,59 @@ impl<M: Consistency> Simulator<M> {
     }
 }
 
-/// Keeps the opening of a leg, before the first event after it: the engine stands there until then.
+/// Makes room for an event, if one is left: its place in the journal, and the opening of the leg, which the engine still
+/// stands at before the first event after it.
 #[inline(always)]
-fn keep_opening<M: Consistency>(
+fn ready<M: Consistency>(
     alloc: Global,
     core: &Core<M>,
+    events: &mut Vec<Event>,
     opening: &mut Option<Opening>,
-) -> Result<(), AllocError>
+) -> Result<(), Halt>
+    ensures full { (result ≡ Err JournalFull) ↔ (1000000 ≤ core.now.number) }
+    ensures left { OnOk result (core.now.number < 1000000) }
+    ensures items { events.new.items ≡ events.old.items }
+    ensures place { OnOk result (vec_len events.new < vec_capacity events.new) }
     ensures kept { (run : Run) (explained : Explained) → explained.core ≡ core.now → IsKept M.rules run explained opening.old → IsKept M.rules run explained opening.new }
     ensures some { OnOk result (IsSome opening.new) }
 {
+    if core.events() < u64::from(MOST_EVENTS)
+        && events.len() < events.capacity()
+        && opening.is_some()
+    {
+        return Ok(());
+    }
+    make_room(alloc, core, events, opening)
+}
+
+/// The same where something is lacking. Out of line and cold, so that the compiler takes the events that lack nothing for
+/// the many that they are, and joins what they call.
+#[cold]
+#[inline(never)]
+fn make_room<M: Consistency>(
+    alloc: Global,
+    core: &Core<M>,
+    events: &mut Vec<Event>,
+    opening: &mut Option<Opening>,
+) -> Result<(), Halt>
+    ensures full { (result ≡ Err JournalFull) ↔ (1000000 ≤ core.now.number) }
+    ensures left { OnOk result (core.now.number < 1000000) }
+    ensures items { events.new.items ≡ events.old.items }
+    ensures place { OnOk result (vec_len events.new < vec_capacity events.new) }
+    ensures kept { (run : Run) (explained : Explained) → explained.core ≡ core.now → IsKept M.rules run explained opening.old → IsKept M.rules run explained opening.new }
+    ensures some { OnOk result (IsSome opening.new) }
+{
+    if core.events() >= u64::from(MOST_EVENTS) {
+        return Err(Halt::JournalFull);
+    }
+    events.reserve(1)?;
     if opening.is_none() {
-        return copy_opening(alloc, core, opening);
+        copy_opening(alloc, core, opening)?;
     }
     Ok(())
 }
 
-/// Copies the tasks as the opening of a leg. Out of line, since the events that need no copy would else pay for the room of
-/// one.
-#[cold]
-#[inline(never)]
+/// Copies the tasks as the opening of a leg.
 fn copy_opening<M: Consistency>(
     alloc: Global,
     core: &Core<M>,

@@ -6,30 +6,30 @@ use Rattle.livepatch.specs.Simulated.{IsKept, Simulated, run_with}
 use Rattle.livepatch.proofs.Keeping.{kept_after}
 use Rattle.livepatch.proofs.simulator.Simulator.step.Goals as goal
 
-pub invariant_of-self-in_err-keep_opening : goal.invariant_of-self-in_err-keep_opening
-invariant_of-self-in_err-keep_opening g c =
+pub invariant_of-self : goal.invariant_of-self
+invariant_of-self g c =
     let model = g.M.Consistency.rules in
     let old = c.self.inside in
-    subst (λ (es : List Event). IsKept model (run_with old.patches old.boots.items es) old.explained c.keep_opening.new.opening) (sym c.reserve.ensures.items)
-    (c.keep_opening.ensures.kept (run_with old.patches old.boots.items old.events.items) old.explained (sym c.core-2.ensures) c.self.invariant)
+    subst (λ (es : List Event). IsKept model (run_with old.patches old.boots.items es) old.explained c.ready.new.opening) (sym c.ready.ensures.items)
+    (c.ready.ensures.kept (run_with old.patches old.boots.items old.events.items) old.explained (sym c.core.ensures) c.self.invariant)
 
 pub invariant_of-self-in_err-reply : goal.invariant_of-self-in_err-reply
 invariant_of-self-in_err-reply g c =
     let model = g.M.Consistency.rules in
     let old = c.self.inside in
     let run : Run = run_with old.patches old.boots.items old.events.items in
-    subst (λ (es : List Event). IsKept model (run_with old.patches old.boots.items es) c.step.new.self c.keep_opening.new.opening) (sym c.reserve.ensures.items)
-    (subst (λ (e : Explained). IsKept model run e c.keep_opening.new.opening) (sym c.in_err-reply.ensures.unchanged)
-    (c.keep_opening.ensures.kept run old.explained (sym c.core-2.ensures) c.self.invariant))
+    subst (λ (es : List Event). IsKept model (run_with old.patches old.boots.items es) c.step.new.self c.ready.new.opening) (sym c.ready.ensures.items)
+    (subst (λ (e : Explained). IsKept model run e c.ready.new.opening) (sym c.in_err-reply.ensures.unchanged)
+    (c.ready.ensures.kept run old.explained (sym c.core.ensures) c.self.invariant))
 
 pub invariant_of-self-2 : goal.invariant_of-self-2
 invariant_of-self-2 g c =
     let model = g.M.Consistency.rules in
     let old = c.self.inside in
     let run : Run = run_with old.patches old.boots.items old.events.items in
-    let items : c.push_reserved.new.self.items ≡ old.events.items ++ c.args.event ∷ [] = c.push_reserved.ensures.items ∙ ap (λ (es : List Event). es ++ c.args.event ∷ []) c.reserve.ensures.items in
+    let items : c.push_reserved.new.self.items ≡ old.events.items ++ c.args.event ∷ [] = c.push_reserved.ensures.items ∙ ap (λ (es : List Event). es ++ c.args.event ∷ []) c.ready.ensures.items in
     subst (λ (es : List Event). IsKept model (run_with old.patches old.boots.items es) c.step.new.self c.give_up_opening.new.opening) (sym items)
-    (kept_after model run c.args.event old.explained c.step.new.self c.in_ok-reply.reply c.in_ok-reply.ensures.step (c.in_ok-reply.ensures.explained run) c.keep_opening.new.opening c.give_up_opening.new.opening c.in_ok-keep_opening.ensures.some (c.keep_opening.ensures.kept run old.explained (sym c.core-2.ensures) c.self.invariant) c.give_up_opening.ensures.opened c.give_up_opening.ensures.other)
+    (kept_after model run c.args.event old.explained c.step.new.self c.in_ok-reply.reply c.in_ok-reply.ensures.step (c.in_ok-reply.ensures.explained run) c.ready.new.opening c.give_up_opening.new.opening c.in_ok-ready.ensures.some (c.ready.ensures.kept run old.explained (sym c.core.ensures) c.self.invariant) c.give_up_opening.ensures.opened c.give_up_opening.ensures.other)
 
 pub returns-clause-reply : goal.returns-clause-reply
 returns-clause-reply g c =
