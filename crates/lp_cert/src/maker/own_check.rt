@@ -19,6 +19,7 @@ impl Maker {
         requires room { core.now.number < 1000000 }
         ensures made { IsTrue result → (event : Event) → is_own_check event ≡ true → IsMadeFurther M.rules core.now event (made_upto core.now.number self.now) (made_upto (core.now.number + 1) self.now) }
     {
+        // The clauses speak of the engine; the answer asks the leg alone.
         let _ = core;
         is_settled(self.current)
     }
