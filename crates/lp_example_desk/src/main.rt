@@ -1,77 +1,27 @@
-//! A desk: the control opens a transition, and two tasks send their events from threads of their own, each from its seat.
+//! A desk: the control opens a transition, and two idle tasks pass their idle points, each on a thread of its own.
 #![tactic(auto)]
 
 ghost use Rattle.std.specs.Prelude.{◌≡◌};
 ghost use Rattle.lp_board.specs.Blanks.{name_of};
 
 use anyhow::Result;
-use livepatch::Event::{Call, Enable, Enter, Exit, Ret};
-use livepatch::{Class, Consistency, Event, Hybrid, PatchSet, PatchStack, SymId, Symbols, TaskId};
-use lp_desk::{Blank, Desk, DeskName, Launched, OpenGate, Seat};
-use lp_log::TurnedBy;
+use livepatch::Event::{Enable, Idle};
+use livepatch::{Class, Consistency, Hybrid, PatchSet, PatchStack, Symbols, TaskId};
+use lp_desk::{Blank, Desk, DeskName, Launched, OpenGate};
 use std::alloc::Global;
 use std::marker::Brand;
 use std::sync::Wait;
 use std::thread::{Threads, join};
-
-const A: SymId = SymId(0);
-
-const ONE: TaskId = TaskId(1);
-
-const TWO: TaskId = TaskId(2);
 
 fn blank(alloc: Global) -> Result<Blank<Hybrid>> {
     let mut symbols = Symbols::new(alloc)?;
     let a = symbols.add("a")?;
     let patch = PatchSet::build(alloc, &symbols, &[a])?;
     let patches = PatchStack::new(alloc, vec![in alloc; patch]?)?;
-    Ok(Blank::new(
-        alloc,
-        Hybrid,
-        patches,
-        &[(ONE, Class::Normal), (TWO, Class::Normal)],
-        1,
-    )?)
+    let boots = [(TaskId(1), Class::Idle), (TaskId(2), Class::Idle)];
+    Ok(Blank::new(alloc, Hybrid, patches, &boots, 1)?)
 }
 
-/// Sends these events of a seat's task, and gives the seat back.
-fn send<T: Wait, M: Consistency, N: DeskName>(
-    rt: &T,
-    alloc: Global,
-    desk: &Desk<M, N, OpenGate, &T>,
-    mut seat: Seat,
-    events: &[Event],
-) -> Result<Seat, TurnedBy> {
-    for event in events {
-        seat = match desk.submit(rt, alloc, seat, *event) {
-            Ok(done) => done.seat,
-            Err(turned) => return Err(turned.cause),
-        };
-    }
-    Ok(seat)
-}
-
-/// Lets both tasks run, each in a thread of its own, and gives their seats back.
-fn run<T: Threads + Wait + Sync, M: Consistency + Send + Sync, N: DeskName + Send + Sync>(
-    rt: &T,
-    alloc: Global,
-    desk: &Desk<M, N, OpenGate, &T>,
-    mut seats: Vec<Seat>,
-) -> Result<Vec<Seat>> {
-    let (Some(two), Some(one)) = (seats.pop(), seats.pop()) else {
-        return Ok(seats);
-    };
-    let first = [Enter(ONE), Call(ONE, A), Ret(ONE), Exit(ONE)];
-    let second = [Enter(TWO), Exit(TWO)];
-    let (one, two) = join(
-        rt,
-        || send(rt, alloc, desk, one, &first),
-        || send(rt, alloc, desk, two, &second),
-    );
-    Ok(vec![in alloc; one?, two?]?)
-}
-
-/// Opens a transition, lets both tasks run, and prints what the board shows of them then.
 fn play<T: Print + Threads + Wait + Sync, M: Consistency + Send + Sync, N: DeskName + Send + Sync>(
     rt: &T,
     alloc: Global,
@@ -82,24 +32,35 @@ fn play<T: Print + Threads + Wait + Sync, M: Consistency + Send + Sync, N: DeskN
     let launched = Desk::<M, N, OpenGate, &T>::launch(rt, alloc, blank, 1, OpenGate)?;
     let Launched {
         desk,
-        seats,
+        mut seats,
         control,
         mut readers,
     } = launched;
-    let control = match desk.command(rt, alloc, control, Enable) {
-        Ok(done) => done.control,
-        Err(turned) => return Err(turned.cause.into()),
+    let opened = desk
+        .command(rt, alloc, control, Enable)
+        .map_err(|turned| turned.cause)?;
+    let (Some(two), Some(one)) = (seats.pop(), seats.pop()) else {
+        return Ok(());
     };
-    let seats = run(rt, alloc, &desk, seats)?;
+    let (one, two) = join(
+        rt,
+        || desk
+            .submit(rt, alloc, one, Idle(TaskId(1)))
+            .map_err(|turned| turned.cause),
+        || desk
+            .submit(rt, alloc, two, Idle(TaskId(2)))
+            .map_err(|turned| turned.cause),
+    );
+    let seats = vec![in alloc; one?.seat, two?.seat]?;
     for reader in &mut readers {
         for (task, shown) in reader.snapshot(alloc)? {
             println!(rt; "task {task}: {shown:?}")?;
         }
     }
-    match desk.close(rt, alloc, seats, control) {
-        Ok(closed) => println!(rt; "{} events", closed.journal.entries().len())?,
-        Err(unclosed) => return Err(unclosed.cause.into()),
-    }
+    let closed = desk
+        .close(rt, alloc, seats, opened.control)
+        .map_err(|kept| kept.cause)?;
+    println!(rt; "{} events", closed.journal.entries().len())?;
     Ok(())
 }
 
