@@ -1,8 +1,10 @@
-//! What an event costs by an engine alone, through a log, and through a desk with readers that read all along.
+//! What an event costs by an engine alone, through a log, through a desk with readers that read all along, and through a desk
+//! whose seats own their parts.
 
 mod events;
 mod through_desk;
 mod through_log;
+mod through_owned;
 
 pub use events::COUNT;
 use events::count_beside;
@@ -18,6 +20,7 @@ enum Way {
     Core,
     Log,
     Desk(usize),
+    Owned,
 }
 
 impl Way {
@@ -30,6 +33,7 @@ impl Way {
             "desk 1" => Some(Way::Desk(1)),
             "desk 4" => Some(Way::Desk(4)),
             "desk 64" => Some(Way::Desk(64)),
+            "owned" => Some(Way::Owned),
             _ => None,
         }
     }
@@ -50,6 +54,7 @@ fn send<R: Print + Threads + Wait + Sync>(rt: &R, alloc: Global, way: Way) -> io
     match way {
         Way::Core => tell_taken(rt, through_log::core(alloc)),
         Way::Log => tell_taken(rt, log(alloc)),
+        Way::Owned => tell_taken(rt, through_owned::owned(rt, alloc)),
         Way::Desk(readers) => match through_desk::desk(rt, alloc, readers) {
             Some(reads) => {
                 println!(rt; "{} events, {reads} reads", count_beside(readers))?;
@@ -69,7 +74,7 @@ pub fn measure<R: Print + Threads + Wait + Sync>(
     match Way::read(word) {
         Some(way) => send(rt, alloc, way),
         None => {
-            println!(rt; "usage: core, log, desk 0, desk 1, desk 4 or desk 64")?;
+            println!(rt; "usage: core, log, desk 0, desk 1, desk 4, desk 64 or owned")?;
             Ok(false)
         }
     }

@@ -1,14 +1,14 @@
 //! A trace, played through a desk by one thread, each event in its turn.
-ghost use Rattle.std.specs.Prelude.{◌≡◌, IfOk, IfSome};
+ghost use Rattle.std.specs.Prelude.{◌≡◌, ◌↔◌, IfOk, IfSome, IsTrue};
 ghost use Rattle.lp_board.specs.Blanks.{name_of};
 ghost use Rattle.lp_desk.specs.Books.{IsOf};
-ghost use Rattle.lp_log.specs.Journals.{IsReplayed};
+ghost use Rattle.lp_log.specs.Journals.{IsReplayed, events_in};
 ghost use Rattle.lp_replay.specs.Outcome.{run_of};
 
 use crate::trouble::Trouble;
 use lp_board::{Blank, DeskName};
 use lp_desk::{Commanded, Desk, Launched, OpenGate, Submitted};
-use lp_log::{Control, Journal, Seat, TurnedBy, owner};
+use lp_log::{Control, Entry, Journal, Seat, TurnedBy, owner};
 use lp_model::Consistency;
 use lp_numbers::NUMBERS;
 use lp_trace::{Trace, stack};
@@ -25,7 +25,10 @@ const SCAN_WORKERS: usize = 2;
 const READERS: usize = 1;
 
 /// Plays a trace through a desk, each event in its turn by its task's seat or by the control, closes the desk with all of
-/// these, and gives its journal. None where an event is of a task that has no seat, since it was never born.
+/// these, and gives its journal, whose events are the trace's. None where an event is of a task that has no seat, since it was
+/// never born.
+///
+/// Nobody else sends, but of a call of a `Desk` no contract says so: the journal that the close gives is looked through.
 pub fn play_in_order<T: Threads + Wait + Sync, M: Consistency + Sync>(
     rt: &T,
     alloc: Global,
@@ -35,6 +38,7 @@ pub fn play_in_order<T: Threads + Wait + Sync, M: Consistency + Sync>(
     // The journal starts as the trace does, and has the replies of the definitions.
     ensures start { IfOk result (λ journal. IfSome journal (λ journal. (journal.patches ≡ (run_of trace.now).patches) × (journal.boots ≡ trace.now.boots))) }
     ensures replayed { IfOk result (λ journal. IfSome journal (λ journal. IsReplayed M.rules journal)) }
+    ensures events { IfOk result (λ journal. IfSome journal (λ journal. events_in journal.entries ≡ trace.now.events)) }
 {
     let patches = stack(alloc, trace)?;
     match Blank::new(alloc, model, patches, trace.boots(), READERS) {
@@ -53,6 +57,7 @@ fn play_blank<T: Threads + Wait + Sync, M: Consistency + Sync, N: DeskName>(
     requires { name_of M.rules blank ≡ N.desk }
     ensures start { IfOk result (λ journal. IfSome journal (λ journal. (journal.patches ≡ blank.patches) × (journal.boots ≡ blank.boots))) }
     ensures replayed { IfOk result (λ journal. IfSome journal (λ journal. IsReplayed M.rules journal)) }
+    ensures events { IfOk result (λ journal. IfSome journal (λ journal. events_in journal.entries ≡ events.now)) }
 {
     match Desk::<M, N, OpenGate, &T>::launch(rt, alloc, blank, SCAN_WORKERS, OpenGate) {
         Ok(launched) => play_launched(rt, alloc, events, launched),
@@ -69,6 +74,7 @@ fn play_launched<T: Threads + Wait + Sync, M: Consistency + Sync, N: DeskName>(
 ) -> Result<Option<Journal>, Trouble>
     ensures named { IfOk result (λ journal. IfSome journal (IsOf N.desk M.rules)) }
     ensures replayed { IfOk result (λ journal. IfSome journal (λ journal. IsReplayed M.rules journal)) }
+    ensures events { IfOk result (λ journal. IfSome journal (λ journal. events_in journal.entries ≡ events.now)) }
 {
     let Launched {
         desk,
@@ -93,9 +99,10 @@ fn play_by<T: Threads + Wait + Sync, M: Consistency + Sync, N: DeskName>(
 ) -> Result<Option<Journal>, Trouble>
     ensures named { IfOk result (λ journal. IfSome journal (IsOf N.desk M.rules)) }
     ensures replayed { IfOk result (λ journal. IfSome journal (λ journal. IsReplayed M.rules journal)) }
+    ensures events { IfOk result (λ journal. IfSome journal (λ journal. events_in journal.entries ≡ events.now)) }
 {
     match sent(rt, alloc, &desk, events, seats, control) {
-        Ok(Some(control)) => close(rt, alloc, desk, seats, control),
+        Ok(Some(control)) => close(rt, alloc, events, desk, seats, control),
         Ok(None) => Ok(None),
         Err(cause) => Err(Trouble::Turned(cause)),
     }
@@ -158,22 +165,52 @@ fn is_submitted<T: Wait, M: Consistency, N: DeskName>(
     }
 }
 
-/// Closes the desk with all seats and the control, and gives its journal.
+/// Closes the desk with all seats and the control, and gives its journal, which has to have these events.
 fn close<T: Wait, M: Consistency, N: DeskName>(
     rt: &T,
     alloc: Global,
+    events: &[Event],
     desk: Desk<M, N, OpenGate, &T>,
     seats: &mut Seats,
     control: Control,
 ) -> Result<Option<Journal>, Trouble>
     ensures named { IfOk result (λ journal. IfSome journal (IsOf N.desk M.rules)) }
     ensures replayed { IfOk result (λ journal. IfSome journal (λ journal. IsReplayed M.rules journal)) }
+    ensures events { IfOk result (λ journal. IfSome journal (λ journal. events_in journal.entries ≡ events.now)) }
 {
     let seats = seats.take_all(alloc)?;
     match desk.close(rt, alloc, seats, control) {
-        Ok(closed) => Ok(Some(closed.journal)),
+        Ok(closed) => {
+            if !has_events(&closed.journal, events) {
+                return Err(Trouble::OtherEvents);
+            }
+            Ok(Some(closed.journal))
+        }
         Err(unclosed) => Err(Trouble::Unclosed(unclosed.cause)),
     }
+}
+
+/// Whether the journal's events are these, in their order.
+fn has_events(journal: &Journal, events: &[Event]) -> bool
+    ensures { IsTrue result → events_in journal.now.entries ≡ events.now }
+{
+    let entries = journal.entries();
+    if entries.len() != events.len() {
+        return false;
+    }
+    for (place, entry) in entries.iter().enumerate() {
+        if !is_of(entry, events[place]) {
+            return false;
+        }
+    }
+    true
+}
+
+/// Whether the entry is of this event.
+fn is_of(entry: &Entry, event: Event) -> bool
+    ensures { IsTrue result ↔ (entry.now.event ≡ event) }
+{
+    entry.event() == event
 }
 
 /// For each task number its seat, if it has one.

@@ -22,22 +22,17 @@ fn add_entry(
     add_reply(text, form, entry.number() as usize, &reply)
 }
 
-/// The lines of a journal's replies, as a report has them, as far as its events are the trace's; then one that no report
-/// has, where an entry is another event than the trace's, or one too many.
-fn journal_lines(alloc: Global, journal: &Journal, trace: &Trace) -> Result<String, AllocError> {
+/// The lines of a journal's replies, as a report has them.
+fn journal_lines(alloc: Global, journal: &Journal, form: TraceForm) -> Result<String, AllocError> {
     let mut text = String::new(alloc);
-    for (index, entry) in journal.entries().iter().enumerate() {
-        if trace.events().get(index) != Some(&entry.event()) {
-            writeln!(text, "{} of another event", entry.number())?;
-            return Ok(text);
-        }
-        add_entry(alloc, &mut text, trace.form(), entry)?;
+    for entry in journal.entries() {
+        add_entry(alloc, &mut text, form, entry)?;
     }
     Ok(text)
 }
 
-/// Plays a trace through a desk that is closed after it, whose journal has to have the replies of the report. False,
-/// and nothing is looked at, where an event is of a task that was never born, so that nobody can send it.
+/// Plays a trace through a desk that is closed after it, whose journal, which has the trace's events, has to have the replies
+/// of the report. False, and nothing is looked at, where an event is of a task that was never born, so that nobody can send it.
 pub fn play_through_desk<T: Print + Threads + Wait + Sync, M: Consistency + Sync>(
     stage: &Stage<'_, T>,
     alloc: Global,
@@ -49,7 +44,7 @@ pub fn play_through_desk<T: Print + Threads + Wait + Sync, M: Consistency + Sync
         return Ok(false);
     };
     let wanted = lines_of(alloc, report, false)?;
-    let given = journal_lines(alloc, &journal, trace)?;
+    let given = journal_lines(alloc, &journal, trace.form())?;
     compare(
         stage,
         "the desk's reply",

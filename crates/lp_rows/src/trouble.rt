@@ -29,6 +29,8 @@ pub enum Trouble {
     Launch(LaunchFault),
     /// A desk turned an event of a trace back.
     Turned(TurnedBy),
+    /// A desk's journal has other events than a trace.
+    OtherEvents,
     /// What was sent isn't what a desk's journal says.
     Unclosed(CloseCause),
     /// An allocation failed.
