@@ -34,8 +34,7 @@ pub enum Fault {
     /// An allocation failed.
     #[error("out of memory")]
     NoMemory,
-    /// No desk was launched, or an event was turned back, or the desk wasn't closed, or a thread couldn't be started: this
-    /// letter and number.
+    /// A reader of the desk's board or a thread couldn't be had: this letter and number.
     #[error("desk: {0}")]
     Desk(&'static str),
 }

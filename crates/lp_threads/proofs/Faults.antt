@@ -13,21 +13,18 @@ use Rattle.lp_threads.specs.declared.fault.ThreadsFault.TheVariants as threads
 pub in_play : (fault : ThreadsFault) (P : RunFault → Type 0) (Q : Type 0) → P NoMemory → Q → IsOfPlay fault → AtRunElse fault P Q
 in_play (threads.Run why) P Q h k is = subst P (sym is) h
 in_play threads.NoReader P Q h k is = k
-in_play threads.JournalFull P Q h k is = k
 in_play threads.NoThread P Q h k is = k
 
 -- what follows of the fault of a run
 pub at_run : (fault : ThreadsFault) (P Q : RunFault → Type 0) → ((why : RunFault) → P why → Q why) → AtRun fault P → AtRun fault Q
 at_run (threads.Run why) P Q f h = f why h
 at_run threads.NoReader P Q f h = tt
-at_run threads.JournalFull P Q f h = tt
 at_run threads.NoThread P Q f h = tt
 
 -- what is so of every fault of a run, and at the desk's own
 pub at_any : (fault : ThreadsFault) (P : RunFault → Type 0) (Q : Type 0) → ((why : RunFault) → P why) → Q → AtRunElse fault P Q
 at_any (threads.Run why) P Q f h = f why
 at_any threads.NoReader P Q f h = h
-at_any threads.JournalFull P Q f h = h
 at_any threads.NoThread P Q f h = h
 
 -- a fault in writing, as it is returned
@@ -44,5 +41,4 @@ of_play fault (Err e) is h = subst IsOfPlay (sym is) h
 pub at_desk : (fault : ThreadsFault) (P Q : Type 0) → (P → Q) → AtDesk fault P → AtDesk fault Q
 at_desk (threads.Run why) P Q f h = tt
 at_desk threads.NoReader P Q f h = f h
-at_desk threads.JournalFull P Q f h = f h
 at_desk threads.NoThread P Q f h = f h

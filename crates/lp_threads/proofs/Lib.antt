@@ -1,3 +1,5 @@
 pub mod Faults
 pub mod Dealt
 mod Players
+mod Counting
+mod Sent

@@ -1,6 +1,7 @@
 -- Seats that are played, one after another, and gathered.
 use Rattle.std.proofs.Common.{◌≡◌, ◌⊎◌, ℕ, zero, suc, ◌+◌, ◌<◌, Bool, true, false, cond, List, [], ◌∷◌, ◌++◌, map, get_or, length, nat_eq, Option, Some, None, option_map, option_to_list, refl, sym, ap, subst, take-append-drop, ◌∙◌, ⊎_elim, inl, inr, arith, append-nil}
-use Rattle.std.specs.Prelude.{All, Contains, take, drop}
+use Rattle.std.specs.Prelude.{All, Contains, MatchOption, take, drop}
+use Rattle.std.specs.Option.{option_or}
 use Rattle.std.proofs.lemmas.Bool.{eqb-true, eq-eqb}
 use Rattle.std.proofs.lemmas.List.Elements.{All-append, All-contains, All-head, All-nil, All-push, All-tail, All-take, Contains-append_left, Contains-push}
 use Rattle.std.proofs.lemmas.List.Sums.{sum_by-append}
@@ -13,9 +14,9 @@ use Rattle.lp_log.specs.Journals.{events_in}
 use Rattle.lp_log.specs.Seats.{Seated, and_sent, new_seat}
 use Rattle.lp_log.proofs.Places.{seats_first}
 use Rattle.lp_owned.specs.Owned.{AreAllIn}
-use Rattle.lp_threads.specs.Plays.{events_of}
+use Rattle.lp_threads.specs.Plays.{events_of, events_of_control}
 use Rattle.lp_threads.proofs.Dealt.{sent_more, written}
-use Rattle.lp_threads.specs.inside.Players.{AreCovered, Grows, HasPlayed, HaveSeats, IsPlayed, IsSentAll, IsSentBy}
+use Rattle.lp_threads.specs.inside.Players.{AreBegun, AreCovered, Grows, HasPlayed, HaveSeats, IsBegun, IsBegunAt, IsCommanded, IsFull, IsPlayed, IsSentBy}
 
 -- ---- Seats of more lists
 
@@ -46,11 +47,61 @@ have_more entries xs ys more have = λ k d within c is. more c (have k d within 
 all_have_more : (seats xs ys : List Seated) → ((t : ℕ) → 0 < seats_of xs t → 0 < seats_of ys t) → All (λ (seat : Seated). HaveSeats seat.entries xs) seats → All (λ (seat : Seated). HaveSeats seat.entries ys) seats
 all_have_more seats xs ys more all = λ k d within. have_more _ xs ys more (all k d within)
 
+-- ---- As far as events were left
+
+-- what is so without a value, and with one
+pub when_none : {X : Type 0} (o : Option X) (A : Type 0) (B : X → Type 0) → o ≡ None → MatchOption o A B → A
+when_none {X} o A B is h = subst (λ (p : Option X). MatchOption p A B) is h
+
+pub when_some : {X : Type 0} (o : Option X) (x : X) (A : Type 0) (B : X → Type 0) → o ≡ Some x → MatchOption o A B → B x
+when_some {X} o x A B is h = subst (λ (p : Option X). MatchOption p A B) is h
+
+-- who is told later only makes it less
+pub begun_first : (one other : Option (List Event)) (script sent : List Event) → IsBegun one script sent → IsBegun (option_or one other) script sent
+begun_first one other script sent was = record { rest = was.rest; parts = was.parts; all = at one was.all }
+  where
+    at : (told : Option (List Event)) → (told ≡ None → was.rest ≡ []) → option_or told other ≡ None → was.rest ≡ []
+    at None all is = all refl
+    at (Some events) all is = cc
+
+pub begun_second : (one other : Option (List Event)) (script sent : List Event) → IsBegun other script sent → IsBegun (option_or one other) script sent
+begun_second one other script sent was = record { rest = was.rest; parts = was.parts; all = at one }
+  where
+    at : (told : Option (List Event)) → option_or told other ≡ None → was.rest ≡ []
+    at None is = was.all is
+    at (Some events) is = cc
+
+pub full_of_both : (one other : Option (List Event)) → IsFull one → IsFull other → IsFull (option_or one other)
+full_of_both None other a b = b
+full_of_both (Some events) other a b = a
+
+begun_seats_first : (one other : Option (List Event)) (events : List Event) (seats : List Seated) → All (IsBegunAt one events) seats → All (IsBegunAt (option_or one other) events) seats
+begun_seats_first one other events seats all = λ k d within. begun_first one other _ _ (all k d within)
+
+begun_seats_second : (one other : Option (List Event)) (events : List Event) (seats : List Seated) → All (IsBegunAt other events) seats → All (IsBegunAt (option_or one other) events) seats
+begun_seats_second one other events seats all = λ k d within. begun_second one other _ _ (all k d within)
+
+-- what was sent of a script, one after another
+pub begun_by : (full : Option (List Event)) (script sent : List Event) (i : ℕ) → sent ≡ take i script → (full ≡ None → take i script ≡ script) → IsBegun full script sent
+begun_by full script sent i is all = record {
+  rest = drop i script;
+  parts = sym (ap (λ (front : List Event). front ++ drop i script) is ∙ take-append-drop i script);
+  all = λ none. nothing (take i script) (drop i script) (take-append-drop i script ∙ sym (all none));
+}
+  where
+    nothing : (front rest : List Event) → front ++ rest ≡ front → rest ≡ []
+    nothing [] rest e = e
+    nothing (x ∷ front) rest e = nothing front rest (tail e)
+      where
+        tail : x ∷ (front ++ rest) ≡ x ∷ front → front ++ rest ≡ front
+        tail e = cc
+
 -- ---- A seat is played
 
 -- the seats of a player, of which some were played and others wait
-pub record IsPlaying (events : List Event) (hand played waiting : List Seated) : Type 0 where
-  pub sent : All (IsSentAll events) played
+pub record IsPlaying (events : List Event) (hand played waiting : List Seated) (full : Option (List Event)) : Type 0 where
+  pub sent : All (IsBegunAt full events) played
+  pub room : IsFull full
   pub new : All (λ (seat : Seated). seat.entries ≡ []) waiting
   pub given : All (λ (seat : Seated). 0 < seats_of (played ++ waiting) seat.task) hand
   pub children : All (λ (seat : Seated). HaveSeats seat.entries (played ++ waiting)) played
@@ -68,18 +119,20 @@ its_own (first ∷ hand) = go (its_own hand)
         let n = seats_first (get_or hand k d).task first hand in
         omega arith
 
-pub starts_playing : (events : List Event) (hand : List Seated) → All (λ (seat : Seated). seat.entries ≡ []) hand → IsPlaying events hand [] hand
+pub starts_playing : (events : List Event) (hand : List Seated) → All (λ (seat : Seated). seat.entries ≡ []) hand → IsPlaying events hand [] hand None
 starts_playing events hand new = record {
-  sent = All-nil (IsSentAll events);
+  sent = All-nil (IsBegunAt None events);
+  room = tt;
   new = new;
   given = its_own hand;
   children = All-nil (λ (seat : Seated). HaveSeats seat.entries ([] ++ hand));
 }
 
-pub plays_on : (events : List Event) (hand played : List Seated) (seat back : Seated) (rest waiting : List Seated)
-    → IsPlaying events hand played (seat ∷ rest) → HasPlayed events seat back rest waiting → IsPlaying events hand (played ++ back ∷ []) waiting
-plays_on events hand played seat back rest waiting was done = record {
-  sent = All-push (IsSentAll events) played back was.sent done.sent;
+pub plays_on : (events : List Event) (hand played : List Seated) (seat back : Seated) (rest waiting : List Seated) (full stopped : Option (List Event))
+    → IsPlaying events hand played (seat ∷ rest) full → HasPlayed events seat back stopped rest waiting → IsFull stopped → IsPlaying events hand (played ++ back ∷ []) waiting (option_or full stopped)
+plays_on events hand played seat back rest waiting full stopped was done room = record {
+  sent = All-push (IsBegunAt (option_or full stopped) events) played back (begun_seats_first full stopped events played was.sent) (begun_second full stopped _ _ done.sent);
+  room = full_of_both full stopped was.room room;
   new = done.grows.new (All-tail (λ (s : Seated). s.entries ≡ []) seat rest was.new);
   given = λ k d within. more _ (was.given k d within);
   children = All-push (λ (s : Seated). HaveSeats s.entries ((played ++ back ∷ []) ++ waiting)) played back
@@ -103,9 +156,10 @@ plays_on events hand played seat back rest waiting was done = record {
         some_or_none zero = inr refl
         some_or_none (suc n) = inl (omega arith)
 
-pub ends_playing : (events : List Event) (hand played : List Seated) → IsPlaying events hand played [] → IsPlayed events hand played
-ends_playing events hand played was = record {
+pub ends_playing : (events : List Event) (hand played : List Seated) (full : Option (List Event)) → IsPlaying events hand played [] full → IsPlayed events hand played full
+ends_playing events hand played full was = record {
   sent = was.sent;
+  room = was.room;
   given = subst (λ (all : List Seated). All (λ (seat : Seated). 0 < seats_of all seat.task) hand) (append-nil played) was.given;
   children = subst (λ (all : List Seated). All (λ (seat : Seated). HaveSeats seat.entries all) played) (append-nil played) was.children;
 }
@@ -127,25 +181,28 @@ played_of (seat ∷ hand) played all t some = at (nat_eq t seat.task) refl (λ n
 abbrev pub IsIn : {H : Type 0} → (H → List Seated) → List Seated → H → Type 0
 IsIn hand all thread = (t : ℕ) → 0 < seats_of (hand thread) t → 0 < seats_of all t
 
-pub record AreGathered {H : Type 0} (hand : H → List Seated) (events : List Event) (threads : List H) (all : List Seated) : Type 0 where
+pub record AreGathered {H : Type 0} (hand : H → List Seated) (events : List Event) (threads : List H) (all : List Seated) (full : Option (List Event)) : Type 0 where
   pub given : All (IsIn hand all) threads
-  pub sent : All (IsSentAll events) all
+  pub sent : All (IsBegunAt full events) all
+  pub room : IsFull full
   pub children : All (λ (seat : Seated). HaveSeats seat.entries all) all
 
-pub none_gathered : {H : Type 0} (hand : H → List Seated) (events : List Event) → AreGathered hand events [] []
+pub none_gathered : {H : Type 0} (hand : H → List Seated) (events : List Event) → AreGathered hand events [] [] None
 none_gathered hand events = record {
   given = All-nil (IsIn hand []);
-  sent = All-nil (IsSentAll events);
+  sent = All-nil (IsBegunAt None events);
+  room = tt;
   children = All-nil (λ (seat : Seated). HaveSeats seat.entries []);
 }
 
-pub one_gathered : {H : Type 0} (hand : H → List Seated) (events : List Event) (threads : List H) (thread : H) (all played : List Seated)
-    → AreGathered hand events threads all → IsPlayed events (hand thread) played → AreGathered hand events (threads ++ thread ∷ []) (all ++ played)
-one_gathered hand events threads thread all played was done = record {
+pub one_gathered : {H : Type 0} (hand : H → List Seated) (events : List Event) (threads : List H) (thread : H) (all played : List Seated) (full stopped : Option (List Event))
+    → AreGathered hand events threads all full → IsPlayed events (hand thread) played stopped → AreGathered hand events (threads ++ thread ∷ []) (all ++ played) (option_or full stopped)
+one_gathered hand events threads thread all played full stopped was done = record {
   given = All-push (IsIn hand (all ++ played)) threads thread
       (λ k d within t some. in_left all played t (was.given k d within t some))
       (λ t some. in_right all played t (played_of (hand thread) played done.given t some));
-  sent = All-append (IsSentAll events) all played was.sent done.sent;
+  sent = All-append (IsBegunAt (option_or full stopped) events) all played (begun_seats_first full stopped events all was.sent) (begun_seats_second full stopped events played done.sent);
+  room = full_of_both full stopped was.room done.room;
   children = All-append (λ (seat : Seated). HaveSeats seat.entries (all ++ played)) all played
       (all_have_more all all (all ++ played) (in_left all played) was.children)
       (all_have_more played played (all ++ played) (in_right all played) done.children);
@@ -274,34 +331,36 @@ goes_midway events script i d start seat back before waiting after within was do
     same : back.task ≡ seat.task
     same = ap (λ (s : Seated). s.task) done.sent
 
-pub ends_midway : (events script : List Event) (i : ℕ) (start seat : Seated) (before waiting : List Seated)
-    → take i script ≡ script → IsMidway events script i start seat before waiting → HasPlayed events start seat before waiting
-ends_midway events script i start seat before waiting all was = record {
-  task = was.task;
-  sent = was.sent ∙ all ∙ was.its;
-  children = was.children;
-  grows = was.grows;
-}
+pub ends_midway : (events script : List Event) (i : ℕ) (start seat back : Seated) (full : Option (List Event)) (before waiting after : List Seated)
+    → IsMidway events script i start seat before waiting → back ≡ seat → after ≡ waiting → (full ≡ None → take i script ≡ script) → HasPlayed events start back full before after
+ends_midway events script i start seat back full before waiting after was same stay all =
+    subst (λ (s : Seated). HasPlayed events start s full before after) (sym same)
+    (subst (HasPlayed events start seat full before) (sym stay) (record {
+      task = was.task;
+      sent = subst (λ (es : List Event). IsBegun full es (events_in seat.entries)) was.its (begun_by full script (events_in seat.entries) i was.sent all);
+      children = was.children;
+      grows = was.grows;
+    }))
 
 -- ---- The same of lists that are others by name
 
-pub is_playing : (events : List Event) (hand played waiting : List Seated) → All (λ (seat : Seated). seat.entries ≡ []) hand → played ≡ [] → waiting ≡ hand → IsPlaying events hand played waiting
+pub is_playing : (events : List Event) (hand played waiting : List Seated) → All (λ (seat : Seated). seat.entries ≡ []) hand → played ≡ [] → waiting ≡ hand → IsPlaying events hand played waiting None
 is_playing events hand played waiting new none all =
-    subst (λ (p : List Seated). IsPlaying events hand p waiting) (sym none) (subst (IsPlaying events hand []) (sym all) (starts_playing events hand new))
+    subst (λ (p : List Seated). IsPlaying events hand p waiting None) (sym none) (subst (λ (w : List Seated). IsPlaying events hand [] w None) (sym all) (starts_playing events hand new))
 
-pub first_waits : (events : List Event) (hand played waiting : List Seated) (seat : Seated) (rest : List Seated)
-    → IsPlaying events hand played waiting → waiting ≡ seat ∷ rest → seat.entries ≡ []
-first_waits events hand played waiting seat rest was is =
+pub first_waits : (events : List Event) (hand played waiting : List Seated) (seat : Seated) (rest : List Seated) (full : Option (List Event))
+    → IsPlaying events hand played waiting full → waiting ≡ seat ∷ rest → seat.entries ≡ []
+first_waits events hand played waiting seat rest full was is =
     All-head (λ (s : Seated). s.entries ≡ []) seat rest (subst (λ (l : List Seated). All (λ (s : Seated). s.entries ≡ []) l) is was.new)
 
-pub still_playing : (events : List Event) (hand played waiting : List Seated) (seat back : Seated) (rest after more : List Seated)
-    → IsPlaying events hand played waiting → waiting ≡ seat ∷ rest → HasPlayed events seat back rest after → more ≡ played ++ back ∷ [] → IsPlaying events hand more after
-still_playing events hand played waiting seat back rest after more was is done all =
-    subst (λ (p : List Seated). IsPlaying events hand p after) (sym all)
-    (plays_on events hand played seat back rest after (subst (IsPlaying events hand played) is was) done)
+pub still_playing : (events : List Event) (hand played waiting : List Seated) (seat back : Seated) (rest after more : List Seated) (full stopped : Option (List Event))
+    → IsPlaying events hand played waiting full → waiting ≡ seat ∷ rest → HasPlayed events seat back stopped rest after → IsFull stopped → more ≡ played ++ back ∷ [] → IsPlaying events hand more after (option_or full stopped)
+still_playing events hand played waiting seat back rest after more full stopped was is done room all =
+    subst (λ (p : List Seated). IsPlaying events hand p after (option_or full stopped)) (sym all)
+    (plays_on events hand played seat back rest after full stopped (subst (λ (w : List Seated). IsPlaying events hand played w full) is was) done room)
 
-pub has_played : (events : List Event) (hand played waiting : List Seated) → IsPlaying events hand played waiting → waiting ≡ [] → IsPlayed events hand played
-has_played events hand played waiting was none = ends_playing events hand played (subst (IsPlaying events hand played) none was)
+pub has_played : (events : List Event) (hand played waiting : List Seated) (full : Option (List Event)) → IsPlaying events hand played waiting full → waiting ≡ [] → IsPlayed events hand played full
+has_played events hand played waiting full was none = ends_playing events hand played full (subst (λ (w : List Seated). IsPlaying events hand played w full) none was)
 
 -- the seats that are left are new, and the others were given to threads
 pub record IsStarting {H : Type 0} (hand : H → List Seated) (seats left : List Seated) (threads : List H) : Type 0 where
@@ -327,3 +386,21 @@ all_started hand seats left threads was none = subst (λ (l : List Seated). AreC
 
 pub split_parts : (n : ℕ) (left rest part : List Seated) → rest ≡ take n left → part ≡ drop n left → left ≡ rest ++ part
 split_parts n left rest part e t = sym (ap (λ (l : List Seated). l ++ part) e ∙ ap (λ (l : List Seated). take n left ++ l) t ∙ take-append-drop n left)
+
+-- ---- The control, and all together
+
+pub commanded : (events script : List Event) (i : ℕ) (control back : List Entry) (full : Option (List Event))
+    → script ≡ events_of_control events → events_in control ≡ take i script → back ≡ control → (full ≡ None → take i script ≡ script) → IsFull full → IsCommanded events back full
+commanded events script i control back full its sent same all room =
+    subst (λ (entries : List Entry). IsCommanded events entries full) (sym same) (record {
+      sent = subst (λ (es : List Event). IsBegun full es (events_in control)) its (begun_by full script (events_in control) i sent all);
+      room = room;
+    })
+
+pub both_begun : (events : List Event) (seats : List Seated) (control : List Entry) (full stopped : Option (List Event))
+    → All (IsBegunAt full events) seats → IsFull full → IsCommanded events control stopped → AreBegun (option_or full stopped) events seats control
+both_begun events seats control full stopped sent room done = record {
+  from_seats = begun_seats_first full stopped events seats sent;
+  from_control = begun_second full stopped _ _ done.sent;
+  room = full_of_both full stopped room done.room;
+}

@@ -8,5 +8,4 @@ use Rattle.lp_threads.specs.declared.fault.ThreadsFault.TheVariants as threads
 abbrev pub code_of : ThreadsFault → Result (List ℕ) RunFault
 code_of (threads.Run fault) = Err fault
 code_of threads.NoReader = Ok (codes "T5")
-code_of threads.JournalFull = Ok (codes "E14")
 code_of threads.NoThread = Ok (codes "D5")

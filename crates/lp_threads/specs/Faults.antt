@@ -10,7 +10,6 @@ use Rattle.lp_replay.specs.declared.run_fault.RunFault.TheVariants.{NoMemory}
 abbrev pub AtRunElse : ThreadsFault → (RunFault → Type 0) → Type 0 → Type 0
 AtRunElse (threads.Run fault) P Q = P fault
 AtRunElse threads.NoReader P Q = Q
-AtRunElse threads.JournalFull P Q = Q
 AtRunElse threads.NoThread P Q = Q
 
 -- this holds of a fault as of a run

@@ -1,15 +1,13 @@
 //! Why threads didn't play a trace to its end.
-ghost use Rattle.std.specs.Prelude.{◌≡◌, ◌≢◌, ◌⊎◌, Err, IfErr, IfOk, Ok};
+ghost use Rattle.std.specs.Prelude.{◌≡◌, ◌⊎◌, Err, IfErr, IfOk, Ok};
 ghost use Rattle.lp_transition.specs.declared.engine.boot.BootFault.TheVariants as boot_fault;
 ghost use Rattle.lp_board.specs.declared.launch.LaunchFault.TheVariants.{Boot, NoBoard};
-ghost use Rattle.lp_log.specs.declared.seat.TurnedBy.TheVariants.{NotYours};
 ghost use Rattle.lp_threads.specs.Codes.{code_of};
 ghost use Rattle.lp_threads.specs.Faults.{IsOfPlay};
 ghost use Rattle.lp_threads.specs.declared.fault.ThreadsFault.TheVariants.{Run};
 ghost use Rattle.lp_replay.specs.declared.run_fault.RunFault.TheVariants.{NoMemory, Write};
 
 use lp_board::LaunchFault;
-use lp_log::TurnedBy;
 use lp_replay::{ReplayFault, RunFault, WriteFault};
 use lp_transition::BootFault;
 use std::alloc::AllocError;
@@ -24,9 +22,6 @@ pub enum ThreadsFault {
     /// T5: a reader of the board couldn't be had.
     #[error("a reader of the board couldn't be had")]
     NoReader,
-    /// E14: 1,000,000 events are numbered.
-    #[error("1,000,000 events are numbered")]
-    JournalFull,
     /// D5: a thread couldn't be started.
     #[error("a thread couldn't be started")]
     NoThread,
@@ -41,7 +36,6 @@ impl ThreadsFault {
         match self {
             ThreadsFault::Run(fault) => Err(fault),
             ThreadsFault::NoReader => Ok("T5"),
-            ThreadsFault::JournalFull => Ok("E14"),
             ThreadsFault::NoThread => Ok("D5"),
         }
     }
@@ -54,17 +48,6 @@ impl ThreadsFault {
         match fault {
             LaunchFault::Boot(_) | LaunchFault::BadCrew => ThreadsFault::Run(RunFault::NoMemory),
             LaunchFault::NoBoard => ThreadsFault::NoReader,
-        }
-    }
-
-    /// An event of the sender's own was turned back.
-    pub(crate) fn of_turned(cause: TurnedBy) -> ThreadsFault
-        requires { cause ≢ NotYours }
-        ensures { IsOfPlay result }
-    {
-        match cause {
-            TurnedBy::NotYours | TurnedBy::NoMemory => ThreadsFault::Run(RunFault::NoMemory),
-            TurnedBy::JournalFull => ThreadsFault::JournalFull,
         }
     }
 }

@@ -1,18 +1,14 @@
 //! The threads of a play, and what they promise to hand in.
-ghost use Rattle.std.specs.Prelude.{◌≡◌, ◌≢◌, ◌<◌, [], All, IfErr, IfOk, ℕ};
+ghost use Rattle.std.specs.Prelude.{◌≡◌, ◌<◌, [], All, IfErr, IfOk, ℕ};
 ghost use Rattle.lp_log.specs.Audits.{seats_of};
-ghost use Rattle.lp_log.specs.Journals.{events_in};
-ghost use Rattle.lp_log.specs.declared.seat.TurnedBy.TheVariants.{NotYours};
-ghost use Rattle.lp_threads.specs.Plays.{events_of_control};
 ghost use Rattle.lp_threads.specs.Faults.{IsOfPlay};
-ghost use Rattle.lp_threads.specs.inside.Players.{AreCovered, HaveSeats, IsPlayed, IsSentAll};
+ghost use Rattle.lp_threads.specs.inside.Players.{AreCovered, HaveSeats, IsBegunAt, IsCommanded, IsFull, IsPlayed};
 
 use crate::ThreadsFault;
-use crate::play::{play_control, play_seats};
+use crate::play::{Hand, play_control, play_seats};
 use crate::scripts::Scripts;
 use crate::trace_name::TraceName;
-use lp_board::DeskName;
-use lp_log::TurnedBy;
+use lp_board::{DeskName, Told};
 use lp_model::Consistency;
 use lp_owned::{OwnedControl, OwnedDesk, OwnedSeat, Place};
 use lp_scan::ScanGate;
@@ -26,42 +22,40 @@ use std::thread::{Promise, PromisedHandle, Scope, Threads};
 const MOST_PLAYERS: usize = 64;
 
 /// What a player returns.
-type Played<N> = Result<Vec<OwnedSeat<N>>, TurnedBy>;
+type Played<N> = Result<Hand<N>, AllocError>;
 
 /// What the control's thread returns.
-type Commanded<N> = Result<OwnedControl<N>, TurnedBy>;
+type Commanded<N> = Result<(OwnedControl<N>, Option<Told<N>>), AllocError>;
 
-/// A player's promise: it was given these seats, and all events of their tasks and of their children's are sent.
+/// A player's promise: it was given these seats, and all events of their tasks and of their children's are sent, as far as
+/// events were left.
 #[derive(Drop)]
 pub(crate) struct HandOf<S: TraceName, N: Place> {
     hand: Snapshot<Vec<OwnedSeat<N>>>,
     of: PhantomData<S>,
 }
 
-impl<S: TraceName, N: Place> Promise<Result<Vec<OwnedSeat<N>>, TurnedBy>> for HandOf<S, N> {
-    ghost use Rattle.std.specs.Prelude.{◌≢◌, MatchResult};
-    ghost use Rattle.lp_log.specs.declared.seat.TurnedBy.TheVariants.{NotYours};
+impl<S: TraceName, N: DeskName + Place> Promise<Result<Hand<N>, AllocError>> for HandOf<S, N> {
+    ghost use Rattle.std.specs.Prelude.{IfOk};
     ghost use Rattle.lp_threads.specs.inside.Players.{IsPlayed};
 
-    ghost kept_by = { λ p r. MatchResult r (λ played. IsPlayed S.events p.hand.value.items played.items) (λ cause. cause ≢ NotYours) };
+    ghost kept_by = { λ p r. IfOk r (λ played. IsPlayed S.events p.hand.value.items played.seats.items played.full) };
 }
 
-/// The control's promise: all scans and control events of the trace are sent.
+/// The control's promise: all scans and control events of the trace are sent, as far as events were left.
 #[derive(Drop)]
 pub(crate) struct AllOf<S: TraceName>(PhantomData<S>);
 
-impl<S: TraceName, N: Place> Promise<Result<OwnedControl<N>, TurnedBy>> for AllOf<S> {
-    ghost use Rattle.std.specs.Prelude.{◌≡◌, ◌≢◌, MatchResult};
-    ghost use Rattle.lp_log.specs.Journals.{events_in};
-    ghost use Rattle.lp_log.specs.declared.seat.TurnedBy.TheVariants.{NotYours};
-    ghost use Rattle.lp_threads.specs.Plays.{events_of_control};
+impl<S: TraceName, N: DeskName + Place> Promise<Commanded<N>> for AllOf<S> {
+    ghost use Rattle.std.specs.Prelude.{IfOk};
+    ghost use Rattle.lp_threads.specs.inside.Players.{IsCommanded};
 
-    ghost kept_by = { λ _ r. MatchResult r (λ control. events_in control ≡ events_of_control S.events) (λ cause. cause ≢ NotYours) };
+    ghost kept_by = { λ _ r. IfOk r (λ played. IsCommanded S.events played.0 played.1) };
 }
 
 /// The threads that were started.
 #[derive(Drop)]
-pub(crate) struct Started<S: TraceName, N: Place> {
+pub(crate) struct Started<S: TraceName, N: DeskName + Place> {
     pub(crate) control: PromisedHandle<Commanded<N>, AllOf<S>>,
     pub(crate) hands: Vec<PromisedHandle<Played<N>, HandOf<S, N>>>,
 }
@@ -92,8 +86,7 @@ pub(crate) fn start<
 {
     let commanding = move || -> Commanded<N>
         requires { control ≡ [] }
-        ensures played { IfOk result (λ back. events_in back ≡ events_of_control S.events) }
-        ensures own { IfErr result (λ cause. cause ≢ NotYours) }
+        ensures { IfOk result (λ played. IsCommanded S.events played.0 played.1) }
     { play_control(rt, alloc, desk, scripts, control) };
     let Ok(control) = scope.spawn_with(AllOf(PhantomData), commanding) else {
         return Err(ThreadsFault::NoThread);
@@ -142,8 +135,7 @@ fn start_player<
     };
     let playing = move || -> Played<N>
         requires { All (λ seat. seat.entries ≡ []) hand.items }
-        ensures played { IfOk result (λ played. IsPlayed S.events hand.items played.items) }
-        ensures own { IfErr result (λ cause. cause ≢ NotYours) }
+        ensures { IfOk result (λ played. IsPlayed S.events hand.items played.seats.items played.full) }
     { play_seats(rt, alloc, desk, scripts, hand) };
     match scope.spawn_with(promise, playing) {
         Ok(handle) => Ok(handle),
@@ -156,16 +148,21 @@ pub(crate) fn gather<T: Threads, N: DeskName + Place, S: TraceName>(
     rt: &T,
     alloc: Global,
     hands: Vec<PromisedHandle<Played<N>, HandOf<S, N>>>,
-) -> Result<Vec<OwnedSeat<N>>, TurnedBy>
-    ensures given { IfOk result (λ all. All (λ h. (t : ℕ) → 0 < seats_of h.promise.hand.value.items t → 0 < seats_of all.items t) hands.items) }
-    ensures sent { IfOk result (λ all. All (IsSentAll S.events) all.items) }
-    ensures children { IfOk result (λ all. All (λ seat. HaveSeats seat.entries all.items) all.items) }
-    ensures own { IfErr result (λ cause. cause ≢ NotYours) }
+) -> Result<Hand<N>, AllocError>
+    ensures given { IfOk result (λ all. All (λ h. (t : ℕ) → 0 < seats_of h.promise.hand.value.items t → 0 < seats_of all.seats.items t) hands.items) }
+    ensures sent { IfOk result (λ all. All (IsBegunAt all.full S.events) all.seats.items) }
+    ensures full { IfOk result (λ all. IsFull all.full) }
+    ensures children { IfOk result (λ all. All (λ seat. HaveSeats seat.entries all.seats.items) all.seats.items) }
 {
     let mut all = Vec::new(alloc);
+    let mut full = None;
     for hand in hands {
-        let mut played = hand.join(rt)?;
-        all.append(&mut played)?;
+        let Hand {
+            mut seats,
+            full: stopped,
+        } = hand.join(rt)?;
+        all.append(&mut seats)?;
+        full = full.or(stopped);
     }
-    Ok(all)
+    Ok(Hand { seats: all, full })
 }

@@ -1,6 +1,7 @@
 //! A trace, played by threads.
-ghost use Rattle.std.specs.Prelude.{◌≡◌, [], All, Err, IfErr, IfOk, IfSome, MatchResult, OnOk, map};
+ghost use Rattle.std.specs.Prelude.{◌≡◌, [], All, Err, IfErr, IfOk, IfSome, IsTrue, MatchResult, OnOk, map};
 ghost use Rattle.std.specs.Io.KnownBytes.{Appends};
+ghost use mathlib.Core.List.{IsPrefix};
 ghost use Rattle.lp_board.specs.Blanks.{name_of};
 ghost use Rattle.lp_replay.specs.Outcome.{run_of};
 ghost use Rattle.lp_text.specs.Counts.{AtMost, next};
@@ -11,16 +12,17 @@ ghost use Rattle.lp_replay.specs.Runs.{AtReading, AtTrace, AtWrite, ReadsTrace};
 ghost use Rattle.lp_threads.specs.Faults.{AtDesk, AtRun, ButForReader, ButForWriter, IsOfPlay};
 ghost use Rattle.lp_log.specs.Seats.{new_seat};
 ghost use Rattle.lp_owned.specs.Owned.{AreAllIn};
-ghost use Rattle.lp_threads.specs.Plays.{AreSent, IsPlay, play_text};
-ghost use Rattle.lp_threads.specs.inside.Players.{AreCovered};
+ghost use Rattle.lp_threads.specs.Plays.{IsPlay, play_text};
+ghost use Rattle.lp_threads.specs.inside.Players.{AreBegun, AreCovered};
 ghost use Rattle.lp_threads.specs.declared.report.Play.{Play};
 
 use crate::ThreadsFault;
 use crate::hands::{Started, gather, start};
+use crate::play::Hand;
 use crate::report::{Play, write_play};
 use crate::scripts::Scripts;
 use crate::trace_name::TraceName;
-use lp_board::DeskName;
+use lp_board::{AllTold, DeskName, Told};
 use lp_model::Consistency;
 use lp_owned::{OwnedBlank, OwnedControl, OwnedDesk, OwnedLaunched, OwnedSeat, Place};
 use lp_replay::{Counted, Trace, read_trace, stack};
@@ -151,11 +153,15 @@ fn play_launched<
         readers,
     } = launched;
     drop(readers);
-    let (seats, control) = played(rt, alloc, &desk, scripts, seats, control)?;
+    let (hand, control) = played(rt, alloc, &desk, scripts, seats, control)?;
+    let Hand { seats, full } = hand;
     let given = seats.len();
     let Ok(closed) = desk.close(rt, seats, control) else {
         unreachable!()
     };
+    if !is_told(&closed.told, full.as_ref()) {
+        return Err(ThreadsFault::from(AllocError));
+    }
     let events = closed.journal.entries().len();
     let skipped = trace.events().len().saturating_sub(events);
     Ok(Play {
@@ -163,6 +169,17 @@ fn play_launched<
         events,
         skipped,
     })
+}
+
+/// Whether what was told where no event was left begins the journal, which then has as many events as a trace can have: so
+/// all were sent. It always does: nobody is told of an event that isn't published, but of the board no contract says so.
+fn is_told<N: DeskName>(all: &AllTold<N>, full: Option<&Told<N>>) -> bool
+    ensures { IsTrue result → IfSome full (λ told. IsPrefix told.now all.now) }
+{
+    match full {
+        Some(told) => all.told().begins_with(told),
+        None => true,
+    }
 }
 
 /// A value in a box; AllocError where an allocation failed.
@@ -173,7 +190,7 @@ pub(crate) fn boxed<X: Drop>(alloc: Global, value: X) -> Result<Box<X>, AllocErr
 }
 
 /// Lets threads send all scripts from these seats and the control, and gives what comes back: these seats, and those of all
-/// children.
+/// children; and what was told where no event was left.
 fn played<
     T: Threads + Wait + Sync,
     M: Consistency + Send + Sync,
@@ -187,12 +204,12 @@ fn played<
     scripts: &Scripts<S>,
     seats: Vec<OwnedSeat<N>>,
     control: OwnedControl<N>,
-) -> Result<(Vec<OwnedSeat<N>>, OwnedControl<N>), ThreadsFault>
+) -> Result<(Hand<N>, OwnedControl<N>), ThreadsFault>
     requires new { All (λ seat. seat.entries ≡ []) seats.items }
     requires seats { seats.items ≡ map (λ boot. new_seat boot.0.0) N.desk.boots }
     requires control { control ≡ [] }
-    ensures sent { IfOk result (λ parts. AreSent S.events parts.0.items parts.1) }
-    ensures all_in { IfOk result (λ parts. AreAllIn N.desk.boots parts.0.items) }
+    ensures sent { IfOk result (λ parts. AreBegun parts.0.full S.events parts.0.seats.items parts.1) }
+    ensures all_in { IfOk result (λ parts. AreAllIn N.desk.boots parts.0.seats.items) }
     ensures fault { IfErr result (λ fault. IsOfPlay fault) }
 {
     let started = thread::scope(
@@ -206,8 +223,8 @@ fn played<
         { start(scope, rt, alloc, desk, scripts, seats, control) },
     );
     let Started { control, hands } = started?;
-    match (control.join(rt), gather(rt, alloc, hands)) {
-        (Ok(control), Ok(seats)) => Ok((seats, control)),
-        (Err(cause), _) | (_, Err(cause)) => Err(ThreadsFault::of_turned(cause)),
-    }
+    let (control, stopped) = control.join(rt)?;
+    let Hand { seats, full } = gather(rt, alloc, hands)?;
+    let full = full.or(stopped);
+    Ok((Hand { seats, full }, control))
 }

@@ -1,4 +1,5 @@
 use Rattle.std.proofs.Common.{◌≡◌, ◌∷◌, ◌++◌, [], All, List, ap, arith, length, subst, sym, ◌∙◌, append_assoc, append-nil}
+use Rattle.std.specs.Option.{option_or}
 use Rattle.std.specs.Vec.Iter.{into_iter_items}
 use Rattle.lp_owned.proofs.Back.{nothing_left}
 use Rattle.lp_log.specs.Seats.{Seated}
@@ -10,9 +11,11 @@ loop-hand-preserved g c =
     let at = c.loop-hand in
     let x = c.in-Some.hand in
     let steps : into_iter_items at.hand-iterator ≡ x ∷ into_iter_items c.next.new.self = c.in-Some.ensures.steps.0 in
-    let done = one_gathered (λ h. h.promise.hand.value.items) g.S.TraceName.events at.yielded x at.all.items c.in_ok-played.played.items at.invariant.1 c.in_ok-played.ensures in (
+    let played = c.in_ok-seats.field-0 in
+    let done = one_gathered (λ h. h.promise.hand.value.items) g.S.TraceName.events at.yielded x at.all.items played.seats.items at.full played.full at.invariant.1 c.in_ok-seats.ensures in
+    let all = subst (λ (l : List Seated). AreGathered (λ h. h.promise.hand.value.items) g.S.TraceName.events (at.yielded ++ x ∷ []) l (option_or at.full played.full)) (sym c.in_ok-append.ensures.items) done in (
       append_assoc at.yielded (x ∷ []) (into_iter_items c.next.new.self) ∙ ap (λ l. at.yielded ++ l) (sym steps) ∙ at.invariant.0,
-      subst (λ (l : List Seated). AreGathered (λ h. h.promise.hand.value.items) g.S.TraceName.events (at.yielded ++ x ∷ []) l) (sym c.in_ok-append.ensures.items) done,
+      subst (λ full. AreGathered (λ h. h.promise.hand.value.items) g.S.TraceName.events (at.yielded ++ x ∷ []) c.append.new.self.items full) (sym c.or-full.ensures) all,
       let was = at.invariant.2 in
           let fewer = c.in-Some.ensures.steps.1 in
           let short = ap length steps in

@@ -7,5 +7,5 @@ use Rattle.lp_threads.proofs.hands.gather.Given as goal
 abbrev pub invariant-loop-hand : goal.invariant-loop-hand
 invariant-loop-hand g l =
     (l.yielded ++ into_iter_items l.hand-iterator ≡ into_iter_items l.initial.hand-iterator)
-    × AreGathered (λ h. h.promise.hand.value.items) g.S.TraceName.events l.yielded l.all.items
+    × AreGathered (λ h. h.promise.hand.value.items) g.S.TraceName.events l.yielded l.all.items l.full
     × (into_iter_len l.hand-iterator ≡ length (into_iter_items l.hand-iterator))
