@@ -1,6 +1,8 @@
 -- Where the journal has as many events as the trace, all were sent.
 use Rattle.std.proofs.Common.{◌≡◌, ◌⊎◌, ℕ, zero, suc, ◌+◌, ◌<◌, ◌≤◌, Bool, true, false, cond, List, [], ◌∷◌, ◌++◌, length, map, get_or, nat_eq, not, is_some, Option, Some, None, refl, sym, ap, subst, ◌∙◌, ⊎_elim, inl, inr, arith, length-append}
-use Rattle.std.specs.Prelude.{All, filter}
+use Rattle.std.specs.Prelude.{All, IfSome, filter}
+use mathlib.Core.List.{IsPrefix}
+use Rattle.lp_board.proofs.Prefixes.{prefix_length}
 use Rattle.std.proofs.lemmas.Bool.{eqb-true}
 use Rattle.std.proofs.lemmas.List.{length-map}
 use Rattle.std.proofs.lemmas.List.Elements.{All-head, All-tail}
@@ -158,3 +160,14 @@ sent_at_once events seats control full none begun = record {
   from_seats = λ κ d within. none_told full _ _ none (begun.from_seats κ d within);
   from_control = none_told full _ _ none begun.from_control;
 }
+
+-- all were sent, whether or not somebody was told that no event was left
+pub sent_in : (events : List Event) (journal : Written) (seats : List Seated) (control : List Entry) (full : Option (List Event)) (all : List Event)
+    → IsClosed journal seats control → AreBegun full events seats control → all ≡ events_in journal.entries → IfSome full (λ (told : List Event). IsPrefix told all) → length events ≤ 1000000 → AreSent events seats control
+sent_in events journal seats control None all closed begun is within few = sent_at_once events seats control None refl begun
+sent_in events journal seats control (Some told) all closed begun is within few =
+    let a : 1000000 ≤ length told = begun.room in
+    let b : length told ≤ length all = prefix_length told all within in
+    let c : length all ≡ length (events_in journal.entries) = ap length is in
+    let d : length (events_in journal.entries) ≡ length journal.entries = length-map journal.entries (λ (e : Entry). e.event) in
+    all_sent events journal seats control (Some told) closed begun (omega (arith, a, b, c, d, few))

@@ -159,7 +159,7 @@ fn play_launched<
     let Ok(closed) = desk.close(rt, seats, control) else {
         unreachable!()
     };
-    if !is_told(&closed.told, full.as_ref()) {
+    if !is_told(&closed.told, &full) {
         return Err(ThreadsFault::from(AllocError));
     }
     let events = closed.journal.entries().len();
@@ -173,8 +173,8 @@ fn play_launched<
 
 /// Whether what was told where no event was left begins the journal, which then has as many events as a trace can have: so
 /// all were sent. It always does: nobody is told of an event that isn't published, but of the board no contract says so.
-fn is_told<N: DeskName>(all: &AllTold<N>, full: Option<&Told<N>>) -> bool
-    ensures { IsTrue result → IfSome full (λ told. IsPrefix told.now all.now) }
+fn is_told<N: DeskName>(all: &AllTold<N>, full: &Option<Told<N>>) -> bool
+    ensures { IsTrue result → IfSome full.now (λ told. IsPrefix told all.now) }
 {
     match full {
         Some(told) => all.told().begins_with(told),
