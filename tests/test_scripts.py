@@ -12,7 +12,8 @@ MOST_LINES, MOST_OF_A_FUNCTION = 300, 40
 
 def scripts() -> Iterator[Tuple[pathlib.Path, str]]:
     """Each script and its text."""
-    for path in (*sorted((ROOT / "scripts").iterdir()), ROOT / "prove", ROOT / "test"):
+    folders = ROOT / "scripts", ROOT / "bindings" / "python"
+    for path in (*sorted(path for folder in folders for path in folder.iterdir()), ROOT / "prove", ROOT / "test"):
         if path.is_file():
             text = path.read_text()
             if path.suffix == ".py" or text.startswith("#!/usr/bin/env python3"):

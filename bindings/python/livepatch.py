@@ -21,7 +21,7 @@ STATUSES = {13: "NO_MEMORY", 14: "JOURNAL_FULL"}
 STATUSES.update(enumerate("NO_ENGINE HAS_ENGINE NO_MODEL NO_EVENT NOT_THERE".split(), 20))
 STATUSES.update(enumerate("PATCH_EMPTY PATCH_UNKNOWN PATCH_DOUBLED PATCH_TOO_MANY".split(), 31))
 STATUSES.update({36: "TOO_MANY_PATCHES", 37: "PATCH_LENGTHS", 41: "TASK_RANGE", 42: "TASK_DOUBLED"})
-NO_MODEL, NOT_THERE = 22, 24
+NO_MODEL, NO_EVENT, NOT_THERE, PATCH_LENGTHS = 22, 23, 24, 37
 
 
 class LivepatchError(Exception):
@@ -104,10 +104,7 @@ class _Event(ctypes.Structure):
 
 
 class _Told(ctypes.Structure):
-    _fields_ = [
-        *((name, ctypes.c_uint32) for name in ("what", "level", "refusal", "complete")),
-        ("groups", ctypes.c_size_t),
-    ]
+    _fields_ = [*((name, ctypes.c_uint32) for name in ("what", "level", "refusal", "complete")), ("groups", ctypes.c_size_t)]
 
 
 class _State(ctypes.Structure):
@@ -115,10 +112,7 @@ class _State(ctypes.Structure):
 
 
 class _Task(ctypes.Structure):
-    _fields_ = [
-        *((name, ctypes.c_uint32) for name in ("level", "group", "mode", "unused")),
-        ("depth", ctypes.c_size_t),
-    ]
+    _fields_ = [*((name, ctypes.c_uint32) for name in ("level", "group", "mode", "unused")), ("depth", ctypes.c_size_t)]
 
 
 class _Blame(ctypes.Structure):
@@ -136,40 +130,35 @@ class _Line(ctypes.Structure):
     ]
 
 
-_LIBRARY: Optional[ctypes.CDLL] = None
-
-
 def _place() -> str:
     """Where scripts/build-c leaves the library; LIVEPATCH_LIBRARY names another."""
     top = os.path.dirname(os.path.dirname(os.path.dirname(os.path.abspath(__file__))))
     return os.environ.get("LIVEPATCH_LIBRARY", os.path.join(top, "crates", "lp_c", "out", "liblivepatch.so"))
 
 
+@functools.lru_cache(maxsize=None)
 def library() -> ctypes.CDLL:
     """The library, opened once, with the types of its calls."""
-    global _LIBRARY
-    if _LIBRARY is None:
-        opened = ctypes.CDLL(_place())
-        short, number, size, to = ctypes.c_uint16, ctypes.c_uint32, ctypes.c_size_t, ctypes.POINTER
-        slot = to(_Slot)
-        shapes: Dict[str, Sequence[type]] = {
-            "lp_create": (slot, number, short, to(short), size, to(number), size, to(_BootTask), size),
-            "lp_step": (slot, to(_Event), to(_Told)),
-            "lp_group": (slot, size, to(number)),
-            "lp_state": (slot, to(_State)),
-            "lp_task": (slot, short, to(_Task)),
-            "lp_blame": (slot, short, to(_Blame)),
-            "lp_certificate": (slot, short, to(_Cert)),
-            "lp_line": (slot, size, to(_Line)),
-            "lp_free": (slot,),
-            "lp_model_name": (number, size, to(number)),
-        }
-        for name, arguments in shapes.items():
-            call = getattr(opened, name)
-            call.argtypes = list(arguments)
-            call.restype = None if name == "lp_free" else number
-        _LIBRARY = opened
-    return _LIBRARY
+    opened = ctypes.CDLL(_place())
+    short, number, size, to = ctypes.c_uint16, ctypes.c_uint32, ctypes.c_size_t, ctypes.POINTER
+    slot = to(_Slot)
+    shapes: Dict[str, Sequence[type]] = {
+        "lp_create": (slot, number, short, to(short), size, to(number), size, to(_BootTask), size),
+        "lp_step": (slot, to(_Event), to(_Told)),
+        "lp_group": (slot, size, to(number)),
+        "lp_state": (slot, to(_State)),
+        "lp_task": (slot, short, to(_Task)),
+        "lp_blame": (slot, short, to(_Blame)),
+        "lp_certificate": (slot, short, to(_Cert)),
+        "lp_line": (slot, size, to(_Line)),
+        "lp_free": (slot,),
+        "lp_model_name": (number, size, to(number)),
+    }
+    for name, arguments in shapes.items():
+        call = getattr(opened, name)
+        call.argtypes = list(arguments)
+        call.restype = None if name == "lp_free" else number
+    return opened
 
 
 @functools.lru_cache(maxsize=None)
@@ -212,7 +201,7 @@ class Engine:
         functions = [self._names[name] for patch in patches for name in patch]
         tasks = [(boot, "normal") if isinstance(boot, int) else boot for boot in boots]
         if len(self._names) > 4096:
-            raise LivepatchError(37)
+            raise LivepatchError(PATCH_LENGTHS)
         _raise_on(
             self._library.lp_create(
                 ctypes.byref(self._slot),
@@ -244,7 +233,7 @@ class Engine:
     def step(self, kind: str, task: int = 0, other: Union[str, int] = 0) -> Reply:
         """Takes one event. `other` is the name of a called function, or the child of a fork or a thread."""
         if kind not in KINDS:
-            raise LivepatchError(23)
+            raise LivepatchError(NO_EVENT)
         number = self._names.get(other, 0xFFFF) if isinstance(other, str) else other
         event = _Event(KINDS.index(kind), _number(task), _number(number))
         told = _Told()
@@ -253,7 +242,7 @@ class Engine:
         return Reply(
             what,
             told.level if what == "ran" else None,
-            tuple(self._group(place) for place in range(told.groups)),
+            tuple(map(self._group, range(told.groups))),
             told.refusal if what == "refused" else None,
             bool(told.complete),
         )
@@ -272,29 +261,27 @@ class Engine:
     def task(self, task: int) -> Optional[Task]:
         """A live task; None for any other number."""
         state = _Task()
-        status = self._library.lp_task(ctypes.byref(self._slot), _number(task), ctypes.byref(state))
-        if status == NOT_THERE:
-            return None
-        _raise_on(status)
-        return Task(state.level, state.group, MODES[state.mode], state.depth)
+        found = self._finds("lp_task", task, state)
+        return Task(state.level, state.group, MODES[state.mode], state.depth) if found else None
 
     def blame(self, group: int) -> Optional[Blame]:
         """The standing blame of a group; None where there is none."""
         blame = _Blame()
-        status = self._library.lp_blame(ctypes.byref(self._slot), _number(group), ctypes.byref(blame))
-        if status == NOT_THERE:
-            return None
-        _raise_on(status)
-        return Blame(blame.task, blame.serial)
+        return Blame(blame.task, blame.serial) if self._finds("lp_blame", group, blame) else None
 
     def certificate(self, group: int) -> Optional[Certificate]:
         """The certificate that a group waits; None where it doesn't."""
         cert = _Cert()
-        status = self._library.lp_certificate(ctypes.byref(self._slot), _number(group), ctypes.byref(cert))
+        found = self._finds("lp_certificate", group, cert)
+        return Certificate(cert.leg, group, cert.upto, tuple(map(self._line, range(cert.lines)))) if found else None
+
+    def _finds(self, call: str, number: int, found: ctypes.Structure) -> bool:
+        """Whether there is what a call looks for by a task's or a group's number; it is then put there."""
+        status = getattr(self._library, call)(ctypes.byref(self._slot), _number(number), ctypes.byref(found))
         if status == NOT_THERE:
-            return None
+            return False
         _raise_on(status)
-        return Certificate(cert.leg, group, cert.upto, tuple(self._line(place) for place in range(cert.lines)))
+        return True
 
     def _line(self, place: int) -> str:
         line = _Line()
