@@ -34,7 +34,7 @@ def build_root(packages: Packages, folder: Path, modules: List[Path], bundle: Pa
     unpacked = packages.folder / 'guest'
     packages.unpack(GUEST, unpacked)
     shutil.rmtree(folder, ignore_errors=True)
-    for name in ('bin', 'proc', 'sys', 'dev', 'tmp', 'modules', 'lib', 'usr/bin', 'usr/lib'):
+    for name in ('bin', 'proc', 'sys', 'dev', 'room', 'modules', 'lib', 'usr/bin', 'usr/lib'):
         (folder / name).mkdir(parents=True)
     shutil.copy(unpacked / 'bin/busybox', folder / 'bin')
     shutil.copy(unpacked / 'usr/bin/python3.11', folder / 'usr/bin/python3')

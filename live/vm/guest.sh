@@ -1,16 +1,30 @@
 # What the scenarios use.  Each scenario runs in a shell of its own, with klp_box loaded and no patch.
-OUT=/tmp/out
+ROOM=/room		# in memory: /init mounts it
+OUT=$ROOM/out
 uptime_now() { cut -d' ' -f1 /proc/uptime; }
 tenths() { usleep ${1}00000; }
 say() { echo "  $*"; }
 
 run() {		# NAME WORDS..: starts a task of that name; its pid is then in P_NAME
 	workload "$@" & eval "P_$1=$!"
-	echo $! >> /tmp/started
+	echo $! >> $ROOM/started
 }
 background() {	# COMMAND..: the same for any command; its pid is then in PID
 	"$@" & PID=$!
-	echo $! >> /tmp/started
+	echo $! >> $ROOM/started
+}
+read_a_pipe() {		# a task sleeps in pipe_read until somebody writes to descriptor 5
+	mkfifo $ROOM/pipe
+	background cat $ROOM/pipe > /dev/null
+	exec 5> $ROOM/pipe
+}
+sleepers() {		# tasks that sleep in pipe_read and in pause(2), beside some that run
+	read_a_pipe
+	CPU=1 run spin spin
+	run pauser zombie
+	run threads threads 2 40 c:m01
+	run calls calls 70
+	tenths 5
 }
 go() { echo "$1" > /proc/klpbox/go; }		# those who wait for this key go on
 in_kernel_thread() { echo "$1" > /proc/klpbox/kth; }
@@ -47,7 +61,7 @@ left_over() {	# what a recorder left behind in the kernel: nothing, or it is nam
 }
 
 take_picture() {	# what /proc and /sys show of the tasks and patches at this moment, as a folder of files
-	to=/tmp/picture
+	to=$ROOM/picture
 	mkdir -p $to
 	for f in /proc/[0-9]*/task/[0-9]*; do
 		mkdir -p $to$f
@@ -64,8 +78,8 @@ take_picture() {	# what /proc and /sys show of the tasks and patches at this mom
 
 clean() {	# the state that each scenario begins with
 	for k in 1 2 3 4 5 6 7 8 9; do go $k; done
-	for p in $(cat /tmp/started 2>/dev/null); do kill -CONT $p; kill -KILL $p; done 2>/dev/null
-	rm -f /tmp/started /tmp/pipe*
+	for p in $(cat $ROOM/started 2>/dev/null); do kill -CONT $p; kill -KILL $p; done 2>/dev/null
+	rm -f $ROOM/started $ROOM/pipe
 	settle 100
 	for patch in klp_real klp_fix2 klp_fix livepatch_sample; do
 		grep -q "^$patch " /proc/modules || continue
@@ -80,7 +94,7 @@ clean() {	# the state that each scenario begins with
 }
 
 send_files() {
-	for f in /tmp/out/*; do
+	for f in $OUT/*; do
 		[ -f "$f" ] || continue
 		echo "FILE ${f##*/}"
 		base64 "$f"

@@ -1,7 +1,5 @@
 # The recording ends while two tasks still hold the patch open.
-mkfifo /tmp/pipe
-background cat /tmp/pipe > /dev/null
-exec 5> /tmp/pipe
+read_a_pipe
 run pauser zombie
 run inC run 1 0 c:w01
 tenths 5
