@@ -15,10 +15,11 @@ use Rattle.std.proofs.lemmas.Str.{digit_value_digit}
 use Rattle.lp_symbols.specs.declared.sym_id.SymId.{SymId}
 use Rattle.lp_stack.specs.declared.number.TaskId.{TaskId}
 use Rattle.lp_definitions.specs.declared.event.Event.{Event}
-use Rattle.lp_definitions.specs.declared.event.Event.TheVariants.{Call, Resched}
+use Rattle.lp_definitions.specs.declared.event.Event.TheVariants.{Call, Fork, Resched}
+use Rattle.lp_model.specs.declared.check.ForkKind.{ForkKind}
 use Rattle.lp_text.specs.declared.form.TraceForm.{TraceForm}
 use Rattle.lp_text.specs.declared.form.TraceForm.TheVariants.{Single}
-use Rattle.lp_text.specs.Words.{line_of, lines, words}
+use Rattle.lp_text.specs.Words.{fork_word, line_of, lines, words}
 use Rattle.lp_text.specs.Traces.{AreNames, TraceValue, has_event, event_words}
 use Rattle.lp_text.specs.Reading.{add_event, last_word, reading_from, symbol_of, with_line}
 use Rattle.lp_text.specs.inside.Cut.{IsCut}
@@ -97,6 +98,16 @@ of_call symbols text one two three name more task func first number second end n
     first ∙ ap (λ l. 32 ∷ l) (number ∙ (ap (λ l. decimal task.0 ++ l) (second ∙ ap (λ l. 32 ∷ l) (end ∙ ap (λ w. w ++ 10 ∷ more) named))))
     in
     ap (λ t. codes "call" ++ t) (whole ∙ ap (λ l. 32 ∷ l) (sym (regroup (decimal task.0) (slice_index_or symbols func.0 []) more)))
+
+regroup_fork : (a b c more : List ℕ) → ((a ++ 32 ∷ (b ++ 32 ∷ c)) ++ 10 ∷ []) ++ more ≡ a ++ 32 ∷ (b ++ 32 ∷ (c ++ 10 ∷ more))
+regroup_fork a b c more = simp append_assoc
+
+pub of_fork : (symbols : List (List ℕ)) (text one two three four last more : List ℕ) (parent child : TaskId) (how : ForkKind) → text ≡ 32 ∷ one → one ≡ decimal parent.0 ++ two → two ≡ 32 ∷ three → three ≡ decimal child.0 ++ four → four ≡ 32 ∷ last → last ≡ fork_word how ++ 10 ∷ more → codes "fork" ++ text ≡ line_of (event_words symbols (Fork parent child how)) ++ more
+of_fork symbols text one two three four last more parent child how first older second younger third kind =
+    let whole : text ≡ 32 ∷ (decimal parent.0 ++ 32 ∷ (decimal child.0 ++ 32 ∷ (fork_word how ++ 10 ∷ more))) =
+    first ∙ ap (λ l. 32 ∷ l) (older ∙ ap (λ l. decimal parent.0 ++ l) (second ∙ ap (λ l. 32 ∷ l) (younger ∙ ap (λ l. decimal child.0 ++ l) (third ∙ ap (λ l. 32 ∷ l) kind))))
+    in
+    ap (λ t. codes "fork" ++ t) (whole ∙ ap (λ l. 32 ∷ l) (sym (regroup_fork (decimal parent.0) (decimal child.0) (fork_word how) more)))
 
 -- the name of the symbol that a last word names
 pub cached_is : (symbols : List (List ℕ)) (name : List ℕ) (id : SymId) → last_symbol symbols (words name) ≡ Ok id → (id.0 < length symbols) × (name ≡ slice_index_or symbols id.0 [])

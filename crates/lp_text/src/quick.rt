@@ -1,13 +1,14 @@
-//! Event lines that are read by their first four bytes at once: calls, returns and the others of which a trace has
-//! the most.
+//! Event lines that are read by their first four bytes at once.
 ghost use Rattle.std.specs.Prelude.{◌≡◌, ℕ, List, ◌++◌, ◌∷◌, codes, decimal, drop, IfSome};
 ghost use Rattle.std.specs.Int.{w32, to_le_bytes};
 ghost use Rattle.lp_text.specs.Traces.{AreNames, IsTask};
+ghost use Rattle.lp_text.specs.Words.{fork_word};
 ghost use Rattle.lp_text.specs.inside.QuickLines.{BeginsWith};
 
 use crate::split::cut;
 use crate::symbol_cache::SymbolCache;
 use lp_definitions::Event;
+use lp_model::ForkKind;
 use lp_numbers::NUMBERS;
 use lp_stack::TaskId;
 use lp_symbols::Symbols;
@@ -26,6 +27,20 @@ const ENTE: u32 = 0x6574_6e65;
 const EXIT: u32 = 0x7469_7865;
 
 const WALK: u32 = 0x6b6c_6177;
+
+const STOP: u32 = 0x706f_7473;
+
+const ENAB: u32 = 0x6261_6e65;
+
+const DISA: u32 = 0x6173_6964;
+
+const REVE: u32 = 0x6576_6572;
+
+const DIE: u32 = 0x2065_6964;
+
+const IDLE: u32 = 0x656c_6469;
+
+const FORK: u32 = 0x6b72_6f66;
 
 /// The event of the line that a text begins with, and what stands after the line. None says nothing of
 /// the text, whose line is then read word by word.
@@ -47,6 +62,13 @@ pub(crate) fn quick_event<'a>(
         SLEE => sleep_rest(rest),
         WAKE => wake_rest(rest),
         WALK => walk_rest(rest),
+        STOP => stop_rest(rest),
+        ENAB => enable_rest(rest),
+        DISA => disable_rest(rest),
+        REVE => reverse_rest(rest),
+        DIE => die_rest(rest),
+        IDLE => idle_rest(rest),
+        FORK => fork_rest(rest),
         _ => None,
     }
 }
@@ -103,6 +125,86 @@ fn walk_rest(text: &[u8]) -> Option<(Event, &[u8])>
 {
     let more = after(b'\n', text)?;
     Some((Event::Walk, more))
+}
+
+/// The rest of a line after `stop`.
+#[inline(always)]
+fn stop_rest(text: &[u8]) -> Option<(Event, &[u8])>
+    ensures { (symbols : List (List ℕ)) → IfSome result (λ x. BeginsWith symbols (codes "stop" ++ text.now) x.0 x.1.now) }
+{
+    let more = after(b'\n', text)?;
+    Some((Event::Stop, more))
+}
+
+/// The rest of a line after `enab`.
+#[inline(always)]
+fn enable_rest(text: &[u8]) -> Option<(Event, &[u8])>
+    ensures { (symbols : List (List ℕ)) → IfSome result (λ x. BeginsWith symbols (codes "enab" ++ text.now) x.0 x.1.now) }
+{
+    let more = after(b'\n', after(b'e', after(b'l', text)?)?)?;
+    Some((Event::Enable, more))
+}
+
+/// The rest of a line after `disa`.
+#[inline(always)]
+fn disable_rest(text: &[u8]) -> Option<(Event, &[u8])>
+    ensures { (symbols : List (List ℕ)) → IfSome result (λ x. BeginsWith symbols (codes "disa" ++ text.now) x.0 x.1.now) }
+{
+    let more = after(b'\n', after(b'e', after(b'l', after(b'b', text)?)?)?)?;
+    Some((Event::Disable, more))
+}
+
+/// The rest of a line after `reve`.
+#[inline(always)]
+fn reverse_rest(text: &[u8]) -> Option<(Event, &[u8])>
+    ensures { (symbols : List (List ℕ)) → IfSome result (λ x. BeginsWith symbols (codes "reve" ++ text.now) x.0 x.1.now) }
+{
+    let more = after(b'\n', after(b'e', after(b's', after(b'r', text)?)?)?)?;
+    Some((Event::Reverse, more))
+}
+
+/// The rest of a line after `die` and a space.
+#[inline(always)]
+fn die_rest(text: &[u8]) -> Option<(Event, &[u8])>
+    ensures { (symbols : List (List ℕ)) → IfSome result (λ x. BeginsWith symbols (codes "die " ++ text.now) x.0 x.1.now) }
+{
+    let (task, more) = task_and_end(text)?;
+    Some((Event::Die(task), more))
+}
+
+/// The rest of a line after `idle`.
+#[inline(always)]
+fn idle_rest(text: &[u8]) -> Option<(Event, &[u8])>
+    ensures { (symbols : List (List ℕ)) → IfSome result (λ x. BeginsWith symbols (codes "idle" ++ text.now) x.0 x.1.now) }
+{
+    let (task, more) = task_and_end(after(b' ', text)?)?;
+    Some((Event::Idle(task), more))
+}
+
+/// The rest of a line after `fork`: the parent, the child and what it asks.
+#[inline(always)]
+fn fork_rest(text: &[u8]) -> Option<(Event, &[u8])>
+    ensures { (symbols : List (List ℕ)) → IfSome result (λ x. BeginsWith symbols (codes "fork" ++ text.now) x.0 x.1.now) }
+{
+    let first = after(b' ', text)?;
+    let (parent, second) = task_number(first)?;
+    let third = after(b' ', second)?;
+    let (child, fourth) = task_number(third)?;
+    let last = after(b' ', fourth)?;
+    let (how, more) = fork_kind_and_end(last)?;
+    Some((Event::Fork(parent, child, how), more))
+}
+
+/// What a fork asks, which ends a line, and what stands after the line.
+#[inline(always)]
+fn fork_kind_and_end(text: &[u8]) -> Option<(ForkKind, &[u8])>
+    ensures { IfSome result (λ x. text.now ≡ fork_word x.0 ++ 10 ∷ x.1.now) }
+{
+    match text {
+        [b'o', b'w', b'n', b'\n', rest @ ..] => Some((ForkKind::Own, rest)),
+        [b's', b'h', b'a', b'r', b'e', b'\n', rest @ ..] => Some((ForkKind::Share, rest)),
+        _ => None,
+    }
 }
 
 /// The rest of a line after `call`: a task and a name that was looked up before.
