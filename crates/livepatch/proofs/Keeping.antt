@@ -1,8 +1,9 @@
 -- What a simulator keeps of a run, at its start and after each event.
-use Rattle.std.proofs.Common.{◌≡◌, ◌≤◌, ◌+◌, ℕ, Bool, true, false, List, [], ◌∷◌, ◌++◌, length, drop, Option, Some, None, IsSome, is_some, refl, sym, ap, ap₂, ◌∙◌, arith, subst, length-append}
+use Rattle.std.proofs.Common.{◌≡◌, ◌≤◌, ◌+◌, ◌-◌, ℕ, Bool, true, false, List, [], ◌∷◌, ◌++◌, length, drop, take, Option, Some, None, IsSome, is_some, refl, sym, ap, ap₂, ◌∙◌, arith, subst, length-append}
 use Rattle.std.proofs.lemmas.Bool.{cond-true, cond-false}
 use Rattle.std.proofs.lemmas.List.{drop-append-le}
 use Rattle.std.proofs.Math.ListN.{drop_of_length-le}
+use Rattle.std.proofs.Math.Seq.{take-append_seam}
 use Rattle.lp_model.specs.Rules.{Rules}
 use Rattle.lp_definitions.specs.declared.event.Event.{Event}
 use Rattle.lp_definitions.specs.declared.reply.Reply.{Reply}
@@ -19,6 +20,12 @@ use Rattle.lp_cert.proofs.Explaining.{explained_first}
 use Rattle.lp_cert.proofs.Opened.{opened_is}
 use Rattle.lp_checker.specs.Folds.{leg_with}
 use Rattle.livepatch.specs.Simulated.{IsKept}
+
+-- ---- The journal
+
+-- without its last event it is as it was before
+pub taken_back : (es : List Event) (e : Event) → take (length (es ++ e ∷ []) - 1) (es ++ e ∷ []) ≡ es
+taken_back es e = ap (λ (n : ℕ). take n (es ++ e ∷ [])) (omega (arith, length-append es (e ∷ []))) ∙ take-append_seam es (e ∷ [])
 
 module _ (model : Rules) where
   -- ---- At the start

@@ -1,5 +1,5 @@
 //! One engine, with the run so far and why each group waits.
-ghost use Rattle.std.specs.Prelude.{◌≡◌, ◌⊎◌, ◌≤◌, ◌<◌, ◌↔◌, [], true, false, None, Some, Err, drop, is_some, length, vec_len, vec_capacity, IfOk, IfSome, IsSome, OnErr, OnOk, MatchResult};
+ghost use Rattle.std.specs.Prelude.{◌≡◌, ◌⊎◌, ◌≤◌, ◌<◌, ◌-◌, ◌↔◌, [], true, false, None, Some, Err, drop, is_some, length, take, vec_len, vec_capacity, IfOk, IfSome, IsSome, OnErr, OnOk, MatchResult};
 ghost use Rattle.std.specs.Option.{option_map};
 ghost use Rattle.lp_transition.specs.Blames.{blame_of, HasBlamesAfter};
 ghost use Rattle.lp_transition.specs.Boot.{boot_refusal};
@@ -130,10 +130,18 @@ impl<M: Consistency> Simulator<M> {
             &mut self.events,
             &mut self.opening,
         )?;
-        let reply = self.explained.step(alloc, event)?;
+        // In the journal before it is taken: kept until afterwards, it would be moved once more at each event.
         self.events.push_reserved(event);
-        give_up_opening(event, &reply.what, &mut self.opening);
-        Ok(reply)
+        match self.explained.step(alloc, event) {
+            Ok(reply) => {
+                give_up_opening(event, &reply.what, &mut self.opening);
+                Ok(reply)
+            }
+            Err(error) => {
+                take_back(&mut self.events);
+                Err(Halt::from(error))
+            }
+        }
     }
 
     /// The engine, which tells how its tasks stand.
@@ -228,6 +236,17 @@ impl<M: Consistency> Simulator<M> {
         let events = since(self.events.as_slice(), opening);
         check_by(alloc, self.explained.core().model(), opening, events, cert)
     }
+}
+
+/// Takes the last event out of the journal again.
+#[cold]
+#[inline(never)]
+fn take_back(events: &mut Vec<Event>)
+    requires { 0 < length events.old.items }
+    ensures { events.new.items ≡ take (length events.old.items - 1) events.old.items }
+{
+    let count = events.len() - 1;
+    events.truncate(count);
 }
 
 /// Makes room for an event, if one is left: its place in the journal, and the opening of the leg, which the engine still

@@ -1,7 +1,6 @@
 //! The maker of certificates.
 ghost use Rattle.std.specs.Prelude.{◌≡◌, ◌+◌, ◌<◌, [], ◌∷◌, ◌++◌, true, Some, None, IsTrue, ◌≤◌, length, option_to_list, is_some, IfOk, IfSome, OnOk};
 ghost use Rattle.lp_definitions.specs.Events.{is_scan};
-ghost use Rattle.lp_definitions.specs.TaskEvents.{is_quiet};
 ghost use Rattle.lp_definitions.specs.Run.{new_target};
 ghost use Rattle.lp_definitions.specs.declared.event.Event.{Event};
 ghost use Rattle.lp_machine.specs.Table.{state_in};
@@ -212,17 +211,6 @@ impl Maker {
             return Ok(None);
         };
         cert_of(alloc, Claim::Floor, leg, self.noted, &self.waiters, group)
-    }
-
-    /// Notes a call, a return, a sleep, a wake-up or an entry into the kernel, whichever it is, before the
-    /// engine takes it. Such an event switches no group and is no check, so nothing has to be weighed.
-    /// Never allocates.
-    pub fn note_quiet<M: Consistency>(&mut self, core: &Core<M>)
-        requires room { core.now.number < 1000000 }
-        ensures made { (event : Event) → is_quiet event ≡ true → IsMadeFurther M.rules core.now event self.old self.new }
-        ensures ready { self.new.ready ≡ self.old.ready }
-    {
-        self.noted = core.events() as u32 + 1;
     }
 
     /// The end of the leg under way as it stands, if there is one; AllocError where an allocation
