@@ -1,11 +1,10 @@
 //! A trace in, its comparison out.
-ghost use Rattle.std.specs.Prelude.{◌≡◌, string_bytes, IfSome, IfOk, IfErr, MatchResult, OnOk, Err};
+ghost use Rattle.std.specs.Prelude.{◌≡◌, ◌≢◌, string_bytes, IfSome, IfOk, IfErr, OnOk, Err};
 ghost use Rattle.std.specs.Io.KnownBytes.{Appends};
-ghost use Rattle.lp_text.specs.Counts.{AtMost, next};
-ghost use Rattle.lp_text.specs.Input.{FailsOnce};
+ghost use Rattle.lp_text.specs.StreamContract.{ReadFailed, ReadsToEnd, WriteFailed, WritesToEnd, ended};
 ghost use Rattle.lp_text.specs.Reading.{reading};
 ghost use Rattle.lp_text.specs.Writing.{AppendsPrefix};
-ghost use Rattle.lp_replay.specs.Runs.{ReadsTrace, AtReading, AtTrace, AtWrite, BeforeWriting, ButForReading};
+ghost use Rattle.lp_replay.specs.Runs.{ReadsTrace, AtTrace, run_end};
 ghost use Rattle.lp_compare.specs.Comparison.{comparison};
 ghost use Rattle.lp_compare.specs.Text.{written};
 
@@ -30,24 +29,13 @@ pub fn compare_run<R: Read, W: Write>(
     ensures report { OnOk result (ReadsTrace (R.remaining reader.old.stream) (R.remaining reader.new.stream)
         (λ trace. Appends (W.contents writer.old.stream) (W.contents writer.new.stream) (written json (comparison trace)))) }
     // Where the writer failed, a prefix of it was written.
-    ensures prefix { IfErr result (λ fault. AtWrite fault (ReadsTrace (R.remaining reader.old.stream) (R.remaining reader.new.stream)
-        (λ trace. AppendsPrefix (W.contents writer.old.stream) (W.contents writer.new.stream) (written json (comparison trace))))) }
-    // Else a fault leaves the writer as it was.
-    ensures untouched { IfErr result (λ fault. BeforeWriting fault (writer.new ≡ writer.old)) }
+    ensures prefix { ended run_end result ≡ WriteFailed → ReadsTrace (R.remaining reader.old.stream) (R.remaining reader.new.stream)
+        (λ trace. AppendsPrefix (W.contents writer.old.stream) (W.contents writer.new.stream) (written json (comparison trace))) }
     // The fault of a text is the one that the definitions give.
     ensures trace { IfErr result (λ fault. AtTrace fault (λ why. IfSome (R.remaining reader.old.stream) (λ text. reading text ≡ Err why))) }
-    // A fault of reading comes of a read that failed, which no other read follows.
-    ensures read_failed { IfErr result (λ fault. AtReading fault (FailsOnce reader.old reader.new)) }
-    // Else no read failed: one that failed is told before a fault of the text.
-    ensures unfailed { MatchResult result (λ _. reader.new.failures ≡ reader.old.failures) (λ fault. ButForReading fault (reader.new.failures ≡ reader.old.failures)) }
-    // Without a fault the end was found once: nothing is read after it.
-    ensures once { OnOk result (reader.new.ends ≡ next reader.old.ends) }
-    // Each read but the last gives a byte at least.
-    ensures few { AtMost 134217729 reader.old.calls reader.new.calls }
-    // A fault of writing comes of a write that failed or took no byte, which no other write follows.
-    ensures write_failed { IfErr result (λ fault. AtWrite fault (writer.new.failures ≡ next writer.old.failures)) }
-    // Without a fault no write failed.
-    ensures written { OnOk result (writer.new.failures ≡ writer.old.failures) }
+    // The reader is read to its end, and only then is anything written; a fault of either comes of a call that failed.
+    ensures reads { ReadsToEnd (ended run_end result) reader.old reader.new }
+    ensures writes { WritesToEnd (ended run_end result) writer.old writer.new }
 {
     let trace = read_trace(alloc, reader)?;
     match compare_on(alloc, json, &trace, writer) {
@@ -64,12 +52,10 @@ fn compare_on<W: Write>(
     writer: &mut Counted<W>,
 ) -> Result<(), RunFault>
     ensures report { OnOk result (Appends (W.contents writer.old.stream) (W.contents writer.new.stream) (written json (comparison trace.now))) }
-    ensures prefix { IfErr result (λ fault. AtWrite fault (AppendsPrefix (W.contents writer.old.stream) (W.contents writer.new.stream) (written json (comparison trace.now)))) }
-    ensures untouched { IfErr result (λ fault. BeforeWriting fault (writer.new ≡ writer.old)) }
+    ensures prefix { ended run_end result ≡ WriteFailed → AppendsPrefix (W.contents writer.old.stream) (W.contents writer.new.stream) (written json (comparison trace.now)) }
+    ensures writes { WritesToEnd (ended run_end result) writer.old writer.new }
     ensures late { IfErr result (λ fault. AtTrace fault (λ _. ⊥)) }
-    ensures write_failed { IfErr result (λ fault. AtWrite fault (writer.new.failures ≡ next writer.old.failures)) }
-    ensures written { OnOk result (writer.new.failures ≡ writer.old.failures) }
-    ensures not_reading { IfErr result (λ fault. AtReading fault ⊥) }
+    ensures not_reading { ended run_end result ≢ ReadFailed }
 {
     let text = compared(alloc, json, trace)?;
     match put(writer, text.as_bytes()) {

@@ -1,2 +1,2 @@
-pub mod Prefix
 pub mod Plays
+pub mod Endings

@@ -3,6 +3,7 @@ use Rattle.std.specs.Prelude.{◌≡◌, ℕ, List, [], ◌++◌, Result, Ok, Er
 use Rattle.lp_replay.specs.declared.run_fault.RunFault.{RunFault}
 use Rattle.lp_replay.specs.declared.run_fault.RunFault.TheVariants as run
 use Rattle.lp_text.specs.Faults.{cause_number}
+use Rattle.lp_text.specs.StreamContract.{Ending, Done, ReadFailed, WriteFailed, OtherFault}
 use Rattle.lp_program.specs.declared.fault.Fault.{Fault}
 use Rattle.lp_program.specs.declared.fault.Fault.TheVariants as fault
 use Rattle.lp_words.specs.declared.words.WordsFault.{WordsFault}
@@ -46,6 +47,17 @@ of_run (run.Read error) = fault.Read
 of_run (run.Trace why) = fault.Trace why
 of_run run.NoMemory = fault.NoMemory
 of_run (run.Write error) = fault.Write
+
+-- how a call ended for its streams: a certificate that is refused has its answer written like any other
+abbrev pub program_end : Fault → Ending
+program_end fault.Read = ReadFailed
+program_end fault.Write = WriteFailed
+program_end fault.Refused = Done
+program_end fault.Usage = OtherFault
+program_end fault.UnknownModel = OtherFault
+program_end (fault.Trace why) = OtherFault
+program_end fault.NoMemory = OtherFault
+program_end (fault.Desk code) = OtherFault
 
 -- how it ends where threads don't write their report: as a run, or by the code of the desk's fault
 abbrev pub IsOfThreads : Result (List ℕ) RunFault → Fault → Type 0

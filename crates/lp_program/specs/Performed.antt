@@ -93,23 +93,23 @@ abbrev pub IsCodeOfPlay : List ℕ → Type 0
 IsCodeOfPlay code = (why : ThreadsFault) × IsOfPlay why × (code_of why ≡ Ok code)
 
 module _ (before after old new : Option (List ℕ)) where
-  -- how a job ends by a fault; `same` says that the writer is as it was
-  abbrev pub EndsBy : Type 0 → Job → Fault → Type 0
-  EndsBy same job fault.Read = same
-  EndsBy same job fault.Write = WritesPrefix before after old new job
-  EndsBy same job fault.Usage = ⊥
-  EndsBy same job fault.UnknownModel = ⊥
-  EndsBy same job (fault.Trace why) = IfSome before (IsTextFault job why) × same
-  EndsBy same job fault.Refused = IsRefused before after old new job
-  EndsBy same job fault.NoMemory = same
-  EndsBy same job (fault.Desk code) = IsOfDesk job × IsCodeOfPlay code.now × ReadsTrace before after (λ trace. Unit {0}) × same
+  -- how a job ends by a fault, beside what is said of its streams: nothing is written but by a failed write and a refusal
+  abbrev pub EndsBy : Job → Fault → Type 0
+  EndsBy job fault.Read = Unit {0}
+  EndsBy job fault.Write = WritesPrefix before after old new job
+  EndsBy job fault.Usage = ⊥
+  EndsBy job fault.UnknownModel = ⊥
+  EndsBy job (fault.Trace why) = IfSome before (IsTextFault job why)
+  EndsBy job fault.Refused = IsRefused before after old new job
+  EndsBy job fault.NoMemory = Unit {0}
+  EndsBy job (fault.Desk code) = IsOfDesk job × IsCodeOfPlay code.now × ReadsTrace before after (λ trace. Unit {0})
 
   -- the words ask for a job, and it is done
   abbrev pub Performs : List (List ℕ) → Type 0
   Performs words = (job : Job) × Asks words job × IsDone before after old new job
 
-  -- the words ask for nothing, and nothing is read or written; or they ask for a job, and it ends by the fault
-  abbrev pub Fails : Type 0 → Type 0 → List (List ℕ) → Fault → Type 0
-  Fails unread same words fault =
-      ((why : WordsFault) × AsksNothing words why × (fault ≡ of_words why) × unread × same)
-      ⊎ ((job : Job) × Asks words job × EndsBy same job fault)
+  -- the words ask for nothing, and nothing is read; or they ask for a job, and it ends by the fault
+  abbrev pub Fails : Type 0 → List (List ℕ) → Fault → Type 0
+  Fails unread words fault =
+      ((why : WordsFault) × AsksNothing words why × (fault ≡ of_words why) × unread)
+      ⊎ ((job : Job) × Asks words job × EndsBy job fault)

@@ -1,14 +1,14 @@
 //! A check under the model of a name.
-ghost use Rattle.std.specs.Prelude.{◌≡◌, ◌≢◌, Err, IfErr, IfOk, IfSome, IsTrue, MatchResult, OnOk, is_none};
+ghost use Rattle.std.specs.Prelude.{◌≡◌, Err, IfErr, IfOk, IfSome, IsTrue, OnOk, is_none};
 ghost use Rattle.std.specs.Io.KnownBytes.{Appends};
 ghost use Rattle.lp_trace.specs.Answer.{HoldsInTrace, ReadsInput, answer_to, answer_words};
 ghost use Rattle.lp_text.specs.CheckReading.{check_reading};
-ghost use Rattle.lp_text.specs.Counts.{AtMost, next};
-ghost use Rattle.lp_text.specs.Input.{FailsOnce};
-ghost use Rattle.lp_replay.specs.Runs.{AtReading, AtTrace, AtWrite, BeforeWriting, ButForReading};
+ghost use Rattle.lp_text.specs.StreamContract.{ReadsToEnd, WriteFailed, WritesToEnd, ended};
+ghost use Rattle.lp_replay.specs.Runs.{AtTrace, run_end};
 ghost use Rattle.lp_text.specs.Words.{line_of};
 ghost use Rattle.lp_text.specs.Writing.{AppendsPrefix};
 ghost use Rattle.lp_models.specs.Models.{rules_named};
+ghost use Rattle.lp_program.specs.Faults.{program_end};
 ghost use Rattle.lp_program.specs.Performed.{EndsBy, IsDone};
 ghost use Rattle.lp_words.specs.declared.words.Job.TheVariants.{Check};
 
@@ -30,16 +30,11 @@ pub fn check<R: Read, W: Write>(
     ensures answer { IfOk result (λ accepted. ReadsInput (R.remaining reader.old.stream) (R.remaining reader.new.stream)
         (λ input. (accepted ≡ is_none (answer_to (rules_named model) input)) × Appends (W.contents writer.old.stream) (W.contents writer.new.stream) (line_of (answer_words (answer_to (rules_named model) input))))) }
     ensures sound { IfOk result (λ accepted. IsTrue accepted → ReadsInput (R.remaining reader.old.stream) (R.remaining reader.new.stream) (λ input. HoldsInTrace (rules_named model) input)) }
-    ensures prefix { IfErr result (λ fault. AtWrite fault (ReadsInput (R.remaining reader.old.stream) (R.remaining reader.new.stream)
-        (λ input. AppendsPrefix (W.contents writer.old.stream) (W.contents writer.new.stream) (line_of (answer_words (answer_to (rules_named model) input)))))) }
-    ensures untouched { IfErr result (λ fault. BeforeWriting fault (writer.new ≡ writer.old)) }
+    ensures prefix { ended run_end result ≡ WriteFailed → ReadsInput (R.remaining reader.old.stream) (R.remaining reader.new.stream)
+        (λ input. AppendsPrefix (W.contents writer.old.stream) (W.contents writer.new.stream) (line_of (answer_words (answer_to (rules_named model) input)))) }
     ensures trace { IfErr result (λ fault. AtTrace fault (λ why. IfSome (R.remaining reader.old.stream) (λ text. check_reading text ≡ Err why))) }
-    ensures read_failed { IfErr result (λ fault. AtReading fault (FailsOnce reader.old reader.new)) }
-    ensures unfailed { MatchResult result (λ _. reader.new.failures ≡ reader.old.failures) (λ fault. ButForReading fault (reader.new.failures ≡ reader.old.failures)) }
-    ensures once { OnOk result (reader.new.ends ≡ next reader.old.ends) }
-    ensures few { AtMost 134217729 reader.old.calls reader.new.calls }
-    ensures write_failed { IfErr result (λ fault. AtWrite fault (writer.new.failures ≡ next writer.old.failures)) }
-    ensures written { OnOk result (writer.new.failures ≡ writer.old.failures) }
+    ensures reads { ReadsToEnd (ended run_end result) reader.old reader.new }
+    ensures writes { WritesToEnd (ended run_end result) writer.old writer.new }
 {
     with_model!(model, rules => check_by(alloc, model, rules, reader, writer))
 }
@@ -56,16 +51,11 @@ fn check_by<M: Consistency, R: Read, W: Write>(
     ensures answer { IfOk result (λ accepted. ReadsInput (R.remaining reader.old.stream) (R.remaining reader.new.stream)
         (λ input. (accepted ≡ is_none (answer_to (rules_named name) input)) × Appends (W.contents writer.old.stream) (W.contents writer.new.stream) (line_of (answer_words (answer_to (rules_named name) input))))) }
     ensures sound { IfOk result (λ accepted. IsTrue accepted → ReadsInput (R.remaining reader.old.stream) (R.remaining reader.new.stream) (λ input. HoldsInTrace (rules_named name) input)) }
-    ensures prefix { IfErr result (λ fault. AtWrite fault (ReadsInput (R.remaining reader.old.stream) (R.remaining reader.new.stream)
-        (λ input. AppendsPrefix (W.contents writer.old.stream) (W.contents writer.new.stream) (line_of (answer_words (answer_to (rules_named name) input)))))) }
-    ensures untouched { IfErr result (λ fault. BeforeWriting fault (writer.new ≡ writer.old)) }
+    ensures prefix { ended run_end result ≡ WriteFailed → ReadsInput (R.remaining reader.old.stream) (R.remaining reader.new.stream)
+        (λ input. AppendsPrefix (W.contents writer.old.stream) (W.contents writer.new.stream) (line_of (answer_words (answer_to (rules_named name) input)))) }
     ensures trace { IfErr result (λ fault. AtTrace fault (λ why. IfSome (R.remaining reader.old.stream) (λ text. check_reading text ≡ Err why))) }
-    ensures read_failed { IfErr result (λ fault. AtReading fault (FailsOnce reader.old reader.new)) }
-    ensures unfailed { MatchResult result (λ _. reader.new.failures ≡ reader.old.failures) (λ fault. ButForReading fault (reader.new.failures ≡ reader.old.failures)) }
-    ensures once { OnOk result (reader.new.ends ≡ next reader.old.ends) }
-    ensures few { AtMost 134217729 reader.old.calls reader.new.calls }
-    ensures write_failed { IfErr result (λ fault. AtWrite fault (writer.new.failures ≡ next writer.old.failures)) }
-    ensures written { OnOk result (writer.new.failures ≡ writer.old.failures) }
+    ensures reads { ReadsToEnd (ended run_end result) reader.old reader.new }
+    ensures writes { WritesToEnd (ended run_end result) writer.old writer.new }
 {
     lp_trace::check(alloc, model, reader, writer)
 }
@@ -78,14 +68,9 @@ pub fn act_check<R: Read, W: Write>(
     writer: &mut Counted<W>,
 ) -> Result<(), Fault>
     ensures done { OnOk result (IsDone (R.remaining reader.old.stream) (R.remaining reader.new.stream) (W.contents writer.old.stream) (W.contents writer.new.stream) (Check model)) }
-    ensures ends { IfErr result (EndsBy (R.remaining reader.old.stream) (R.remaining reader.new.stream) (W.contents writer.old.stream) (W.contents writer.new.stream) (writer.new ≡ writer.old) (Check model)) }
-    ensures read_failed { result ≡ Err Fault.Read → FailsOnce reader.old reader.new }
-    ensures unfailed { result ≢ Err Fault.Read → reader.new.failures ≡ reader.old.failures }
-    ensures once { OnOk result (reader.new.ends ≡ next reader.old.ends) }
-    ensures refused_once { result ≡ Err Fault.Refused → reader.new.ends ≡ next reader.old.ends }
-    ensures few { AtMost 134217729 reader.old.calls reader.new.calls }
-    ensures write_failed { result ≡ Err Fault.Write → writer.new.failures ≡ next writer.old.failures }
-    ensures written { result ≢ Err Fault.Write → writer.new.failures ≡ writer.old.failures }
+    ensures ends { IfErr result (EndsBy (R.remaining reader.old.stream) (R.remaining reader.new.stream) (W.contents writer.old.stream) (W.contents writer.new.stream) (Check model)) }
+    ensures reads { ReadsToEnd (ended program_end result) reader.old reader.new }
+    ensures writes { WritesToEnd (ended program_end result) writer.old writer.new }
 {
     match check(alloc, model, reader, writer) {
         Ok(true) => Ok(()),

@@ -1,7 +1,7 @@
 //! The comparison of the models.
-ghost use Rattle.std.specs.Prelude.{◌≡◌, ◌≢◌, Err, IfErr, OnOk};
-ghost use Rattle.lp_text.specs.Counts.{AtMost, next};
-ghost use Rattle.lp_text.specs.Input.{FailsOnce};
+ghost use Rattle.std.specs.Prelude.{IfErr, OnOk};
+ghost use Rattle.lp_text.specs.StreamContract.{ReadsToEnd, WritesToEnd, ended};
+ghost use Rattle.lp_program.specs.Faults.{program_end};
 ghost use Rattle.lp_program.specs.Performed.{EndsBy, IsDone};
 ghost use Rattle.lp_words.specs.declared.words.Job.TheVariants.{Compare};
 
@@ -19,14 +19,9 @@ pub fn act_compare<R: Read, W: Write>(
     writer: &mut Counted<W>,
 ) -> Result<(), Fault>
     ensures done { OnOk result (IsDone (R.remaining reader.old.stream) (R.remaining reader.new.stream) (W.contents writer.old.stream) (W.contents writer.new.stream) (Compare json)) }
-    ensures ends { IfErr result (EndsBy (R.remaining reader.old.stream) (R.remaining reader.new.stream) (W.contents writer.old.stream) (W.contents writer.new.stream) (writer.new ≡ writer.old) (Compare json)) }
-    ensures read_failed { result ≡ Err Fault.Read → FailsOnce reader.old reader.new }
-    ensures unfailed { result ≢ Err Fault.Read → reader.new.failures ≡ reader.old.failures }
-    ensures once { OnOk result (reader.new.ends ≡ next reader.old.ends) }
-    ensures refused_once { result ≡ Err Fault.Refused → reader.new.ends ≡ next reader.old.ends }
-    ensures few { AtMost 134217729 reader.old.calls reader.new.calls }
-    ensures write_failed { result ≡ Err Fault.Write → writer.new.failures ≡ next writer.old.failures }
-    ensures written { result ≢ Err Fault.Write → writer.new.failures ≡ writer.old.failures }
+    ensures ends { IfErr result (EndsBy (R.remaining reader.old.stream) (R.remaining reader.new.stream) (W.contents writer.old.stream) (W.contents writer.new.stream) (Compare json)) }
+    ensures reads { ReadsToEnd (ended program_end result) reader.old reader.new }
+    ensures writes { WritesToEnd (ended program_end result) writer.old writer.new }
 {
     match compare_run(alloc, json, reader, writer) {
         Ok(()) => Ok(()),

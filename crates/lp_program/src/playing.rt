@@ -1,17 +1,16 @@
 //! A play by threads under the model of a name.
-ghost use Rattle.std.specs.Prelude.{◌≡◌, ◌≢◌, Err, IfErr, IfSome, MatchResult, OnOk};
+ghost use Rattle.std.specs.Prelude.{◌≡◌, Err, IfErr, IfSome, OnOk};
 ghost use Rattle.std.specs.Io.KnownBytes.{Appends};
 ghost use Rattle.lp_models.specs.Models.{rules_named};
-ghost use Rattle.lp_text.specs.Counts.{AtMost, next};
-ghost use Rattle.lp_text.specs.Input.{FailsOnce};
 ghost use Rattle.lp_text.specs.Reading.{reading};
-ghost use Rattle.lp_replay.specs.Runs.{AtReading, AtTrace, AtWrite, ReadsTrace};
+ghost use Rattle.lp_text.specs.StreamContract.{ReadsToEnd, WriteFailed, WritesToEnd, ended};
+ghost use Rattle.lp_replay.specs.Runs.{AtTrace, ReadsTrace};
 ghost use Rattle.lp_text.specs.Writing.{AppendsPrefix};
-ghost use Rattle.lp_threads.specs.Faults.{AtDesk, AtRun, ButForReader, ButForWriter, IsOfPlay};
+ghost use Rattle.lp_threads.specs.Faults.{AtDesk, AtRun, IsOfPlay, threads_end};
 ghost use Rattle.lp_program.specs.Performed.{EndsBy, IsDone, IsPlayed};
 ghost use Rattle.lp_words.specs.declared.words.Job.TheVariants.{Threads};
 ghost use Rattle.lp_threads.specs.Codes.{code_of};
-ghost use Rattle.lp_program.specs.Faults.{IsOfThreads};
+ghost use Rattle.lp_program.specs.Faults.{IsOfThreads, program_end};
 
 use crate::fault::Fault;
 use lp_models::{Consistency, ModelName, with_model};
@@ -45,17 +44,12 @@ pub fn threads<T: Threads + Wait + Sync, R: Read, W: Write>(
     // The play is one by the model's rules, and its report has the model's name.
     ensures report { OnOk result (ReadsTrace (R.remaining reader.old.stream) (R.remaining reader.new.stream)
         (λ trace. IsPlayed model trace (Appends (W.contents writer.old.stream) (W.contents writer.new.stream)))) }
-    ensures prefix { IfErr result (λ fault. AtRun fault (λ why. AtWrite why (ReadsTrace (R.remaining reader.old.stream) (R.remaining reader.new.stream)
-        (λ trace. IsPlayed model trace (AppendsPrefix (W.contents writer.old.stream) (W.contents writer.new.stream)))))) }
-    ensures untouched { IfErr result (λ fault. ButForWriter fault (writer.new ≡ writer.old)) }
+    ensures prefix { ended threads_end result ≡ WriteFailed → ReadsTrace (R.remaining reader.old.stream) (R.remaining reader.new.stream)
+        (λ trace. IsPlayed model trace (AppendsPrefix (W.contents writer.old.stream) (W.contents writer.new.stream))) }
     ensures trace { IfErr result (λ fault. AtRun fault (λ why. AtTrace why (λ why. IfSome (R.remaining reader.old.stream) (λ text. reading text ≡ Err why)))) }
     ensures desk { IfErr result (λ fault. AtDesk fault (IsOfPlay fault × ReadsTrace (R.remaining reader.old.stream) (R.remaining reader.new.stream) (λ trace. Unit {0}))) }
-    ensures read_failed { IfErr result (λ fault. AtRun fault (λ why. AtReading why (FailsOnce reader.old reader.new))) }
-    ensures unfailed { MatchResult result (λ _. reader.new.failures ≡ reader.old.failures) (λ fault. ButForReader fault (reader.new.failures ≡ reader.old.failures)) }
-    ensures once { OnOk result (reader.new.ends ≡ next reader.old.ends) }
-    ensures few { AtMost 134217729 reader.old.calls reader.new.calls }
-    ensures write_failed { IfErr result (λ fault. AtRun fault (λ why. AtWrite why (writer.new.failures ≡ next writer.old.failures))) }
-    ensures written { OnOk result (writer.new.failures ≡ writer.old.failures) }
+    ensures reads { ReadsToEnd (ended threads_end result) reader.old reader.new }
+    ensures writes { WritesToEnd (ended threads_end result) writer.old writer.new }
 {
     with_model!(model, rules => threads_by(rt, alloc, model, rules, reader, writer))
 }
@@ -72,17 +66,12 @@ fn threads_by<T: Threads + Wait + Sync, M: Consistency + Send + Sync, R: Read, W
     requires { M.rules ≡ rules_named name }
     ensures report { OnOk result (ReadsTrace (R.remaining reader.old.stream) (R.remaining reader.new.stream)
         (λ trace. IsPlayed name trace (Appends (W.contents writer.old.stream) (W.contents writer.new.stream)))) }
-    ensures prefix { IfErr result (λ fault. AtRun fault (λ why. AtWrite why (ReadsTrace (R.remaining reader.old.stream) (R.remaining reader.new.stream)
-        (λ trace. IsPlayed name trace (AppendsPrefix (W.contents writer.old.stream) (W.contents writer.new.stream)))))) }
-    ensures untouched { IfErr result (λ fault. ButForWriter fault (writer.new ≡ writer.old)) }
+    ensures prefix { ended threads_end result ≡ WriteFailed → ReadsTrace (R.remaining reader.old.stream) (R.remaining reader.new.stream)
+        (λ trace. IsPlayed name trace (AppendsPrefix (W.contents writer.old.stream) (W.contents writer.new.stream))) }
     ensures trace { IfErr result (λ fault. AtRun fault (λ why. AtTrace why (λ why. IfSome (R.remaining reader.old.stream) (λ text. reading text ≡ Err why)))) }
     ensures desk { IfErr result (λ fault. AtDesk fault (IsOfPlay fault × ReadsTrace (R.remaining reader.old.stream) (R.remaining reader.new.stream) (λ trace. Unit {0}))) }
-    ensures read_failed { IfErr result (λ fault. AtRun fault (λ why. AtReading why (FailsOnce reader.old reader.new))) }
-    ensures unfailed { MatchResult result (λ _. reader.new.failures ≡ reader.old.failures) (λ fault. ButForReader fault (reader.new.failures ≡ reader.old.failures)) }
-    ensures once { OnOk result (reader.new.ends ≡ next reader.old.ends) }
-    ensures few { AtMost 134217729 reader.old.calls reader.new.calls }
-    ensures write_failed { IfErr result (λ fault. AtRun fault (λ why. AtWrite why (writer.new.failures ≡ next writer.old.failures))) }
-    ensures written { OnOk result (writer.new.failures ≡ writer.old.failures) }
+    ensures reads { ReadsToEnd (ended threads_end result) reader.old reader.new }
+    ensures writes { WritesToEnd (ended threads_end result) writer.old writer.new }
 {
     let called = name.name();
     lp_threads::threads(rt, alloc, called, model, reader, writer)
@@ -97,14 +86,9 @@ pub fn act_threads<T: Threads + Wait + Sync, R: Read, W: Write>(
     writer: &mut Counted<W>,
 ) -> Result<(), Fault>
     ensures done { OnOk result (IsDone (R.remaining reader.old.stream) (R.remaining reader.new.stream) (W.contents writer.old.stream) (W.contents writer.new.stream) (Threads model)) }
-    ensures ends { IfErr result (EndsBy (R.remaining reader.old.stream) (R.remaining reader.new.stream) (W.contents writer.old.stream) (W.contents writer.new.stream) (writer.new ≡ writer.old) (Threads model)) }
-    ensures read_failed { result ≡ Err Fault.Read → FailsOnce reader.old reader.new }
-    ensures unfailed { result ≢ Err Fault.Read → reader.new.failures ≡ reader.old.failures }
-    ensures once { OnOk result (reader.new.ends ≡ next reader.old.ends) }
-    ensures refused_once { result ≡ Err Fault.Refused → reader.new.ends ≡ next reader.old.ends }
-    ensures few { AtMost 134217729 reader.old.calls reader.new.calls }
-    ensures write_failed { result ≡ Err Fault.Write → writer.new.failures ≡ next writer.old.failures }
-    ensures written { result ≢ Err Fault.Write → writer.new.failures ≡ writer.old.failures }
+    ensures ends { IfErr result (EndsBy (R.remaining reader.old.stream) (R.remaining reader.new.stream) (W.contents writer.old.stream) (W.contents writer.new.stream) (Threads model)) }
+    ensures reads { ReadsToEnd (ended program_end result) reader.old reader.new }
+    ensures writes { WritesToEnd (ended program_end result) writer.old writer.new }
 {
     match threads(rt, alloc, model, reader, writer) {
         Ok(()) => Ok(()),

@@ -1,7 +1,7 @@
 //! What the program does at its words.
-ghost use Rattle.std.specs.Prelude.{◌≡◌, ◌≢◌, Err, IfErr, OnOk, map};
-ghost use Rattle.lp_text.specs.Counts.{AtMost, next};
-ghost use Rattle.lp_text.specs.Input.{FailsOnce};
+ghost use Rattle.std.specs.Prelude.{◌≡◌, IfErr, OnOk, map};
+ghost use Rattle.lp_text.specs.StreamContract.{ReadsToEnd, WritesToEnd, ended};
+ghost use Rattle.lp_program.specs.Faults.{program_end};
 ghost use Rattle.lp_program.specs.Performed.{EndsBy, Fails, IsDone, Performs};
 
 use crate::checks::act_check;
@@ -28,20 +28,10 @@ pub fn perform<T: Threads + Wait + Sync, S: AsStr, R: Read, W: Write>(
 ) -> Result<(), Fault>
     ensures done { OnOk result (Performs (R.remaining reader.old.stream) (R.remaining reader.new.stream) (W.contents writer.old.stream) (W.contents writer.new.stream) (map S.text words.now)) }
     ensures fails { IfErr result (Fails (R.remaining reader.old.stream) (R.remaining reader.new.stream) (W.contents writer.old.stream) (W.contents writer.new.stream)
-        (reader.new ≡ reader.old) (writer.new ≡ writer.old) (map S.text words.now)) }
-    // A fault of reading comes of one read that failed, before the end was found.
-    ensures read_failed { result ≡ Err Fault.Read → FailsOnce reader.old reader.new }
-    // Else no read failed: one that failed is told before a fault of the text.
-    ensures unfailed { result ≢ Err Fault.Read → reader.new.failures ≡ reader.old.failures }
-    // Where the job is done, or the certificate refused, the end was found once: nothing is read after it.
-    ensures once { OnOk result (reader.new.ends ≡ next reader.old.ends) }
-    ensures refused_once { result ≡ Err Fault.Refused → reader.new.ends ≡ next reader.old.ends }
-    // Each read but the last gives a byte at least.
-    ensures few { AtMost 134217729 reader.old.calls reader.new.calls }
-    // A fault of writing comes of one write that failed or took no byte.
-    ensures write_failed { result ≡ Err Fault.Write → writer.new.failures ≡ next writer.old.failures }
-    // Else no write failed.
-    ensures written { result ≢ Err Fault.Write → writer.new.failures ≡ writer.old.failures }
+        (reader.new ≡ reader.old) (map S.text words.now)) }
+    // The reader is read to its end, and only then is anything written; a fault of either comes of a call that failed.
+    ensures reads { ReadsToEnd (ended program_end result) reader.old reader.new }
+    ensures writes { WritesToEnd (ended program_end result) writer.old writer.new }
 {
     let job = job_of(alloc, words)?;
     act(rt, alloc, job, reader, writer)
@@ -57,14 +47,9 @@ pub fn act<T: Threads + Wait + Sync, R: Read, W: Write>(
     writer: &mut Counted<W>,
 ) -> Result<(), Fault>
     ensures done { OnOk result (IsDone (R.remaining reader.old.stream) (R.remaining reader.new.stream) (W.contents writer.old.stream) (W.contents writer.new.stream) job) }
-    ensures ends { IfErr result (EndsBy (R.remaining reader.old.stream) (R.remaining reader.new.stream) (W.contents writer.old.stream) (W.contents writer.new.stream) (writer.new ≡ writer.old) job) }
-    ensures read_failed { result ≡ Err Fault.Read → FailsOnce reader.old reader.new }
-    ensures unfailed { result ≢ Err Fault.Read → reader.new.failures ≡ reader.old.failures }
-    ensures once { OnOk result (reader.new.ends ≡ next reader.old.ends) }
-    ensures refused_once { result ≡ Err Fault.Refused → reader.new.ends ≡ next reader.old.ends }
-    ensures few { AtMost 134217729 reader.old.calls reader.new.calls }
-    ensures write_failed { result ≡ Err Fault.Write → writer.new.failures ≡ next writer.old.failures }
-    ensures written { result ≢ Err Fault.Write → writer.new.failures ≡ writer.old.failures }
+    ensures ends { IfErr result (EndsBy (R.remaining reader.old.stream) (R.remaining reader.new.stream) (W.contents writer.old.stream) (W.contents writer.new.stream) job) }
+    ensures reads { ReadsToEnd (ended program_end result) reader.old reader.new }
+    ensures writes { WritesToEnd (ended program_end result) writer.old writer.new }
 {
     match job {
         Job::Run(model) => act_run(alloc, model, reader, writer),

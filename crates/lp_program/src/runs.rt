@@ -1,15 +1,15 @@
 //! A run under the model of a name.
-ghost use Rattle.std.specs.Prelude.{◌≡◌, ◌≢◌, Err, IfErr, IfSome, MatchResult, OnOk};
+ghost use Rattle.std.specs.Prelude.{◌≡◌, Err, IfErr, IfSome, OnOk};
 ghost use Rattle.std.specs.Io.KnownBytes.{Appends};
 ghost use Rattle.lp_models.specs.Models.{name_of, rules_named};
-ghost use Rattle.lp_text.specs.Counts.{AtMost, next};
-ghost use Rattle.lp_text.specs.Input.{FailsOnce};
+ghost use Rattle.lp_text.specs.StreamContract.{ReadsToEnd, WriteFailed, WritesToEnd, ended};
 ghost use Rattle.lp_definitions.specs.Headline.{Headline};
 ghost use Rattle.lp_replay.specs.Outcome.{whole_run, outcome};
 ghost use Rattle.lp_text.specs.Reading.{reading};
 ghost use Rattle.lp_trace.specs.Report.{report};
-ghost use Rattle.lp_replay.specs.Runs.{AtReading, AtTrace, AtWrite, BeforeWriting, ButForReading, ReadsTrace};
+ghost use Rattle.lp_replay.specs.Runs.{AtTrace, ReadsTrace, run_end};
 ghost use Rattle.lp_text.specs.Writing.{AppendsPrefix};
+ghost use Rattle.lp_program.specs.Faults.{program_end};
 ghost use Rattle.lp_program.specs.Performed.{EndsBy, IsDone};
 ghost use Rattle.lp_words.specs.declared.words.Job.TheVariants.{Run};
 
@@ -32,16 +32,11 @@ pub fn run<R: Read, W: Write>(
     ensures headline { OnOk result (ReadsTrace (R.remaining reader.old.stream) (R.remaining reader.new.stream)
         (λ trace. Appends (W.contents writer.old.stream) (W.contents writer.new.stream) (report trace.form (name_of model) (outcome (rules_named model) trace))
         × Headline (rules_named model) (whole_run trace) (outcome (rules_named model) trace))) }
-    ensures prefix { IfErr result (λ fault. AtWrite fault (ReadsTrace (R.remaining reader.old.stream) (R.remaining reader.new.stream)
-        (λ trace. AppendsPrefix (W.contents writer.old.stream) (W.contents writer.new.stream) (report trace.form (name_of model) (outcome (rules_named model) trace))))) }
-    ensures untouched { IfErr result (λ fault. BeforeWriting fault (writer.new ≡ writer.old)) }
+    ensures prefix { ended run_end result ≡ WriteFailed → ReadsTrace (R.remaining reader.old.stream) (R.remaining reader.new.stream)
+        (λ trace. AppendsPrefix (W.contents writer.old.stream) (W.contents writer.new.stream) (report trace.form (name_of model) (outcome (rules_named model) trace))) }
     ensures trace { IfErr result (λ fault. AtTrace fault (λ why. IfSome (R.remaining reader.old.stream) (λ text. reading text ≡ Err why))) }
-    ensures read_failed { IfErr result (λ fault. AtReading fault (FailsOnce reader.old reader.new)) }
-    ensures unfailed { MatchResult result (λ _. reader.new.failures ≡ reader.old.failures) (λ fault. ButForReading fault (reader.new.failures ≡ reader.old.failures)) }
-    ensures once { OnOk result (reader.new.ends ≡ next reader.old.ends) }
-    ensures few { AtMost 134217729 reader.old.calls reader.new.calls }
-    ensures write_failed { IfErr result (λ fault. AtWrite fault (writer.new.failures ≡ next writer.old.failures)) }
-    ensures written { OnOk result (writer.new.failures ≡ writer.old.failures) }
+    ensures reads { ReadsToEnd (ended run_end result) reader.old reader.new }
+    ensures writes { WritesToEnd (ended run_end result) writer.old writer.new }
 {
     let name = model.name();
     with_model!(model, model => lp_trace::run(alloc, name, model, reader, writer))
@@ -55,14 +50,9 @@ pub fn act_run<R: Read, W: Write>(
     writer: &mut Counted<W>,
 ) -> Result<(), Fault>
     ensures done { OnOk result (IsDone (R.remaining reader.old.stream) (R.remaining reader.new.stream) (W.contents writer.old.stream) (W.contents writer.new.stream) (Run model)) }
-    ensures ends { IfErr result (EndsBy (R.remaining reader.old.stream) (R.remaining reader.new.stream) (W.contents writer.old.stream) (W.contents writer.new.stream) (writer.new ≡ writer.old) (Run model)) }
-    ensures read_failed { result ≡ Err Fault.Read → FailsOnce reader.old reader.new }
-    ensures unfailed { result ≢ Err Fault.Read → reader.new.failures ≡ reader.old.failures }
-    ensures once { OnOk result (reader.new.ends ≡ next reader.old.ends) }
-    ensures refused_once { result ≡ Err Fault.Refused → reader.new.ends ≡ next reader.old.ends }
-    ensures few { AtMost 134217729 reader.old.calls reader.new.calls }
-    ensures write_failed { result ≡ Err Fault.Write → writer.new.failures ≡ next writer.old.failures }
-    ensures written { result ≢ Err Fault.Write → writer.new.failures ≡ writer.old.failures }
+    ensures ends { IfErr result (EndsBy (R.remaining reader.old.stream) (R.remaining reader.new.stream) (W.contents writer.old.stream) (W.contents writer.new.stream) (Run model)) }
+    ensures reads { ReadsToEnd (ended program_end result) reader.old reader.new }
+    ensures writes { WritesToEnd (ended program_end result) writer.old writer.new }
 {
     match run(alloc, model, reader, writer) {
         Ok(()) => Ok(()),

@@ -1,15 +1,9 @@
 -- Calls that were counted.
-use Rattle.std.proofs.Common.{◌≡◌, ◌≤◌, ◌<◌, ◌+◌, ℕ, zero, suc, Result, Ok, Err, refl, sym, ap, ◌∙◌, subst, arith}
-use Rattle.std.specs.Prelude.{IfErr, IsErrAnd, MatchResult}
+use Rattle.std.proofs.Common.{◌≡◌, ◌≤◌, ◌<◌, ◌+◌, ℕ, zero, suc, refl, sym, ap, ◌∙◌, arith}
 use Rattle.lp_text.specs.Counts.{AtMost, Counts, after, next}
-use Rattle.lp_text.specs.declared.fault.ReadFault.{ReadFault}
-use Rattle.lp_text.specs.declared.fault.ReadFault.TheVariants as read
 use Rattle.lp_text.specs.declared.input.InputFault.{InputFault}
 use Rattle.lp_text.specs.declared.input.InputFault.TheVariants as input
-use Rattle.lp_text.specs.declared.stream_fault.StreamFault.{StreamFault}
-use Rattle.lp_text.specs.declared.stream_fault.StreamFault.TheVariants as stream
-use Rattle.lp_text.specs.Input.{AtRead, ButForReads, FailsOnce, of_read}
-use Rattle.lp_text.specs.inside.Streams.{Ended, Gave, Going, InputFails, StreamFails, of_input}
+use Rattle.lp_text.specs.inside.Streams.{Ended, Gave, Going, InputFails}
 
 -- ---- How many
 
@@ -56,40 +50,3 @@ module _ {S : Type 0} (a b c : Counts S) where
   going_to_fault (input.Failed error) h fails = (fails.0 ∙ ap next h.0, fails.1 ∙ h.1)
   going_to_fault input.Long h fails = fails ∙ h.0
   going_to_fault input.NoMemory h fails = fails ∙ h.0
-
--- ---- What a fault says of them
-
-module _ {S : Type 0} (a b : Counts S) where
-  of_input_fails : (fault : InputFault) → InputFails a b fault → StreamFails a b (of_input fault)
-  of_input_fails (input.Failed error) h = h
-  of_input_fails input.Long h = h
-  of_input_fails input.NoMemory h = h
-
-  of_read_fails : (fault : ReadFault) → b.failures ≡ a.failures → StreamFails a b (of_read fault)
-  of_read_fails (read.Trace fault) h = h
-  of_read_fails read.NoMemory h = h
-
-  pub input_told : (fault : InputFault) (e : StreamFault) → InputFails a b fault → e ≡ of_input fault → StreamFails a b e
-  input_told fault e h is = subst (StreamFails a b) (sym is) (of_input_fails fault h)
-
-  pub text_told : (fault : ReadFault) (e : StreamFault) → b.failures ≡ a.failures → e ≡ of_read fault → StreamFails a b e
-  text_told fault e h is = subst (StreamFails a b) (sym is) (of_read_fails fault h)
-
-  pub at_read : (fault : StreamFault) → StreamFails a b fault → AtRead fault (FailsOnce a b)
-  at_read (stream.Read error) h = h
-  at_read (stream.Trace fault) h = tt
-  at_read stream.NoMemory h = tt
-
-  pub but_for_reads : (fault : StreamFault) → StreamFails a b fault → ButForReads fault (b.failures ≡ a.failures)
-  but_for_reads (stream.Read error) h = tt
-  but_for_reads (stream.Trace fault) h = h
-  but_for_reads stream.NoMemory h = h
-
-  -- the same, as it is returned
-  pub at_read_of : {X : Type 0} (fault : StreamFault) (r : Result X StreamFault) → StreamFails a b fault → IsErrAnd r (λ e. e ≡ fault) → IfErr r (λ e. AtRead e (FailsOnce a b))
-  at_read_of fault (Ok x) h is = tt
-  at_read_of fault (Err e) h is = at_read e (subst (StreamFails a b) (sym is) h)
-
-  pub but_for_reads_of : {X : Type 0} (fault : StreamFault) (r : Result X StreamFault) → StreamFails a b fault → IsErrAnd r (λ e. e ≡ fault) → MatchResult r (λ _. b.failures ≡ a.failures) (λ e. ButForReads e (b.failures ≡ a.failures))
-  but_for_reads_of fault (Ok x) h is = absurd is
-  but_for_reads_of fault (Err e) h is = but_for_reads e (subst (StreamFails a b) (sym is) h)

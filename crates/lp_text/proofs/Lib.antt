@@ -13,6 +13,7 @@ pub mod Steps
 pub mod Sound
 pub mod Writing
 pub mod Counts
+pub mod StreamContract
 pub mod Inputs
 pub mod Streams
 pub mod Again

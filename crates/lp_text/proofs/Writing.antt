@@ -1,6 +1,6 @@
 -- Bytes that were written one piece after another.
 use Rattle.std.proofs.Common.{◌≡◌, ◌<◌, ◌≤◌, ◌+◌, ◌-◌, ℕ, zero, suc, Bool, true, false, inl, inr, List, [], ◌∷◌, ◌++◌, length, take, drop, Option, None, Some, Result, Ok, Err, Bor, map, get_or, add-one, subst, refl, sym, ap, ◌∙◌, arith, append_assoc}
-use Rattle.std.specs.Prelude.{Vec, nat_le, nat_lt, ◌==◌, IsErr, OnErr, OnOk}
+use Rattle.std.specs.Prelude.{Vec, nat_le, nat_lt, ◌==◌, IsErr}
 use Rattle.std.specs.Io.KnownBytes.{Appends}
 use Rattle.std.specs.List.{list_any, AllByRecursion, join_with_byte, flat_map}
 use Rattle.std.proofs.lemmas.Bool.Decides.{leb_tells}
@@ -15,9 +15,12 @@ use Rattle.std.proofs.lemmas.List.{take-append-drop, take_all, length-drop, appe
 use Rattle.std.proofs.Math.ListN.{drop_of_length-le}
 use Rattle.std.proofs.Math.Seq.{drop-cons}
 use Rattle.lp_text.specs.Words.{line_of, header}
-use Rattle.lp_text.specs.Counts.{next}
+use Rattle.lp_text.specs.Counts.{Counts, next}
+use Rattle.lp_text.specs.StreamContract.{WritesToEnd, ended, write_end}
+use Rattle.lp_text.specs.declared.write.WriteFault.{WriteFault}
 use Rattle.lp_text.specs.Writing.{Writes}
-use Rattle.lp_text.specs.inside.Writing.{Left, Seen, Takes, TakesPrefix, Wrote, line_rest}
+use Rattle.lp_text.specs.inside.Writing.{Left, Seen, Takes, TakesPrefix, Wrote, line_rest, seen_of}
+use Rattle.lp_text.proofs.StreamContract.{writes_done, writes_failed}
 
 pub appends_more : (a b c : Option (List ℕ)) (x y : List ℕ) → Appends a b x → Appends b c y → Appends a c (x ++ y)
 appends_more None b c x y h k = tt
@@ -62,22 +65,19 @@ writes_after a b c x y text (Ok z) e h k = let P : List ℕ → Type 0 = λ t. T
 writes_after a b c x y text (Err z) e h k = prefix_after a b c x y text e h k
 
 -- what a call says of the bytes and of its failures, put together
-pub wrote : {E : Type 0} (a b : Seen) (text : List ℕ) (r : Result (Unit {0}) E) → Writes a.held b.held r text → OnErr r (b.failures ≡ next a.failures) → OnOk r (b.failures ≡ a.failures) → Wrote a b r text
-wrote a b text (Ok x) h failed unfailed = (h, unfailed)
-wrote a b text (Err e) h failed unfailed = (h, failed)
+module _ {W : Type 0} (contents : W → Option (List ℕ)) (a b : Counts W) (text : List ℕ) where
+  pub wrote : (r : Result (Unit {0}) WriteFault) → Writes (contents a.stream) (contents b.stream) r text → WritesToEnd (ended write_end r) a b → Wrote (seen_of contents a) (seen_of contents b) r text
+  wrote (Ok x) h writes = (h, writes.written refl)
+  wrote (Err e) h writes = (h, writes.write_failed refl)
 
--- and taken apart
-pub writes_of : {E : Type 0} (a b : Seen) (text : List ℕ) (r : Result (Unit {0}) E) → Wrote a b r text → Writes a.held b.held r text
-writes_of a b text (Ok x) h = h.0
-writes_of a b text (Err e) h = h.0
+  -- and taken apart
+  pub writes_of : (r : Result (Unit {0}) WriteFault) → Wrote (seen_of contents a) (seen_of contents b) r text → Writes (contents a.stream) (contents b.stream) r text
+  writes_of (Ok x) h = h.0
+  writes_of (Err e) h = h.0
 
-pub failed_of : {E : Type 0} (a b : Seen) (text : List ℕ) (r : Result (Unit {0}) E) → Wrote a b r text → OnErr r (b.failures ≡ next a.failures)
-failed_of a b text (Ok x) h = tt
-failed_of a b text (Err e) h = h.1
-
-pub unfailed_of : {E : Type 0} (a b : Seen) (text : List ℕ) (r : Result (Unit {0}) E) → Wrote a b r text → OnOk r (b.failures ≡ a.failures)
-unfailed_of a b text (Ok x) h = h.1
-unfailed_of a b text (Err e) h = tt
+  pub writes_to_end : (r : Result (Unit {0}) WriteFault) → Wrote (seen_of contents a) (seen_of contents b) r text → WritesToEnd (ended write_end r) a b
+  writes_to_end (Ok x) h = writes_done a b h.1
+  writes_to_end (Err e) h = writes_failed a b h.1
 
 -- ---- Words of a line
 

@@ -23,3 +23,7 @@ pub record AtMost (most old new : ℕ) : Type 0 where
   pub more : ℕ
   pub few : more ≤ most
   pub counted : new ≡ after more old
+
+-- one read failed, and none found the end
+abbrev pub FailsOnce : {S : Type 0} → Counts S → Counts S → Type 0
+FailsOnce old new = (new.failures ≡ next old.failures) × (new.ends ≡ old.ends)

@@ -1,7 +1,6 @@
 -- What is read of a reader.
-use Rattle.std.specs.Prelude.{◌≡◌, ℕ, List, Option}
+use Rattle.std.specs.Prelude.{ℕ, List, Option}
 use Rattle.std.specs.Io.KnownBytes.{Consumes, IsAtEnd}
-use Rattle.lp_text.specs.Counts.{Counts, next}
 use Rattle.lp_text.specs.declared.fault.TraceFault.{TraceFault}
 use Rattle.lp_text.specs.declared.fault.ReadFault.{ReadFault}
 use Rattle.lp_text.specs.declared.fault.ReadFault.TheVariants as read
@@ -17,22 +16,6 @@ abbrev pub AtText : StreamFault → (TraceFault → Type 0) → Type 0
 AtText (stream.Trace fault) P = P fault
 AtText (stream.Read error) P = Unit {0}
 AtText stream.NoMemory P = Unit {0}
-
--- this is so where the reader failed
-abbrev pub AtRead : StreamFault → Type 0 → Type 0
-AtRead (stream.Read error) P = P
-AtRead (stream.Trace fault) P = Unit {0}
-AtRead stream.NoMemory P = Unit {0}
-
--- this is so at every other fault
-abbrev pub ButForReads : StreamFault → Type 0 → Type 0
-ButForReads (stream.Read error) P = Unit {0}
-ButForReads (stream.Trace fault) P = P
-ButForReads stream.NoMemory P = P
-
--- one read failed, and none found the end
-abbrev pub FailsOnce : {S : Type 0} → Counts S → Counts S → Type 0
-FailsOnce old new = (new.failures ≡ next old.failures) × (new.ends ≡ old.ends)
 
 -- a fault of a text, as a fault of the reader that has it
 abbrev pub of_read : ReadFault → StreamFault

@@ -1,4 +1,5 @@
 pub mod Counts
+pub mod StreamContract
 pub mod Words
 pub mod Traces
 pub mod Reading

@@ -1,11 +1,11 @@
 //! The input of a check: a trace and a certificate.
-ghost use Rattle.std.specs.Prelude.{◌≡◌, ◌≤◌, [], Err, IfErr, IfOk, IfSome, MatchResult, Ok, OnOk, length, option_copied};
+ghost use Rattle.std.specs.Prelude.{◌≡◌, ◌≤◌, [], Err, IfErr, IfOk, IfSome, Ok, length, option_copied};
 ghost use Rattle.std.specs.Option.{option_map};
 ghost use Rattle.lp_text.specs.CheckReading.{cert_after, cert_from, check_reading, divided, reasons_from};
 ghost use Rattle.lp_text.specs.CheckTexts.{IsInput, input_text};
-ghost use Rattle.lp_text.specs.Counts.{AtMost, next};
 ghost use Rattle.lp_text.specs.Faults.{Gives};
-ghost use Rattle.lp_text.specs.Input.{AtRead, AtText, ButForReads, FailsOnce, ReadsAll};
+ghost use Rattle.lp_text.specs.Input.{AtText, ReadsAll};
+ghost use Rattle.lp_text.specs.StreamContract.{ReadsToEnd, ended, stream_end};
 ghost use Rattle.lp_text.specs.Words.{lines};
 
 use crate::check_lines::{claim_line, reason_line};
@@ -78,14 +78,8 @@ impl CheckInput {
         ensures found { IfOk result (λ input. IsInput input × ReadsAll (R.remaining reader.old.stream) (R.remaining reader.new.stream) (input_text input)) }
         // The fault of a text is the one that the definitions give.
         ensures trace { IfErr result (λ fault. AtText fault (λ why. IfSome (R.remaining reader.old.stream) (λ text. check_reading text ≡ Err why))) }
-        // A fault of reading comes of a read that failed, which no other read follows.
-        ensures read_failed { IfErr result (λ fault. AtRead fault (FailsOnce reader.old reader.new)) }
-        // Else no read failed: one that failed is told before a fault of the text.
-        ensures unfailed { MatchResult result (λ _. reader.new.failures ≡ reader.old.failures) (λ fault. ButForReads fault (reader.new.failures ≡ reader.old.failures)) }
-        // Without a fault the end was found once: nothing is read after it.
-        ensures once { OnOk result (reader.new.ends ≡ next reader.old.ends) }
-        // Each read but the last gives a byte at least.
-        ensures few { AtMost 134217729 reader.old.calls reader.new.calls }
+        // The reader is read to its end, and a fault of reading comes of a read that failed.
+        ensures reads { ReadsToEnd (ended stream_end result) reader.old reader.new }
     {
         let text = read_input(alloc, reader)?;
         let input = CheckInput::read(alloc, text.as_slice())?;

@@ -3,7 +3,8 @@ ghost use Rattle.std.specs.Prelude.{◌≡◌, ℕ, ◌+◌, ◌-◌, ◌<◌, �
 ghost use Rattle.std.specs.Io.KnownBytes.{Consumes, IsAtEnd};
 ghost use Rattle.lp_text.specs.Counts.{AtMost, next};
 ghost use Rattle.lp_text.specs.Input.{ReadsAll};
-ghost use Rattle.lp_text.specs.inside.Streams.{Ended, Gave, InputFails, IsFaultAfter, IsInputFault};
+ghost use Rattle.lp_text.specs.StreamContract.{ReadsToEnd, ended};
+ghost use Rattle.lp_text.specs.inside.Streams.{Ended, Gave, InputFails, IsFaultAfter, IsInputFault, input_end};
 
 use crate::counted::Counted;
 use crate::read::MOST_BYTES;
@@ -34,8 +35,7 @@ pub(crate) fn read_input<R: Read>(
     ensures whole { IfOk result (λ text. ReadsAll (R.remaining reader.old.stream) (R.remaining reader.new.stream) text.items) }
     ensures few { IfOk result (λ text. length text.items ≤ 134217728) }
     ensures fault { IfErr result (λ fault. IsInputFault (R.remaining reader.old.stream) (R.remaining reader.new.stream) fault) }
-    ensures counted { MatchResult result (λ _. Ended reader.old reader.new) (InputFails reader.old reader.new) }
-    ensures calls { AtMost 134217729 reader.old.calls reader.new.calls }
+    ensures reads { ReadsToEnd (ended input_end result) reader.old reader.new }
 {
     let Ok(mut piece) = vec![in alloc; 0; PIECE] else {
         return Err(InputFault::NoMemory);
@@ -53,8 +53,7 @@ fn read_pieces<R: Read>(
     ensures whole { IfOk result (λ text. ReadsAll (R.remaining reader.old.stream) (R.remaining reader.new.stream) text.items) }
     ensures few { IfOk result (λ text. length text.items ≤ 134217728) }
     ensures fault { IfErr result (λ fault. IsInputFault (R.remaining reader.old.stream) (R.remaining reader.new.stream) fault) }
-    ensures counted { MatchResult result (λ _. Ended reader.old reader.new) (InputFails reader.old reader.new) }
-    ensures calls { AtMost 134217729 reader.old.calls reader.new.calls }
+    ensures reads { ReadsToEnd (ended input_end result) reader.old reader.new }
 {
     let mut text = Vec::new(alloc);
     loop {

@@ -1,10 +1,10 @@
 //! Reading a trace from a reader piece by piece: of the text only the unfinished line is kept.
-ghost use Rattle.std.specs.Prelude.{◌≡◌, ◌+◌, ◌≤◌, ◌<◌, ◌++◌, ℕ, List, [], None, Ok, Err, length, IfOk, IfErr, IfSome, IfNone, MatchResult, OnOk};
-ghost use Rattle.lp_text.specs.Counts.{AtMost, next};
+ghost use Rattle.std.specs.Prelude.{◌≡◌, ◌+◌, ◌≤◌, ◌<◌, ◌++◌, ℕ, List, [], None, Ok, Err, length, IfOk, IfErr, IfSome, IfNone, OnOk};
 ghost use Rattle.lp_text.specs.Faults.{Gives, IsReadFault};
-ghost use Rattle.lp_text.specs.Input.{AtRead, AtText, ButForReads, FailsOnce, ReadsAll};
-ghost use Rattle.lp_text.specs.inside.Streams.{Ended, StreamFails, reading_after, reading_on};
+ghost use Rattle.lp_text.specs.Input.{AtText, ReadsAll};
+ghost use Rattle.lp_text.specs.inside.Streams.{reading_after, reading_on};
 ghost use Rattle.lp_text.specs.Reading.{reading, reading_from, reading_lines};
+ghost use Rattle.lp_text.specs.StreamContract.{ReadsToEnd, ended, stream_end};
 ghost use Rattle.lp_text.specs.Traces.{IsTrace, text_of};
 ghost use Rattle.lp_text.specs.Words.{lines};
 
@@ -223,14 +223,8 @@ impl Trace {
         ensures found { IfOk result (λ trace. IsTrace trace × ReadsAll (R.remaining reader.old.stream) (R.remaining reader.new.stream) (text_of trace)) }
         // The fault of a text is the one that the definitions give.
         ensures trace { IfErr result (λ fault. AtText fault (λ why. IfSome (R.remaining reader.old.stream) (λ text. reading text ≡ Err why))) }
-        // A fault of reading comes of a read that failed, which no other read follows.
-        ensures read_failed { IfErr result (λ fault. AtRead fault (FailsOnce reader.old reader.new)) }
-        // Else no read failed: one that failed is told before a fault of the text.
-        ensures unfailed { MatchResult result (λ _. reader.new.failures ≡ reader.old.failures) (λ fault. ButForReads fault (reader.new.failures ≡ reader.old.failures)) }
-        // Without a fault the end was found once: nothing is read after it.
-        ensures once { OnOk result (reader.new.ends ≡ next reader.old.ends) }
-        // Each read but the last gives a byte at least.
-        ensures few { AtMost 134217729 reader.old.calls reader.new.calls }
+        // The reader is read to its end, and a fault of reading comes of a read that failed.
+        ensures reads { ReadsToEnd (ended stream_end result) reader.old reader.new }
     {
         let parser = parse_all(alloc, reader)?;
         Ok(parser.into_trace())
@@ -241,8 +235,7 @@ impl Trace {
 fn parse_all<R: Read>(alloc: Global, reader: &mut Counted<R>) -> Result<Parser, StreamFault>
     ensures found { IfOk result (λ parser. (text : List ℕ) × ReadsAll (R.remaining reader.old.stream) (R.remaining reader.new.stream) text × (reading text ≡ Ok parser)) }
     ensures trace { IfErr result (λ fault. AtText fault (λ why. IfSome (R.remaining reader.old.stream) (λ text. reading text ≡ Err why))) }
-    ensures counted { MatchResult result (λ _. Ended reader.old reader.new) (StreamFails reader.old reader.new) }
-    ensures calls { AtMost 134217729 reader.old.calls reader.new.calls }
+    ensures reads { ReadsToEnd (ended stream_end result) reader.old reader.new }
 {
     let Ok(mut piece) = vec![in alloc; 0; PIECE] else {
         return Err(StreamFault::NoMemory);
@@ -259,8 +252,7 @@ fn read_by<R: Read>(
     requires { 0 < length piece.old }
     ensures found { IfOk result (λ parser. (text : List ℕ) × ReadsAll (R.remaining reader.old.stream) (R.remaining reader.new.stream) text × (reading text ≡ Ok parser)) }
     ensures trace { IfErr result (λ fault. AtText fault (λ why. IfSome (R.remaining reader.old.stream) (λ text. reading text ≡ Err why))) }
-    ensures counted { MatchResult result (λ _. Ended reader.old reader.new) (StreamFails reader.old reader.new) }
-    ensures calls { AtMost 134217729 reader.old.calls reader.new.calls }
+    ensures reads { ReadsToEnd (ended stream_end result) reader.old reader.new }
 {
     let mut stream = Stream::new(alloc);
     if let Err(fault) = add_all(alloc, reader, piece, &mut stream) {
@@ -285,8 +277,7 @@ fn add_all<R: Read>(
     ensures some { OnOk result (1 ≤ stream.new.number) }
     ensures few { OnOk result (stream.new.number + length stream.new.held ≤ 134217729) }
     ensures trace { IfErr result (λ fault. AtText fault (λ why. IfSome (R.remaining reader.old.stream) (λ text. reading text ≡ Err why))) }
-    ensures counted { MatchResult result (λ _. Ended reader.old reader.new) (StreamFails reader.old reader.new) }
-    ensures calls { AtMost 134217729 reader.old.calls reader.new.calls }
+    ensures reads { ReadsToEnd (ended stream_end result) reader.old reader.new }
 {
     let mut total = 0;
     loop {

@@ -1,10 +1,10 @@
 //! Writing a trace text.
-ghost use Rattle.std.specs.Prelude.{◌≡◌, ◌<◌, ◌≤◌, ◌∷◌, ◌++◌, [], decimal, length, map, None, OnErr, OnOk, slice_index_or};
+ghost use Rattle.std.specs.Prelude.{◌≡◌, ◌<◌, ◌≤◌, ◌∷◌, ◌++◌, [], decimal, length, map, None, slice_index_or};
 ghost use Rattle.std.specs.List.{flat_map, AllByRecursion};
 ghost use Rattle.lp_patch.specs.Patches.{patch_refusal};
 ghost use Rattle.lp_text.specs.Traces.{functions, IsEvent, IsTrace, boot_words, event_words, name, patch_lines, patch_words, sym_words, text_of};
 ghost use Rattle.lp_text.specs.Words.{event_word, header, line_of};
-ghost use Rattle.lp_text.specs.Counts.{next};
+ghost use Rattle.lp_text.specs.StreamContract.{WritesToEnd, ended, write_end};
 ghost use Rattle.lp_text.specs.Writing.{Writes};
 ghost use Rattle.lp_text.specs.inside.Writing.{Wrote, seen_of};
 
@@ -34,10 +34,8 @@ pub enum WriteFault {
 /// Writes all of the bytes. Never allocates.
 pub fn put<W: Write>(writer: &mut Counted<W>, bytes: &[u8]) -> Result<(), WriteFault>
     ensures written { Writes (W.contents writer.old.stream) (W.contents writer.new.stream) result bytes.now }
-    // A fault comes of a write that failed or took no byte, which no other write follows.
-    ensures write_failed { OnErr result (writer.new.failures ≡ next writer.old.failures) }
-    // Without a fault no write failed.
-    ensures unfailed { OnOk result (writer.new.failures ≡ writer.old.failures) }
+    // A fault comes of a write that failed or took no byte.
+    ensures writes { WritesToEnd (ended write_end result) writer.old writer.new }
 {
     let mut rest = bytes;
     while !rest.is_empty() {
@@ -301,10 +299,8 @@ impl Trace {
     /// Never allocates. A fault of the writer, an interruption and a write that takes no byte end it.
     pub fn write<W: Write>(&self, writer: &mut Counted<W>) -> Result<(), WriteFault>
         ensures written { Writes (W.contents writer.old.stream) (W.contents writer.new.stream) result (text_of self.now) }
-        // A fault comes of a write that failed or took no byte, which no other write follows.
-        ensures write_failed { OnErr result (writer.new.failures ≡ next writer.old.failures) }
-        // Without a fault no write failed.
-        ensures unfailed { OnOk result (writer.new.failures ≡ writer.old.failures) }
+        // A fault comes of a write that failed or took no byte.
+        ensures writes { WritesToEnd (ended write_end result) writer.old writer.new }
     {
         put_trace(writer, self)
     }

@@ -1,41 +1,23 @@
 -- Faults after those of the reader.
-use Rattle.std.proofs.Common.{◌≡◌, Result, Ok, Err, sym, subst}
-use Rattle.std.specs.Prelude.{IfErr, IsErrAnd}
-use Rattle.lp_text.specs.declared.write.WriteFault.{WriteFault}
-use Rattle.lp_replay.specs.Runs.{AtWrite}
-use Rattle.lp_replay.specs.declared.run_fault.RunFault.{RunFault}
-use Rattle.lp_replay.specs.declared.run_fault.RunFault.TheVariants.{NoMemory, Write}
-use Rattle.lp_threads.specs.Faults.{AtDesk, AtRun, AtRunElse, IsOfPlay}
+use Rattle.std.proofs.Common.{◌≡◌, ◌≢◌, ◌∙◌, refl, sym, ap}
+use Rattle.lp_text.specs.StreamContract.{ReadFailed, WriteFailed, OtherFault}
+use Rattle.lp_text.proofs.StreamContract.{other≢read_failed, other≢write_failed}
+use Rattle.lp_replay.specs.Runs.{run_end}
+use Rattle.lp_threads.specs.Faults.{AtDesk, IsOfPlay, threads_end}
 use Rattle.lp_threads.specs.declared.fault.ThreadsFault.{ThreadsFault}
 use Rattle.lp_threads.specs.declared.fault.ThreadsFault.TheVariants as threads
 
--- what holds of want of memory, and at the desk's own faults, holds of a fault of the play
-pub in_play : (fault : ThreadsFault) (P : RunFault → Type 0) (Q : Type 0) → P NoMemory → Q → IsOfPlay fault → AtRunElse fault P Q
-in_play (threads.Run why) P Q h k is = subst P (sym is) h
-in_play threads.NoReader P Q h k is = k
-in_play threads.NoThread P Q h k is = k
+-- a fault of a play is none of a stream
+play_ends : (fault : ThreadsFault) → IsOfPlay fault → threads_end fault ≡ OtherFault
+play_ends (threads.Run why) is = ap run_end is
+play_ends threads.NoReader is = refl
+play_ends threads.NoThread is = refl
 
--- what follows of the fault of a run
-pub at_run : (fault : ThreadsFault) (P Q : RunFault → Type 0) → ((why : RunFault) → P why → Q why) → AtRun fault P → AtRun fault Q
-at_run (threads.Run why) P Q f h = f why h
-at_run threads.NoReader P Q f h = tt
-at_run threads.NoThread P Q f h = tt
+pub play_unread : (fault : ThreadsFault) → IsOfPlay fault → threads_end fault ≢ ReadFailed
+play_unread fault is e = other≢read_failed (sym (play_ends fault is) ∙ e)
 
--- what is so of every fault of a run, and at the desk's own
-pub at_any : (fault : ThreadsFault) (P : RunFault → Type 0) (Q : Type 0) → ((why : RunFault) → P why) → Q → AtRunElse fault P Q
-at_any (threads.Run why) P Q f h = f why
-at_any threads.NoReader P Q f h = h
-at_any threads.NoThread P Q f h = h
-
--- a fault in writing, as it is returned
-pub at_write : {X : Type 0} (P : Type 0) (why : WriteFault) (r : Result X ThreadsFault) → IsErrAnd r (λ e. e ≡ threads.Run (Write why)) → P → IfErr r (λ e. AtRun e (λ fault. AtWrite fault P))
-at_write P why (Ok x) is h = tt
-at_write P why (Err e) is h = subst (λ fault. AtRun fault (λ why. AtWrite why P)) (sym is) h
-
--- a fault of a play, as it is returned
-pub of_play : {X : Type 0} (fault : ThreadsFault) (r : Result X ThreadsFault) → IsErrAnd r (λ e. e ≡ fault) → IsOfPlay fault → IfErr r (λ e. IsOfPlay e)
-of_play fault (Ok x) is h = tt
-of_play fault (Err e) is h = subst IsOfPlay (sym is) h
+pub play_unwritten : (fault : ThreadsFault) → IsOfPlay fault → threads_end fault ≢ WriteFailed
+play_unwritten fault is e = other≢write_failed (sym (play_ends fault is) ∙ e)
 
 -- what is so at the desk's own faults
 pub at_desk : (fault : ThreadsFault) (P Q : Type 0) → (P → Q) → AtDesk fault P → AtDesk fault Q

@@ -2,7 +2,8 @@
 use Rattle.std.specs.Prelude.{◌≡◌}
 use Rattle.lp_threads.specs.declared.fault.ThreadsFault.{ThreadsFault}
 use Rattle.lp_threads.specs.declared.fault.ThreadsFault.TheVariants as threads
-use Rattle.lp_replay.specs.Runs.{BeforeWriting, ButForReading}
+use Rattle.lp_text.specs.StreamContract.{Ending, OtherFault}
+use Rattle.lp_replay.specs.Runs.{run_end}
 use Rattle.lp_replay.specs.declared.run_fault.RunFault.{RunFault}
 use Rattle.lp_replay.specs.declared.run_fault.RunFault.TheVariants.{NoMemory}
 
@@ -16,13 +17,11 @@ AtRunElse threads.NoThread P Q = Q
 abbrev pub AtRun : ThreadsFault → (RunFault → Type 0) → Type 0
 AtRun fault P = AtRunElse fault P (Unit {0})
 
--- this is so at every fault but that of a reader which failed
-abbrev pub ButForReader : ThreadsFault → Type 0 → Type 0
-ButForReader fault P = AtRunElse fault (λ why. ButForReading why P) P
-
--- this is so at every fault but that of a writer which failed
-abbrev pub ButForWriter : ThreadsFault → Type 0 → Type 0
-ButForWriter fault P = AtRunElse fault (λ why. BeforeWriting why P) P
+-- how a call ended for its streams by a fault of threads
+abbrev pub threads_end : ThreadsFault → Ending
+threads_end (threads.Run fault) = run_end fault
+threads_end threads.NoReader = OtherFault
+threads_end threads.NoThread = OtherFault
 
 -- this is so at the desk's own faults
 abbrev pub AtDesk : ThreadsFault → Type 0 → Type 0

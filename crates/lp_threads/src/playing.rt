@@ -1,15 +1,14 @@
 //! A trace, played by threads.
-ghost use Rattle.std.specs.Prelude.{◌≡◌, [], All, Err, IfErr, IfOk, IfSome, IsTrue, MatchResult, OnOk, map};
+ghost use Rattle.std.specs.Prelude.{◌≡◌, [], All, Err, IfErr, IfOk, IfSome, IsTrue, OnOk, map};
 ghost use Rattle.std.specs.Io.KnownBytes.{Appends};
 ghost use mathlib.Core.List.{IsPrefix};
 ghost use Rattle.lp_board.specs.Blanks.{name_of};
 ghost use Rattle.lp_replay.specs.Outcome.{run_of};
-ghost use Rattle.lp_text.specs.Counts.{AtMost, next};
-ghost use Rattle.lp_text.specs.Input.{FailsOnce};
 ghost use Rattle.lp_text.specs.Reading.{reading};
+ghost use Rattle.lp_text.specs.StreamContract.{ReadsToEnd, WriteFailed, WritesToEnd, ended};
 ghost use Rattle.lp_text.specs.Writing.{AppendsPrefix};
-ghost use Rattle.lp_replay.specs.Runs.{AtReading, AtTrace, AtWrite, ReadsTrace};
-ghost use Rattle.lp_threads.specs.Faults.{AtDesk, AtRun, ButForReader, ButForWriter, IsOfPlay};
+ghost use Rattle.lp_replay.specs.Runs.{AtTrace, ReadsTrace};
+ghost use Rattle.lp_threads.specs.Faults.{AtDesk, AtRun, IsOfPlay, threads_end};
 ghost use Rattle.lp_log.specs.Seats.{new_seat};
 ghost use Rattle.lp_owned.specs.Owned.{AreAllIn};
 ghost use Rattle.lp_threads.specs.Plays.{IsPlay, play_text};
@@ -57,26 +56,15 @@ pub fn threads<T: Threads + Wait + Sync, M: Consistency + Send + Sync, R: Read, 
     ensures report { OnOk result (ReadsTrace (R.remaining reader.old.stream) (R.remaining reader.new.stream)
         (λ trace. (play : Play) × IsPlay M.rules trace play × Appends (W.contents writer.old.stream) (W.contents writer.new.stream) (play_text name.now play))) }
     // Where the writer failed, a prefix of such a report was written.
-    ensures prefix { IfErr result (λ fault. AtRun fault (λ why. AtWrite why (ReadsTrace (R.remaining reader.old.stream) (R.remaining reader.new.stream)
-        (λ trace. (play : Play) × IsPlay M.rules trace play × AppendsPrefix (W.contents writer.old.stream) (W.contents writer.new.stream) (play_text name.now play))))) }
-    // Else a fault leaves the writer as it was.
-    ensures untouched { IfErr result (λ fault. ButForWriter fault (writer.new ≡ writer.old)) }
+    ensures prefix { ended threads_end result ≡ WriteFailed → ReadsTrace (R.remaining reader.old.stream) (R.remaining reader.new.stream)
+        (λ trace. (play : Play) × IsPlay M.rules trace play × AppendsPrefix (W.contents writer.old.stream) (W.contents writer.new.stream) (play_text name.now play)) }
     // The fault of a text is the one that the definitions give.
     ensures trace { IfErr result (λ fault. AtRun fault (λ why. AtTrace why (λ why. IfSome (R.remaining reader.old.stream) (λ text. reading text ≡ Err why)))) }
     // A fault of the desk is one that can come while a text that spells a trace is played.
     ensures desk { IfErr result (λ fault. AtDesk fault (IsOfPlay fault × ReadsTrace (R.remaining reader.old.stream) (R.remaining reader.new.stream) (λ trace. Unit {0}))) }
-    // A fault of reading comes of one read that failed, before the end was found.
-    ensures read_failed { IfErr result (λ fault. AtRun fault (λ why. AtReading why (FailsOnce reader.old reader.new))) }
-    // Else no read failed: one that failed is told before a fault of the text.
-    ensures unfailed { MatchResult result (λ _. reader.new.failures ≡ reader.old.failures) (λ fault. ButForReader fault (reader.new.failures ≡ reader.old.failures)) }
-    // Without a fault the end was found once: nothing is read after it.
-    ensures once { OnOk result (reader.new.ends ≡ next reader.old.ends) }
-    // Each read but the last gives a byte at least.
-    ensures few { AtMost 134217729 reader.old.calls reader.new.calls }
-    // A fault of writing comes of one write that failed or took no byte.
-    ensures write_failed { IfErr result (λ fault. AtRun fault (λ why. AtWrite why (writer.new.failures ≡ next writer.old.failures))) }
-    // Without a fault no write failed.
-    ensures written { OnOk result (writer.new.failures ≡ writer.old.failures) }
+    // The reader is read to its end, and only then is anything written; a fault of either comes of a call that failed.
+    ensures reads { ReadsToEnd (ended threads_end result) reader.old reader.new }
+    ensures writes { WritesToEnd (ended threads_end result) writer.old writer.new }
 {
     let trace = read_trace(alloc, reader)?;
     let play = play(rt, alloc, model, &trace)?;

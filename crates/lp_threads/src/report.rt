@@ -1,10 +1,10 @@
 //! What is written of a play.
-ghost use Rattle.std.specs.Prelude.{◌≡◌, IfErr, IfOk, OnOk, string_bytes};
+ghost use Rattle.std.specs.Prelude.{◌≡◌, ◌≢◌, IfErr, IfOk, OnOk, string_bytes};
 ghost use Rattle.std.specs.Io.KnownBytes.{Appends};
-ghost use Rattle.lp_text.specs.Counts.{next};
-ghost use Rattle.lp_replay.specs.Runs.{AtReading, AtTrace, AtWrite};
+ghost use Rattle.lp_text.specs.StreamContract.{ReadFailed, WriteFailed, WritesToEnd, ended};
+ghost use Rattle.lp_replay.specs.Runs.{AtTrace};
 ghost use Rattle.lp_text.specs.Writing.{AppendsPrefix};
-ghost use Rattle.lp_threads.specs.Faults.{AtDesk, AtRun, ButForWriter};
+ghost use Rattle.lp_threads.specs.Faults.{AtDesk, AtRun, threads_end};
 ghost use Rattle.lp_threads.specs.Plays.{play_text};
 
 use crate::ThreadsFault;
@@ -31,11 +31,9 @@ pub(crate) fn write_play<W: Write>(
     play: Play,
 ) -> Result<(), ThreadsFault>
     ensures report { OnOk result (Appends (W.contents writer.old.stream) (W.contents writer.new.stream) (play_text name.now play)) }
-    ensures prefix { IfErr result (λ fault. AtRun fault (λ why. AtWrite why (AppendsPrefix (W.contents writer.old.stream) (W.contents writer.new.stream) (play_text name.now play)))) }
-    ensures untouched { IfErr result (λ fault. ButForWriter fault (writer.new ≡ writer.old)) }
-    ensures write_failed { IfErr result (λ fault. AtRun fault (λ why. AtWrite why (writer.new.failures ≡ next writer.old.failures))) }
-    ensures written { OnOk result (writer.new.failures ≡ writer.old.failures) }
-    ensures not_reading { IfErr result (λ fault. AtRun fault (λ why. AtReading why ⊥)) }
+    ensures prefix { ended threads_end result ≡ WriteFailed → AppendsPrefix (W.contents writer.old.stream) (W.contents writer.new.stream) (play_text name.now play) }
+    ensures writes { WritesToEnd (ended threads_end result) writer.old writer.new }
+    ensures not_reading { ended threads_end result ≢ ReadFailed }
     ensures late { IfErr result (λ fault. AtRun fault (λ why. AtTrace why (λ _. ⊥))) }
     ensures desk { IfErr result (λ fault. AtDesk fault ⊥) }
 {

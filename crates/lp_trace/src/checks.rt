@@ -1,5 +1,5 @@
 //! A check: a trace and a certificate in, the answer out.
-ghost use Rattle.std.specs.Prelude.{◌≡◌, ◌++◌, codes, decimal, None, is_none, IfSome, IfOk, IfErr, IsTrue, Err, MatchResult, OnErr, OnOk};
+ghost use Rattle.std.specs.Prelude.{◌≡◌, ◌≢◌, ◌++◌, codes, decimal, None, is_none, IfSome, IfOk, IfErr, IsTrue, Err};
 ghost use Rattle.std.specs.Io.KnownBytes.{Appends};
 ghost use Rattle.lp_checker.specs.Folds.{leg_with};
 ghost use Rattle.lp_definitions.specs.Holds.{Holds};
@@ -8,9 +8,9 @@ ghost use Rattle.lp_trace.specs.Answer.{HoldsInTrace, ReadsInput, answer_to, ans
 ghost use Rattle.lp_definitions.specs.Faults.{fault_number};
 ghost use Rattle.lp_text.specs.CheckReading.{check_reading};
 ghost use Rattle.lp_text.specs.CheckTexts.{IsInput, input_text};
-ghost use Rattle.lp_text.specs.Counts.{AtMost, next};
-ghost use Rattle.lp_text.specs.Input.{FailsOnce, ReadsAll};
-ghost use Rattle.lp_replay.specs.Runs.{AtReading, AtTrace, AtWrite, BeforeWriting, ButForReading};
+ghost use Rattle.lp_text.specs.Input.{ReadsAll};
+ghost use Rattle.lp_text.specs.StreamContract.{ReadFailed, ReadsToEnd, WriteFailed, WritesToEnd, ended, write_end};
+ghost use Rattle.lp_replay.specs.Runs.{AtTrace, run_end};
 ghost use Rattle.lp_text.specs.Words.{line_of};
 ghost use Rattle.lp_text.specs.Writing.{AppendsPrefix, Writes};
 ghost use Rattle.lp_text.specs.inside.Writing.{Puts, seen_of};
@@ -45,24 +45,13 @@ pub fn check<M: Consistency, R: Read, W: Write>(
     // What an accepted certificate claims holds of the leg that it names.
     ensures sound { IfOk result (λ accepted. IsTrue accepted → ReadsInput (R.remaining reader.old.stream) (R.remaining reader.new.stream) (λ input. HoldsInTrace M.rules input)) }
     // Where the writer failed, a prefix of that answer was written.
-    ensures prefix { IfErr result (λ fault. AtWrite fault (ReadsInput (R.remaining reader.old.stream) (R.remaining reader.new.stream)
-        (λ input. AppendsPrefix (W.contents writer.old.stream) (W.contents writer.new.stream) (line_of (answer_words (answer_to M.rules input)))))) }
-    // Else a fault leaves the writer as it was.
-    ensures untouched { IfErr result (λ fault. BeforeWriting fault (writer.new ≡ writer.old)) }
+    ensures prefix { ended run_end result ≡ WriteFailed → ReadsInput (R.remaining reader.old.stream) (R.remaining reader.new.stream)
+        (λ input. AppendsPrefix (W.contents writer.old.stream) (W.contents writer.new.stream) (line_of (answer_words (answer_to M.rules input)))) }
     // The fault of a text is the one that the definitions give.
     ensures trace { IfErr result (λ fault. AtTrace fault (λ why. IfSome (R.remaining reader.old.stream) (λ text. check_reading text ≡ Err why))) }
-    // A fault of reading comes of a read that failed, which no other read follows.
-    ensures read_failed { IfErr result (λ fault. AtReading fault (FailsOnce reader.old reader.new)) }
-    // Else no read failed: one that failed is told before a fault of the text.
-    ensures unfailed { MatchResult result (λ _. reader.new.failures ≡ reader.old.failures) (λ fault. ButForReading fault (reader.new.failures ≡ reader.old.failures)) }
-    // Without a fault the end was found once: nothing is read after it.
-    ensures once { OnOk result (reader.new.ends ≡ next reader.old.ends) }
-    // Each read but the last gives a byte at least.
-    ensures few { AtMost 134217729 reader.old.calls reader.new.calls }
-    // A fault of writing comes of a write that failed or took no byte, which no other write follows.
-    ensures write_failed { IfErr result (λ fault. AtWrite fault (writer.new.failures ≡ next writer.old.failures)) }
-    // Without a fault no write failed.
-    ensures written { OnOk result (writer.new.failures ≡ writer.old.failures) }
+    // The reader is read to its end, and only then is anything written; a fault of either comes of a call that failed.
+    ensures reads { ReadsToEnd (ended run_end result) reader.old reader.new }
+    ensures writes { WritesToEnd (ended run_end result) writer.old writer.new }
 {
     let input = read_check(alloc, reader)?;
     match answer_on(alloc, model, &input, writer) {
@@ -81,12 +70,10 @@ fn answer_on<M: Consistency, W: Write>(
 ) -> Result<bool, RunFault>
     ensures answer { IfOk result (λ accepted. (accepted ≡ is_none (answer_to M.rules input.now)) × Appends (W.contents writer.old.stream) (W.contents writer.new.stream) (line_of (answer_words (answer_to M.rules input.now)))) }
     ensures sound { IfOk result (λ accepted. IsTrue accepted → HoldsInTrace M.rules input.now) }
-    ensures prefix { IfErr result (λ fault. AtWrite fault (AppendsPrefix (W.contents writer.old.stream) (W.contents writer.new.stream) (line_of (answer_words (answer_to M.rules input.now))))) }
-    ensures untouched { IfErr result (λ fault. BeforeWriting fault (writer.new ≡ writer.old)) }
+    ensures prefix { ended run_end result ≡ WriteFailed → AppendsPrefix (W.contents writer.old.stream) (W.contents writer.new.stream) (line_of (answer_words (answer_to M.rules input.now))) }
+    ensures writes { WritesToEnd (ended run_end result) writer.old writer.new }
     ensures late { IfErr result (λ fault. AtTrace fault (λ _. ⊥)) }
-    ensures write_failed { IfErr result (λ fault. AtWrite fault (writer.new.failures ≡ next writer.old.failures)) }
-    ensures written { OnOk result (writer.new.failures ≡ writer.old.failures) }
-    ensures not_reading { IfErr result (λ fault. AtReading fault ⊥) }
+    ensures not_reading { ended run_end result ≢ ReadFailed }
 {
     let answer = answer_to(alloc, model, input)?;
     let mut page = Page::new(alloc)?;
@@ -100,11 +87,8 @@ fn answer_on<M: Consistency, W: Write>(
 fn read_check<R: Read>(alloc: Global, reader: &mut Counted<R>) -> Result<CheckInput, RunFault>
     ensures found { IfOk result (λ input. IsInput input × ReadsAll (R.remaining reader.old.stream) (R.remaining reader.new.stream) (input_text input)) }
     ensures trace { IfErr result (λ fault. AtTrace fault (λ why. IfSome (R.remaining reader.old.stream) (λ text. check_reading text ≡ Err why))) }
-    ensures read_failed { IfErr result (λ fault. AtReading fault (FailsOnce reader.old reader.new)) }
-    ensures unfailed { MatchResult result (λ _. reader.new.failures ≡ reader.old.failures) (λ fault. ButForReading fault (reader.new.failures ≡ reader.old.failures)) }
-    ensures once { OnOk result (reader.new.ends ≡ next reader.old.ends) }
-    ensures few { AtMost 134217729 reader.old.calls reader.new.calls }
-    ensures early { IfErr result (λ fault. AtWrite fault ⊥) }
+    ensures reads { ReadsToEnd (ended run_end result) reader.old reader.new }
+    ensures early { ended run_end result ≢ WriteFailed }
 {
     let input = CheckInput::read_from(alloc, reader)?;
     Ok(input)
@@ -153,8 +137,7 @@ fn write_answer<W: Write>(
     answer: Option<CertFault>,
 ) -> Result<(), WriteFault>
     ensures written { Writes (W.contents writer.old.stream) (W.contents writer.new.stream) result (page.old.held.items ++ line_of (answer_words answer)) }
-    ensures write_failed { OnErr result (writer.new.failures ≡ next writer.old.failures) }
-    ensures unfailed { OnOk result (writer.new.failures ≡ writer.old.failures) }
+    ensures writes { WritesToEnd (ended write_end result) writer.old writer.new }
 {
     put_answer(page, writer, answer)?;
     page.flush(writer)

@@ -1,5 +1,5 @@
 //! Writing the report of a run.
-ghost use Rattle.std.specs.Prelude.{◌≡◌, ℕ, ◌+◌, ◌<◌, ◌≤◌, ◌∷◌, ◌++◌, [], List, codes, decimal, map, take, IfSome, IsTrue, IsFalse, OnErr, OnOk};
+ghost use Rattle.std.specs.Prelude.{◌≡◌, ℕ, ◌+◌, ◌<◌, ◌≤◌, ◌∷◌, ◌++◌, [], List, codes, decimal, map, take, IfSome, IsTrue, IsFalse};
 ghost use Rattle.std.specs.List.{flat_map};
 ghost use Rattle.lp_definitions.specs.Events.{group_numbers};
 ghost use Rattle.lp_text.specs.Words.{line_of};
@@ -7,7 +7,7 @@ ghost use Rattle.lp_trace.specs.Report.{what_words, complete_words, reply_line, 
 ghost use Rattle.lp_replay.specs.Replies.{replies_of, reply_of, what_of};
 ghost use Rattle.lp_text.specs.inside.Writing.{Puts, line_rest, seen_of};
 ghost use Rattle.lp_text.specs.Writing.{Writes};
-ghost use Rattle.lp_text.specs.Counts.{next};
+ghost use Rattle.lp_text.specs.StreamContract.{WritesToEnd, ended, write_end};
 
 mod births;
 mod claims;
@@ -37,8 +37,7 @@ pub(crate) fn write_report<W: Write>(
     outcome: &Outcome,
 ) -> Result<(), WriteFault>
     ensures written { Writes (W.contents writer.old.stream) (W.contents writer.new.stream) result (page.old.held.items ++ report form name.now outcome.now) }
-    ensures write_failed { OnErr result (writer.new.failures ≡ next writer.old.failures) }
-    ensures unfailed { OnOk result (writer.new.failures ≡ writer.old.failures) }
+    ensures writes { WritesToEnd (ended write_end result) writer.old writer.new }
 {
     put_report(page, writer, kept, form, name, outcome)?;
     page.flush(writer)

@@ -1,14 +1,14 @@
 -- Reading a text that comes in pieces: what came so far, what all comes to with the bytes that follow, and its faults.
 use Rattle.std.specs.Prelude.{◌≡◌, ℕ, ◌+◌, ◌<◌, List, ◌++◌, length, Option, None, Some, Result}
 use Rattle.std.specs.Io.KnownBytes.{Consumes}
-use Rattle.lp_text.specs.Counts.{Counts, next}
+use Rattle.lp_text.specs.Counts.{Counts, FailsOnce, next}
 use Rattle.lp_text.specs.declared.fault.Cause.TheVariants as cause
 use Rattle.lp_text.specs.declared.input.InputFault.{InputFault}
 use Rattle.lp_text.specs.declared.input.InputFault.TheVariants as input
 use Rattle.lp_text.specs.declared.stream_fault.StreamFault.{StreamFault}
 use Rattle.lp_text.specs.declared.stream_fault.StreamFault.TheVariants as stream
 use Rattle.lp_text.specs.declared.fault.TraceFault.{TraceFault}
-use Rattle.lp_text.specs.Input.{FailsOnce}
+use Rattle.lp_text.specs.StreamContract.{Ending, stream_end}
 use Rattle.lp_text.specs.Traces.{TraceValue}
 use Rattle.lp_text.specs.Words.{lines}
 use Rattle.lp_text.specs.Reading.{reading_from, reading_lines}
@@ -53,6 +53,10 @@ of_input (input.Failed error) = stream.Read error
 of_input input.Long = stream.Trace (record { line = 0; cause = cause.Long })
 of_input input.NoMemory = stream.NoMemory
 
+-- how the reading of an input ended
+abbrev pub input_end : InputFault → Ending
+input_end fault = stream_end (of_input fault)
+
 -- ---- Reads
 
 module _ {S : Type 0} where
@@ -73,9 +77,3 @@ module _ {S : Type 0} where
   InputFails old new (input.Failed error) = FailsOnce old new
   InputFails old new input.Long = new.failures ≡ old.failures
   InputFails old new input.NoMemory = new.failures ≡ old.failures
-
-  -- and by that of a stream
-  abbrev pub StreamFails : Counts S → Counts S → StreamFault → Type 0
-  StreamFails old new (stream.Read error) = FailsOnce old new
-  StreamFails old new (stream.Trace fault) = new.failures ≡ old.failures
-  StreamFails old new stream.NoMemory = new.failures ≡ old.failures

@@ -1,13 +1,8 @@
 -- What a check by a model says of the model's name.
-use Rattle.std.proofs.Common.{sym}
-use Rattle.std.proofs.lemmas.Result.{IfErr-weaker}
-use Rattle.lp_program.proofs.Prefix.{prefix_named}
 use Rattle.lp_program.proofs.checks.check_by.Goals as goal
 
 pub returns-clause-prefix : goal.returns-clause-prefix
-returns-clause-prefix g c =
-    IfErr-weaker c.check.result _ _ (λ fault prefix. prefix_named c.args.name g.M.Consistency.rules (sym c.requires) _ _ _ _ fault prefix)
-    c.check.ensures.prefix
+returns-clause-prefix g c = rw (← c.requires) c.check.ensures.prefix
 
 pub returns-clause-answer : goal.returns-clause-answer
 returns-clause-answer g c = rw (← c.requires) c.check.ensures.answer

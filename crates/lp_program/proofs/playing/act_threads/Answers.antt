@@ -1,21 +1,19 @@
 use Rattle.std.proofs.Common.{arith}
 use Rattle.std.proofs.lemmas.Grind.{common_steps}
+use Rattle.lp_program.proofs.Endings.{reads_as_threads, writes_as_threads}
 use Rattle.lp_program.proofs.playing.act_threads.Goals as goal
-
-pub returns-in-Err-clause-refused_once : goal.returns-in-Err-clause-refused_once
-returns-in-Err-clause-refused_once c = grind (arith, common_steps)
 
 pub returns-in-Err-clause-ends : goal.returns-in-Err-clause-ends
 returns-in-Err-clause-ends c = grind (arith, common_steps)
 
-pub returns-in-Err-clause-read_failed : goal.returns-in-Err-clause-read_failed
-returns-in-Err-clause-read_failed c = grind (arith, common_steps)
+pub returns-in-Err-clause-reads : goal.returns-in-Err-clause-reads
+returns-in-Err-clause-reads g c = reads_as_threads c.args.reader.now c.threads.new.reader c.in-Err.fault c.from.result c.from.ensures c.in-Err.ensures.reads
 
-pub returns-in-Err-clause-written : goal.returns-in-Err-clause-written
-returns-in-Err-clause-written c = grind (arith, common_steps)
+pub returns-in-Err-clause-writes : goal.returns-in-Err-clause-writes
+returns-in-Err-clause-writes g c = writes_as_threads c.args.writer.now c.threads.new.writer c.in-Err.fault c.from.result c.from.ensures c.in-Err.ensures.writes
 
-pub returns-in-Err-clause-write_failed : goal.returns-in-Err-clause-write_failed
-returns-in-Err-clause-write_failed c = grind (arith, common_steps)
+pub returns-in-Ok-clause-reads : goal.returns-in-Ok-clause-reads
+returns-in-Ok-clause-reads g c = c.in-Ok.ensures.reads
 
-pub returns-in-Err-clause-unfailed : goal.returns-in-Err-clause-unfailed
-returns-in-Err-clause-unfailed c = grind (arith, common_steps)
+pub returns-in-Ok-clause-writes : goal.returns-in-Ok-clause-writes
+returns-in-Ok-clause-writes g c = c.in-Ok.ensures.writes

@@ -2,7 +2,8 @@ use Rattle.std.proofs.Common.{refl, ◌-◌, ◌≡◌, ◌≤◌, ◌+◌, ℕ,
 use Rattle.std.proofs.lemmas.Grind.{common_steps}
 use Rattle.std.proofs.lemmas.List.{length-append, length-take-le}
 use Rattle.lp_text.specs.inside.Streams.{Stream, reading_after}
-use Rattle.lp_text.proofs.Counts.{called_more, going_on, going_to_end, going_to_fault, input_told, none_called, one_more_called, text_told}
+use Rattle.lp_text.proofs.Counts.{called_more, going_on, going_to_end, going_to_fault, none_called, one_more_called}
+use Rattle.lp_text.proofs.StreamContract.{input_told, reads_done, reads_input, text_told}
 use Rattle.lp_text.proofs.Inputs.{consumes_more, consumes_none}
 use Rattle.lp_text.proofs.Streams.{input_fault_after, one_more, trace_fault, whole}
 use Rattle.lp_text.proofs.stream.add_all.Goals as goal
@@ -19,13 +20,36 @@ loop-count-init g c =
       none_called _ c.args.reader.now.calls,
     )
 
-pub returns-in-Err-clause-counted : goal.returns-in-Err-clause-counted
-returns-in-Err-clause-counted g c =
-    input_told c.args.reader.now c.read_piece.new.reader c.in-Err.fault c.from.result (going_to_fault c.args.reader.now c.loop-count.reader c.read_piece.new.reader c.in-Err.fault c.loop-count.invariant.5 c.in-Err.ensures.counted) c.from.ensures
+pub returns-in-Err-clause-reads : goal.returns-in-Err-clause-reads
+returns-in-Err-clause-reads g c =
+    let fails = going_to_fault c.args.reader.now c.loop-count.reader c.read_piece.new.reader c.in-Err.fault c.loop-count.invariant.5 c.in-Err.ensures.counted in
+    let calls = one_more_called _ c.loop-count.reader.calls _ c.loop-count.total _ c.loop-count.invariant.6 c.read_piece.ensures.calls (omega (arith, c.loop-count.invariant.1)) in
+    input_told c.args.reader.now c.read_piece.new.reader c.in-Err.fault c.from.result (reads_input c.args.reader.now c.read_piece.new.reader c.in-Err.fault fails calls) c.from.ensures
 
-pub returns-in-Err-clause-calls : goal.returns-in-Err-clause-calls
-returns-in-Err-clause-calls g c =
-    one_more_called _ c.loop-count.reader.calls _ c.loop-count.total _ c.loop-count.invariant.6 c.read_piece.ensures.calls (omega (arith, c.loop-count.invariant.1))
+pub returns-then-count-eq0-clause-reads : goal.returns-then-count-eq0-clause-reads
+returns-then-count-eq0-clause-reads g c =
+    reads_done c.args.reader.now c.read_piece.new.reader
+    (going_to_end c.args.reader.now c.loop-count.reader c.read_piece.new.reader c.loop-count.invariant.5 (c.in-Ok.ensures.counted.1 c.if-count-eq0.true))
+    (one_more_called _ c.loop-count.reader.calls _ c.loop-count.total _ c.loop-count.invariant.6 c.read_piece.ensures.calls (omega (arith, c.loop-count.invariant.1)))
+
+pub returns-in-Ok-skip_rest-clause-reads : goal.returns-in-Ok-skip_rest-clause-reads
+returns-in-Ok-skip_rest-clause-reads g c =
+    let total = c.loop-count.total + c.in-Ok.count in
+    let so_far = one_more_called _ c.loop-count.reader.calls _ c.loop-count.total total c.loop-count.invariant.6 c.read_piece.ensures.calls (omega (arith, c.if-count-eq0.false)) in
+    let calls = called_more _ c.read_piece.new.reader.calls _ total (134217729 - total) 134217729 so_far c.skip_rest.ensures.calls (omega (arith, c.in-Ok.ensures.few)) in
+    let going = going_on c.args.reader.now c.loop-count.reader c.read_piece.new.reader c.in-Ok.count c.loop-count.invariant.5 c.in-Ok.ensures.counted (omega (arith, c.if-count-eq0.false)) in
+    let ends = going_to_end c.args.reader.now c.read_piece.new.reader c.skip_rest.new.reader going c.in-Ok-skip_rest.ensures.counted in
+    text_told c.args.reader.now c.skip_rest.new.reader c.in-Err-add.fault c.from-in-Ok-skip_rest.result ends.0 calls c.from-in-Ok-skip_rest.ensures
+
+pub returns-in-Err-skip_rest-clause-reads : goal.returns-in-Err-skip_rest-clause-reads
+returns-in-Err-skip_rest-clause-reads g c =
+    let later = c.in-Err-skip_rest.later in
+    let total = c.loop-count.total + c.in-Ok.count in
+    let so_far = one_more_called _ c.loop-count.reader.calls _ c.loop-count.total total c.loop-count.invariant.6 c.read_piece.ensures.calls (omega (arith, c.if-count-eq0.false)) in
+    let calls = called_more _ c.read_piece.new.reader.calls _ total (134217729 - total) 134217729 so_far c.skip_rest.ensures.calls (omega (arith, c.in-Ok.ensures.few)) in
+    let going = going_on c.args.reader.now c.loop-count.reader c.read_piece.new.reader c.in-Ok.count c.loop-count.invariant.5 c.in-Ok.ensures.counted (omega (arith, c.if-count-eq0.false)) in
+    let fails = going_to_fault c.args.reader.now c.read_piece.new.reader c.skip_rest.new.reader later going c.in-Err-skip_rest.ensures.counted in
+    input_told c.args.reader.now c.skip_rest.new.reader later c.from-in-Err-skip_rest.result (reads_input c.args.reader.now c.skip_rest.new.reader later fails calls) c.from-in-Err-skip_rest.ensures
 
 pub returns-in-Err-clause-trace : goal.returns-in-Err-clause-trace
 returns-in-Err-clause-trace g c =
@@ -40,37 +64,6 @@ returns-then-count-eq0-clause-found g c =
     let few : length so_far.0 + length piece ≤ 134217728 = omega (arith, so_far.2, c.in-Ok.ensures.few, length-take-le c.in-Ok.count c.read_piece.new.piece c.in-Ok.ensures.within) in
     let there = whole (g.R.Read.remaining c.args.reader.now.stream) (g.R.Read.remaining c.loop-count.reader.stream) so_far.0 c.loop-count.stream so_far.1 so_far.3 (g.R.Read.remaining c.read_piece.new.reader.stream) piece (c.in-Ok.ensures.bytes, c.in-Ok.ensures.end c.if-count-eq0.true) few in
     (so_far.0 ++ piece, there.0, there.1 ∙ ap (reading_after c.loop-count.stream) none)
-
-pub returns-then-count-eq0-clause-counted : goal.returns-then-count-eq0-clause-counted
-returns-then-count-eq0-clause-counted g c =
-    going_to_end c.args.reader.now c.loop-count.reader c.read_piece.new.reader c.loop-count.invariant.5 (c.in-Ok.ensures.counted.1 c.if-count-eq0.true)
-
-pub returns-then-count-eq0-clause-calls : goal.returns-then-count-eq0-clause-calls
-returns-then-count-eq0-clause-calls g c =
-    one_more_called _ c.loop-count.reader.calls _ c.loop-count.total _ c.loop-count.invariant.6 c.read_piece.ensures.calls (omega (arith, c.loop-count.invariant.1))
-
-pub returns-in-Ok-skip_rest-clause-calls : goal.returns-in-Ok-skip_rest-clause-calls
-returns-in-Ok-skip_rest-clause-calls g c =
-    let total = c.loop-count.total + c.in-Ok.count in
-    let so_far = one_more_called _ c.loop-count.reader.calls _ c.loop-count.total total c.loop-count.invariant.6 c.read_piece.ensures.calls (omega (arith, c.if-count-eq0.false)) in
-    called_more _ c.read_piece.new.reader.calls _ total (134217729 - total) _ so_far c.skip_rest.ensures.calls (omega (arith, c.in-Ok.ensures.few))
-
-pub returns-in-Err-skip_rest-clause-calls : goal.returns-in-Err-skip_rest-clause-calls
-returns-in-Err-skip_rest-clause-calls g c =
-    let total = c.loop-count.total + c.in-Ok.count in
-    let so_far = one_more_called _ c.loop-count.reader.calls _ c.loop-count.total total c.loop-count.invariant.6 c.read_piece.ensures.calls (omega (arith, c.if-count-eq0.false)) in
-    called_more _ c.read_piece.new.reader.calls _ total (134217729 - total) _ so_far c.skip_rest.ensures.calls (omega (arith, c.in-Ok.ensures.few))
-
-pub returns-in-Ok-skip_rest-clause-counted : goal.returns-in-Ok-skip_rest-clause-counted
-returns-in-Ok-skip_rest-clause-counted g c =
-    let going = going_on c.args.reader.now c.loop-count.reader c.read_piece.new.reader c.in-Ok.count c.loop-count.invariant.5 c.in-Ok.ensures.counted (omega (arith, c.if-count-eq0.false)) in
-    let ended = going_to_end c.args.reader.now c.read_piece.new.reader c.skip_rest.new.reader going c.in-Ok-skip_rest.ensures.counted in
-    text_told c.args.reader.now c.skip_rest.new.reader c.in-Err-add.fault c.from-in-Ok-skip_rest.result ended.0 c.from-in-Ok-skip_rest.ensures
-
-pub returns-in-Err-skip_rest-clause-counted : goal.returns-in-Err-skip_rest-clause-counted
-returns-in-Err-skip_rest-clause-counted g c =
-    let going = going_on c.args.reader.now c.loop-count.reader c.read_piece.new.reader c.in-Ok.count c.loop-count.invariant.5 c.in-Ok.ensures.counted (omega (arith, c.if-count-eq0.false)) in
-    input_told c.args.reader.now c.skip_rest.new.reader c.in-Err-skip_rest.later c.from-in-Err-skip_rest.result (going_to_fault c.args.reader.now c.read_piece.new.reader c.skip_rest.new.reader c.in-Err-skip_rest.later going c.in-Err-skip_rest.ensures.counted) c.from-in-Err-skip_rest.ensures
 
 pub returns-in-Ok-skip_rest-clause-trace : goal.returns-in-Ok-skip_rest-clause-trace
 returns-in-Ok-skip_rest-clause-trace g c =

@@ -1,5 +1,7 @@
-use Rattle.std.proofs.Common.{arith, ◌∙◌}
+use Rattle.std.proofs.Common.{◌≡◌, ap, arith, ◌∙◌}
 use Rattle.std.proofs.lemmas.Grind.{common_steps}
+use Rattle.lp_text.specs.Counts.{next}
+use Rattle.lp_text.proofs.StreamContract.{writes_done, writes_failed}
 use Rattle.lp_text.proofs.Writing.{took}
 use Rattle.lp_text.proofs.write.put.Goals as goal
 
@@ -14,3 +16,15 @@ returns-in-Err-clause-written g c = grind (arith, common_steps)
 
 pub returns-in-Ok-eq0-clause-written : goal.returns-in-Ok-eq0-clause-written
 returns-in-Ok-eq0-clause-written g c = grind (arith, common_steps)
+
+pub returns-in-Err-clause-writes : goal.returns-in-Err-clause-writes
+returns-in-Err-clause-writes g c =
+    writes_failed c.args.writer.now c.write.new.self (c.in-Err.ensures.failed ∙ ap next c.loop-rest.invariant.1)
+
+pub returns-in-Ok-eq0-clause-writes : goal.returns-in-Ok-eq0-clause-writes
+returns-in-Ok-eq0-clause-writes g c =
+    let failed : c.write.new.self.failures ≡ next c.args.writer.now.failures = grind (arith, common_steps) in
+    writes_failed c.args.writer.now c.write.new.self failed
+
+pub returns-clause-writes : goal.returns-clause-writes
+returns-clause-writes g c = writes_done c.args.writer.now c.loop-rest.writer c.loop-rest.invariant.1

@@ -1,18 +1,62 @@
 use Rattle.std.proofs.Common.{arith}
 use Rattle.std.proofs.lemmas.Grind.{common_steps}
+use Rattle.lp_text.proofs.StreamContract.{done≢read_failed, done≢write_failed, write_failed≢read_failed, writes_nothing}
+use Rattle.lp_replay.proofs.RunFaults.{memory_unread, memory_unwritten}
 use Rattle.lp_trace.proofs.runs.report_on.Goals as goal
 
-pub returns-clause-report : goal.returns-clause-report
-returns-clause-report g c = tt
+-- an allocation failed
 
-pub returns-clause-written : goal.returns-clause-written
-returns-clause-written g c = tt
+pub returns-in_err-page-clause-prefix : goal.returns-in_err-page-clause-prefix
+returns-in_err-page-clause-prefix g c = λ e. absurd (memory_unwritten c.from_residual.result c.from_residual.ensures.1 e)
+
+pub returns-in_err-page-clause-writes : goal.returns-in_err-page-clause-writes
+returns-in_err-page-clause-writes g c = writes_nothing c.args.writer.now _ (memory_unwritten c.from_residual.result c.from_residual.ensures.1)
+
+pub returns-in_err-page-clause-not_reading : goal.returns-in_err-page-clause-not_reading
+returns-in_err-page-clause-not_reading g c = memory_unread c.from_residual.result c.from_residual.ensures.1
+
+pub returns-in_err-kept-clause-prefix : goal.returns-in_err-kept-clause-prefix
+returns-in_err-kept-clause-prefix g c = λ e. absurd (memory_unwritten c.from_residual-in_err-kept.result c.from_residual-in_err-kept.ensures.1 e)
+
+pub returns-in_err-kept-clause-writes : goal.returns-in_err-kept-clause-writes
+returns-in_err-kept-clause-writes g c = writes_nothing c.args.writer.now _ (memory_unwritten c.from_residual-in_err-kept.result c.from_residual-in_err-kept.ensures.1)
+
+pub returns-in_err-kept-clause-not_reading : goal.returns-in_err-kept-clause-not_reading
+returns-in_err-kept-clause-not_reading g c = memory_unread c.from_residual-in_err-kept.result c.from_residual-in_err-kept.ensures.1
+
+pub returns-in_err-outcome-clause-prefix : goal.returns-in_err-outcome-clause-prefix
+returns-in_err-outcome-clause-prefix g c = λ e. absurd (memory_unwritten c.from_residual-in_err-outcome.result c.from_residual-in_err-outcome.ensures.1 e)
+
+pub returns-in_err-outcome-clause-writes : goal.returns-in_err-outcome-clause-writes
+returns-in_err-outcome-clause-writes g c = writes_nothing c.args.writer.now _ (memory_unwritten c.from_residual-in_err-outcome.result c.from_residual-in_err-outcome.ensures.1)
+
+pub returns-in_err-outcome-clause-not_reading : goal.returns-in_err-outcome-clause-not_reading
+returns-in_err-outcome-clause-not_reading g c = memory_unread c.from_residual-in_err-outcome.result c.from_residual-in_err-outcome.ensures.1
+
+-- the report was written
 
 pub returns-in-Ok-clause-report : goal.returns-in-Ok-clause-report
 returns-in-Ok-clause-report g c = grind (arith, common_steps)
 
-pub returns-in-Ok-clause-written : goal.returns-in-Ok-clause-written
-returns-in-Ok-clause-written g c = grind (arith, common_steps)
+pub returns-in-Ok-clause-prefix : goal.returns-in-Ok-clause-prefix
+returns-in-Ok-clause-prefix g c = λ e. absurd (done≢write_failed e)
 
-pub returns-clause-write_failed : goal.returns-clause-write_failed
-returns-clause-write_failed g c = grind (arith, common_steps)
+pub returns-in-Ok-clause-writes : goal.returns-in-Ok-clause-writes
+returns-in-Ok-clause-writes g c = c.in-Ok.ensures.writes
+
+pub returns-in-Ok-clause-not_reading : goal.returns-in-Ok-clause-not_reading
+returns-in-Ok-clause-not_reading g c = done≢read_failed
+
+-- the writer failed
+
+pub returns-clause-report : goal.returns-clause-report
+returns-clause-report g c = tt
+
+pub returns-clause-prefix : goal.returns-clause-prefix
+returns-clause-prefix g c = λ e. grind (arith, common_steps)
+
+pub returns-clause-writes : goal.returns-clause-writes
+returns-clause-writes g c = c.in-Err.ensures.writes
+
+pub returns-clause-not_reading : goal.returns-clause-not_reading
+returns-clause-not_reading g c = write_failed≢read_failed

@@ -2,9 +2,10 @@ use Rattle.std.proofs.Common.{refl, arith}
 use Rattle.std.proofs.lemmas.Grind.{common_steps}
 use Rattle.lp_text.specs.CheckReading.{check_reading}
 use Rattle.lp_text.specs.Input.{of_read}
+use Rattle.lp_text.specs.StreamContract.{stream_end}
 use Rattle.lp_text.specs.inside.Streams.{of_input}
 use Rattle.lp_text.proofs.CheckInputs.{too_long}
-use Rattle.lp_text.proofs.Counts.{at_read_of, but_for_reads_of, input_told, text_told}
+use Rattle.lp_text.proofs.StreamContract.{done≢read_failed, input_told, reads_by, text_told}
 use Rattle.lp_text.proofs.StreamFaults.{input_fault_of}
 use Rattle.lp_text.proofs.check_input.CheckInput.read_from.Goals as goal
 
@@ -12,21 +13,21 @@ pub returns-in_err-text-clause-trace : goal.returns-in_err-text-clause-trace
 returns-in_err-text-clause-trace g c =
     input_fault_of check_reading too_long (g.R.Read.remaining c.args.reader.now.stream) (g.R.Read.remaining c.read_input.new.reader.stream) c.in_err-text.field-0.0 c.from_residual.result c.in_err-text.ensures.fault c.from_residual.ensures.1
 
-pub returns-in_err-text-clause-read_failed : goal.returns-in_err-text-clause-read_failed
-returns-in_err-text-clause-read_failed g c =
-    at_read_of c.args.reader.now c.read_input.new.reader (of_input c.in_err-text.field-0.0) c.from_residual.result (input_told c.args.reader.now c.read_input.new.reader c.in_err-text.field-0.0 _ c.in_err-text.ensures.counted refl) c.from_residual.ensures.1
+pub returns-in_err-text-clause-reads : goal.returns-in_err-text-clause-reads
+returns-in_err-text-clause-reads g c =
+    let fault = c.in_err-text.field-0.0 in
+    reads_by stream_end (of_input fault) c.from_residual.result c.from_residual.ensures.1 c.args.reader.now c.read_input.new.reader
+    (input_told c.args.reader.now c.read_input.new.reader fault (of_input fault) c.in_err-text.ensures.reads refl)
 
-pub returns-in_err-text-clause-unfailed : goal.returns-in_err-text-clause-unfailed
-returns-in_err-text-clause-unfailed g c =
-    but_for_reads_of c.args.reader.now c.read_input.new.reader (of_input c.in_err-text.field-0.0) c.from_residual.result (input_told c.args.reader.now c.read_input.new.reader c.in_err-text.field-0.0 _ c.in_err-text.ensures.counted refl) c.from_residual.ensures.1
+pub returns-in_err-input-clause-reads : goal.returns-in_err-input-clause-reads
+returns-in_err-input-clause-reads g c =
+    let fault = c.in_err-input.field-0.0 in
+    let reads = c.in_ok-text.ensures.reads in
+    reads_by stream_end (of_read fault) c.from_residual-in_err-input.result c.from_residual-in_err-input.ensures.1 c.args.reader.now c.read_input.new.reader
+    (text_told c.args.reader.now c.read_input.new.reader fault (of_read fault) (reads.unfailed done≢read_failed) reads.few refl)
 
-pub returns-in_err-input-clause-read_failed : goal.returns-in_err-input-clause-read_failed
-returns-in_err-input-clause-read_failed g c =
-    at_read_of c.args.reader.now c.read_input.new.reader (of_read c.in_err-input.field-0.0) c.from_residual-in_err-input.result (text_told c.args.reader.now c.read_input.new.reader c.in_err-input.field-0.0 _ c.in_ok-text.ensures.counted.0 refl) c.from_residual-in_err-input.ensures.1
-
-pub returns-in_err-input-clause-unfailed : goal.returns-in_err-input-clause-unfailed
-returns-in_err-input-clause-unfailed g c =
-    but_for_reads_of c.args.reader.now c.read_input.new.reader (of_read c.in_err-input.field-0.0) c.from_residual-in_err-input.result (text_told c.args.reader.now c.read_input.new.reader c.in_err-input.field-0.0 _ c.in_ok-text.ensures.counted.0 refl) c.from_residual-in_err-input.ensures.1
+pub returns-clause-reads : goal.returns-clause-reads
+returns-clause-reads g c = c.in_ok-text.ensures.reads
 
 pub returns-in_err-input-clause-trace : goal.returns-in_err-input-clause-trace
 returns-in_err-input-clause-trace g c = grind (arith, common_steps)

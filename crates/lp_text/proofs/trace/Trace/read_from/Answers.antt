@@ -1,7 +1,8 @@
 use Rattle.std.proofs.Common.{subst}
 use Rattle.lp_text.specs.Input.{ReadsAll}
-use Rattle.lp_text.proofs.Counts.{at_read_of, but_for_reads_of}
+use Rattle.lp_text.specs.StreamContract.{stream_end}
 use Rattle.lp_text.proofs.Sound.{sound}
+use Rattle.lp_text.proofs.StreamContract.{reads_by}
 use Rattle.lp_text.proofs.trace.Trace.read_from.Goals as goal
 
 pub into_trace-requires : goal.into_trace-requires
@@ -15,10 +16,9 @@ returns-clause-found g c =
     let trace = sound found.0 c.in_ok-parser.parser found.2 in
     rw c.into_trace.ensures (trace.0, subst (λ text. ReadsAll (g.R.Read.remaining c.args.reader.now.stream) (g.R.Read.remaining c.parse_all.new.reader.stream) text) trace.1 found.1)
 
-pub returns-in_err-parser-clause-read_failed : goal.returns-in_err-parser-clause-read_failed
-returns-in_err-parser-clause-read_failed g c =
-    at_read_of c.args.reader.now c.parse_all.new.reader c.in_err-parser.field-0.0 c.from_residual.result c.in_err-parser.ensures.counted c.from_residual.ensures.1
+pub returns-in_err-parser-clause-reads : goal.returns-in_err-parser-clause-reads
+returns-in_err-parser-clause-reads g c =
+    reads_by stream_end c.in_err-parser.field-0.0 c.from_residual.result c.from_residual.ensures.1 c.args.reader.now c.parse_all.new.reader c.in_err-parser.ensures.reads
 
-pub returns-in_err-parser-clause-unfailed : goal.returns-in_err-parser-clause-unfailed
-returns-in_err-parser-clause-unfailed g c =
-    but_for_reads_of c.args.reader.now c.parse_all.new.reader c.in_err-parser.field-0.0 c.from_residual.result c.in_err-parser.ensures.counted c.from_residual.ensures.1
+pub returns-clause-reads : goal.returns-clause-reads
+returns-clause-reads g c = c.in_ok-parser.ensures.reads
