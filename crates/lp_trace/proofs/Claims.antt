@@ -10,18 +10,18 @@ use Rattle.lp_text.specs.Words.{line_of}
 use Rattle.lp_text.specs.inside.Writing.{line_rest}
 use Rattle.lp_text.proofs.Writing.{line_split}
 use Rattle.lp_trace.specs.inside.Births.{text_of}
-use Rattle.lp_trace.specs.inside.Claims.{IsAround, head_words}
+use Rattle.lp_trace.specs.inside.Claims.{IsAround, Shares, head_words}
 
--- the group between the two is the line
-pub line_around : (head : CertHead) (front back : List ℕ) → IsAround head front back → front ++ (decimal head.group.0 ++ back) ≡ line_of (head_words head)
-line_around head front back around =
-    let rest : List ℕ = decimal head.group.0 ++ line_rest (decimal head.upto ∷ []) in
+-- a group between what certificates have in common is the line
+pub line_around : (head shared : CertHead) (text rest : List ℕ) → IsAround shared text rest → Shares shared head → text ++ (decimal head.group.0 ++ rest) ≡ line_of (head_words head)
+line_around head shared text rest around shares =
+    let after : List ℕ = decimal head.group.0 ++ line_rest (decimal head.upto ∷ []) in
     let word : List ℕ = claim_word head.claim in
-    let leg : List ℕ = decimal head.leg in
-    rw (around.before, around.after)
-    (append_assoc word (32 ∷ (leg ++ 32 ∷ [])) rest
-    ∙ ap (λ l. word ++ 32 ∷ l) (append_assoc leg (32 ∷ []) rest)
-    ∙ sym (line_split word (leg ∷ decimal head.group.0 ∷ decimal head.upto ∷ [])))
+    let leg : List ℕ = 32 ∷ decimal head.leg in
+    rw (around.before, around.after, shares.claim, shares.leg, shares.upto)
+    (append_assoc word (leg ++ 32 ∷ []) after
+    ∙ ap (λ l. word ++ l) (append_assoc leg (32 ∷ []) after)
+    ∙ sym (line_split word (decimal head.leg ∷ decimal head.group.0 ∷ decimal head.upto ∷ [])))
 
 -- the lines of a certificate that begins so and has these lines
 pub cert_text : (cert : Cert) (head : CertHead) (lines : List Line) → Some (cert_head cert) ≡ Some head → Some cert.lines ≡ Some lines → flat_map line_of (cert_lines cert) ≡ line_of (head_words head) ++ text_of lines

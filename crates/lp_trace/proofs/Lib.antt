@@ -16,4 +16,6 @@ pub mod RunReplies
 pub mod RunLegs
 pub mod RunsFit
 pub mod Births
+pub mod Busy
 pub mod Claims
+pub mod Rooms

@@ -1,11 +1,11 @@
 //! A number that is counted up, with its digits.
-ghost use Rattle.std.specs.Prelude.{◌≡◌, ◌<◌, ◌≤◌, ◌+◌, ◌%◌, ◌∷◌, ◌++◌, [], decimal, take};
+ghost use Rattle.std.specs.Prelude.{◌≡◌, ◌<◌, ◌≤◌, ◌+◌, ◌%◌, ◌++◌, decimal, length, take};
 
-use crate::place::{SHORT_END, place_number};
+use crate::place::{SHORT, place_bytes, place_number};
 use std::marker::Model;
 
-/// Room for a number and a short end of a line.
-pub(crate) const ROOM: usize = 20 + SHORT_END;
+/// Room for a number, in whole words.
+const DIGITS: usize = 24;
 
 /// A number and its digits, of which one more nearly always changes the last alone.
 ///
@@ -16,7 +16,7 @@ pub(crate) struct Counter {
     tens: u64,
     ones: u8,
     /// Begins with the digits of the tens; none of these for 0.
-    text: [u8; ROOM],
+    text: [u8; DIGITS],
     /// How many these are.
     len: usize,
 }
@@ -40,7 +40,7 @@ impl Counter {
         Counter {
             tens: 0,
             ones: 0,
-            text: [b'\n'; ROOM],
+            text: [b'\n'; DIGITS],
             len: 0,
         }
     }
@@ -70,12 +70,20 @@ impl Counter {
         self.len = place_number(&mut self.text, 0, self.tens);
     }
 
-    /// A text that begins with all digits but the last, how many these are, and the last.
+    /// Puts the number and a short text, of which so many bytes are wanted, after the first `at` bytes, and gives where they
+    /// end.
     #[inline(always)]
-    pub(crate) fn digits(&self) -> (&[u8; ROOM], usize, u8)
-        ensures digits { take result.1 result.0.now ++ result.2 ∷ [] ≡ decimal self.now }
-        ensures few { result.1 ≤ 19 }
+    pub(crate) fn place(&self, text: &mut [u8], at: usize, rest: &[u8; SHORT], len: usize) -> usize
+        requires room { at + 36 ≤ length text.old }
+        requires short { len ≤ 16 }
+        ensures placed { take result text.new ≡ take at text.old ++ (decimal self.now ++ take len rest.now) }
+        ensures near { result ≤ at + 36 }
+        ensures size { length text.new ≡ length text.old }
     {
-        (&self.text, self.len, b'0' + self.ones)
+        place_bytes(text, at, &self.text);
+        let last = at + self.len;
+        text[last] = b'0' + self.ones;
+        place_bytes(text, last + 1, rest);
+        last + 1 + len
     }
 }

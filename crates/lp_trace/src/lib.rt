@@ -7,6 +7,7 @@
 
 mod checks;
 mod counter;
+mod held;
 pub mod laws;
 mod page;
 mod part;

@@ -2,7 +2,7 @@
 ghost use Rattle.std.specs.Prelude.{◌≡◌, ◌≤◌, ◌+◌, ◌∷◌, ◌++◌, [], decimal, length, take};
 ghost use Rattle.lp_text.specs.inside.Writing.{line_rest};
 
-use crate::place::{place_end, place_number, place_rest, place_spaced};
+use crate::place::{SHORT, place_bytes, place_id, place_number, place_rest, place_spaced};
 use std::marker::Model;
 
 /// The room of a piece: four words of eight bytes, so that a copy is a few stores.
@@ -28,25 +28,47 @@ impl Model for Part {
 }
 
 impl Part {
-    /// A line's beginning: a word and a number, each with a space after it.
-    pub(crate) fn of_words(first: &[u8], number: u64) -> Part
-        requires { length first.now ≤ 10 }
-        ensures { result ≡ first.now ++ (32 ∷ (decimal number ++ 32 ∷ [])) }
+    /// No text.
+    pub(crate) fn none() -> Part
+        ensures { result ≡ [] }
     {
-        let mut text = [b' '; PART];
-        text[..first.len()].copy_from_slice(first);
-        let end = place_spaced(&mut text, first.len(), number);
-        text[end] = b' ';
-        Part { text, len: end + 1 }
+        Part {
+            text: [b' '; PART],
+            len: 0,
+        }
     }
 
-    /// A line's end: a number after a space.
-    pub(crate) fn of_rest(number: u64) -> Part
-        ensures { result ≡ line_rest (decimal number ∷ []) }
+    /// Turns to a line's beginning: a word, which is so many bytes of a short text, and a number, each with a space after it.
+    #[inline(always)]
+    pub(crate) fn set_words(&mut self, word: &[u8; SHORT], len: usize, number: u64)
+        requires { len ≤ 10 }
+        ensures { self.new ≡ take len word.now ++ (32 ∷ decimal number ++ 32 ∷ []) }
     {
-        let mut text = [b'\n'; PART];
-        let len = place_rest(&mut text, 0, &[number]);
-        Part { text, len }
+        place_bytes(&mut self.text, 0, word);
+        let end = place_spaced(&mut self.text, len, number);
+        self.text[end] = b' ';
+        self.len = end + 1;
+    }
+
+    /// Turns to a line's beginning: a word and the numbers of a group and of a task, each with a space after it.
+    #[inline(always)]
+    pub(crate) fn set_ids(&mut self, word: &[u8; 4], group: u16, task: u16)
+        ensures { self.new ≡ word.now ++ (32 ∷ decimal group ++ (32 ∷ decimal task ++ 32 ∷ [])) }
+    {
+        place_bytes(&mut self.text, 0, word);
+        let middle = place_id(&mut self.text, 4, group);
+        let end = place_id(&mut self.text, middle, task);
+        self.text[end] = b' ';
+        self.len = end + 1;
+    }
+
+    /// Turns to a line's end: a number after a space.
+    #[inline(always)]
+    pub(crate) fn set_rest(&mut self, number: u64)
+        ensures { self.new ≡ line_rest (decimal number ∷ []) }
+    {
+        let end = place_rest(&mut self.text, 0, &[number]);
+        self.len = end;
     }
 
     /// Puts the piece after the first `at` bytes, and gives where it ends.
@@ -57,9 +79,23 @@ impl Part {
         ensures near { result ≤ at + 32 }
         ensures size { length text.new ≡ length text.old }
     {
-        place_end(text, at, &self.text);
+        place_bytes(text, at, &self.text);
         at + self.len
     }
+}
+
+/// Puts a number and a line's end after a piece after the first `at` bytes, and gives where the line ends.
+#[inline(always)]
+pub(crate) fn place_after(text: &mut [u8], at: usize, before: &Part, number: u64) -> usize
+    requires { at + 53 ≤ length text.old }
+    ensures placed { take result text.new ≡ take at text.old ++ (before.now ++ (decimal number ++ 10 ∷ [])) }
+    ensures within { result ≤ length text.new }
+    ensures size { length text.new ≡ length text.old }
+{
+    let start = before.place(text, at);
+    let end = place_number(text, start, number);
+    text[end] = b'\n';
+    end + 1
 }
 
 /// Puts a number between two pieces after the first `at` bytes, and gives where the second ends.
@@ -67,16 +103,16 @@ impl Part {
 pub(crate) fn place_around(
     text: &mut [u8],
     at: usize,
-    front: &Part,
+    before: &Part,
     number: u64,
-    back: &Part,
+    after: &Part,
 ) -> usize
     requires { at + 84 ≤ length text.old }
-    ensures placed { take result text.new ≡ take at text.old ++ (front.now ++ (decimal number ++ back.now)) }
+    ensures placed { take result text.new ≡ take at text.old ++ (before.now ++ (decimal number ++ after.now)) }
     ensures within { result ≤ length text.new }
     ensures size { length text.new ≡ length text.old }
 {
-    let before = front.place(text, at);
-    let end = place_number(text, before, number);
-    back.place(text, end)
+    let start = before.place(text, at);
+    let end = place_number(text, start, number);
+    after.place(text, end)
 }

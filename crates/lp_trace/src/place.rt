@@ -1,49 +1,110 @@
-//! Numbers that are put into a text in place.
-ghost use Rattle.std.specs.Prelude.{◌≡◌, ℕ, ◌≤◌, ◌<◌, ◌+◌, ◌*◌, ◌∷◌, ◌++◌, [], decimal, length, map, take};
+//! Numbers and short texts that are put into a text in place.
+ghost use Rattle.std.specs.Prelude.{◌≡◌, ℕ, ◌<◌, ◌≤◌, ◌+◌, ◌*◌, ◌/◌, ◌%◌, ◌∷◌, ◌++◌, [], decimal, length, map, take};
+ghost use Rattle.std.specs.List.{flat_map};
+ghost use Rattle.lp_definitions.specs.Events.{group_numbers};
 ghost use Rattle.lp_text.specs.inside.Writing.{line_rest};
 
-use itoa::write_digits;
+use itoa::Buffer;
+use lp_stack::GroupId;
 
-/// The room of a short end of a line: two words of eight bytes, so that a copy is two stores.
-pub(crate) const SHORT_END: usize = 16;
+/// The room of a short text: two words of eight bytes, so that a copy is two stores.
+pub(crate) const SHORT: usize = 16;
 
-/// How many digits a number has.
-///
-/// Digits are written from the last to the first, so a number that begins at a place needs its end.
+/// The numbers below 100, two digits each.
+static PAIRS: [u8; 200] =
+    *b"00010203040506070809101112131415161718192021222324252627282930313233343536373839404142434445464748495051525354555657585960616263646566676869707172737475767778798081828384858687888990919293949596979899";
+
+/// Puts two digits after the first `at` bytes.
 #[inline(always)]
-fn digit_count(number: u64) -> usize
-    ensures { result ≡ length (decimal number) }
+fn place_pair(text: &mut [u8], at: usize, number: u64)
+    requires small { number < 100 }
+    requires room { at + 2 ≤ length text.old }
+    ensures placed { take (at + 2) text.new ≡ take at text.old ++ (48 + number / 10) ∷ (48 + number % 10) ∷ [] }
+    ensures size { length text.new ≡ length text.old }
 {
-    let mut left = number;
-    let mut more = 0;
-    while left >= 100_000_000 {
-        left /= 100_000_000;
-        more += 8;
-    }
-    more + short_count(left)
+    let from = number as usize * 2;
+    let (tens, ones) = (PAIRS[from], PAIRS[from + 1]);
+    text[at] = tens;
+    text[at + 1] = ones;
 }
 
-/// How many digits a number of at most eight has.
+/// Puts a number of one or two digits after the first `at` bytes, and gives where it ends.
 #[inline(always)]
-fn short_count(number: u64) -> usize
-    requires { number < 100000000 }
-    ensures { result ≡ length (decimal number) }
+fn place_two(text: &mut [u8], at: usize, number: u64) -> usize
+    requires small { number < 100 }
+    requires room { at + 2 ≤ length text.old }
+    ensures placed { take result text.new ≡ take at text.old ++ decimal number }
+    ensures near { result ≤ at + 2 }
+    ensures size { length text.new ≡ length text.old }
 {
-    if number < 10_000 {
-        if number < 100 {
-            if number < 10 { 1 } else { 2 }
-        } else if number < 1_000 {
-            3
-        } else {
-            4
-        }
-    } else if number < 1_000_000 {
-        if number < 100_000 { 5 } else { 6 }
-    } else if number < 10_000_000 {
-        7
-    } else {
-        8
+    if number < 10 {
+        text[at] = b'0' + number as u8;
+        return at + 1;
     }
+    place_pair(text, at, number);
+    at + 2
+}
+
+/// Puts a number of at most four digits after the first `at` bytes, and gives where it ends.
+///
+/// The first digits go first: from the last to the first, the digits would have to be counted before.
+#[inline(always)]
+fn place_four(text: &mut [u8], at: usize, number: u64) -> usize
+    requires small { number < 10000 }
+    requires room { at + 4 ≤ length text.old }
+    ensures placed { take result text.new ≡ take at text.old ++ decimal number }
+    ensures near { result ≤ at + 4 }
+    ensures size { length text.new ≡ length text.old }
+{
+    if number < 100 {
+        return place_two(text, at, number);
+    }
+    let end = place_two(text, at, number / 100);
+    place_pair(text, end, number % 100);
+    end + 2
+}
+
+/// Puts a number of five to eight digits after the first `at` bytes, and gives where it ends.
+#[inline(always)]
+fn place_eight(text: &mut [u8], at: usize, number: u64) -> usize
+    requires large { 10000 ≤ number }
+    requires small { number < 100000000 }
+    requires room { at + 8 ≤ length text.old }
+    ensures placed { take result text.new ≡ take at text.old ++ decimal number }
+    ensures near { result ≤ at + 8 }
+    ensures size { length text.new ≡ length text.old }
+{
+    let end = place_four(text, at, number / 10_000);
+    let last = number % 10_000;
+    place_pair(text, end, last / 100);
+    place_pair(text, end + 2, last % 100);
+    end + 4
+}
+
+/// Puts bytes after the first `at` ones, and gives where they end.
+#[inline(always)]
+pub(crate) fn place_slice(text: &mut [u8], at: usize, bytes: &[u8]) -> usize
+    requires { at + length bytes.now ≤ length text.old }
+    ensures placed { take result text.new ≡ take at text.old ++ bytes.now }
+    ensures end { result ≡ at + length bytes.now }
+    ensures size { length text.new ≡ length text.old }
+{
+    let end = at + bytes.len();
+    text[at..end].copy_from_slice(bytes);
+    end
+}
+
+/// Puts a number after the first `at` bytes, and gives where it ends. Out of line, as hardly a number of a report has more
+/// than eight digits.
+#[inline(never)]
+fn place_long(text: &mut [u8], at: usize, number: u64) -> usize
+    requires { at + 20 ≤ length text.old }
+    ensures placed { take result text.new ≡ take at text.old ++ decimal number }
+    ensures near { result ≤ at + 20 }
+    ensures size { length text.new ≡ length text.old }
+{
+    let mut buffer = Buffer::new();
+    place_slice(text, at, buffer.format(number).as_bytes())
 }
 
 /// Puts a number after the first `at` bytes, and gives where it ends.
@@ -54,9 +115,13 @@ pub(crate) fn place_number(text: &mut [u8], at: usize, number: u64) -> usize
     ensures near { result ≤ at + 20 }
     ensures size { length text.new ≡ length text.old }
 {
-    let end = at + digit_count(number);
-    write_digits(number, text, end);
-    end
+    if number < 10_000 {
+        place_four(text, at, number)
+    } else if number < 100_000_000 {
+        place_eight(text, at, number)
+    } else {
+        place_long(text, at, number)
+    }
 }
 
 /// Puts a number after a space after the first `at` bytes, and gives where it ends.
@@ -71,13 +136,39 @@ pub(crate) fn place_spaced(text: &mut [u8], at: usize, number: u64) -> usize
     place_number(text, at + 1, number)
 }
 
-/// Puts the end of a line after the first `at` bytes: numbers, each after a space. Gives where it
-/// ends.
+/// The same with the number of a task or group, which has at most five digits.
+#[inline(always)]
+pub(crate) fn place_id(text: &mut [u8], at: usize, number: u16) -> usize
+    requires { at + 21 ≤ length text.old }
+    ensures placed { take result text.new ≡ take at text.old ++ 32 ∷ decimal number }
+    ensures near { result ≤ at + 6 }
+    ensures size { length text.new ≡ length text.old }
+{
+    place_spaced(text, at, u64::from(number))
+}
+
+/// Puts groups, each after a space, after the first `at` bytes, and gives where they end.
+#[inline(always)]
+pub(crate) fn place_groups(text: &mut [u8], at: usize, groups: &[GroupId]) -> usize
+    requires { at + 6 * length groups.now + 21 ≤ length text.old }
+    ensures placed { take result text.new ≡ take at text.old ++ flat_map (λ group. 32 ∷ decimal group) (group_numbers groups.now) }
+    ensures near { result ≤ at + 6 * length groups.now }
+    ensures size { length text.new ≡ length text.old }
+{
+    let mut end = at;
+    for group in groups {
+        end = place_id(text, end, group.0);
+    }
+    end
+}
+
+/// Puts the end of a line after the first `at` bytes: numbers, each after a space. Gives where it ends.
 #[inline(always)]
 pub(crate) fn place_rest(text: &mut [u8], at: usize, numbers: &[u64]) -> usize
     requires { at + 21 * length numbers.now + 1 ≤ length text.old }
     ensures placed { take result text.new ≡ take at text.old ++ line_rest (map decimal numbers.now) }
     ensures within { result ≤ length text.new }
+    ensures size { length text.new ≡ length text.old }
 {
     let mut end = at;
     for number in numbers {
@@ -87,35 +178,60 @@ pub(crate) fn place_rest(text: &mut [u8], at: usize, numbers: &[u64]) -> usize
     end + 1
 }
 
-/// Puts a short text after the first `at` bytes, with what stands in its room after it.
+/// Puts bytes after the first `at` ones, of which the first may be the only ones that are wanted: a copy of a known size is
+/// a few stores.
 #[inline(always)]
-pub(crate) fn place_end<const N: usize>(text: &mut [u8], at: usize, end: &[u8; N])
+pub(crate) fn place_bytes<const N: usize>(text: &mut [u8], at: usize, bytes: &[u8; N])
     requires { at + N ≤ length text.old }
-    ensures placed { (n : ℕ) → n ≤ N → take (at + n) text.new ≡ take at text.old ++ take n end.now }
+    ensures placed { (n : ℕ) → n ≤ N → take (at + n) text.new ≡ take at text.old ++ take n bytes.now }
     ensures size { length text.new ≡ length text.old }
 {
-    text[at..at + N].copy_from_slice(end);
+    text[at..at + N].copy_from_slice(bytes);
 }
 
-/// Puts two numbers after the first `at` bytes, with so many bytes between them, and a line's end. Gives where it ends.
+/// Puts a word of four bytes, two numbers and a line's end after the first `at` bytes, with so many bytes between the numbers.
+/// Gives where the line ends.
 #[inline(always)]
 pub(crate) fn place_joined(
     text: &mut [u8],
     at: usize,
+    word: &[u8; 4],
     number: u64,
-    between: &[u8; SHORT_END],
+    between: &[u8; SHORT],
     len: usize,
     last: u64,
 ) -> usize
     requires room { at + 64 ≤ length text.old }
     requires short { len ≤ 16 }
-    ensures placed { take result text.new ≡ take at text.old ++ (decimal number ++ (take len between.now ++ (decimal last ++ 10 ∷ []))) }
+    ensures placed { take result text.new ≡ take at text.old ++ (word.now ++ (decimal number ++ (take len between.now ++ (decimal last ++ 10 ∷ [])))) }
     ensures within { result ≤ length text.new }
     ensures size { length text.new ≡ length text.old }
 {
-    let first = place_number(text, at, number);
-    place_end(text, first, between);
+    place_bytes(text, at, word);
+    let first = place_number(text, at + 4, number);
+    place_bytes(text, first, between);
     let end = place_number(text, first + len, last);
     text[end] = b'\n';
     end + 1
+}
+
+/// Puts a line of a word, which is so many bytes of a short text, and of at most six numbers after the first `at` bytes. Gives
+/// where the line ends.
+#[inline(always)]
+pub(crate) fn place_numbers(
+    text: &mut [u8],
+    at: usize,
+    word: &[u8; SHORT],
+    len: usize,
+    numbers: &[u64],
+) -> usize
+    requires room { at + 143 ≤ length text.old }
+    requires short { len ≤ 16 }
+    requires few { length numbers.now ≤ 6 }
+    ensures placed { take result text.new ≡ take at text.old ++ (take len word.now ++ line_rest (map decimal numbers.now)) }
+    ensures within { result ≤ length text.new }
+    ensures size { length text.new ≡ length text.old }
+{
+    place_bytes(text, at, word);
+    place_rest(text, at + len, numbers)
 }

@@ -1,23 +1,25 @@
 //! Writing the report of a run.
-ghost use Rattle.std.specs.Prelude.{◌≡◌, ℕ, ◌+◌, ◌<◌, ◌≤◌, ◌∷◌, ◌++◌, [], List, codes, decimal, map, take, IfSome, IsTrue, IsFalse};
+ghost use Rattle.std.specs.Prelude.{◌≡◌, ◌+◌, ◌<◌, ◌∷◌, ◌++◌, [], List, codes, decimal};
 ghost use Rattle.std.specs.List.{flat_map};
 ghost use Rattle.lp_definitions.specs.Events.{group_numbers};
 ghost use Rattle.lp_text.specs.Words.{line_of};
-ghost use Rattle.lp_trace.specs.Report.{what_words, complete_words, reply_line, reply_lines, level_word, report, report_header, stays_line};
-ghost use Rattle.lp_replay.specs.Replies.{replies_of, reply_of, what_of};
+ghost use Rattle.lp_trace.specs.Report.{complete_words, reply_line, reply_lines, level_word, report, report_header, stays_line};
+ghost use Rattle.lp_replay.specs.Replies.{replies_of, reply_of};
 ghost use Rattle.lp_text.specs.inside.Writing.{Puts, line_rest, seen_of};
 ghost use Rattle.lp_text.specs.Writing.{Writes};
 ghost use Rattle.lp_text.specs.StreamContract.{WritesToEnd, ended, write_end};
 
 mod births;
+mod busy;
 mod claims;
+mod events;
 mod legs;
 mod reasons;
 
 use crate::counter::Counter;
 use crate::page::Page;
-use crate::place::SHORT_END;
 pub(crate) use births::KeptBirths;
+use events::hold_event;
 use itoa::Buffer;
 use legs::put_legs;
 use lp_replay::{GroupLists, Outcome, PackedReply, ReplyList, ShortReply, ShortWhat};
@@ -119,40 +121,6 @@ fn line_end(completed: bool) -> &'static [u8]
     if completed { b" complete\n" } else { b"\n" }
 }
 
-/// What follows the event's number, where it is one of the few commonest ends of a line: so many of
-/// the bytes.
-#[inline(always)]
-fn short_rest(form: TraceForm, reply: ShortReply) -> Option<(&'static [u8; SHORT_END], usize)>
-    ensures size { IfSome result (λ rest. rest.1 ≤ 16) }
-    ensures words { IfSome result (λ rest. (lists : List (List ℕ)) → take rest.1 rest.0.now ≡ line_rest (what_words form (what_of reply.what lists) ++ complete_words reply.completed)) }
-{
-    if reply.completed {
-        return None;
-    }
-    match reply.what {
-        ShortWhat::Done => Some((b" done\n..........", 6)),
-        ShortWhat::Ran(level) => match form {
-            TraceForm::Single if level.0 == 0 => Some((b" ran old\n.......", 9)),
-            TraceForm::Single => Some((b" ran new\n.......", 9)),
-            TraceForm::Stacked | TraceForm::WithResched => None,
-        },
-        _ => None,
-    }
-}
-
-/// Holds the line of the reply to the event of a number, where it is short and there is room, and
-/// says whether it did.
-#[inline(always)]
-fn hold_event(page: &mut Page, form: TraceForm, event: &Counter, reply: ShortReply) -> bool
-    ensures taken { IsTrue result → (number : ℕ) → event.now ≡ number → (lists : List (List ℕ)) → page.new.held.items ≡ page.old.held.items ++ line_of (reply_line form number (reply_of reply lists)) }
-    ensures kept { IsFalse result → page.new.held.items ≡ page.old.held.items }
-{
-    let Some((rest, len)) = short_rest(form, reply) else {
-        return false;
-    };
-    page.hold_short(event, rest, len)
-}
-
 /// Puts the lines of the replies, the first of which has the number 1.
 fn put_events<W: Write>(
     page: &mut Page,
@@ -166,7 +134,9 @@ fn put_events<W: Write>(
     put_replies(page, writer, form, short, lists)
 }
 
-/// Puts the lines of these replies, to which these lists of groups belong.
+/// Puts the lines of these replies, to which these lists of groups belong. Out of line, so that nothing else of the report takes
+/// registers from its loop.
+#[inline(never)]
 fn put_replies<W: Write>(
     page: &mut Page,
     writer: &mut Counted<W>,
@@ -181,7 +151,7 @@ fn put_replies<W: Write>(
     for (i, packed) in replies.iter().enumerate() {
         event.increment();
         let reply = packed.get();
-        if !hold_event(page, form, &event, reply) {
+        if !hold_event(&mut page.held, form, &event, reply, lists, next) {
             let groups = lists.at(next);
             put_event(page, writer, form, i as u64 + 1, reply, groups)?;
         }
@@ -190,7 +160,7 @@ fn put_replies<W: Write>(
     Ok(())
 }
 
-/// Puts the line of the reply to the event of a number, which switched these groups if any.
+/// Puts the line of the reply to the event of a number, which switched these groups if any, where it isn't held.
 #[inline(never)]
 fn put_event<W: Write>(
     page: &mut Page,
@@ -238,23 +208,7 @@ fn put_switched<W: Write>(
 }
 
 /// Puts a group after a space.
-#[inline(always)]
 fn put_group<W: Write>(
-    page: &mut Page,
-    writer: &mut Counted<W>,
-    group: GroupId,
-) -> Result<(), WriteFault>
-    ensures { Puts (seen_of W.contents writer.old) (seen_of W.contents writer.new) page.old.held.items page.new.held.items result (32 ∷ decimal group.0) }
-{
-    if page.hold_number(u64::from(group.0)) {
-        return Ok(());
-    }
-    put_group_flushed(page, writer, group)
-}
-
-/// The same, where there is no room.
-#[inline(never)]
-fn put_group_flushed<W: Write>(
     page: &mut Page,
     writer: &mut Counted<W>,
     group: GroupId,

@@ -8,7 +8,13 @@ use Rattle.lp_text.specs.inside.Writing.{line_rest}
 abbrev pub head_words : CertHead → List (List ℕ)
 head_words head = claim_word head.claim ∷ map decimal (head.leg ∷ head.group.0 ∷ head.upto ∷ [])
 
--- what stands in front of the group, and what after it
-pub record IsAround (head : CertHead) (front back : List ℕ) : Type 0 where
-  pub before : front ≡ claim_word head.claim ++ (32 ∷ (decimal head.leg ++ 32 ∷ []))
-  pub after : back ≡ line_rest (decimal head.upto ∷ [])
+-- what stands before the group, and what after it
+pub record IsAround (head : CertHead) (text rest : List ℕ) : Type 0 where
+  pub before : text ≡ claim_word head.claim ++ (32 ∷ decimal head.leg ++ 32 ∷ [])
+  pub after : rest ≡ line_rest (decimal head.upto ∷ [])
+
+-- certificates that begin so differ in the group alone
+pub record Shares (head other : CertHead) : Type 0 where
+  pub claim : head.claim ≡ other.claim
+  pub leg : head.leg ≡ other.leg
+  pub upto : head.upto ≡ other.upto

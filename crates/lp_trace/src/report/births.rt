@@ -2,8 +2,8 @@
 ghost use Rattle.std.specs.Prelude.{◌≡◌, ◌≤◌, ◌∷◌, ◌++◌, [], length, map, option_to_list, take, IfNone, IfOk, IsFalse, IsTrue};
 ghost use Rattle.lp_trace.specs.inside.Births.{birth_line, text_of};
 
-use super::reasons::hold_reason;
-use crate::page::Page;
+use super::reasons::hold_line;
+use crate::held::Held;
 use lp_cert::{CertLines, Line};
 use lp_stack::{GroupId, TaskId};
 use std::alloc::{AllocError, Global};
@@ -46,7 +46,7 @@ impl KeptBirth {
 /// Contracts see the list of these lines.
 pub(crate) struct KeptBirths {
     births: Vec<KeptBirth>,
-    text: Page,
+    text: Held,
 }
 
 /// By hand, so that the proof of who owns one lets go of it in one step, not field by field.
@@ -65,7 +65,7 @@ impl Model for KeptBirths {
 
     ghost view = { λ k. map birth_line k.births.items };
 
-    ghost invariant = { λ k. IsKept k.births.items k.text.held.items };
+    ghost invariant = { λ k. IsKept k.births.items k.text.items };
 }
 
 impl KeptBirths {
@@ -74,7 +74,7 @@ impl KeptBirths {
         ensures { IfOk result (λ kept. kept ≡ []) }
     {
         let births = Vec::with_capacity(alloc, BIRTHS)?;
-        let text = Page::new(alloc)?;
+        let text = Held::new(alloc)?;
         Ok(KeptBirths { births, text })
     }
 
@@ -147,7 +147,7 @@ impl KeptBirths {
             return false;
         };
         let start = self.text.len();
-        if self.births.len() >= self.births.capacity() || !hold_reason(&mut self.text, line) {
+        if self.births.len() >= self.births.capacity() || !hold_line(&mut self.text, &line) {
             return false;
         }
         let birth = KeptBirth {

@@ -1,13 +1,15 @@
 //! Writing the first lines of certificates.
-ghost use Rattle.std.specs.Prelude.{◌≡◌, ◌≤◌, ◌∷◌, ◌++◌, [], decimal, length, IsFalse, IsTrue};
+ghost use Rattle.std.specs.Prelude.{◌≡◌, ◌≤◌, ◌∷◌, ◌++◌, [], take, IsFalse, IsTrue};
 ghost use Rattle.lp_text.specs.CertTexts.{claim_word};
 ghost use Rattle.lp_text.specs.Words.{line_of};
 ghost use Rattle.lp_text.specs.inside.Writing.{Puts, seen_of};
-ghost use Rattle.lp_trace.specs.inside.Claims.{head_words};
+ghost use Rattle.lp_trace.specs.inside.Claims.{Shares, head_words};
 
+use crate::held::Held;
 use crate::page::Page;
 use crate::part::Part;
-use lp_cert::{CertHead, CertListRef, Claim};
+use crate::place::SHORT;
+use lp_cert::{CertHead, Claim, GroupId};
 use lp_text::{Counted, WriteFault};
 use std::io::Write;
 use std::marker::Model;
@@ -21,8 +23,8 @@ use std::marker::Model;
 #[derive(Drop)]
 pub(super) struct ClaimText {
     head: CertHead,
-    front: Part,
-    back: Part,
+    before: Part,
+    after: Part,
 }
 
 impl Model for ClaimText {
@@ -33,25 +35,32 @@ impl Model for ClaimText {
 
     ghost view = { λ c. c.head };
 
-    ghost invariant = { λ c. IsAround c.head c.front c.back };
+    ghost invariant = { λ c. IsAround c.head c.before c.after };
 }
 
 impl ClaimText {
-    /// The text of a certificate that begins so.
-    fn of(head: CertHead) -> ClaimText
-        ensures { result ≡ head }
-    {
+    /// The text of no certificate that there is.
+    pub(super) fn none() -> ClaimText {
+        let (mut before, mut after) = (Part::none(), Part::none());
+        before.set_words(b"waiting.........", 7, 0);
+        after.set_rest(0);
+        let head = CertHead {
+            claim: Claim::Waiting,
+            leg: 0,
+            group: GroupId(0),
+            upto: 0,
+        };
         ClaimText {
             head,
-            front: Part::of_words(claim_word(head.claim), head.leg),
-            back: Part::of_rest(head.upto),
+            before,
+            after,
         }
     }
 
     /// Whether a certificate that begins so differs in the group alone.
     #[inline(always)]
     fn is_of(&self, head: CertHead) -> bool
-        ensures { IsTrue result → record self.now { group = head.group } ≡ head }
+        ensures { IsTrue result → Shares self.now head }
     {
         let CertHead {
             claim,
@@ -62,44 +71,46 @@ impl ClaimText {
         claim == head.claim && leg == head.leg && upto == head.upto
     }
 
-    /// Turns to a certificate that begins so. Out of line, as the certificates of a leg differ in the group alone.
+    /// Turns to the certificates of a leg. Out of line, as these differ in the group alone.
     #[inline(never)]
-    fn turn_to(&mut self, head: CertHead)
-        ensures { self.new ≡ head }
+    fn turn_to(&mut self, claim: Claim, leg: u64, upto: u64)
+        ensures claim { self.new.claim ≡ claim }
+        ensures leg { self.new.leg ≡ leg }
+        ensures upto { self.new.upto ≡ upto }
     {
-        *self = ClaimText::of(head);
+        let (word, len) = claim_word(claim);
+        self.before.set_words(word, len, leg);
+        self.after.set_rest(upto);
+        self.head = CertHead {
+            claim,
+            leg,
+            group: GroupId(0),
+            upto,
+        };
     }
 
     /// Holds the first line of a certificate that begins so where there is room, and says whether it did.
     #[inline(always)]
-    fn hold(&mut self, page: &mut Page, head: CertHead) -> bool
-        ensures taken { IsTrue result → page.new.held.items ≡ page.old.held.items ++ line_of (head_words head) }
-        ensures kept { IsFalse result → page.new.held.items ≡ page.old.held.items }
+    fn hold(&mut self, held: &mut Held, head: CertHead) -> bool
+        ensures taken { IsTrue result → held.new.items ≡ held.old.items ++ line_of (head_words head) }
+        ensures kept { IsFalse result → held.new.items ≡ held.old.items }
     {
         if !self.is_of(head) {
-            self.turn_to(head);
+            self.turn_to(head.claim, head.leg, head.upto);
         }
-        page.hold_around(&self.front, u64::from(head.group.0), &self.back)
+        held.hold_around(&self.before, u64::from(head.group.0), &self.after)
     }
 }
 
-/// What the first lines of these certificates may have in common, if there are several: for a single one it costs more
-/// than it spares.
-pub(super) fn shared_claim(certs: &CertListRef<'_>) -> Option<ClaimText> {
-    if certs.len() < 2 {
-        return None;
-    }
-    Some(ClaimText::of(certs.head(0)))
-}
-
-/// The first word of a certificate.
-fn claim_word(claim: Claim) -> &'static [u8]
-    ensures word { result.now ≡ claim_word claim }
-    ensures few { length result.now ≤ 7 }
+/// The first word of a certificate: so many bytes of a short text.
+#[inline(always)]
+fn claim_word(claim: Claim) -> (&'static [u8; SHORT], usize)
+    ensures word { take result.1 result.0.now ≡ claim_word claim }
+    ensures few { result.1 ≤ 7 }
 {
     match claim {
-        Claim::Waiting => b"waiting",
-        Claim::Floor => b"floor",
+        Claim::Waiting => (b"waiting.........", 7),
+        Claim::Floor => (b"floor...........", 5),
     }
 }
 
@@ -111,16 +122,23 @@ fn claim_numbers(head: CertHead) -> [u64; 3]
     [head.leg, u64::from(head.group.0), head.upto]
 }
 
-/// Holds the first line of a certificate that begins so where there is room, and says whether it did.
+/// Holds the first line of a certificate that begins so where there is room, and says whether it did: by what the certificates
+/// of a leg have in common, if it has many. For a few, making this costs more than it spares.
 #[inline(always)]
-pub(super) fn hold_claim(page: &mut Page, shared: &mut Option<ClaimText>, head: CertHead) -> bool
-    ensures taken { IsTrue result → page.new.held.items ≡ page.old.held.items ++ line_of (head_words head) }
-    ensures kept { IsFalse result → page.new.held.items ≡ page.old.held.items }
+pub(super) fn hold_claim(
+    held: &mut Held,
+    shared: &mut ClaimText,
+    is_many: bool,
+    head: CertHead,
+) -> bool
+    ensures taken { IsTrue result → held.new.items ≡ held.old.items ++ line_of (head_words head) }
+    ensures kept { IsFalse result → held.new.items ≡ held.old.items }
 {
-    match shared {
-        Some(text) => text.hold(page, head),
-        None => page.hold_numbers(claim_word(head.claim), &claim_numbers(head)),
+    if is_many {
+        return shared.hold(held, head);
     }
+    let (word, len) = claim_word(head.claim);
+    held.hold_numbers(word, len, &claim_numbers(head))
 }
 
 /// Puts the first line of a certificate that begins so, where there may be no room to hold it.
@@ -132,5 +150,6 @@ pub(super) fn put_claim<W: Write>(
 ) -> Result<(), WriteFault>
     ensures { Puts (seen_of W.contents writer.old) (seen_of W.contents writer.new) page.old.held.items page.new.held.items result (line_of (head_words head)) }
 {
-    page.put_numbers(writer, claim_word(head.claim), &claim_numbers(head))
+    let (word, len) = claim_word(head.claim);
+    page.put_numbers(writer, word, len, &claim_numbers(head))
 }

@@ -1,5 +1,5 @@
 //! Writing how the legs of a run ended, with their certificates.
-ghost use Rattle.std.specs.Prelude.{◌≡◌, ◌≤◌, ◌<◌, ◌∷◌, ◌++◌, [], decimal, length, map, slice_get, take, IfSome, IsFalse, IsTrue, Some};
+ghost use Rattle.std.specs.Prelude.{◌≡◌, ◌≤◌, ◌<◌, ◌∷◌, ◌++◌, [], decimal, length, slice_get, take, IfSome, IsFalse, IsTrue, Some};
 ghost use Rattle.std.specs.List.{flat_map};
 ghost use Rattle.lp_definitions.specs.declared.cert.Cert.{Cert};
 ghost use Rattle.lp_cert.specs.Ends.{end_in};
@@ -10,15 +10,30 @@ ghost use Rattle.lp_text.specs.inside.Writing.{Puts, line_rest, seen_of};
 ghost use Rattle.lp_trace.specs.inside.Births.{text_of};
 
 use super::births::KeptBirths;
-use super::claims::{ClaimText, hold_claim, put_claim, shared_claim};
+use super::busy::BusyText;
+use super::claims::{ClaimText, hold_claim, put_claim};
 use super::reasons::put_each;
 use super::{level_word, number};
+use crate::held::Held;
 use crate::page::Page;
-use crate::place::SHORT_END;
+use crate::place::SHORT;
 use itoa::Buffer;
 use lp_cert::{CertLines, CertListRef, LegEndRef, LegList, Line};
 use lp_text::{Counted, TraceForm, WriteFault};
 use std::io::Write;
+
+/// How many certificates of a leg are worth a text that they share: for a single one it costs more than it spares.
+const MANY: usize = 2;
+
+/// How many certificates of a leg are few: if one of them can't be held, the others were held for nothing.
+const FEW: usize = 8;
+
+/// What a line may have in common with one before, as a text.
+#[derive(Drop)]
+struct Shared {
+    claim: ClaimText,
+    busy: BusyText,
+}
 
 /// Puts the lines of the ends of legs.
 pub(super) fn put_legs<W: Write>(
@@ -30,24 +45,70 @@ pub(super) fn put_legs<W: Write>(
 ) -> Result<(), WriteFault>
     ensures { Puts (seen_of W.contents writer.old) (seen_of W.contents writer.new) page.old.held.items page.new.held.items result (flat_map line_of (flat_map (leg_lines form) legs.now)) }
 {
+    let mut shared = Shared {
+        claim: ClaimText::none(),
+        busy: BusyText::none(),
+    };
     for leg in legs {
-        put_leg(page, writer, kept, form, &leg)?;
+        if !hold_leg(&mut page.held, &mut shared.claim, form, &leg) {
+            put_leg(page, writer, kept, &mut shared, form, &leg)?;
+        }
     }
     Ok(())
 }
 
+/// Holds the lines of a leg where these are few and there is room, and says whether it did: a bit, as for `Held::hold_short`.
+#[inline(always)]
+fn hold_leg(held: &mut Held, shared: &mut ClaimText, form: TraceForm, leg: &LegEndRef<'_>) -> bool
+    ensures taken { IsTrue result → held.new.items ≡ held.old.items ++ flat_map line_of (leg_lines form (end_in leg.now)) }
+    ensures kept { IsFalse result → held.new.items ≡ held.old.items }
+{
+    let start = held.len();
+    if !hold_end(held, form, leg) {
+        return false;
+    }
+    if hold_certs(held, shared, &leg.certs) {
+        return true;
+    }
+    held.truncate(start);
+    false
+}
+
+/// Holds the lines of certificates where these are few, none has a line beside its first, and there is room, and says whether
+/// it did.
+#[inline(always)]
+fn hold_certs(held: &mut Held, shared: &mut ClaimText, certs: &CertListRef<'_>) -> bool
+    ensures taken { IsTrue result → held.new.items ≡ held.old.items ++ flat_map line_of (flat_map cert_lines certs.now) }
+    ensures kept { IsFalse result → held.new.items ≡ held.old.items }
+{
+    let count = certs.len();
+    if count > FEW {
+        return false;
+    }
+    let start = held.len();
+    for place in 0..count {
+        if !hold_cert(held, shared, certs, place) {
+            held.truncate(start);
+            return false;
+        }
+    }
+    true
+}
+
 /// Puts the line of the end of a leg, and those of its certificates.
+#[inline(never)]
 fn put_leg<W: Write>(
     page: &mut Page,
     writer: &mut Counted<W>,
     kept: &mut KeptBirths,
+    shared: &mut Shared,
     form: TraceForm,
     leg: &LegEndRef<'_>,
 ) -> Result<(), WriteFault>
     ensures { Puts (seen_of W.contents writer.old) (seen_of W.contents writer.new) page.old.held.items page.new.held.items result (flat_map line_of (leg_lines form (end_in leg.now))) }
 {
     put_end(page, writer, form, leg)?;
-    put_certs(page, writer, kept, &leg.certs)
+    put_certs(page, writer, kept, shared, &leg.certs)
 }
 
 /// How a leg ended: by which word, and the number that follows it.
@@ -63,7 +124,7 @@ fn end_words<'a>(buffer: &'a mut Buffer, leg: &LegEndRef<'_>) -> (&'static [u8],
 /// What stands between the two numbers of the line of a leg's end, where a trace has one patch: so many of the bytes; and
 /// the second number.
 #[inline(always)]
-fn end_parts(form: TraceForm, leg: &LegEndRef<'_>) -> Option<(&'static [u8; SHORT_END], usize, u64)>
+fn end_parts(form: TraceForm, leg: &LegEndRef<'_>) -> Option<(&'static [u8; SHORT], usize, u64)>
     ensures size { IfSome result (λ end. end.1 ≤ 16) }
     ensures words { IfSome result (λ end. line_rest (target_words form leg.now.target ++ end_words leg.now.completed (length leg.now.certs)) ≡ take end.1 end.0.now ++ (decimal end.2 ++ 10 ∷ [])) }
 {
@@ -81,14 +142,14 @@ fn end_parts(form: TraceForm, leg: &LegEndRef<'_>) -> Option<(&'static [u8; SHOR
 
 /// Holds the line of the end of a leg where it is short and there is room, and says whether it did.
 #[inline(always)]
-fn hold_end(page: &mut Page, form: TraceForm, leg: &LegEndRef<'_>) -> bool
-    ensures taken { IsTrue result → page.new.held.items ≡ page.old.held.items ++ line_of (leg_line form (end_in leg.now)) }
-    ensures kept { IsFalse result → page.new.held.items ≡ page.old.held.items }
+fn hold_end(held: &mut Held, form: TraceForm, leg: &LegEndRef<'_>) -> bool
+    ensures taken { IsTrue result → held.new.items ≡ held.old.items ++ line_of (leg_line form (end_in leg.now)) }
+    ensures kept { IsFalse result → held.new.items ≡ held.old.items }
 {
     let Some((between, len, last)) = end_parts(form, leg) else {
         return false;
     };
-    page.hold_joined(b"leg ", leg.opened, between, len, last)
+    held.hold_joined(b"leg ", leg.opened, between, len, last)
 }
 
 /// Puts the line of the end of a leg.
@@ -101,7 +162,7 @@ fn put_end<W: Write>(
 ) -> Result<(), WriteFault>
     ensures { Puts (seen_of W.contents writer.old) (seen_of W.contents writer.new) page.old.held.items page.new.held.items result (line_of (leg_line form (end_in leg.now))) }
 {
-    if hold_end(page, form, leg) {
+    if hold_end(&mut page.held, form, leg) {
         return Ok(());
     }
     put_end_line(page, writer, form, leg)
@@ -136,33 +197,28 @@ fn put_certs<W: Write>(
     page: &mut Page,
     writer: &mut Counted<W>,
     kept: &mut KeptBirths,
+    shared: &mut Shared,
     certs: &CertListRef<'_>,
 ) -> Result<(), WriteFault>
     ensures { Puts (seen_of W.contents writer.old) (seen_of W.contents writer.new) page.old.held.items page.new.held.items result (flat_map line_of (flat_map cert_lines certs.now)) }
 {
-    let mut shared = shared_claim(certs);
     for place in 0..certs.len() {
-        if !hold_cert(page, &mut shared, certs, place) {
-            put_cert(page, writer, kept, &mut shared, certs, place)?;
+        if !hold_cert(&mut page.held, &mut shared.claim, certs, place) {
+            put_cert(page, writer, kept, shared, certs, place)?;
         }
     }
     Ok(())
 }
 
 /// Holds the line of the certificate at a place where it has no other and there is room, and says whether it did: a bit,
-/// as for `Page::hold_numbers`.
+/// as for `Held::hold_short`.
 #[inline(always)]
-fn hold_cert(
-    page: &mut Page,
-    shared: &mut Option<ClaimText>,
-    certs: &CertListRef<'_>,
-    place: usize,
-) -> bool
+fn hold_cert(held: &mut Held, shared: &mut ClaimText, certs: &CertListRef<'_>, place: usize) -> bool
     requires { place < length certs.now }
-    ensures taken { IsTrue result → (cert : Cert) → slice_get certs.now place ≡ Some cert → page.new.held.items ≡ page.old.held.items ++ flat_map line_of (cert_lines cert) }
-    ensures kept { IsFalse result → page.new.held.items ≡ page.old.held.items }
+    ensures taken { IsTrue result → (cert : Cert) → slice_get certs.now place ≡ Some cert → held.new.items ≡ held.old.items ++ flat_map line_of (cert_lines cert) }
+    ensures kept { IsFalse result → held.new.items ≡ held.old.items }
 {
-    certs.is_bare(place) && hold_claim(page, shared, certs.head(place))
+    certs.is_bare(place) && hold_claim(held, shared, certs.len() >= MANY, certs.head(place))
 }
 
 /// Puts the lines of the certificate at a place.
@@ -171,7 +227,7 @@ fn put_cert<W: Write>(
     page: &mut Page,
     writer: &mut Counted<W>,
     kept: &mut KeptBirths,
-    shared: &mut Option<ClaimText>,
+    shared: &mut Shared,
     certs: &CertListRef<'_>,
     place: usize,
 ) -> Result<(), WriteFault>
@@ -179,10 +235,16 @@ fn put_cert<W: Write>(
     ensures { (cert : Cert) → slice_get certs.now place ≡ Some cert → Puts (seen_of W.contents writer.old) (seen_of W.contents writer.new) page.old.held.items page.new.held.items result (flat_map line_of (cert_lines cert)) }
 {
     let head = certs.head(place);
-    if !hold_claim(page, shared, head) {
+    if !hold_claim(&mut page.held, &mut shared.claim, certs.len() >= MANY, head) {
         put_claim(page, writer, head)?;
     }
-    put_reasons(page, writer, kept, &mut certs.lines(place))
+    put_reasons(
+        page,
+        writer,
+        kept,
+        &mut shared.busy,
+        &mut certs.lines(place),
+    )
 }
 
 /// Puts these reasons, a line each.
@@ -190,6 +252,7 @@ fn put_reasons<W: Write>(
     page: &mut Page,
     writer: &mut Counted<W>,
     kept: &mut KeptBirths,
+    busy: &mut BusyText,
     reasons: &mut CertLines<'_>,
 ) -> Result<(), WriteFault>
     ensures { Puts (seen_of W.contents writer.old) (seen_of W.contents writer.new) page.old.held.items page.new.held.items result (text_of reasons.old) }
@@ -198,9 +261,9 @@ fn put_reasons<W: Write>(
         return Ok(());
     };
     if let Line::Born { .. } = first {
-        return put_births(page, writer, kept, first, reasons);
+        return put_births(page, writer, kept, busy, first, reasons);
     }
-    put_each(page, writer, Some(first), reasons)
+    put_each(page, writer, busy, Some(first), reasons)
 }
 
 /// The same, where the first reason, which is no longer left, is a birth: what is kept then is put in one piece.
@@ -209,6 +272,7 @@ fn put_births<W: Write>(
     page: &mut Page,
     writer: &mut Counted<W>,
     kept: &mut KeptBirths,
+    busy: &mut BusyText,
     first: Line,
     reasons: &mut CertLines<'_>,
 ) -> Result<(), WriteFault>
@@ -216,5 +280,5 @@ fn put_births<W: Write>(
 {
     let next = kept.follow(first, reasons);
     page.put(writer, kept.text())?;
-    put_each(page, writer, next, reasons)
+    put_each(page, writer, busy, next, reasons)
 }

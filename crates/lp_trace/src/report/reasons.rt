@@ -5,7 +5,10 @@ ghost use Rattle.lp_text.specs.Words.{line_of};
 ghost use Rattle.lp_text.specs.inside.Writing.{Puts, seen_of};
 ghost use Rattle.lp_trace.specs.inside.Births.{text_of};
 
+use super::busy::BusyText;
+use crate::held::Held;
 use crate::page::Page;
+use crate::place::SHORT;
 use lp_cert::{CertLines, Line};
 use lp_text::{Counted, WriteFault};
 use std::io::Write;
@@ -15,6 +18,7 @@ use std::io::Write;
 pub(super) fn put_each<W: Write>(
     page: &mut Page,
     writer: &mut Counted<W>,
+    busy: &mut BusyText,
     first: Option<Line>,
     reasons: &mut CertLines<'_>,
 ) -> Result<(), WriteFault>
@@ -23,21 +27,21 @@ pub(super) fn put_each<W: Write>(
 {
     let mut next = first;
     while let Some(reason) = next {
-        if !hold_reason(page, reason) {
-            put_reason(page, writer, reason)?;
+        if !hold_reason(&mut page.held, busy, &reason) {
+            put_reason(page, writer, &reason)?;
         }
         next = reasons.next();
     }
     Ok(())
 }
 
-/// The first word of a reason's line, and the numbers that follow it: so many of these.
+/// The first word of a reason's line, of four bytes, and the numbers that follow it: so many of these.
 #[inline(always)]
-fn reason_parts(reason: Line) -> (&'static [u8], [u64; 5], usize)
-    ensures words { result.0.now ∷ map decimal (take result.2 result.1) ≡ reason_words reason }
+fn reason_parts(reason: &Line) -> (&'static [u8; SHORT], [u64; 5], usize)
+    ensures words { take 4 result.0.now ∷ map decimal (take result.2 result.1) ≡ reason_words reason.now }
     ensures few { result.2 ≤ 5 }
 {
-    match reason {
+    match *reason {
         Line::Hold {
             group,
             task,
@@ -46,38 +50,50 @@ fn reason_parts(reason: Line) -> (&'static [u8], [u64; 5], usize)
             to,
         } => {
             let (group, task) = (u64::from(group.0), u64::from(task.0));
-            (b"hold", [group, task, serial, from, to], 5)
+            (b"hold............", [group, task, serial, from, to], 5)
         }
         Line::Busy { group, task, at } => {
             let (group, task) = (u64::from(group.0), u64::from(task.0));
-            (b"busy", [group, task, at, 0, 0], 3)
+            (b"busy............", [group, task, at, 0, 0], 3)
         }
         Line::Born { group, parent, at } => {
             let (group, parent) = (u64::from(group.0), u64::from(parent.0));
-            (b"born", [group, parent, at, 0, 0], 3)
+            (b"born............", [group, parent, at, 0, 0], 3)
         }
     }
 }
 
 /// Holds the line of a reason where there is room, and says whether it did.
 #[inline(always)]
-pub(super) fn hold_reason(page: &mut Page, reason: Line) -> bool
-    ensures taken { IsTrue result → page.new.held.items ≡ page.old.held.items ++ line_of (reason_words reason) }
-    ensures kept { IsFalse result → page.new.held.items ≡ page.old.held.items }
+pub(super) fn hold_line(held: &mut Held, reason: &Line) -> bool
+    ensures taken { IsTrue result → held.new.items ≡ held.old.items ++ line_of (reason_words reason.now) }
+    ensures kept { IsFalse result → held.new.items ≡ held.old.items }
 {
-    let (first, numbers, count) = reason_parts(reason);
-    page.hold_numbers(first, &numbers[..count])
+    let (word, numbers, count) = reason_parts(reason);
+    held.hold_numbers(word, 4, &numbers[..count])
 }
 
-/// Puts the line of a reason.
+/// The same, by the text of the busy member before where the line is one of those, of which there are the most.
+#[inline(always)]
+fn hold_reason(held: &mut Held, busy: &mut BusyText, reason: &Line) -> bool
+    ensures taken { IsTrue result → held.new.items ≡ held.old.items ++ line_of (reason_words reason.now) }
+    ensures kept { IsFalse result → held.new.items ≡ held.old.items }
+{
+    match *reason {
+        Line::Busy { group, task, at } => busy.hold(held, group, task, at),
+        Line::Hold { .. } | Line::Born { .. } => hold_line(held, reason),
+    }
+}
+
+/// Puts the line of a reason, where there may be no room to hold it.
 #[inline(never)]
 fn put_reason<W: Write>(
     page: &mut Page,
     writer: &mut Counted<W>,
-    reason: Line,
+    reason: &Line,
 ) -> Result<(), WriteFault>
-    ensures { Puts (seen_of W.contents writer.old) (seen_of W.contents writer.new) page.old.held.items page.new.held.items result (line_of (reason_words reason)) }
+    ensures { Puts (seen_of W.contents writer.old) (seen_of W.contents writer.new) page.old.held.items page.new.held.items result (line_of (reason_words reason.now)) }
 {
-    let (first, numbers, count) = reason_parts(reason);
-    page.put_numbers(writer, first, &numbers[..count])
+    let (word, numbers, count) = reason_parts(reason);
+    page.put_numbers(writer, word, 4, &numbers[..count])
 }

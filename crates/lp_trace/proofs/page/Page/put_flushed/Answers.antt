@@ -11,7 +11,7 @@ returns-in_err-flush g c =
 
 pub returns : goal.returns
 returns g c =
-    written_past (seen_of g.W.Write.contents c.args.writer.now) (seen_of g.W.Write.contents c.flush.new.writer) _ c.args.self.now.held.items c.hold.new.self.held.items c.args.bytes.now c.put.result (c.hold.ensures.kept c.if-hold.false ∙ c.in_ok-flush.ensures.empty) c.in_ok-flush.ensures.written (wrote g.W.Write.contents c.flush.new.writer c.put.new.writer c.args.bytes.now c.put.result c.put.ensures.written c.put.ensures.writes)
+    written_past (seen_of g.W.Write.contents c.args.writer.now) (seen_of g.W.Write.contents c.flush.new.writer) _ c.args.self.now.held.items c.hold.new.self.items c.args.bytes.now c.put.result (c.hold.ensures.kept c.if-hold.false ∙ c.in_ok-flush.ensures.empty) c.in_ok-flush.ensures.written (wrote g.W.Write.contents c.flush.new.writer c.put.new.writer c.args.bytes.now c.put.result c.put.ensures.written c.put.ensures.writes)
 
 pub returns-then-hold : goal.returns-then-hold
 returns-then-hold g c = grind (arith, common_steps)

@@ -7,7 +7,7 @@ use Rattle.lp_trace.proofs.report.legs.hold_end.Goals as goal
 pub returns-clause-taken : goal.returns-clause-taken
 returns-clause-taken c = λ held.
     let leg = c.args.leg.now in
-    let before : List ℕ = c.args.page.now.held.items in
+    let before : List ℕ = c.args.held.now.items in
     let words : List (List ℕ) = target_words c.args.form leg.target ++ end_words leg.completed (length leg.certs) in
     c.hold_joined.ensures.taken held
     ∙ ap (λ l. before ++ (codes "leg " ++ (decimal leg.opened ++ l))) (sym c.in-Some.ensures.words)

@@ -15,7 +15,7 @@ returns-in_err-put_cert g c =
     let below : c.loop-place.place < length c.args.certs.now = omega arith in
     let found = block_of cert_lines c.args.certs.now c.loop-place.place below in
     let P : List ℕ → Type 0 = λ h. Left (seen_of g.W.Write.contents c.args.writer.now) (seen_of g.W.Write.contents c.loop-place.writer) (c.args.page.now.held.items ++ flat_map line_of (flat_map cert_lines c.args.certs.now)) (h ++ flat_map line_of (flat_map cert_lines (drop c.loop-place.place c.args.certs.now))) in
-    puts_err _ _ c.args.page.now.held.items _ _ c.from_residual.result c.from_residual.ensures.0 (held_err _ (seen_of g.W.Write.contents c.loop-place.writer) _ _ c.hold_cert.new.page.held.items _ _ _ found.2 (subst P (sym {A = List ℕ} (c.if-not-hold_cert.ensures.kept refl)) c.loop-place.invariant) (c.in_err-put_cert.ensures found.0 found.1))
+    puts_err _ _ c.args.page.now.held.items _ _ c.from_residual.result c.from_residual.ensures.0 (held_err _ (seen_of g.W.Write.contents c.loop-place.writer) _ _ c.hold_cert.new.held.items _ _ _ found.2 (subst P (sym {A = List ℕ} (c.if-not-hold_cert.ensures.kept refl)) c.loop-place.invariant) (c.in_err-put_cert.ensures found.0 found.1))
 
 pub loop-place-preserved : goal.loop-place-preserved
 loop-place-preserved g c =

@@ -22,7 +22,7 @@ loop-next-preserved g c =
 pub returns-in_err-put_reason : goal.returns-in_err-put_reason
 returns-in_err-put_reason g c =
     let P : List ℕ → Type 0 = λ h. Left (seen_of g.W.Write.contents c.args.writer.now) (seen_of g.W.Write.contents c.loop-next.writer) (c.args.page.now.held.items ++ text_of (option_to_list c.args.first ++ c.args.reasons.now)) (h ++ text_of (option_to_list c.loop-next.next ++ c.loop-next.reasons)) in
-    puts_err _ _ c.args.page.now.held.items _ _ c.from_residual.result c.from_residual.ensures.0 (held_err _ (seen_of g.W.Write.contents c.loop-next.writer) _ _ c.hold_reason.new.page.held.items _ _ _ (at_hand c.loop-next.next None c.loop-next.reasons c.loop-next.reasons c.in-Some.reason c.in-Some.is refl) (subst P (sym {A = List ℕ} (c.if-not-hold_reason.ensures.kept refl)) c.loop-next.invariant.0) c.in_err-put_reason.ensures)
+    puts_err _ _ c.args.page.now.held.items _ _ c.from_residual.result c.from_residual.ensures.0 (held_err _ (seen_of g.W.Write.contents c.loop-next.writer) _ _ c.hold_reason.new.held.items _ _ _ (at_hand c.loop-next.next None c.loop-next.reasons c.loop-next.reasons c.in-Some.reason c.in-Some.is refl) (subst P (sym {A = List ℕ} (c.if-not-hold_reason.ensures.kept refl)) c.loop-next.invariant.0) c.in_err-put_reason.ensures)
 
 pub returns : goal.returns
 returns g c =

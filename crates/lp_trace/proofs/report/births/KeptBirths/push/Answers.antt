@@ -5,7 +5,7 @@ use Rattle.lp_trace.proofs.report.births.KeptBirths.push.Goals as goal
 
 pub invariant_of-self-2 : goal.invariant_of-self-2
 invariant_of-self-2 c =
-    more_kept c.self.inside.births.items _ c.self.inside.text.held.items _ _ c.self.invariant c.len-start.ensures (c.hold_reason.ensures.taken c.if-not-hold_reason.false) (pushed c.push.result _ _ _ _ _ c.push.ensures.items c.push.ensures.full (omega arith))
+    more_kept c.self.inside.births.items _ c.self.inside.text.items _ _ c.self.invariant c.len-start.ensures (c.hold_line.ensures.taken c.if-not-hold_line.false) (pushed c.push.result _ _ _ _ _ c.push.ensures.items c.push.ensures.full (omega arith))
 
 pub returns-clause-taken : goal.returns-clause-taken
 returns-clause-taken c = grind (arith, common_steps)

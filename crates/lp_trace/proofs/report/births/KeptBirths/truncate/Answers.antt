@@ -8,7 +8,7 @@ use Rattle.lp_trace.proofs.report.births.KeptBirths.truncate.Goals as goal
 pub invariant_of-self : goal.invariant_of-self
 invariant_of-self c =
     let found = c.in-Some.ensures.lookup in
-    first_kept c.self.inside.births.items c.deref.result.now _ c.self.inside.text.held.items _ c.args.count c.in-Some.birth.now c.self.invariant c.deref.ensures.value found.3.0 found.1 c.truncate-in-Some.ensures.items c.truncate.ensures
+    first_kept c.self.inside.births.items c.deref.result.now _ c.self.inside.text.items _ c.args.count c.in-Some.birth.now c.self.invariant c.deref.ensures.value found.3.0 found.1 c.truncate-in-Some.ensures.items c.truncate.ensures
 
 pub returns-in-Some : goal.returns-in-Some
 returns-in-Some c =
