@@ -62,6 +62,17 @@ pub(crate) fn quick_event<'a>(
         SLEE => sleep_rest(rest),
         WAKE => wake_rest(rest),
         WALK => walk_rest(rest),
+        _ => rarer_event(word, rest),
+    }
+}
+
+/// The same where the first four bytes aren't those of the commonest lines. Out of line, so that these have all the room that
+/// the compiler leaves for what it joins.
+#[inline(never)]
+fn rarer_event(word: u32, rest: &[u8]) -> Option<(Event, &[u8])>
+    ensures { (symbols : List (List ℕ)) → IfSome result (λ x. BeginsWith symbols (to_le_bytes w32 word ++ rest.now) x.0 x.1.now) }
+{
+    match word {
         STOP => stop_rest(rest),
         ENAB => enable_rest(rest),
         DISA => disable_rest(rest),

@@ -19,23 +19,5 @@ returns-in-1701536119 c = let told = c.wake_rest.ensures c.args.symbols.now in s
 pub returns-in-1802264951 : goal.returns-in-1802264951
 returns-in-1802264951 c = let told = c.walk_rest.ensures c.args.symbols.now in search rules
 
-pub returns-in-1886352499 : goal.returns-in-1886352499
-returns-in-1886352499 c = let told = c.stop_rest.ensures c.args.symbols.now in search rules
-
-pub returns-in-1650552421 : goal.returns-in-1650552421
-returns-in-1650552421 c = let told = c.enable_rest.ensures c.args.symbols.now in search rules
-
-pub returns-in-1634953572 : goal.returns-in-1634953572
-returns-in-1634953572 c = let told = c.disable_rest.ensures c.args.symbols.now in search rules
-
-pub returns-in-1702258034 : goal.returns-in-1702258034
-returns-in-1702258034 c = let told = c.reverse_rest.ensures c.args.symbols.now in search rules
-
-pub returns-in-543517028 : goal.returns-in-543517028
-returns-in-543517028 c = let told = c.die_rest.ensures c.args.symbols.now in search rules
-
-pub returns-in-1701602409 : goal.returns-in-1701602409
-returns-in-1701602409 c = let told = c.idle_rest.ensures c.args.symbols.now in search rules
-
-pub returns-in-1802661734 : goal.returns-in-1802661734
-returns-in-1802661734 c = let told = c.fork_rest.ensures c.args.symbols.now in search rules
+pub returns-in_default : goal.returns-in_default
+returns-in_default c = let told = c.rarer_event.ensures c.args.symbols.now in rw c.in_ok-word.ensures told
