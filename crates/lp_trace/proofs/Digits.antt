@@ -1,16 +1,14 @@
--- Numbers and bytes that are put in place.
-use Rattle.std.proofs.Common.{◌≡◌, ◌<◌, ◌≤◌, ◌+◌, ◌-◌, ◌*◌, ◌/◌, ◌%◌, ◌^◌, ℕ, zero, suc, Bool, true, ◌&&◌, T, eqb, List, [], ◌∷◌, ◌++◌, length, take, drop, map, set, get_or, decimal, arith, add-one, refl, sym, ap, ◌∙◌, append_assoc, length-append, length-set, inl, inr, eq-zero-or-pos, eqb→eq}
+-- How many digits a number has, and numbers and bytes that are put in place.
+use Rattle.std.proofs.Common.{◌≡◌, ◌<◌, ◌≤◌, ◌+◌, ◌/◌, ◌^◌, ℕ, List, [], ◌∷◌, ◌++◌, length, take, drop, map, set, get_or, decimal, arith, add-one, refl, sym, ap, ◌∙◌, append_assoc, length-append}
 use Rattle.std.specs.List.{flat_map}
-use Rattle.std.proofs.lemmas.Fmt.{decimal_digit, length-decimal-le}
-use Rattle.std.proofs.lemmas.List.{length-take-le, take-append-le, take_more_set}
-use Rattle.std.proofs.Math.Seq.{drop-cons, take-append-add}
-use Rattle.itoa.proofs.Decimal.{pair, decimal_two, decimal_pair, decimal_four}
+use Rattle.std.proofs.lemmas.Fmt.{length-decimal-le}
+use Rattle.std.proofs.lemmas.List.{length-take-le, take-append-le, take_at, take_more_set}
+use Rattle.std.proofs.Math.Seq.{drop-cons, take-add, take-append-add}
+use Rattle.itoa.proofs.Decimal.{length_one, length_two, length_pair, length_four}
 use borrow.Rule.Slice.PartMut.{put_mid, post_of}
-use lib.Ieee.Fits.{and_l, and_r}
 use Rattle.lp_stack.specs.declared.number.GroupId.{GroupId}
 use Rattle.lp_definitions.specs.Events.{group_numbers}
 use Rattle.lp_text.specs.inside.Writing.{line_rest}
-use Rattle.lp_trace.specs.declared.place.TheConstants.{PAIRS}
 
 -- ---- Digits
 
@@ -18,60 +16,40 @@ use Rattle.lp_trace.specs.declared.place.TheConstants.{PAIRS}
 pub digits_few : (number : ℕ) → number < 18446744073709551616 → length (decimal number) ≤ 20
 digits_few number fits = length-decimal-le 20 number (omega arith) (omega arith) fits
 
-abbrev are_pairs : ℕ → Bool
-are_pairs zero = true
-are_pairs (suc p) = (eqb (get_or PAIRS (p * 2) 0) (48 + p / 10) && eqb (get_or PAIRS (p * 2 + 1) 0) (48 + p % 10)) && are_pairs p
+pub length_three : (n : ℕ) → 100 ≤ n → n < 1000 → length (decimal n) ≡ 3
+length_three n lo hi = length_pair n lo (omega arith) ∙ ap (λ k. k + 2) (length_one (n / 100) (omega arith))
 
-below : (n p : ℕ) → T (are_pairs n) → p < n → (get_or PAIRS (p * 2) 0 ≡ 48 + p / 10) × (get_or PAIRS (p * 2 + 1) 0 ≡ 48 + p % 10)
-below zero p t h = absurd (omega arith)
-below (suc n) p t h =
-    elim (eq-zero-or-pos (n - p)) [
-      | inl z ↦ let e : p ≡ n = omega arith in let a = and_l _ (are_pairs n) t in rw e (eqb→eq _ _ (and_l _ _ a), eqb→eq _ _ (and_r _ _ a))
-      | inr g ↦ below n p (and_r _ (are_pairs n) t) (omega arith)
-    ]
+pub length_of_four : (n : ℕ) → 1000 ≤ n → n < 10000 → length (decimal n) ≡ 4
+length_of_four n lo hi = length_pair n (omega arith) (omega arith) ∙ ap (λ k. k + 2) (length_two (n / 100) (omega arith) (omega arith))
 
--- the digits in the table
-pub pairs_at : (p : ℕ) → p < 100 → (get_or PAIRS (p * 2) 0 ≡ 48 + p / 10) × (get_or PAIRS (p * 2 + 1) 0 ≡ 48 + p % 10)
-pairs_at p h = below 100 p tt h
+pub length_five : (n : ℕ) → 10000 ≤ n → n < 100000 → length (decimal n) ≡ 5
+length_five n lo hi = length_four n lo (omega arith) ∙ ap (λ k. k + 4) (length_one (n / 10000) (omega arith))
+
+pub length_six : (n : ℕ) → 100000 ≤ n → n < 1000000 → length (decimal n) ≡ 6
+length_six n lo hi = length_four n (omega arith) (omega arith) ∙ ap (λ k. k + 4) (length_two (n / 10000) (omega arith) (omega arith))
+
+pub length_seven : (n : ℕ) → 1000000 ≤ n → n < 10000000 → length (decimal n) ≡ 7
+length_seven n lo hi = length_four n (omega arith) (omega arith) ∙ ap (λ k. k + 4) (length_three (n / 10000) (omega arith) (omega arith))
+
+pub length_eight : (n : ℕ) → 10000000 ≤ n → n < 100000000 → length (decimal n) ≡ 8
+length_eight n lo hi = length_four n (omega arith) (omega arith) ∙ ap (λ k. k + 4) (length_of_four (n / 10000) (omega arith) (omega arith))
+
+-- eight digits more than what is left of them
+pub length_more : (n : ℕ) → 100000000 ≤ n → n < 2 ^ 64 → length (decimal n) ≡ length (decimal (n / 100000000)) + 8
+length_more n lo hi =
+    let same : n / 10000 / 10000 ≡ n / 100000000 = omega arith in
+    length_four n (omega arith) hi ∙ ap (λ k. k + 4) (length_four (n / 10000) (omega arith) (omega arith) ∙ ap (λ m. length (decimal m) + 4) same) ∙ omega arith
 
 -- ---- In place
 
--- two bytes were put
-pub pair_put : (old : List ℕ) (at a b : ℕ) → at + 2 ≤ length old → take (at + 2) (set (set old at a) (at + 1) b) ≡ take at old ++ a ∷ b ∷ []
-pair_put old at a b room =
-    let within : at + 1 < length (set old at a) = omega (arith, length-set old at a) in
-    let moved : at + 2 ≡ at + 1 + 1 = omega arith in
-    ap (λ n. take n (set (set old at a) (at + 1) b)) moved
-    ∙ take_more_set (set old at a) (at + 1) b within
-    ∙ ap (λ l. l ++ b ∷ []) (take_more_set old at a (omega arith))
-    ∙ append_assoc (take at old) (a ∷ []) (b ∷ [])
-
--- a number of one digit was put
-pub one_put : (old : List ℕ) (at number : ℕ) → at < length old → number < 10 → take (at + 1) (set old at (48 + number)) ≡ take at old ++ decimal number
-one_put old at number below small = take_more_set old at (48 + number) below ∙ ap (λ l. take at old ++ l) (sym (decimal_digit number small))
-
--- a number of two digits
-pub two_put : (before after : List ℕ) (number : ℕ) → 10 ≤ number → number < 100 → after ≡ before ++ pair number → after ≡ before ++ decimal number
-two_put before after number large small put = put ∙ ap (λ l. before ++ l) (sym (decimal_two number large small))
-
--- the last two digits after the others
-pub pair_after : (before first after : List ℕ) (number : ℕ) → 100 ≤ number → number < 2 ^ 64 → first ≡ before ++ decimal (number / 100) → after ≡ first ++ pair (number % 100) → after ≡ before ++ decimal number
-pair_after before first after number large fits put more =
-    more
-    ∙ ap (λ l. l ++ pair (number % 100)) put
-    ∙ append_assoc before (decimal (number / 100)) (pair (number % 100))
-    ∙ ap (λ l. before ++ l) (sym (decimal_pair number large fits))
-
--- the last four digits after the others
-pub four_after : (before first third after : List ℕ) (number : ℕ) → 10000 ≤ number → number < 2 ^ 64 → first ≡ before ++ decimal (number / 10000) → third ≡ first ++ pair (number % 10000 / 100) → after ≡ third ++ pair (number % 10000 % 100) → after ≡ before ++ decimal number
-four_after before first third after number large fits put more last =
-    let a : List ℕ = pair (number % 10000 / 100) in
-    let b : List ℕ = pair (number % 10000 % 100) in
-    last
-    ∙ ap (λ l. l ++ b) (more ∙ ap (λ l. l ++ a) put)
-    ∙ append_assoc (before ++ decimal (number / 10000)) a b
-    ∙ append_assoc before (decimal (number / 10000)) (a ++ b)
-    ∙ ap (λ l. before ++ l) (sym (decimal_four number large fits))
+-- bytes were put at a place, and nothing before it was changed
+pub placed_at : (old new later bytes : List ℕ) (at end : ℕ) → end ≡ at + length bytes → take at new ≡ take at old → drop at new ≡ bytes ++ later → take end new ≡ take at old ++ bytes
+placed_at old new later bytes at end moved before written =
+    ap (λ n. take n new) moved
+    ∙ take-add at (length bytes) new
+    ∙ ap (λ l. take at new ++ take (length bytes) l) written
+    ∙ ap (λ l. take at new ++ l) (take_at bytes later (length bytes) refl)
+    ∙ ap (λ l. l ++ bytes) before
 
 -- bytes were put in the middle
 pub bytes_put : (old bytes : List ℕ) (at n len : ℕ) → at ≤ length old → n ≤ length bytes → take (at + n) (put_mid at len old bytes) ≡ take at old ++ take n bytes

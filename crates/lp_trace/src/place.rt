@@ -1,85 +1,14 @@
 //! Numbers and short texts that are put into a text in place.
-ghost use Rattle.std.specs.Prelude.{◌≡◌, ℕ, ◌<◌, ◌≤◌, ◌+◌, ◌*◌, ◌/◌, ◌%◌, ◌∷◌, ◌++◌, [], decimal, length, map, take};
+ghost use Rattle.std.specs.Prelude.{◌≡◌, ℕ, ◌<◌, ◌≤◌, ◌+◌, ◌*◌, ◌∷◌, ◌++◌, [], decimal, length, map, take};
 ghost use Rattle.std.specs.List.{flat_map};
 ghost use Rattle.lp_definitions.specs.Events.{group_numbers};
 ghost use Rattle.lp_text.specs.inside.Writing.{line_rest};
 
-use itoa::Buffer;
+use itoa::write_digits;
 use lp_stack::GroupId;
 
 /// The room of a short text: two words of eight bytes, so that a copy is two stores.
 pub(crate) const SHORT: usize = 16;
-
-/// The numbers below 100, two digits each.
-static PAIRS: [u8; 200] =
-    *b"00010203040506070809101112131415161718192021222324252627282930313233343536373839404142434445464748495051525354555657585960616263646566676869707172737475767778798081828384858687888990919293949596979899";
-
-/// Puts two digits after the first `at` bytes.
-#[inline(always)]
-fn place_pair(text: &mut [u8], at: usize, number: u64)
-    requires small { number < 100 }
-    requires room { at + 2 ≤ length text.old }
-    ensures placed { take (at + 2) text.new ≡ take at text.old ++ (48 + number / 10) ∷ (48 + number % 10) ∷ [] }
-    ensures size { length text.new ≡ length text.old }
-{
-    let from = number as usize * 2;
-    let (tens, ones) = (PAIRS[from], PAIRS[from + 1]);
-    text[at] = tens;
-    text[at + 1] = ones;
-}
-
-/// Puts a number of one or two digits after the first `at` bytes, and gives where it ends.
-#[inline(always)]
-fn place_two(text: &mut [u8], at: usize, number: u64) -> usize
-    requires small { number < 100 }
-    requires room { at + 2 ≤ length text.old }
-    ensures placed { take result text.new ≡ take at text.old ++ decimal number }
-    ensures near { result ≤ at + 2 }
-    ensures size { length text.new ≡ length text.old }
-{
-    if number < 10 {
-        text[at] = b'0' + number as u8;
-        return at + 1;
-    }
-    place_pair(text, at, number);
-    at + 2
-}
-
-/// Puts a number of at most four digits after the first `at` bytes, and gives where it ends.
-///
-/// The first digits go first: from the last to the first, the digits would have to be counted before.
-#[inline(always)]
-fn place_four(text: &mut [u8], at: usize, number: u64) -> usize
-    requires small { number < 10000 }
-    requires room { at + 4 ≤ length text.old }
-    ensures placed { take result text.new ≡ take at text.old ++ decimal number }
-    ensures near { result ≤ at + 4 }
-    ensures size { length text.new ≡ length text.old }
-{
-    if number < 100 {
-        return place_two(text, at, number);
-    }
-    let end = place_two(text, at, number / 100);
-    place_pair(text, end, number % 100);
-    end + 2
-}
-
-/// Puts a number of five to eight digits after the first `at` bytes, and gives where it ends.
-#[inline(always)]
-fn place_eight(text: &mut [u8], at: usize, number: u64) -> usize
-    requires large { 10000 ≤ number }
-    requires small { number < 100000000 }
-    requires room { at + 8 ≤ length text.old }
-    ensures placed { take result text.new ≡ take at text.old ++ decimal number }
-    ensures near { result ≤ at + 8 }
-    ensures size { length text.new ≡ length text.old }
-{
-    let end = place_four(text, at, number / 10_000);
-    let last = number % 10_000;
-    place_pair(text, end, last / 100);
-    place_pair(text, end + 2, last % 100);
-    end + 4
-}
 
 /// Puts bytes after the first `at` ones, and gives where they end.
 #[inline(always)]
@@ -94,17 +23,43 @@ pub(crate) fn place_slice(text: &mut [u8], at: usize, bytes: &[u8]) -> usize
     end
 }
 
-/// Puts a number after the first `at` bytes, and gives where it ends. Out of line, as hardly a number of a report has more
-/// than eight digits.
-#[inline(never)]
-fn place_long(text: &mut [u8], at: usize, number: u64) -> usize
-    requires { at + 20 ≤ length text.old }
-    ensures placed { take result text.new ≡ take at text.old ++ decimal number }
-    ensures near { result ≤ at + 20 }
-    ensures size { length text.new ≡ length text.old }
+/// How many digits a number has.
+///
+/// Digits are written from the last to the first, so a number that begins at a place needs its end.
+#[inline(always)]
+fn digit_count(number: u64) -> usize
+    ensures { result ≡ length (decimal number) }
 {
-    let mut buffer = Buffer::new();
-    place_slice(text, at, buffer.format(number).as_bytes())
+    let mut left = number;
+    let mut more = 0;
+    while left >= 100_000_000 {
+        left /= 100_000_000;
+        more += 8;
+    }
+    more + short_count(left)
+}
+
+/// How many digits a number of at most eight has.
+#[inline(always)]
+fn short_count(number: u64) -> usize
+    requires { number < 100000000 }
+    ensures { result ≡ length (decimal number) }
+{
+    if number < 10_000 {
+        if number < 100 {
+            if number < 10 { 1 } else { 2 }
+        } else if number < 1_000 {
+            3
+        } else {
+            4
+        }
+    } else if number < 1_000_000 {
+        if number < 100_000 { 5 } else { 6 }
+    } else if number < 10_000_000 {
+        7
+    } else {
+        8
+    }
 }
 
 /// Puts a number after the first `at` bytes, and gives where it ends.
@@ -115,13 +70,9 @@ pub(crate) fn place_number(text: &mut [u8], at: usize, number: u64) -> usize
     ensures near { result ≤ at + 20 }
     ensures size { length text.new ≡ length text.old }
 {
-    if number < 10_000 {
-        place_four(text, at, number)
-    } else if number < 100_000_000 {
-        place_eight(text, at, number)
-    } else {
-        place_long(text, at, number)
-    }
+    let end = at + digit_count(number);
+    write_digits(number, text, end);
+    end
 }
 
 /// Puts a number after a space after the first `at` bytes, and gives where it ends.

@@ -134,9 +134,7 @@ fn put_events<W: Write>(
     put_replies(page, writer, form, short, lists)
 }
 
-/// Puts the lines of these replies, to which these lists of groups belong. Out of line, so that nothing else of the report takes
-/// registers from its loop.
-#[inline(never)]
+/// Puts the lines of these replies, to which these lists of groups belong.
 fn put_replies<W: Write>(
     page: &mut Page,
     writer: &mut Counted<W>,
