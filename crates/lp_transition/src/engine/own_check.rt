@@ -63,24 +63,9 @@ impl<M: Consistency> Core<M> {
             self.take_refused(event, why);
             return Ok(refused(why));
         }
-        if self.passes_by(kind, task) {
-            self.take_own_check(kind, task, false);
-            return Ok(done());
-        }
         let reply = self.answer_own_check(alloc, kind, task)?;
         self.take_own_check(kind, task, is_switched(&reply.what));
         Ok(reply)
-    }
-
-    /// Whether a task doesn't wait. An accepted check of its own then switches nobody, whatever the model says.
-    #[inline(always)]
-    fn passes_by(&self, kind: CheckKind, task: TaskId) -> bool
-        requires own_check { is_own_kind kind ≡ true }
-        requires room { self.now.number < 1000000 }
-        requires accepted { refusal_of M.rules (state_in self.now) (own_check_event kind task) ≡ None }
-        ensures { IsTrue result → answer M.rules (state_in self.now) (own_check_event kind task) ≡ record { what = What.Done; completed = false } }
-    {
-        !self.waiting.contains(task.0)
     }
 
     /// The answer to an accepted own check; AllocError where an allocation failed, which
@@ -97,10 +82,12 @@ impl<M: Consistency> Core<M> {
         ensures memory { IsErr result → IsTrue (is_switched (answer M.rules (state_in self.now) (own_check_event kind task)).what) }
         ensures answer { IfOk result (λ reply. reply ≡ answer M.rules (state_in self.now) (own_check_event kind task)) }
     {
-        let waits_alone = is_only(&self.waiting, task.0);
+        // For the proof alone, which knows what every value keeps once a field is read.
+        let _ = &self.tasks;
         if !self.own_check_switches(kind, task) {
             return Ok(done());
         }
+        let waits_alone = is_only(&self.waiting, task.0);
         let groups = one_group(alloc, group_of(&self.tasks, task))?;
         Ok(Reply {
             what: What::Switched(groups),
@@ -115,12 +102,13 @@ impl<M: Consistency> Core<M> {
         requires accepted { refusal_of M.rules (state_in self.now) (own_check_event kind task) ≡ None }
         ensures { ForSome (slot self.now.table task.0) (λ x. result ≡ switches_at M.rules (affected M.rules (state_in self.now) (own_check_event kind task)) (own_check_event kind task) x.group) }
     {
-        let Some(live) = self.tasks.get(task) else {
-            return false;
-        };
+        // First, as nearly all tasks that check themselves don't wait.
         if !self.waiting.contains(task.0) {
             return false;
         }
+        let Some(live) = self.tasks.get(task) else {
+            return false;
+        };
         let alone = self.tasks.is_alone(live.group(), task);
         if !alone {
             return false;

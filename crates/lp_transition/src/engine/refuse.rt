@@ -16,7 +16,7 @@ impl<M: Consistency> Core<M> {
     /// Why an event is refused: the first refusal that fits; None where it is accepted.
     #[tactic(auto, unfolding(lp_machine::specs::Machine::refusal_of))]
     #[inline(always)]
-    pub(super) fn refusal(&self, event: Event) -> Option<Refusal>
+    pub fn refusal(&self, event: Event) -> Option<Refusal>
         ensures { result ≡ refusal_of M.rules (state_in self.now) event }
     {
         let symbols = self.patches.symbols();

@@ -18,7 +18,6 @@ returns-then-not-contains g c = λ x there.
     let i = c.self.inside in
     let h : c.args.task.0 < 65536 = omega arith in
     let at : slot i.tasks c.args.task.0 ≡ Some x = ap (λ e. slot e.table c.args.task.0) c.self.view_is ∙ there in
-    let is : c.in-Some.live ≡ x = let both = c.in-Some.ensures.value ∙ at in cc in
     asks g.M.Consistency.rules g.met.M.Consistency.lawful (record { number = i.events; from = i.from.0; target = i.target.0; patches = i.patches; table = i.tasks; blames = i.blames; last_scan = told_scan i.unchanged }) i.waiting c.self.invariant.engine (own_check_event c.args.kind c.args.task) c.args.kind c.args.task.0 h (at_own_check c.args.kind) (own_check-level c.args.kind) (own_check-group c.args.kind) x at (own_check-checks _ _ c.args.kind c.args.task c.requires.own_check) c.args.self.now c.self.view_is (own_check-own _ _ c.args.kind c.args.task _) false (sym c.if-not-contains.ensures.member) true (λ waits. absurd (false≢true waits))
 
 pub returns-then-not-alone : goal.returns-then-not-alone

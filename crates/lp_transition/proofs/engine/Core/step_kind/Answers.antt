@@ -13,14 +13,7 @@ returns-in-Some-clause-step g c =
 
 pub returns-clause-step : goal.returns-clause-step
 returns-clause-step g c =
-    rw c.requires.event (is_step g.M.Consistency.rules g.met.M.Consistency.lawful (state_in c.args.self.now) (state_in c.take_own_check-2.new.self) (own_check_event c.args.kind c.args.task) c.in_ok-reply.reply c.in_ok-reply.ensures.answer c.take_own_check-2.ensures.state)
+    rw c.requires.event (is_step g.M.Consistency.rules g.met.M.Consistency.lawful (state_in c.args.self.now) (state_in c.take_own_check.new.self) (own_check_event c.args.kind c.args.task) c.in_ok-reply.reply c.in_ok-reply.ensures.answer c.take_own_check.ensures.state)
 
 pub returns-clause-last_scan : goal.returns-clause-last_scan
 returns-clause-last_scan g c = grind (arith, common_steps)
-
-pub returns-then-passes_by-clause-step : goal.returns-then-passes_by-clause-step
-returns-then-passes_by-clause-step g c =
-    rw c.requires.event (is_step g.M.Consistency.rules g.met.M.Consistency.lawful (state_in c.args.self.now) (state_in c.take_own_check.new.self) (own_check_event c.args.kind c.args.task) c.done.result (c.done.ensures ∙ sym (c.passes_by.ensures c.if-passes_by.true)) c.take_own_check.ensures.state)
-
-pub returns-then-passes_by-clause-last_scan : goal.returns-then-passes_by-clause-last_scan
-returns-then-passes_by-clause-last_scan g c = grind (arith, common_steps)
