@@ -125,7 +125,7 @@ module _ (model : Rules) where
       let came : leg.number + length leg.events ≡ 0 + 0 + length run.events = number_after (first_leg model run) run.events in
       omega (arith, there, came)
 
-  number_up : (run : Run) (event : Event) (old new : Engine) → StandsIn model run (state_in old) → StandsIn model (plus run event) (state_in new) → new.number ≡ old.number + 1
+  pub number_up : (run : Run) (event : Event) (old new : Engine) → StandsIn model run (state_in old) → StandsIn model (plus run event) (state_in new) → new.number ≡ old.number + 1
   number_up run event old new before after =
       omega (arith, number_is run old before, number_is (plus run event) new after, length-append run.events (event ∷ []))
 

@@ -33,6 +33,8 @@ pub mod Making
 pub mod Ending
 pub mod Noted
 pub mod NotedBy
+pub mod PlainEvents
+pub mod FramelessChecks
 pub mod Passed
 pub mod Upto
 pub mod QuietScans

@@ -184,18 +184,18 @@ module _ (model : Rules) (lawful : IsLawful model) (e : Engine) (sound : IsSound
       module _ (unended : old.completed ≡ None) where
         completes_now : step.reply.completed ≡ true → open_end number later new ≡ end_of model (and_then leg event)
         completes_now now =
-            let done = gone.completes unended now in
-            let floor = done.0 in
+            let done = (gone.completes unended now).1 in
+            let floor = done.floor in
             let complete : is_complete_now model (and_then leg event) ≡ true = sym (completes_is (incomplete_if model lawful leg leg_sound (no_moment noted old before was unended))) ∙ now in
             let moment : completion model (and_then leg event) ≡ Some (suc k) = completion_now model lawful leg leg_sound event (no_moment noted old before was unended) true complete in
             let at : number ≡ leg.number + suc k = omega (arith, numbered, number_is) in
             let upto : number - 1 ≡ leg.number + k = omega (arith, at) in
             let certs : map (kept_cert Floor old.opened (number - 1) before.reasons.lists before.reasons.scans) (floor_waiters before.reasons floor) ≡ certs_by model (and_then leg event) (Some (suc k)) =
             ap₂ (λ a b. map (kept_cert Floor a b before.reasons.lists before.reasons.scans) (floor_waiters before.reasons floor)) (opened_same noted old before was unended) upto
-            ∙ (floor_from leg.number (leg.number + k) before floor done.3 done.4 (waits_in (state_in e)) (lines model leg k) (lines_before noted old before was unended)
+            ∙ (floor_from leg.number (leg.number + k) before floor done.least done.few (waits_in (state_in e)) (lines model leg k) (lines_before noted old before was unended)
             ∙ (ap (λ (s : State). map (cert_for Floor leg.number (leg.number + k) (lines model leg k)) (take 1 (filter (waits_in s) (range_with_len 0 65536)))) there
             ∙ (sym (floor_are model leg tasks_are) ∙ sym (past_floor model leg event k (omega arith))))) in
-            ap₂ (λ (w : WaitingGroups) (l : OpenLeg). open_end number w l) done.2 done.1
+            ap₂ (λ (w : WaitingGroups) (l : OpenLeg). open_end number w l) (gone.completes unended now).0 done.now
             ∙ (ap₂ (λ (a b : ℕ). let l : LegEnd = record { opened = a; target = record { 0 = b }; completed = Some number; certs = map (kept_cert Floor old.opened (number - 1) before.reasons.lists before.reasons.scans) (floor_waiters before.reasons floor) } in l) (opened_same noted old before was unended) (target_same noted old before was unended)
             ∙ ap₂ (λ (o : Option ℕ) (cs : List Cert). let l : LegEnd = record { opened = leg.number; target = record { 0 = leg.target }; completed = o; certs = cs } in l)
             (ap {A = ℕ} {B = Option ℕ} Some at ∙ ap (option_map (λ m. leg.number + m)) (sym moment))

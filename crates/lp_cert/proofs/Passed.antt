@@ -10,7 +10,7 @@ use Rattle.lp_definitions.specs.declared.event.Event.{Event}
 use Rattle.lp_definitions.specs.declared.event.Event.TheVariants.{Call, Ret, Sleep, Wake, Enter}
 use Rattle.lp_definitions.specs.declared.refusal.Refusal.{Refusal}
 use Rattle.lp_definitions.specs.declared.reply.Reply.{Reply}
-use Rattle.lp_definitions.specs.Events.{is_control}
+use Rattle.lp_definitions.specs.Events.{is_control, is_scan}
 use Rattle.lp_definitions.specs.TaskEvents.{is_quiet}
 use Rattle.lp_definitions.specs.Tasks.{change}
 use Rattle.lp_definitions.specs.Leg.{LegTask, State, each_live, each_task}
@@ -19,23 +19,21 @@ use Rattle.lp_machine.specs.Machine.{complete_in, affected, answer, calling, swi
 use Rattle.lp_transition.specs.inside.ScanSteps.{groups_of}
 use Rattle.lp_machine.specs.Steps.{StandsIn}
 use Rattle.lp_machine.specs.Table.{Engine, state_in}
-use Rattle.lp_transition.specs.Weigh.{Weighed, IsWeighed, born_of, refusal_in, AreVerdictsFor}
+use Rattle.lp_transition.specs.Weigh.{Weighed, refusal_in}
 use Rattle.lp_machine.proofs.Alone.{same-after}
 use Rattle.lp_machine.proofs.EngineLemmas.{answer-refused, answer-accepted, is_unchecked, unchecked-control, unchecked-stays, switched-still}
 use Rattle.lp_transition.proofs.SwitchedGroups.{switched-none}
 use Rattle.lp_model.specs.declared.check.CheckKind.{CheckKind}
 use Rattle.lp_definitions.specs.declared.line.Line.{Line}
-use Rattle.lp_definitions.specs.Certificates.{lines}
 use Rattle.lp_cert.specs.declared.open_leg.OpenLeg.{OpenLeg}
-use Rattle.lp_cert.specs.Ends.{Made, IsMadeWith, is_opening}
+use Rattle.lp_cert.specs.Ends.{Made, IsMadeWith}
 use Rattle.lp_cert.specs.Invariant.{open_end}
-use Rattle.lp_cert.specs.inside.Invariant.{IsStepped}
+use Rattle.lp_cert.specs.inside.Invariant.{IsStepped, plain_step}
 use Rattle.lp_cert.specs.Waiters.{WaitingGroups}
 use Rattle.lp_cert.specs.inside.Waiters.{lines_at, HasFewGroups, own_lines}
 use Rattle.lp_cert.specs.inside.StepLines.{noted_by, noted_lines}
 use Rattle.lp_transition.specs.LastScan.{IsLastScanAfter, used_scan}
-use Rattle.lp_cert.proofs.ScanTold.{TellsOrUnchanged}
-use Rattle.lp_cert.proofs.Noted.{none_made, still_made}
+use Rattle.lp_cert.proofs.PlainEvents.{HasGoneOn, no_used, plain_made}
 
 quiet : (event : Event) → is_quiet event ≡ true → is_unchecked event ≡ true
 quiet (Call t f) h = refl
@@ -105,34 +103,20 @@ few e (Wake t) plain = tt
 few e (Enter t) plain = tt
 few e _ plain = cc
 
-no_verdicts : (model : Rules) (s : State) (event : Event) → is_quiet event ≡ true → AreVerdictsFor model s event []
-no_verdicts model s (Call t f) plain = refl
-no_verdicts model s (Ret t) plain = refl
-no_verdicts model s (Sleep t) plain = refl
-no_verdicts model s (Wake t) plain = refl
-no_verdicts model s (Enter t) plain = refl
-no_verdicts model s _ plain = cc
-
-no_used : (model : Rules) (event : Event) → is_quiet event ≡ true → used_scan model event ≡ None
-no_used model (Call t f) plain = refl
-no_used model (Ret t) plain = refl
-no_used model (Sleep t) plain = refl
-no_used model (Wake t) plain = refl
-no_used model (Enter t) plain = refl
-no_used model _ plain = cc
+unscanned : (event : Event) → is_quiet event ≡ true → is_scan event ≡ false
+unscanned (Call t f) plain = refl
+unscanned (Ret t) plain = refl
+unscanned (Sleep t) plain = refl
+unscanned (Wake t) plain = refl
+unscanned (Enter t) plain = refl
+unscanned _ plain = cc
 
 module _ (model : Rules) (lawful : IsLawful model) (run : Run) (e : Engine) (stands : StandsIn model run (state_in e)) (event : Event) (plain : is_quiet event ≡ true) (room : e.number < 1000000) where
   abbrev step : Weighed
-  step = record { event = event; reply = answer model (state_in e) event; verdicts = []; born = born_of model (state_in e) event }
+  step = plain_step model e event
 
-  weighed : IsWeighed model e step
-  weighed = record { room = room; reply = refl; born = refl; verdicts = no_verdicts model (state_in e) event plain }
-
-  opens_none : is_opening step ≡ false
-  opens_none = ap (λ b. b && is_none (refusal_in step.reply.what)) (unchecked-control model event (quiet event plain))
-
-  suffices : TellsOrUnchanged model (state_in e) (lines model (leg_of model run) (length (leg_of model run).events)) (used_scan model event) []
-  suffices = subst (λ (o : Option CheckKind). TellsOrUnchanged model (state_in e) (lines model (leg_of model run) (length (leg_of model run).events)) o []) (sym (no_used model event plain)) tt
+  unused : used_scan model event ≡ None
+  unused = no_used model event (unscanned event plain)
 
   continues : (number : ℕ) (leg : OpenLeg) (waiters : WaitingGroups) → IsStepped model e step number leg leg waiters waiters
   continues number leg waiters =
@@ -144,7 +128,7 @@ module _ (model : Rules) (lawful : IsLawful model) (run : Run) (e : Engine) (sta
           refl,
           λ group. same (is_none (refusal_in step.reply.what)) (lines_at waiters) group ∙ noted (is_none (refusal_in step.reply.what)) group,
           λ accepted. few e event plain,
-          λ used accepted. absurd (false≢true (subst IsSome (no_used model event plain) used)),
+          λ used accepted. absurd (false≢true (subst IsSome unused used)),
         );
       }
     where
@@ -159,13 +143,15 @@ module _ (model : Rules) (lawful : IsLawful model) (run : Run) (e : Engine) (sta
           → (if accepted then (if list_any (nat_eq group) (groups_of step.reply.what) then None else own_lines model e event [] (lines_at waiters) group) else lines_at waiters group)
           ≡ (if accepted then (if list_any (nat_eq group) (groups_of step.reply.what) then None else noted_lines model e event [] waiters group) else lines_at waiters group)
       noted accepted group =
-          ap (λ (o : Option CheckKind). if accepted then (if list_any (nat_eq group) (groups_of step.reply.what) then None else noted_by model e o event [] waiters group) else lines_at waiters group) (sym (no_used model event plain))
+          ap (λ (o : Option CheckKind). if accepted then (if list_any (nat_eq group) (groups_of step.reply.what) then None else noted_by model e o event [] waiters group) else lines_at waiters group) (sym unused)
 
   -- what is made of the run with the event more
   pub passed : (made new : Made) → IsMadeWith model run e.last_scan made → (after : Engine) → StandsIn model (plus run event) (state_in after) → IsLastScanAfter model e event after → new.ended ≡ made.ended
       → (noted number : ℕ) (waiters : WaitingGroups) → number ≡ e.number + 1 → (current : Option OpenLeg) → made.current ≡ option_map (open_end noted waiters) current → new.current ≡ option_map (open_end number waiters) current
       → IsMadeWith model (plus run event) after.last_scan new
-  passed made new is after stands_after known ended noted number waiters numbered None was later =
-      none_made model lawful run e stands step weighed made new is after stands_after known opens_none ended was later
-  passed made new is after stands_after known ended noted number waiters numbered (Some leg) was later =
-      still_made model lawful run e stands step weighed made new is after stands_after known opens_none ended noted number leg leg waiters waiters numbered (continues number leg waiters) (λ unended now. suffices) was later
+  passed made new is after stands_after known ended noted number waiters numbered current =
+      plain_made model lawful run e stands event (unscanned event plain) (unchecked-control model event (quiet event plain)) room made new is after stands_after known ended noted number numbered waiters waiters current current (gone current)
+    where
+      gone : (leg : Option OpenLeg) → HasGoneOn model e event number leg leg waiters waiters
+      gone None = tt
+      gone (Some leg) = continues number leg waiters

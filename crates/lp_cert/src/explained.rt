@@ -1,6 +1,7 @@
 //! An engine that explains itself: the maker of certificates notes each event as the engine takes it.
 ghost use Rattle.std.specs.Prelude.{◌≡◌, ◌≢◌, ◌++◌, ◌<◌, [], None, true, is_some, option_to_list, IfOk, OnErr, OnOk};
 ghost use Rattle.std.specs.Option.{option_map};
+ghost use Rattle.lp_definitions.specs.Events.{is_control};
 ghost use Rattle.lp_definitions.specs.TaskEvents.{is_own_check};
 ghost use Rattle.lp_definitions.specs.Run.{Run, plus};
 ghost use Rattle.lp_machine.specs.Steps.{IsStep, StandsIn};
@@ -9,6 +10,7 @@ ghost use Rattle.lp_transition.specs.Blames.{HasBlamesAfter};
 ghost use Rattle.lp_transition.specs.Scan.{is_scan_kind, scan_event};
 ghost use Rattle.lp_cert.specs.Ends.{IsMadeWith, cert_upto, ends_left, floor_in, is_complete_in, waiting_in};
 ghost use Rattle.lp_cert.specs.Explained.{IsExplained};
+ghost use Rattle.lp_cert.specs.inside.StepLines.{is_frameless_check};
 
 use crate::leg_list::{LegEnds, LegList};
 use crate::maker::Maker;
@@ -19,8 +21,9 @@ use lp_transition::{Core, Event, Halt, Reply};
 use std::alloc::{AllocError, Global};
 use std::marker::Model;
 
-/// An engine with the maker of its certificates, which notes each event before the engine takes it: noted later, the lines
-/// would be of the tasks as the event left them.
+/// An engine with the maker of its certificates. An event that may give a group a line is noted before the engine takes it: noted
+/// later, the line would be of the tasks as the event left them. Exits, idle points and control events give none, and are noted
+/// by their answers.
 ///
 /// Contracts see the engine, the ends of the legs that ended, and the end of the leg under way as it stands.
 pub struct ExplainedCore<M: Consistency> {
@@ -159,8 +162,54 @@ fn take<M: Consistency>(
     match event {
         Event::Walk => take_scan(alloc, core, maker, CheckKind::Walk, event),
         Event::Stop => take_scan(alloc, core, maker, CheckKind::Stop, event),
+        Event::Exit(_) | Event::Idle(_) => take_own_check(alloc, core, maker, event),
+        Event::Enable | Event::Disable | Event::Reverse => {
+            take_control(alloc, core, maker, event)
+        }
         _ => take_weighed(alloc, core, maker, event),
     }
+}
+
+/// Takes an exit or an idle point: what it does to the leg is told by its answer alone, and wants no memory.
+fn take_own_check<M: Consistency>(
+    alloc: Global,
+    core: &mut Core<M>,
+    maker: &mut Maker,
+    event: Event,
+) -> Result<Reply, AllocError>
+    requires frameless { is_frameless_check event ≡ true }
+    requires room { core.old.number < 1000000 }
+    ensures step { IfOk result (λ reply. IsStep M.rules (state_in core.old) event reply (state_in core.new)) }
+    ensures made { OnOk result ((run : Run) → StandsIn M.rules run (state_in core.old) → IsMadeWith M.rules run core.old.last_scan maker.old → IsMadeWith M.rules (plus run event) core.new.last_scan maker.new) }
+    ensures blames { OnOk result (HasBlamesAfter M.rules core.old event core.new) }
+    ensures unchanged { OnErr result (core.new ≡ core.old) }
+    ensures left { OnErr result (maker.new ≡ maker.old) }
+{
+    let reply = core.step_own_check(alloc, event)?;
+    maker.note_own_check(core, &reply);
+    Ok(reply)
+}
+
+/// Takes a control event: one that is accepted opens a leg; of any other there is nothing to note but that it came.
+fn take_control<M: Consistency>(
+    alloc: Global,
+    core: &mut Core<M>,
+    maker: &mut Maker,
+    event: Event,
+) -> Result<Reply, AllocError>
+    requires control { is_control event ≡ true }
+    requires room { core.old.number < 1000000 }
+    ensures step { IfOk result (λ reply. IsStep M.rules (state_in core.old) event reply (state_in core.new)) }
+    ensures made { OnOk result ((run : Run) → StandsIn M.rules run (state_in core.old) → IsMadeWith M.rules run core.old.last_scan maker.old → IsMadeWith M.rules (plus run event) core.new.last_scan maker.new) }
+    ensures blames { OnOk result (HasBlamesAfter M.rules core.old event core.new) }
+    ensures unchanged { OnErr result (core.new ≡ core.old) }
+    ensures ended { OnErr result (maker.new.ended ≡ maker.old.ended) }
+    ensures current { OnErr result (maker.new.current ≡ maker.old.current) }
+{
+    if core.refusal(event).is_some() {
+        return take_weighed(alloc, core, maker, event);
+    }
+    maker.open_leg(alloc, core, event)
 }
 
 /// Takes a walk or a stop: without a look at anybody where no group has to be asked, since then it switches nobody and each

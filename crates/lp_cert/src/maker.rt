@@ -13,6 +13,7 @@ ghost use Rattle.lp_cert.specs.inside.LegRows.{HasRoomFor};
 ghost use Rattle.lp_cert.specs.inside.Waiters.{HasHeadFor, HasHeads, lines_at};
 ghost use Rattle.std.specs.Option.{option_map};
 
+mod control;
 mod own_check;
 mod passed;
 mod quiet_scan;
@@ -21,7 +22,7 @@ use crate::cert_list::CertList;
 use crate::leg_end::LegEnd;
 use crate::leg_list::{LegEnds, LegList};
 use crate::leg_rows::LegRows;
-use crate::open_leg::{Completion, OpenLeg};
+use crate::open_leg::OpenLeg;
 use crate::opening::opens_leg;
 use crate::waiter_steps::untold;
 use crate::waiters::Waiters;
@@ -285,14 +286,7 @@ fn step_leg<M: Consistency>(
     ensures noted { IsNoted M.rules core.now step.now number leg.old leg.new waiters.old waiters.new }
     ensures floor { HasFloor waiters.new leg.new.completed }
 {
-    if leg.completed.is_some() {
-        return;
-    }
-    if step.reply().completed {
-        leg.completed = Some(Completion {
-            at: number,
-            floor: waiters.least(),
-        });
+    if leg.is_over(number, step.reply(), waiters) {
         return;
     }
     match untold(core, step, waiters, told) {
@@ -322,19 +316,7 @@ fn opened<M: Consistency>(core: &Core<M>, step: &Step, number: u32) -> OpenLeg
     requires opens { is_opening step.now ≡ true }
     ensures { result ≡ leg_at number (new_target (state_in core.now) step.now.event) step.now.reply.completed }
 {
-    let completed = if step.reply().completed {
-        Some(Completion {
-            at: number,
-            floor: None,
-        })
-    } else {
-        None
-    };
-    OpenLeg {
-        opened: number,
-        target: core.new_level(step.event()),
-        completed,
-    }
+    OpenLeg::new(number, core.new_level(step.event()), step.reply().completed)
 }
 
 /// Where an event opens a leg, makes room for the end of the one under way, and makes its

@@ -1,9 +1,9 @@
 //! The leg under way.
-ghost use Rattle.std.specs.Prelude.{◌≡◌, [], ◌∷◌, length, IfOk, IfSome};
+ghost use Rattle.std.specs.Prelude.{◌≡◌, ◌||◌, [], ◌∷◌, true, false, None, Some, is_some, length, IfOk, IfSome};
 ghost use Rattle.std.specs.Option.{option_map};
 ghost use Rattle.lp_cert.specs.Invariant.{claim_of, end_waiters, floor_waiters, upto_of};
 ghost use Rattle.lp_cert.specs.Waiters.{waiter_in};
-ghost use Rattle.lp_cert.specs.inside.Invariant.{HasFloor, certs_at};
+ghost use Rattle.lp_cert.specs.inside.Invariant.{HasFloor, IsCompletedAt, certs_at, leg_at};
 ghost use Rattle.lp_cert.specs.inside.Waiters.{AreHeads};
 
 use crate::cert_list::CertList;
@@ -12,6 +12,7 @@ use crate::leg_end::LegEnd;
 use crate::waiters::Waiters;
 use lp_definitions::Claim;
 use lp_stack::{GroupId, Level};
+use lp_transition::Reply;
 use std::alloc::{AllocError, Global};
 
 /// When a leg was complete.
@@ -35,6 +36,25 @@ pub(crate) struct OpenLeg {
 }
 
 impl OpenLeg {
+    /// The leg that opens with an event, and is complete at once or isn't.
+    pub(crate) fn new(opened: u32, target: Level, is_complete: bool) -> OpenLeg
+        ensures { result ≡ leg_at opened target.0 is_complete }
+    {
+        let completed = if is_complete {
+            Some(Completion {
+                at: opened,
+                floor: None,
+            })
+        } else {
+            None
+        };
+        OpenLeg {
+            opened,
+            target,
+            completed,
+        }
+    }
+
     /// The end of the leg, with these certificates. Never allocates.
     pub(crate) fn end(self, certs: CertList) -> LegEnd
         ensures { result ≡ record { opened = self.opened; target = self.target; completed = option_map (λ done. done.at) self.completed; certs = certs } }
@@ -97,6 +117,29 @@ impl OpenLeg {
         let list = self.waiters(alloc, &waiters)?;
         let (chains, scans) = waiters.into_past();
         CertList::many(alloc, claim, self.opened, upto, list, chains, scans)
+    }
+
+    /// Whether an event that was answered so leaves nothing to note of the leg: it was complete, or is so from this event on, which
+    /// is kept. Never allocates.
+    pub(crate) fn is_over(&mut self, number: u32, reply: &Reply, waiters: &Waiters) -> bool
+        requires floor { HasFloor waiters.now self.old.completed }
+        ensures over { result ≡ (is_some self.old.completed || reply.now.completed) }
+        ensures complete { (done : Completion) → self.old.completed ≡ Some done → self.new ≡ self.old }
+        ensures completes { self.old.completed ≡ None → reply.now.completed ≡ true → IsCompletedAt number waiters.now self.old self.new }
+        ensures goes_on { result ≡ false → self.new ≡ self.old }
+        ensures floor { HasFloor waiters.now self.new.completed }
+    {
+        if self.completed.is_some() {
+            return true;
+        }
+        if !reply.completed {
+            return false;
+        }
+        self.completed = Some(Completion {
+            at: number,
+            floor: waiters.least(),
+        });
+        true
     }
 
     /// What the certificates claim.

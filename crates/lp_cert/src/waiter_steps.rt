@@ -173,7 +173,7 @@ impl Waiters {
     }
 
     /// The groups that an event switched wait no longer. Never allocates.
-    fn switch(&mut self, what: &What)
+    pub(crate) fn switch(&mut self, what: &What)
         ensures { (group : ℕ) → lines_at self.new group ≡ after_switch (groups_of what.now) (lines_at self.old) group }
     {
         if let What::Switched(groups) = what {

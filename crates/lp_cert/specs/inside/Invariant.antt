@@ -1,13 +1,15 @@
 -- What holds of a maker between events, and what an event makes of the leg under way.
-use Rattle.std.specs.Prelude.{◌≡◌, ℕ, ◌+◌, ◌<◌, ◌≤◌, Bool, true, false, List, length, map, reverse, Option, Some, None, IfSome, IsSome, is_some, if◌then◌else◌}
+use Rattle.std.specs.Prelude.{◌≡◌, ℕ, ◌+◌, ◌<◌, ◌≤◌, Bool, true, false, List, [], length, map, reverse, Option, Some, None, IfSome, IsSome, is_some, if◌then◌else◌}
 use Rattle.std.specs.Option.{option_map}
 use Rattle.lp_stack.specs.declared.number.GroupId.{GroupId}
 use Rattle.lp_numbers.specs.Numbers.{has, IsNextFrom}
 use Rattle.lp_model.specs.Rules.{Rules}
 use Rattle.lp_model.specs.declared.verdict.Verdict.{Verdict}
+use Rattle.lp_definitions.specs.declared.event.Event.{Event}
 use Rattle.lp_definitions.specs.Events.{is_scan}
+use Rattle.lp_machine.specs.Machine.{answer}
 use Rattle.lp_machine.specs.Table.{Engine, state_in}
-use Rattle.lp_transition.specs.Weigh.{Weighed, AreVerdictsFor, refusal_in}
+use Rattle.lp_transition.specs.Weigh.{Weighed, AreVerdictsFor, born_of, refusal_in}
 use Rattle.lp_definitions.specs.declared.cert.Claim.{Claim}
 use Rattle.lp_definitions.specs.declared.cert.Cert.{Cert}
 use Rattle.lp_definitions.specs.declared.line.Line.{Line}
@@ -91,18 +93,26 @@ leg_at number level completed =
       completed = if completed then Some (record { at = number; floor = None }) else None;
     }
 
+-- the leg completes with the event, and keeps the least group that waited
+pub record IsCompletedAt (number : ℕ) (waiters : WaitingGroups) (old new : OpenLeg) : Type 0 where
+  pub floor : Option GroupId
+  pub now : new ≡ record old { completed = Some (record { at = number; floor = floor }) }
+  pub least : IsNextFrom (has waiters.groups) 0 (option_map (λ group. group.0) floor)
+  pub few : IfSome floor (λ group. group.0 < 65536)
+
 -- the leg after an event: a complete leg stays, one that completes keeps its least group, and any other has the next lines
 pub record IsStepped (model : Rules) (e : Engine) (step : Weighed) (number : ℕ) (old new : OpenLeg) (before after : WaitingGroups) : Type 0 where
   pub complete : (done : Completion) → old.completed ≡ Some done → (new ≡ old) × (after ≡ before)
-  pub completes :
-      old.completed ≡ None → step.reply.completed ≡ true →
-      (floor : Option GroupId) × (new ≡ record old { completed = Some (record { at = number; floor = floor }) }) × (after ≡ before)
-      × IsNextFrom (has before.groups) 0 (option_map (λ group. group.0) floor) × IfSome floor (λ group. group.0 < 65536)
+  pub completes : old.completed ≡ None → step.reply.completed ≡ true → (after ≡ before) × IsCompletedAt number before old new
   pub continues :
       old.completed ≡ None → step.reply.completed ≡ false →
       (new ≡ old) × ((group : ℕ) → lines_at after group ≡ stepped_lines model e step before group)
       × (refusal_in step.reply.what ≡ None → HasFewGroups e step.event)
       × (IsSome (used_scan model step.event) → refusal_in step.reply.what ≡ None → AreStanding before)
+
+-- an event that is no scan as it is weighed
+abbrev pub plain_step : Rules → Engine → Event → Weighed
+plain_step model e event = record { event = event; reply = answer model (state_in e) event; verdicts = []; born = born_of model (state_in e) event }
 
 -- the step with other verdicts
 abbrev pub with_verdicts : Weighed → List Verdict → Weighed

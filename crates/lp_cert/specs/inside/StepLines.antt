@@ -1,9 +1,10 @@
 -- How the lines of the groups that wait, as they are kept, come with an event.
-use Rattle.std.specs.Prelude.{ℕ, suc, List, Option, Some, None, is_none, if◌then◌else◌}
+use Rattle.std.specs.Prelude.{ℕ, suc, Bool, true, false, List, Option, Some, None, is_none, if◌then◌else◌}
 use Rattle.lp_model.specs.Rules.{Rules}
 use Rattle.lp_model.specs.declared.check.CheckKind.{CheckKind}
 use Rattle.lp_model.specs.declared.verdict.Verdict.{Verdict}
 use Rattle.lp_definitions.specs.declared.event.Event.{Event}
+use Rattle.lp_definitions.specs.declared.event.Event.TheVariants.{Exit, Idle}
 use Rattle.lp_definitions.specs.Leg.{State}
 use Rattle.lp_transition.specs.inside.ScanSteps.{groups_of}
 use Rattle.lp_machine.specs.Table.{Engine, state_in}
@@ -32,3 +33,9 @@ stepped_lines model e step waiters group =
     if is_none (refusal_in step.reply.what)
     then after_switch (groups_of step.reply.what) (noted_lines model e step.event step.verdicts waiters) group
     else lines_at waiters group
+
+-- an exit to user space and an idle point: the task has no frame then, so that its check writes no line
+abbrev pub is_frameless_check : Event → Bool
+is_frameless_check (Exit t) = true
+is_frameless_check (Idle t) = true
+is_frameless_check _ = false
