@@ -1,5 +1,5 @@
 -- What an engine with the maker of its certificates is made of a run, and what it tells.
-use Rattle.std.proofs.Common.{◌≡◌, ◌+◌, ℕ, suc, Bool, true, false, List, [], ◌∷◌, ◌++◌, length, map, nat_eq, cond, is_some, Option, Some, None, Result, Ok, Err, IfOk, OnOk, OnErr, if◌then◌else◌, refl, sym, ap, ap₂, ◌∙◌, arith, length-append, subst}
+use Rattle.std.proofs.Common.{◌≡◌, ◌+◌, ℕ, suc, Bool, true, false, List, [], ◌∷◌, length, map, nat_eq, cond, is_some, Option, Some, None, Result, Ok, Err, IfOk, OnOk, OnErr, if◌then◌else◌, refl, sym, ap, ap₂, ◌∙◌, arith, length-append}
 use Rattle.std.specs.Prelude.{slice_get}
 use Rattle.std.specs.List.{find}
 use Rattle.std.specs.Option.{option_map}

@@ -1,17 +1,14 @@
 -- A leg that isn't complete has a group that waits, so there is a floor for the least of them.
-use Rattle.std.proofs.Common.{◌≡◌, ℕ, zero, suc, pred, ◌+◌, ◌<◌, ◌≤◌, Bool, true, false, List, [], ◌∷◌, ◌++◌, map, filter, take, drop, length, Option, Some, None, IsTrue, nat_eq, slice_get, refl, sym, ap, ◌∙◌, subst, ⊎_elim, arith, length-append}
+use Rattle.std.proofs.Common.{◌≡◌, ℕ, zero, suc, pred, ◌+◌, ◌<◌, ◌≤◌, Bool, true, false, List, [], ◌∷◌, ◌++◌, map, filter, take, drop, length, Option, Some, None, slice_get, refl, sym, ap, ◌∙◌, subst, ⊎_elim, arith, length-append}
 use Rattle.std.specs.List.{range_with_len}
 use Rattle.std.specs.Option.{option_map}
-use Rattle.std.proofs.lemmas.Bool.{cond-true, cond-false, cases_Bool, cases_eq, cases_lt, eqb-false}
+use Rattle.std.proofs.lemmas.Bool.{cond-true, cond-false, cases_Bool, cases_eq, cases_lt}
 use Rattle.std.proofs.lemmas.List.{take_at}
 use Rattle.lp_model.specs.Rules.{Rules, IsLawful}
-use Rattle.lp_definitions.specs.Leg.{Leg, after}
+use Rattle.lp_definitions.specs.Leg.{Leg}
 use Rattle.lp_definitions.specs.Run.{Run, AreInRange, first_leg, leg_of, is_complete_now}
-use Rattle.lp_definitions.specs.Schedule.{level, waits, complete, first_check}
+use Rattle.lp_definitions.specs.Schedule.{waits, first_check}
 use Rattle.lp_definitions.specs.Sound.{IsSound}
-use Rattle.lp_laws.proofs.NextTasks.{numbered}
-use Rattle.lp_definitions.proofs.Quantifiers.{each_live-not}
-use Rattle.lp_laws.proofs.Waiting.{waits-is, waits-from}
 use Rattle.lp_laws.proofs.WholeRun.{run_sound, start_sound}
 use Rattle.lp_definitions.specs.declared.cert.Claim.TheVariants.{Floor}
 use Rattle.lp_definitions.specs.Certificates.{cert, completion, opened_legs}
@@ -19,7 +16,7 @@ use Rattle.lp_cert.specs.Ends.{Made, IsMadeOf, IsLeastWaiting, ended_legs, leg_u
 use Rattle.lp_definitions.specs.Ends.{end_of}
 use Rattle.lp_laws.proofs.Completions.{incomplete_if}
 use Rattle.lp_laws.proofs.Waiters.{waiting_in_range, someone_waits}
-use Rattle.lp_laws.proofs.GroupsInRange.{GroupsAreInRange, group_in_range, run_in_range, start_in_range}
+use Rattle.lp_laws.proofs.GroupsInRange.{GroupsAreInRange, run_in_range, start_in_range}
 use Rattle.lp_cert.proofs.Tellings.{legs-split, floor_told, complete_told}
 
 -- ---- The least number of a range that passes

@@ -1,17 +1,12 @@
 -- The groups that wait, as births, openings and switches come.
-use Rattle.std.proofs.Common.{◌≡◌, ◌≢◌, ℕ, ◌+◌, ◌<◌, ◌≤◌, Bool, true, false, List, [], ◌∷◌, ◌++◌, length, set, Option, Some, None, if◌then◌else◌, nat_eq, refl, sym, ap, ap₂, subst, ◌∙◌, arith, ◌⊎◌, inl, inr, not, ◌&&◌, ◌||◌, is_some, IfSome, IsTrue, map}
+use Rattle.std.proofs.Common.{◌≡◌, ◌≢◌, ℕ, ◌<◌, ◌≤◌, Bool, true, false, List, [], ◌∷◌, ◌++◌, length, set, Option, Some, None, if◌then◌else◌, nat_eq, refl, sym, ap, ap₂, subst, ◌∙◌, arith, ◌⊎◌, inl, inr, ◌||◌, IfSome, IsTrue, map}
 use Rattle.std.specs.List.{AllByRecursion, filter, list_any}
 use Rattle.std.specs.Option.{option_map}
-use Rattle.std.proofs.lemmas.Bool.{false≢true, cases_lt, cond-true, cond-false, eqb-true, eqb-false}
+use Rattle.std.proofs.lemmas.Bool.{cases_lt, cond-true, cond-false, eqb-true, eqb-false}
 use Rattle.std.proofs.lemmas.List.{get_or-set_same, get_or-set_other, length-set, get_or_past}
 use Rattle.lp_stack.specs.declared.number.GroupId.{GroupId}
-use Rattle.lp_numbers.specs.Numbers.{Numbers, has, IsEmpty, IsLeastFrom}
-use Rattle.lp_definitions.specs.Leg.{LegTask, State}
-use Rattle.lp_definitions.specs.Sound.{IsSound}
-use Rattle.lp_machine.specs.Table.{Table, Engine, slot, state_in}
-use Rattle.lp_tasks.specs.inside.Table.{is_in, is_off}
-use Rattle.lp_definitions.proofs.Quantifiers.{some_live-is, some_live-from}
-use Rattle.lp_tasks.proofs.TableLemmas.{slot_from_live, live_from_slot}
+use Rattle.lp_numbers.specs.Numbers.{Numbers, has}
+use Rattle.lp_definitions.specs.Leg.{State}
 use Rattle.lp_definitions.specs.declared.line.Line.{Line}
 use Rattle.lp_cert.specs.declared.reason.Reason.{Reason}
 use Rattle.lp_cert.specs.declared.head.Head.{Head}

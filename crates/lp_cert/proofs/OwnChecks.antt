@@ -1,18 +1,17 @@
 -- Own checks in the kernel: whom they blame, and the lines of a group whose only member is refused by its own.
-use Rattle.std.proofs.Common.{◌≡◌, ◌≢◌, ℕ, zero, suc, ◌+◌, ◌<◌, ◌≤◌, Bool, true, false, not, ◌&&◌, List, [], ◌∷◌, length, map, Option, Some, None, if◌then◌else◌, nat_eq, refl, sym, ap, ap₂, subst, ◌∙◌, ⊎_elim, arith}
+use Rattle.std.proofs.Common.{◌≡◌, ◌≢◌, ℕ, zero, suc, ◌+◌, ◌<◌, ◌≤◌, Bool, true, false, List, ◌∷◌, length, map, Option, Some, None, if◌then◌else◌, nat_eq, refl, sym, ap, ap₂, subst, ◌∙◌, ⊎_elim, arith}
 use Rattle.std.specs.List.{range_with_len}
 use Rattle.std.specs.Option.{option_map}
-use Rattle.std.proofs.lemmas.Bool.{and_parts, cond-true, cond-false, eq-eqb, eqb-true, eqb-false, cases_eq}
+use Rattle.std.proofs.lemmas.Bool.{cond-true, cond-false, eq-eqb, eqb-true, eqb-false, cases_eq}
 use Rattle.lp_stack.specs.declared.number.GroupId.{GroupId}
-use Rattle.lp_stack.specs.declared.number.TaskId.{TaskId}
 use Rattle.lp_numbers.specs.Numbers.{Numbers, has}
 use Rattle.lp_model.specs.declared.check.Blame.{Blame}
 use Rattle.lp_model.specs.declared.check.CheckKind.{CheckKind}
 use Rattle.lp_model.specs.Rules.{Rules}
-use Rattle.lp_definitions.specs.Tasks.{Fate, Unused, Live, Dead, on_live, map_live, first_of}
+use Rattle.lp_definitions.specs.Tasks.{Fate, Unused, Live, Dead, on_live, first_of}
 use Rattle.lp_definitions.specs.Leg.{LegTask, State, is_alone}
 use Rattle.lp_definitions.specs.Sound.{IsSound}
-use Rattle.lp_machine.specs.Machine.{outline_of, outlines_of, view_of}
+use Rattle.lp_machine.specs.Machine.{outlines_of, view_of}
 use Rattle.lp_machine.proofs.Alone.{alone-other}
 use Rattle.lp_transition.specs.Blames.{has_frame_in, blame_in, first_blamed_in}
 use Rattle.lp_definitions.specs.declared.line.Line.{Line}

@@ -1,5 +1,5 @@
 -- A call, a return, a sleep, a wake-up and an entry into the kernel change the lines of no group.
-use Rattle.std.proofs.Common.{◌≡◌, ◌<◌, ◌+◌, ℕ, suc, Bool, true, false, not, ◌&&◌, List, [], length, Option, Some, None, IsSome, is_none, if◌then◌else◌, nat_eq, refl, sym, ap, subst, ◌∙◌}
+use Rattle.std.proofs.Common.{◌≡◌, ◌<◌, ◌+◌, ℕ, suc, Bool, true, false, not, ◌&&◌, List, [], Option, Some, None, IsSome, is_none, if◌then◌else◌, nat_eq, refl, sym, ap, subst, ◌∙◌}
 use mathlib.Core.Path.{fun_ext}
 use Rattle.std.specs.Option.{option_map}
 use Rattle.std.specs.List.{list_any}
@@ -14,7 +14,7 @@ use Rattle.lp_definitions.specs.Events.{is_control, is_scan}
 use Rattle.lp_definitions.specs.TaskEvents.{is_quiet}
 use Rattle.lp_definitions.specs.Tasks.{change}
 use Rattle.lp_definitions.specs.Leg.{LegTask, State, each_live, each_task}
-use Rattle.lp_definitions.specs.Run.{Run, leg_of, switched, plus}
+use Rattle.lp_definitions.specs.Run.{Run, switched, plus}
 use Rattle.lp_machine.specs.Machine.{complete_in, affected, answer, calling, switches_at, put_in, refusal_of, returning, with_switches, told}
 use Rattle.lp_transition.specs.inside.ScanSteps.{groups_of}
 use Rattle.lp_machine.specs.Steps.{StandsIn}

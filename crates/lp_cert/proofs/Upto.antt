@@ -6,7 +6,6 @@ use Rattle.lp_definitions.specs.Leg.{Leg, State}
 use Rattle.lp_definitions.specs.Run.{Run, first_leg, leg_of}
 use Rattle.lp_machine.specs.Steps.{StandsIn}
 use Rattle.lp_machine.specs.Table.{Engine, LastScan, state_in}
-use Rattle.lp_definitions.specs.declared.cert.Cert.{Cert}
 use Rattle.lp_definitions.specs.declared.cert.Claim.TheVariants.{Waiting}
 use Rattle.lp_definitions.specs.Ends.{LegEnd, end_of}
 use Rattle.lp_cert.specs.declared.open_leg.Completion.{Completion}

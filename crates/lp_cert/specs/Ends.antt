@@ -1,5 +1,5 @@
 -- How the legs of a run ended, with their certificates, and what is made of a run so far.
-use Rattle.std.specs.Prelude.{◌≡◌, ℕ, pred, ◌+◌, ◌≤◌, Bool, ◌&&◌, List, [], ◌∷◌, ◌++◌, map, drop, length, Option, Some, None, is_none, is_some, false, if◌then◌else◌, nat_eq, slice_get, IsTrue}
+use Rattle.std.specs.Prelude.{◌≡◌, ℕ, pred, ◌≤◌, Bool, ◌&&◌, List, [], ◌∷◌, ◌++◌, map, drop, length, Option, Some, None, is_none, is_some, false, if◌then◌else◌, nat_eq, slice_get, IsTrue}
 use Rattle.std.specs.List.{find}
 use Rattle.std.specs.Option.{option_map}
 use Rattle.lp_model.specs.Rules.{Rules}
@@ -20,7 +20,7 @@ use Rattle.lp_cert.specs.declared.cert_head.CertHead.{CertHead}
 use Rattle.lp_definitions.specs.Ends.{LegEnd, end_of}
 use Rattle.lp_cert.specs.declared.leg_end.LegEndRef.{LegEndRef}
 use Rattle.lp_cert.specs.declared.leg_list.LegEnds.{LegEnds}
-use Rattle.lp_definitions.specs.Certificates.{completion, certs_of, lines, opened_legs}
+use Rattle.lp_definitions.specs.Certificates.{lines, opened_legs}
 use Rattle.lp_cert.specs.Unchanged.{AreUnchangedBy}
 
 -- an event of which this is told opens a leg: it is a control event, and was accepted

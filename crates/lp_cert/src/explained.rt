@@ -2,7 +2,7 @@
 ghost use Rattle.std.specs.Prelude.{◌≡◌, ◌≢◌, ◌++◌, ◌<◌, [], None, true, is_some, option_to_list, IfOk, OnErr, OnOk};
 ghost use Rattle.std.specs.Option.{option_map};
 ghost use Rattle.lp_definitions.specs.Events.{is_control};
-ghost use Rattle.lp_definitions.specs.TaskEvents.{is_own_check};
+ghost use Rattle.lp_definitions.specs.TaskEvents.{is_own_check, is_quiet};
 ghost use Rattle.lp_definitions.specs.Run.{Run, plus};
 ghost use Rattle.lp_machine.specs.Steps.{IsStep, StandsIn};
 ghost use Rattle.lp_machine.specs.Table.{state_in};
@@ -77,6 +77,20 @@ impl<M: Consistency> ExplainedCore<M> {
         }
         self.maker.note_passed(core);
         take(alloc, core, &mut self.maker, event)
+    }
+
+    /// Takes a quiet event, and answers it. What that takes is compiled where this is called, so that a caller who has told the
+    /// event's kind pays for no other.
+    #[inline(always)]
+    pub fn step_quiet(&mut self, event: Event) -> Reply
+        requires room { self.old.core.number < 1000000 }
+        requires quiet { is_quiet event ≡ true }
+        ensures step { IsStep M.rules (state_in self.old.core) event result (state_in self.new.core) }
+        ensures explained { (run : Run) → IsExplained M.rules run self.old → IsExplained M.rules (plus run event) self.new }
+    {
+        let core: &mut Core<M> = &mut self.core;
+        self.maker.let_pass(core);
+        core.step_quiet_inline(event)
     }
 
     /// The engine, which tells how its tasks stand.

@@ -1,7 +1,7 @@
 -- Who waits once a control event has opened a transition. Before it each live task is on the target, or, in a transition, on the level that
 -- it came from.
-use Rattle.std.proofs.Common.{◌≡◌, ◌≢◌, ◌<◌, ◌≤◌, ℕ, zero, suc, pred, Bool, true, false, not, List, [], ◌∷◌, length, Option, Some, None, is_some, IsTrue, ◌↔◌, nat_eq, refl, sym, ap, ap₂, ◌∙◌, subst, arith}
-use Rattle.std.proofs.lemmas.Bool.{false≢true, eqb-true, eqb-false, ne_eqb, not-false}
+use Rattle.std.proofs.Common.{◌≡◌, ◌≢◌, ◌<◌, ◌≤◌, ℕ, zero, suc, pred, Bool, true, false, not, [], ◌∷◌, length, Option, Some, None, is_some, IsTrue, ◌↔◌, nat_eq, refl, sym, ap, ◌∙◌, subst, arith}
+use Rattle.std.proofs.lemmas.Bool.{false≢true, eqb-true, ne_eqb, not-false}
 use Rattle.lp_numbers.specs.Numbers.{Numbers, has}
 use Rattle.lp_model.specs.Rules.{Rules, IsLawful}
 use Rattle.lp_definitions.specs.declared.event.Event.{Event}

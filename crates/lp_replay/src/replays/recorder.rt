@@ -1,6 +1,7 @@
 //! What a run comes to, event by event.
-ghost use Rattle.std.specs.Prelude.{◌≡◌, ◌≤◌, ◌<◌, ◌+◌, ◌++◌, length, IfOk, OnOk};
+ghost use Rattle.std.specs.Prelude.{◌≡◌, true, ◌≤◌, ◌<◌, ◌+◌, ◌++◌, length, IfOk, OnOk};
 ghost use Rattle.lp_definitions.specs.Run.{Run, leg_of, plus};
+ghost use Rattle.lp_definitions.specs.TaskEvents.{is_quiet};
 ghost use Rattle.lp_stack.specs.declared.number.TaskId.{TaskId};
 ghost use Rattle.lp_stays.specs.Counts.{top_of};
 ghost use Rattle.lp_definitions.specs.Stays.{stack};
@@ -77,9 +78,42 @@ impl<M: Consistency> Recorder<M> {
         Ok(())
     }
 
-    /// Steps by the next event.
+    /// Steps by the next event. For a quiet one that is compiled for each kind by itself, so that the event is told from those of
+    /// other kinds once, and not by each part of the step.
     #[inline(always)]
     fn step(&mut self, alloc: Global, event: Event) -> Result<(), ReplayFault>
+        requires numbered { self.old.explained.core.number < 1000000 }
+        requires counted { self.old.stays.events < 1000000 }
+        ensures { OnOk result ((run : Run) → IsRecorded M.rules run self.old → IsRecorded M.rules (plus run event) self.new) }
+    {
+        match event {
+            Event::Call(task, func) => self.step_quiet(Event::Call(task, func)),
+            Event::Ret(task) => self.step_quiet(Event::Ret(task)),
+            Event::Enter(task) => self.step_quiet(Event::Enter(task)),
+            Event::Sleep(task) => self.step_quiet(Event::Sleep(task)),
+            Event::Wake(task) => self.step_quiet(Event::Wake(task)),
+            _ => self.step_other(alloc, event),
+        }
+    }
+
+    /// Steps by a quiet event.
+    #[inline(always)]
+    fn step_quiet(&mut self, event: Event) -> Result<(), ReplayFault>
+        requires numbered { self.old.explained.core.number < 1000000 }
+        requires counted { self.old.stays.events < 1000000 }
+        requires quiet { is_quiet event ≡ true }
+        ensures { OnOk result ((run : Run) → IsRecorded M.rules run self.old → IsRecorded M.rules (plus run event) self.new) }
+    {
+        let top = last_function(self.explained.core(), event);
+        let reply = self.explained.step_quiet(event);
+        self.stays.step(event, &reply, top);
+        self.replies.push(reply)?;
+        Ok(())
+    }
+
+    /// Steps by an event of any kind.
+    #[inline(never)]
+    fn step_other(&mut self, alloc: Global, event: Event) -> Result<(), ReplayFault>
         requires numbered { self.old.explained.core.number < 1000000 }
         requires counted { self.old.stays.events < 1000000 }
         ensures { OnOk result ((run : Run) → IsRecorded M.rules run self.old → IsRecorded M.rules (plus run event) self.new) }

@@ -1,5 +1,5 @@
 -- Who waits once a control event has opened a transition.
-use Rattle.std.specs.Prelude.{Bool, false, not, if◌then◌else◌}
+use Rattle.std.specs.Prelude.{Bool, not, if◌then◌else◌}
 use Rattle.lp_definitions.specs.declared.event.Event.{Event}
 use Rattle.lp_definitions.specs.declared.event.Event.TheVariants.{Reverse}
 

@@ -28,19 +28,19 @@ impl<M: Consistency> Core<M> {
         // For the proof alone, which knows what every value keeps once a field is read.
         let _ = &self.tasks;
         match event {
-            Event::Call(task, func) => self.step_one(Event::Call(task, func)),
-            Event::Ret(task) => self.step_one(Event::Ret(task)),
-            Event::Sleep(task) => self.step_one(Event::Sleep(task)),
-            Event::Wake(task) => self.step_one(Event::Wake(task)),
-            Event::Enter(task) => self.step_one(Event::Enter(task)),
+            Event::Call(task, func) => self.step_quiet_inline(Event::Call(task, func)),
+            Event::Ret(task) => self.step_quiet_inline(Event::Ret(task)),
+            Event::Sleep(task) => self.step_quiet_inline(Event::Sleep(task)),
+            Event::Wake(task) => self.step_quiet_inline(Event::Wake(task)),
+            Event::Enter(task) => self.step_quiet_inline(Event::Enter(task)),
             _ => unreachable!(),
         }
     }
 
-    /// What all of these have in common. It is compiled once for each of them, so that none pays for telling them apart
-    /// again.
+    /// The same for a caller who has told the event's kind already: it is compiled where it is called, so that a kind that is known
+    /// there pays for no other.
     #[inline(always)]
-    fn step_one(&mut self, event: Event) -> Reply
+    pub fn step_quiet_inline(&mut self, event: Event) -> Reply
         requires room { self.old.number < 1000000 }
         requires quiet { is_quiet event ≡ true }
         ensures step { IsStep M.rules (state_in self.old) event result (state_in self.new) }

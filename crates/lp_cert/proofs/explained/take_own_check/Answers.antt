@@ -1,5 +1,4 @@
-use Rattle.std.proofs.Common.{◌≡◌, ◌<◌, ◌+◌, true, sym, ap}
-use Rattle.lp_cert.proofs.Explaining.{number_up, on_ok}
+use Rattle.lp_cert.proofs.Explaining.{number_up}
 use Rattle.lp_cert.proofs.FramelessChecks.{own_check}
 use Rattle.lp_cert.proofs.explained.take_own_check.Goals as goal
 

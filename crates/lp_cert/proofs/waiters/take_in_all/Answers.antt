@@ -1,4 +1,4 @@
-use Rattle.std.proofs.Common.{◌≡◌, ◌+◌, ◌<◌, ◌≤◌, ℕ, false, ◌∷◌, sym, ◌∙◌, arith}
+use Rattle.std.proofs.Common.{◌≡◌, ◌+◌, ◌<◌, ◌∷◌, sym, ◌∙◌, arith}
 use Rattle.lp_numbers.specs.Numbers.{has}
 use Rattle.lp_tasks.specs.Passing.{passing}
 use Rattle.lp_tasks.proofs.AscendingLemmas.{members-passing, passing-least, passing-rest, passing-over}

@@ -1,8 +1,7 @@
-use Rattle.std.proofs.Common.{◌≡◌, ◌+◌, ◌++◌, Bool, List, [], Some, None, if◌then◌else◌, option_to_list, refl, sym, ap, ap₂, ◌∙◌}
+use Rattle.std.proofs.Common.{◌+◌, ◌++◌, Bool, List, [], Some, None, if◌then◌else◌, option_to_list, ap, ap₂, ◌∙◌}
 use Rattle.std.specs.Option.{option_map}
 use Rattle.lp_definitions.specs.Ends.{LegEnd}
 use Rattle.lp_definitions.specs.declared.reply.Reply.{Reply}
-use Rattle.lp_definitions.specs.Run.{new_target}
 use Rattle.lp_machine.specs.Table.{state_in}
 use Rattle.lp_cert.specs.declared.open_leg.OpenLeg.{OpenLeg}
 use Rattle.lp_cert.specs.Ends.{Made, IsMadeWith}

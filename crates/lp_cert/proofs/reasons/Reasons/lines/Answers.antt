@@ -1,5 +1,3 @@
-use Rattle.std.proofs.Common.{arith}
-use Rattle.std.proofs.lemmas.Grind.{common_steps}
 use Rattle.lp_cert.proofs.reasons.Reasons.lines.Goals as goal
 
 pub lines-requires : goal.lines-requires

@@ -1,4 +1,3 @@
-use Rattle.std.proofs.Common.{sym, ◌∙◌}
 use Rattle.lp_machine.specs.Table.{state_in}
 use Rattle.lp_cert.proofs.OwnChecks.{alone_lines, alone_stand}
 use Rattle.lp_cert.proofs.waiters.Waiters.refuse_alone.Goals as goal

@@ -1,7 +1,4 @@
-use Rattle.std.proofs.Common.{◌≡◌, ℕ, true, Option, Some, None, IfSome}
-use Rattle.lp_stack.specs.declared.number.Level.{Level}
-use Rattle.lp_machine.specs.Table.{Engine, slot}
-use Rattle.lp_tasks.specs.inside.Table.{is_in}
+use Rattle.lp_machine.specs.Table.{Engine}
 use Rattle.lp_transition.specs.inside.Invariant.{told_scan}
 use Rattle.lp_transition.proofs.GroupLevels.{one_level, if_some}
 use Rattle.lp_transition.proofs.engine.Core.group_level.Goals as goal

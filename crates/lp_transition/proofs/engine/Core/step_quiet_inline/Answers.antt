@@ -2,7 +2,7 @@ use Rattle.std.proofs.Common.{sym, ◌∙◌}
 use Rattle.lp_machine.specs.Table.{state_in}
 use Rattle.lp_machine_laws.proofs.Runs.{is_step}
 use Rattle.lp_machine.proofs.EngineLemmas.{answer-refused}
-use Rattle.lp_transition.proofs.engine.Core.step_one.Goals as goal
+use Rattle.lp_transition.proofs.engine.Core.step_quiet_inline.Goals as goal
 
 pub returns-in-Some-clause-step : goal.returns-in-Some-clause-step
 returns-in-Some-clause-step g c =
