@@ -87,6 +87,7 @@ impl<M: Consistency> ExplainedCore<M> {
         requires quiet { is_quiet event ≡ true }
         ensures step { IsStep M.rules (state_in self.old.core) event result (state_in self.new.core) }
         ensures explained { (run : Run) → IsExplained M.rules run self.old → IsExplained M.rules (plus run event) self.new }
+        ensures blames { HasBlamesAfter M.rules self.old.core event self.new.core }
     {
         let core: &mut Core<M> = &mut self.core;
         self.maker.let_pass(core);
