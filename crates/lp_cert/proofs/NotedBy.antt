@@ -93,7 +93,7 @@ module _ (model : Rules) (lawful : IsLawful model) (run : Run) (e : Engine) (sta
 
   pub noted_made : number ≡ e.number + 1 → IsNoted model e step number leg later_leg before later → new.current ≡ Some (open_end number later later_leg) → IsMadeWith model (plus run step.event) after.last_scan new
   noted_made numbered on now =
-      still_made model lawful run e stands (with_verdicts step on.verdicts) (record { room = weighed.room; reply = weighed.reply; born = weighed.born; verdicts = on.told.enough }) made new is after stands_after known stays ended noted number leg later_leg before later numbered on.gone_on
+      still_made model lawful run e stands (with_verdicts step on.verdicts) (record { room = weighed.room; reply = weighed.reply; verdicts = on.told.enough }) made new is after stands_after known stays ended noted number leg later_leg before later numbered on.gone_on
       (λ unended incomplete.
       tells_unchanged model (state_in e) (lines model (leg_of model run) (length (leg_of model run).events)) e.last_scan (was_unchanged model lawful run e stands made is) (used_scan model step.event) on.verdicts
       (suffices_from model e step.event before on.verdicts sound wide (waits_kept unended) (on.told.told unended incomplete)))

@@ -20,14 +20,13 @@ use Rattle.lp_definitions.specs.Leg.{Leg, after, accept, accepted, check, check_
 use Rattle.lp_definitions.specs.Schedule.{frame_of, view, first_check}
 use Rattle.lp_definitions.specs.Run.{and_then}
 use Rattle.lp_definitions.specs.Sound.{IsSound}
-use Rattle.lp_transition.specs.Weigh.{is_fork}
 use Rattle.lp_definitions.proofs.Quantifiers.{each_live-at}
 use Rattle.lp_laws.proofs.NextTasks.{none_first, unfit, numbered}
 use Rattle.lp_laws.proofs.OneMore.{accepted_is, after_is, check_is}
 use Rattle.lp_definitions.specs.declared.line.Line.{Line}
 use Rattle.lp_definitions.specs.Certificates.{after_check, has_frame, first_blamed, member_blame, with_birth, lines}
 use Rattle.lp_laws.proofs.Past.{lines_past}
-use Rattle.lp_cert.specs.EventLines.{is_resched}
+use Rattle.lp_cert.specs.EventLines.{is_resched, is_fork}
 
 -- ---- What an accepted exit and an accepted idle point tell
 

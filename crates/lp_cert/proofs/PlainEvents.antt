@@ -54,7 +54,7 @@ module _ (model : Rules) (lawful : IsLawful model) (run : Run) (e : Engine) (sta
       ∙ sym (ap (λ (s : State). answer model s event) stands.there ∙ (does model (leg_of model run) event lawful (present_sound model lawful run e stands)).answers)
 
   pub weighed : is_scan event ≡ false → e.number < 1000000 → IsWeighed model e (plain_step model e event)
-  weighed unscanned room = record { room = room; reply = refl; born = refl; verdicts = no_verdicts model (state_in e) event unscanned }
+  weighed unscanned room = record { room = room; reply = refl; verdicts = no_verdicts model (state_in e) event unscanned }
 
   -- an accepted control event opens a leg
   pub turns : is_control event ≡ true → refusal_of model (state_in e) event ≡ None → is_opening (plain_step model e event) ≡ true

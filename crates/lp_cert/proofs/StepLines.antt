@@ -25,7 +25,7 @@ use Rattle.lp_transition.specs.Scan.{verdicts_of, first_refused, AreEnough}
 use Rattle.lp_transition.specs.inside.ScanSteps.{switches_by, groups_of}
 use Rattle.lp_machine.specs.Machine.{outline_of, outlines_of, view_of, waits_in, switches_at, affected, next, told, state_of, refusal_of, calling, returning, put_in}
 use Rattle.lp_machine.specs.Table.{Engine, slot, fate_at, state_in}
-use Rattle.lp_transition.specs.Weigh.{Weighed, IsWeighed, AreVerdictsFor, is_fork, refusal_in}
+use Rattle.lp_transition.specs.Weigh.{Weighed, IsWeighed, AreVerdictsFor, refusal_in}
 use Rattle.lp_stack.specs.declared.view.Mode.TheVariants.{User, Kernel, Asleep}
 use Rattle.lp_machine.proofs.Accept.{fork-live, fork-new, fork-positive, fork-within, resched-live, die-live}
 use Rattle.lp_machine.proofs.EngineLemmas.{and-false, answer-accepted, next-accepted, next-refused}
@@ -36,7 +36,7 @@ use Rattle.lp_tasks.proofs.TableLemmas.{live_from_slot, slot_from_live}
 use Rattle.lp_transition.proofs.Weighing.{refused-as}
 use Rattle.lp_definitions.specs.declared.line.Line.{Line}
 use Rattle.lp_definitions.specs.Certificates.{lines, birth_line, after_refusal, after_check}
-use Rattle.lp_cert.specs.EventLines.{lines_after_scan, lines_after_own_check, is_resched, lines_after_fork}
+use Rattle.lp_cert.specs.EventLines.{lines_after_scan, lines_after_own_check, is_resched, lines_after_fork, is_fork}
 use Rattle.lp_cert.specs.inside.StepLines.{stepped_lines, noted_by, noted_lines}
 use Rattle.lp_transition.specs.LastScan.{used_kind, used_scan}
 use Rattle.lp_transition.specs.Blames.{has_frame_in}

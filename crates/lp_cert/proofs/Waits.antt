@@ -20,7 +20,6 @@ use Rattle.lp_definitions.specs.Sound.{IsSound}
 use Rattle.lp_machine.specs.Machine.{waits_in, switches_at, switched_groups, switched_task, affected, with_switches, told, state_of, view_of}
 use Rattle.lp_machine.specs.Table.{Table, Engine, slot, fate_at, leg_tasks, state_in}
 use Rattle.lp_tasks.specs.inside.Table.{is_in}
-use Rattle.lp_transition.specs.Weigh.{is_fork}
 use Rattle.lp_machine.proofs.Alone.{waits-same}
 use Rattle.lp_machine.proofs.EngineLemmas.{and-false, unchecked-stays}
 use Rattle.lp_tasks.proofs.Passing.{passing-any}
@@ -31,7 +30,7 @@ use Rattle.lp_tasks.proofs.TableLemmas.{slot_from_live}
 use Rattle.lp_definitions.specs.declared.line.Line.{Line}
 use Rattle.lp_definitions.specs.Certificates.{lines, after_check, after_refusal}
 use Rattle.lp_transition.specs.Blames.{has_frame_in, first_blamed_in}
-use Rattle.lp_cert.specs.EventLines.{lines_after_scan, is_resched}
+use Rattle.lp_cert.specs.EventLines.{lines_after_scan, is_resched, is_fork}
 use Rattle.lp_cert.specs.inside.Waiters.{after_scan}
 use Rattle.lp_cert.proofs.NextLines.{lines_at_scan, lines_at_unused_scan}
 use Rattle.lp_cert.proofs.OtherEvents.{lines_at_others}

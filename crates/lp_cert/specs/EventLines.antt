@@ -7,7 +7,7 @@ use Rattle.lp_model.specs.declared.check.ForkKind.{ForkKind}
 use Rattle.lp_model.specs.Rules.{Rules}
 use Rattle.lp_definitions.specs.Tasks.{on_live}
 use Rattle.lp_definitions.specs.declared.event.Event.{Event}
-use Rattle.lp_definitions.specs.declared.event.Event.TheVariants.{Resched}
+use Rattle.lp_definitions.specs.declared.event.Event.TheVariants.{Resched, Fork}
 use Rattle.lp_definitions.specs.Leg.{State, is_alone}
 use Rattle.lp_machine.specs.Machine.{outlines_of}
 use Rattle.lp_transition.specs.Blames.{has_frame_in, first_blamed_in}
@@ -30,6 +30,11 @@ lines_after_own_check model s t group lines =
 abbrev pub is_resched : Event → Bool
 is_resched (Resched t) = true
 is_resched _ = false
+
+-- a fork
+abbrev pub is_fork : Event → Bool
+is_fork (Fork p c how) = true
+is_fork _ = false
 
 -- the lines of a group after a fork, which is the next event
 abbrev pub lines_after_fork : Rules → State → TaskId → TaskId → ForkKind → (ℕ → List Line) → (group : ℕ) → List Line

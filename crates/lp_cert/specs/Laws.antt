@@ -9,7 +9,6 @@ use Rattle.lp_definitions.specs.declared.event.Event.{Event}
 use Rattle.lp_definitions.specs.declared.event.Event.TheVariants.{Resched, Fork}
 use Rattle.lp_definitions.specs.declared.refusal.Refusal.{Refusal}
 use Rattle.lp_definitions.specs.Events.{is_scan}
-use Rattle.lp_transition.specs.Weigh.{is_fork}
 use Rattle.lp_definitions.specs.Sound.{IsSound}
 use Rattle.lp_definitions.specs.Leg.{State, Leg}
 use Rattle.lp_definitions.specs.Run.{Run, AreInRange, and_then, first_leg, leg_of, refused_by}
@@ -21,7 +20,7 @@ use Rattle.lp_definitions.specs.Certificates.{lines, cert, completion, floor_cer
 use Rattle.lp_cert.specs.Ends.{Made, IsFresh, IsMadeOf, IsLeastWaiting, leg_under_way, waiting_in, floor_in}
 use Rattle.lp_definitions.specs.Ends.{end_of}
 use Rattle.lp_transition.specs.Blames.{first_blamed_in}
-use Rattle.lp_cert.specs.EventLines.{lines_after_scan, lines_after_own_check, is_resched, lines_after_fork}
+use Rattle.lp_cert.specs.EventLines.{lines_after_scan, lines_after_own_check, is_resched, lines_after_fork, is_fork}
 
 -- the lines of a group come with the events of its leg: each leaves those before it as they are, or goes by the state
 -- in which an engine is before it

@@ -22,8 +22,8 @@ use std::alloc::{AllocError, Global};
 use std::marker::Model;
 
 /// An engine with the maker of its certificates. An event that may give a group a line is noted before the engine takes it: noted
-/// later, the line would be of the tasks as the event left them. Exits, idle points and control events give none, and are noted
-/// by their answers.
+/// later, the line would be of the tasks as the event left them. Exits, idle points and accepted control events give none, and are
+/// noted by their answers.
 ///
 /// Contracts see the engine, the ends of the legs that ended, and the end of the leg under way as it stands.
 pub struct ExplainedCore<M: Consistency> {

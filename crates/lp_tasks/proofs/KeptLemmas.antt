@@ -1,16 +1,15 @@
 -- The table by its records and the deep stacks.
 use Rattle.std.proofs.Common.{◌≡◌, ◌≢◌, ℕ, zero, suc, ◌<◌, ◌≤◌, true, false, not, ◌&&◌, ◌||◌, List, [], ◌∷◌, ◌++◌, length, get_or, set, Option, None, Some, if◌then◌else◌, nat_eq, refl, sym, ap, ap₂, subst, ◌∙◌, ⊎_elim, arith}
 use Rattle.std.proofs.lemmas.Bool.{cases_eq, eq-eqb, ne_eqb, cond-true, cond-false}
-use Rattle.std.proofs.lemmas.List.{length-map, length-set, get_or-set_same, get_or-set_other, set-get_or, ext_get_or, take_at, take-append-le, length-append}
-use Rattle.std.specs.Global.{Box}
+use Rattle.std.proofs.lemmas.List.{length-set, get_or-set_same, get_or-set_other, set-get_or, ext_get_or, take_at, take-append-le, length-append}
 use Rattle.std.specs.Option.{ForSome, option_map}
 use Rattle.lp_stack.specs.declared.frame.Frame.{Frame}
 use Rattle.lp_numbers.specs.Numbers.{Numbers, has}
 use Rattle.lp_numbers.specs.Groups.{Groups, is_member}
 use Rattle.lp_definitions.specs.Leg.{LegTask}
-use Rattle.lp_tasks.specs.inside.Slots.{slots_of, padded, IsTable}
+use Rattle.lp_tasks.specs.inside.Slots.{padded, IsTable}
 use Rattle.lp_tasks.specs.inside.Deep.{deep_or, with_deep, with_stacks, own_frames, IsRecorded, IsLowest, IsKept, IsStored}
-use Rattle.lp_tasks.proofs.SlotLemmas.{boxed, slot-boxed, slots_of-set, padded-made, padded-set, padded-past, IsTable-empty, IsTable-change, IsTable-put, IsTable-remove}
+use Rattle.lp_tasks.proofs.SlotLemmas.{padded-made, padded-set, padded-past, IsTable-empty, IsTable-change, IsTable-put, IsTable-remove}
 
 -- ---- A frame more on a deep stack
 
@@ -136,71 +135,71 @@ module _ (records : List (Option LegTask)) (deep : ℕ → Option (List Frame)) 
       recorded = recorded-set records deep new t None (omega (arith, small, kept.records_wide)) others (subst (IsRecorded None) (sym gone) tt) kept.recorded;
     }
 
--- ---- The same where the records stand in boxes
+-- ---- The same by the slots that are made
 
-module _ (boxes : List (Option (Box LegTask))) (capacity : ℕ) (deep : ℕ → Option (List Frame)) (live used : Numbers) (members : Groups) (stored : IsStored boxes capacity deep live used members) (t : ℕ) (made : t < length boxes) (old : Option (Box LegTask)) (is_old : old ≡ get_or boxes t old) where
+module _ (slots : List (Option LegTask)) (capacity : ℕ) (deep : ℕ → Option (List Frame)) (live used : Numbers) (members : Groups) (stored : IsStored slots capacity deep live used members) (t : ℕ) (made : t < length slots) (old : Option LegTask) (is_old : old ≡ get_or slots t old) where
   small : t < 65536
   small = omega (arith, made, stored.few)
 
-  there : get_or (slots_of (padded boxes)) t None ≡ boxed old
-  there = slot-boxed (padded boxes) t old (omega (arith, small, stored.kept.records_wide, length-map (padded boxes) boxed)) (padded-made boxes t old made is_old)
+  there : get_or (padded slots) t None ≡ old
+  there = padded-made slots t old made is_old
 
-  -- what the record in the box keeps
-  pub box-recorded : IsRecorded (boxed old) (deep t)
-  box-recorded = subst (λ o. IsRecorded o (deep t)) there (stored.kept.recorded t)
+  -- what the record in the slot keeps
+  pub slot-recorded : IsRecorded old (deep t)
+  slot-recorded = subst (λ o. IsRecorded o (deep t)) there (stored.kept.recorded t)
 
-  -- the task by the record in the box
-  pub box-task : get_or (with_stacks (slots_of (padded boxes)) deep) t None ≡ with_deep (boxed old) (deep t)
-  box-task = task-with_stacks (slots_of (padded boxes)) deep t ∙ ap (λ o. with_deep o (deep t)) there
+  -- the task by the record in the slot
+  pub slot-task : get_or (with_stacks (padded slots) deep) t None ≡ with_deep old (deep t)
+  slot-task = task-with_stacks (padded slots) deep t ∙ ap (λ o. with_deep o (deep t)) there
 
   -- a live task is changed, and its deep stack
-  module _ (new_deep : ℕ → Option (List Frame)) (others : (u : ℕ) → u ≢ t → new_deep u ≡ deep u) (new : Option (Box LegTask)) (f : LegTask → LegTask) (is : with_deep (boxed new) (new_deep t) ≡ option_map f (with_deep (boxed old) (deep t))) where
-    as_recorded : with_deep (boxed new) (new_deep t) ≡ option_map f (with_deep (get_or (slots_of (padded boxes)) t None) (deep t))
+  module _ (new_deep : ℕ → Option (List Frame)) (others : (u : ℕ) → u ≢ t → new_deep u ≡ deep u) (new : Option LegTask) (f : LegTask → LegTask) (is : with_deep new (new_deep t) ≡ option_map f (with_deep old (deep t))) where
+    as_recorded : with_deep new (new_deep t) ≡ option_map f (with_deep (get_or (padded slots) t None) (deep t))
     as_recorded = is ∙ ap (λ o. option_map f (with_deep o (deep t))) (sym there)
 
-    moved : slots_of (padded (set boxes t new)) ≡ set (slots_of (padded boxes)) t (boxed new)
-    moved = ap slots_of (padded-set boxes t new made) ∙ slots_of-set (padded boxes) t new
+    moved : (padded (set slots t new)) ≡ set (padded slots) t new
+    moved = padded-set slots t new made
 
-    pub boxes-moved : with_stacks (slots_of (padded (set boxes t new))) new_deep ≡ set (with_stacks (slots_of (padded boxes)) deep) t (option_map f (get_or (with_stacks (slots_of (padded boxes)) deep) t None))
-    boxes-moved = ap (λ records. with_stacks records new_deep) moved ∙ tasks-changed (slots_of (padded boxes)) deep live used members stored.kept t small new_deep others (boxed new) f as_recorded
+    pub slots-moved : with_stacks ((padded (set slots t new))) new_deep ≡ set (with_stacks (padded slots) deep) t (option_map f (get_or (with_stacks (padded slots) deep) t None))
+    slots-moved = ap (λ records. with_stacks records new_deep) moved ∙ tasks-changed (padded slots) deep live used members stored.kept t small new_deep others new f as_recorded
 
-    pub kept-moved : ((x : LegTask) → (f x).group ≡ x.group) → IsRecorded (boxed new) (new_deep t) → IsStored (set boxes t new) capacity new_deep live used members
+    pub kept-moved : ((x : LegTask) → (f x).group ≡ x.group) → IsRecorded new (new_deep t) → IsStored (set slots t new) capacity new_deep live used members
     kept-moved stays mine = record {
-      few = omega (arith, length-set boxes t new, stored.few);
+      few = omega (arith, length-set slots t new, stored.few);
       room = stored.room;
-      kept = subst (λ records. IsKept records new_deep live used members) (sym moved) (kept-changed (slots_of (padded boxes)) deep live used members stored.kept t small new_deep others (boxed new) f as_recorded stays mine);
+      kept = subst (λ records. IsKept records new_deep live used members) (sym moved) (kept-changed (padded slots) deep live used members stored.kept t small new_deep others new f as_recorded stays mine);
     }
 
   -- a live task is changed, but for its frames
-  module _ (new : Option (Box LegTask)) (f : LegTask → LegTask) (frames_stay : (x : LegTask) → (f x).frames ≡ x.frames) (commutes : (x : LegTask) (frames : List Frame) → record (f x) { frames = frames } ≡ f (record x { frames = frames })) (is : boxed new ≡ option_map f (boxed old)) where
-    as_moved : with_deep (boxed new) (deep t) ≡ option_map f (with_deep (boxed old) (deep t))
-    as_moved = ap (λ o. with_deep o (deep t)) is ∙ at (boxed old) (deep t)
+  module _ (new : Option LegTask) (f : LegTask → LegTask) (frames_stay : (x : LegTask) → (f x).frames ≡ x.frames) (commutes : (x : LegTask) (frames : List Frame) → record (f x) { frames = frames } ≡ f (record x { frames = frames })) (is : new ≡ option_map f old) where
+    as_moved : with_deep new (deep t) ≡ option_map f (with_deep old (deep t))
+    as_moved = ap (λ o. with_deep o (deep t)) is ∙ at old (deep t)
       where
         at : (o : Option LegTask) (d : Option (List Frame)) → with_deep (option_map f o) d ≡ option_map f (with_deep o d)
         at None d = refl
         at (Some x) None = refl
         at (Some x) (Some frames) = ap Some (commutes x frames)
 
-    still_recorded : IsRecorded (boxed new) (deep t)
-    still_recorded = subst (λ o. IsRecorded o (deep t)) (sym is) (at (boxed old) (deep t) box-recorded)
+    still_recorded : IsRecorded new (deep t)
+    still_recorded = subst (λ o. IsRecorded o (deep t)) (sym is) (at old (deep t) slot-recorded)
       where
         at : (o : Option LegTask) (d : Option (List Frame)) → IsRecorded o d → IsRecorded (option_map f o) d
         at o None r = tt
         at None (Some frames) r = r
         at (Some x) (Some frames) r = subst (λ own. IsLowest own frames) (sym (frames_stay x)) r
 
-    pub boxes-plain : with_stacks (slots_of (padded (set boxes t new))) deep ≡ set (with_stacks (slots_of (padded boxes)) deep) t (option_map f (get_or (with_stacks (slots_of (padded boxes)) deep) t None))
-    boxes-plain = boxes-moved deep (λ u ne. refl) new f as_moved
+    pub slots-plain : with_stacks ((padded (set slots t new))) deep ≡ set (with_stacks (padded slots) deep) t (option_map f (get_or (with_stacks (padded slots) deep) t None))
+    slots-plain = slots-moved deep (λ u ne. refl) new f as_moved
 
-    pub kept-plain : ((x : LegTask) → (f x).group ≡ x.group) → IsStored (set boxes t new) capacity deep live used members
+    pub kept-plain : ((x : LegTask) → (f x).group ≡ x.group) → IsStored (set slots t new) capacity deep live used members
     kept-plain stays = kept-moved deep (λ u ne. refl) new f as_moved stays still_recorded
 
 -- a number whose slot isn't made has no task, so a change of its task changes nothing
-module _ (boxes : List (Option (Box LegTask))) (deep : ℕ → Option (List Frame)) (t : ℕ) (past : length boxes ≤ t) where
-  pub no_task-past : get_or (with_stacks (slots_of (padded boxes)) deep) t None ≡ None
-  no_task-past = task-with_stacks (slots_of (padded boxes)) deep t ∙ ap (λ o. with_deep o (deep t)) (padded-past boxes t past)
+module _ (slots : List (Option LegTask)) (deep : ℕ → Option (List Frame)) (t : ℕ) (past : length slots ≤ t) where
+  pub no_task-past : get_or (with_stacks (padded slots) deep) t None ≡ None
+  no_task-past = task-with_stacks (padded slots) deep t ∙ ap (λ o. with_deep o (deep t)) (padded-past slots t past)
 
-  pub unchanged-past : (f : LegTask → LegTask) → with_stacks (slots_of (padded boxes)) deep ≡ set (with_stacks (slots_of (padded boxes)) deep) t (option_map f (get_or (with_stacks (slots_of (padded boxes)) deep) t None))
+  pub unchanged-past : (f : LegTask → LegTask) → with_stacks (padded slots) deep ≡ set (with_stacks (padded slots) deep) t (option_map f (get_or (with_stacks (padded slots) deep) t None))
   unchanged-past f =
-      let tasks = with_stacks (slots_of (padded boxes)) deep in
+      let tasks = with_stacks (padded slots) deep in
       sym (ap (set tasks t) (ap (option_map f) no_task-past ∙ sym no_task-past) ∙ set-get_or tasks t None)

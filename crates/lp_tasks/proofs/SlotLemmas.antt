@@ -1,72 +1,49 @@
--- A table of boxes, and the live tasks that the boxes hold.
+-- A table of slots, of which those past the greatest number that was used are not made.
 use Rattle.std.proofs.Common.{◌≡◌, ℕ, zero, suc, [], ◌∷◌, ◌++◌, ◌+◌, ◌-◌, ◌<◌, ◌≤◌, replicate, append_assoc, Bool, true, false, not, ◌&&◌, ◌||◌, nat_eq, List, length, get_or, set, Option, Some, None, is_some, IfSome, IfNone, refl, sym, ap, ap₂, subst, ◌∙◌, ⊎_elim, arith}
 use Rattle.std.proofs.lemmas.Bool.{cases_eq, eq-eqb, ne_eqb, and_right}
-use Rattle.std.proofs.lemmas.List.{map-set, map-append, get_or-map, get_or_append_left, get_or-append_right, set-append_left, length-map, length-append, length-replicate, length-set, get_or-set_same, get_or-set_other}
-use Rattle.std.specs.Global.{Box}
+use Rattle.std.proofs.lemmas.List.{get_or_default, get_or_append_left, get_or-append_right, set-append_left, length-append, length-replicate, length-set, get_or-set_same, get_or-set_other}
 use Rattle.std.specs.Option.{option_map}
 use Rattle.lp_stack.specs.declared.number.GroupId.{GroupId}
 use Rattle.lp_numbers.specs.Numbers.{Numbers, has}
 use Rattle.lp_numbers.specs.Groups.{Groups, is_member}
 use Rattle.lp_definitions.specs.Leg.{LegTask}
-use Rattle.lp_tasks.specs.inside.Slots.{slots_of, padded, IsTable}
+use Rattle.lp_tasks.specs.inside.Slots.{padded, IsTable}
 use Rattle.lp_tasks.specs.inside.Table.{is_in}
-
--- the live task in a box
-abbrev pub boxed : Option (Box LegTask) → Option LegTask
-boxed o = option_map (λ (b : Box LegTask). b.value) o
-
--- the live task that a slot's box holds
-pub slot-boxed : (boxes : List (Option (Box LegTask))) (i : ℕ) (box : Option (Box LegTask)) → i < length boxes → box ≡ get_or boxes i box → get_or (slots_of boxes) i None ≡ boxed box
-slot-boxed boxes i box h e = get_or-map boxed boxes i box None h ∙ ap boxed (sym e)
-
--- another box stands in a slot
-pub slots_of-set : (boxes : List (Option (Box LegTask))) (i : ℕ) (box : Option (Box LegTask)) → slots_of (set boxes i box) ≡ set (slots_of boxes) i (boxed box)
-slots_of-set boxes i box = map-set boxed boxes i box
 
 -- ---- Slots that aren't made yet
 
-pub length-padded : (boxes : List (Option (Box LegTask))) → length boxes ≤ 65536 → length (slots_of (padded boxes)) ≡ 65536
+pub length-padded : (slots : List (Option LegTask)) → length slots ≤ 65536 → length (padded slots) ≡ 65536
 unfolding padded
-length-padded boxes few = length-map (boxes ++ replicate (65536 - length boxes) None) boxed ∙ length-append boxes (replicate (65536 - length boxes) None) ∙ ap (λ n. length boxes + n) (length-replicate (65536 - length boxes) None) ∙ omega arith
+length-padded slots few = length-append slots (replicate (65536 - length slots) None) ∙ ap (λ n. length slots + n) (length-replicate (65536 - length slots) None) ∙ omega arith
 
 -- what a made slot holds
-pub padded-made : (boxes : List (Option (Box LegTask))) (i : ℕ) (box : Option (Box LegTask)) → i < length boxes → box ≡ get_or boxes i box → box ≡ get_or (padded boxes) i box
+pub padded-made : (slots : List (Option LegTask)) (i : ℕ) (slot : Option LegTask) → i < length slots → slot ≡ get_or slots i slot → get_or (padded slots) i None ≡ slot
 unfolding padded
-padded-made boxes i box h e = e ∙ sym (get_or_append_left boxes (replicate (65536 - length boxes) None) box i h)
+padded-made slots i slot h e = get_or_append_left slots (replicate (65536 - length slots) None) None i h ∙ get_or_default slots i None slot h ∙ sym e
 
--- another box stands in a made slot
-pub padded-set : (boxes : List (Option (Box LegTask))) (i : ℕ) (box : Option (Box LegTask)) → i < length boxes → padded (set boxes i box) ≡ set (padded boxes) i box
+-- a made slot is changed
+pub padded-set : (slots : List (Option LegTask)) (i : ℕ) (slot : Option LegTask) → i < length slots → padded (set slots i slot) ≡ set (padded slots) i slot
 unfolding padded
-padded-set boxes i box h = rw length-set (sym (set-append_left boxes (replicate (65536 - length boxes) None) i box h))
+padded-set slots i slot h = rw length-set (sym (set-append_left slots (replicate (65536 - length slots) None) i slot h))
 
 -- one more slot is made
-pub padded-more : (boxes : List (Option (Box LegTask))) → length boxes < 65536 → padded (boxes ++ None ∷ []) ≡ padded boxes
+pub padded-more : (slots : List (Option LegTask)) → length slots < 65536 → padded (slots ++ None ∷ []) ≡ padded slots
 unfolding padded
-padded-more boxes h =
-    let one : 65536 - length boxes ≡ suc (65536 - length (boxes ++ None ∷ [])) = omega (arith, length-append boxes (None ∷ [])) in
-    append_assoc boxes (None ∷ []) (replicate (65536 - length (boxes ++ None ∷ [])) None) ∙ ap (λ n. boxes ++ replicate n None) (sym one)
+padded-more slots h =
+    let one : 65536 - length slots ≡ suc (65536 - length (slots ++ None ∷ [])) = omega (arith, length-append slots (None ∷ [])) in
+    append_assoc slots (None ∷ []) (replicate (65536 - length (slots ++ None ∷ [])) None) ∙ ap (λ n. slots ++ replicate n None) (sym one)
 
 -- no task is past the made slots
-none-replicate : (n i : ℕ) → get_or (slots_of (replicate n None)) i None ≡ None
-none-replicate zero i = refl
-none-replicate (suc n) zero = refl
-none-replicate (suc n) (suc i) = none-replicate n i
+past-replicate : (n i : ℕ) (o : Option LegTask) → get_or (replicate n o) i o ≡ o
+past-replicate zero i o = refl
+past-replicate (suc n) zero o = refl
+past-replicate (suc n) (suc i) o = past-replicate n i o
 
-pub padded-past : (boxes : List (Option (Box LegTask))) (i : ℕ) → length boxes ≤ i → get_or (slots_of (padded boxes)) i None ≡ None
+pub padded-past : (slots : List (Option LegTask)) (i : ℕ) → length slots ≤ i → get_or (padded slots) i None ≡ None
 unfolding padded
-padded-past boxes i h =
-    ap (λ (slots : List (Option LegTask)). get_or slots i None) (map-append boxed boxes (replicate (65536 - length boxes) None))
-    ∙ get_or-append_right (slots_of boxes) (slots_of (replicate (65536 - length boxes) None)) (length boxes) i None (length-map boxes boxed) h
-    ∙ none-replicate (65536 - length boxes) (i - length boxes)
-
--- what stands for the boxes stands for the slots
-pub padded-same : (boxes others : List (Option (Box LegTask))) → slots_of boxes ≡ slots_of others → slots_of (padded boxes) ≡ slots_of (padded others)
-unfolding padded
-padded-same boxes others same =
-    let long : length boxes ≡ length others = sym (length-map boxes boxed) ∙ ap length same ∙ length-map others boxed in
-    map-append boxed boxes (replicate (65536 - length boxes) None)
-    ∙ ap₂ (λ (slots : List (Option LegTask)) n. slots ++ slots_of (replicate (65536 - n) None)) same long
-    ∙ sym (map-append boxed others (replicate (65536 - length others) None))
+padded-past slots i h =
+    get_or-append_right slots (replicate (65536 - length slots) None) (length slots) i None refl h
+    ∙ past-replicate (65536 - length slots) (i - length slots) None
 
 -- ---- What holds of a table still holds after a change
 

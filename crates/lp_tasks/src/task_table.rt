@@ -3,7 +3,7 @@ ghost use Rattle.std.specs.Prelude.{◌≡◌, ℕ, ◌<◌, ◌≤◌, ◌&&◌
 ghost use Rattle.std.specs.Option.{ForSome, option_map};
 ghost use Rattle.lp_numbers.specs.Numbers.{has};
 ghost use Rattle.lp_numbers.specs.Groups.{is_member};
-ghost use Rattle.lp_tasks.specs.inside.Slots.{slots_of, padded};
+ghost use Rattle.lp_tasks.specs.inside.Slots.{padded};
 ghost use Rattle.lp_tasks.specs.Passing.{passing};
 ghost use Rattle.lp_definitions.specs.Tasks.{is_unused};
 ghost use Rattle.lp_machine.specs.Machine.{put_in, calling, returning};
@@ -24,7 +24,7 @@ use std::marker::Model;
 /// There is room for a slot of each number, but slots are made only as far as the greatest number that
 /// was used: memory that nothing was written to costs nothing.
 pub struct TaskTable {
-    slots: Vec<Option<Box<LiveTask>>>,
+    slots: Vec<Option<LiveTask>>,
     /// The stacks that the records have no room for.
     deep: DeepStacks,
     live: NumberSet,
@@ -52,12 +52,12 @@ impl Model for TaskTable {
     ghost use Rattle.lp_numbers.specs.Numbers.{has};
     ghost use Rattle.lp_definitions.specs.Leg.{LegTask};
     ghost use Rattle.lp_machine.specs.Table.{Table, slot, IsWide};
-    ghost use Rattle.lp_tasks.specs.inside.Slots.{slots_of, padded, IsTable};
+    ghost use Rattle.lp_tasks.specs.inside.Slots.{padded, IsTable};
     ghost use Rattle.lp_tasks.specs.inside.Deep.{deep_at, with_stacks, IsStored};
 
     ghost Value = { Table };
 
-    ghost view = { λ t. record { slots = with_stacks (slots_of (padded t.slots.items)) (deep_at t.deep); used = t.used } };
+    ghost view = { λ t. record { slots = with_stacks (padded t.slots.items) (deep_at t.deep); used = t.used } };
 
     ghost invariant = { λ t. IsStored t.slots.items (vec_capacity t.slots) (deep_at t.deep) t.live t.used t.members };
 }
@@ -200,10 +200,10 @@ impl TaskTable {
     }
 
     /// Makes a task live, under a number from 1 that no live task has.
-    pub fn put(&mut self, task: TaskId, live: Box<LiveTask>)
+    pub fn put(&mut self, task: TaskId, live: LiveTask)
         requires positive { 0 < task.0 }
         requires free { slot self.old task.0 ≡ None }
-        ensures { self.new ≡ with_task task.0 live.value self.old }
+        ensures { self.new ≡ with_task task.0 live self.old }
     {
         self.members.insert(live.group().0, task.0);
         let at = usize::from(task.0);
@@ -320,7 +320,7 @@ fn leave(members: &mut Members, group: Option<GroupId>, task: TaskId)
 }
 
 /// Makes the slots up to this one, without a task where they are new.
-fn reach(slots: &mut Vec<Option<Box<LiveTask>>>, at: usize)
+fn reach(slots: &mut Vec<Option<LiveTask>>, at: usize)
     requires within { at < 65536 }
     requires room { 65536 ≤ vec_capacity slots.old }
     requires few { length slots.old.items ≤ 65536 }
@@ -335,9 +335,9 @@ fn reach(slots: &mut Vec<Option<Box<LiveTask>>>, at: usize)
 }
 
 /// Takes the record out of a task's slot, if the slot is made.
-fn empty(slots: &mut Vec<Option<Box<LiveTask>>>, task: TaskId)
+fn empty(slots: &mut Vec<Option<LiveTask>>, task: TaskId)
     requires { length slots.old.items ≤ 65536 }
-    ensures emptied { slots_of (padded slots.new.items) ≡ slice_set (slots_of (padded slots.old.items)) task.0 None }
+    ensures emptied { padded slots.new.items ≡ slice_set (padded slots.old.items) task.0 None }
     ensures room { vec_capacity slots.new ≡ vec_capacity slots.old }
     ensures few { length slots.new.items ≤ 65536 }
 {
@@ -349,16 +349,16 @@ fn empty(slots: &mut Vec<Option<Box<LiveTask>>>, task: TaskId)
 /// A copy of each slot, with room for one of each number.
 fn copied_slots(
     alloc: Global,
-    slots: &[Option<Box<LiveTask>>],
-) -> Result<Vec<Option<Box<LiveTask>>>, AllocError>
+    slots: &[Option<LiveTask>],
+) -> Result<Vec<Option<LiveTask>>, AllocError>
     requires { length slots.now ≤ 65536 }
-    ensures same { IfOk result (λ copied. slots_of copied.items ≡ slots_of slots.now) }
+    ensures same { IfOk result (λ copied. copied.items ≡ slots.now) }
     ensures room { IfOk result (λ copied. 65536 ≤ vec_capacity copied) }
 {
     let mut copied = Vec::with_capacity(alloc, NUMBERS)?;
     for slot in slots {
         copied.push_reserved(match slot {
-            Some(live) => Some(Box::new(alloc, live.copy())?),
+            Some(live) => Some(live.copy()),
             None => None,
         });
     }

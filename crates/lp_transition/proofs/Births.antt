@@ -14,7 +14,7 @@ use Rattle.lp_machine.specs.Machine.{refusal_of, own_effect, bearing, affected}
 use Rattle.lp_machine.specs.Table.{Table, Engine, IsWide, slot, leg_tasks, state_in}
 use Rattle.lp_tasks.specs.inside.Table.{with_task, without_task, is_off}
 use Rattle.lp_transition.specs.inside.Invariant.{IsBetween, IsEngine}
-use Rattle.lp_transition.specs.Weigh.{born_of, born_by, child_of}
+use Rattle.lp_transition.specs.inside.Births.{born_of, born_by, child_of}
 use Rattle.lp_machine.proofs.EngineLemmas.{unchecked-control, unchecked-stays, next-still}
 use Rattle.lp_machine.proofs.Accept.{fork-live, fork-new}
 use Rattle.lp_tasks.proofs.TableLemmas.{leg_tasks-with_task, leg_tasks-without_task, slot-with_task, slot-with_task_other, slot-without_task, slot-without_task_other, IsWide-with_task, IsWide-without_task, live_from_slot}

@@ -28,7 +28,7 @@ use Rattle.lp_transition.proofs.Blames.{Leaves, blamed_out}
 use Rattle.lp_transition.proofs.BlamedScans.{leaves_scanned, blame_within}
 use Rattle.lp_transition.proofs.Effects.{HasTaken, with_table, with_scan}
 use Rattle.lp_machine_laws.proofs.Runs.{is_step}
-use Rattle.lp_transition.proofs.ScanAnswers.{answer-scan, born-scan, still, verdicts-scan}
+use Rattle.lp_transition.proofs.ScanAnswers.{answer-scan, still, verdicts-scan}
 use Rattle.lp_transition.proofs.ScanTakes.{takes_scan, group_fits}
 use Rattle.lp_tasks.proofs.TableLemmas.{slot_from_live}
 use Rattle.lp_transition.proofs.Unchanged.{core_scanned}
@@ -36,7 +36,7 @@ use Rattle.lp_transition.proofs.LastScans.{last_scanned}
 
 -- the scan, answered by no verdict
 abbrev pub quiet_step : CheckKind → Weighed
-quiet_step on = record { event = scan_event on; reply = record { what = Done; completed = false }; verdicts = []; born = None }
+quiet_step on = record { event = scan_event on; reply = record { what = Done; completed = false }; verdicts = [] }
 
 -- ---- Its answer
 
@@ -59,7 +59,6 @@ module _ (model : Rules) (lawful : IsLawful model) (on : CheckKind) (e : Engine)
   quiet_weighed = record {
     room = room;
     reply = quiet_reply ∙ sym (answer-scan model lawful 65536 (state_in e) (omega arith) sound e.table (λ t x live. slot_from_live e.table t x live) on scan);
-    born = born-scan model (state_in e) on;
     verdicts = verdicts-scan model (state_in e) on [] scan (among-enough model on (state_in e) (λ group. false) [] quiet (asked_none model on (state_in e)));
   }
 

@@ -1,5 +1,5 @@
 -- The answer to a scan, by its verdicts.
-use Rattle.std.proofs.Common.{◌≡◌, ℕ, suc, ◌-◌, ◌<◌, Bool, true, false, not, ◌&&◌, ◌||◌, List, [], ◌∷◌, Some, None, is_none, refl, sym, ap, ap₂, subst, ◌∙◌, ◌↔◌, arith}
+use Rattle.std.proofs.Common.{◌≡◌, ℕ, suc, ◌-◌, ◌<◌, Bool, true, false, not, ◌&&◌, ◌||◌, List, [], ◌∷◌, Some, is_none, refl, sym, ap, ap₂, subst, ◌∙◌, ◌↔◌, arith}
 use Rattle.std.proofs.lemmas.Bool.{false≢true, or_left, or_right, false_from_ne_true}
 use Rattle.std.specs.List.{filter, list_any, range_with_len}
 use mathlib.Core.Path.{fun_ext}
@@ -20,7 +20,7 @@ use Rattle.lp_machine.specs.Machine.{switches_at, switched_groups, affected, ref
 use Rattle.lp_machine.specs.Table.{Table, Engine, slot, state_in}
 use Rattle.lp_tasks.specs.inside.Table.{is_in}
 use Rattle.lp_transition.specs.inside.Invariant.{IsEngine}
-use Rattle.lp_transition.specs.Weigh.{Weighed, IsWeighed, AreVerdictsFor, born_of}
+use Rattle.lp_transition.specs.Weigh.{Weighed, IsWeighed, AreVerdictsFor}
 use Rattle.lp_transition.specs.Scan.{is_scan_kind, scan_event, verdicts_of, AreEnough}
 use Rattle.lp_tasks.specs.Passing.{passing}
 use Rattle.lp_transition.specs.inside.ScanSteps.{tasks_of, is_found, switches_by, all_admit, groups_of}
@@ -91,21 +91,12 @@ module _ (model : Rules) (lawful : IsLawful model) (limit : ℕ) (s : State) (wi
   answer-scan Walk scan = answer-walk
   answer-scan Stop scan = answer-stop
 
--- a scan brings no child
-pub born-scan : (model : Rules) (s : State) (kind : CheckKind) → None ≡ born_of model s (scan_event kind)
-unfolding refusal_of
-born-scan model s KernelExit = refl
-born-scan model s IdlePoint = refl
-born-scan model s Resched = refl
-born-scan model s Walk = refl
-born-scan model s Stop = refl
-
 -- what the verdicts tell
 abbrev pub reply_by : Table → List Verdict → Bool → Reply
 reply_by table vs completed = record { what = switched (passing 0 65536 (switches_by table vs)); completed = completed }
 
 abbrev pub step_by : CheckKind → Table → List Verdict → Bool → Weighed
-step_by kind table vs completed = record { event = scan_event kind; reply = reply_by table vs completed; verdicts = vs; born = None }
+step_by kind table vs completed = record { event = scan_event kind; reply = reply_by table vs completed; verdicts = vs }
 
 -- some task waits, each was looked at, and each was admitted
 abbrev pub Completes : Numbers → List Verdict → Bool → Type 0
@@ -137,7 +128,6 @@ weighs_here model lawful e waiting kind vs completed kept scan enough room tells
     record {
       room = room;
       reply = reply-enough model lawful e waiting kind vs completed kept enough tells ∙ sym there;
-      born = born-scan model (state_in e) kind;
       verdicts = verdicts-scan model (state_in e) kind vs scan enough;
     }
 

@@ -21,7 +21,8 @@ use Rattle.lp_definitions.specs.Sound.{IsSound}
 use Rattle.lp_machine.specs.Machine.{view_of, put_in, calling, returning, bearing, own_effect, switches_at, switched_task, refusal_of, counted, affected, with_switches, next}
 use Rattle.lp_machine.specs.Table.{Table, Engine, IsWide, slot, leg_tasks, state_in}
 use Rattle.lp_transition.specs.Scan.{is_scan_kind, scan_event, verdicts_of, RefusesMember, MayLeaveOut, AreEnough}
-use Rattle.lp_transition.specs.Weigh.{child_of, born_by, born_of, AreVerdictsFor}
+use Rattle.lp_transition.specs.Weigh.{AreVerdictsFor}
+use Rattle.lp_transition.specs.inside.Births.{child_of, born_by, born_of}
 use Rattle.lp_tasks.specs.inside.Table.{changed, is_off, is_in, with_task}
 use Rattle.lp_transition.specs.inside.Invariant.{IsEngine, KeptScan, AreUnchanged, IsNoted, IsCore}
 use Rattle.lp_tasks.specs.inside.OwnChecks.{own_check_event}

@@ -23,7 +23,8 @@ use Rattle.lp_machine.specs.Machine.{complete_in, switches_at, switched_groups, 
 use Rattle.lp_machine.specs.Table.{Engine, slot, fate_at, leg_tasks, state_in, bounds_of}
 use Rattle.lp_tasks.specs.inside.Table.{changed, is_off}
 use Rattle.lp_transition.specs.inside.Invariant.{IsEngine}
-use Rattle.lp_transition.specs.Weigh.{Weighed, IsWeighed, AreVerdictsFor, is_answered_done, done_task, child_of, born_by, born_of, is_switched, refusal_in}
+use Rattle.lp_transition.specs.Weigh.{Weighed, IsWeighed, AreVerdictsFor, is_answered_done, done_task, is_switched, refusal_in}
+use Rattle.lp_transition.specs.inside.Births.{child_of, born_by, born_of}
 use Rattle.lp_machine.proofs.EngineLemmas.{is_unchecked, unchecked-control, unchecked-stays, switched-still, answer-accepted}
 use Rattle.lp_definitions.proofs.Quantifiers.{each_live-at, each_live-from}
 use Rattle.lp_machine.proofs.Accept.{fork-new}
@@ -203,10 +204,6 @@ pub born-child : (model : Rules) (e : Engine) (p c : TaskId) (how : ForkKind) (x
 born-child model e p c how x accepted there =
     sym (ap (λ r. born_by model.child_group r (Fork p c how) (leg_tasks e.table)) accepted ∙ ap (child_of model.child_group c.0 (Fork p c how)) (live_from_slot e.table p.0 x there))
 
--- a refused event brings none
-pub born-refused : (model : Rules) (e : Engine) (event : Event) (why : Refusal) → refusal_of model (state_in e) event ≡ Some why → None ≡ born_of model (state_in e) event
-born-refused model e event why refused = sym (ap (λ r. born_by model.child_group r event (leg_tasks e.table)) refused)
-
 -- an event that is no scan is answered by no verdicts
 pub verdicts-none : (model : Rules) (s : State) (event : Event) → is_scan event ≡ false → AreVerdictsFor model s event []
 verdicts-none model s (Call t f) h = refl
@@ -225,13 +222,13 @@ verdicts-none model s Enable h = refl
 verdicts-none model s Disable h = refl
 verdicts-none model s Reverse h = refl
 
--- an event that is no scan was weighed with its answer and its child
-pub weighed-as : (model : Rules) (e : Engine) (step : Weighed) (event : Event) (reply : Reply) (born : Option LegTask) → is_scan event ≡ false → e.number < 1000000 → step ≡ record { event = event; reply = reply; verdicts = []; born = born } → reply ≡ answer model (state_in e) event → born ≡ born_of model (state_in e) event
+-- an event that is no scan was weighed with its answer
+pub weighed-as : (model : Rules) (e : Engine) (step : Weighed) (event : Event) (reply : Reply) → is_scan event ≡ false → e.number < 1000000 → step ≡ record { event = event; reply = reply; verdicts = [] } → reply ≡ answer model (state_in e) event
     → IsWeighed model e step
-weighed-as model e step event reply born plain room is answers bears =
-    let weighed : Weighed = record { event = event; reply = reply; verdicts = []; born = born } in
+weighed-as model e step event reply plain room is answers =
+    let weighed : Weighed = record { event = event; reply = reply; verdicts = [] } in
     let there : IsWeighed model e weighed =
-    record { room = room; reply = answers; born = bears; verdicts = verdicts-none model (state_in e) event plain } in
+    record { room = room; reply = answers; verdicts = verdicts-none model (state_in e) event plain } in
     subst (IsWeighed model e) (sym is) there
 
 -- the group of a live task is a number below 65,536

@@ -1,5 +1,5 @@
 -- Scans, which look at the stacks of all waiting tasks: what they look at, and what they find.
-use Rattle.std.specs.Prelude.{◌≡◌, ℕ, Bool, true, false, List, [], map, Option, Some, None, is_some, if◌then◌else◌, nat_eq}
+use Rattle.std.specs.Prelude.{◌≡◌, ℕ, Bool, true, false, List, map, Option, Some, None, is_some, if◌then◌else◌, nat_eq}
 use Rattle.std.specs.List.{filter, filter_map, list_any, range_with_len}
 use Rattle.std.specs.Option.{option_map}
 use Rattle.lp_stack.specs.TaskView.{TaskView}
@@ -74,10 +74,6 @@ is_asked s asked t = on_live false (λ x. asked x.group) (s.tasks t)
 -- what a scan finds of the waiting tasks whose groups pass a test, by increasing number
 abbrev pub verdicts_among : Rules → CheckKind → State → (asked : ℕ → Bool) → List Verdict
 verdicts_among model kind s asked = filter (λ v. is_asked s asked v.task.0) (verdicts_of model kind s)
-
--- what a scan finds that leaves out nobody whom it has to ask: of a kind that the model uses, that of all waiting tasks
-abbrev pub verdicts_used : Rules → CheckKind → State → List Verdict
-verdicts_used model kind s = if model.uses kind then verdicts_of model kind s else []
 
 -- ---- Whom it refuses
 

@@ -9,7 +9,7 @@ use Rattle.lp_definitions.specs.declared.event.Event.{Event}
 use Rattle.lp_definitions.specs.Events.{is_scan}
 use Rattle.lp_machine.specs.Machine.{answer}
 use Rattle.lp_machine.specs.Table.{Engine, state_in}
-use Rattle.lp_transition.specs.Weigh.{Weighed, AreVerdictsFor, born_of, refusal_in}
+use Rattle.lp_transition.specs.Weigh.{Weighed, AreVerdictsFor, refusal_in}
 use Rattle.lp_definitions.specs.declared.cert.Claim.{Claim}
 use Rattle.lp_definitions.specs.declared.cert.Cert.{Cert}
 use Rattle.lp_definitions.specs.declared.line.Line.{Line}
@@ -112,11 +112,11 @@ pub record IsStepped (model : Rules) (e : Engine) (step : Weighed) (number : ℕ
 
 -- an event that is no scan as it is weighed
 abbrev pub plain_step : Rules → Engine → Event → Weighed
-plain_step model e event = record { event = event; reply = answer model (state_in e) event; verdicts = []; born = born_of model (state_in e) event }
+plain_step model e event = record { event = event; reply = answer model (state_in e) event; verdicts = [] }
 
 -- the step with other verdicts
 abbrev pub with_verdicts : Weighed → List Verdict → Weighed
-with_verdicts step verdicts = record { event = step.event; reply = step.reply; verdicts = verdicts; born = step.born }
+with_verdicts step verdicts = record { event = step.event; reply = step.reply; verdicts = verdicts }
 
 -- an event may be noted by these verdicts: it may be answered by them, and where the leg continues they tell of each group that
 -- has changed

@@ -1,12 +1,11 @@
 -- How the stacks that a task's record has no room for are kept.
 use Rattle.std.specs.Prelude.{◌≡◌, ℕ, suc, ◌+◌, ◌<◌, ◌≤◌, ◌-◌, true, false, List, [], ◌∷◌, length, map, take, Option, None, Some, is_some, count_by, nat_le, if◌then◌else◌, slice_index_or}
-use Rattle.std.specs.Global.{Box}
 use Rattle.std.specs.Option.{option_map}
 use Rattle.lp_stack.specs.declared.frame.Frame.{Frame}
 use Rattle.lp_numbers.specs.Numbers.{Numbers, has}
 use Rattle.lp_numbers.specs.Groups.{Groups}
 use Rattle.lp_definitions.specs.Leg.{LegTask}
-use Rattle.lp_tasks.specs.inside.Slots.{slots_of, padded, IsTable}
+use Rattle.lp_tasks.specs.inside.Slots.{padded, IsTable}
 
 -- for each task its stack, if that is deep; none past the end
 abbrev pub Deep : Type 0
@@ -99,9 +98,9 @@ pub record IsKept (records : List (Option LegTask)) (deep : ℕ → Option (List
   pub open table use {slots_wide, used_wide, living, known, grouped}
   pub recorded : (t : ℕ) → IsRecorded (slice_index_or records t None) (deep t)
 
--- the table by its boxes: no more than numbers, and room for one of each
-pub record IsStored (boxes : List (Option (Box LegTask))) (capacity : ℕ) (deep : ℕ → Option (List Frame)) (live used : Numbers) (members : Groups) : Type 0 where
-  pub few : length boxes ≤ 65536
+-- the table by its slots: no more than numbers, and room for one of each
+pub record IsStored (slots : List (Option LegTask)) (capacity : ℕ) (deep : ℕ → Option (List Frame)) (live used : Numbers) (members : Groups) : Type 0 where
+  pub few : length slots ≤ 65536
   pub room : 65536 ≤ capacity
-  pub kept : IsKept (slots_of (padded boxes)) deep live used members
+  pub kept : IsKept (padded slots) deep live used members
   pub open kept use {slots_wide, used_wide, living, known, grouped}

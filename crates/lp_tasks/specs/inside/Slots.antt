@@ -1,19 +1,13 @@
 -- How the table of tasks is kept.
-use Rattle.std.specs.Prelude.{◌≡◌, ℕ, ◌-◌, ◌++◌, true, List, Option, None, map, length, replicate, is_some, slice_index_or}
-use Rattle.std.specs.Global.{Box}
-use Rattle.std.specs.Option.{option_map}
+use Rattle.std.specs.Prelude.{◌≡◌, ℕ, ◌-◌, ◌++◌, true, List, Option, None, length, replicate, is_some, slice_index_or}
 use Rattle.lp_numbers.specs.Numbers.{Numbers, has}
 use Rattle.lp_numbers.specs.Groups.{Groups, is_member}
 use Rattle.lp_definitions.specs.Leg.{LegTask}
 use Rattle.lp_tasks.specs.inside.Table.{is_in}
 
 -- a slot of each number, empty where none is made yet
-unfoldable pub padded : List (Option (Box LegTask)) → List (Option (Box LegTask))
-padded boxes = boxes ++ replicate (65536 - length boxes) None
-
--- the live tasks that the boxes hold
-abbrev pub slots_of : List (Option (Box LegTask)) → List (Option LegTask)
-slots_of boxes = map (option_map (λ (b : Box LegTask). b.value)) boxes
+unfoldable pub padded : List (Option LegTask) → List (Option LegTask)
+padded slots = slots ++ replicate (65536 - length slots) None
 
 -- slots for all numbers, the set of those that have a live task, and the members of each group
 pub record IsTable (slots : List (Option LegTask)) (live used : Numbers) (members : Groups) : Type 0 where

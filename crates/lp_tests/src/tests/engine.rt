@@ -1,7 +1,8 @@
 //! What no row of lp_rows can say: calls of an engine by themselves, its limits, events that no text
 //! has, the laws at each model, and calls after a failed allocation.
-ghost use Rattle.std.specs.Prelude.{IfOk};
+ghost use Rattle.std.specs.Prelude.{◌≡◌, true, IfOk};
 ghost use Rattle.lp_patch.specs.Patches.{ShareSymbols};
+ghost use Rattle.lp_transition.specs.Scan.{is_scan_kind};
 ghost use Rattle.lp_transition.specs.Weigh.{IsWeighed};
 
 mod asked;
@@ -19,12 +20,12 @@ mod open;
 mod refusals;
 
 use crate::tests::said::{Said, in_short};
-use lp_model::Consistency;
+use lp_model::{CheckKind, Consistency};
 use lp_models::Hybrid;
 use lp_patch::{PatchFault, PatchSet, PatchStack};
 use lp_stack::{Class, GroupId, Level, TaskId};
 use lp_symbols::{SymId, Symbols};
-use lp_transition::{BootFault, Core, Event, Halt, Opening, Reply, Step, What};
+use lp_transition::{BootFault, Core, Event, Halt, Opening, Reply, Step, What, verdicts};
 use std::alloc::{AllocError, Global};
 
 const A: SymId = SymId(0);
@@ -110,6 +111,15 @@ fn give<M: Consistency>(alloc: Global, core: &mut Core<M>, events: &[Event]) -> 
         }
     }
     true
+}
+
+/// A scan, weighed after a look at every waiting task.
+fn weigh_whole<M: Consistency>(alloc: Global, core: &Core<M>, kind: CheckKind) -> Result<Step, Halt>
+    requires { is_scan_kind kind ≡ true }
+{
+    let views = core.views(alloc)?;
+    let found = verdicts(alloc, &core.model(), kind, views.as_slice(), &core.aim())?;
+    core.weigh_scan(alloc, kind, found.as_slice())
 }
 
 /// What is said to an event that was weighed, which is taken.

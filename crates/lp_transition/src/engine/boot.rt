@@ -87,7 +87,7 @@ impl<M: Consistency> Core<M> {
         ensures stands { IfOk result (λ core. StandsIn M.rules (record { bounds = bounds_of patches; patches = patches; boots = tasks.now; events = [] }) (state_in core)) }
     {
         let mut table = TaskTable::new(alloc)?;
-        put_all(alloc, model, tasks, &mut table)?;
+        put_all(model, tasks, &mut table);
         Ok(Core {
             model,
             patches,
@@ -140,21 +140,14 @@ fn at_boot<M: Consistency>(model: M, task: TaskId, class: Class) -> LiveTask
 }
 
 /// Makes each boot task live.
-fn put_all<M: Consistency>(
-    alloc: Global,
-    model: M,
-    boots: &[(TaskId, Class)],
-    tasks: &mut TaskTable,
-) -> Result<(), AllocError>
+fn put_all<M: Consistency>(model: M, boots: &[(TaskId, Class)], tasks: &mut TaskTable)
     requires no_fault { boot_refusal boots.now ≡ None }
     requires blank { IsBlank tasks.old }
-    ensures live { OnOk result (leg_tasks tasks.new ≡ booted M.rules boots.now) }
-    ensures wide { OnOk result (IsWide tasks.new) }
-    ensures in_range { OnOk result (All (λ boot. (0 < boot.0.0) × (boot.0.0 ≤ 65535)) boots.now) }
+    ensures live { leg_tasks tasks.new ≡ booted M.rules boots.now }
+    ensures wide { IsWide tasks.new }
+    ensures in_range { All (λ boot. (0 < boot.0.0) × (boot.0.0 ≤ 65535)) boots.now }
 {
     for (task, class) in boots {
-        let live = at_boot(model, *task, *class);
-        tasks.put(*task, Box::new(alloc, live)?);
+        tasks.put(*task, at_boot(model, *task, *class));
     }
-    Ok(())
 }

@@ -1,16 +1,15 @@
 //! The events of a run: each is weighed, and taken as it was answered.
 ghost use Rattle.std.specs.Prelude.{◌≡◌, [], ◌≤◌, ◌<◌, ◌↔◌, map, true, false, None, Some, Err, IfOk, OnErr, IsTrue};
-ghost use Rattle.std.specs.Option.{option_map};
 ghost use Rattle.lp_stack.specs.TaskView.{seen};
 ghost use Rattle.lp_patch.specs.Aimed.{aimed};
 ghost use Rattle.lp_transition.specs.declared.engine.step.Halt.TheVariants.{NoMemory, JournalFull};
 ghost use Rattle.lp_definitions.specs.Events.{is_scan};
-ghost use Rattle.lp_transition.specs.Scan.{is_scan_kind, scan_event, verdict_of, verdicts_of, verdicts_used};
+ghost use Rattle.lp_transition.specs.Scan.{is_scan_kind, scan_event, verdict_of, verdicts_of};
 ghost use Rattle.lp_machine.specs.Steps.{IsReply, IsStep};
 ghost use Rattle.lp_transition.specs.Blames.{AreBlamesAfter, HasBlamesAfter};
 ghost use Rattle.lp_transition.specs.LastScan.{IsLastScanAfter};
 ghost use Rattle.lp_machine.specs.Table.{state_in};
-ghost use Rattle.lp_transition.specs.Weigh.{IsWeighed, born_of, is_switched, may_allocate, refusal_in, verdicts_for};
+ghost use Rattle.lp_transition.specs.Weigh.{IsWeighed, is_switched, may_allocate, refusal_in};
 ghost use Rattle.lp_machine.specs.Machine.{refusal_of, answer, next};
 
 use super::Core;
@@ -19,14 +18,9 @@ use crate::{Event, MOST_EVENTS, Refusal, Reply, What};
 use lp_model::{CheckKind, Consistency, Verdict};
 use lp_patch::Aim;
 use lp_stack::{TaskId, View};
-use lp_tasks::LiveTask;
 use std::alloc::{AllocError, Global};
 
 impl<M: Consistency> Core<M> {
-    ghost use Rattle.std.specs.Prelude.{Box};
-    ghost use Rattle.std.specs.Global.{Global};
-    ghost use Rattle.lp_definitions.specs.Leg.{LegTask};
-
     /// One event: answers and takes it. Where it fails the engine is as it was: NoMemory where an
     /// allocation failed, which may be at scans, at accepted forks, and at own checks
     /// where they switch a group, and JournalFull where no event is left.
@@ -93,10 +87,10 @@ impl<M: Consistency> Core<M> {
             self.take_scan(&step);
             return step.into_reply();
         }
-        let (reply, born) = step.into_parts();
+        let reply = step.into_reply();
         match refusal_in(&reply.what) {
             Some(why) => self.take_refused(event, why),
-            None => self.take_accepted(event, is_switched(&reply.what), born),
+            None => self.take_accepted(event, is_switched(&reply.what)),
         }
         reply
     }
@@ -109,23 +103,6 @@ impl<M: Consistency> Core<M> {
         self.events < MOST_EVENTS
     }
 
-    /// Any event, weighed; a walk or a stop that the model uses after a look at every waiting task.
-    /// Makes each allocation that `take` needs: NoMemory where one failed, JournalFull where no
-    /// event is left.
-    pub fn weigh_any(&self, alloc: Global, event: Event) -> Result<Step, Halt>
-        ensures full { (result ≡ Err JournalFull) ↔ (1000000 ≤ self.now.number) }
-        ensures memory { result ≡ Err NoMemory → IsTrue (may_allocate event (answer M.rules (state_in self.now) event).what) }
-        ensures weighed { IfOk result (λ step. IsWeighed M.rules self.now step) }
-        ensures event { IfOk result (λ step. step.event ≡ event) }
-        ensures verdicts { IfOk result (λ step. step.verdicts ≡ verdicts_for M.rules (state_in self.now) event) }
-    {
-        match event {
-            Event::Walk => self.weigh_check(alloc, CheckKind::Walk),
-            Event::Stop => self.weigh_check(alloc, CheckKind::Stop),
-            _ => self.weigh(alloc, event),
-        }
-    }
-
     /// A walk or a stop, weighed after a look at every waiting task, or at none where the model
     /// doesn't use the check.
     pub(super) fn weigh_check(&self, alloc: Global, kind: CheckKind) -> Result<Step, Halt>
@@ -134,7 +111,6 @@ impl<M: Consistency> Core<M> {
         ensures reply { IfOk result (λ step. IsReply M.rules (state_in self.now) (scan_event kind) step.reply) }
         ensures weighed { IfOk result (λ step. IsWeighed M.rules self.now step) }
         ensures event { IfOk result (λ step. step.event ≡ scan_event kind) }
-        ensures verdicts { IfOk result (λ step. step.verdicts ≡ verdicts_used M.rules kind (state_in self.now)) }
     {
         if self.events >= MOST_EVENTS {
             return Err(Halt::JournalFull);
@@ -159,12 +135,11 @@ impl<M: Consistency> Core<M> {
     }
 
     /// What was weighed is handed in, so that nothing here can fail once the engine has begun to change.
-    fn take_accepted(&mut self, event: Event, switching: bool, born: Option<Box<LiveTask>>)
+    fn take_accepted(&mut self, event: Event, switching: bool)
         requires room { self.old.number < 1000000 }
         requires accepted { refusal_of M.rules (state_in self.old) event ≡ None }
         requires scan { is_scan event ≡ false }
         requires switching { switching ≡ is_switched (answer M.rules (state_in self.old) event).what }
-        requires born { option_map (λ (b : Box LegTask Global). b.value) born ≡ born_of M.rules (state_in self.old) event }
         ensures state { state_in self.new ≡ next M.rules (state_in self.old) event }
         ensures blames { AreBlamesAfter M.rules self.old event [] self.new }
         ensures last_scan { IsLastScanAfter M.rules self.old event self.new }
@@ -177,10 +152,7 @@ impl<M: Consistency> Core<M> {
             Event::Exit(task) => self.take_own_check(CheckKind::KernelExit, task, switching),
             Event::Idle(task) => self.take_own_check(CheckKind::IdlePoint, task, switching),
             Event::Resched(task) => self.take_own_check(CheckKind::Resched, task, switching),
-            Event::Fork(parent, child, how) => {
-                let Some(live) = born else { unreachable!() };
-                self.take_fork(parent, child, how, live);
-            }
+            Event::Fork(parent, child, how) => self.take_fork(parent, child, how),
             Event::Die(task) => self.take_die(task),
             Event::Enable | Event::Disable | Event::Reverse => self.take_control(event),
             Event::Walk | Event::Stop => unreachable!(),

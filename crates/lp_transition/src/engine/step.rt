@@ -1,11 +1,9 @@
 //! An event that was weighed.
-ghost use Rattle.std.specs.Prelude.{◌≡◌, [], Some, None};
-ghost use Rattle.std.specs.Option.{option_map};
+ghost use Rattle.std.specs.Prelude.{◌≡◌, []};
 ghost use Rattle.lp_transition.specs.declared.engine.step.Halt.TheVariants.{NoMemory};
 
 use crate::{Event, Reply};
 use lp_model::Verdict;
-use lp_tasks::LiveTask;
 use std::alloc::{AllocError, AllocFailed, Global};
 use std::marker::Model;
 use thiserror::Error;
@@ -42,8 +40,6 @@ pub struct Step {
     event: Event,
     reply: Reply,
     verdicts: Vec<Verdict>,
-    /// The child that an accepted fork brings.
-    born: Option<Box<LiveTask>>,
 }
 
 /// By hand, so that the proof of who owns one lets go of it in one step, not field by field.
@@ -53,27 +49,19 @@ impl Drop for Step {
             event: _,
             reply: _,
             verdicts: _,
-            born: _,
         } = self;
     }
 }
 
 impl Model for Step {
-    ghost use Rattle.std.specs.Prelude.{Box};
-    ghost use Rattle.std.specs.Global.{Global};
-    ghost use Rattle.std.specs.Option.{option_map};
-    ghost use Rattle.lp_definitions.specs.Leg.{LegTask};
     ghost use Rattle.lp_transition.specs.Weigh.{Weighed};
 
     ghost Value = { Weighed };
 
-    ghost view = { λ s. record { event = s.event; reply = s.reply; verdicts = s.verdicts.items; born = option_map (λ (b : Box LegTask Global). b.value) s.born } };
+    ghost view = { λ s. record { event = s.event; reply = s.reply; verdicts = s.verdicts.items } };
 }
 
 impl Step {
-    ghost use Rattle.std.specs.Prelude.{Box};
-    ghost use Rattle.std.specs.Global.{Global};
-    ghost use Rattle.lp_definitions.specs.Leg.{LegTask};
     ghost use Rattle.lp_transition.specs.Weigh.{Weighed};
 
     /// The event.
@@ -105,58 +93,29 @@ impl Step {
             event: _,
             reply,
             verdicts: _,
-            born: _,
         } = self;
         reply
     }
 
-    /// The answer, and the child that an accepted fork brings. Never allocates.
-    pub(super) fn into_parts(self) -> (Reply, Option<Box<LiveTask>>)
-        ensures reply { result.0 ≡ self.reply }
-        ensures born { option_map (λ (b : Box LegTask Global). b.value) result.1 ≡ self.born }
-    {
-        let Self {
-            event: _,
-            reply,
-            verdicts: _,
-            born,
-        } = self;
-        (reply, born)
-    }
-
     /// A scan with its answer and the verdicts that it was answered by.
     pub(super) fn scan(event: Event, reply: Reply, verdicts: Vec<Verdict>) -> Step
-        ensures { result ≡ record { event = event; reply = reply; verdicts = verdicts.items; born = None } }
+        ensures { result ≡ record { event = event; reply = reply; verdicts = verdicts.items } }
     {
         Step {
             event,
             reply,
             verdicts,
-            born: None,
         }
     }
 
-    /// An event with its answer that no verdicts were needed for and that brings no child.
+    /// An event with its answer that no verdicts were needed for.
     pub(super) fn plain(alloc: Global, event: Event, reply: Reply) -> Step
-        ensures { result ≡ record { event = event; reply = reply; verdicts = []; born = None } }
+        ensures { result ≡ record { event = event; reply = reply; verdicts = [] } }
     {
         Step {
             event,
             reply,
             verdicts: Vec::new(alloc),
-            born: None,
-        }
-    }
-
-    /// An accepted fork with its answer and the child that it brings.
-    pub(super) fn birth(alloc: Global, event: Event, reply: Reply, born: Box<LiveTask>) -> Step
-        ensures { result ≡ record { event = event; reply = reply; verdicts = []; born = Some born.value } }
-    {
-        Step {
-            event,
-            reply,
-            verdicts: Vec::new(alloc),
-            born: Some(born),
         }
     }
 }

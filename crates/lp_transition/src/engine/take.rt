@@ -3,7 +3,7 @@
 //! A quiet event changes its task before anything else is written: so the record by which it was found acceptable is still
 //! known and isn't looked up once more.
 ghost use Rattle.std.specs.Prelude.{◌≡◌, [], ◌<◌, None, Some};
-ghost use Rattle.lp_transition.specs.Weigh.{born_of};
+ghost use Rattle.lp_transition.specs.inside.Births.{born_of};
 ghost use Rattle.lp_transition.specs.Blames.{AreBlamesAfter};
 ghost use Rattle.lp_transition.specs.LastScan.{IsLastScanAfter};
 ghost use Rattle.lp_machine.specs.Table.{state_in};
@@ -13,9 +13,10 @@ ghost use Rattle.lp_transition.specs.inside.Moves.{move_event};
 use super::Core;
 use super::control::put_number;
 use super::moves::Move;
+use super::weigh::{group_of, level_of};
 use crate::Event;
 use lp_model::{Consistency, ForkKind};
-use lp_stack::TaskId;
+use lp_stack::{Class, Mode, TaskId};
 use lp_symbols::SymId;
 use lp_tasks::LiveTask;
 
@@ -64,25 +65,31 @@ impl<M: Consistency> Core<M> {
     }
 
     /// A child of a parent that switched is on the target already, and waits for nothing.
-    pub(super) fn take_fork(
-        &mut self,
-        parent: TaskId,
-        child: TaskId,
-        how: ForkKind,
-        live: Box<LiveTask>,
-    )
+    pub(super) fn take_fork(&mut self, parent: TaskId, child: TaskId, how: ForkKind)
         requires room { self.old.number < 1000000 }
         requires accepted { refusal_of M.rules (state_in self.old) (Event.Fork parent child how) ≡ None }
-        requires born { born_of M.rules (state_in self.old) (Event.Fork parent child how) ≡ Some live.value }
         ensures state { state_in self.new ≡ next M.rules (state_in self.old) (Event.Fork parent child how) }
         ensures blames { AreBlamesAfter M.rules self.old (Event.Fork parent child how) [] self.new }
         ensures last_scan { IsLastScanAfter M.rules self.old (Event.Fork parent child how) self.new }
     {
+        let live = self.child(parent, child, how);
         let waits = live.level() != self.target;
         self.events += 1;
         put_number(&mut self.waiting, child.0, waits);
         self.tasks.put(child, live);
         self.unchanged.touch(&self.tasks, child);
+    }
+
+    /// The child of an accepted fork, which begins in the kernel on its parent's level.
+    fn child(&self, parent: TaskId, child: TaskId, how: ForkKind) -> LiveTask
+        requires { refusal_of M.rules (state_in self.now) (Event.Fork parent child how) ≡ None }
+        ensures { born_of M.rules (state_in self.now) (Event.Fork parent child how) ≡ Some result }
+    {
+        let group = self
+            .model
+            .child_group(group_of(&self.tasks, parent), child, how);
+        let level = level_of(&self.tasks, parent);
+        LiveTask::new(Class::Normal, Mode::Kernel, group, level)
     }
 
     /// The number stays used: a name that meant two tasks would make certificates ambiguous.

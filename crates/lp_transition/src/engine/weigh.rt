@@ -6,7 +6,7 @@ ghost use Rattle.std.specs.Option.{ForSome};
 ghost use Rattle.lp_numbers.specs.Numbers.{has};
 ghost use Rattle.lp_definitions.specs.Tasks.{on_live};
 ghost use Rattle.lp_machine.specs.Table.{slot, leg_tasks, state_in};
-ghost use Rattle.lp_transition.specs.Weigh.{IsWeighed, born_of, may_allocate, is_answered_done, done_task, is_fork};
+ghost use Rattle.lp_transition.specs.Weigh.{IsWeighed, may_allocate, is_answered_done, done_task};
 ghost use Rattle.lp_machine.specs.Steps.{IsReply};
 ghost use Rattle.lp_machine.specs.Machine.{refusal_of, answer};
 
@@ -15,9 +15,9 @@ use super::step::{Halt, Step};
 use crate::{Event, GroupList, MOST_EVENTS, Refusal, Reply, What};
 use lp_model::{CheckKind, Consistency, ForkKind};
 use lp_numbers::NumberSet;
-use lp_stack::{Class, GroupId, Level, Mode, TaskId};
+use lp_stack::{GroupId, Level, TaskId};
 use lp_symbols::SymId;
-use lp_tasks::{LiveTask, TaskTable};
+use lp_tasks::TaskTable;
 use std::alloc::{AllocError, Global};
 
 impl<M: Consistency> Core<M> {
@@ -39,20 +39,15 @@ impl<M: Consistency> Core<M> {
         if let Some(why) = self.refusal(event) {
             return Ok(Step::plain(alloc, event, refused(why)));
         }
-        if let Event::Fork(parent, child, how) = event {
-            let born = Box::new(alloc, self.child(parent, child, how))?;
-            return Ok(Step::birth(alloc, event, done(), born));
-        }
         let reply = self.answer_accepted(alloc, event)?;
         Ok(Step::plain(alloc, event, reply))
     }
 
-    /// The answer to an accepted event that is no scan and no fork.
+    /// The answer to an accepted event that is no scan.
     fn answer_accepted(&self, alloc: Global, event: Event) -> Result<Reply, AllocError>
         requires room { self.now.number < 1000000 }
         requires accepted { refusal_of M.rules (state_in self.now) event ≡ None }
         requires scan { is_scan event ≡ false }
-        requires fork { is_fork event ≡ false }
         ensures memory { IsErr result → IsTrue (may_allocate event (answer M.rules (state_in self.now) event).what) }
         ensures answer { IfOk result (λ reply. reply ≡ answer M.rules (state_in self.now) event) }
     {
@@ -62,9 +57,10 @@ impl<M: Consistency> Core<M> {
             Event::Exit(task) => self.answer_own_check(alloc, CheckKind::KernelExit, task),
             Event::Idle(task) => self.answer_own_check(alloc, CheckKind::IdlePoint, task),
             Event::Resched(task) => self.answer_own_check(alloc, CheckKind::Resched, task),
+            Event::Fork(parent, child, how) => Ok(self.answer_fork(parent, child, how)),
             Event::Die(task) => Ok(self.answer_die(task)),
             Event::Enable | Event::Disable | Event::Reverse => Ok(self.answer_control(event)),
-            Event::Fork(..) | Event::Walk | Event::Stop => unreachable!(),
+            Event::Walk | Event::Stop => unreachable!(),
         }
     }
 
@@ -96,6 +92,17 @@ impl<M: Consistency> Core<M> {
         done()
     }
 
+    /// A child begins on its parent's level, so that a fork switches nobody and completes nothing.
+    fn answer_fork(&self, parent: TaskId, child: TaskId, how: ForkKind) -> Reply
+        requires room { self.now.number < 1000000 }
+        requires accepted { refusal_of M.rules (state_in self.now) (Event.Fork parent child how) ≡ None }
+        ensures { result ≡ answer M.rules (state_in self.now) (Event.Fork parent child how) }
+    {
+        // For the proof alone, which knows what every value keeps once a field is read.
+        let _ = &self.tasks;
+        done()
+    }
+
     /// A task that ends may have been the last that waited: then its end completes the transition.
     fn answer_die(&self, task: TaskId) -> Reply
         requires room { self.now.number < 1000000 }
@@ -106,18 +113,6 @@ impl<M: Consistency> Core<M> {
             what: What::Done,
             completed: is_only(&self.waiting, task.0),
         }
-    }
-
-    /// It is made here and not where the fork is taken: its box is the one allocation of a fork.
-    fn child(&self, parent: TaskId, child: TaskId, how: ForkKind) -> LiveTask
-        requires { refusal_of M.rules (state_in self.now) (Event.Fork parent child how) ≡ None }
-        ensures { Some result ≡ born_of M.rules (state_in self.now) (Event.Fork parent child how) }
-    {
-        let group = self
-            .model
-            .child_group(group_of(&self.tasks, parent), child, how);
-        let level = level_of(&self.tasks, parent);
-        LiveTask::new(Class::Normal, Mode::Kernel, group, level)
     }
 }
 

@@ -102,7 +102,7 @@ fn whole_walk(
     verdicts: usize,
     completes: bool,
 ) -> Option<GroupId> {
-    match core.weigh_any(alloc, Event::Walk) {
+    match weigh_whole(alloc, core, CheckKind::Walk) {
         Ok(whole) => one_over(&whole, verdicts, completes),
         Err(_) => None,
     }
@@ -154,7 +154,7 @@ fn who_is_refused_may_be_left_out(rt: HostRuntime) {
 
 /// Whether a stop has no verdicts, and nothing comes of it.
 fn stops_in_vain(alloc: Global, core: &Core<Hybrid>) -> bool {
-    match core.weigh_any(alloc, Event::Stop) {
+    match core.weigh_changed(alloc, Event::Stop) {
         Ok(stop) => stop.verdicts().is_empty() && matches!(&stop.reply().what, What::Done),
         Err(_) => false,
     }

@@ -90,8 +90,10 @@ pub(super) fn weighed<M: Consistency>(
 }
 
 /// Whether a scan that looks at every member says this.
-fn says_whole<M: Consistency>(alloc: Global, core: &Core<M>, scan: Event, said: Said) -> bool {
-    match core.weigh_any(alloc, scan) {
+fn says_whole<M: Consistency>(alloc: Global, core: &Core<M>, kind: CheckKind, said: Said) -> bool
+    requires { is_scan_kind kind ≡ true }
+{
+    match weigh_whole(alloc, core, kind) {
         Ok(step) => in_short(step.reply()) == said,
         Err(_) => false,
     }
@@ -148,7 +150,7 @@ fn scans<M: Consistency>(
 ) -> bool
     requires { is_scan_kind kind ≡ true }
 {
-    says_whole(alloc, core, scan_of(kind), said) && says_in_part(alloc, core, kind, found, said)
+    says_whole(alloc, core, kind, said) && says_in_part(alloc, core, kind, found, said)
 }
 
 /// Whether each of these rows does, for the group of task 1.

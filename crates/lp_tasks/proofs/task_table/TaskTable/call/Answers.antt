@@ -4,8 +4,7 @@ use Rattle.std.specs.Option.{option_map}
 use Rattle.lp_machine.specs.Machine.{calling}
 use Rattle.lp_definitions.specs.Leg.{LegTask}
 use Rattle.lp_tasks.specs.inside.Deep.{deep_at, with_deep, IsRecorded}
-use Rattle.lp_tasks.proofs.SlotLemmas.{boxed}
-use Rattle.lp_tasks.proofs.KeptLemmas.{box-task, box-recorded, boxes-moved, kept-moved, unchanged-past}
+use Rattle.lp_tasks.proofs.KeptLemmas.{slot-task, slot-recorded, slots-moved, kept-moved, unchanged-past}
 use Rattle.lp_tasks.proofs.task_table.TaskTable.call.Goals as goal
 
 pub call-requires-clause-recorded : goal.call-requires-clause-recorded
@@ -13,8 +12,8 @@ call-requires-clause-recorded c =
     let i = c.self.inside in
     let made : c.args.task.0 < length i.slots.items = omega arith in
     let read = rw c.from-at.ensures at c.index_mut.ensures.value in
-    let was : boxed c.index_mut.result.now ≡ Some c.deref_mut.result.now = rw c.in-Some.is (rw c.deref_mut.ensures.value refl) in
-    subst (λ o. IsRecorded o (deep_at i.deep c.args.task.0)) was (box-recorded i.slots.items (vec_capacity i.slots) (deep_at i.deep) i.live i.used i.members c.self.invariant c.args.task.0 made c.index_mut.result.now read)
+    let was : c.index_mut.result.now ≡ Some c.in-Some.live = c.in-Some.is in
+    subst (λ o. IsRecorded o (deep_at i.deep c.args.task.0)) was (slot-recorded i.slots.items (vec_capacity i.slots) (deep_at i.deep) i.live i.used i.members c.self.invariant c.args.task.0 made c.index_mut.result.now read)
 
 pub call-requires-clause-room : goal.call-requires-clause-room
 call-requires-clause-room c = λ x e.
@@ -22,8 +21,8 @@ call-requires-clause-room c = λ x e.
     let t = c.args.task.0 in
     let made : c.args.task.0 < length i.slots.items = omega arith in
     let read = rw c.from-at.ensures at c.index_mut.ensures.value in
-    let was : boxed c.index_mut.result.now ≡ Some c.deref_mut.result.now = rw c.in-Some.is (rw c.deref_mut.ensures.value refl) in
-    c.requires x (rw (← c.self.view_is) (box-task i.slots.items (vec_capacity i.slots) (deep_at i.deep) i.live i.used i.members c.self.invariant t made c.index_mut.result.now read ∙ ap (λ o. with_deep o (deep_at i.deep t)) was ∙ e))
+    let was : c.index_mut.result.now ≡ Some c.in-Some.live = c.in-Some.is in
+    c.requires x (rw (← c.self.view_is) (slot-task i.slots.items (vec_capacity i.slots) (deep_at i.deep) i.live i.used i.members c.self.invariant t made c.index_mut.result.now read ∙ ap (λ o. with_deep o (deep_at i.deep t)) was ∙ e))
 
 pub invariant_of-self : goal.invariant_of-self
 invariant_of-self c =
@@ -31,7 +30,7 @@ invariant_of-self c =
     let t = c.args.task.0 in
     let made : c.args.task.0 < length i.slots.items = omega arith in
     let read = rw c.from-at.ensures at c.index_mut.ensures.value in
-    let was : boxed c.index_mut.result.now ≡ Some c.deref_mut.result.now = rw c.in-Some.is (rw c.deref_mut.ensures.value refl) in
+    let was : c.index_mut.result.now ≡ Some c.in-Some.live = c.in-Some.is in
     let is = c.call.ensures.called ∙ ap (λ o. option_map (calling c.args.serial c.args.func) (with_deep o (deep_at i.deep t))) (sym was) in
     rw c.from-at.ensures (kept-moved i.slots.items (vec_capacity i.slots) (deep_at i.deep) i.live i.used i.members c.self.invariant t made c.index_mut.result.now read (deep_at c.call.new.deep) c.call.ensures.others _ (calling c.args.serial c.args.func) is (λ x. refl) c.call.ensures.recorded)
 
@@ -41,9 +40,9 @@ returns-in-Some c =
     let t = c.args.task.0 in
     let made : c.args.task.0 < length i.slots.items = omega arith in
     let read = rw c.from-at.ensures at c.index_mut.ensures.value in
-    let was : boxed c.index_mut.result.now ≡ Some c.deref_mut.result.now = rw c.in-Some.is (rw c.deref_mut.ensures.value refl) in
+    let was : c.index_mut.result.now ≡ Some c.in-Some.live = c.in-Some.is in
     let is = c.call.ensures.called ∙ ap (λ o. option_map (calling c.args.serial c.args.func) (with_deep o (deep_at i.deep t))) (sym was) in
-    rw (← c.self.view_is, c.from-at.ensures) (ap (λ (slots : List (Option LegTask)). record { slots = slots; used = i.used }) (boxes-moved i.slots.items (vec_capacity i.slots) (deep_at i.deep) i.live i.used i.members c.self.invariant t made c.index_mut.result.now read (deep_at c.call.new.deep) c.call.ensures.others _ (calling c.args.serial c.args.func) is))
+    rw (← c.self.view_is, c.from-at.ensures) (ap (λ (slots : List (Option LegTask)). record { slots = slots; used = i.used }) (slots-moved i.slots.items (vec_capacity i.slots) (deep_at i.deep) i.live i.used i.members c.self.invariant t made c.index_mut.result.now read (deep_at c.call.new.deep) c.call.ensures.others _ (calling c.args.serial c.args.func) is))
 
 pub returns-in_default : goal.returns-in_default
 returns-in_default c =
@@ -51,7 +50,7 @@ returns-in_default c =
     let t = c.args.task.0 in
     let made : c.args.task.0 < length i.slots.items = omega arith in
     let read = rw c.from-at.ensures at c.index_mut.ensures.value in
-    rw (← c.self.view_is, c.from-at.ensures) (ap (λ (slots : List (Option LegTask)). record { slots = slots; used = i.used }) (boxes-moved i.slots.items (vec_capacity i.slots) (deep_at i.deep) i.live i.used i.members c.self.invariant t made c.index_mut.result.now read (deep_at i.deep) (λ u ne. refl) c.index_mut.result.now (calling c.args.serial c.args.func) (rw c.in_default.is refl)))
+    rw (← c.self.view_is, c.from-at.ensures) (ap (λ (slots : List (Option LegTask)). record { slots = slots; used = i.used }) (slots-moved i.slots.items (vec_capacity i.slots) (deep_at i.deep) i.live i.used i.members c.self.invariant t made c.index_mut.result.now read (deep_at i.deep) (λ u ne. refl) c.index_mut.result.now (calling c.args.serial c.args.func) (rw c.in_default.is refl)))
 
 pub returns-then-at-len : goal.returns-then-at-len
 returns-then-at-len c =

@@ -1,7 +1,7 @@
 use Rattle.std.proofs.Common.{◌<◌, ◌≤◌, length, vec_capacity, List, Option, refl, ap, arith}
 use Rattle.lp_definitions.specs.Leg.{LegTask}
 use Rattle.lp_tasks.specs.inside.Deep.{deep_at}
-use Rattle.lp_tasks.proofs.KeptLemmas.{boxes-plain, kept-plain, unchanged-past}
+use Rattle.lp_tasks.proofs.KeptLemmas.{slots-plain, kept-plain, unchanged-past}
 use Rattle.lp_tasks.proofs.task_table.TaskTable.set_level.Goals as goal
 use Rattle.lp_tasks.proofs.task_table.TaskTable.set_level.Goals.{in-Some, in_default}
 
@@ -10,7 +10,7 @@ invariant_of-self c =
     let i = c.self.inside in
     let made : c.from-at.result < length i.slots.items = omega arith in
     elim c.match-index_mut.branch [
-      | in-Some w ↦ rw w.self-inside-is (kept-plain i.slots.items (vec_capacity i.slots) (deep_at i.deep) i.live i.used i.members c.self.invariant c.from-at.result made c.index_mut.result.now c.index_mut.ensures.value _ (λ (x : LegTask). record x { level = c.args.level.0 }) (λ x. refl) (λ x frames. refl) (rw w.in-Some.is (rw (w.set_level.ensures, w.deref_mut.ensures.value) refl)) (λ x. refl))
+      | in-Some w ↦ rw w.self-inside-is (kept-plain i.slots.items (vec_capacity i.slots) (deep_at i.deep) i.live i.used i.members c.self.invariant c.from-at.result made c.index_mut.result.now c.index_mut.ensures.value _ (λ (x : LegTask). record x { level = c.args.level.0 }) (λ x. refl) (λ x frames. refl) (rw w.in-Some.is (rw w.set_level.ensures refl)) (λ x. refl))
       | in_default w ↦ rw w.self-inside-is (kept-plain i.slots.items (vec_capacity i.slots) (deep_at i.deep) i.live i.used i.members c.self.invariant c.from-at.result made c.index_mut.result.now c.index_mut.ensures.value _ (λ (x : LegTask). record x { level = c.args.level.0 }) (λ x. refl) (λ x frames. refl) (rw w.in_default.is refl) (λ x. refl))
     ]
 
@@ -19,8 +19,8 @@ returns c =
     let i = c.self.inside in
     let made : c.from-at.result < length i.slots.items = omega arith in
     elim c.match-index_mut.branch [
-      | in-Some w ↦ rw (w.self-inside-is, ← c.self.view_is, ← c.from-at.ensures) (ap (λ (slots : List (Option LegTask)). record { slots = slots; used = i.used }) (boxes-plain i.slots.items (vec_capacity i.slots) (deep_at i.deep) i.live i.used i.members c.self.invariant c.from-at.result made c.index_mut.result.now c.index_mut.ensures.value _ (λ (x : LegTask). record x { level = c.args.level.0 }) (λ x. refl) (λ x frames. refl) (rw w.in-Some.is (rw (w.set_level.ensures, w.deref_mut.ensures.value) refl))))
-      | in_default w ↦ rw (w.self-inside-is, ← c.self.view_is, ← c.from-at.ensures) (ap (λ (slots : List (Option LegTask)). record { slots = slots; used = i.used }) (boxes-plain i.slots.items (vec_capacity i.slots) (deep_at i.deep) i.live i.used i.members c.self.invariant c.from-at.result made c.index_mut.result.now c.index_mut.ensures.value _ (λ (x : LegTask). record x { level = c.args.level.0 }) (λ x. refl) (λ x frames. refl) (rw w.in_default.is refl)))
+      | in-Some w ↦ rw (w.self-inside-is, ← c.self.view_is, ← c.from-at.ensures) (ap (λ (slots : List (Option LegTask)). record { slots = slots; used = i.used }) (slots-plain i.slots.items (vec_capacity i.slots) (deep_at i.deep) i.live i.used i.members c.self.invariant c.from-at.result made c.index_mut.result.now c.index_mut.ensures.value _ (λ (x : LegTask). record x { level = c.args.level.0 }) (λ x. refl) (λ x frames. refl) (rw w.in-Some.is (rw w.set_level.ensures refl))))
+      | in_default w ↦ rw (w.self-inside-is, ← c.self.view_is, ← c.from-at.ensures) (ap (λ (slots : List (Option LegTask)). record { slots = slots; used = i.used }) (slots-plain i.slots.items (vec_capacity i.slots) (deep_at i.deep) i.live i.used i.members c.self.invariant c.from-at.result made c.index_mut.result.now c.index_mut.ensures.value _ (λ (x : LegTask). record x { level = c.args.level.0 }) (λ x. refl) (λ x frames. refl) (rw w.in_default.is refl)))
     ]
 
 pub returns-then-at-len : goal.returns-then-at-len

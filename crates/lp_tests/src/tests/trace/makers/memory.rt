@@ -56,8 +56,8 @@ fn still_gives(alloc: Global, maker: &Maker, before: &Given) -> bool {
 fn weighed_again(alloc: Global, core: &Core<Hybrid>, event: Event) -> Result<Step, Halt>
     ensures { IfOk result (λ step. IsWeighed (rules_of hybrid) core.now step) }
 {
-    match core.weigh_any(alloc, event) {
-        Err(Halt::NoMemory) => core.weigh_any(alloc, event),
+    match core.weigh_changed(alloc, event) {
+        Err(Halt::NoMemory) => core.weigh_changed(alloc, event),
         answer => answer,
     }
 }

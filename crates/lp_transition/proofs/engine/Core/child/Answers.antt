@@ -1,4 +1,4 @@
-use Rattle.std.proofs.Common.{ℕ, [], Option, Some, ap, ap₂, ◌∙◌}
+use Rattle.std.proofs.Common.{ℕ, [], Option, Some, sym, ap, ap₂, ◌∙◌}
 use Rattle.lp_stack.specs.declared.view.Class.TheVariants.{Normal}
 use Rattle.lp_stack.specs.declared.view.Mode.TheVariants.{Kernel}
 use Rattle.lp_definitions.specs.Tasks.{on_live}
@@ -19,5 +19,5 @@ returns g c =
     let group = c.child_group-group.ensures ∙ ap (λ k. g.M.Consistency.rules.child_group k c.args.child.0 c.args.how) (c.group_of.ensures live.task live.there) in
     let level = c.level_of-level.ensures ∙ ap (on_live 0 (λ x. x.level)) (live_from_slot i.tasks c.args.parent.0 live.task live.there) in
     rw (← c.self.view_is)
-    (ap {A = LegTask} {B = Option LegTask} Some (c.new.ensures ∙ ap₂ {A = ℕ} {B = ℕ} {C = LegTask} (λ k l. record { class = Normal; mode = Kernel; group = k; level = l; frames = [] }) group level)
-    ∙ born-child g.M.Consistency.rules e c.args.parent c.args.child c.args.how live.task accepted live.there)
+    (sym (ap {A = LegTask} {B = Option LegTask} Some (c.new.ensures ∙ ap₂ {A = ℕ} {B = ℕ} {C = LegTask} (λ k l. record { class = Normal; mode = Kernel; group = k; level = l; frames = [] }) group level)
+    ∙ born-child g.M.Consistency.rules e c.args.parent c.args.child c.args.how live.task accepted live.there))

@@ -1,5 +1,4 @@
-use Rattle.std.proofs.Common.{sym, ◌∙◌, arith}
-use Rattle.std.proofs.lemmas.Grind.{common_steps}
+use Rattle.std.proofs.Common.{sym, ◌∙◌}
 use Rattle.lp_machine.specs.Table.{state_in}
 use Rattle.lp_transition.proofs.AskedScans.{none-enough, all-enough}
 use Rattle.lp_transition.proofs.engine.Core.weigh_check.Goals as goal
@@ -9,9 +8,3 @@ weigh_found-requires-clause-found g c = rw c.new.ensures.items (none-enough g.M.
 
 pub weigh_found-requires-2-clause-found : goal.weigh_found-requires-2-clause-found
 weigh_found-requires-2-clause-found g c = all-enough g.M.Consistency.rules c.args.kind (state_in c.args.self.now) c.in_ok-found.found.items c.in_ok-found.ensures
-
-pub returns-clause-verdicts : goal.returns-clause-verdicts
-returns-clause-verdicts g c = grind (arith, common_steps)
-
-pub returns-then-not-uses-clause-verdicts : goal.returns-then-not-uses-clause-verdicts
-returns-then-not-uses-clause-verdicts g c = grind (arith, common_steps)

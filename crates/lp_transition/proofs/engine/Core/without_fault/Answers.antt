@@ -7,7 +7,7 @@ use Rattle.lp_transition.proofs.engine.Core.without_fault.Goals as goal
 
 pub invariant_of-result : goal.invariant_of-result
 invariant_of-result g c =
-    let made = c.in_ok-put_all.ensures in
+    let made = c.put_all.ensures in
     let put : ArePut g.M.Consistency.rules c.args.tasks.now c.put_all.new.tasks = record { wide = made.wide; live = made.live; in_range = made.in_range } in
     record {
       core =
@@ -23,12 +23,12 @@ invariant_of-result g c =
 
 pub returns-clause-started : goal.returns-clause-started
 returns-clause-started g c =
-    let made = c.in_ok-put_all.ensures in
+    let made = c.put_all.ensures in
     let put : ArePut g.M.Consistency.rules c.args.tasks.now c.put_all.new.tasks = record { wide = made.wide; live = made.live; in_range = made.in_range } in
     (starts g.M.Consistency.rules g.met.M.Consistency.lawful c.args.patches c.args.tasks.now c.put_all.new.tasks c.in_ok-new-3.field-0 (told_scan c.in_ok-new-2.field-0) c.in_ok-new.field-0 put c.in_ok-new.ensures.empty c.in_ok-new.ensures.numbers).state
 
 pub returns-clause-stands : goal.returns-clause-stands
 returns-clause-stands g c =
-    let made = c.in_ok-put_all.ensures in
+    let made = c.put_all.ensures in
     let put : ArePut g.M.Consistency.rules c.args.tasks.now c.put_all.new.tasks = record { wide = made.wide; live = made.live; in_range = made.in_range } in
     (starts g.M.Consistency.rules g.met.M.Consistency.lawful c.args.patches c.args.tasks.now c.put_all.new.tasks c.in_ok-new-3.field-0 (told_scan c.in_ok-new-2.field-0) c.in_ok-new.field-0 put c.in_ok-new.ensures.empty c.in_ok-new.ensures.numbers).stands

@@ -1,4 +1,4 @@
-use Rattle.std.proofs.Common.{◌≡◌, ◌<◌, ◌≤◌, get_or, length, All, ◌∙◌, subst, arith}
+use Rattle.std.proofs.Common.{◌≡◌, ◌<◌, ◌≤◌, get_or, length, All, subst, arith}
 use Rattle.std.proofs.lemmas.List.{take_all, get_or_default}
 use Rattle.lp_stack.specs.declared.number.TaskId.{TaskId}
 use Rattle.lp_stack.specs.declared.view.Class.{Class}
@@ -19,11 +19,11 @@ loop-task-preserved g c =
     let i = c.loop-task.task-index in
     let d : TaskId × Class = (record { 0 = 0 }, Normal) in
     let boot = get_or boots i d in
-    let x : LegTask = c.in_ok-new.field-0.value in
+    let x : LegTask = c.at_boot.result in
     let h : i < length boots = omega arith in
     let at : get_or boots i boot ≡ boot = get_or_default boots i boot d h in
-    let small : boot.0.0 < 65536 = omega (arith, c.at_boot-live.ensures.number) in
-    let made : x ≡ at_boot model boot.0.0 boot.1 = c.in_ok-new.ensures.ok ∙ c.at_boot-live.ensures.task in
+    let small : boot.0.0 < 65536 = omega (arith, c.at_boot.ensures.number) in
+    let made : x ≡ at_boot model boot.0.0 boot.1 = c.at_boot.ensures.task in
     one_put model boots i boot c.loop-task.tasks c.put.new.self x c.requires.no_fault h at small made c.put.ensures c.loop-task.invariant
 
 pub put-requires : goal.put-requires
