@@ -16,6 +16,7 @@ pub mod Counts
 pub mod StreamContract
 pub mod Inputs
 pub mod Streams
+pub mod Unbroken
 pub mod Again
 pub mod Folds
 pub mod Complete

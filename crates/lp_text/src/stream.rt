@@ -1,9 +1,9 @@
 //! Reading a trace from a reader piece by piece: of the text only the unfinished line is kept.
-ghost use Rattle.std.specs.Prelude.{◌≡◌, ◌+◌, ◌≤◌, ◌<◌, ◌++◌, ℕ, List, [], None, Ok, Err, length, IfOk, IfErr, IfSome, IfNone, OnOk};
+ghost use Rattle.std.specs.Prelude.{◌≡◌, ◌+◌, ◌≤◌, ◌<◌, ◌∷◌, ◌++◌, ℕ, List, [], true, None, Ok, Err, is_some, length, IfOk, IfErr, IfSome, IfNone, OnOk};
 ghost use Rattle.lp_text.specs.Faults.{Gives, IsReadFault};
 ghost use Rattle.lp_text.specs.Input.{AtText, ReadsAll};
-ghost use Rattle.lp_text.specs.inside.Streams.{reading_after, reading_on};
-ghost use Rattle.lp_text.specs.Reading.{reading, reading_from, reading_lines};
+ghost use Rattle.lp_text.specs.inside.Streams.{IsUnbroken, reading_after, reading_on};
+ghost use Rattle.lp_text.specs.Reading.{reading, reading_from};
 ghost use Rattle.lp_text.specs.StreamContract.{ReadsToEnd, ended, stream_end};
 ghost use Rattle.lp_text.specs.Traces.{IsTrace, text_of};
 ghost use Rattle.lp_text.specs.Words.{lines};
@@ -16,11 +16,9 @@ use crate::read::{parser_of, read_all_lines, read_lines};
 use crate::split::cut;
 use crate::stream_fault::StreamFault;
 use crate::trace::Trace;
-use memchr::memchr;
 use std::alloc::Global;
 use std::io::Read;
 use std::marker::Model;
-use std::mem;
 
 /// What came of a text so far.
 struct Stream {
@@ -30,8 +28,6 @@ struct Stream {
     number: u64,
     /// What came of the next line.
     held: Vec<u8>,
-    /// Memory for what is held next.
-    next: Vec<u8>,
 }
 
 /// By hand, so that the proof of who owns one lets go of it in one step, not field by field.
@@ -41,17 +37,18 @@ impl Drop for Stream {
             parser: _,
             number: _,
             held: _,
-            next: _,
         } = self;
     }
 }
 
 impl Model for Stream {
-    ghost use Rattle.lp_text.specs.inside.Streams.{Stream};
+    ghost use Rattle.lp_text.specs.inside.Streams.{Stream, IsUnbroken};
 
     ghost Value = { Stream };
 
     ghost view = { λ i. record { parser = i.parser; number = i.number; held = i.held.items } };
+
+    ghost invariant = { λ i. IsUnbroken i.held.items };
 }
 
 impl Stream {
@@ -63,11 +60,10 @@ impl Stream {
             parser: None,
             number: 1,
             held: Vec::new(alloc),
-            next: Vec::new(alloc),
         }
     }
 
-    /// One piece more.
+    /// One piece more. Its first line is the end of what is held; the lines after it are read where they lie.
     fn add(&mut self, alloc: Global, piece: &[u8]) -> Result<(), ReadFault>
         requires some { 1 ≤ self.old.number }
         requires few { self.old.number + length self.old.held + length piece.now ≤ 134217729 }
@@ -76,38 +72,59 @@ impl Stream {
         ensures few { OnOk result (self.new.number + length self.new.held ≤ self.old.number + length self.old.held + length piece.now) }
         ensures fault { IfErr result (λ fault. (bytes : List ℕ) → IsReadFault fault (reading_after self.old (piece.now ++ bytes))) }
     {
-        let Ok(()) = self.held.extend_from_slice(piece) else {
+        let (end, after) = cut(b'\n', piece);
+        let Ok(()) = self.held.extend_from_slice(end) else {
             return Err(ReadFault::NoMemory);
         };
-        if memchr(b'\n', piece).is_none() {
+        let Some(lines) = after else {
             return Ok(());
-        }
-        self.take_held(alloc)
+        };
+        self.take_held(alloc)?;
+        self.take(alloc, lines)
     }
 
-    /// Takes the lines that are whole.
+    /// What is held is a whole line.
     fn take_held(&mut self, alloc: Global) -> Result<(), ReadFault>
         requires some { 1 ≤ self.old.number }
-        requires few { self.old.number + length self.old.held ≤ 134217729 }
+        requires few { self.old.number ≤ 134217729 }
         ensures some { OnOk result (1 ≤ self.new.number) }
-        ensures read { OnOk result ((bytes : List ℕ) → reading_after self.old bytes ≡ reading_after self.new bytes) }
-        ensures few { OnOk result (self.new.number + length self.new.held ≤ self.old.number + length self.old.held) }
-        ensures fault { IfErr result (λ fault. (bytes : List ℕ) → IsReadFault fault (reading_after self.old bytes)) }
+        ensures begun { OnOk result (is_some self.new.parser ≡ true) }
+        ensures held { OnOk result (self.new.held ≡ []) }
+        ensures read { OnOk result ((bytes : List ℕ) → reading_after self.old (10 ∷ bytes) ≡ reading_after self.new bytes) }
+        ensures few { OnOk result (self.new.number ≤ self.old.number + 1) }
+        ensures fault { IfErr result (λ fault. (bytes : List ℕ) → IsReadFault fault (reading_after self.old (10 ∷ bytes))) }
     {
-        let rest = match take_whole_lines(
+        take_line(
             alloc,
             &mut self.parser,
             &mut self.number,
             self.held.as_slice(),
-        ) {
+        )?;
+        self.held.clear();
+        Ok(())
+    }
+
+    /// Takes the lines of a text that are whole, and holds what stands after them.
+    fn take(&mut self, alloc: Global, text: &[u8]) -> Result<(), ReadFault>
+        requires some { 1 ≤ self.old.number }
+        requires begun { is_some self.old.parser ≡ true }
+        requires held { self.old.held ≡ [] }
+        requires few { self.old.number + length text.now ≤ 134217730 }
+        ensures some { OnOk result (1 ≤ self.new.number) }
+        ensures read { OnOk result ((bytes : List ℕ) → reading_after self.old (text.now ++ bytes) ≡ reading_after self.new bytes) }
+        ensures few { OnOk result (self.new.number + length self.new.held ≤ self.old.number + length text.now) }
+        ensures fault { IfErr result (λ fault. (bytes : List ℕ) → IsReadFault fault (reading_after self.old (text.now ++ bytes))) }
+    {
+        let Some(parser) = &mut self.parser else {
+            unreachable!()
+        };
+        let rest = match take_lines(alloc, parser, &mut self.number, text) {
             Ok(rest) => rest,
             Err(fault) => return Err(fault),
         };
-        self.next.clear();
-        let Ok(()) = self.next.extend_from_slice(rest) else {
+        let Ok(()) = self.held.extend_from_slice(rest) else {
             return Err(ReadFault::NoMemory);
         };
-        mem::swap(&mut self.held, &mut self.next);
         Ok(())
     }
 
@@ -121,7 +138,6 @@ impl Stream {
             parser,
             number,
             held,
-            next: _,
         } = self;
         match parser {
             None => read_all_lines(alloc, held.as_slice()),
@@ -130,52 +146,37 @@ impl Stream {
     }
 }
 
-/// Takes the whole lines of a text, the first of all where there was none before, and gives what
-/// stands after them.
-fn take_whole_lines<'a>(
+/// Takes a whole line, without its end: the first of all where none came before.
+fn take_line(
     alloc: Global,
     parser: &mut Option<Parser>,
     number: &mut u64,
-    text: &'a [u8],
-) -> Result<&'a [u8], ReadFault>
+    line: &[u8],
+) -> Result<(), ReadFault>
+    requires line { IsUnbroken line.now }
     requires begun { 1 ≤ number.old }
-    requires few { number.old + length text.now ≤ 134217729 }
-    ensures read { IfOk result (λ rest. (bytes : List ℕ) → reading_on parser.old number.old (lines (text.now ++ bytes)) ≡ reading_on parser.new number.new (lines (rest.now ++ bytes))) }
-    ensures few { IfOk result (λ rest. number.new + length rest.now ≤ number.old + length text.now) }
-    ensures more { IfOk result (λ rest. 1 ≤ number.old → 1 ≤ number.new) }
-    ensures fault { IfErr result (λ fault. (bytes : List ℕ) → IsReadFault fault (reading_on parser.old number.old (lines (text.now ++ bytes)))) }
+    requires few { number.old ≤ 134217729 }
+    ensures some { OnOk result (is_some parser.new ≡ true) }
+    ensures read { OnOk result ((bytes : List ℕ) → reading_on parser.old number.old (lines (line.now ++ 10 ∷ bytes)) ≡ reading_on parser.new number.new (lines bytes)) }
+    ensures more { OnOk result ((1 ≤ number.new) × (number.new ≤ number.old + 1)) }
+    ensures fault { IfErr result (λ fault. (bytes : List ℕ) → IsReadFault fault (reading_on parser.old number.old (lines (line.now ++ 10 ∷ bytes)))) }
 {
     match parser {
-        Some(parser) => take_lines(alloc, parser, number, text),
-        None => take_first(alloc, parser, number, text),
+        Some(parser) => {
+            if let Err(fault) = parser.add_line(alloc, line) {
+                return Err(fault.at(*number));
+            }
+            *number += 1;
+        }
+        None => match parser_of(alloc, line) {
+            Ok(begun) => {
+                *parser = Some(begun);
+                *number = 2;
+            }
+            Err(fault) => return Err(fault),
+        },
     }
-}
-
-/// The same where the first line is still to come, as it stays where it isn't whole.
-fn take_first<'a>(
-    alloc: Global,
-    parser: &mut Option<Parser>,
-    number: &mut u64,
-    text: &'a [u8],
-) -> Result<&'a [u8], ReadFault>
-    requires none { parser.old ≡ None }
-    requires begun { 1 ≤ number.old }
-    requires few { length text.now ≤ 134217728 }
-    ensures read { IfOk result (λ rest. (bytes : List ℕ) → reading_lines (lines (text.now ++ bytes)) ≡ reading_on parser.new number.new (lines (rest.now ++ bytes))) }
-    ensures few { IfOk result (λ rest. number.new + length rest.now ≤ number.old + length text.now) }
-    ensures more { OnOk result (1 ≤ number.new) }
-    ensures fault { IfErr result (λ fault. (bytes : List ℕ) → IsReadFault fault (reading_lines (lines (text.now ++ bytes)))) }
-{
-    let (first, left) = cut(b'\n', text);
-    let Some(rest) = left else {
-        return Ok(text);
-    };
-    let begun = match parser_of(alloc, first) {
-        Ok(begun) => parser.insert(begun),
-        Err(fault) => return Err(fault),
-    };
-    *number = 2;
-    take_lines(alloc, begun, number, rest)
+    Ok(())
 }
 
 /// Takes the whole lines of a text, of which the first has this number, and gives what stands after
@@ -190,6 +191,7 @@ fn take_lines<'a>(
     ensures read { IfOk result (λ rest. (bytes : List ℕ) → reading_from number.old parser.old (lines (text.now ++ bytes)) ≡ reading_from number.new parser.new (lines (rest.now ++ bytes))) }
     ensures few { IfOk result (λ rest. number.new + length rest.now ≤ number.old + length text.now) }
     ensures more { IfOk result (λ rest. number.old ≤ number.new) }
+    ensures unbroken { IfOk result (λ rest. IsUnbroken rest.now) }
     ensures fault { IfErr result (λ fault. (bytes : List ℕ) → IsReadFault fault (reading_from number.old parser.old (lines (text.now ++ bytes)))) }
 {
     let mut next = *number;

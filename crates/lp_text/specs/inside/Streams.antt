@@ -1,5 +1,5 @@
 -- Reading a text that comes in pieces: what came so far, what all comes to with the bytes that follow, and its faults.
-use Rattle.std.specs.Prelude.{◌≡◌, ℕ, ◌+◌, ◌<◌, List, ◌++◌, length, Option, None, Some, Result}
+use Rattle.std.specs.Prelude.{◌≡◌, ℕ, Bool, ◌+◌, ◌<◌, ◌==◌, List, ◌++◌, length, count_by, Option, None, Some, Result}
 use Rattle.std.specs.Io.KnownBytes.{Consumes}
 use Rattle.lp_text.specs.Counts.{Counts, FailsOnce, next}
 use Rattle.lp_text.specs.declared.fault.Cause.TheVariants as cause
@@ -18,6 +18,14 @@ pub record Stream : Type 0 where
   pub parser : Option TraceValue
   pub number : ℕ
   pub held : List ℕ
+
+-- the end of a line
+abbrev pub is_end : ℕ → Bool
+is_end byte = byte == 10
+
+-- bytes among which no line ends
+abbrev pub IsUnbroken : List ℕ → Type 0
+IsUnbroken bytes = count_by is_end bytes ≡ 0
 
 -- where the lines from here on are these
 abbrev pub reading_on : Option TraceValue → ℕ → List (List ℕ) → Result TraceValue TraceFault

@@ -6,6 +6,7 @@ use Rattle.lp_text.specs.Traces.{TraceValue}
 use Rattle.lp_text.specs.Words.{lines}
 use Rattle.lp_text.proofs.Choices.{at_none, at_some}
 use Rattle.lp_text.proofs.OnLines.{line_fault, one_line}
+use Rattle.lp_text.proofs.Unbroken.{unbroken_alone}
 use Rattle.lp_text.proofs.stream.take_lines.Goals as goal
 
 pub returns-in-Err-clause-fault : goal.returns-in-Err-clause-fault
@@ -26,3 +27,8 @@ loop-more-preserved c =
       omega (arith, short, c.loop-more.invariant.1),
       omega (arith, c.loop-more.invariant.2),
     )
+
+pub returns-in_default-left-clause-unbroken : goal.returns-in_default-left-clause-unbroken
+returns-in_default-left-clause-unbroken c =
+    let alone = rw c.in_default-left.is at c.cut.ensures.parts in
+    unbroken_alone c.loop-more.rest.now c.cut.result.0.now alone
