@@ -22,8 +22,8 @@ use std::alloc::{AllocError, Global};
 
 impl<M: Consistency> Core<M> {
     /// One event: answers and takes it. Where it fails the engine is as it was: NoMemory where an
-    /// allocation failed, which may be at scans, at accepted forks, and at own checks
-    /// where they switch a group, and JournalFull where no event is left.
+    /// allocation failed, which may be at scans, and at own checks where they switch a group, and
+    /// JournalFull where no event is left.
     #[inline(always)]
     pub fn step(&mut self, alloc: Global, event: Event) -> Result<Reply, Halt>
         ensures full { (result ≡ Err JournalFull) ↔ (1000000 ≤ self.old.number) }
