@@ -11,18 +11,24 @@ use crate::line::symbol_of;
 use crate::split::last_word;
 use lp_symbols::{SymId, Symbols};
 
+/// How many places there are: some for each function of many patches, in 32 KB.
+const PLACES: usize = 16_384;
+
+/// Spreads the bits of a word: 2 to the power of 64 over the golden ratio.
+const SPREAD: u64 = 0x9e37_79b9_7f4a_7c15;
+
 /// At each place the symbol that was found last of the names that belong there. A name is compared
 /// with it before it is looked up.
 #[derive(Drop)]
 pub(crate) struct SymbolCache {
-    ids: [SymId; 256],
+    ids: [SymId; PLACES],
 }
 
 impl SymbolCache {
     /// The first symbol at each place.
     pub(crate) fn new() -> SymbolCache {
         SymbolCache {
-            ids: [SymId(0); 256],
+            ids: [SymId(0); PLACES],
         }
     }
 
@@ -46,7 +52,7 @@ impl SymbolCache {
         }
         let name = last_word(left)?;
         let id = symbol_of(symbols, name)?;
-        self.ids[usize::from(place_of(name))] = id;
+        self.ids[place_of(name)] = id;
         Ok(id)
     }
 
@@ -58,7 +64,7 @@ impl SymbolCache {
         ensures known { IfSome result (λ id. id.0 < length symbols.now) }
         ensures name { IfSome result (λ id. name.now ≡ slice_index_or symbols.now id.0 []) }
     {
-        let id = self.ids[usize::from(place_of(name))];
+        let id = self.ids[place_of(name)];
         if is_name_of(symbols, id, name) {
             return Some(id);
         }
@@ -66,19 +72,28 @@ impl SymbolCache {
     }
 }
 
-/// The place of a name, by its length and its first, middle and last byte.
+/// The place of a name. Names of one patch may differ in their first bytes alone, or in their last ones.
 #[inline(always)]
-fn place_of(name: &[u8]) -> u8 {
+fn place_of(name: &[u8]) -> usize
+    ensures { result < 16384 }
+{
+    let (Some(front), Some(back)) = (name.first_chunk(), name.last_chunk()) else {
+        return short_place(name);
+    };
+    let ends = u64::from_le_bytes(*front).rotate_left(23) ^ u64::from_le_bytes(*back);
+    (ends.wrapping_mul(SPREAD) >> 50) as usize % PLACES
+}
+
+/// The place of a name of less than eight bytes, by its length and its first, middle and last one.
+fn short_place(name: &[u8]) -> usize
+    ensures { result < 16384 }
+{
     let [first, .., last] = name else {
         return 0;
     };
     let middle = name[name.len() / 2];
-    let length = (name.len() % 256) as u8;
-    first
-        .wrapping_mul(53)
-        .wrapping_add(middle.wrapping_mul(113))
-        .wrapping_add(length.wrapping_mul(89))
-        .wrapping_add(*last)
+    let sum = usize::from(*first) * 53 + usize::from(middle) * 113 + usize::from(*last);
+    (sum + name.len() % 8 * 89) % PLACES
 }
 
 /// Whether a symbol has this name.

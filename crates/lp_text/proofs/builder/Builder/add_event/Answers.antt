@@ -1,4 +1,4 @@
-use Rattle.std.proofs.Common.{◌≡◌, true, false, sym, ◌∙◌, Ok}
+use Rattle.std.proofs.Common.{◌≡◌, false, sym, ◌∙◌, Ok}
 use Rattle.lp_text.specs.Traces.{TraceValue, has_event, event_words}
 use Rattle.lp_text.specs.Reading.{add_event, with_line}
 use Rattle.lp_text.proofs.Builders.{fault_of_line, ended_gives, ended_built, place_few, on_ok, built_limits, line_refused}
