@@ -1,5 +1,5 @@
 -- Lists of reasons that share their older parts.
-use Rattle.std.proofs.Common.{◌≡◌, ℕ, zero, suc, ◌+◌, ◌-◌, ◌<◌, List, [], ◌∷◌, ◌++◌, drop, length, get_or, refl, sym, ap, subst, ◌∙◌, arith}
+use Rattle.std.proofs.Common.{◌≡◌, ℕ, zero, suc, ◌+◌, ◌-◌, ◌<◌, List, [], ◌∷◌, ◌++◌, drop, length, get_or, min, refl, sym, ap, subst, ◌∙◌, arith}
 use Rattle.std.proofs.Math.ListN.{get_or-append}
 use Rattle.std.proofs.Math.Seq.{get_or-append_seam}
 use Rattle.std.proofs.lemmas.List.{length-append, drop-drop}
@@ -7,7 +7,7 @@ use Rattle.std.proofs.lemmas.List.Sums.{fold-append}
 use Rattle.std.specs.List.{fold}
 use Rattle.lp_cert.specs.declared.reason.Reason.{Reason}
 use Rattle.lp_cert.specs.declared.chains.Entry.{Entry}
-use Rattle.lp_cert.specs.inside.Chains.{with_entry, lists_of, IsTail, IsLinked, AreLinked}
+use Rattle.lp_cert.specs.inside.Chains.{with_entry, lists_of, line_count, reason_count, IsLineCount, IsTail, IsLinked, AreLinked}
 
 -- an entry adds one list
 with_entry-length : (lists : List (List Reason)) (entry : Entry) → length (with_entry lists entry) ≡ suc (length lists)
@@ -49,6 +49,7 @@ still_linked lists all before entry same is =
       older = is.older;
       count = is.count ∙ ap (λ rs. suc (length rs)) (sym older);
       few = is.few;
+      lines = subst (λ list. IsLineCount (entry.reason ∷ list) entry.lines) (sym older) is.lines;
       jump = is.jump;
       tail = subst (λ list. IsTail (get_or all entry.jump.0 []) list) (sym older) (subst (λ tail. IsTail tail (get_or lists entry.older.0 [])) (sym jump) is.tail);
     }
@@ -145,6 +146,10 @@ module _ (entries : List Entry) (at : ℕ) (entry : Entry) (linked : AreLinked (
   pub counted : entry.count ≡ length (get_or (lists_of entries) at [])
   counted = linked_at.count ∙ ap length (sym one_on)
 
+  -- and their lines
+  pub lines_counted : IsLineCount (get_or (lists_of entries) at []) entry.lines
+  lines_counted = subst (λ list. IsLineCount list entry.lines) (sym one_on) linked_at.lines
+
 pub some_place : (entries : List Entry) (at : ℕ) → 0 < length (get_or (lists_of entries) at []) → 0 < at
 some_place entries zero some =
     let e = ap length (empty_first entries) in
@@ -155,7 +160,30 @@ some_place entries (suc at) some = omega arith
 pub none_counted : (entries : List Entry) (at : ℕ) → at ≡ 0 → 0 ≡ length (get_or (lists_of entries) at [])
 none_counted entries at none = ap length (sym (ap (λ k. get_or (lists_of entries) k []) none ∙ empty_first entries))
 
+-- and no line
+pub no_lines : (entries : List Entry) (at : ℕ) → at ≡ 0 → IsLineCount (get_or (lists_of entries) at []) 0
+no_lines entries at none =
+    let empty = ap (λ k. get_or (lists_of entries) k []) none ∙ empty_first entries in
+    subst (λ list. IsLineCount list 0) (sym empty) (record { no_more = omega arith; all = λ _. refl })
+
+-- nor an older list
+pub nothing_older : (entries : List Entry) (at : ℕ) → at ≡ 0 → get_or (lists_of entries) at [] ≡ drop 1 (get_or (lists_of entries) at [])
+nothing_older entries at none =
+    let empty = ap (λ k. get_or (lists_of entries) k []) none ∙ empty_first entries in
+    empty ∙ ap (drop 1) (sym empty)
+
+-- the lines of one more reason are counted
+pub one_more_counted : (list : List Reason) (reason : Reason) (lines more all : ℕ) → IsLineCount list lines → more ≡ reason_count reason
+    → all ≡ min (lines + more) 18446744073709551615 → IsLineCount (reason ∷ list) all
+one_more_counted list reason lines more all is own sum = record {
+  no_more = omega (arith, is.no_more);
+  all = λ few. omega (arith, is.all (omega arith));
+}
+
 -- ---- Lists without some of their newest reasons
+
+pub tail_itself : (list : List Reason) → IsTail list list
+tail_itself list = let none : 0 ≡ length list - length list = omega arith in record { shorter = omega arith; rest = ap (λ n. drop n list) none }
 
 pub tail_of_tail : (far near list : List Reason) → IsTail far near → IsTail near list → IsTail far list
 tail_of_tail far near list first second =
@@ -173,3 +201,12 @@ one_less list older reason is =
     let longer : length list ≡ suc (length older) = ap length is in
     let one : 1 ≡ length list - length older = omega arith in
     record { shorter = omega arith; rest = ap (drop 1) (sym is) ∙ ap (λ n. drop n list) one }
+
+-- without its newest reason, if there is one
+pub tail_of_drop : (list older : List Reason) → older ≡ drop 1 list → IsTail older list
+tail_of_drop [] older is = subst (λ tail. IsTail tail []) (sym is) (tail_itself [])
+tail_of_drop (reason ∷ list) older is = one_less (reason ∷ list) older reason (ap (λ rest. reason ∷ rest) (sym is))
+
+-- and further back
+pub tail_before : (older near list : List Reason) → older ≡ drop 1 near → IsTail near list → IsTail older list
+tail_before older near list is tail = tail_of_tail older near list (tail_of_drop near older is) tail

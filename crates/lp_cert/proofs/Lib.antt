@@ -3,6 +3,7 @@ pub mod GroupSets
 pub mod PartLemmas
 pub mod LegRows
 pub mod LineLemmas
+pub mod Beside
 pub mod HeadLemmas
 pub mod UnchangedLines
 pub mod WrittenLemmas

@@ -1,15 +1,18 @@
 -- The lines that are left of a certificate.
-use Rattle.std.proofs.Common.{◌≡◌, ℕ, ◌<◌, ◌≤◌, List, [], ◌∷◌, ◌++◌, length, map, reverse, take, drop, Option, Some, None, IfNone, option_to_list, refl, sym, ap, ap₂, subst, ◌∙◌, arith}
+use Rattle.std.proofs.Common.{◌≡◌, ℕ, ◌+◌, ◌<◌, ◌≤◌, List, [], ◌∷◌, ◌++◌, length, map, reverse, take, drop, Option, Some, None, IfNone, option_to_list, refl, sym, ap, ap₂, subst, ◌∙◌, arith}
 use Rattle.std.specs.List.{AllByRecursion, slice_get}
 use Rattle.std.proofs.lemmas.Grind.{flat_map-append}
-use Rattle.std.proofs.lemmas.List.{append-nil, append_assoc, reverse-append, length-drop, length-take-le, length-map}
+use Rattle.std.proofs.Math.Seq.{take-append_seam}
+use Rattle.std.proofs.lemmas.List.{append-nil, append_assoc, reverse-append, length-append, length-drop, length-reverse, length-take-le, length-map}
 use Rattle.lp_stack.specs.declared.number.GroupId.{GroupId}
 use Rattle.lp_stack.specs.declared.number.TaskId.{TaskId}
 use Rattle.lp_definitions.specs.declared.line.Line.{Line}
 use Rattle.lp_definitions.specs.declared.line.Line.TheVariants as line
 use Rattle.lp_cert.specs.declared.reason.Reason.{Reason}
 use Rattle.lp_cert.specs.declared.reason.Reason.TheVariants as reason
-use Rattle.lp_cert.specs.Heads.{reason_lines, lines_of}
+use Rattle.lp_cert.specs.Beside.{BeginWith}
+use Rattle.lp_cert.specs.Heads.{busy_lines, reason_lines, lines_of}
+use Rattle.lp_cert.specs.inside.Chains.{line_count}
 use Rattle.lp_cert.specs.inside.Heads.{FitsIn}
 use Rattle.lp_cert.proofs.PartLemmas.{all_prefix, all_last}
 use Rattle.lp_cert.proofs.WrittenLemmas.{oldest_busy}
@@ -55,6 +58,48 @@ module _ (scans : List ℕ) (run run_new : List Line) (old new : List Reason) (s
         ∙ (ap (λ x. reverse (reason_lines scans x) ++ reverse (lines_of scans new)) is
         ∙ (ap (λ ls. ls ++ reverse (lines_of scans new)) (oldest_busy g t (drop first (take end scans)) ∙ (ap (map (λ at. line.Busy g t at)) (sym is_part) ∙ lines))
         ∙ append_assoc (option_to_list found) later (reverse (lines_of scans new))))
+
+-- ---- Reasons that two lists end with
+
+-- the lines of reasons in front of others come after the lines of those
+pub lines_after : (scans : List ℕ) (newer older all : List Reason) → newer ++ older ≡ all → reverse (lines_of scans all) ≡ reverse (lines_of scans older) ++ reverse (lines_of scans newer)
+unfolding lines_of
+lines_after scans newer older all are =
+    ap (λ rs. reverse (lines_of scans rs)) (sym are)
+    ∙ (ap reverse (flat_map-append (reason_lines scans) newer older) ∙ reverse-append (lines_of scans newer) (lines_of scans older))
+
+-- all lines are counted
+pub lines-count : (scans : List ℕ) (reasons : List Reason) → AllByRecursion (FitsIn (length scans)) reasons → length (lines_of scans reasons) ≡ line_count reasons
+unfolding lines_of
+lines-count scans [] fits = refl
+lines-count scans (reason.One l ∷ reasons) fits =
+    let others = lines-count scans reasons fits.1 in
+    omega arith
+lines-count scans (reason.Busy g t first end ∷ reasons) fits =
+    let run : List ℕ = drop first (take end scans) in
+    let lines : List Line = busy_lines g t run in
+    let others = lines-count scans reasons fits.1 in
+    let both : length (lines ++ lines_of scans reasons) ≡ length lines + length (lines_of scans reasons) = length-append lines (lines_of scans reasons) in
+    let own : length lines ≡ length (reverse run) = length-map (reverse run) (λ at. line.Busy g t at) in
+    omega (arith, both, own, length-reverse run, length-drop first (take end scans), length-take-le end scans fits.0.1)
+
+module _ (scans : List ℕ) (newer older all : List Reason) (are : newer ++ older ≡ all) (fits : AllByRecursion (FitsIn (length scans)) older) where
+  -- the lines of the older reasons are among them
+  pub no_fewer : line_count older ≤ length (reverse (lines_of scans all))
+  no_fewer =
+      let both = ap length (lines_after scans newer older all are) in
+      omega (arith, both, length-append (reverse (lines_of scans older)) (reverse (lines_of scans newer)), length-reverse (lines_of scans older), lines-count scans older fits)
+
+  -- other lines begin with those of the same older reasons
+  pub begin_with : (lines after : List Line) (count : ℕ) → lines ≡ reverse (lines_of scans older) ++ after → count ≡ line_count older → BeginWith lines (reverse (lines_of scans all)) count after
+  begin_with lines after count so counted =
+      let first : List Line = reverse (lines_of scans older) in
+      let size : count ≡ length first = omega (arith, counted, length-reverse (lines_of scans older), lines-count scans older fits) in
+      let same : take count (reverse (lines_of scans all)) ≡ first = ap (take count) (lines_after scans newer older all are) ∙ ap (λ n. take n (first ++ reverse (lines_of scans newer))) size ∙ take-append_seam first (reverse (lines_of scans newer)) in
+      record {
+        within = omega (arith, no_fewer, counted);
+        whole = so ∙ ap (λ ls. ls ++ after) (sym same);
+      }
 
 -- ---- Reasons that fit the scans
 

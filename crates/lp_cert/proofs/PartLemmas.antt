@@ -1,9 +1,10 @@
 -- Parts of lists of reasons.
-use Rattle.std.proofs.Common.{◌≡◌, ℕ, zero, suc, ◌+◌, ◌-◌, ◌<◌, List, [], ◌∷◌, ◌++◌, length, get_or, set, take, drop, Option, Some, None, IfNone, option_to_list, refl, sym, ap, ap₂, subst, ◌∙◌, arith}
+use Rattle.std.proofs.Common.{◌≡◌, ℕ, zero, suc, ◌+◌, ◌-◌, ◌<◌, List, [], ◌∷◌, ◌++◌, length, get_or, set, take, drop, Option, Some, None, IfNone, option_to_list, take-append-drop, refl, sym, ap, ap₂, subst, ◌∙◌, arith}
 use Rattle.std.specs.List.{AllByRecursion, slice_get}
 use Rattle.std.proofs.lemmas.List.{append-nil, append_assoc, drop-drop, get_or-set_other, get_or-set_same, take_all}
 use borrow.Author.Count.{below_more}
 use Rattle.lp_cert.specs.declared.reason.Reason.{Reason}
+use Rattle.lp_cert.specs.inside.Chains.{IsTail}
 use Rattle.lp_cert.specs.inside.Parts.{AreWithout, IsWithout}
 
 pub all_prefix : {A : Type 0} (P : A → Type 0) (xs ys : List A) → AllByRecursion P (xs ++ ys) → AllByRecursion P xs
@@ -13,6 +14,17 @@ all_prefix P (x ∷ xs) ys all = (all.0, all_prefix P xs ys all.1)
 pub all_last : {A : Type 0} (P : A → Type 0) (xs : List A) (x : A) → AllByRecursion P (xs ++ x ∷ []) → P x
 all_last P [] x all = all.0
 all_last P (y ∷ ys) x all = all_last P ys x all.1
+
+pub all_dropped : {A : Type 0} (P : A → Type 0) (n : ℕ) (xs : List A) → AllByRecursion P xs → AllByRecursion P (drop n xs)
+all_dropped P zero xs all = all
+all_dropped P (suc n) [] all = tt
+all_dropped P (suc n) (x ∷ xs) all = all_dropped P n xs all.1
+
+-- those that another list, which this one ends with, hasn't, and that list
+pub before_tail : (ongoing this tail : List Reason) (left : ℕ) → IsTail tail this → left ≡ length this - length tail → (ongoing ++ take left this) ++ tail ≡ ongoing ++ this
+before_tail ongoing this tail left is so =
+    append_assoc ongoing (take left this) tail
+    ∙ ap (λ rs. ongoing ++ rs) (ap (λ rs. take left this ++ rs) (is.rest ∙ ap (λ n. drop n this) (sym so)) ∙ take-append-drop left this)
 
 -- the first ones are some, and those after them
 take_both : {A : Type 0} (n m : ℕ) (xs : List A) → take (n + m) xs ≡ take n xs ++ take m (drop n xs)

@@ -1,5 +1,6 @@
 pub mod Parts
 pub mod Heads
+pub mod Beside
 pub mod EventLines
 pub mod Laws
 pub mod Waiters

@@ -15,10 +15,11 @@ use std::marker::Model;
 
 /// The scans that are left at which a member is busy.
 #[derive(Clone, Copy)]
-pub(crate) struct BusyScans<'a> {
-    pub(crate) group: GroupId,
-    pub(crate) task: TaskId,
-    pub(crate) scans: &'a [u32],
+pub struct BusyScans<'a> {
+    pub group: GroupId,
+    pub task: TaskId,
+    /// The events of the scans.
+    pub scans: &'a [u32],
 }
 
 impl BusyScans<'_> {
@@ -118,6 +119,16 @@ impl<'a> CertLines<'a> {
                 self.run.next()
             }
         }
+    }
+
+    /// The lines that are left of those that tell that a member is busy at one scan after another, if the last line was such a
+    /// one: they are no longer left then.
+    pub fn take_run(&mut self) -> BusyScans<'a>
+        ensures { self.old ≡ busy_scan_lines result ++ self.new }
+    {
+        let run = self.run;
+        self.run.scans = &[];
+        run
     }
 
     /// All lines that are left, as a list; AllocError where an allocation failed.

@@ -1,6 +1,7 @@
 //! The certificates of one leg.
-ghost use Rattle.std.specs.Prelude.{◌≡◌, ◌<◌, ◌↔◌, [], ◌∷◌, Some, length, map, slice_get, IfOk, IfSome, IsTrue};
+ghost use Rattle.std.specs.Prelude.{◌≡◌, ◌<◌, ◌≤◌, ◌↔◌, [], ◌∷◌, Some, length, map, slice_get, IfOk, IfSome, IsTrue};
 ghost use Rattle.std.specs.Option.{option_map};
+ghost use Rattle.lp_cert.specs.Beside.{BeginWith};
 ghost use Rattle.lp_cert.specs.Ends.{cert_head};
 ghost use Rattle.lp_cert.specs.Waiters.{kept_cert};
 ghost use Rattle.lp_cert.specs.inside.Bare.{bare_cert, bare_certs};
@@ -252,6 +253,34 @@ impl<'a> CertListRef<'a> {
         match self.kept {
             KeptRef::Bare(_, _) => true,
             KeptRef::Many(many) => many.is_bare(place),
+        }
+    }
+
+    /// How many lines the certificate at a place, from 0, has at least that others may begin with too: none where nobody was
+    /// born, and else those of all reasons but for one that continues.
+    #[inline(always)]
+    pub fn older_lines(&self, place: usize) -> usize
+        requires { place < length self.now }
+        ensures { (cert : Cert) → slice_get self.now place ≡ Some cert → result ≤ length cert.lines }
+    {
+        match self.kept {
+            KeptRef::Bare(_, _) => 0,
+            KeptRef::Many(many) => many.older_lines(place),
+        }
+    }
+
+    /// How many of the first lines of the certificate at one place, from 0, are those of the certificate at another, but no
+    /// more than so many, and the lines after these. Never allocates.
+    pub fn lines_beside(&self, place: usize, other: usize, most: usize) -> (usize, CertLines<'a>)
+        requires place { place < length self.now }
+        requires other { other < length self.now }
+        requires most { most < 18446744073709551615 }
+        ensures few { result.0 ≤ most }
+        ensures lines { (cert beside : Cert) → slice_get self.now place ≡ Some cert → slice_get self.now other ≡ Some beside → BeginWith cert.lines beside.lines result.0 result.1 }
+    {
+        match self.kept {
+            KeptRef::Bare(_, _) => (0, CertLines::none()),
+            KeptRef::Many(many) => many.lines_beside(place, other, most),
         }
     }
 

@@ -1,9 +1,10 @@
 //! Lists of reasons that share their older parts.
 ghost use Rattle.std.specs.Prelude.{◌≡◌, ◌+◌, ◌<◌, ◌≤◌, [], ◌∷◌, ◌++◌, Some, false, drop, length, slice_get, slice_index_or, IfOk, IsTrue, OnOk};
-ghost use Rattle.lp_cert.specs.inside.Chains.{IsTail};
+ghost use Rattle.lp_cert.specs.inside.Chains.{IsLineCount, IsTail, line_count};
 ghost use Rattle.lp_cert.specs.inside.Parts.{AreWithout};
 
 use crate::reason::Reason;
+use lp_definitions::Line;
 use std::alloc::{AllocError, Global};
 use std::marker::Model;
 
@@ -21,6 +22,8 @@ pub(crate) struct Entry {
     pub(crate) older: ChainId,
     /// How many reasons there are with this one.
     pub(crate) count: usize,
+    /// How many lines these have, or the greatest number where they have more.
+    pub(crate) lines: usize,
     /// The older list or one further back. Without such jumps each step to the oldest reasons of a
     /// long list would follow all of its links.
     pub(crate) jump: ChainId,
@@ -33,6 +36,8 @@ pub(crate) struct Entry {
 #[derive(Drop)]
 pub(crate) struct Chains {
     entries: Vec<Entry>,
+    /// Whether one of the reasons is a birth: else no two groups have a reason in common.
+    has_births: bool,
 }
 
 impl Model for Chains {
@@ -53,6 +58,7 @@ impl Chains {
     {
         Chains {
             entries: Vec::new(alloc),
+            has_births: false,
         }
     }
 
@@ -61,6 +67,7 @@ impl Chains {
         ensures { self.new.lists ≡ [] ∷ [] }
     {
         self.entries.clear();
+        self.has_births = false;
     }
 
     /// Whether there is the empty list alone.
@@ -86,6 +93,7 @@ impl Chains {
     {
         Ok(Chains {
             entries: Vec::from_slice(alloc, self.entries.as_slice())?,
+            has_births: self.has_births,
         })
     }
 
@@ -98,11 +106,14 @@ impl Chains {
         ensures room { self.new.room + 1 ≡ self.old.room }
     {
         let count = self.count(older) + 1;
+        let lines = self.lines(older).saturating_add(reason.lines());
         let jump = self.jump_after(older);
+        self.has_births |= matches!(reason, Reason::One(Line::Born { .. }));
         self.entries.push_reserved(Entry {
             reason,
             older,
             count,
+            lines,
             jump,
         });
         ChainId(self.entries.len())
@@ -119,6 +130,28 @@ impl Chains {
             return 0;
         }
         entries[id.0 - 1].count
+    }
+
+    /// How many lines the reasons of a list have, or the greatest number where they have more.
+    pub(crate) fn lines(&self, id: ChainId) -> usize
+        requires { id.0 < length self.now.lists }
+        ensures all { IsLineCount (slice_index_or self.now.lists id.0 []) result }
+        ensures none { id.0 ≡ 0 → result ≡ 0 }
+    {
+        let entries = &self.entries;
+        if id.0 == 0 {
+            return 0;
+        }
+        entries[id.0 - 1].lines
+    }
+
+    /// How many of the lines of a list other groups may have too.
+    #[inline(always)]
+    pub(crate) fn lines_to_share(&self, id: ChainId) -> usize
+        requires { id.0 < length self.now.lists }
+        ensures { result ≤ line_count (slice_index_or self.now.lists id.0 []) }
+    {
+        if self.has_births { self.lines(id) } else { 0 }
     }
 
     /// The newest reason of a list that isn't empty.
@@ -163,14 +196,56 @@ impl Chains {
         run
     }
 
-    /// A list without its newest reason, where it isn't empty.
+    /// What two lists end with in common, but for its newest reasons where it has more lines than so many.
+    pub(crate) fn shared(&self, first: ChainId, second: ChainId, most: usize) -> ChainId
+        requires first { first.0 < length self.now.lists }
+        requires second { second.0 < length self.now.lists }
+        requires most { most < 18446744073709551615 }
+        ensures known { result.0 < length self.now.lists }
+        ensures first { IsTail (slice_index_or self.now.lists result.0 []) (slice_index_or self.now.lists first.0 []) }
+        ensures second { IsTail (slice_index_or self.now.lists result.0 []) (slice_index_or self.now.lists second.0 []) }
+        ensures few { line_count (slice_index_or self.now.lists result.0 []) ≤ most }
+    {
+        let mut shared = self.common(first, second);
+        while self.lines(shared) > most {
+            shared = self.older(shared);
+        }
+        shared
+    }
+
+    /// What two lists end with in common. A list is made after those that it ends with: so the later one of two lists isn't
+    /// part of the other.
+    fn common(&self, first: ChainId, second: ChainId) -> ChainId
+        requires first { first.0 < length self.now.lists }
+        requires second { second.0 < length self.now.lists }
+        ensures known { result.0 < length self.now.lists }
+        ensures first { IsTail (slice_index_or self.now.lists result.0 []) (slice_index_or self.now.lists first.0 []) }
+        ensures second { IsTail (slice_index_or self.now.lists result.0 []) (slice_index_or self.now.lists second.0 []) }
+    {
+        let (mut one, mut other) = (first, second);
+        while one.0 != other.0 {
+            if one.0 > other.0 {
+                one = self.older(one);
+            } else {
+                other = self.older(other);
+            }
+        }
+        one
+    }
+
+    /// A list without its newest reason; the empty one stays as it is.
+    #[inline(always)]
     fn older(&self, id: ChainId) -> ChainId
-        requires known { id.0 < length self.now.lists }
-        requires some { 0 < length (slice_index_or self.now.lists id.0 []) }
+        requires { id.0 < length self.now.lists }
+        ensures before { 0 < id.0 → result.0 < id.0 }
         ensures known { result.0 < length self.now.lists }
         ensures list { slice_index_or self.now.lists result.0 [] ≡ drop 1 (slice_index_or self.now.lists id.0 []) }
     {
-        self.entries[id.0 - 1].older
+        let entries = &self.entries;
+        if id.0 == 0 {
+            return id;
+        }
+        entries[id.0 - 1].older
     }
 
     /// A list further back that still has so many reasons, as far as one link leads.

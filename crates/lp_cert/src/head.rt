@@ -1,6 +1,7 @@
 //! The reasons of a group as it waits.
 ghost use Rattle.std.specs.Prelude.{◌≡◌, ◌+◌, ◌<◌, ◌≤◌, ℕ, List, [], ◌++◌, length, reverse, slice_index_or, option_to_list, IsTrue};
-ghost use Rattle.lp_cert.specs.Heads.{hold_end, ongoing_reasons, head_lines};
+ghost use Rattle.lp_cert.specs.Heads.{hold_end, lines_of, ongoing_reasons, head_lines};
+ghost use Rattle.lp_cert.specs.inside.Chains.{IsTail};
 ghost use Rattle.lp_cert.specs.declared.ongoing.Ongoing.TheVariants.{Busy};
 ghost use Rattle.lp_cert.specs.inside.Heads.{busy_reasons, continues_after, reason_begun_by, IsHead, IsUsed, IsRefusedBy, IsRefusedAlone, IsBornBy, Keeps};
 
@@ -70,6 +71,24 @@ impl Head {
         }
         let ongoing = ongoing_reason(scans, group, self.ongoing);
         let reasons = OldestFirst::new(chains, self.older, ongoing);
+        CertLines::new(group, scans, reasons)
+    }
+
+    /// The lines of the reasons as they stand but for those of a list that the older ones end with.
+    pub(crate) fn lines_after<'a>(
+        self,
+        chains: &'a Chains,
+        scans: &'a [u32],
+        group: GroupId,
+        shared: ChainId,
+    ) -> CertLines<'a>
+        requires head { IsHead chains.now.lists (length scans.now) self }
+        requires shared { shared.0 < length chains.now.lists }
+        requires tail { IsTail (slice_index_or chains.now.lists shared.0 []) (slice_index_or chains.now.lists self.older.0 []) }
+        ensures { reverse (head_lines chains.now.lists scans.now group self) ≡ reverse (lines_of scans.now (slice_index_or chains.now.lists shared.0 [])) ++ result }
+    {
+        let ongoing = ongoing_reason(scans, group, self.ongoing);
+        let reasons = OldestFirst::after(chains, self.older, shared, ongoing);
         CertLines::new(group, scans, reasons)
     }
 

@@ -1,7 +1,7 @@
 //! Certificates: why a group still waits.
 //!
 //! Costs: the memory is linear in the events. Lists of reasons share their older parts, so a child has its parent's
-//! reasons for one entry of about 65 bytes, and what continues is kept by its beginning alone. Lines come to be only
+//! reasons for one entry of about 75 bytes, and what continues is kept by its beginning alone. Lines come to be only
 //! where a certificate is written out. A scan costs what its verdicts cost, one that leaves out a changed group that
 //! waits a look at each live task; a control event that opens a leg goes over the live tasks; any other event is
 //! constant. A `Maker` has 32 bytes for each number up to the greatest group that waited. The end of a leg keeps a
@@ -33,7 +33,7 @@ mod waiter_steps;
 mod waiters;
 
 pub use cert_head::CertHead;
-pub use cert_lines::CertLines;
+pub use cert_lines::{BusyScans, CertLines};
 pub use cert_list::{CertList, CertListRef};
 pub use explained::ExplainedCore;
 pub use leg_end::{LegEnd, LegEndRef};

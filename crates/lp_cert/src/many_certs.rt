@@ -1,6 +1,8 @@
 //! Certificates of one leg that share what they have in common.
-ghost use Rattle.std.specs.Prelude.{◌≡◌, ◌<◌, [], Some, length, map, slice_get, IsTrue};
+ghost use Rattle.std.specs.Prelude.{◌≡◌, ◌<◌, ◌≤◌, [], Some, length, map, slice_get, IsTrue};
 ghost use Rattle.std.specs.Option.{option_map};
+ghost use Rattle.lp_definitions.specs.declared.cert.Cert.{Cert};
+ghost use Rattle.lp_cert.specs.Beside.{BeginWith};
 ghost use Rattle.lp_cert.specs.Ends.{cert_head};
 ghost use Rattle.lp_cert.specs.Waiters.{kept_cert};
 ghost use Rattle.lp_cert.specs.inside.Kept.{up_to};
@@ -109,6 +111,38 @@ impl ManyCerts {
         ensures { IsTrue result → option_map (λ cert. cert.lines) (slice_get self.now place) ≡ Some [] }
     {
         self.waiters[place].head.is_bare(&self.chains)
+    }
+
+    /// How many lines the certificate at a place, from 0, has at least that others may begin with too.
+    #[inline(always)]
+    pub(crate) fn older_lines(&self, place: usize) -> usize
+        requires { place < length self.now }
+        ensures { (cert : Cert) → slice_get self.now place ≡ Some cert → result ≤ length cert.lines }
+    {
+        self.chains.lines_to_share(self.waiters[place].head.older)
+    }
+
+    /// How many of the first lines of the certificate at one place, from 0, are those of the certificate at another, but no
+    /// more than so many, and the lines after these. Never allocates.
+    pub(crate) fn lines_beside(
+        &self,
+        place: usize,
+        other: usize,
+        most: usize,
+    ) -> (usize, CertLines<'_>)
+        requires place { place < length self.now }
+        requires other { other < length self.now }
+        requires most { most < 18446744073709551615 }
+        ensures few { result.0 ≤ most }
+        ensures lines { (cert beside : Cert) → slice_get self.now place ≡ Some cert → slice_get self.now other ≡ Some beside → BeginWith cert.lines beside.lines result.0 result.1 }
+    {
+        let chains = &self.chains;
+        let (one, beside) = (self.waiters[place], self.waiters[other]);
+        let shared = chains.shared(one.head.older, beside.head.older, most);
+        let after = one
+            .head
+            .lines_after(chains, self.scans.as_slice(), one.group, shared);
+        (chains.lines(shared), after)
     }
 
     /// The lines of the certificate at a place, from 0, one at a time. Never allocates.

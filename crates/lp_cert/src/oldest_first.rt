@@ -1,5 +1,6 @@
 //! The reasons of a group with the oldest first, without memory.
 ghost use Rattle.std.specs.Prelude.{◌≡◌, ◌<◌, [], ◌++◌, length, option_to_list, slice_index_or, IfNone};
+ghost use Rattle.lp_cert.specs.inside.Chains.{IsTail};
 ghost use Rattle.lp_cert.specs.inside.Parts.{AreWithout, IsPart};
 
 use crate::chains::{ChainId, Chains, RUN};
@@ -54,6 +55,31 @@ impl<'a> OldestFirst<'a> {
         ensures { result ≡ option_to_list ongoing ++ slice_index_or chains.now.lists list.0 [] }
     {
         let left = chains.count(list);
+        OldestFirst {
+            chains,
+            ongoing,
+            list,
+            left,
+            found: Found {
+                first: left,
+                places: [0; RUN],
+            },
+        }
+    }
+
+    /// The reasons of a list that another, which it ends with, hasn't, and the one in front of them that continues.
+    pub(crate) fn after(
+        chains: &'a Chains,
+        list: ChainId,
+        shared: ChainId,
+        ongoing: Option<Reason>,
+    ) -> OldestFirst<'a>
+        requires known { list.0 < length chains.now.lists }
+        requires shared { shared.0 < length chains.now.lists }
+        requires tail { IsTail (slice_index_or chains.now.lists shared.0 []) (slice_index_or chains.now.lists list.0 []) }
+        ensures { result ++ slice_index_or chains.now.lists shared.0 [] ≡ option_to_list ongoing ++ slice_index_or chains.now.lists list.0 [] }
+    {
+        let left = chains.count(list) - chains.count(shared);
         OldestFirst {
             chains,
             ongoing,

@@ -1,4 +1,6 @@
 //! The reasons why a group still waits, as they are kept.
+ghost use Rattle.std.specs.Prelude.{◌≡◌};
+ghost use Rattle.lp_cert.specs.inside.Chains.{reason_count};
 
 use lp_definitions::Line;
 use lp_stack::{GroupId, TaskId};
@@ -19,4 +21,17 @@ pub(crate) enum Reason {
         /// The place after the last one.
         end: usize,
     },
+}
+
+impl Reason {
+    /// How many lines it has.
+    #[inline(always)]
+    pub(crate) fn lines(self) -> usize
+        ensures { result ≡ reason_count self }
+    {
+        match self {
+            Reason::One(_) => 1,
+            Reason::Busy { first, end, .. } => end.saturating_sub(first),
+        }
+    }
 }

@@ -1,7 +1,8 @@
 -- Lists of reasons that share their older parts.
-use Rattle.std.specs.Prelude.{◌≡◌, ℕ, suc, ◌-◌, ◌<◌, ◌≤◌, List, [], ◌∷◌, ◌++◌, drop, length, slice_index_or}
+use Rattle.std.specs.Prelude.{◌≡◌, ℕ, suc, ◌+◌, ◌-◌, ◌<◌, ◌≤◌, List, [], ◌∷◌, ◌++◌, drop, length, slice_index_or}
 use Rattle.std.specs.List.{fold}
 use Rattle.lp_cert.specs.declared.reason.Reason.{Reason}
+use Rattle.lp_cert.specs.declared.reason.Reason.TheVariants.{One, Busy}
 use Rattle.lp_cert.specs.declared.chains.Entry.{Entry}
 
 -- the lists, each with the newest reason in front, and how many more there is room for
@@ -22,11 +23,27 @@ pub record IsTail (tail list : List Reason) : Type 0 where
   pub shorter : length tail ≤ length list
   pub rest : tail ≡ drop (length list - length tail) list
 
--- an entry stands in front of one of the lists before it, counts its reasons, and jumps to that list or further back
+-- how many lines a reason has
+abbrev pub reason_count : Reason → ℕ
+reason_count (One line) = 1
+reason_count (Busy group task first end) = end - first
+
+-- how many lines reasons have
+abbrev pub line_count : List Reason → ℕ
+line_count [] = 0
+line_count (reason ∷ reasons) = line_count reasons + reason_count reason
+
+-- a number of lines: all that reasons have, or the greatest number where they have more
+pub record IsLineCount (reasons : List Reason) (lines : ℕ) : Type 0 where
+  pub no_more : lines ≤ line_count reasons
+  pub all : lines < 18446744073709551615 → lines ≡ line_count reasons
+
+-- an entry stands in front of one of the lists before it, counts its reasons and their lines, and jumps to that list or further back
 pub record IsLinked (lists : List (List Reason)) (before : ℕ) (entry : Entry) : Type 0 where
   pub older : entry.older.0 < before
   pub count : entry.count ≡ suc (length (slice_index_or lists entry.older.0 []))
   pub few : entry.count ≤ before
+  pub lines : IsLineCount (entry.reason ∷ slice_index_or lists entry.older.0 []) entry.lines
   pub jump : entry.jump.0 < before
   pub tail : IsTail (slice_index_or lists entry.jump.0 []) (slice_index_or lists entry.older.0 [])
 

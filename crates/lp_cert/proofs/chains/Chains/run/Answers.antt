@@ -1,5 +1,4 @@
 use Rattle.std.proofs.Common.{◌∙◌, arith}
-use Rattle.std.proofs.lemmas.Grind.{common_steps}
 use Rattle.std.proofs.lemmas.List.{length-set}
 use Rattle.lp_cert.proofs.PartLemmas.{next_without, one_found}
 use Rattle.lp_cert.proofs.chains.Chains.run.Goals as goal
@@ -14,6 +13,3 @@ loop-place-preserved c =
       next = next_without lists c.args.id.0 c.args.first l.place l.at.0 c.older-at.result.0 i.next c.older-at.ensures.known c.older-at.ensures.list;
       each = one_found lists c.args.id.0 c.args.first l.place l.run l.at.0 (omega arith) i.each i.next;
     }
-
-pub older-at-requires-clause-some : goal.older-at-requires-clause-some
-older-at-requires-clause-some c = grind (arith, common_steps)
