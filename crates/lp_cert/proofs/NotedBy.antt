@@ -1,7 +1,7 @@
 -- What is made of a run with an event more that opens no leg, by verdicts that tell of each group that has changed.
 use Rattle.std.proofs.Common.{◌≡◌, ◌⊎◌, ℕ, ◌+◌, ◌<◌, true, false, List, length, Option, Some, None, if◌then◌else◌, nat_eq, refl, sym, ap, subst, inl, inr, ◌∙◌, ⊎_elim}
 use Rattle.std.specs.List.{list_any}
-use Rattle.std.proofs.lemmas.Bool.{eq-eqb}
+use Rattle.std.proofs.lemmas.Bool.{cases_Bool, eq-eqb}
 use Rattle.lp_numbers.specs.Numbers.{has}
 use Rattle.lp_model.specs.Rules.{Rules, IsLawful}
 use Rattle.lp_model.specs.declared.check.CheckKind.{CheckKind}
@@ -25,7 +25,8 @@ use Rattle.lp_cert.specs.declared.open_leg.OpenLeg.{OpenLeg}
 use Rattle.lp_definitions.specs.Certificates.{lines}
 use Rattle.lp_cert.specs.Ends.{Made, IsMadeWith, is_opening}
 use Rattle.lp_cert.specs.Invariant.{open_end}
-use Rattle.lp_transition.specs.LastScan.{IsLastScanAfter, used_scan}
+use Rattle.lp_transition.specs.Blames.{TellOf}
+use Rattle.lp_transition.specs.LastScan.{IsLastScanAfter, TellOfChanges, used_scan}
 use Rattle.lp_cert.specs.Waiters.{WaitingGroups}
 use Rattle.lp_cert.specs.inside.Invariant.{IsNoted, with_verdicts}
 use Rattle.lp_cert.specs.inside.ToldGroups.{AreToldOf, TellOfChanged, is_of_group}
@@ -55,6 +56,19 @@ enough_all model s event on is =
 
 -- ---- Verdicts of the groups that have changed
 
+-- the scan tells of them
+tells_changed : (model : Rules) (e : Engine) → IsSound (state_in e) → (on : CheckKind) (vs : List Verdict) → TellOfChanges model e on vs → TellOfChanged (state_in e) (Some on) vs e.last_scan
+tells_changed model e sound on vs tells =
+    ⊎_elim
+    (λ (all : vs ≡ verdicts_of model on (state_in e)). subst (λ ws. TellOfChanged (state_in e) (Some on) ws e.last_scan) (sym all) (told_of_all model (state_in e) sound on e.last_scan))
+    (λ (some : (e.last_scan.kind ≡ Some on) × TellOf model on (state_in e) (has e.last_scan.changed) vs).
+    λ t x live off.
+    ⊎_elim
+    (λ (changed : has e.last_scan.changed x.group ≡ true). inl (some.1.each t x live off changed))
+    (λ (same : has e.last_scan.changed x.group ≡ false). inr (some.0, same))
+    (cases_Bool (has e.last_scan.changed x.group)))
+    tells
+
 suffices_from : (model : Rules) (e : Engine) (event : Event) (before : WaitingGroups) (vs : List Verdict) → IsSound (state_in e) → IsWide e.table
     → ((t : ℕ) (x : LegTask) → (state_in e).tasks t ≡ Live x → nat_eq x.level e.target ≡ false → x.group < 65536 → has before.groups x.group ≡ true)
     → AreToldOf model e event before vs → TellOfChanged (state_in e) (used_scan model event) vs e.last_scan
@@ -64,7 +78,7 @@ suffices_from model e event before vs sound wide waits told = by (used_scan mode
     by None is = tt
     by (Some on) is =
         ⊎_elim
-        (λ (all : vs ≡ verdicts_of model on (state_in e)). subst (λ ws. TellOfChanged (state_in e) (Some on) ws e.last_scan) (sym all) (told_of_all model (state_in e) sound on e.last_scan))
+        (tells_changed model e sound on vs)
         (λ (groups : (g : ℕ) → g < 65536 → has before.groups g ≡ true → (list_any (is_of_group e g) vs ≡ true) ⊎ ((e.last_scan.kind ≡ Some on) × (has e.last_scan.changed g ≡ false))).
         λ t x live off.
         let few = group_fits e t x sound wide (slot_from_live e.table t x live) in

@@ -1,10 +1,11 @@
 -- Events that are neither scans nor control events are noted without verdicts.
-use Rattle.std.proofs.Common.{◌≡◌, ◌<◌, ◌+◌, ℕ, true, false, ◌&&◌, [], length, Option, Some, None, is_none, refl, sym, ap, ap₂, subst, ◌∙◌}
+use Rattle.std.proofs.Common.{◌≡◌, ◌≢◌, ◌<◌, ◌+◌, ℕ, Bool, true, false, ◌&&◌, [], length, Option, Some, None, is_none, refl, sym, ap, ap₂, subst, ◌∙◌}
 use Rattle.std.specs.Option.{option_map}
 use Rattle.lp_model.specs.Rules.{Rules, IsLawful}
 use Rattle.lp_model.specs.declared.check.CheckKind.{CheckKind}
 use Rattle.lp_definitions.specs.declared.event.Event.{Event}
 use Rattle.lp_definitions.specs.declared.event.Event.TheVariants.{Walk, Stop}
+use Rattle.lp_definitions.specs.declared.refusal.Refusal.{Refusal}
 use Rattle.lp_definitions.specs.declared.reply.Reply.{Reply}
 use Rattle.lp_definitions.specs.Events.{is_control, is_scan}
 use Rattle.lp_definitions.specs.Leg.{State}
@@ -14,7 +15,7 @@ use Rattle.lp_machine.specs.Steps.{IsReply, StandsIn}
 use Rattle.lp_machine.specs.Table.{Engine, state_in}
 use Rattle.lp_machine_laws.proofs.Steps.{does}
 use Rattle.lp_transition.specs.LastScan.{IsLastScanAfter, used_scan}
-use Rattle.lp_transition.specs.Weigh.{IsWeighed, AreVerdictsFor, refusal_in}
+use Rattle.lp_transition.specs.Weigh.{IsWeighed, AreVerdictsFor, Weighed, refusal_in}
 use Rattle.lp_transition.proofs.Weighing.{refused-as}
 use Rattle.lp_definitions.specs.Certificates.{lines}
 use Rattle.lp_cert.specs.declared.open_leg.OpenLeg.{OpenLeg}
@@ -39,6 +40,19 @@ pub control_unscanned : (event : Event) → is_control event ≡ true → is_sca
 control_unscanned Walk control = cc
 control_unscanned Stop control = cc
 control_unscanned _ control = refl
+
+-- an event that isn't an accepted control event opens no leg
+pub stays_in : (model : Rules) (e : Engine) (step : Weighed) → IsWeighed model e step → (is_control step.event ≡ true → refusal_of model (state_in e) step.event ≢ None) → is_opening step ≡ false
+stays_in model e step weighed refused =
+    by (is_control step.event) (refusal_of model (state_in e) step.event) refl refl
+  where
+    told : refusal_in step.reply.what ≡ refusal_of model (state_in e) step.event
+    told = ap (λ (r : Reply). refusal_in r.what) weighed.reply ∙ refused-as model (state_in e) step.event
+
+    by : (b : Bool) (o : Option Refusal) → is_control step.event ≡ b → refusal_of model (state_in e) step.event ≡ o → is_opening step ≡ false
+    by false o plain is = ap (λ b. b && is_none (refusal_in step.reply.what)) plain
+    by true (Some why) control is = ap₂ (λ b (o : Option Refusal). b && is_none o) control (told ∙ is)
+    by true None control is = absurd (refused control is)
 
 -- the leg under way after such an event
 abbrev pub HasGoneOn : Rules → Engine → Event → ℕ → (old new : Option OpenLeg) → (before after : WaitingGroups) → Type 0

@@ -4,6 +4,7 @@ ghost use Rattle.std.specs.Option.{option_map};
 ghost use Rattle.lp_definitions.specs.Events.{is_control};
 ghost use Rattle.lp_definitions.specs.TaskEvents.{is_own_check, is_quiet};
 ghost use Rattle.lp_definitions.specs.Run.{Run, plus};
+ghost use Rattle.lp_machine.specs.Machine.{refusal_of};
 ghost use Rattle.lp_machine.specs.Steps.{IsStep, StandsIn};
 ghost use Rattle.lp_machine.specs.Table.{state_in};
 ghost use Rattle.lp_transition.specs.Blames.{HasBlamesAfter};
@@ -158,8 +159,8 @@ fn up_to(cert: Option<Cert>, upto: u64) -> Option<Cert>
     Some(cert)
 }
 
-/// Takes an event that isn't quiet. Out of line, so that a quiet event pays nothing for what the others need.
-#[inline(never)]
+/// Takes an event that isn't quiet; a scan goes its own way at once, as most scans find nothing changed.
+#[inline(always)]
 fn take<M: Consistency>(
     alloc: Global,
     core: &mut Core<M>,
@@ -177,6 +178,27 @@ fn take<M: Consistency>(
     match event {
         Event::Walk => take_scan(alloc, core, maker, CheckKind::Walk, event),
         Event::Stop => take_scan(alloc, core, maker, CheckKind::Stop, event),
+        _ => take_other(alloc, core, maker, event),
+    }
+}
+
+/// Takes an event that is neither quiet nor a scan. Out of line, so that those pay nothing for what the others need.
+#[inline(never)]
+fn take_other<M: Consistency>(
+    alloc: Global,
+    core: &mut Core<M>,
+    maker: &mut Maker,
+    event: Event,
+) -> Result<Reply, AllocError>
+    requires room { core.old.number < 1000000 }
+    ensures step { IfOk result (λ reply. IsStep M.rules (state_in core.old) event reply (state_in core.new)) }
+    ensures made { OnOk result ((run : Run) → StandsIn M.rules run (state_in core.old) → IsMadeWith M.rules run core.old.last_scan maker.old → IsMadeWith M.rules (plus run event) core.new.last_scan maker.new) }
+    ensures blames { OnOk result (HasBlamesAfter M.rules core.old event core.new) }
+    ensures unchanged { OnErr result (core.new ≡ core.old) }
+    ensures ended { OnErr result (maker.new.ended ≡ maker.old.ended) }
+    ensures current { OnErr result (maker.new.current ≡ maker.old.current) }
+{
+    match event {
         Event::Exit(_) | Event::Idle(_) => take_own_check(alloc, core, maker, event),
         Event::Enable | Event::Disable | Event::Reverse => {
             take_control(alloc, core, maker, event)
@@ -229,6 +251,7 @@ fn take_control<M: Consistency>(
 
 /// Takes a walk or a stop: without a look at anybody where no group has to be asked, since then it switches nobody and each
 /// group's newest reason continues.
+#[inline(never)]
 fn take_scan<M: Consistency>(
     alloc: Global,
     core: &mut Core<M>,
@@ -252,7 +275,7 @@ fn take_scan<M: Consistency>(
     take_weighed(alloc, core, maker, event)
 }
 
-/// Takes an event of any kind: it is weighed, a scan by those alone to whom something happened since the last one, and noted as it
+/// Takes an event that opens no leg: it is weighed, a scan by those alone to whom something happened since the last one, and noted as it
 /// was weighed.
 #[inline(never)]
 fn take_weighed<M: Consistency>(
@@ -262,6 +285,7 @@ fn take_weighed<M: Consistency>(
     event: Event,
 ) -> Result<Reply, AllocError>
     requires room { core.old.number < 1000000 }
+    requires opens { is_control event ≡ true → refusal_of M.rules (state_in core.old) event ≢ None }
     ensures step { IfOk result (λ reply. IsStep M.rules (state_in core.old) event reply (state_in core.new)) }
     ensures made { OnOk result ((run : Run) → StandsIn M.rules run (state_in core.old) → IsMadeWith M.rules run core.old.last_scan maker.old → IsMadeWith M.rules (plus run event) core.new.last_scan maker.new) }
     ensures blames { OnOk result (HasBlamesAfter M.rules core.old event core.new) }
@@ -274,11 +298,8 @@ fn take_weighed<M: Consistency>(
         Err(Halt::NoMemory) => return Err(AllocError),
         Err(Halt::JournalFull) => unreachable!(),
     };
-    match maker.ready(alloc, core, &step) {
-        Ok(()) => {
-            maker.note(core, &step);
-            Ok(core.take(step))
-        }
+    match maker.note_further(alloc, core, &step) {
+        Ok(()) => Ok(core.take(step)),
         Err(error) => {
             drop(step);
             Err(error)

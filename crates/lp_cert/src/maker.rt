@@ -1,5 +1,5 @@
 //! The maker of certificates.
-ghost use Rattle.std.specs.Prelude.{◌≡◌, ◌+◌, ◌<◌, [], ◌∷◌, ◌++◌, true, Some, None, IsTrue, ◌≤◌, length, option_to_list, is_some, IfOk, IfSome, OnOk};
+ghost use Rattle.std.specs.Prelude.{◌≡◌, ◌+◌, ◌<◌, [], ◌∷◌, ◌++◌, true, false, Some, None, IsTrue, ◌≤◌, length, option_to_list, is_some, IfOk, IfSome, OnErr, OnOk};
 ghost use Rattle.lp_definitions.specs.Events.{is_scan};
 ghost use Rattle.lp_definitions.specs.Run.{new_target};
 ghost use Rattle.lp_definitions.specs.declared.event.Event.{Event};
@@ -10,6 +10,7 @@ ghost use Rattle.lp_cert.specs.Invariant.{open_end};
 ghost use Rattle.lp_cert.specs.inside.Invariant.{HasClosing, HasEndRoom, HasFloor, HasFloors, IsClosing, IsNoted, leg_at, waiting_cert};
 ghost use Rattle.lp_cert.specs.Waiters.{WaitingGroups};
 ghost use Rattle.lp_cert.specs.inside.LegRows.{HasRoomFor};
+ghost use Rattle.lp_cert.specs.inside.ToldGroups.{Tells};
 ghost use Rattle.lp_cert.specs.inside.Waiters.{HasHeadFor, HasHeads, lines_at};
 ghost use Rattle.std.specs.Option.{option_map};
 
@@ -158,7 +159,8 @@ impl Maker {
             let Some(leg) = &mut self.current else {
                 return;
             };
-            step_leg(core, step, number, leg, &mut self.waiters, &mut self.told);
+            let (waiters, told) = (&mut self.waiters, &mut self.told);
+            step_leg(core, step, number, leg, waiters, told, false);
             return;
         }
         let Some(closing) = self.closing.take() else {
@@ -168,6 +170,33 @@ impl Maker {
         self.waiters.open(core, next.target);
         end_leg(&mut self.ended, noted, self.current, closing);
         self.current = Some(next);
+    }
+
+    /// Notes an event that was weighed on the engine and opens no leg, before the engine takes it, if at a scan it is known to tell
+    /// of each group that has changed. AllocError where an allocation failed, and then the certificates are as they were.
+    pub(crate) fn note_further<M: Consistency>(
+        &mut self,
+        alloc: Global,
+        core: &Core<M>,
+        step: &Step,
+    ) -> Result<(), AllocError>
+        requires weighed { IsWeighed M.rules core.now step.now }
+        requires stays { is_opening step.now ≡ false }
+        requires tells { Tells M.rules core.now step.now }
+        ensures made { OnOk result (IsMadeFurther M.rules core.now step.now.event self.old self.new) }
+        ensures ended { self.new.ended ≡ self.old.ended }
+        ensures current { OnErr result (self.new.current ≡ self.old.current) }
+    {
+        self.ready = None;
+        self.waiters
+            .reserve(step.verdicts().len() + 2, step.event())?;
+        self.noted = core.events() as u32 + 1;
+        let Some(leg) = &mut self.current else {
+            return Ok(());
+        };
+        let (waiters, told) = (&mut self.waiters, &mut self.told);
+        step_leg(core, step, self.noted, leg, waiters, told, true);
+        Ok(())
     }
 
     /// The certificate that a group waits in the leg under way, if it does; AllocError where an
@@ -275,8 +304,10 @@ fn step_leg<M: Consistency>(
     leg: &mut OpenLeg,
     waiters: &mut Waiters,
     told: &mut NumberSet,
+    tells: bool,
 )
     requires weighed { IsWeighed M.rules core.now step.now }
+    requires tells { IsTrue tells → Tells M.rules core.now step.now }
     requires floor { HasFloor waiters.old leg.old.completed }
     requires heads { HasHeads waiters.old }
     requires child { HasHeadFor step.now.event waiters.old.reasons }
@@ -289,7 +320,7 @@ fn step_leg<M: Consistency>(
     if leg.is_over(number, step.reply(), waiters) {
         return;
     }
-    match untold(core, step, waiters, told) {
+    match untold(core, step, waiters, told, tells) {
         Some(kind) => waiters.step_whole(core, step, kind),
         None => waiters.step_waiters(core, step),
     }

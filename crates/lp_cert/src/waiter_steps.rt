@@ -8,7 +8,7 @@ ghost use Rattle.lp_transition.specs.Scan.{verdicts_of};
 ghost use Rattle.lp_machine.specs.Table.{state_in};
 ghost use Rattle.lp_transition.specs.Weigh.{IsWeighed, refusal_in};
 ghost use Rattle.lp_transition.specs.LastScan.{used_kind, used_scan};
-ghost use Rattle.lp_cert.specs.inside.ToldGroups.{AreToldOf, is_of_group};
+ghost use Rattle.lp_cert.specs.inside.ToldGroups.{AreToldOf, Tells, is_of_group};
 ghost use Rattle.lp_cert.specs.inside.Invariant.{with_verdicts};
 ghost use Rattle.lp_cert.specs.inside.StepLines.{stepped_lines, after_scan_kind, noted_lines};
 ghost use Rattle.lp_cert.specs.inside.Heads.{IsUsed};
@@ -205,16 +205,22 @@ fn own_blame<M: Consistency>(core: &Core<M>, task: TaskId) -> Option<Blame>
 }
 
 /// The kind of a scan that the model uses, where a group waits of which the scan found nothing, and
-/// to which something may have happened since the last scan. The set is of use within the call alone.
+/// to which something may have happened since the last scan. None too where the scan is known to tell of each such group. The set
+/// is of use within the call alone.
 pub(crate) fn untold<M: Consistency>(
     core: &Core<M>,
     step: &Step,
     waiters: &Waiters,
     told: &mut NumberSet,
+    tells: bool,
 ) -> Option<CheckKind>
+    requires { IsTrue tells → Tells M.rules core.now step.now }
     ensures used { IfSome result (λ kind. used_scan M.rules step.now.event ≡ Some kind) }
     ensures enough { result ≡ None → AreToldOf M.rules core.now step.now.event waiters.now step.now.verdicts }
 {
+    if tells {
+        return None;
+    }
     let kind = used_scan(&core.model(), step.event())?;
     told.clear();
     take_in_all(core, step.verdicts(), told);

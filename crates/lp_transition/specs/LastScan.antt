@@ -1,9 +1,10 @@
 -- What the engine knows of its last scan after each event: which waiting groups nothing happened to since.
-use Rattle.std.specs.Prelude.{◌≡◌, ◌↔◌, ℕ, true, false, Option, Some, None, if◌then◌else◌, nat_eq}
+use Rattle.std.specs.Prelude.{◌≡◌, ◌⊎◌, ◌↔◌, ℕ, true, false, List, Option, Some, None, if◌then◌else◌, nat_eq}
 use Rattle.lp_numbers.specs.Numbers.{has, IsEmpty}
 use Rattle.lp_model.specs.Rules.{Rules}
 use Rattle.lp_model.specs.declared.check.CheckKind.{CheckKind}
 use Rattle.lp_model.specs.declared.check.CheckKind.TheVariants as check
+use Rattle.lp_model.specs.declared.verdict.Verdict.{Verdict}
 use Rattle.lp_definitions.specs.declared.event.Event.{Event}
 use Rattle.lp_definitions.specs.declared.event.Event.TheVariants.{Walk, Stop}
 use Rattle.lp_definitions.specs.Events.{is_control}
@@ -11,6 +12,8 @@ use Rattle.lp_definitions.specs.Tasks.{Live}
 use Rattle.lp_definitions.specs.Leg.{LegTask, State}
 use Rattle.lp_machine.specs.Machine.{refusal_of}
 use Rattle.lp_machine.specs.Table.{Engine, state_in}
+use Rattle.lp_transition.specs.Blames.{TellOf}
+use Rattle.lp_transition.specs.Scan.{verdicts_of}
 
 -- the kind of scan that the model uses, if it is one
 abbrev pub used_kind : Rules → CheckKind → Option CheckKind
@@ -21,6 +24,13 @@ abbrev pub used_scan : Rules → Event → Option CheckKind
 used_scan model Walk = used_kind model check.Walk
 used_scan model Stop = used_kind model check.Stop
 used_scan model _ = None
+
+-- of a scan of this kind the verdicts are of all waiting tasks, or they tell of each group that has changed since the last scan, which
+-- was of this kind too
+abbrev pub TellOfChanges : Rules → Engine → CheckKind → List Verdict → Type 0
+TellOfChanges model e kind verdicts =
+    (verdicts ≡ verdicts_of model kind (state_in e))
+    ⊎ ((e.last_scan.kind ≡ Some kind) × TellOf model kind (state_in e) (has e.last_scan.changed) verdicts)
 
 -- the members of the group are who they were, and each stands as it stood
 abbrev pub AreSameMembers : (before after : State) → (group : ℕ) → Type 0

@@ -8,8 +8,9 @@ use Rattle.lp_model.specs.declared.verdict.Verdict.{Verdict}
 use Rattle.lp_definitions.specs.declared.event.Event.{Event}
 use Rattle.lp_definitions.specs.Tasks.{Live}
 use Rattle.lp_definitions.specs.Leg.{LegTask, State}
-use Rattle.lp_transition.specs.LastScan.{used_scan}
-use Rattle.lp_transition.specs.Scan.{is_of, verdicts_of}
+use Rattle.lp_transition.specs.LastScan.{TellOfChanges, used_scan}
+use Rattle.lp_transition.specs.Scan.{is_of}
+use Rattle.lp_transition.specs.Weigh.{Weighed}
 use Rattle.lp_machine.specs.Table.{Engine, LastScan, slot, state_in}
 use Rattle.lp_tasks.specs.inside.Table.{is_in}
 use Rattle.lp_cert.specs.declared.ongoing.Ongoing.{Ongoing}
@@ -39,9 +40,13 @@ TellOfChanged s (Some kind) verdicts last_scan =
     (t : ℕ) (x : LegTask) → s.tasks t ≡ Live x → nat_eq x.level s.target ≡ false →
     (list_any (is_of s x.group) verdicts ≡ true) ⊎ ((last_scan.kind ≡ Some kind) × (has last_scan.changed x.group ≡ false))
 
--- of a scan that the model uses the verdicts are of all waiting tasks, or one is of a member of each group that waits and has changed
+-- a scan that the model uses tells of each group that has changed since the last one
+abbrev pub Tells : Rules → Engine → Weighed → Type 0
+Tells model e step = (kind : CheckKind) → used_scan model step.event ≡ Some kind → TellOfChanges model e kind step.verdicts
+
+-- of a scan that the model uses the verdicts tell of each group that has changed, or one is of a member of each that waits and has
 abbrev pub AreToldOf : Rules → Engine → Event → WaitingGroups → List Verdict → Type 0
 AreToldOf model e event waiters verdicts =
     (kind : CheckKind) → used_scan model event ≡ Some kind →
-    (verdicts ≡ verdicts_of model kind (state_in e))
+    TellOfChanges model e kind verdicts
     ⊎ ((group : ℕ) → group < 65536 → has waiters.groups group ≡ true → (list_any (is_of_group e group) verdicts ≡ true) ⊎ ((e.last_scan.kind ≡ Some kind) × (has e.last_scan.changed group ≡ false)))

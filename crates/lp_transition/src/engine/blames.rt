@@ -115,6 +115,7 @@ impl Blames {
 
     /// After a scan: a group without a blame gets that of the first member that was refused, if
     /// that was for a frame.
+    #[inline(always)]
     pub(super) fn note(&mut self, tasks: &TaskTable, verdicts: &[Verdict])
         ensures blames { (group : ℕ) → group < 65536 → blame_at self.new group ≡ or_blame (blame_at self.old group) (found_by tasks.now group verdicts.now) }
         ensures groups { length self.new ≤ 65536 }

@@ -111,15 +111,16 @@ impl<M: Consistency> Core<M> {
         ensures reply { IfOk result (λ step. IsReply M.rules (state_in self.now) (scan_event kind) step.reply) }
         ensures weighed { IfOk result (λ step. IsWeighed M.rules self.now step) }
         ensures event { IfOk result (λ step. step.event ≡ scan_event kind) }
+        ensures verdicts { IfOk result (λ step. IsTrue (M.rules.uses kind) → step.verdicts ≡ verdicts_of M.rules kind (state_in self.now)) }
     {
         if self.events >= MOST_EVENTS {
             return Err(Halt::JournalFull);
         }
         if !self.model.uses(kind) {
-            return self.weigh_found(alloc, kind, Vec::new(alloc));
+            return self.weigh_found(alloc, kind, Vec::new(alloc), false);
         }
         let found = self.all_verdicts(alloc, kind)?;
-        self.weigh_found(alloc, kind, found)
+        self.weigh_found(alloc, kind, found, true)
     }
 
     /// It takes a number too: else the numbers of a run's events would depend on its replies.

@@ -48,7 +48,7 @@ impl<M: Consistency> Core<M> {
         }
         let may_refuse = self.unchanged.may_refuse(kind);
         let found = self.first_refusals(alloc, kind, may_refuse, asked)?;
-        self.weigh_found(alloc, kind, found)
+        self.weigh_found(alloc, kind, found, false)
     }
 
     /// Where each group has one member, or nothing is known of who would be admitted, it looks at all
@@ -65,13 +65,13 @@ impl<M: Consistency> Core<M> {
     {
         // For the proof alone, which knows what every value keeps once a field is read.
         let _ = &self.tasks;
-        let Some(may_refuse) = may_refuse else {
-            return self.asked_verdicts(alloc, kind, groups);
-        };
-        if self.are_own(groups) {
-            return self.verdicts_in(alloc, kind, groups);
+        if let Some(found) = self.own_verdicts(alloc, kind, groups)? {
+            return Ok(found);
         }
-        self.first_told(alloc, kind, may_refuse, groups)
+        match may_refuse {
+            Some(may_refuse) => self.first_told(alloc, kind, may_refuse, groups),
+            None => self.member_verdicts(alloc, kind, groups),
+        }
     }
 
     /// What a check finds of enough of the waiting tasks of some groups to tell of each of them the

@@ -1,25 +1,31 @@
 //! Open scans, which ask the members of some groups alone: of each of the others a member's refusal
 //! still stands.
 ghost use Rattle.std.specs.Prelude.{◌≡◌, ◌<◌, ◌≤◌, ◌↔◌, ◌&&◌, ◌||◌, ℕ, true, Err, Some, map, nat_eq, IfOk, IfSome, IsTrue};
-ghost use Rattle.std.specs.List.{filter, list_any};
+ghost use Rattle.std.specs.List.{filter, filter_map, list_any};
+ghost use Rattle.std.specs.Option.{option_map};
+ghost use Rattle.lp_patch.specs.Aimed.{aimed};
 ghost use Rattle.lp_stack.specs.TaskView.{seen};
 ghost use Rattle.lp_numbers.specs.Numbers.{has};
 ghost use Rattle.lp_machine.specs.Table.{slot, state_in};
+ghost use Rattle.lp_model.specs.declared.check.CheckKind.{CheckKind};
 ghost use Rattle.lp_transition.specs.Blames.{is_open};
+ghost use Rattle.lp_transition.specs.LastScan.{TellOfChanges, used_scan};
 ghost use Rattle.lp_transition.specs.Weigh.{IsWeighed, may_allocate};
 ghost use Rattle.lp_machine.specs.Steps.{IsReply};
-ghost use Rattle.lp_transition.specs.Scan.{is_asked, is_scan_kind, scan_event, MayLeaveOut, verdicts_among, views_of};
+ghost use Rattle.lp_transition.specs.Scan.{is_asked, is_scan_kind, scan_event, MayLeaveOut, verdict_of, verdicts_among, views_of};
 ghost use Rattle.lp_tasks.specs.Passing.{passing};
-ghost use Rattle.lp_transition.specs.inside.ScanSteps.{IsOwnGroup, tasks_of};
+ghost use Rattle.lp_transition.specs.inside.ScanSteps.{IsOwnGroup, tasks_of, waiting_slot};
 ghost use Rattle.lp_tasks.specs.inside.Table.{is_in};
 ghost use Rattle.lp_transition.specs.declared.engine.step.Halt.TheVariants.{NoMemory, JournalFull};
-ghost use Rattle.lp_machine.specs.Machine.{answer};
+ghost use Rattle.lp_machine.specs.Machine.{answer, view_of};
 
 use super::Core;
+use super::scan::waiting_task;
 use super::step::{Halt, Step};
 use crate::{Event, MOST_EVENTS};
 use lp_model::{CheckKind, Consistency, Verdict};
 use lp_numbers::NumberSet;
+use lp_patch::Aim;
 use lp_stack::{GroupId, TaskId, View};
 use lp_tasks::TaskTable;
 use std::alloc::{AllocError, Global};
@@ -34,6 +40,7 @@ impl<M: Consistency> Core<M> {
         ensures reply { IfOk result (λ step. IsReply M.rules (state_in self.now) event step.reply) }
         ensures weighed { IfOk result (λ step. IsWeighed M.rules self.now step) }
         ensures event { IfOk result (λ step. step.event ≡ event) }
+        ensures told { IfOk result (λ step. (kind : CheckKind) → used_scan M.rules event ≡ Some kind → TellOfChanges M.rules self.now kind step.verdicts) }
     {
         match event {
             Event::Walk => self.weigh_changed_scan(alloc, CheckKind::Walk),
@@ -59,6 +66,7 @@ impl<M: Consistency> Core<M> {
         ensures reply { IfOk result (λ step. IsReply M.rules (state_in self.now) (scan_event kind) step.reply) }
         ensures weighed { IfOk result (λ step. IsWeighed M.rules self.now step) }
         ensures event { IfOk result (λ step. step.event ≡ scan_event kind) }
+        ensures told { IfOk result (λ step. IsTrue (M.rules.uses kind) → TellOfChanges M.rules self.now kind step.verdicts) }
     {
         match self.changed_since(kind) {
             Some(asked) => self.weigh_first_refusals(alloc, kind, asked),
@@ -67,7 +75,7 @@ impl<M: Consistency> Core<M> {
     }
 
     /// What a check finds of the waiting tasks of some groups, by increasing number.
-    pub(super) fn asked_verdicts(
+    pub(super) fn member_verdicts(
         &self,
         alloc: Global,
         kind: CheckKind,
@@ -77,11 +85,30 @@ impl<M: Consistency> Core<M> {
     {
         // For the proof alone, which knows what every value keeps once a field is read.
         let _ = &self.tasks;
-        if self.are_own(groups) {
-            return self.verdicts_in(alloc, kind, groups);
-        }
         let members = members_of(alloc, &self.tasks, groups)?;
         self.verdicts_in(alloc, kind, &members)
+    }
+
+    /// The same, at no cost for a set of members: None where a group has others than the task of its number. Most groups have no
+    /// other, and then they are the tasks to look at.
+    pub(super) fn own_verdicts(
+        &self,
+        alloc: Global,
+        kind: CheckKind,
+        groups: &NumberSet,
+    ) -> Result<Option<Vec<Verdict>>, AllocError>
+        ensures { IfOk result (λ told. IfSome told (λ found. found.items ≡ verdicts_among M.rules kind (state_in self.now) (has groups.now))) }
+    {
+        let aim = self.aim();
+        own_found(
+            alloc,
+            &self.model,
+            kind,
+            &aim,
+            &self.tasks,
+            &self.waiting,
+            groups,
+        )
     }
 
     /// The waiting tasks as checks see them whose groups have no standing blame, by increasing number;
@@ -130,32 +157,47 @@ impl<M: Consistency> Core<M> {
             return Err(Halt::JournalFull);
         }
         let copied = Vec::from_slice(alloc, verdicts)?;
-        self.weigh_found(alloc, kind, copied)
+        self.weigh_found(alloc, kind, copied, false)
     }
+}
 
-    /// Most groups have one member, of their own number: then the groups are the tasks to look at, and
-    /// no set of members has to be made.
-    pub(super) fn are_own(&self, groups: &NumberSet) -> bool
-        ensures { IsTrue result → (group : ℕ) → group < 65536 → has groups.now group ≡ true → IsOwnGroup self.now.table group }
-    {
-        for number in groups {
-            if !self.is_own(number) {
-                return false;
-            }
+/// What a check finds of the waiting tasks of the numbers of some groups, by increasing number; None where a group has another live
+/// member, or the task of its number is of another group.
+#[tactic(auto, using(lp_tasks::proofs::AscendingLemmas::in_order))]
+fn own_found<M: Consistency>(
+    alloc: Global,
+    model: &M,
+    kind: CheckKind,
+    aim: &Aim<'_>,
+    tasks: &TaskTable,
+    waiting: &NumberSet,
+    groups: &NumberSet,
+) -> Result<Option<Vec<Verdict>>, AllocError>
+    ensures own { IfOk result (λ told. IfSome told (λ found. (group : ℕ) → group < 65536 → has groups.now group ≡ true → IsOwnGroup tasks.now group)) }
+    ensures found { IfOk result (λ told. IfSome told (λ found. found.items ≡ map (verdict_of M.rules kind (aimed aim.now)) (filter_map (λ t. option_map (view_of t) (waiting_slot tasks.now waiting.now t)) (passing 0 65536 (has groups.now))))) }
+{
+    let mut found = Vec::new(alloc);
+    for number in groups {
+        if !is_own(tasks, number) {
+            return Ok(None);
         }
-        true
-    }
-
-    /// Whether a group has no other live member than the task of its number, which has no other group.
-    fn is_own(&self, number: u16) -> bool
-        ensures { IsTrue result → IsOwnGroup self.now.table number }
-    {
-        let group = GroupId(number);
         let task = TaskId(number);
-        match self.tasks.get(task) {
-            Some(_) => self.tasks.is_alone(group, task),
-            None => self.tasks.is_empty_group(group),
+        if let Some(live) = waiting_task(tasks, waiting, task) {
+            found.push(Verdict::of(model, kind, &live.view(task), aim))?;
         }
+    }
+    Ok(Some(found))
+}
+
+/// Whether a group has no other live member than the task of its number, which has no other group.
+fn is_own(tasks: &TaskTable, number: u16) -> bool
+    ensures { IsTrue result → IsOwnGroup tasks.now number }
+{
+    let group = GroupId(number);
+    let task = TaskId(number);
+    match tasks.get(task) {
+        Some(_) => tasks.is_alone(group, task),
+        None => tasks.is_empty_group(group),
     }
 }
 

@@ -98,6 +98,7 @@ impl Unchanged {
 
     /// A scan of these verdicts refused each group that waits after it. One that the model doesn't
     /// use would refuse them as well, but what the last one told is of more use.
+    #[inline(always)]
     pub(super) fn scanned(
         &mut self,
         kind: CheckKind,

@@ -38,7 +38,7 @@ returns-in-Some-clause-noted g c =
       verdicts = verdicts_of model on s;
       told = record {
         enough = enough_all model s c.args.step.now.event on c.in-Some.ensures.used;
-        told = λ going incomplete other used. inl (ap (λ (k : CheckKind). verdicts_of model k s) (same_some on other (sym c.in-Some.ensures.used ∙ used)));
+        told = λ going incomplete other used. inl (inl (ap (λ (k : CheckKind). verdicts_of model k s) (same_some on other (sym c.in-Some.ensures.used ∙ used))));
       };
       gone_on = record {
         complete = λ done ends. absurd (none_some done (sym goes_on.0 ∙ ends));

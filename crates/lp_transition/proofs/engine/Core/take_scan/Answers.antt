@@ -5,11 +5,11 @@ use Rattle.lp_definitions.specs.Events.{group_numbers}
 use Rattle.lp_transition.specs.inside.ScanSteps.{groups_of, is_listed}
 use Rattle.lp_transition.proofs.ScanTakes.{takes_scan, scan-rises}
 use Rattle.lp_machine.specs.Table.{Engine, state_in}
-use Rattle.lp_transition.proofs.Unchanged.{core_rests, core_scanned}
+use Rattle.lp_transition.proofs.Unchanged.{core_scanned, core_starts}
 use Rattle.lp_transition.proofs.BlamedScans.{leaves_scanned, blame_within}
 use Rattle.lp_transition.proofs.Blames.{with_blames}
-use Rattle.lp_transition.proofs.Effects.{with_scan, with_table}
-use Rattle.lp_transition.proofs.LastScans.{last_rests, last_scanned, noted_or}
+use Rattle.lp_transition.proofs.Effects.{with_scan}
+use Rattle.lp_transition.proofs.LastScans.{last_forgotten, last_scanned, noted_or}
 use Rattle.lp_transition.specs.inside.Invariant.{told_scan}
 use Rattle.lp_transition.proofs.engine.Core.take_scan.Goals as goal
 
@@ -25,19 +25,39 @@ invariant_of-self g c =
     let are_switched = rw c.verdicts-2.ensures at c.switch_tasks.ensures in
     let e : Engine = record { number = i.events; from = i.from.0; target = i.target.0; patches = i.patches; table = i.tasks; blames = i.blames; last_scan = told_scan i.unchanged } in
     let noted = rw c.verdicts.ensures at c.note.ensures.blames in
-    let taken = with_scan g.M.Consistency.rules c.args.self.now _ c.args.step.now.event c.switch_tasks.new.waiting (told_scan c.reset_if_done.new.self) (with_blames g.M.Consistency.rules c.args.self.now _ c.args.step.now.event c.switch_tasks.new.waiting c.note.new.self (takes_scan g.M.Consistency.rules g.met.M.Consistency.lawful (record { number = i.events; from = i.from.0; target = i.target.0; patches = i.patches; table = i.tasks; blames = i.blames; last_scan = told_scan i.unchanged }) c.args.self.now c.switch_tasks.new.tasks i.waiting c.switch_tasks.new.waiting c.args.step.now (is_listed (group_numbers c.groups_of.result.now)) c.self.view_is c.self.invariant.engine c.requires.weighed c.requires.scan (λ group few. ap (λ groups. is_listed groups group) listed) are_switched)) in
+    let taken = with_scan g.M.Consistency.rules c.args.self.now _ c.args.step.now.event c.switch_tasks.new.waiting (told_scan c.reset.new.self) (with_blames g.M.Consistency.rules c.args.self.now _ c.args.step.now.event c.switch_tasks.new.waiting c.note.new.self (takes_scan g.M.Consistency.rules g.met.M.Consistency.lawful (record { number = i.events; from = i.from.0; target = i.target.0; patches = i.patches; table = i.tasks; blames = i.blames; last_scan = told_scan i.unchanged }) c.args.self.now c.switch_tasks.new.tasks i.waiting c.switch_tasks.new.waiting c.args.step.now (is_listed (group_numbers c.groups_of.result.now)) c.self.view_is c.self.invariant.engine c.requires.weighed c.requires.scan (λ group few. ap (λ groups. is_listed groups group) listed) are_switched)) in
+    let left = leaves_scanned g.M.Consistency.rules g.met.M.Consistency.lawful e c.args.self.now _ i.waiting c.switch_tasks.new.waiting c.args.step.now c.self.view_is c.self.invariant.engine c.self.invariant.blamed taken c.requires.weighed c.requires.scan noted (λ group b there. blame_within c.note.new.self group b c.note.ensures.groups there) in
+    record {
+      core = core_starts g.M.Consistency.rules _ c.switch_tasks.new.waiting c.reset.new.self taken.kept c.reset.ensures;
+      groups = c.note.ensures.groups;
+      blamed = left.blamed;
+    }
+
+pub invariant_of-self-2 : goal.invariant_of-self-2
+invariant_of-self-2 g c =
+    let i = c.self.inside in
+    let listed = c.groups_of.ensures ∙ ap (λ (r : Reply). groups_of r.what) c.reply.ensures in
+    let are_switched = rw c.verdicts-2.ensures at c.switch_tasks.ensures in
+    let e : Engine = record { number = i.events; from = i.from.0; target = i.target.0; patches = i.patches; table = i.tasks; blames = i.blames; last_scan = told_scan i.unchanged } in
+    let noted = rw c.verdicts.ensures at c.note.ensures.blames in
+    let taken = with_scan g.M.Consistency.rules c.args.self.now _ c.args.step.now.event c.switch_tasks.new.waiting (told_scan c.scanned.new.self) (with_blames g.M.Consistency.rules c.args.self.now _ c.args.step.now.event c.switch_tasks.new.waiting c.note.new.self (takes_scan g.M.Consistency.rules g.met.M.Consistency.lawful (record { number = i.events; from = i.from.0; target = i.target.0; patches = i.patches; table = i.tasks; blames = i.blames; last_scan = told_scan i.unchanged }) c.args.self.now c.switch_tasks.new.tasks i.waiting c.switch_tasks.new.waiting c.args.step.now (is_listed (group_numbers c.groups_of.result.now)) c.self.view_is c.self.invariant.engine c.requires.weighed c.requires.scan (λ group few. ap (λ groups. is_listed groups group) listed) are_switched)) in
     let left = leaves_scanned g.M.Consistency.rules g.met.M.Consistency.lawful e c.args.self.now _ i.waiting c.switch_tasks.new.waiting c.args.step.now c.self.view_is c.self.invariant.engine c.self.invariant.blamed taken c.requires.weighed c.requires.scan noted (λ group b there. blame_within c.note.new.self group b c.note.ensures.groups there) in
     let noted_scan = noted_or c.uses-is_used.result (rw c.verdicts-3.ensures at c.scanned.ensures.used) c.scanned.ensures.unused in
     record {
       core =
-          core_rests g.M.Consistency.rules _ c.switch_tasks.new.waiting c.scanned.new.self c.reset_if_done.new.self
-          (core_scanned g.M.Consistency.rules g.met.M.Consistency.lawful e c.args.self.now _ i.waiting c.switch_tasks.new.waiting c.args.step.now.event i.unchanged c.scanned.new.self c.self.view_is c.self.invariant.core
+          core_scanned g.M.Consistency.rules g.met.M.Consistency.lawful e c.args.self.now _ i.waiting c.switch_tasks.new.waiting c.args.step.now.event i.unchanged c.scanned.new.self c.self.view_is c.self.invariant.core
           taken
-          c.scan_kind-kind.result c.scan_kind-kind.ensures.scan (c.scan_kind-kind.ensures.event ∙ c.event.ensures) c.args.step.now.verdicts c.requires.weighed.verdicts noted_scan)
-          c.reset_if_done.ensures;
+          c.scan_kind-kind.result c.scan_kind-kind.ensures.scan (c.scan_kind-kind.ensures.event ∙ c.event.ensures) c.args.step.now.verdicts c.requires.weighed.verdicts noted_scan;
       groups = c.note.ensures.groups;
       blamed = left.blamed;
     }
+
+pub returns-then-is_empty-clause-state : goal.returns-then-is_empty-clause-state
+returns-then-is_empty-clause-state g c =
+    let i = c.self.inside in
+    let listed = c.groups_of.ensures ∙ ap (λ (r : Reply). groups_of r.what) c.reply.ensures in
+    let are_switched = rw c.verdicts-2.ensures at c.switch_tasks.ensures in
+    (takes_scan g.M.Consistency.rules g.met.M.Consistency.lawful (record { number = i.events; from = i.from.0; target = i.target.0; patches = i.patches; table = i.tasks; blames = i.blames; last_scan = told_scan i.unchanged }) c.args.self.now c.switch_tasks.new.tasks i.waiting c.switch_tasks.new.waiting c.args.step.now (is_listed (group_numbers c.groups_of.result.now)) c.self.view_is c.self.invariant.engine c.requires.weighed c.requires.scan (λ group few. ap (λ groups. is_listed groups group) listed) are_switched).state
 
 pub returns-clause-state : goal.returns-clause-state
 returns-clause-state g c =
@@ -45,6 +65,16 @@ returns-clause-state g c =
     let listed = c.groups_of.ensures ∙ ap (λ (r : Reply). groups_of r.what) c.reply.ensures in
     let are_switched = rw c.verdicts-2.ensures at c.switch_tasks.ensures in
     (takes_scan g.M.Consistency.rules g.met.M.Consistency.lawful (record { number = i.events; from = i.from.0; target = i.target.0; patches = i.patches; table = i.tasks; blames = i.blames; last_scan = told_scan i.unchanged }) c.args.self.now c.switch_tasks.new.tasks i.waiting c.switch_tasks.new.waiting c.args.step.now (is_listed (group_numbers c.groups_of.result.now)) c.self.view_is c.self.invariant.engine c.requires.weighed c.requires.scan (λ group few. ap (λ groups. is_listed groups group) listed) are_switched).state
+
+pub returns-then-is_empty-clause-blames : goal.returns-then-is_empty-clause-blames
+returns-then-is_empty-clause-blames g c =
+    let i = c.self.inside in
+    let e : Engine = record { number = i.events; from = i.from.0; target = i.target.0; patches = i.patches; table = i.tasks; blames = i.blames; last_scan = told_scan i.unchanged } in
+    let listed = c.groups_of.ensures ∙ ap (λ (r : Reply). groups_of r.what) c.reply.ensures in
+    let are_switched = rw c.verdicts-2.ensures at c.switch_tasks.ensures in
+    let noted = rw c.verdicts.ensures at c.note.ensures.blames in
+    let taken = with_blames g.M.Consistency.rules c.args.self.now _ c.args.step.now.event c.switch_tasks.new.waiting c.note.new.self (takes_scan g.M.Consistency.rules g.met.M.Consistency.lawful (record { number = i.events; from = i.from.0; target = i.target.0; patches = i.patches; table = i.tasks; blames = i.blames; last_scan = told_scan i.unchanged }) c.args.self.now c.switch_tasks.new.tasks i.waiting c.switch_tasks.new.waiting c.args.step.now (is_listed (group_numbers c.groups_of.result.now)) c.self.view_is c.self.invariant.engine c.requires.weighed c.requires.scan (λ group few. ap (λ groups. is_listed groups group) listed) are_switched) in
+    (leaves_scanned g.M.Consistency.rules g.met.M.Consistency.lawful e c.args.self.now _ i.waiting c.switch_tasks.new.waiting c.args.step.now c.self.view_is c.self.invariant.engine c.self.invariant.blamed taken c.requires.weighed c.requires.scan noted (λ group b there. blame_within c.note.new.self group b c.note.ensures.groups there)).after
 
 pub returns-clause-blames : goal.returns-clause-blames
 returns-clause-blames g c =
@@ -56,6 +86,9 @@ returns-clause-blames g c =
     let taken = with_blames g.M.Consistency.rules c.args.self.now _ c.args.step.now.event c.switch_tasks.new.waiting c.note.new.self (takes_scan g.M.Consistency.rules g.met.M.Consistency.lawful (record { number = i.events; from = i.from.0; target = i.target.0; patches = i.patches; table = i.tasks; blames = i.blames; last_scan = told_scan i.unchanged }) c.args.self.now c.switch_tasks.new.tasks i.waiting c.switch_tasks.new.waiting c.args.step.now (is_listed (group_numbers c.groups_of.result.now)) c.self.view_is c.self.invariant.engine c.requires.weighed c.requires.scan (λ group few. ap (λ groups. is_listed groups group) listed) are_switched) in
     (leaves_scanned g.M.Consistency.rules g.met.M.Consistency.lawful e c.args.self.now _ i.waiting c.switch_tasks.new.waiting c.args.step.now c.self.view_is c.self.invariant.engine c.self.invariant.blamed taken c.requires.weighed c.requires.scan noted (λ group b there. blame_within c.note.new.self group b c.note.ensures.groups there)).after
 
+pub returns-then-is_empty-clause-last_scan : goal.returns-then-is_empty-clause-last_scan
+returns-then-is_empty-clause-last_scan g c = last_forgotten g.M.Consistency.rules c.args.self.now c.args.step.now.event _ c.reset.ensures
+
 pub returns-clause-last_scan : goal.returns-clause-last_scan
 returns-clause-last_scan g c =
     let i = c.self.inside in
@@ -63,6 +96,4 @@ returns-clause-last_scan g c =
     let are_switched = rw c.verdicts-2.ensures at c.switch_tasks.ensures in
     let e : Engine = record { number = i.events; from = i.from.0; target = i.target.0; patches = i.patches; table = i.tasks; blames = i.blames; last_scan = told_scan i.unchanged } in
     let taken = with_scan g.M.Consistency.rules c.args.self.now _ c.args.step.now.event c.switch_tasks.new.waiting (told_scan c.scanned.new.self) (with_blames g.M.Consistency.rules c.args.self.now _ c.args.step.now.event c.switch_tasks.new.waiting c.note.new.self (takes_scan g.M.Consistency.rules g.met.M.Consistency.lawful (record { number = i.events; from = i.from.0; target = i.target.0; patches = i.patches; table = i.tasks; blames = i.blames; last_scan = told_scan i.unchanged }) c.args.self.now c.switch_tasks.new.tasks i.waiting c.switch_tasks.new.waiting c.args.step.now (is_listed (group_numbers c.groups_of.result.now)) c.self.view_is c.self.invariant.engine c.requires.weighed c.requires.scan (λ group few. ap (λ groups. is_listed groups group) listed) are_switched)) in
-    last_rests g.M.Consistency.rules c.args.self.now c.args.step.now.event (record (with_table c.switch_tasks.new.tasks e) { blames = c.note.new.self }) c.scanned.new.self c.reset_if_done.new.self
-    (last_scanned g.M.Consistency.rules e c.args.self.now _ c.switch_tasks.new.waiting c.args.step.now.event i.unchanged c.scanned.new.self c.self.view_is refl refl taken c.scan_kind-kind.result c.uses-is_used.result c.scan_kind-kind.ensures.scan (c.scan_kind-kind.ensures.event ∙ c.event.ensures) c.uses-is_used.ensures (λ used. ((c.scanned.ensures.used used).noted, (c.scanned.ensures.used used).fresh)) c.scanned.ensures.unused)
-    c.reset_if_done.ensures
+    last_scanned g.M.Consistency.rules e c.args.self.now _ c.switch_tasks.new.waiting c.args.step.now.event i.unchanged c.scanned.new.self c.self.view_is refl refl taken c.scan_kind-kind.result c.uses-is_used.result c.scan_kind-kind.ensures.scan (c.scan_kind-kind.ensures.event ∙ c.event.ensures) c.uses-is_used.ensures (λ used. ((c.scanned.ensures.used used).noted, (c.scanned.ensures.used used).fresh)) c.scanned.ensures.unused
