@@ -1,5 +1,6 @@
 -- The stages of a check, one after the other.
-use Rattle.std.proofs.Common.{◌≡◌, ℕ, ◌≤◌, Bool, true, false, not, ◌&&◌, List, [], ◌∷◌, ◌++◌, Option, Some, None, is_some, nat_lt, nat_le, refl, sym, ap, ap₂, ◌∙◌}
+use Rattle.std.proofs.Common.{◌≡◌, ℕ, ◌≤◌, Bool, true, false, not, ◌&&◌, List, [], ◌∷◌, ◌++◌, Option, Some, None, is_some, map, nat_lt, nat_le, refl, sym, ap, ap₂, ◌∙◌}
+use Rattle.std.specs.List.{flat_map}
 use Rattle.std.proofs.lemmas.Bool.{and_parts, ltb-true, leb-true, not-false}
 use Rattle.lp_model.specs.Rules.{Rules}
 use Rattle.lp_definitions.specs.declared.event.Event.{Event}
@@ -10,13 +11,14 @@ use Rattle.lp_laws.proofs.NextTasks.{none_first, unfit}
 use Rattle.lp_definitions.specs.declared.cert.Cert.{Cert}
 use Rattle.lp_definitions.specs.declared.cert.Claim.{Claim}
 use Rattle.lp_definitions.specs.declared.line.Line.{Line}
-use Rattle.lp_definitions.specs.declared.cert_fault.CertFault.TheVariants.{BadBirth, NoLeg}
-use Rattle.lp_definitions.specs.Judgement.{Birth, birth_tests, is_birth, moment_of, no_leg, cert_fault}
+use Rattle.lp_definitions.specs.declared.cert_fault.CertFault.{CertFault}
+use Rattle.lp_definitions.specs.declared.cert_fault.CertFault.TheVariants.{BadBirth, NoLeg, NoSuchGroup}
+use Rattle.lp_definitions.specs.Judgement.{Birth, Section, births, birth_tests, cert_fault, first_lines, gap_test, is_birth, line_tests, moment_of, no_leg, no_such_group, sections}
 use Rattle.lp_checker.specs.Folds.{leg_with}
-use Rattle.lp_checker.specs.inside.Cursors.{Range}
+use Rattle.lp_checker.specs.inside.Cursors.{Range, leg_in}
 use Rattle.lp_checker.specs.inside.Sections.{AreInOrder}
-use Rattle.lp_checker.specs.inside.Stages.{later_tests}
-use Rattle.lp_laws.proofs.FirstBad.{fit_none, first_of_found, first_none, first_some}
+use Rattle.lp_checker.specs.inside.Stages.{chain_tests, later_tests}
+use Rattle.lp_laws.proofs.FirstBad.{fit_none, first_of_append, first_of_found, first_none, first_some}
 
 fit_some : {A : Type 0} (b : Bool) (x : A) → b ≡ true → fits b x ≡ Some x
 fit_some true x e = refl
@@ -25,6 +27,32 @@ fit_some false x e = absurd (cc)
 pub found_first : {A : Type 0} (xs ys : List (Option A)) (o : Option A) → o ≡ first_of xs → true ≡ is_some o → first_of (xs ++ ys) ≡ o
 found_first xs ys None e some = absurd (cc)
 found_first xs ys (Some x) e some = first_of_found xs ys x (sym e)
+
+-- C1 comes before the faults of the sections, whichever is looked for first
+module _ (model : Rules) (range : Range) (first claimed : ℕ) (lines : List Line) (parts : List Section) (is : parts ≡ sections model (leg_in range) range.end first 0 (first_lines lines) (births lines)) where
+  abbrev all : List Section
+  all = sections model (leg_in range) range.end first 0 (first_lines lines) (births lines)
+
+  abbrev lined : List Section → List (Option CertFault)
+  lined sections = flat_map (line_tests model (leg_in range)) sections
+
+  abbrev gapped : List Section → List (Option CertFault)
+  gapped sections = map (gap_test model (leg_in range)) sections
+
+  abbrev none_such : Bool
+  none_such = no_such_group model (leg_in range) range.end claimed first (births lines) all
+
+  past_group : none_such ≡ false → first_of (chain_tests model range first claimed lines) ≡ first_of (lined all ++ gapped all)
+  past_group other = first_none (fits none_such NoSuchGroup) (lined all ++ gapped all) (fit_none none_such NoSuchGroup other)
+
+  pub at_group : none_such ≡ true → Some NoSuchGroup ≡ first_of (chain_tests model range first claimed lines)
+  at_group here = sym (first_some (fits none_such NoSuchGroup) (lined all ++ gapped all) NoSuchGroup (fit_some none_such NoSuchGroup here))
+
+  pub at_line : none_such ≡ false → (o : Option CertFault) → o ≡ first_of (lined parts) → true ≡ is_some o → o ≡ first_of (chain_tests model range first claimed lines)
+  at_line other o e some = sym (past_group other ∙ found_first (lined all) (gapped all) o (e ∙ ap (λ ps. first_of (lined ps)) is) some)
+
+  pub at_gap : none_such ≡ false → first_of (lined parts) ≡ None → (o : Option CertFault) → o ≡ first_of (gapped parts) → o ≡ first_of (chain_tests model range first claimed lines)
+  at_gap other none o e = e ∙ ap (λ ps. first_of (gapped ps)) is ∙ sym (past_group other ∙ first_of_append (lined all) (gapped all) (ap (λ ps. first_of (lined ps)) (sym is) ∙ none))
 
 module _ (model : Rules) (leg : Leg) where
   -- births without a fault come one after the other

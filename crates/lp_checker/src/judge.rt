@@ -1,12 +1,12 @@
 //! The judgement of a certificate.
-ghost use Rattle.std.specs.Prelude.{◌≡◌, ◌⊎◌, true, None, Some, Ok, Err, length, map, IfOk, MatchResult};
+ghost use Rattle.std.specs.Prelude.{◌≡◌, ◌⊎◌, true, None, Some, Ok, Err, IfOk, MatchResult};
 ghost use Rattle.lp_definitions.specs.Tasks.{first_of};
 ghost use Rattle.lp_checker.specs.Folds.{leg_with};
 ghost use Rattle.lp_definitions.specs.Holds.{Holds};
 ghost use Rattle.lp_definitions.specs.Judgement.{births, no_leg, cert_fault};
 ghost use Rattle.lp_checker.specs.inside.Cursors.{leg_in};
-ghost use Rattle.lp_checker.specs.inside.Sections.{section_of, AreInOrder, FollowOn};
-ghost use Rattle.lp_checker.specs.inside.Stages.{part_tests, chain_tests, later_tests};
+ghost use Rattle.lp_checker.specs.inside.Sections.{AreInOrder};
+ghost use Rattle.lp_checker.specs.inside.Stages.{chain_tests, later_tests};
 ghost use Rattle.lp_definitions.specs.declared.cert_fault.CertFault.TheVariants.{NoLeg};
 
 use crate::births::birth_fault;
@@ -14,7 +14,7 @@ use crate::cursor::Cursor;
 use crate::gaps::gap_fault;
 use crate::groups::{first_group, is_no_such_group};
 use crate::lines::line_fault;
-use crate::sections::{Section, sections};
+use crate::sections::sections;
 use lp_definitions::{Cert, CertFault, Claim, Event, Line, MOST_EVENTS};
 use lp_model::Consistency;
 use lp_stack::GroupId;
@@ -121,7 +121,8 @@ fn later_fault<M: Consistency>(
     chain_fault(alloc, cursor, lines, first, claimed)
 }
 
-/// The first fault past C5, where the births begin with a group.
+/// The first fault past C5, where the births begin with a group. Lines are tested before what comes first, which needs the tasks at
+/// the end: events can't be taken back.
 fn chain_fault<M: Consistency>(
     alloc: Global,
     cursor: &mut Cursor<'_, M>,
@@ -132,28 +133,15 @@ fn chain_fault<M: Consistency>(
     requires { AreInOrder (leg_in cursor.old.range) cursor.old.range.end 0 (births lines.now) }
     ensures { IfOk result (λ fault. fault ≡ first_of (chain_tests M.rules cursor.old.range first.0 claimed.0 lines.now)) }
 {
+    let parts = sections(alloc, cursor, lines, first)?;
+    let fault = line_fault(alloc, cursor, lines, parts.as_slice())?;
     if is_no_such_group(alloc, cursor, lines, first, claimed)? {
         return Ok(Some(CertFault::NoSuchGroup));
     }
-    let parts = sections(alloc, cursor, lines, first)?;
-    part_fault(alloc, cursor, lines, parts.as_slice())
-}
-
-/// The first fault of the sections of a certificate.
-fn part_fault<M: Consistency>(
-    alloc: Global,
-    cursor: &mut Cursor<'_, M>,
-    lines: &[Line],
-    parts: &[Section],
-) -> Result<Option<CertFault>, AllocError>
-    requires { FollowOn (length lines.now) cursor.old.range.end 0 parts.now }
-    ensures { IfOk result (λ fault. fault ≡ first_of (part_tests M.rules (leg_in cursor.old.range) (map (section_of lines.now) parts.now))) }
-{
-    let fault = line_fault(alloc, cursor, lines, parts)?;
     if fault.is_some() {
         return Ok(fault);
     }
-    gap_fault(alloc, cursor, lines, parts)
+    gap_fault(alloc, cursor, lines, parts.as_slice())
 }
 
 /// Whether a certificate makes another claim or is of another leg, or its end lies outside of the

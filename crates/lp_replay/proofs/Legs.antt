@@ -1,14 +1,16 @@
 -- The legs of a run, event by event.
 use Rattle.std.proofs.Common.{◌≡◌, ◌<◌, ◌≤◌, ◌+◌, ℕ, zero, suc, Bool, true, false, List, [], ◌∷◌, ◌++◌, length, take, drop, get_or, add-one, None, Some, refl, sym, ap, ap₂, ◌∙◌, arith, subst, append_assoc, length-append}
 use Rattle.std.proofs.lemmas.Bool.{cond-true, cond-false}
-use Rattle.std.proofs.lemmas.List.{append-nil, length-take-le, take_more}
+use Rattle.std.proofs.lemmas.List.{append-nil, get_or-drop, length-drop, length-take-le, take-append-drop, take_more}
 use Rattle.std.proofs.Math.ListN.{drop_of_length-le}
 use Rattle.std.proofs.Math.Seq.{drop-cons}
 use Rattle.lp_model.specs.Rules.{Rules}
 use Rattle.lp_definitions.specs.declared.event.Event.{Event}
 use Rattle.lp_definitions.specs.declared.reply.Reply.{Reply}
+use Rattle.std.specs.Prelude.{◌&&◌, is_none}
+use Rattle.lp_definitions.specs.Events.{is_control}
 use Rattle.lp_definitions.specs.Leg.{Leg, State}
-use Rattle.lp_definitions.specs.Run.{Run, and_then, first_leg, leg_after, leg_of, next_leg, opened, opens, plus}
+use Rattle.lp_definitions.specs.Run.{Run, and_then, first_leg, leg_after, leg_of, next_leg, opened, opens, plus, refused_by}
 use Rattle.lp_machine.specs.Steps.{IsStep, OpensLegs, StandsIn}
 use Rattle.lp_machine.specs.Table.{Engine, state_in}
 use Rattle.lp_machine_laws.proofs.Runs.{leg_after-plus}
@@ -98,6 +100,22 @@ module _ (model : Rules) where
 
     pub ends_last : length events ≤ i → to_end model leg events ≡ record leg { events = leg.events ++ take i events }
     ends_last all = on.ends ∙ (end_last now (drop i events) (drop_of_length-le events all) ∙ on.there)
+
+  -- events of which none is a control event belong to the leg
+  ends_all : (leg : Leg) (events : List Event) → ((k : ℕ) (d : Event) → k < length events → is_control (get_or events k d) ≡ false) → to_end model leg events ≡ record leg { events = leg.events ++ events }
+  unfolding to_end
+  ends_all leg [] none = ap (λ (es : List Event). record leg { events = es }) (sym (append-nil leg.events))
+  ends_all leg (event ∷ rest) none =
+      end_other leg event rest (ap (λ b. b && is_none (refused_by model leg event)) (none 0 event (omega arith)))
+      ∙ (ends_all (and_then leg event) rest (λ k d below. none (suc k) d (omega arith))
+      ∙ ap (λ (es : List Event). record leg { events = es }) (append_assoc leg.events (event ∷ []) rest))
+
+  pub ends_at : (leg : Leg) (events : List Event) (i : ℕ) (now : Leg) → GoesOn leg events i now → ((k : ℕ) (d : Event) → i ≤ k → k < length events → is_control (get_or events k d) ≡ false) → to_end model leg events ≡ record leg { events = leg.events ++ events }
+  ends_at leg events i now on none =
+      on.ends
+      ∙ (ends_all now (drop i events) (λ k d below. ap is_control (get_or-drop i events k d) ∙ none (i + k) d (omega arith) (omega (arith, length-drop i events)))
+      ∙ (ap (λ (l : Leg). record l { events = l.events ++ drop i events }) on.there
+      ∙ ap (λ (es : List Event). record leg { events = es }) (append_assoc leg.events (take i events) (drop i events) ∙ ap (λ l. leg.events ++ l) (take-append-drop i events))))
 
   -- ---- The leg that an event opens
 

@@ -68,7 +68,7 @@ claim_clean : (c : Claim) → Clean (claim_word c)
 claim_clean Waiting = refl
 claim_clean Floor = refl
 
-reason_clean : (line : Line) → IsReason line → CleanLine (reason_words line)
+pub reason_clean : (line : Line) → IsReason line → CleanLine (reason_words line)
 reason_clean (Hold group task serial from to) h = (omega arith, (refl, (member_clean group.0 h.0, (member_clean task.0 h.1, (event_clean serial h.2, (event_clean from h.3, (event_clean to h.4, tt)))))))
 reason_clean (Busy group task at) h = (omega arith, (refl, (member_clean group.0 h.0, (member_clean task.0 h.1, (event_clean at h.2, tt)))))
 reason_clean (Born group parent at) h = (omega arith, (refl, (member_clean group.0 h.0, (member_clean parent.0 h.1, (event_clean at h.2, tt)))))

@@ -34,6 +34,7 @@ pub mod CheckInputs
 pub mod CheckRows
 pub mod CertSpelled
 pub mod CertAgain
+pub mod QuickReasons
 pub mod InputsSound
 pub mod InputsComplete
 pub mod StreamFaults

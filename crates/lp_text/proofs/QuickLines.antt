@@ -47,7 +47,7 @@ digits_more text i below h digit =
     ∙ list_all-append is_ascii_digit (take i text) (get_or text i 0 ∷ [])
     ∙ both (list_all is_ascii_digit (take i text)) (list_all is_ascii_digit (get_or text i 0 ∷ [])) h (both (is_ascii_digit (get_or text i 0)) true digit refl)
 
-pub number_more : (text : List ℕ) (i n : ℕ) → i < length text → i < 5 → Digits (take i text) → is_ascii_digit (get_or text i 0) ≡ true → n ≡ digits_value 10 (take i text) → (n * 10 + (get_or text i 0 - 48) ≡ digits_value 10 (take (i + 1) text)) × (n * 10 + (get_or text i 0 - 48) < 10000000) × (48 ≤ get_or text i 0)
+pub number_more : (text : List ℕ) (i n : ℕ) → i < length text → i < 7 → Digits (take i text) → is_ascii_digit (get_or text i 0) ≡ true → n ≡ digits_value 10 (take i text) → (n * 10 + (get_or text i 0 - 48) ≡ digits_value 10 (take (i + 1) text)) × (n * 10 + (get_or text i 0 - 48) < 10000000) × (48 ≤ get_or text i 0)
 number_more text i n below few h digit same =
     let byte : ℕ = get_or text i 0 in
     let range = and_parts (nat_le 48 byte) (nat_le byte 57) digit in
@@ -59,8 +59,13 @@ number_more text i n below few h digit same =
     let small : digits_value 10 (take (i + 1) text) < 10000000 = value_small (take (i + 1) text) (digits_more text i below h digit) (omega arith) in
     (omega arith, omega arith, low)
 
+pub number_few : (text : List ℕ) (i n : ℕ) → i ≤ 7 → i ≤ length text → Digits (take i text) → n ≡ digits_value 10 (take i text) → n < 10000000
+number_few text i n few within digits is =
+    let small : digits_value 10 (take i text) < 10000000 = value_small (take i text) digits (omega (arith, length-take-le i text within)) in
+    omega arith
+
 -- the digits spell the number
-pub number_whole : (text : List ℕ) (i n : ℕ) → 0 < i → i ≤ 5 → i ≤ length text → Digits (take i text) → ¬ (get_or text 0 0 ≡ 48) → n ≡ digits_value 10 (take i text) → text ≡ decimal n ++ take (length text - i) (drop i text)
+pub number_whole : (text : List ℕ) (i n : ℕ) → 0 < i → i ≤ 7 → i ≤ length text → Digits (take i text) → ¬ (get_or text 0 0 ≡ 48) → n ≡ digits_value 10 (take i text) → text ≡ decimal n ++ take (length text - i) (drop i text)
 number_whole text i n some few within digits first is =
     let word : List ℕ = take i text in
     let long : length (take i text) ≡ i = length-take-le i text within in

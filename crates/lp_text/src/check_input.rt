@@ -13,6 +13,7 @@ use crate::counted::Counted;
 use crate::fault::{Cause, ReadFault};
 use crate::input::read_input;
 use crate::keyword::is;
+use crate::quick_reason::quick_reason;
 use crate::read::MOST_BYTES;
 use crate::split::cut;
 use crate::stream_fault::StreamFault;
@@ -167,6 +168,14 @@ fn read_reasons(alloc: Global, first: u64, text: &[u8]) -> Result<Vec<Line>, Rea
     let mut reasons = Vec::new(alloc);
     let mut rest = text;
     loop {
+        if let Some((reason, more)) = quick_reason(rest) {
+            let Ok(()) = reasons.push(reason) else {
+                return Err(ReadFault::NoMemory);
+            };
+            rest = more;
+            number += 1;
+            continue;
+        }
         let (line, left) = cut(b'\n', rest);
         let Some(more) = left else {
             if line.is_empty() {

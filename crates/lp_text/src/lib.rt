@@ -20,6 +20,7 @@ mod number;
 mod of;
 mod parser;
 mod quick;
+mod quick_reason;
 mod read;
 mod split;
 mod stream;

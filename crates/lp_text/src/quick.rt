@@ -1,5 +1,5 @@
 //! Event lines that are read by their first four bytes at once.
-ghost use Rattle.std.specs.Prelude.{◌≡◌, ℕ, List, ◌++◌, ◌∷◌, codes, decimal, drop, IfSome};
+ghost use Rattle.std.specs.Prelude.{◌≡◌, ◌<◌, ◌≤◌, ℕ, List, ◌++◌, ◌∷◌, codes, decimal, drop, IfSome};
 ghost use Rattle.std.specs.Int.{w32, to_le_bytes};
 ghost use Rattle.lp_text.specs.Traces.{AreNames, IsTask};
 ghost use Rattle.lp_text.specs.Words.{fork_word};
@@ -256,24 +256,26 @@ fn task_number(text: &[u8]) -> Option<(TaskId, &[u8])>
     ensures task { IfSome result (λ x. IsTask x.0) }
     ensures whole { IfSome result (λ x. text.now ≡ decimal x.0.0 ++ x.1.now) }
 {
-    let (number, rest) = number_before(text)?;
+    let (number, rest) = number_before(5, text)?;
     if number == 0 || number >= NUMBERS as u32 {
         return None;
     }
     Some((TaskId(number as u16), rest))
 }
 
-/// The number of up to five digits that a text begins with, and what stands after it, which is no digit.
+/// The number of up to so many digits that a text begins with, and what stands after it, which is no digit.
 #[inline(always)]
-fn number_before(text: &[u8]) -> Option<(u32, &[u8])>
-    ensures { IfSome result (λ x. text.now ≡ decimal x.0 ++ x.1.now) }
+pub(crate) fn number_before(most: usize, text: &[u8]) -> Option<(u32, &[u8])>
+    requires { most ≤ 7 }
+    ensures small { IfSome result (λ x. x.0 < 10000000) }
+    ensures whole { IfSome result (λ x. text.now ≡ decimal x.0 ++ x.1.now) }
 {
     // At the end of a text a line is left to be read word by word, so that no digit is compared with the end.
-    if text.len() < 6 {
+    if text.len() <= most {
         return None;
     }
     let mut number = 0;
-    for i in 0..6 {
+    for i in 0..most + 1 {
         let byte = text[i];
         if !byte.is_ascii_digit() {
             if i == 0 || text[0] == b'0' {
@@ -281,7 +283,7 @@ fn number_before(text: &[u8]) -> Option<(u32, &[u8])>
             }
             return Some((number, &text[i..]));
         }
-        if i == 5 {
+        if i == most {
             return None;
         }
         number = number * 10 + u32::from(byte - b'0');
@@ -291,7 +293,7 @@ fn number_before(text: &[u8]) -> Option<(u32, &[u8])>
 
 /// What stands after a byte that a text begins with.
 #[inline(always)]
-fn after(first: u8, text: &[u8]) -> Option<&[u8]>
+pub(crate) fn after(first: u8, text: &[u8]) -> Option<&[u8]>
     ensures { IfSome result (λ rest. text.now ≡ first ∷ rest.now) }
 {
     match text {
@@ -302,7 +304,7 @@ fn after(first: u8, text: &[u8]) -> Option<&[u8]>
 
 /// The first four bytes of a text as a number, the first one lowest, and what stands after them.
 #[inline(always)]
-fn first_four(text: &[u8]) -> Option<(u32, &[u8])>
+pub(crate) fn first_four(text: &[u8]) -> Option<(u32, &[u8])>
     ensures { IfSome result (λ x. text.now ≡ to_le_bytes w32 x.0 ++ x.1.now) }
 {
     match text {

@@ -8,18 +8,14 @@ use Rattle.lp_definitions.specs.declared.line.Line.{Line}
 use Rattle.lp_definitions.specs.declared.cert_fault.CertFault.{CertFault}
 use Rattle.lp_definitions.specs.declared.cert_fault.CertFault.TheVariants.{NoSuchGroup}
 use Rattle.lp_checker.specs.inside.Cursors.{Range, leg_in}
-use Rattle.lp_definitions.specs.Judgement.{Section, births, birth_tests, first_group, first_lines, gap_test, line_tests, no_such_group, sections}
+use Rattle.lp_definitions.specs.Judgement.{births, birth_tests, first_group, first_lines, gap_test, line_tests, no_such_group, sections}
 
--- C3 and C2, then C4
-abbrev pub part_tests : Rules → Leg → List Section → List (Option CertFault)
-part_tests model leg parts = flat_map (line_tests model leg) parts ++ map (gap_test model leg) parts
-
--- C1, then those of the sections
+-- C1, then those of the sections: C3 and C2, then C4
 abbrev pub chain_tests : Rules → Range → (first claimed : ℕ) → List Line → List (Option CertFault)
 chain_tests model range first claimed lines =
     let leg = leg_in range in
     let parts = sections model leg range.end first 0 (first_lines lines) (births lines) in
-    fits (no_such_group model leg range.end claimed first (births lines) parts) NoSuchGroup ∷ part_tests model leg parts
+    fits (no_such_group model leg range.end claimed first (births lines) parts) NoSuchGroup ∷ (flat_map (line_tests model leg) parts ++ map (gap_test model leg) parts)
 
 -- C5, then those of the births' groups
 abbrev pub later_tests : Rules → Range → (claimed : ℕ) → List Line → List (Option CertFault)

@@ -1,8 +1,9 @@
 //! The legs of a trace.
-ghost use Rattle.std.specs.Prelude.{◌≡◌, ◌≤◌, ◌<◌, ◌+◌, ◌++◌, length, take, IfOk, OnOk};
+ghost use Rattle.std.specs.Prelude.{◌≡◌, ◌≤◌, ◌<◌, ◌+◌, ◌++◌, ℕ, false, length, slice_index_or, take, IfOk, OnOk};
 ghost use Rattle.std.specs.Option.{option_map};
 ghost use Rattle.lp_checker.specs.Folds.{leg_with};
 ghost use Rattle.lp_definitions.specs.Run.{Run, leg_of, opens, plus};
+ghost use Rattle.lp_definitions.specs.Events.{is_control};
 ghost use Rattle.lp_machine.specs.Steps.{StandsIn};
 ghost use Rattle.lp_machine.specs.Table.{state_in};
 ghost use Rattle.lp_replay.specs.Legs.{leg_numbered, opened_by, to_end};
@@ -111,7 +112,8 @@ fn opened_by<'a, M: Consistency>(
     }))
 }
 
-/// How many of these events come before the next that opens a leg.
+/// How many of these events come before the next that opens a leg. Only a control event does, so those after the last one aren't
+/// taken.
 fn to_end<M: Consistency>(
     alloc: Global,
     core: &mut Core<M>,
@@ -121,10 +123,28 @@ fn to_end<M: Consistency>(
     ensures few { IfOk result (λ count. count ≤ length events.now) }
     ensures leg { IfOk result (λ count. (run : Run) → StandsIn M.rules run (state_in core.old) → to_end M.rules (leg_of M.rules run) events.now ≡ record (leg_of M.rules run) { events = (leg_of M.rules run).events ++ take count events.now }) }
 {
+    let last = up_to_control(events);
     for (count, event) in events.iter().enumerate() {
+        if count == last {
+            return Ok(events.len());
+        }
         if step(alloc, core, *event)? {
             return Ok(count);
         }
     }
     Ok(events.len())
+}
+
+/// How many of these events there are up to the last control event, with it.
+fn up_to_control(events: &[Event]) -> usize
+    ensures { (place : ℕ) (d : Event) → result ≤ place → place < length events.now → is_control (slice_index_or events.now place d) ≡ false }
+{
+    let mut count = events.len();
+    while count > 0 {
+        if events[count - 1].is_control() {
+            return count;
+        }
+        count -= 1;
+    }
+    0
 }

@@ -1,10 +1,11 @@
-use Rattle.std.proofs.Common.{arith, subst, sym, take, ◌∙◌, ◌+◌, ◌++◌, ap, List, length, get_or}
+use Rattle.std.proofs.Common.{◌≡◌, ◌≤◌, ◌<◌, ℕ, false, arith, subst, sym, take, ◌∙◌, ◌+◌, ◌++◌, ap, List, length, get_or}
 use Rattle.std.proofs.lemmas.List.{take_all}
 use Rattle.lp_definitions.specs.declared.event.Event.{Event}
 use Rattle.lp_definitions.specs.declared.event.Event.TheVariants.{Walk}
+use Rattle.lp_definitions.specs.Events.{is_control}
 use Rattle.lp_definitions.specs.Leg.{Leg}
 use Rattle.lp_definitions.specs.Run.{leg_of}
-use Rattle.lp_replay.proofs.Legs.{GoesOn, at_first, at_more, ends_last, ends_opened, goes_first, goes_more, leg_first, leg_longer, longer, numbered}
+use Rattle.lp_replay.proofs.Legs.{GoesOn, at_first, at_more, ends_at, ends_last, ends_opened, goes_first, goes_more, leg_first, leg_longer, longer, numbered}
 use Rattle.lp_replay.proofs.replays.leg.to_end.Goals as goal
 
 pub loop-count-init : goal.loop-count-init
@@ -13,6 +14,14 @@ loop-count-init g c = λ run stands.
       at_first model run c.args.events.now c.args.core.now stands,
       subst (λ (l : Leg). GoesOn model (leg_of model run) c.args.events.now 0 l) (sym (leg_first model run c.args.events.now)) (goes_first model (leg_of model run) c.args.events.now),
     )
+
+pub returns-then-count-last-clause-leg : goal.returns-then-count-last-clause-leg
+returns-then-count-last-clause-leg g c = λ run stands.
+    let model = g.M.Consistency.rules in
+    let leg = leg_of model run in
+    let none : (k : ℕ) (d : Event) → c.loop-count.count ≤ k → k < length c.args.events.now → is_control (get_or c.args.events.now k d) ≡ false = λ k d from below. c.up_to_control-last.ensures k d (omega arith) below in
+    ends_at model leg c.args.events.now c.loop-count.count _ (c.loop-count.invariant run stands).1 none
+    ∙ ap (λ (es : List Event). record leg { events = leg.events ++ es }) (sym (take_all (length c.args.events.now) c.args.events.now (omega arith)))
 
 pub step-requires : goal.step-requires
 step-requires g c =
