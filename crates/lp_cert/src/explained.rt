@@ -1,5 +1,5 @@
 //! An engine that explains itself: the maker of certificates notes each event as the engine takes it.
-ghost use Rattle.std.specs.Prelude.{◌≡◌, ◌≢◌, ◌++◌, ◌<◌, [], None, true, is_some, option_to_list, IfOk, OnErr, OnOk};
+ghost use Rattle.std.specs.Prelude.{◌≡◌, ◌≢◌, ◌++◌, ◌<◌, [], None, true, is_some, option_to_list, IfOk, IfSome, OnErr, OnOk, OnSome};
 ghost use Rattle.std.specs.Option.{option_map};
 ghost use Rattle.lp_definitions.specs.Events.{is_control};
 ghost use Rattle.lp_definitions.specs.TaskEvents.{is_own_check, is_quiet};
@@ -93,6 +93,38 @@ impl<M: Consistency> ExplainedCore<M> {
         let core: &mut Core<M> = &mut self.core;
         self.maker.let_pass(core);
         core.step_quiet_inline(event)
+    }
+
+    /// Takes a walk or a stop, and answers it, if no group has to be asked. If one has to be, all is as it was.
+    #[inline(always)]
+    pub fn step_quiet_scan(&mut self, kind: CheckKind) -> Option<Reply>
+        requires scan { is_scan_kind kind ≡ true }
+        requires room { self.old.core.number < 1000000 }
+        ensures step { IfSome result (λ reply. IsStep M.rules (state_in self.old.core) (scan_event kind) reply (state_in self.new.core)) }
+        ensures explained { OnSome result ((run : Run) → IsExplained M.rules run self.old → IsExplained M.rules (plus run (scan_event kind)) self.new) }
+        ensures blames { OnSome result (HasBlamesAfter M.rules self.old.core (scan_event kind) self.new.core) }
+        ensures unchanged { result ≡ None → self.new ≡ self.old }
+    {
+        let core: &mut Core<M> = &mut self.core;
+        self.maker.note_passed(core);
+        if !self.maker.note_quiet_scan(core, kind) {
+            return None;
+        }
+        Some(core.step_quiet_scan(kind))
+    }
+
+    /// Takes one event as `step` does, without a look whether less would do: for a caller who has looked.
+    #[inline(always)]
+    pub fn step_weighed(&mut self, alloc: Global, event: Event) -> Result<Reply, AllocError>
+        requires room { self.old.core.number < 1000000 }
+        ensures step { IfOk result (λ reply. IsStep M.rules (state_in self.old.core) event reply (state_in self.new.core)) }
+        ensures explained { OnOk result ((run : Run) → IsExplained M.rules run self.old → IsExplained M.rules (plus run event) self.new) }
+        ensures blames { OnOk result (HasBlamesAfter M.rules self.old.core event self.new.core) }
+        ensures unchanged { OnErr result (self.new ≡ self.old) }
+    {
+        let core: &mut Core<M> = &mut self.core;
+        self.maker.note_passed(core);
+        take_weighed(alloc, core, &mut self.maker, event)
     }
 
     /// The engine, which tells how its tasks stand.

@@ -6,3 +6,4 @@ pub mod Headline
 pub mod FirstEnd
 pub mod ListsOfGroups
 pub mod RunFaults
+pub mod Codes

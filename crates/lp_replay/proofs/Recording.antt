@@ -1,15 +1,19 @@
 -- What is kept of a run after one event more.
-use Rattle.std.proofs.Common.{◌≡◌, ◌<◌, ◌≤◌, ◌+◌, ℕ, List, [], ◌∷◌, ◌++◌, length, Result, Ok, Err, IfOk, refl, sym, ap, ap₂, ◌∙◌, arith, length-append, append_assoc, get_or, subst, take}
+use Rattle.std.proofs.Common.{◌≡◌, ◌<◌, ◌≤◌, ◌+◌, ℕ, List, [], ◌∷◌, ◌++◌, length, Option, Result, Ok, Err, IfOk, refl, sym, ap, ap₂, ◌∙◌, arith, length-append, append_assoc, get_or, subst, take}
 use Rattle.std.proofs.lemmas.List.{append-nil, length-take-le, take_more}
-use Rattle.lp_model.specs.Rules.{Rules}
+use Rattle.lp_symbols.specs.declared.sym_id.SymId.{SymId}
+use Rattle.lp_stack.specs.declared.number.TaskId.{TaskId}
+use Rattle.lp_model.specs.Rules.{Rules, IsLawful}
 use Rattle.lp_definitions.specs.declared.event.Event.{Event}
 use Rattle.lp_definitions.specs.declared.reply.Reply.{Reply}
 use Rattle.lp_definitions.specs.Leg.{Leg}
-use Rattle.lp_definitions.specs.Run.{Run, next_leg, reply, replies, leg_after, first_leg, plus}
+use Rattle.lp_definitions.specs.Run.{Run, next_leg, reply, replies, leg_after, first_leg, leg_of, plus}
 use Rattle.lp_machine.specs.Steps.{IsStep}
 use Rattle.lp_machine.specs.Table.{state_in}
 use Rattle.lp_stays.specs.Invariant.{Tally}
-use Rattle.lp_stays.specs.Counts.{Counts}
+use Rattle.lp_definitions.specs.declared.event.Event.TheVariants.{Ret}
+use Rattle.lp_definitions.specs.Stays.{stack}
+use Rattle.lp_stays.specs.Counts.{Counts, CountsOne, IsNext, top_of}
 use Rattle.lp_cert.specs.Explained.{Explained, IsExplained}
 use Rattle.lp_cert.proofs.Explaining.{number_is}
 use Rattle.lp_replay.specs.inside.Recording.{Recorded, IsRecorded}
@@ -39,6 +43,16 @@ module _ (model : Rules) where
         replied = ap₂ (λ rs r. rs ++ r ∷ []) is.replied (step.replies run is.explained.stands) ∙ sym (replies-plus model (first_leg model run) run.events event);
         counts = counts;
       }
+
+  -- and so is it after a step, with the count of stays that the reply and the function of a return come to
+  pub stepped : (run : Run) (event : Event) (kept : Recorded) (given : Reply) (top : Option SymId) (explained : Explained) (count : Tally)
+      → IsLawful model → IsRecorded model run kept → IsStep model (state_in kept.explained.core) event given (state_in explained.core) → (IsExplained model run kept.explained → IsExplained model (plus run event) explained)
+      → ((t : TaskId) → event ≡ Ret t → top ≡ top_of (stack model (leg_of model run) t.0)) → CountsOne event given top kept.stays count
+      → IsRecorded model (plus run event) (record { explained = explained; replies = kept.replies ++ given ∷ []; stays = count })
+  stepped run event kept given top explained count lawful is step further leaves counts =
+      let stands = is.explained.stands in
+      let next : IsNext model run event given top = record { in_range = stands.in_range; replied = step.replies run stands; leaves = leaves } in
+      recorded run event kept given explained count is (counts model lawful run is.counts next) step (further is.explained)
 
   -- a run before its first event
   pub none_recorded : (run : Run) (kept : Recorded) → IsExplained model run kept.explained → kept.replies ≡ [] → run.events ≡ [] → Counts model run kept.stays → IsRecorded model run kept

@@ -1,5 +1,5 @@
 -- What the run of a trace comes to: the replies, how each leg ended, and the stays.
-use Rattle.std.specs.Prelude.{◌≡◌, ℕ, List, [], length, map, ◌==◌}
+use Rattle.std.specs.Prelude.{ℕ, List, [], length, map, ◌==◌}
 use Rattle.std.specs.List.{range_with_len, list_any}
 use Rattle.lp_symbols.specs.declared.sym_id.SymId.{SymId}
 use Rattle.lp_patch.specs.Patches.{Patch}

@@ -1,5 +1,5 @@
-use Rattle.std.proofs.Common.{◌≡◌, refl, subst, sym}
-use Rattle.lp_cert.specs.Explained.{Explained, IsExplained}
+use Rattle.std.proofs.Common.{refl, subst, sym}
+use Rattle.lp_cert.specs.Explained.{IsExplained}
 use Rattle.lp_cert.proofs.Explaining.{explained_first}
 use Rattle.lp_replay.specs.Outcome.{run_of}
 use Rattle.lp_replay.proofs.Recording.{none_recorded}

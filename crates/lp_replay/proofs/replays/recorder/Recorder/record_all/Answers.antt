@@ -1,4 +1,4 @@
-use Rattle.std.proofs.Common.{arith, List, subst, ◌++◌, take}
+use Rattle.std.proofs.Common.{arith, List, subst, ◌++◌}
 use Rattle.std.proofs.lemmas.List.{take_all}
 use Rattle.lp_definitions.specs.declared.event.Event.{Event}
 use Rattle.lp_replay.specs.inside.Recording.{IsRecorded}
