@@ -73,10 +73,13 @@ impl Parser {
         let Ok(symbols) = Symbols::new(alloc) else {
             return Err(LineFault::NoMemory);
         };
+        let Ok(cache) = SymbolCache::new(alloc) else {
+            return Err(LineFault::NoMemory);
+        };
         Ok(Parser {
             form,
             symbols,
-            cache: SymbolCache::new(),
+            cache,
             patches: Vec::new(alloc),
             boots: Vec::new(alloc),
             booted,

@@ -1,5 +1,5 @@
 //! Symbols that were looked up last: most names of a trace come again and again.
-ghost use Rattle.std.specs.Prelude.{◌≡◌, ◌<◌, ◌≤◌, [], Ok, IfSome, IsTrue, length, option_copied, slice_index_or};
+ghost use Rattle.std.specs.Prelude.{◌≡◌, ◌<◌, ◌≤◌, [], Ok, IfSome, IsTrue, length, option_copied, slice_index_or, vec_len};
 ghost use Rattle.lp_text.specs.inside.LineFaults.{GivesExactly};
 ghost use Rattle.lp_text.specs.inside.Parsers.{last_symbol};
 ghost use Rattle.lp_text.specs.inside.Cut.{words_left};
@@ -10,6 +10,7 @@ use crate::fault::Cause;
 use crate::line::symbol_of;
 use crate::split::last_word;
 use lp_symbols::{SymId, Symbols};
+use std::alloc::{AllocError, Global};
 
 /// How many places there are: some for each function of many patches, in 32 KB.
 const PLACES: usize = 16_384;
@@ -19,17 +20,19 @@ const SPREAD: u64 = 0x9e37_79b9_7f4a_7c15;
 
 /// At each place the symbol that was found last of the names that belong there. A name is compared
 /// with it before it is looked up.
+///
+/// It lies on the heap, as a parser goes by value through several calls, each with room for all of it on the stack.
 #[derive(Drop)]
 pub(crate) struct SymbolCache {
-    ids: [SymId; PLACES],
+    ids: Vec<SymId>,
+    ghost whole: { vec_len ids ≡ 16384 },
 }
 
 impl SymbolCache {
-    /// The first symbol at each place.
-    pub(crate) fn new() -> SymbolCache {
-        SymbolCache {
-            ids: [SymId(0); PLACES],
-        }
+    /// The first symbol at each place; AllocError where an allocation failed.
+    pub(crate) fn new(alloc: Global) -> Result<SymbolCache, AllocError> {
+        let ids = vec![in alloc; SymId(0); PLACES]?;
+        Ok(SymbolCache { ids })
     }
 
     /// The symbol of a name, which is to be the last word of a line. A name has no space in it, so
