@@ -7,6 +7,10 @@ use Rattle.std.proofs.Math.Seq.{drop-cons}
 use Rattle.lp_model.specs.Rules.{Rules}
 use Rattle.lp_definitions.specs.declared.event.Event.{Event}
 use Rattle.lp_definitions.specs.declared.reply.Reply.{Reply}
+use Rattle.lp_definitions.specs.declared.reply.What.{What}
+use Rattle.lp_model.specs.declared.check.CheckKind.{CheckKind}
+use Rattle.lp_model.specs.declared.check.CheckKind.TheVariants.{Stop}
+use Rattle.lp_transition.specs.Scan.{scan_event}
 use Rattle.std.specs.Prelude.{◌&&◌, is_none}
 use Rattle.lp_definitions.specs.Events.{is_control}
 use Rattle.lp_definitions.specs.Leg.{Leg, State}
@@ -51,6 +55,15 @@ module _ (model : Rules) where
     e ∙ (ap (λ (r : Reply). is_opened event r.what) (step.replies run stands) ∙ opened_is model (leg_of model run) event),
     step.reaches run stands,
   )
+
+  not_opened : (kind : CheckKind) (what : What) → false ≡ is_opened (scan_event kind) what
+  not_opened Stop what = refl
+  not_opened _ what = refl
+
+  -- the same of a scan, which opens no leg
+  pub scan_opens : (run : Run) (event : Event) (kind : CheckKind) (old new : Engine) (given : Reply) → event ≡ scan_event kind → IsStep model (state_in old) (scan_event kind) given (state_in new) → StandsIn model run (state_in old) → (false ≡ opens model (leg_of model run) event) × StandsIn model (plus run event) (state_in new)
+  scan_opens run event kind old new given is step stands =
+      step_opens run event old new given false (not_opened kind given.what ∙ ap (λ e. is_opened e given.what) (sym is)) (subst (λ (e : Event). IsStep model (state_in old) e given (state_in new)) (sym is) step) stands
 
   -- the leg after so many of these events is the first with those, and ends as the first does
   pub record GoesOn (leg : Leg) (events : List Event) (i : ℕ) (now : Leg) : Type 0 where

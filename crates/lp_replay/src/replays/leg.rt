@@ -1,17 +1,18 @@
 //! The legs of a trace.
-ghost use Rattle.std.specs.Prelude.{◌≡◌, ◌≤◌, ◌<◌, ◌+◌, ◌++◌, ℕ, false, length, slice_index_or, take, IfOk, OnOk};
+ghost use Rattle.std.specs.Prelude.{◌≡◌, ◌≤◌, ◌<◌, ◌+◌, ◌++◌, ℕ, false, length, slice_index_or, take, true, IfOk, IfSome, IsTrue, OnOk, Some};
 ghost use Rattle.std.specs.Option.{option_map};
 ghost use Rattle.lp_checker.specs.Folds.{leg_with};
 ghost use Rattle.lp_definitions.specs.Run.{Run, leg_of, opens, plus};
 ghost use Rattle.lp_definitions.specs.Events.{is_control};
 ghost use Rattle.lp_machine.specs.Steps.{StandsIn};
 ghost use Rattle.lp_machine.specs.Table.{state_in};
+ghost use Rattle.lp_transition.specs.Scan.{is_scan_kind, scan_event, MayLeaveOut};
 ghost use Rattle.lp_replay.specs.Legs.{leg_numbered, opened_by, to_end};
 
 use super::fault::ReplayFault;
 use super::start;
 use lp_cert::opens_leg;
-use lp_model::Consistency;
+use lp_model::{CheckKind, Consistency};
 use lp_text::Trace;
 use lp_transition::{Core, Event, Halt, Opening};
 use std::alloc::Global;
@@ -82,10 +83,33 @@ fn step<M: Consistency>(
     requires { core.old.number < 1000000 }
     ensures { IfOk result (λ opened. (run : Run) → StandsIn M.rules run (state_in core.old) → (opened ≡ opens M.rules (leg_of M.rules run) event) × StandsIn M.rules (plus run event) (state_in core.new)) }
 {
+    if let Some(kind) = quiet_scan(core, event) {
+        let _ = core.step_quiet_scan(kind);
+        return Ok(false);
+    }
     match core.step(alloc, event) {
         Ok(reply) => Ok(opens_leg(event, &reply.what)),
         Err(Halt::NoMemory) => Err(ReplayFault::NoMemory),
         Err(Halt::JournalFull) => unreachable!(),
+    }
+}
+
+/// The kind of scan that an event is, where the engine needn't look at anybody for it.
+fn quiet_scan<M: Consistency>(core: &Core<M>, event: Event) -> Option<CheckKind>
+    ensures scan { IfSome result (λ kind. (is_scan_kind kind ≡ true) × (event ≡ scan_event kind)) }
+    ensures used { IfSome result (λ kind. IsTrue (M.rules.uses kind)) }
+    ensures quiet { IfSome result (λ kind. MayLeaveOut M.rules kind (state_in core.now) (λ group. false)) }
+    ensures last { IfSome result (λ kind. core.now.last_scan.kind ≡ Some kind) }
+{
+    let kind = match event {
+        Event::Walk => CheckKind::Walk,
+        Event::Stop => CheckKind::Stop,
+        _ => return None,
+    };
+    if core.model().uses(kind) && core.is_quiet_scan(kind) {
+        Some(kind)
+    } else {
+        None
     }
 }
 
