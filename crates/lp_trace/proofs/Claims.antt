@@ -9,7 +9,7 @@ use Rattle.lp_text.specs.CertTexts.{cert_lines, claim_word}
 use Rattle.lp_text.specs.Words.{line_of}
 use Rattle.lp_text.specs.inside.Writing.{line_rest}
 use Rattle.lp_text.proofs.Writing.{line_split}
-use Rattle.lp_trace.specs.inside.Births.{text_of}
+use Rattle.lp_trace.specs.inside.KeptLines.{text_of}
 use Rattle.lp_trace.specs.inside.Claims.{IsAround, Shares, head_words}
 
 -- a group between what certificates have in common is the line

@@ -15,7 +15,7 @@ pub mod RunStays
 pub mod RunReplies
 pub mod RunLegs
 pub mod RunsFit
-pub mod Births
+pub mod KeptLines
 pub mod Busy
 pub mod Claims
 pub mod Rooms

@@ -14,6 +14,9 @@ use std::marker::Model;
 /// How many bytes there is room for.
 const ROOM: usize = 65_536;
 
+/// How many bytes are few: to copy more of them costs more than to write them as they are.
+const PIECE: usize = 16_384;
+
 /// Room for any line that isn't of groups: the longest is a short word with six numbers.
 pub(crate) const LINE: usize = 160;
 
@@ -81,13 +84,13 @@ impl Held {
         self.len = 0;
     }
 
-    /// Takes bytes if there is room for them, and says whether it did.
+    /// Takes bytes if they are few and there is room for them, and says whether it did.
     #[inline(always)]
     pub(crate) fn hold(&mut self, bytes: &[u8]) -> bool
         ensures taken { IsTrue result → self.new.items ≡ self.old.items ++ bytes.now }
         ensures kept { IsFalse result → self.new.items ≡ self.old.items }
     {
-        if bytes.len() > ROOM - self.len {
+        if bytes.len() > PIECE.min(ROOM - self.len) {
             return false;
         }
         let end = place_slice(self.room.as_mut_slice(), self.len, bytes);

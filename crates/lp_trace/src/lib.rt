@@ -1,8 +1,8 @@
 //! Runs and checks: the bytes of a trace in, a report or an answer out.
 //!
 //! Costs: `run` keeps the trace, the replies, the reasons of the certificates, and of the text the unfinished line. It
-//! writes the report from a buffer of its own, each certificate while it goes through its reasons; some 160 KB are
-//! kept for births that the next certificate begins with too.
+//! writes the report from a buffer of its own, each certificate while it goes through its reasons; some 110 KB are
+//! kept for lines that the next certificate begins with too.
 #![tactic(auto)]
 
 mod checks;

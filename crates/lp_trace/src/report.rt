@@ -9,18 +9,18 @@ ghost use Rattle.lp_text.specs.inside.Writing.{Puts, line_rest, seen_of};
 ghost use Rattle.lp_text.specs.Writing.{Writes};
 ghost use Rattle.lp_text.specs.StreamContract.{WritesToEnd, ended, write_end};
 
-mod births;
 mod busy;
 mod claims;
 mod events;
+mod kept_lines;
 mod legs;
 mod reasons;
 
 use crate::counter::Counter;
 use crate::page::Page;
-pub(crate) use births::KeptBirths;
 use events::hold_event;
 use itoa::Buffer;
+pub(crate) use kept_lines::KeptLines;
 use legs::put_legs;
 use lp_replay::{GroupLists, Outcome, PackedReply, ReplyList, ShortReply, ShortWhat};
 use lp_stack::{GroupId, Level};
@@ -33,7 +33,7 @@ use std::io::Write;
 pub(crate) fn write_report<W: Write>(
     page: &mut Page,
     writer: &mut Counted<W>,
-    kept: &mut KeptBirths,
+    kept: &mut KeptLines,
     form: TraceForm,
     name: &str,
     outcome: &Outcome,
@@ -49,7 +49,7 @@ pub(crate) fn write_report<W: Write>(
 fn put_report<W: Write>(
     page: &mut Page,
     writer: &mut Counted<W>,
-    kept: &mut KeptBirths,
+    kept: &mut KeptLines,
     form: TraceForm,
     name: &str,
     outcome: &Outcome,

@@ -10,7 +10,7 @@ ghost use Rattle.lp_replay.specs.Runs.{ReadsTrace, AtTrace, run_end};
 ghost use Rattle.lp_text.specs.Writing.{AppendsPrefix};
 
 use crate::page::Page;
-use crate::report::{KeptBirths, write_report};
+use crate::report::{KeptLines, write_report};
 use lp_model::Consistency;
 use lp_replay::{Outcome, ReplayFault, RunFault, read_trace, replay};
 use lp_text::{Counted, Trace};
@@ -68,7 +68,7 @@ fn report_on<M: Consistency, W: Write>(
     ensures not_reading { ended run_end result ≢ ReadFailed }
 {
     let mut page = Page::new(alloc)?;
-    let mut kept = KeptBirths::new(alloc)?;
+    let mut kept = KeptLines::new(alloc)?;
     let outcome = outcome_of(alloc, model, trace)?;
     match write_report(&mut page, writer, &mut kept, trace.form(), name, &outcome) {
         Ok(()) => Ok(()),

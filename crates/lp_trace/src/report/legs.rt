@@ -7,11 +7,11 @@ ghost use Rattle.lp_text.specs.CertTexts.{cert_lines, end_words};
 ghost use Rattle.lp_text.specs.Words.{line_of};
 ghost use Rattle.lp_trace.specs.Report.{leg_line, leg_lines, target_words};
 ghost use Rattle.lp_text.specs.inside.Writing.{Puts, line_rest, seen_of};
-ghost use Rattle.lp_trace.specs.inside.Births.{text_of};
+ghost use Rattle.lp_trace.specs.inside.KeptLines.{AreFirst, text_of};
 
-use super::births::KeptBirths;
 use super::busy::BusyText;
 use super::claims::{ClaimText, hold_claim, put_claim};
+use super::kept_lines::KeptLines;
 use super::reasons::put_each;
 use super::{level_word, number};
 use crate::held::Held;
@@ -28,6 +28,9 @@ const MANY: usize = 2;
 /// How many certificates of a leg are few: if one of them can't be held, the others were held for nothing.
 const FEW: usize = 8;
 
+/// How many lines are worth a text that others may share.
+const SHARED: usize = 8;
+
 /// What a line may have in common with one before, as a text.
 #[derive(Drop)]
 struct Shared {
@@ -39,7 +42,7 @@ struct Shared {
 pub(super) fn put_legs<W: Write>(
     page: &mut Page,
     writer: &mut Counted<W>,
-    kept: &mut KeptBirths,
+    kept: &mut KeptLines,
     form: TraceForm,
     legs: &LegList,
 ) -> Result<(), WriteFault>
@@ -100,7 +103,7 @@ fn hold_certs(held: &mut Held, shared: &mut ClaimText, certs: &CertListRef<'_>) 
 fn put_leg<W: Write>(
     page: &mut Page,
     writer: &mut Counted<W>,
-    kept: &mut KeptBirths,
+    kept: &mut KeptLines,
     shared: &mut Shared,
     form: TraceForm,
     leg: &LegEndRef<'_>,
@@ -196,12 +199,13 @@ fn put_end_line<W: Write>(
 fn put_certs<W: Write>(
     page: &mut Page,
     writer: &mut Counted<W>,
-    kept: &mut KeptBirths,
+    kept: &mut KeptLines,
     shared: &mut Shared,
     certs: &CertListRef<'_>,
 ) -> Result<(), WriteFault>
     ensures { Puts (seen_of W.contents writer.old) (seen_of W.contents writer.new) page.old.held.items page.new.held.items result (flat_map line_of (flat_map cert_lines certs.now)) }
 {
+    kept.clear();
     for place in 0..certs.len() {
         if !hold_cert(&mut page.held, &mut shared.claim, certs, place) {
             put_cert(page, writer, kept, shared, certs, place)?;
@@ -226,59 +230,68 @@ fn hold_cert(held: &mut Held, shared: &mut ClaimText, certs: &CertListRef<'_>, p
 fn put_cert<W: Write>(
     page: &mut Page,
     writer: &mut Counted<W>,
-    kept: &mut KeptBirths,
+    kept: &mut KeptLines,
     shared: &mut Shared,
     certs: &CertListRef<'_>,
     place: usize,
 ) -> Result<(), WriteFault>
-    requires { place < length certs.now }
-    ensures { (cert : Cert) → slice_get certs.now place ≡ Some cert → Puts (seen_of W.contents writer.old) (seen_of W.contents writer.new) page.old.held.items page.new.held.items result (flat_map line_of (cert_lines cert)) }
+    requires place { place < length certs.now }
+    requires earlier { kept.old.place ≤ place }
+    requires first { AreFirst certs.now kept.old.place kept.old.starts.items kept.old.text.items }
+    ensures earlier { kept.new.place ≤ place }
+    ensures first { AreFirst certs.now kept.new.place kept.new.starts.items kept.new.text.items }
+    ensures text { (cert : Cert) → slice_get certs.now place ≡ Some cert → Puts (seen_of W.contents writer.old) (seen_of W.contents writer.new) page.old.held.items page.new.held.items result (flat_map line_of (cert_lines cert)) }
 {
     let head = certs.head(place);
     if !hold_claim(&mut page.held, &mut shared.claim, certs.len() >= MANY, head) {
         put_claim(page, writer, head)?;
     }
-    put_reasons(
-        page,
-        writer,
-        kept,
-        &mut shared.busy,
-        &mut certs.lines(place),
-    )
+    put_reasons(page, writer, kept, &mut shared.busy, certs, place)
 }
 
-/// Puts these reasons, a line each.
+/// Puts the reasons of the certificate at a place, a line each.
+#[inline(always)]
 fn put_reasons<W: Write>(
     page: &mut Page,
     writer: &mut Counted<W>,
-    kept: &mut KeptBirths,
+    kept: &mut KeptLines,
     busy: &mut BusyText,
-    reasons: &mut CertLines<'_>,
+    certs: &CertListRef<'_>,
+    place: usize,
 ) -> Result<(), WriteFault>
-    ensures { Puts (seen_of W.contents writer.old) (seen_of W.contents writer.new) page.old.held.items page.new.held.items result (text_of reasons.old) }
+    requires place { place < length certs.now }
+    requires earlier { kept.old.place ≤ place }
+    requires first { AreFirst certs.now kept.old.place kept.old.starts.items kept.old.text.items }
+    ensures earlier { kept.new.place ≤ place }
+    ensures first { AreFirst certs.now kept.new.place kept.new.starts.items kept.new.text.items }
+    ensures text { (cert : Cert) → slice_get certs.now place ≡ Some cert → Puts (seen_of W.contents writer.old) (seen_of W.contents writer.new) page.old.held.items page.new.held.items result (text_of cert.lines) }
 {
-    let Some(first) = reasons.next() else {
-        return Ok(());
-    };
-    if let Line::Born { .. } = first {
-        return put_births(page, writer, kept, busy, first, reasons);
+    if certs.older_lines(place) >= SHARED {
+        return put_shared(page, writer, kept, busy, certs, place);
     }
-    put_each(page, writer, busy, Some(first), reasons)
+    let mut lines = certs.lines(place);
+    let first = lines.next();
+    put_each(page, writer, busy, first, &mut lines)
 }
 
-/// The same, where the first reason, which is no longer left, is a birth: what is kept then is put in one piece.
+/// The same, where others may begin with many of them too: what is kept then is put in one piece.
 #[inline(never)]
-fn put_births<W: Write>(
+fn put_shared<W: Write>(
     page: &mut Page,
     writer: &mut Counted<W>,
-    kept: &mut KeptBirths,
+    kept: &mut KeptLines,
     busy: &mut BusyText,
-    first: Line,
-    reasons: &mut CertLines<'_>,
+    certs: &CertListRef<'_>,
+    place: usize,
 ) -> Result<(), WriteFault>
-    ensures { Puts (seen_of W.contents writer.old) (seen_of W.contents writer.new) page.old.held.items page.new.held.items result (text_of (first ∷ reasons.old)) }
+    requires place { place < length certs.now }
+    requires earlier { kept.old.place ≤ place }
+    requires first { AreFirst certs.now kept.old.place kept.old.starts.items kept.old.text.items }
+    ensures earlier { kept.new.place ≤ place }
+    ensures first { AreFirst certs.now kept.new.place kept.new.starts.items kept.new.text.items }
+    ensures text { (cert : Cert) → slice_get certs.now place ≡ Some cert → Puts (seen_of W.contents writer.old) (seen_of W.contents writer.new) page.old.held.items page.new.held.items result (text_of cert.lines) }
 {
-    let next = kept.follow(first, reasons);
-    page.put(writer, kept.text())?;
-    put_each(page, writer, busy, next, reasons)
+    let (next, mut lines) = kept.turn_to(certs, place);
+    page.put(writer, kept.text.as_slice())?;
+    put_each(page, writer, busy, next, &mut lines)
 }

@@ -1,15 +1,16 @@
 //! Writing the reasons of certificates, a line each.
 ghost use Rattle.std.specs.Prelude.{◌≡◌, ◌≤◌, ◌∷◌, ◌++◌, [], decimal, map, option_to_list, take, IfNone, IsFalse, IsTrue};
+ghost use Rattle.lp_cert.specs.Parts.{busy_scan_lines};
 ghost use Rattle.lp_text.specs.CertTexts.{reason_words};
 ghost use Rattle.lp_text.specs.Words.{line_of};
 ghost use Rattle.lp_text.specs.inside.Writing.{Puts, seen_of};
-ghost use Rattle.lp_trace.specs.inside.Births.{text_of};
+ghost use Rattle.lp_trace.specs.inside.KeptLines.{text_of};
 
 use super::busy::BusyText;
 use crate::held::Held;
 use crate::page::Page;
 use crate::place::SHORT;
-use lp_cert::{CertLines, Line};
+use lp_cert::{BusyScans, CertLines, Line};
 use lp_text::{Counted, WriteFault};
 use std::io::Write;
 
@@ -30,7 +31,28 @@ pub(super) fn put_each<W: Write>(
         if !hold_reason(&mut page.held, busy, &reason) {
             put_reason(page, writer, &reason)?;
         }
+        put_run(page, writer, busy, reasons.take_run())?;
         next = reasons.next();
+    }
+    Ok(())
+}
+
+/// Puts the lines of a member that is busy at one scan after another: each without a look at what comes next.
+#[inline(always)]
+fn put_run<W: Write>(
+    page: &mut Page,
+    writer: &mut Counted<W>,
+    busy: &mut BusyText,
+    run: BusyScans<'_>,
+) -> Result<(), WriteFault>
+    ensures { Puts (seen_of W.contents writer.old) (seen_of W.contents writer.new) page.old.held.items page.new.held.items result (text_of (busy_scan_lines run.entry)) }
+{
+    for scan in run.scans {
+        let at = u64::from(*scan);
+        if !busy.hold(&mut page.held, run.group, run.task, at) {
+            let (group, task) = (run.group, run.task);
+            put_reason(page, writer, &Line::Busy { group, task, at })?;
+        }
     }
     Ok(())
 }

@@ -1,6 +1,6 @@
 use Rattle.std.proofs.Common.{◌≡◌, ◌++◌, [], length, option_to_list, IfNone}
 use Rattle.lp_text.specs.inside.Writing.{Left, seen_of}
-use Rattle.lp_trace.specs.inside.Births.{text_of}
+use Rattle.lp_trace.specs.inside.KeptLines.{text_of}
 use Rattle.lp_trace.proofs.report.reasons.put_each.Given as goal
 
 abbrev pub invariant-loop-next : goal.invariant-loop-next

@@ -1,6 +1,0 @@
-use Rattle.std.proofs.Common.{arith}
-use Rattle.std.proofs.lemmas.Grind.{common_steps}
-use Rattle.lp_trace.proofs.report.births.KeptBirths.add.Goals as goal
-
-pub loop-next-preserved : goal.loop-next-preserved
-loop-next-preserved c = grind (arith, common_steps)
