@@ -1,5 +1,5 @@
 //! Scans, which look at the stacks of all waiting tasks.
-ghost use Rattle.std.specs.Prelude.{◌≡◌, ℕ, ◌||◌, ◌&&◌, not, ◌<◌, ◌≤◌, ◌↔◌, true, false, Err, map, is_some, is_none, nat_eq, IfOk, IfSome, IsTrue};
+ghost use Rattle.std.specs.Prelude.{◌≡◌, ℕ, ◌||◌, ◌&&◌, not, ◌<◌, ◌≤◌, ◌↔◌, [], true, false, Err, length, map, is_some, is_none, nat_eq, IfOk, IfSome, IsTrue};
 ghost use Rattle.std.specs.List.{filter_map, list_any};
 ghost use Rattle.std.specs.List.Sorted.{IsNonDecreasing};
 ghost use Rattle.std.specs.Option.{option_map};
@@ -17,10 +17,11 @@ ghost use Rattle.lp_transition.specs.Weigh.{IsWeighed};
 ghost use Rattle.lp_machine.specs.Steps.{IsReply};
 ghost use Rattle.lp_transition.specs.Scan.{is_scan_kind, scan_event, views_of, verdict_of, verdicts_of, verdicts_at, AreEnough};
 ghost use Rattle.lp_tasks.specs.Passing.{passing};
-ghost use Rattle.lp_transition.specs.inside.ScanSteps.{waiting_slot, tasks_of, is_judged, is_found, switches_by, all_admit, groups_of, is_listed, IsTaskSwitched, AreSwitched};
+ghost use Rattle.lp_transition.specs.inside.ScanSteps.{waiting_slot, tasks_of, is_judged, is_found, switches_by, all_admit, groups_of, is_listed, AllSwitch, IsTaskSwitched, AreSwitched};
 ghost use Rattle.lp_transition.specs.declared.engine.step.Halt.TheVariants.{JournalFull};
 
 use super::Core;
+use super::dispatch::is_switched;
 use super::open_scan::looks_at_all;
 use super::step::{Halt, Step};
 use crate::{Event, GroupList, MOST_EVENTS, Reply, What};
@@ -145,18 +146,12 @@ impl<M: Consistency> Core<M> {
     {
         self.events += 1;
         self.blames.note(&self.tasks, step.verdicts());
-        switch_tasks(
-            &mut self.tasks,
-            &mut self.waiting,
-            step.verdicts(),
-            groups_of(&step.reply().what),
-            self.target,
-        );
+        let kind = scan_kind(step.event());
+        switch_scanned(&mut self.tasks, &mut self.waiting, step, self.target);
         if self.waiting.is_empty() {
             self.unchanged.reset();
             return;
         }
-        let kind = scan_kind(step.event());
         let is_used = self.model.uses(kind);
         self.unchanged
             .scanned(kind, is_used, &self.waiting, step.verdicts());
@@ -434,6 +429,45 @@ fn groups_of(what: &What) -> &[GroupId]
     match what {
         What::Switched(groups) => groups.as_slice(),
         _ => &[],
+    }
+}
+
+/// Switches the tasks that a scan switches, if there are any, and where it completes the leg without a look at their groups. Never
+/// allocates.
+fn switch_scanned(tasks: &mut TaskTable, waiting: &mut NumberSet, step: &Step, target: Level)
+    requires rises { IsNonDecreasing (groups_of step.now.reply.what) }
+    requires wide { length waiting.old ≡ 65536 }
+    requires all { IsTrue step.now.reply.completed → AllSwitch step.now.verdicts (groups_of step.now.reply.what) tasks.old waiting.old }
+    ensures { AreSwitched (is_judged step.now.verdicts) (is_listed (groups_of step.now.reply.what)) target.0 tasks.old tasks.new waiting.old waiting.new }
+{
+    let what = &step.reply().what;
+    if !is_switched(what) {
+        return;
+    }
+    if !step.reply().completed {
+        let groups = groups_of(what);
+        switch_tasks(tasks, waiting, step.verdicts(), groups, target);
+        return;
+    }
+    level_tasks(tasks, step.verdicts(), target);
+    waiting.clear();
+}
+
+/// Puts the tasks of these verdicts on a level, as if the group of each switched.
+fn level_tasks(tasks: &mut TaskTable, verdicts: &[Verdict], level: Level)
+    ensures { AreSwitched (is_judged verdicts.now) (λ group. true) level.0 tasks.old tasks.new [] [] }
+{
+    for verdict in verdicts {
+        level_task(tasks, level, verdict.task);
+    }
+}
+
+/// Puts a task on a level.
+fn level_task(tasks: &mut TaskTable, level: Level, task: TaskId)
+    ensures { IsTaskSwitched (λ group. true) level.0 task.0 tasks.old tasks.new [] [] }
+{
+    if tasks.get(task).is_some() {
+        tasks.set_level(task, level);
     }
 }
 
