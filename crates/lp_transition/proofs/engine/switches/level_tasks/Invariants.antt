@@ -1,6 +1,6 @@
 use Rattle.std.proofs.Common.{[], true, take}
 use Rattle.lp_transition.specs.inside.ScanSteps.{is_judged, AreSwitched}
-use Rattle.lp_transition.proofs.engine.scan.level_tasks.Given as goal
+use Rattle.lp_transition.proofs.engine.switches.level_tasks.Given as goal
 
 -- the tasks of the verdicts so far are on the level
 abbrev pub invariant-loop-verdict : goal.invariant-loop-verdict

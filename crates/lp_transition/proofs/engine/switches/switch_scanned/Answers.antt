@@ -3,7 +3,7 @@ use Rattle.lp_definitions.specs.declared.reply.Reply.{Reply}
 use Rattle.lp_transition.specs.Weigh.{is_switched}
 use Rattle.lp_transition.specs.inside.ScanSteps.{groups_of, is_judged}
 use Rattle.lp_transition.proofs.ScanSwitches.{all_switched, none_switched}
-use Rattle.lp_transition.proofs.engine.scan.switch_scanned.Goals as goal
+use Rattle.lp_transition.proofs.engine.switches.switch_scanned.Goals as goal
 
 pub returns-then-not-is_switched : goal.returns-then-not-is_switched
 returns-then-not-is_switched c =

@@ -5,7 +5,7 @@ use Rattle.std.specs.List.{list_any}
 use Rattle.lp_model.specs.declared.verdict.Verdict.{Verdict}
 use Rattle.lp_transition.specs.inside.ScanSteps.{tasks_of, is_judged}
 use Rattle.lp_transition.proofs.ScanSwitches.{moving_more}
-use Rattle.lp_transition.proofs.engine.scan.level_tasks.Goals as goal
+use Rattle.lp_transition.proofs.engine.switches.level_tasks.Goals as goal
 
 pub loop-verdict-preserved : goal.loop-verdict-preserved
 loop-verdict-preserved c =
