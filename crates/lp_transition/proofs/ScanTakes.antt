@@ -1,6 +1,6 @@
 -- The engine after a scan.
-use Rattle.std.proofs.Common.{◌≡◌, ℕ, suc, ◌<◌, ◌≤◌, Bool, true, false, not, ◌&&◌, List, length, Option, Some, None, if◌then◌else◌, nat_eq, refl, sym, ap, ap₂, ◌∙◌, subst, ⊎_elim, arith}
-use Rattle.std.proofs.lemmas.Bool.{false≢true, cond-true, cond-false, cases_Bool, cases_lt, eqb-true, eq-eqb, not-true, not_from_true, not_from_false, false_from_ne_true}
+use Rattle.std.proofs.Common.{◌≡◌, ℕ, suc, ◌<◌, ◌≤◌, Bool, true, false, not, ◌&&◌, ◌||◌, List, [], ◌∷◌, length, Option, Some, None, is_some, is_none, if◌then◌else◌, nat_eq, refl, sym, ap, ap₂, ◌∙◌, subst, ⊎_elim, arith}
+use Rattle.std.proofs.lemmas.Bool.{false≢true, cond-true, cond-false, cases_Bool, cases_lt, and_from, and_parts, eqb-true, eq-eqb, not-true, not_from_true, not_from_false, false_from_ne_true}
 use Rattle.std.proofs.lemmas.List.{get_or_past}
 use Rattle.std.specs.List.{list_any}
 use Rattle.std.specs.List.Sorted.{IsNonDecreasing}
@@ -8,30 +8,34 @@ use Rattle.std.specs.Option.{option_map}
 use mathlib.Core.Path.{fun_ext}
 use Rattle.lp_numbers.specs.Numbers.{Numbers, has}
 use Rattle.lp_model.specs.Rules.{Rules, IsLawful}
+use Rattle.lp_model.specs.declared.check.Blame.{Blame}
 use Rattle.lp_model.specs.declared.check.CheckKind.{CheckKind}
 use Rattle.lp_model.specs.declared.check.CheckKind.TheVariants as Check
 use Rattle.lp_model.specs.declared.verdict.Verdict.{Verdict}
 use Rattle.lp_definitions.specs.declared.event.Event.{Event}
 use Rattle.lp_definitions.specs.declared.event.Event.TheVariants.{Call, Ret, Sleep, Wake, Enter, Exit, Idle, Resched, Fork, Die, Walk, Stop, Enable, Disable, Reverse}
+use Rattle.lp_definitions.specs.declared.reply.Reply.{Reply}
 use Rattle.lp_definitions.specs.Events.{is_scan}
 use Rattle.lp_definitions.specs.Tasks.{Unused, Live, map_live}
 use Rattle.lp_definitions.specs.Leg.{LegTask, State}
 use Rattle.lp_definitions.specs.Sound.{IsSound}
-use Rattle.lp_machine.specs.Machine.{switches_at, switched_groups, affected, refusal_of, next, answer}
+use Rattle.lp_machine.specs.Machine.{switches_at, switched_groups, affected, refusal_of, next, answer, view_of}
 use Rattle.lp_machine.specs.Table.{Table, Engine, IsWide, slot, fate_at, leg_tasks, state_in}
-use Rattle.lp_tasks.specs.inside.Table.{is_off}
+use Rattle.lp_tasks.specs.inside.Table.{is_in, is_off}
 use Rattle.lp_transition.specs.inside.Invariant.{IsBetween, IsEngine}
 use Rattle.lp_transition.specs.Weigh.{Weighed, IsWeighed, AreVerdictsFor}
-use Rattle.lp_transition.specs.Scan.{verdicts_of, AreEnough}
-use Rattle.lp_transition.specs.inside.ScanSteps.{is_judged, switches_by, switched_if, task_switches, AreSwitched, groups_of, is_listed}
+use Rattle.lp_transition.specs.Scan.{is_scan_kind, scan_event, verdicts_of, AreEnough}
+use Rattle.lp_transition.specs.inside.ScanSteps.{all_admit, is_found, is_judged, switches_by, switched_if, task_switches, AllSwitch, AreSwitched, groups_of, is_listed}
 use Rattle.lp_machine.proofs.EngineLemmas.{next-accepted}
 use Rattle.lp_transition.proofs.Effects.{HasTaken, with_table, state-with_table, sound_next}
 use Rattle.lp_tasks.proofs.TableLemmas.{live_from_slot, slot_from_live}
 use Rattle.lp_transition.proofs.ScanSwitches.{slot_stays}
 use Rattle.lp_transition.proofs.AskedScans.{judged-waits, switches-judged}
+use Rattle.lp_tasks.specs.Passing.{passing}
 use Rattle.lp_tasks.proofs.Passing.{passing-any}
+use Rattle.lp_transition.proofs.ScanLists.{verdict-from}
 use Rattle.lp_transition.proofs.RisingGroups.{passes-rise}
-use Rattle.lp_transition.proofs.ScanAnswers.{groups_of-switched, switching_by, switches-walk, switches-stop}
+use Rattle.lp_transition.proofs.ScanAnswers.{answer-scan, groups_of-switched, switching_by, switches-walk, switches-stop}
 
 -- ---- The tasks
 
@@ -277,3 +281,76 @@ module _ (model : Rules) (lawful : IsLawful model) where
       subst (λ (o : Engine). HasTaken model o step.event (with_table table e) left) was
       (takes_event e waiting left table switching step.verdicts kept here.room are_switched step.event scan here.verdicts
       (λ g h. listed g h ∙ ap (λ r. list_any (nat_eq g) (groups_of r.what)) here.reply))
+
+-- ---- A scan that completes the leg
+
+none_of : (o : Option Blame) → is_some o ≡ false → is_none o ≡ true
+none_of None h = refl
+none_of (Some why) h = absurd (cc)
+
+-- where no verdict refuses, none refuses a member of the group
+none_refuses : (table : Table) (group : ℕ) (vs : List Verdict) → list_any (λ v. is_some v.blame) vs ≡ false → list_any (is_found table true group) vs ≡ false
+none_refuses table group [] none = refl
+none_refuses table group (v ∷ vs) none = by (is_some v.blame) refl (none_refuses table group vs)
+  where
+    by : (b : Bool) → is_some v.blame ≡ b → (list_any (λ w. is_some w.blame) vs ≡ false → list_any (is_found table true group) vs ≡ false) → list_any (is_found table true group) (v ∷ vs) ≡ false
+    by true is rest = absurd (false≢true (sym none ∙ ap (λ b. b || list_any (λ w. is_some w.blame) vs) is))
+    by false is rest = ap (λ b. (b && is_in group (slot table v.task.0)) || list_any (is_found table true group) vs) is ∙ rest (sym (ap (λ b. b || list_any (λ w. is_some w.blame) vs) is) ∙ none)
+
+module _ (model : Rules) (lawful : IsLawful model) (e : Engine) (waiting : Numbers) (kept : IsEngine e waiting) (kind : CheckKind) (scan : is_scan_kind kind ≡ true) (vs : List Verdict) (enough : AreEnough model kind (state_in e) vs) (groups : List ℕ)
+    (admits : all_admit (verdicts_of model kind (state_in e)) ≡ true) (told : groups ≡ passing 0 65536 (switches_by e.table (verdicts_of model kind (state_in e)))) where
+  stands : (t : ℕ) (x : LegTask) → leg_tasks e.table t ≡ Live x → slot e.table t ≡ Some x
+  stands t x live = slot_from_live e.table t x live
+
+  unrefused : list_any (λ v. is_some v.blame) (verdicts_of model kind (state_in e)) ≡ false
+  unrefused =
+      let whole = verdicts_of model kind (state_in e) in
+      not-true (list_any (λ v. is_some v.blame) whole) (and_parts (not (nat_eq (length whole) 0)) (not (list_any (λ v. is_some v.blame) whole)) admits).1
+
+  -- the group of each who waits switches
+  it_switches : (t : ℕ) (x : LegTask) → leg_tasks e.table t ≡ Live x → nat_eq x.level e.target ≡ false → switches_by e.table (verdicts_of model kind (state_in e)) x.group ≡ true
+  it_switches t x live off =
+      let s = state_in e in
+      let bounds = kept.sound.numbered t x live in
+      let admitted = false_from_ne_true (is_some (model.blame kind (view_of t x) s.aim)) (λ yes.
+      let some = verdict-from model kind s (λ v. is_some v.blame) (record { number = t; task = x; live = live; off = off; passed = yes }) bounds.0 bounds.1 in
+      false≢true (sym unrefused ∙ some)) in
+      let mine = ap (is_in x.group) (stands t x live) ∙ eq-eqb x.group x.group refl in
+      let found = verdict-from model kind s (is_found e.table false x.group) (record {
+        number = t;
+        task = x;
+        live = live;
+        off = off;
+        passed = and_from (is_none (model.blame kind (view_of t x) s.aim)) (is_in x.group (slot e.table t)) (none_of (model.blame kind (view_of t x) s.aim) admitted) mine;
+      }) bounds.0 bounds.1 in
+      ap₂ (λ a b. a && not b) found (none_refuses e.table x.group (verdicts_of model kind s) unrefused)
+
+  all_switch : AllSwitch vs groups e.table waiting
+  all_switch = record {
+    judged = λ t waits.
+        let w = off_target e t (slot e.table t) refl (sym (kept.waits t) ∙ waits) in
+        let live = live_from_slot e.table t w.task w.there in
+        switches-judged model lawful kind (state_in e) kept.sound vs enough e.table stands t w.task live w.off (it_switches t w.task live w.off);
+    listed = λ t judged.
+        let j = judged-waits model lawful kind (state_in e) kept.sound vs enough t judged in
+        let at = stands t j.0 j.1 in
+        ap (task_switches (is_listed groups)) at
+        ∙ (ap (list_any (nat_eq j.0.group)) told
+        ∙ (passing-any 65536 (switches_by e.table (verdicts_of model kind (state_in e))) j.0.group (group_fits e t j.0 kept.sound kept.wide at) ∙ it_switches t j.0 j.1 j.2));
+  }
+
+-- all who wait switch where a scan that was weighed on the engine that code holds completes the leg
+pub completes_all : (model : Rules) → IsLawful model → (e old : Engine) (waiting : Numbers) (kind : CheckKind) (step : Weighed) → e ≡ old → IsEngine e waiting → IsWeighed model old step → is_scan_kind kind ≡ true → scan_event kind ≡ step.event → step.reply.completed ≡ true → AllSwitch step.verdicts (groups_of step.reply.what) e.table waiting
+completes_all model lawful e old waiting kind step was kept weighed scan event completed =
+    let here : IsWeighed model e step = subst (λ (o : Engine). IsWeighed model o step) (sym was) weighed in
+    let s = state_in e in
+    let answered = here.reply ∙ ap (answer model s) (sym event) ∙ answer-scan model lawful 65536 s (omega arith) kept.sound e.table (λ t x live. slot_from_live e.table t x live) kind scan in
+    let enough = enough_by model s kind step.verdicts scan (subst (λ given. AreVerdictsFor model s given step.verdicts) (sym event) here.verdicts) in
+    all_switch model lawful e waiting kept kind scan step.verdicts enough (groups_of step.reply.what)
+    (sym (ap (λ (r : Reply). r.completed) answered) ∙ completed)
+    (ap (λ (r : Reply). groups_of r.what) answered ∙ groups_of-switched (passing 0 65536 (switches_by e.table (verdicts_of model kind s))))
+  where
+    enough_by : (model : Rules) (s : State) (kind : CheckKind) (vs : List Verdict) → is_scan_kind kind ≡ true → AreVerdictsFor model s (scan_event kind) vs → AreEnough model kind s vs
+    enough_by model s Check.Walk vs h enough = enough
+    enough_by model s Check.Stop vs h enough = enough
+    enough_by model s _ vs h enough = absurd (cc)

@@ -29,6 +29,7 @@ mod quiet_scan;
 mod refuse;
 mod scan;
 mod step;
+mod switches;
 mod take;
 mod unchanged;
 mod weigh;

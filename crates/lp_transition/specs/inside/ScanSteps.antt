@@ -87,3 +87,8 @@ pub record AreSwitched (taken switches : ℕ → Bool) (target : ℕ) (old new :
   pub numbers : length left ≡ length waiting
   pub used : new.used ≡ old.used
   pub wide : IsWide old → IsWide new
+
+-- each task that waits is one of those looked at, and the group of each of those is in the list
+pub record AllSwitch (verdicts : List Verdict) (groups : List ℕ) (table : Table) (waiting : Numbers) : Type 0 where
+  pub judged : (t : ℕ) → has waiting t ≡ true → is_judged verdicts t ≡ true
+  pub listed : (t : ℕ) → is_judged verdicts t ≡ true → task_switches (is_listed groups) (slot table t) ≡ true

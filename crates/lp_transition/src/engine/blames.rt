@@ -144,6 +144,7 @@ fn clear_members(of_group: &mut BlameTable, groups: &NumberSet)
 }
 
 /// The verdicts are by increasing task number: the first that refuses a member of a group decides.
+#[inline(always)]
 fn decide_all(
     of_group: &mut BlameTable,
     noted: &mut NumberSet,

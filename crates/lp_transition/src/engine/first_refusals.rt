@@ -70,7 +70,10 @@ impl<M: Consistency> Core<M> {
         }
         match may_refuse {
             Some(may_refuse) => self.first_told(alloc, kind, may_refuse, groups),
-            None => self.member_verdicts(alloc, kind, groups),
+            None => {
+                let members = members_of(alloc, &self.tasks, groups)?;
+                self.verdicts_in(alloc, kind, &members)
+            }
         }
     }
 

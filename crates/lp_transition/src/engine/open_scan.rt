@@ -74,23 +74,8 @@ impl<M: Consistency> Core<M> {
         }
     }
 
-    /// What a check finds of the waiting tasks of some groups, by increasing number.
-    pub(super) fn member_verdicts(
-        &self,
-        alloc: Global,
-        kind: CheckKind,
-        groups: &NumberSet,
-    ) -> Result<Vec<Verdict>, AllocError>
-        ensures { IfOk result (λ found. found.items ≡ verdicts_among M.rules kind (state_in self.now) (has groups.now)) }
-    {
-        // For the proof alone, which knows what every value keeps once a field is read.
-        let _ = &self.tasks;
-        let members = members_of(alloc, &self.tasks, groups)?;
-        self.verdicts_in(alloc, kind, &members)
-    }
-
-    /// The same, at no cost for a set of members: None where a group has others than the task of its number. Most groups have no
-    /// other, and then they are the tasks to look at.
+    /// What a check finds of the waiting tasks of some groups, by increasing number; None where a group has other members than the
+    /// task of its number. Most groups have no other: then they are the tasks to look at, and no set of members has to be made.
     pub(super) fn own_verdicts(
         &self,
         alloc: Global,

@@ -1,7 +1,6 @@
 //! Scans, which look at the stacks of all waiting tasks.
 ghost use Rattle.std.specs.Prelude.{◌≡◌, ℕ, ◌||◌, ◌&&◌, not, ◌<◌, ◌≤◌, ◌↔◌, true, false, Err, map, is_some, is_none, nat_eq, IfOk, IfSome, IsTrue};
 ghost use Rattle.std.specs.List.{filter_map, list_any};
-ghost use Rattle.std.specs.List.Sorted.{IsNonDecreasing};
 ghost use Rattle.std.specs.Option.{option_map};
 ghost use Rattle.lp_stack.specs.TaskView.{seen};
 ghost use Rattle.lp_patch.specs.Aimed.{aimed};
@@ -17,17 +16,18 @@ ghost use Rattle.lp_transition.specs.Weigh.{IsWeighed};
 ghost use Rattle.lp_machine.specs.Steps.{IsReply};
 ghost use Rattle.lp_transition.specs.Scan.{is_scan_kind, scan_event, views_of, verdict_of, verdicts_of, verdicts_at, AreEnough};
 ghost use Rattle.lp_tasks.specs.Passing.{passing};
-ghost use Rattle.lp_transition.specs.inside.ScanSteps.{waiting_slot, tasks_of, is_judged, is_found, switches_by, all_admit, groups_of, is_listed, IsTaskSwitched, AreSwitched};
+ghost use Rattle.lp_transition.specs.inside.ScanSteps.{waiting_slot, tasks_of, is_found, switches_by, all_admit};
 ghost use Rattle.lp_transition.specs.declared.engine.step.Halt.TheVariants.{JournalFull};
 
 use super::Core;
 use super::open_scan::looks_at_all;
 use super::step::{Halt, Step};
+use super::switches::switch_scanned;
 use crate::{Event, GroupList, MOST_EVENTS, Reply, What};
 use lp_model::{CheckKind, Consistency, Verdict};
 use lp_numbers::NumberSet;
 use lp_patch::Aim;
-use lp_stack::{GroupId, Level, TaskId, View};
+use lp_stack::{GroupId, TaskId, View};
 use lp_tasks::{LiveView, TaskTable};
 use std::alloc::{AllocError, Global};
 
@@ -145,18 +145,12 @@ impl<M: Consistency> Core<M> {
     {
         self.events += 1;
         self.blames.note(&self.tasks, step.verdicts());
-        switch_tasks(
-            &mut self.tasks,
-            &mut self.waiting,
-            step.verdicts(),
-            groups_of(&step.reply().what),
-            self.target,
-        );
+        let kind = scan_kind(step.event());
+        switch_scanned(&mut self.tasks, &mut self.waiting, step, self.target);
         if self.waiting.is_empty() {
             self.unchanged.reset();
             return;
         }
-        let kind = scan_kind(step.event());
         let is_used = self.model.uses(kind);
         self.unchanged
             .scanned(kind, is_used, &self.waiting, step.verdicts());
@@ -425,60 +419,4 @@ fn any_admits(verdicts: &[Verdict]) -> bool
     ensures { result ≡ list_any (λ verdict. is_none verdict.blame) verdicts.now }
 {
     verdicts.iter().any(|verdict| verdict.blame.is_none())
-}
-
-/// The groups that an event switched, borrowed.
-fn groups_of(what: &What) -> &[GroupId]
-    ensures { group_numbers result.now ≡ groups_of what.now }
-{
-    match what {
-        What::Switched(groups) => groups.as_slice(),
-        _ => &[],
-    }
-}
-
-/// Switches the tasks of these verdicts, where their groups are among those of a list that doesn't
-/// fall. Never allocates.
-fn switch_tasks(
-    tasks: &mut TaskTable,
-    waiting: &mut NumberSet,
-    verdicts: &[Verdict],
-    switching: &[GroupId],
-    target: Level,
-)
-    requires { IsNonDecreasing (group_numbers switching.now) }
-    ensures { AreSwitched (is_judged verdicts.now) (is_listed (group_numbers switching.now)) target.0 tasks.old tasks.new waiting.old waiting.new }
-{
-    for verdict in verdicts {
-        switch_task(tasks, waiting, switching, target, verdict.task);
-    }
-}
-
-/// Switches a task, if its group switches.
-fn switch_task(
-    tasks: &mut TaskTable,
-    waiting: &mut NumberSet,
-    switching: &[GroupId],
-    target: Level,
-    task: TaskId,
-)
-    requires { IsNonDecreasing (group_numbers switching.now) }
-    ensures { IsTaskSwitched (is_listed (group_numbers switching.now)) target.0 task.0 tasks.old tasks.new waiting.old waiting.new }
-{
-    let Some(live) = tasks.get(task) else {
-        return;
-    };
-    if !is_listed(switching, live.group()) {
-        return;
-    }
-    tasks.set_level(task, target);
-    waiting.remove(task.0);
-}
-
-/// Whether a group is in a list that doesn't fall.
-fn is_listed(groups: &[GroupId], group: GroupId) -> bool
-    requires { IsNonDecreasing (group_numbers groups.now) }
-    ensures { result ≡ is_listed (group_numbers groups.now) group.0 }
-{
-    groups.binary_search(&group).is_ok()
 }

@@ -117,6 +117,7 @@ impl Unchanged {
 
     /// Whom a scan of another kind admitted says nothing of one of this kind, so that it may refuse
     /// all that wait.
+    #[inline(always)]
     fn begin(&mut self, kind: CheckKind, waiting: &NumberSet)
         ensures kind { self.new.kind ≡ Some kind }
         ensures changed { IsEmpty self.new.changed }

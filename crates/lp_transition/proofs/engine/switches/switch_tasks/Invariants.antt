@@ -1,7 +1,7 @@
 use Rattle.std.proofs.Common.{take}
 use Rattle.lp_definitions.specs.Events.{group_numbers}
 use Rattle.lp_transition.specs.inside.ScanSteps.{is_judged, is_listed, AreSwitched}
-use Rattle.lp_transition.proofs.engine.scan.switch_tasks.Given as goal
+use Rattle.lp_transition.proofs.engine.switches.switch_tasks.Given as goal
 
 -- the tasks of the verdicts so far switched
 abbrev pub invariant-loop-verdict : goal.invariant-loop-verdict

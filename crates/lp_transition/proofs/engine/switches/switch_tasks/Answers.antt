@@ -6,7 +6,7 @@ use Rattle.lp_model.specs.declared.verdict.Verdict.{Verdict}
 use Rattle.lp_definitions.specs.Events.{group_numbers}
 use Rattle.lp_transition.specs.inside.ScanSteps.{tasks_of, is_judged, is_listed}
 use Rattle.lp_transition.proofs.ScanSwitches.{moving_more}
-use Rattle.lp_transition.proofs.engine.scan.switch_tasks.Goals as goal
+use Rattle.lp_transition.proofs.engine.switches.switch_tasks.Goals as goal
 
 pub loop-verdict-preserved : goal.loop-verdict-preserved
 loop-verdict-preserved c =
