@@ -19,3 +19,4 @@ pub mod Births
 pub mod Busy
 pub mod Claims
 pub mod Rooms
+pub mod Rests
