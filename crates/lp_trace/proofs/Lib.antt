@@ -19,3 +19,4 @@ pub mod KeptLines
 pub mod Busy
 pub mod Claims
 pub mod Rooms
+pub mod Rests

@@ -59,6 +59,16 @@ module _ (form : TraceForm) where
       ap (λ r. flat_map line_of (reply_lines form (i + 1) r)) (replies-next replies lists i next d step groups below steps first_is)
       ∙ ap (λ number. first ++ flat_map line_of (reply_lines form number rest)) (sym (add-one (i + 1)))
 
+  -- a reply that takes no list leaves them to those after it
+  pub events_plain : (replies : List ShortReply) (lists : List (List ℕ)) (i next : ℕ) (d : ShortReply) → i < length replies → lists_in (get_or replies i d).what ≡ 0
+      → flat_map line_of (reply_lines form (i + 1) (replies_of (drop i replies) (drop next lists)))
+      ≡ line_of (reply_line form (i + 1) (reply_of (get_or replies i d) (first_groups (drop next lists) ∷ []))) ++ flat_map line_of (reply_lines form (i + 1 + 1) (replies_of (drop (i + 1) replies) (drop next lists)))
+  events_plain replies lists i next d below none =
+      let first : List ℕ = line_of (reply_line form (i + 1) (reply_of (get_or replies i d) (first_groups (drop next lists) ∷ []))) in
+      let same : next + 0 ≡ next = omega arith in
+      events_next replies lists i next d 0 (first_groups (drop next lists)) below (sym none) refl
+      ∙ ap (λ n. first ++ flat_map line_of (reply_lines form (i + 1 + 1) (replies_of (drop (i + 1) replies) (drop n lists)))) same
+
   pub events_end : (replies : List ShortReply) (lists : List (List ℕ)) (i n : ℕ) → length replies ≤ i → flat_map line_of (reply_lines form n (replies_of (drop i replies) lists)) ≡ []
   unfolding reply_lines
   events_end replies lists i n h = ap (λ r. flat_map line_of (reply_lines form n r)) (replies-end replies lists i h)

@@ -4,3 +4,4 @@ pub mod KeptLines
 pub mod Busy
 pub mod Claims
 pub mod Held
+pub mod Rests

@@ -4,6 +4,7 @@ ghost use Rattle.std.specs.List.{flat_map};
 ghost use Rattle.lp_definitions.specs.Events.{group_numbers};
 ghost use Rattle.lp_text.specs.Words.{line_of};
 ghost use Rattle.lp_trace.specs.Report.{complete_words, reply_line, reply_lines, level_word, report, report_header, stays_line};
+ghost use Rattle.lp_trace.specs.inside.Rests.{AreRests};
 ghost use Rattle.lp_replay.specs.Replies.{replies_of, reply_of};
 ghost use Rattle.lp_text.specs.inside.Writing.{Puts, line_rest, seen_of};
 ghost use Rattle.lp_text.specs.Writing.{Writes};
@@ -18,7 +19,7 @@ mod reasons;
 
 use crate::counter::Counter;
 use crate::page::Page;
-use events::hold_event;
+use events::{CODES, Rest, hold_common, hold_switched, rests};
 use itoa::Buffer;
 pub(crate) use kept_lines::KeptLines;
 use legs::put_legs;
@@ -131,7 +132,7 @@ fn put_events<W: Write>(
     ensures { Puts (seen_of W.contents writer.old) (seen_of W.contents writer.new) page.old.held.items page.new.held.items result (flat_map line_of (reply_lines form 1 replies.now)) }
 {
     let (short, lists) = replies.parts();
-    put_replies(page, writer, form, short, lists)
+    put_replies(page, writer, form, &rests(form), short, lists)
 }
 
 /// Puts the lines of these replies, to which these lists of groups belong.
@@ -139,21 +140,25 @@ fn put_replies<W: Write>(
     page: &mut Page,
     writer: &mut Counted<W>,
     form: TraceForm,
+    rests: &[Option<Rest>; CODES],
     replies: &[PackedReply],
     lists: &GroupLists,
 ) -> Result<(), WriteFault>
+    requires { AreRests form 64 rests.now }
     ensures { Puts (seen_of W.contents writer.old) (seen_of W.contents writer.new) page.old.held.items page.new.held.items result (flat_map line_of (reply_lines form 1 (replies_of replies.now lists.now))) }
 {
     let mut next = 0;
     let mut event = Counter::new();
     for (i, packed) in replies.iter().enumerate() {
         event.increment();
-        let reply = packed.get();
-        if !hold_event(&mut page.held, form, &event, reply, lists, next) {
+        if !hold_common(&mut page.held, rests, &event, packed) {
+            let reply = packed.get();
             let groups = lists.at(next);
-            put_event(page, writer, form, i as u64 + 1, reply, groups)?;
+            if !hold_switched(&mut page.held, &event, reply, groups) {
+                put_event(page, writer, form, i as u64 + 1, reply, groups)?;
+            }
+            next += reply.lists();
         }
-        next += reply.lists();
     }
     Ok(())
 }

@@ -1,43 +1,87 @@
 //! The lines of events that are held where they stay, as nearly all are.
 ghost use Rattle.std.specs.Prelude.{◌≡◌, ◌≤◌, ◌∷◌, ◌++◌, [], List, ℕ, codes, decimal, drop, take, IfSome, IsFalse, IsTrue};
 ghost use Rattle.lp_definitions.specs.Events.{group_numbers, refusal_number};
-ghost use Rattle.lp_replay.specs.Replies.{first_groups, reply_of, what_of};
+ghost use Rattle.lp_replay.specs.Replies.{lists_in, reply_of, what_of};
 ghost use Rattle.lp_text.specs.Words.{line_of};
 ghost use Rattle.lp_text.specs.declared.form.TraceForm.{TraceForm};
 ghost use Rattle.lp_text.specs.inside.Writing.{line_rest};
 ghost use Rattle.lp_trace.specs.Report.{complete_words, level_word, reply_line, what_words};
+ghost use Rattle.lp_trace.specs.inside.Rests.{AreRests, IsRest};
 
 use crate::counter::Counter;
 use crate::held::Held;
 use crate::place::SHORT;
-use lp_replay::{GroupLists, Refusal, ShortReply, ShortWhat};
+use lp_replay::{PackedReply, Refusal, ShortReply, ShortWhat};
 use lp_stack::{GroupId, Level};
 use lp_text::TraceForm;
 
-/// Holds the line of the reply to the event of a number where there is room for it and it is of a common kind, and says whether
-/// it did. Which groups the event switched, if any, these lists have at this place.
+/// How many codes of replies a table has: those of rare levels come after them.
+pub(super) const CODES: usize = 64;
+
+/// What follows the number of an event in its line: so many bytes of a short text.
+#[derive(Clone, Copy)]
+pub(super) struct Rest {
+    text: [u8; SHORT],
+    len: usize,
+}
+
+/// What follows the number of an event in a report of a form, by the code of its reply, where that is among the commonest. It is
+/// looked up for each line, which takes no jump.
+pub(super) fn rests(form: TraceForm) -> [Option<Rest>; CODES]
+    ensures { AreRests form 64 result }
+{
+    let mut rests = [None; CODES];
+    for code in 0..CODES {
+        rests[code] = rest_of(form, PackedReply::with_code(code as u16).get());
+    }
+    rests
+}
+
+/// What follows the number of an event with this reply, where it is among the commonest.
+fn rest_of(form: TraceForm, reply: ShortReply) -> Option<Rest>
+    ensures { IsRest form reply result }
+{
+    let (text, len) = short_rest(form, reply)?;
+    Some(Rest { text: *text, len })
+}
+
+/// Holds the line of the reply to the event of a number where it is among the commonest and there is room for it, and says
+/// whether it did.
 #[inline(always)]
-pub(super) fn hold_event(
+pub(super) fn hold_common(
     held: &mut Held,
-    form: TraceForm,
+    rests: &[Option<Rest>; CODES],
     event: &Counter,
-    reply: ShortReply,
-    lists: &GroupLists,
-    place: usize,
+    reply: &PackedReply,
 ) -> bool
-    ensures taken { IsTrue result → (number : ℕ) → event.now ≡ number → held.new.items ≡ held.old.items ++ line_of (reply_line form number (reply_of reply (first_groups (drop place lists.now) ∷ []))) }
+    requires { (form : TraceForm) × AreRests form 64 rests.now }
+    ensures taken { IsTrue result → (form : TraceForm) → AreRests form 64 rests.now → (number : ℕ) → event.now ≡ number → (groups : List ℕ) → held.new.items ≡ held.old.items ++ line_of (reply_line form number (reply_of reply.now (groups ∷ []))) }
+    ensures plain { IsTrue result → (form : TraceForm) → AreRests form 64 rests.now → lists_in reply.now.what ≡ 0 }
     ensures kept { IsFalse result → held.new.items ≡ held.old.items }
 {
-    match short_rest(form, reply) {
-        Some((rest, len)) => held.hold_short(event, rest, len),
-        None => hold_switched(held, event, reply, lists.at(place)),
+    let code = usize::from(reply.code());
+    if code >= CODES {
+        return false;
+    }
+    match &rests[code] {
+        Some(rest) => {
+            // By value: a text of which it is only known that it lies in another place would be asked whether it overlaps.
+            let Rest { text, len } = *rest;
+            held.hold_short(event, &text, len)
+        }
+        None => false,
     }
 }
 
 /// Holds the line of the reply to the event of a number where the event switched these groups and there is room, and says
 /// whether it did.
 #[inline(never)]
-fn hold_switched(held: &mut Held, event: &Counter, reply: ShortReply, groups: &[GroupId]) -> bool
+pub(super) fn hold_switched(
+    held: &mut Held,
+    event: &Counter,
+    reply: ShortReply,
+    groups: &[GroupId],
+) -> bool
     ensures taken { IsTrue result → (form : TraceForm) → held.new.items ≡ held.old.items ++ line_of (reply_line form event.now (reply_of reply (group_numbers groups.now ∷ []))) }
     ensures kept { IsFalse result → held.new.items ≡ held.old.items }
 {
@@ -68,6 +112,7 @@ fn switched_end(completed: bool) -> (&'static [u8; SHORT], usize)
 fn short_rest(form: TraceForm, reply: ShortReply) -> Option<(&'static [u8; SHORT], usize)>
     ensures size { IfSome result (λ rest. rest.1 ≤ 16) }
     ensures words { IfSome result (λ rest. (lists : List (List ℕ)) → take rest.1 rest.0.now ≡ line_rest (what_words form (what_of reply.what lists) ++ complete_words reply.completed)) }
+    ensures plain { IfSome result (λ rest. lists_in reply.what ≡ 0) }
 {
     if reply.completed {
         return match reply.what {
