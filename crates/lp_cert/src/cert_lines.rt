@@ -123,6 +123,7 @@ impl<'a> CertLines<'a> {
 
     /// The lines that are left of those that tell that a member is busy at one scan after another, if the last line was such a
     /// one: they are no longer left then.
+    #[inline(always)]
     pub fn take_run(&mut self) -> BusyScans<'a>
         ensures { self.old ≡ busy_scan_lines result ++ self.new }
     {

@@ -98,6 +98,7 @@ impl Chains {
     }
 
     /// A list with one reason more in front, for which there is room. Never allocates.
+    #[inline(always)]
     pub(crate) fn push(&mut self, reason: Reason, older: ChainId) -> ChainId
         requires known { older.0 < length self.old.lists }
         requires room { 0 < self.old.room }
@@ -133,6 +134,7 @@ impl Chains {
     }
 
     /// How many lines the reasons of a list have, or the greatest number where they have more.
+    #[inline(always)]
     pub(crate) fn lines(&self, id: ChainId) -> usize
         requires { id.0 < length self.now.lists }
         ensures all { IsLineCount (slice_index_or self.now.lists id.0 []) result }

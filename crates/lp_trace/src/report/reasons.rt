@@ -37,9 +37,25 @@ pub(super) fn put_each<W: Write>(
     Ok(())
 }
 
-/// Puts the lines of a member that is busy at one scan after another: each without a look at what comes next.
+/// Puts the lines of a busy run, of which mostly none is left.
 #[inline(always)]
 fn put_run<W: Write>(
+    page: &mut Page,
+    writer: &mut Counted<W>,
+    busy: &mut BusyText,
+    run: BusyScans<'_>,
+) -> Result<(), WriteFault>
+    ensures { Puts (seen_of W.contents writer.old) (seen_of W.contents writer.new) page.old.held.items page.new.held.items result (text_of (busy_scan_lines run.entry)) }
+{
+    if run.scans.is_empty() {
+        return Ok(());
+    }
+    put_scans(page, writer, busy, run)
+}
+
+/// The same, where some are left: each is put without a look at what comes next.
+#[inline(never)]
+fn put_scans<W: Write>(
     page: &mut Page,
     writer: &mut Counted<W>,
     busy: &mut BusyText,

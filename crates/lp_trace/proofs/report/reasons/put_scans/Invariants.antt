@@ -3,7 +3,7 @@ use Rattle.lp_definitions.specs.declared.line.Line.TheVariants.{Busy}
 use Rattle.lp_cert.specs.Parts.{busy_scan_lines}
 use Rattle.lp_text.specs.inside.Writing.{Left, seen_of}
 use Rattle.lp_trace.specs.inside.KeptLines.{text_of}
-use Rattle.lp_trace.proofs.report.reasons.put_run.Given as goal
+use Rattle.lp_trace.proofs.report.reasons.put_scans.Given as goal
 
 -- the lines of the scans that are left
 abbrev pub invariant-loop-scan : goal.invariant-loop-scan
