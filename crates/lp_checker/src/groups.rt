@@ -91,20 +91,20 @@ fn waits_at_opening<M: Consistency>(cursor: &Cursor<'_, M>, group: GroupId) -> b
     false
 }
 
-/// The group of the first birth's parent just before it; the claimed group where there is no birth.
+/// The group of the first birth's parent just before it; the claimed group where there is no birth. A birth past the cursor's end
+/// is looked at there: it is none, and which group is told then counts for nothing.
 pub(crate) fn first_group<M: Consistency>(
     alloc: Global,
     cursor: &mut Cursor<'_, M>,
     lines: &[Line],
     claimed: GroupId,
 ) -> Result<GroupId, AllocError>
-    requires { AreInOrder (leg_in cursor.old.range) cursor.old.range.end 0 (births lines.now) }
     ensures range { cursor.new.range ≡ cursor.old.range }
-    ensures group { IfOk result (λ group. group.0 ≡ first_group M.rules (leg_in cursor.old.range) claimed.0 (births lines.now)) }
+    ensures group { AreInOrder (leg_in cursor.old.range) cursor.old.range.end 0 (births lines.now) → IfOk result (λ group. group.0 ≡ first_group M.rules (leg_in cursor.old.range) claimed.0 (births lines.now)) }
 {
     for line in lines {
         if let Line::Born { parent, at, .. } = *line {
-            let moment = cursor.moment_of(at) as usize;
+            let moment = cursor.moment_of(at).min(cursor.end() as u64) as usize;
             return group_before(alloc, cursor, moment, parent);
         }
     }

@@ -113,11 +113,11 @@ fn later_fault<M: Consistency>(
 ) -> Result<Option<CertFault>, AllocError>
     ensures { IfOk result (λ fault. fault ≡ first_of (later_tests M.rules cursor.old.range claimed.0 lines.now)) }
 {
+    let first = first_group(alloc, cursor, lines, claimed)?;
     let fault = birth_fault(alloc, cursor, lines)?;
     if fault.is_some() {
         return Ok(fault);
     }
-    let first = first_group(alloc, cursor, lines, claimed)?;
     chain_fault(alloc, cursor, lines, first, claimed)
 }
 

@@ -16,17 +16,14 @@ returns-then-is_some g c =
     let range = c.args.cursor.now.range in
     let lines = c.args.lines.now in
     let first = first_group model (leg_in range) c.args.claimed.0 (births lines) in
-    sym (found_first (birth_tests model (leg_in range) range.end first 0 (births lines)) (chain_tests model range first c.args.claimed.0 lines) c.in_ok-fault.fault (c.in_ok-fault.ensures.fault c.args.claimed.0) c.if-is_some.ensures)
-
-pub first_group-requires : goal.first_group-requires
-first_group-requires g c =
-    let range = c.args.cursor.now.range in
-    rw c.birth_fault.ensures.range (in_order g.M.Consistency.rules (leg_in range) range.end _ zero (births c.args.lines.now) (omega arith) (sym (c.in_ok-fault.ensures.fault 0) ∙ none_is c.in_ok-fault.fault c.if-is_some.ensures))
+    let told = rw c.first_group.ensures.range at c.in_ok-fault.ensures.fault c.args.claimed.0 in
+    sym (found_first (birth_tests model (leg_in range) range.end first 0 (births lines)) (chain_tests model range first c.args.claimed.0 lines) c.in_ok-fault.fault told c.if-is_some.ensures)
 
 pub chain_fault-requires : goal.chain_fault-requires
 chain_fault-requires g c =
     let range = c.args.cursor.now.range in
-    rw (c.first_group.ensures.range, c.birth_fault.ensures.range) (in_order g.M.Consistency.rules (leg_in range) range.end _ zero (births c.args.lines.now) (omega arith) (sym (c.in_ok-fault.ensures.fault 0) ∙ none_is c.in_ok-fault.fault c.if-is_some.ensures))
+    let told = rw c.first_group.ensures.range at c.in_ok-fault.ensures.fault 0 in
+    rw (c.birth_fault.ensures.range, c.first_group.ensures.range) (in_order g.M.Consistency.rules (leg_in range) range.end _ zero (births c.args.lines.now) (omega arith) (sym told ∙ none_is c.in_ok-fault.fault c.if-is_some.ensures))
 
 pub returns : goal.returns
 returns g c =
@@ -36,8 +33,9 @@ returns g c =
     let claimed = c.args.claimed.0 in
     let first = first_group model (leg_in range) claimed (births lines) in
     let born = birth_tests model (leg_in range) range.end first 0 (births lines) in
-    let none = sym (c.in_ok-fault.ensures.fault claimed) ∙ none_is c.in_ok-fault.fault c.if-is_some.ensures in
-    let is_first = rw c.birth_fault.ensures.range at c.in_ok-first.ensures.group in
+    let told = rw c.first_group.ensures.range at c.in_ok-fault.ensures.fault claimed in
+    let none = sym told ∙ none_is c.in_ok-fault.fault c.if-is_some.ensures in
+    let is_first = c.in_ok-first.ensures.group (in_order model (leg_in range) range.end _ zero (births lines) (omega arith) none) in
     IfOk-weaker c.chain_fault.result (λ (fault : Option CertFault). fault ≡ first_of (chain_tests model range c.in_ok-first.first.0 claimed lines)) (λ fault. fault ≡ first_of (later_tests model range claimed lines)) (λ fault e.
     e ∙ ap (λ (f : ℕ). first_of (chain_tests model range f claimed lines)) is_first ∙ sym (first_of_append born (chain_tests model range first claimed lines) none))
-    (rw (c.first_group.ensures.range, c.birth_fault.ensures.range) at c.chain_fault.ensures)
+    (rw (c.birth_fault.ensures.range, c.first_group.ensures.range) at c.chain_fault.ensures)
