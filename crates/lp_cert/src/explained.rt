@@ -283,7 +283,7 @@ fn take_control<M: Consistency>(
 
 /// Takes a walk or a stop: without a look at anybody where no group has to be asked, since then it switches nobody and each
 /// group's newest reason continues.
-#[inline(always)]
+#[inline(never)]
 fn take_scan<M: Consistency>(
     alloc: Global,
     core: &mut Core<M>,
