@@ -1,7 +1,7 @@
 //! An engine that explains itself: the maker of certificates notes each event as the engine takes it.
 ghost use Rattle.std.specs.Prelude.{◌≡◌, ◌≢◌, ◌++◌, ◌<◌, [], None, true, is_some, option_to_list, IfOk, IfSome, OnErr, OnOk, OnSome};
 ghost use Rattle.std.specs.Option.{option_map};
-ghost use Rattle.lp_definitions.specs.Events.{is_control};
+ghost use Rattle.lp_definitions.specs.Events.{is_control, is_scan};
 ghost use Rattle.lp_definitions.specs.TaskEvents.{is_own_check, is_quiet};
 ghost use Rattle.lp_definitions.specs.Run.{Run, plus};
 ghost use Rattle.lp_machine.specs.Machine.{refusal_of};
@@ -76,8 +76,37 @@ impl<M: Consistency> ExplainedCore<M> {
         if is_own_check(event) && self.maker.lets_own_check_pass(core) {
             return core.step_own_check(alloc, event);
         }
-        self.maker.note_passed(core);
-        take(alloc, core, &mut self.maker, event)
+        match event {
+            Event::Walk => self.step_scan(alloc, CheckKind::Walk, event),
+            Event::Stop => self.step_scan(alloc, CheckKind::Stop, event),
+            _ => {
+                self.maker.note_passed(core);
+                take(alloc, core, &mut self.maker, event)
+            }
+        }
+    }
+
+    /// Takes a walk or a stop, and answers it: without a look at anybody where no group has to be asked, since then it switches
+    /// nobody and each group's newest reason continues.
+    #[inline(never)]
+    fn step_scan(
+        &mut self,
+        alloc: Global,
+        kind: CheckKind,
+        event: Event,
+    ) -> Result<Reply, AllocError>
+        requires scan { is_scan_kind kind ≡ true }
+        requires event { event ≡ scan_event kind }
+        requires room { self.old.core.number < 1000000 }
+        ensures step { IfOk result (λ reply. IsStep M.rules (state_in self.old.core) event reply (state_in self.new.core)) }
+        ensures explained { OnOk result ((run : Run) → IsExplained M.rules run self.old → IsExplained M.rules (plus run event) self.new) }
+        ensures blames { OnOk result (HasBlamesAfter M.rules self.old.core event self.new.core) }
+        ensures unchanged { OnErr result (self.new ≡ self.old) }
+    {
+        match self.step_quiet_scan(kind) {
+            Some(reply) => Ok(reply),
+            None => self.step_changed_scan(alloc, event),
+        }
     }
 
     /// Takes a quiet event, and answers it. What that takes is compiled where this is called, so that a caller who has told the
@@ -113,9 +142,11 @@ impl<M: Consistency> ExplainedCore<M> {
         Some(core.step_quiet_scan(kind))
     }
 
-    /// Takes one event as `step` does, without a look whether less would do: for a caller who has looked.
+    /// Takes a walk or a stop, and answers it by those to whom something happened since the last one: for a caller whom
+    /// `step_quiet_scan` gave no answer. Where an allocation failed all is as it was.
     #[inline(always)]
-    pub fn step_weighed(&mut self, alloc: Global, event: Event) -> Result<Reply, AllocError>
+    pub fn step_changed_scan(&mut self, alloc: Global, event: Event) -> Result<Reply, AllocError>
+        requires scan { is_scan event ≡ true }
         requires room { self.old.core.number < 1000000 }
         ensures step { IfOk result (λ reply. IsStep M.rules (state_in self.old.core) event reply (state_in self.new.core)) }
         ensures explained { OnOk result ((run : Run) → IsExplained M.rules run self.old → IsExplained M.rules (plus run event) self.new) }
@@ -191,32 +222,9 @@ fn up_to(cert: Option<Cert>, upto: u64) -> Option<Cert>
     Some(cert)
 }
 
-/// Takes an event that isn't quiet; a scan goes its own way at once, as most scans find nothing changed.
-#[inline(always)]
-fn take<M: Consistency>(
-    alloc: Global,
-    core: &mut Core<M>,
-    maker: &mut Maker,
-    event: Event,
-) -> Result<Reply, AllocError>
-    requires room { core.old.number < 1000000 }
-    ensures step { IfOk result (λ reply. IsStep M.rules (state_in core.old) event reply (state_in core.new)) }
-    ensures made { OnOk result ((run : Run) → StandsIn M.rules run (state_in core.old) → IsMadeWith M.rules run core.old.last_scan maker.old → IsMadeWith M.rules (plus run event) core.new.last_scan maker.new) }
-    ensures blames { OnOk result (HasBlamesAfter M.rules core.old event core.new) }
-    ensures unchanged { OnErr result (core.new ≡ core.old) }
-    ensures ended { OnErr result (maker.new.ended ≡ maker.old.ended) }
-    ensures current { OnErr result (maker.new.current ≡ maker.old.current) }
-{
-    match event {
-        Event::Walk => take_scan(alloc, core, maker, CheckKind::Walk, event),
-        Event::Stop => take_scan(alloc, core, maker, CheckKind::Stop, event),
-        _ => take_other(alloc, core, maker, event),
-    }
-}
-
 /// Takes an event that is neither quiet nor a scan. Out of line, so that those pay nothing for what the others need.
 #[inline(never)]
-fn take_other<M: Consistency>(
+fn take<M: Consistency>(
     alloc: Global,
     core: &mut Core<M>,
     maker: &mut Maker,
@@ -279,32 +287,6 @@ fn take_control<M: Consistency>(
         return take_weighed(alloc, core, maker, event);
     }
     maker.open_leg(alloc, core, event)
-}
-
-/// Takes a walk or a stop: without a look at anybody where no group has to be asked, since then it switches nobody and each
-/// group's newest reason continues.
-#[inline(never)]
-fn take_scan<M: Consistency>(
-    alloc: Global,
-    core: &mut Core<M>,
-    maker: &mut Maker,
-    kind: CheckKind,
-    event: Event,
-) -> Result<Reply, AllocError>
-    requires scan { is_scan_kind kind ≡ true }
-    requires event { event ≡ scan_event kind }
-    requires room { core.old.number < 1000000 }
-    ensures step { IfOk result (λ reply. IsStep M.rules (state_in core.old) event reply (state_in core.new)) }
-    ensures made { OnOk result ((run : Run) → StandsIn M.rules run (state_in core.old) → IsMadeWith M.rules run core.old.last_scan maker.old → IsMadeWith M.rules (plus run event) core.new.last_scan maker.new) }
-    ensures blames { OnOk result (HasBlamesAfter M.rules core.old event core.new) }
-    ensures unchanged { OnErr result (core.new ≡ core.old) }
-    ensures ended { OnErr result (maker.new.ended ≡ maker.old.ended) }
-    ensures current { OnErr result (maker.new.current ≡ maker.old.current) }
-{
-    if maker.note_quiet_scan(core, kind) {
-        return Ok(core.step_quiet_scan(kind));
-    }
-    take_weighed(alloc, core, maker, event)
 }
 
 /// Takes an event that opens no leg: it is weighed, a scan by those alone to whom something happened since the last one, and noted as it

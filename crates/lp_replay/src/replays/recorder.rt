@@ -1,5 +1,6 @@
 //! What a run comes to, event by event.
 ghost use Rattle.std.specs.Prelude.{◌≡◌, true, ◌≤◌, ◌<◌, ◌+◌, ◌++◌, length, IfOk, OnOk};
+ghost use Rattle.lp_definitions.specs.Events.{is_scan};
 ghost use Rattle.lp_definitions.specs.Run.{Run, leg_of, plus};
 ghost use Rattle.lp_definitions.specs.TaskEvents.{is_quiet};
 ghost use Rattle.lp_stack.specs.declared.number.TaskId.{TaskId};
@@ -115,6 +116,7 @@ impl<M: Consistency> Recorder<M> {
     }
 
     /// Steps by a walk or a stop: most find each group that waits as the one before left it.
+    #[tactic(auto, using(lp_transition::proofs::QuietScans::event_scans))]
     #[inline(always)]
     fn step_scan(&mut self, alloc: Global, kind: CheckKind, event: Event) -> Result<(), ReplayFault>
         requires numbered { self.old.explained.core.number < 1000000 }
@@ -125,22 +127,23 @@ impl<M: Consistency> Recorder<M> {
     {
         let top = last_function(self.explained.core(), event);
         let Some(reply) = self.explained.step_quiet_scan(kind) else {
-            return self.step_weighed(alloc, event);
+            return self.step_changed_scan(alloc, event);
         };
         self.stays.step(event, &reply, top);
         self.replies.push(reply)?;
         Ok(())
     }
 
-    /// Steps by an event that is weighed.
+    /// Steps by a walk or a stop that has to ask somebody.
     #[inline(never)]
-    fn step_weighed(&mut self, alloc: Global, event: Event) -> Result<(), ReplayFault>
+    fn step_changed_scan(&mut self, alloc: Global, event: Event) -> Result<(), ReplayFault>
+        requires scan { is_scan event ≡ true }
         requires numbered { self.old.explained.core.number < 1000000 }
         requires counted { self.old.stays.events < 1000000 }
         ensures { OnOk result ((run : Run) → IsRecorded M.rules run self.old → IsRecorded M.rules (plus run event) self.new) }
     {
         let top = last_function(self.explained.core(), event);
-        let reply = self.explained.step_weighed(alloc, event)?;
+        let reply = self.explained.step_changed_scan(alloc, event)?;
         self.stays.step(event, &reply, top);
         self.replies.push(reply)?;
         Ok(())

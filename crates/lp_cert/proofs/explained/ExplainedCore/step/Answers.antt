@@ -22,8 +22,8 @@ returns-then-lets_own_check_pass-clause-explained g c =
     explained_passed model run c.args.event i.core.value c.step_own_check.new.self reply step i.maker last (passed c.if-lets_own_check_pass.true c.args.event (sym c.is_own_check.ensures ∙ c.if-is_own_check.true)) (subst (IsExplained model run) (sym c.self.view_is) is))
     c.step_own_check.result (rw c.deref_mut-core.ensures.value at c.step_own_check.ensures.step) (rw c.deref_mut-core.ensures.value at c.step_own_check.ensures.last_scan)
 
-pub returns-clause-explained : goal.returns-clause-explained
-returns-clause-explained g c =
+pub returns-in_default-clause-explained : goal.returns-in_default-clause-explained
+returns-in_default-clause-explained g c =
     let model = g.M.Consistency.rules in
     let i = c.self.inside in
     let noted : c.note_passed.new.self ≡ made_upto i.core.value.number i.maker = rw c.deref_mut-core.ensures.value at c.note_passed.ensures in
@@ -32,8 +32,8 @@ returns-clause-explained g c =
     explained_noted model run c.args.event i.core.value c.take.new.core reply step i.maker c.note_passed.new.self c.take.new.maker noted (made run kept.stands) kept)
     c.take.result (rw c.deref_mut-core.ensures.value at c.take.ensures.step) (rw c.deref_mut-core.ensures.value at c.take.ensures.made)
 
-pub returns-clause-unchanged : goal.returns-clause-unchanged
-returns-clause-unchanged g c =
+pub returns-in_default-clause-unchanged : goal.returns-in_default-clause-unchanged
+returns-in_default-clause-unchanged g c =
     let i = c.self.inside in
     let noted : c.note_passed.new.self ≡ made_upto i.core.value.number i.maker = rw c.deref_mut-core.ensures.value at c.note_passed.ensures in
     on_err _ _ _ _ (λ same ended current. left i.core.value c.take.new.core i.maker c.note_passed.new.self c.take.new.maker same noted ended current ∙ c.self.view_is)

@@ -2,7 +2,7 @@ use Rattle.std.proofs.Common.{◌≡◌, sym, subst, ◌∙◌}
 use Rattle.lp_cert.specs.Ends.{made_upto}
 use Rattle.lp_cert.specs.Explained.{IsExplained}
 use Rattle.lp_cert.proofs.Explaining.{explained_noted, left, on_err, on_ok}
-use Rattle.lp_cert.proofs.explained.ExplainedCore.step_weighed.Goals as goal
+use Rattle.lp_cert.proofs.explained.ExplainedCore.step_changed_scan.Goals as goal
 
 pub returns-clause-explained : goal.returns-clause-explained
 returns-clause-explained g c =

@@ -3,7 +3,7 @@ use Rattle.lp_definitions.specs.Run.{plus}
 use Rattle.lp_definitions.specs.declared.reply.Reply.{Reply}
 use Rattle.lp_replay.specs.inside.Recording.{IsRecorded, Recorded}
 use Rattle.lp_replay.proofs.Recording.{stepped}
-use Rattle.lp_replay.proofs.replays.recorder.Recorder.step_weighed.Goals as goal
+use Rattle.lp_replay.proofs.replays.recorder.Recorder.step_changed_scan.Goals as goal
 
 pub returns : goal.returns
 returns g c = λ run is.
@@ -12,6 +12,6 @@ returns g c = λ run is.
     let before : Recorded = record { explained = c.self.inside.explained; replies = c.self.inside.replies; stays = c.self.inside.stays } in
     let top = rw c.core.ensures at c.last_function-top.ensures in
     let is_kept : IsRecorded model run before = subst (IsRecorded model run) (sym c.self.view_is) is in
-    let after : List Reply → Recorded = λ replies. record { explained = c.step_weighed.new.self; replies = replies; stays = c.step.new.self } in
+    let after : List Reply → Recorded = λ replies. record { explained = c.step_changed_scan.new.self; replies = replies; stays = c.step.new.self } in
     subst (λ replies. IsRecorded model (plus run c.args.event) (after replies)) (sym c.in_ok-push.ensures.ok)
-    (stepped model run c.args.event before given c.last_function-top.result c.step_weighed.new.self c.step.new.self g.met.M.Consistency.lawful is_kept c.in_ok-reply.ensures.step (c.in_ok-reply.ensures.explained run) (top run is_kept.explained.stands) c.step.ensures.counts)
+    (stepped model run c.args.event before given c.last_function-top.result c.step_changed_scan.new.self c.step.new.self g.met.M.Consistency.lawful is_kept c.in_ok-reply.ensures.step (c.in_ok-reply.ensures.explained run) (top run is_kept.explained.stands) c.step.ensures.counts)
