@@ -116,7 +116,6 @@ impl<M: Consistency> Recorder<M> {
     }
 
     /// Steps by a walk or a stop: most find each group that waits as the one before left it.
-    #[tactic(auto, using(lp_transition::proofs::QuietScans::event_scans))]
     #[inline(always)]
     fn step_scan(&mut self, alloc: Global, kind: CheckKind, event: Event) -> Result<(), ReplayFault>
         requires numbered { self.old.explained.core.number < 1000000 }
