@@ -1,55 +1,41 @@
 -- How many digits a number has, and numbers and bytes that are put in place.
-use Rattle.std.proofs.Common.{◌≡◌, ◌<◌, ◌≤◌, ◌+◌, ◌/◌, ◌^◌, ℕ, List, [], ◌∷◌, ◌++◌, length, take, drop, map, set, get_or, decimal, arith, add-one, refl, sym, ap, ◌∙◌, append_assoc, length-append}
+use Rattle.std.proofs.Common.{◌≡◌, ◌<◌, ◌≤◌, ◌+◌, ◌*◌, ◌/◌, ◌%◌, ℕ, List, [], ◌∷◌, ◌++◌, length, take, drop, map, set, get_or, decimal, arith, add-one, refl, sym, ap, ◌∙◌, append_assoc, length-append, length-set}
 use Rattle.std.specs.List.{flat_map}
 use Rattle.std.proofs.lemmas.Fmt.{length-decimal-le}
-use Rattle.std.proofs.lemmas.List.{length-take-le, take-append-le, take_at, take_more_set}
-use Rattle.std.proofs.Math.Seq.{drop-cons, take-add, take-append-add}
-use Rattle.itoa.proofs.Decimal.{length_one, length_two, length_pair, length_four}
+use Rattle.std.proofs.lemmas.List.{length-take-le, take-append-le, take_more_set}
+use Rattle.std.proofs.Math.Seq.{drop-cons, take-append-add}
+use Rattle.itoa.proofs.Decimal.{PAIRS_at}
 use borrow.Rule.Slice.PartMut.{put_mid, post_of}
 use Rattle.lp_stack.specs.declared.number.GroupId.{GroupId}
 use Rattle.lp_definitions.specs.Events.{group_numbers}
 use Rattle.lp_text.specs.inside.Writing.{line_rest}
+use Rattle.lp_trace.specs.declared.place.TheConstants.{PAIRS}
 
 -- ---- Digits
 
--- a number of a word of the machine has at most 20 digits
-pub digits_few : (number : ℕ) → number < 18446744073709551616 → length (decimal number) ≤ 20
-digits_few number fits = length-decimal-le 20 number (omega arith) (omega arith) fits
+-- the table has the two digits of each number below a hundred
+pub pairs_at : (p : ℕ) → p < 100 → (get_or PAIRS (p * 2) 0 ≡ 48 + p / 10) × (get_or PAIRS (p * 2 + 1) 0 ≡ 48 + p % 10)
+pairs_at = PAIRS_at
 
-pub length_three : (n : ℕ) → 100 ≤ n → n < 1000 → length (decimal n) ≡ 3
-length_three n lo hi = length_pair n lo (omega arith) ∙ ap (λ k. k + 2) (length_one (n / 100) (omega arith))
+-- two digits were put
+pub pair_put : (old : List ℕ) (at tens ones : ℕ) → at + 2 ≤ length old → take (at + 2) (set (set old at tens) (at + 1) ones) ≡ take at old ++ tens ∷ ones ∷ []
+pair_put old at tens ones room =
+    let first : List ℕ = set old at tens in
+    let on : at + 2 ≡ at + 1 + 1 = omega arith in
+    ap (λ n. take n (set first (at + 1) ones)) on
+    ∙ take_more_set first (at + 1) ones (omega (arith, length-set old at tens))
+    ∙ ap (λ l. l ++ ones ∷ []) (take_more_set old at tens (omega arith))
+    ∙ append_assoc (take at old) (tens ∷ []) (ones ∷ [])
 
-pub length_of_four : (n : ℕ) → 1000 ≤ n → n < 10000 → length (decimal n) ≡ 4
-length_of_four n lo hi = length_pair n (omega arith) (omega arith) ∙ ap (λ k. k + 2) (length_two (n / 100) (omega arith) (omega arith))
-
-pub length_five : (n : ℕ) → 10000 ≤ n → n < 100000 → length (decimal n) ≡ 5
-length_five n lo hi = length_four n lo (omega arith) ∙ ap (λ k. k + 4) (length_one (n / 10000) (omega arith))
-
-pub length_six : (n : ℕ) → 100000 ≤ n → n < 1000000 → length (decimal n) ≡ 6
-length_six n lo hi = length_four n (omega arith) (omega arith) ∙ ap (λ k. k + 4) (length_two (n / 10000) (omega arith) (omega arith))
-
-pub length_seven : (n : ℕ) → 1000000 ≤ n → n < 10000000 → length (decimal n) ≡ 7
-length_seven n lo hi = length_four n (omega arith) (omega arith) ∙ ap (λ k. k + 4) (length_three (n / 10000) (omega arith) (omega arith))
-
-pub length_eight : (n : ℕ) → 10000000 ≤ n → n < 100000000 → length (decimal n) ≡ 8
-length_eight n lo hi = length_four n (omega arith) (omega arith) ∙ ap (λ k. k + 4) (length_of_four (n / 10000) (omega arith) (omega arith))
-
--- eight digits more than what is left of them
-pub length_more : (n : ℕ) → 100000000 ≤ n → n < 2 ^ 64 → length (decimal n) ≡ length (decimal (n / 100000000)) + 8
-length_more n lo hi =
-    let same : n / 10000 / 10000 ≡ n / 100000000 = omega arith in
-    length_four n (omega arith) hi ∙ ap (λ k. k + 4) (length_four (n / 10000) (omega arith) (omega arith) ∙ ap (λ m. length (decimal m) + 4) same) ∙ omega arith
+-- the last digits of a number were put after the first ones
+pub digits_put : (before first whole digits last number : List ℕ) → whole ≡ first ++ last → first ≡ before ++ digits → number ≡ digits ++ last → whole ≡ before ++ number
+digits_put before first whole digits last number more put is =
+    more
+    ∙ ap (λ l. l ++ last) put
+    ∙ append_assoc before digits last
+    ∙ ap (λ l. before ++ l) (sym is)
 
 -- ---- In place
-
--- bytes were put at a place, and nothing before it was changed
-pub placed_at : (old new later bytes : List ℕ) (at end : ℕ) → end ≡ at + length bytes → take at new ≡ take at old → drop at new ≡ bytes ++ later → take end new ≡ take at old ++ bytes
-placed_at old new later bytes at end moved before written =
-    ap (λ n. take n new) moved
-    ∙ take-add at (length bytes) new
-    ∙ ap (λ l. take at new ++ take (length bytes) l) written
-    ∙ ap (λ l. take at new ++ l) (take_at bytes later (length bytes) refl)
-    ∙ ap (λ l. l ++ bytes) before
 
 -- bytes were put in the middle
 pub bytes_put : (old bytes : List ℕ) (at n len : ℕ) → at ≤ length old → n ≤ length bytes → take (at + n) (put_mid at len old bytes) ≡ take at old ++ take n bytes

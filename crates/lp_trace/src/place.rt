@@ -1,14 +1,18 @@
 //! Numbers and short texts that are put into a text in place.
-ghost use Rattle.std.specs.Prelude.{◌≡◌, ℕ, ◌<◌, ◌≤◌, ◌+◌, ◌*◌, ◌∷◌, ◌++◌, [], decimal, length, map, take};
+ghost use Rattle.std.specs.Prelude.{◌≡◌, ℕ, ◌<◌, ◌≤◌, ◌+◌, ◌*◌, ◌/◌, ◌%◌, ◌∷◌, ◌++◌, [], decimal, length, map, take};
 ghost use Rattle.std.specs.List.{flat_map};
 ghost use Rattle.lp_definitions.specs.Events.{group_numbers};
 ghost use Rattle.lp_text.specs.inside.Writing.{line_rest};
 
-use itoa::write_digits;
+use itoa::Buffer;
 use lp_stack::GroupId;
 
 /// The room of a short text: two words of eight bytes, so that a copy is two stores.
 pub(crate) const SHORT: usize = 16;
+
+/// The two digits of each number below a hundred.
+static PAIRS: [u8; 200] =
+    *b"00010203040506070809101112131415161718192021222324252627282930313233343536373839404142434445464748495051525354555657585960616263646566676869707172737475767778798081828384858687888990919293949596979899";
 
 /// Puts bytes after the first `at` ones, and gives where they end.
 #[inline(always)]
@@ -23,46 +27,70 @@ pub(crate) fn place_slice(text: &mut [u8], at: usize, bytes: &[u8]) -> usize
     end
 }
 
-/// How many digits a number has.
-///
-/// Digits are written from the last to the first, so a number that begins at a place needs its end.
+/// Puts the two digits of a number below a hundred after the first `at` bytes.
 #[inline(always)]
-fn digit_count(number: u64) -> usize
-    ensures { result ≡ length (decimal number) }
+fn place_pair(text: &mut [u8], at: usize, pair: u64)
+    requires small { pair < 100 }
+    requires room { at + 2 ≤ length text.old }
+    ensures placed { take (at + 2) text.new ≡ take at text.old ++ (48 + pair / 10) ∷ (48 + pair % 10) ∷ [] }
+    ensures size { length text.new ≡ length text.old }
 {
-    let mut left = number;
-    let mut more = 0;
-    while left >= 100_000_000 {
-        left /= 100_000_000;
-        more += 8;
-    }
-    more + short_count(left)
+    let from = pair as usize * 2;
+    let (tens, ones) = (PAIRS[from], PAIRS[from + 1]);
+    text[at] = tens;
+    text[at + 1] = ones;
 }
 
-/// How many digits a number of at most eight has.
+/// Puts a number of at most two digits after the first `at` bytes, and gives where it ends.
 #[inline(always)]
-fn short_count(number: u64) -> usize
-    requires { number < 100000000 }
-    ensures { result ≡ length (decimal number) }
+fn place_two(text: &mut [u8], at: usize, number: u64) -> usize
+    requires small { number < 100 }
+    requires room { at + 2 ≤ length text.old }
+    ensures placed { take result text.new ≡ take at text.old ++ decimal number }
+    ensures near { result ≤ at + 2 }
+    ensures size { length text.new ≡ length text.old }
 {
-    if number < 10_000 {
-        if number < 100 {
-            if number < 10 { 1 } else { 2 }
-        } else if number < 1_000 {
-            3
-        } else {
-            4
-        }
-    } else if number < 1_000_000 {
-        if number < 100_000 { 5 } else { 6 }
-    } else if number < 10_000_000 {
-        7
-    } else {
-        8
+    if number < 10 {
+        text[at] = b'0' + number as u8;
+        return at + 1;
     }
+    place_pair(text, at, number);
+    at + 2
+}
+
+/// Puts a number of at most four digits after the first `at` bytes, and gives where it ends.
+#[inline(always)]
+fn place_four(text: &mut [u8], at: usize, number: u64) -> usize
+    requires small { number < 10000 }
+    requires room { at + 4 ≤ length text.old }
+    ensures placed { take result text.new ≡ take at text.old ++ decimal number }
+    ensures near { result ≤ at + 4 }
+    ensures size { length text.new ≡ length text.old }
+{
+    if number < 100 {
+        return place_two(text, at, number);
+    }
+    let end = place_two(text, at, number / 100);
+    place_pair(text, end, number % 100);
+    end + 2
+}
+
+/// Puts a number of more than eight digits after the first `at` bytes, and gives where it ends. Out of line, as nearly none has
+/// as many.
+#[inline(never)]
+fn place_long(text: &mut [u8], at: usize, number: u64) -> usize
+    requires { at + 20 ≤ length text.old }
+    ensures placed { take result text.new ≡ take at text.old ++ decimal number }
+    ensures near { result ≤ at + 20 }
+    ensures size { length text.new ≡ length text.old }
+{
+    let mut buffer = Buffer::new();
+    place_slice(text, at, buffer.format(number).as_bytes())
 }
 
 /// Puts a number after the first `at` bytes, and gives where it ends.
+///
+/// The digits are put from the first to the last, two at a time: so they needn't be counted before.
 #[inline(always)]
 pub(crate) fn place_number(text: &mut [u8], at: usize, number: u64) -> usize
     requires { at + 20 ≤ length text.old }
@@ -70,9 +98,17 @@ pub(crate) fn place_number(text: &mut [u8], at: usize, number: u64) -> usize
     ensures near { result ≤ at + 20 }
     ensures size { length text.new ≡ length text.old }
 {
-    let end = at + digit_count(number);
-    write_digits(number, text, end);
-    end
+    if number < 10_000 {
+        return place_four(text, at, number);
+    }
+    if number >= 100_000_000 {
+        return place_long(text, at, number);
+    }
+    let end = place_four(text, at, number / 10_000);
+    let last = number % 10_000;
+    place_pair(text, end, last / 100);
+    place_pair(text, end + 2, last % 100);
+    end + 4
 }
 
 /// Puts a number after a space after the first `at` bytes, and gives where it ends.
