@@ -1,9 +1,9 @@
--- A number that is counted up, and its digits.
-use Rattle.std.proofs.Common.{◌≡◌, ◌<◌, ◌≤◌, ◌+◌, ◌*◌, ◌/◌, ◌%◌, ◌^◌, ℕ, zero, suc, List, [], ◌∷◌, ◌++◌, length, take, decimal, arith, sym, ap, ap₂, ◌∙◌, append_assoc}
+-- A number that mostly changes by little, and its digits.
+use Rattle.std.proofs.Common.{◌≡◌, ◌<◌, ◌≤◌, ◌+◌, ◌*◌, ◌/◌, ◌%◌, ◌^◌, ℕ, zero, suc, List, [], ◌∷◌, ◌++◌, length, take, decimal, arith, refl, sym, ap, ap₂, ◌∙◌, append_assoc}
 use Rattle.std.proofs.lemmas.Fmt.{decimal_digit, decimal_step, length-decimal-le}
 use Rattle.std.proofs.lemmas.List.{length-take-le, take_more_set}
 use Rattle.std.proofs.Math.ListN.{set}
-use Rattle.lp_trace.specs.inside.Counting.{IsCounter, tens_digits}
+use Rattle.lp_trace.specs.inside.Counting.{tens_digits}
 
 -- the last digit stands after those of the tens
 pub last_digit : (tens ones n : ℕ) → n ≡ 10 * tens + ones → ones < 10 → n < 2 ^ 64 → tens_digits tens ++ (48 + ones) ∷ [] ≡ decimal n
@@ -15,18 +15,17 @@ last_digit (suc tens) ones n is few fits =
     let last : ones ≡ n % 10 = omega arith in
     ap₂ (λ t k. decimal t ++ (48 + k) ∷ []) first last ∙ sym (decimal_step n (omega arith) fits)
 
--- the digits of the tens were put in front
-pub tens_put : (tens : ℕ) (old new : List ℕ) (len : ℕ) → 0 < tens → 10 * tens < 2 ^ 64 → len ≤ 20 → length old ≡ 24 → length new ≡ length old → take len new ≡ take 0 old ++ decimal tens → IsCounter tens 0 new len
-tens_put zero old new len some fits near size same put = absurd (omega arith)
-tens_put (suc tens) old new len some fits near size same put =
-    let long : length (take len new) ≡ len = length-take-le len new (omega arith) in
-    let few : length (decimal (suc tens)) ≤ 19 = length-decimal-le 19 (suc tens) (omega arith) (omega arith) (omega arith) in
-    record {
-      one_digit = omega arith;
-      fits = omega arith;
-      digits = put;
-      few = omega (arith, long, ap length put);
-    }
+-- the digits of some tens
+pub some_tens : (tens : ℕ) → 0 < tens → decimal tens ≡ tens_digits tens
+some_tens zero some = absurd (omega arith)
+some_tens (suc tens) some = refl
+
+-- they are few
+pub few_tens : (tens len : ℕ) (text : List ℕ) → tens < 1844674407370955162 → len ≤ length text → take len text ≡ decimal tens → len ≤ 19
+few_tens tens len text small near put =
+    let long : length (take len text) ≡ len = length-take-le len text near in
+    let few : length (decimal tens) ≤ 19 = length-decimal-le 19 tens (omega arith) (omega arith) (omega arith) in
+    omega (arith, long, ap length put)
 
 -- the last digit and a short text were put after the digits of the tens
 pub counted_put : (old first placed digits rest number : List ℕ) (last at count len end : ℕ) → at + count < length first → take (at + count) first ≡ take at old ++ digits → digits ++ last ∷ [] ≡ number → end ≡ at + count + 1 + len → take (at + count + 1 + len) placed ≡ take (at + count + 1) (set first (at + count) last) ++ take len rest → take end placed ≡ take at old ++ (number ++ take len rest)

@@ -1,5 +1,6 @@
-//! A number that is counted up, with its digits.
-ghost use Rattle.std.specs.Prelude.{◌≡◌, ◌<◌, ◌≤◌, ◌+◌, ◌%◌, ◌++◌, decimal, length, take};
+//! A number that mostly changes by little, with its digits.
+ghost use Rattle.std.specs.Prelude.{◌≡◌, ◌<◌, ◌≤◌, ◌+◌, ◌++◌, decimal, length, take};
+ghost use Rattle.lp_trace.specs.inside.Counting.{tens_digits};
 
 use crate::place::{SHORT, place_bytes, place_number};
 use std::marker::Model;
@@ -7,27 +8,28 @@ use std::marker::Model;
 /// Room for a number, in whole words.
 const DIGITS: usize = 24;
 
-/// A number and its digits, of which one more nearly always changes the last alone.
+/// A number and its digits: where it is followed by one that is little more, nearly always the last digit alone changes.
 ///
 /// The last digit stands apart from the others: a text into which each were written would be copied in larger pieces
 /// than it was written in, and each copy would wait until the digit is there.
 #[derive(Drop)]
 pub(crate) struct Counter {
+    /// The number with a 0 for its last digit.
     tens: u64,
     ones: u8,
-    /// Begins with the digits of the tens; none of these for 0.
+    /// Begins with all digits but the last; none of these where there is one alone.
     text: [u8; DIGITS],
     /// How many these are.
     len: usize,
 }
 
 impl Model for Counter {
-    ghost use Rattle.std.specs.Prelude.{ℕ, ◌+◌, ◌*◌};
+    ghost use Rattle.std.specs.Prelude.{ℕ, ◌+◌};
     ghost use Rattle.lp_trace.specs.inside.Counting.{IsCounter};
 
     ghost Value = { ℕ };
 
-    ghost view = { λ c. 10 * c.tens + c.ones };
+    ghost view = { λ c. c.tens + c.ones };
 
     ghost invariant = { λ c. IsCounter c.tens c.ones c.text c.len };
 }
@@ -45,29 +47,26 @@ impl Counter {
         }
     }
 
-    /// One more.
+    /// Turns to a number.
     #[inline(always)]
-    pub(crate) fn increment(&mut self)
-        requires { self.old < 18446744073709551615 }
-        ensures { self.new ≡ self.old + 1 }
+    pub(crate) fn turn_to(&mut self, number: u64)
+        ensures { self.new ≡ number }
     {
-        if self.ones < 9 {
-            self.ones += 1;
+        if number >= self.tens && number - self.tens < 10 {
+            self.ones = (number - self.tens) as u8;
             return;
         }
-        self.carry();
+        self.spell(number);
     }
 
-    /// One more after a nine. Out of line, as nine of ten don't need it.
+    /// The same where more than the last digit changes. Out of line, as it seldom does.
     #[inline(never)]
-    fn carry(&mut self)
-        requires few { self.old < 18446744073709551615 }
-        requires nine { self.old % 10 ≡ 9 }
-        ensures { self.new ≡ self.old + 1 }
+    fn spell(&mut self, number: u64)
+        ensures { self.new ≡ number }
     {
-        self.ones = 0;
-        self.tens += 1;
-        self.len = place_number(&mut self.text, 0, self.tens);
+        self.ones = (number % 10) as u8;
+        self.tens = number - number % 10;
+        self.len = place_tens(&mut self.text, number / 10);
     }
 
     /// Puts the number and a short text, of which so many bytes are wanted, after the first `at` bytes, and gives where they
@@ -86,4 +85,16 @@ impl Counter {
         place_bytes(text, last + 1, rest);
         last + 1 + len
     }
+}
+
+/// Puts all digits of a number but the last, by the number of its tens, and gives how many they are.
+fn place_tens(text: &mut [u8; DIGITS], tens: u64) -> usize
+    requires { tens < 1844674407370955162 }
+    ensures digits { take result text.new ≡ tens_digits tens }
+    ensures few { result ≤ 19 }
+{
+    if tens == 0 {
+        return 0;
+    }
+    place_number(text, 0, tens)
 }

@@ -5,8 +5,8 @@ ghost use Rattle.lp_definitions.specs.Events.{group_numbers};
 ghost use Rattle.lp_text.specs.inside.Writing.{line_rest};
 
 use crate::counter::Counter;
-use crate::part::{Part, place_after, place_around};
-use crate::place::{SHORT, place_bytes, place_groups, place_joined, place_numbers, place_slice};
+use crate::part::{Part, place_after};
+use crate::place::{SHORT, place_bytes, place_groups, place_number, place_numbers, place_slice};
 use lp_stack::GroupId;
 use std::alloc::{AllocError, Global};
 use std::marker::Model;
@@ -155,29 +155,27 @@ impl Held {
         true
     }
 
-    /// Takes a word of four bytes and two numbers, with so many bytes between these, and a line's end after them, if there is
-    /// room for a line, and says whether it did.
+    /// Takes the line of the end of a leg: the number of the event that opened it, so many bytes of a short text, and another
+    /// number, if there is room for a line, and says whether it did.
     #[inline(always)]
-    pub(crate) fn hold_joined(
+    pub(crate) fn hold_end(
         &mut self,
-        word: &[u8; 4],
-        number: u64,
+        opened: &Counter,
         between: &[u8; SHORT],
         len: usize,
         last: u64,
     ) -> bool
         requires { len ≤ 16 }
-        ensures taken { IsTrue result → self.new.items ≡ self.old.items ++ (word.now ++ (decimal number ++ (take len between.now ++ (decimal last ++ 10 ∷ [])))) }
+        ensures taken { IsTrue result → self.new.items ≡ self.old.items ++ (codes "leg " ++ (decimal opened.now ++ (take len between.now ++ (decimal last ++ 10 ∷ [])))) }
         ensures kept { IsFalse result → self.new.items ≡ self.old.items }
     {
         if self.len > ROOM - LINE {
             return false;
         }
-        let end = place_joined(
+        let end = place_end(
             self.room.as_mut_slice(),
             self.len,
-            word,
-            number,
+            opened,
             between,
             len,
             last,
@@ -186,16 +184,33 @@ impl Held {
         true
     }
 
-    /// Takes a number between two pieces, if there is room for a line, and says whether it did.
+    /// Takes the first line of a certificate, of a word, which is a short text and so long, and these numbers, if there is room
+    /// for a line, and says whether it did.
     #[inline(always)]
-    pub(crate) fn hold_around(&mut self, before: &Part, number: u64, after: &Part) -> bool
-        ensures taken { IsTrue result → self.new.items ≡ self.old.items ++ (before.now ++ (decimal number ++ after.now)) }
+    pub(crate) fn hold_claim(
+        &mut self,
+        word: &[u8; SHORT],
+        len: usize,
+        leg: &Counter,
+        group: GroupId,
+        upto: &Counter,
+    ) -> bool
+        requires { len ≤ 16 }
+        ensures taken { IsTrue result → self.new.items ≡ self.old.items ++ (take len word.now ++ line_rest (map decimal (leg.now ∷ group.0 ∷ upto.now ∷ []))) }
         ensures kept { IsFalse result → self.new.items ≡ self.old.items }
     {
         if self.len > ROOM - LINE {
             return false;
         }
-        let end = place_around(self.room.as_mut_slice(), self.len, before, number, after);
+        let end = place_claim(
+            self.room.as_mut_slice(),
+            self.len,
+            word,
+            len,
+            leg,
+            group,
+            upto,
+        );
         self.len = end;
         true
     }
@@ -236,4 +251,52 @@ fn place_switched(
     let last = place_groups(text, first, groups);
     place_bytes(text, last, end);
     last + len
+}
+
+/// Puts the line of the end of a leg after the first `at` bytes, and gives where the line ends.
+#[inline(always)]
+fn place_end(
+    text: &mut [u8],
+    at: usize,
+    opened: &Counter,
+    between: &[u8; SHORT],
+    len: usize,
+    last: u64,
+) -> usize
+    requires room { at + 80 ≤ length text.old }
+    requires short { len ≤ 16 }
+    ensures placed { take result text.new ≡ take at text.old ++ (codes "leg " ++ (decimal opened.now ++ (take len between.now ++ (decimal last ++ 10 ∷ [])))) }
+    ensures within { result ≤ length text.new }
+    ensures size { length text.new ≡ length text.old }
+{
+    place_bytes(text, at, b"leg ");
+    let start = opened.place(text, at + 4, between, len);
+    let end = place_number(text, start, last);
+    text[end] = b'\n';
+    end + 1
+}
+
+/// Puts the first line of a certificate after the first `at` bytes, and gives where the line ends.
+#[inline(always)]
+fn place_claim(
+    text: &mut [u8],
+    at: usize,
+    word: &[u8; SHORT],
+    len: usize,
+    leg: &Counter,
+    group: GroupId,
+    upto: &Counter,
+) -> usize
+    requires room { at + 120 ≤ length text.old }
+    requires short { len ≤ 16 }
+    ensures placed { take result text.new ≡ take at text.old ++ (take len word.now ++ line_rest (map decimal (leg.now ∷ group.0 ∷ upto.now ∷ []))) }
+    ensures within { result ≤ length text.new }
+    ensures size { length text.new ≡ length text.old }
+{
+    place_bytes(text, at, word);
+    text[at + len] = b' ';
+    let first = leg.place(text, at + len + 1, b" ...............", 1);
+    let middle = place_number(text, first, u64::from(group.0));
+    text[middle] = b' ';
+    upto.place(text, middle + 1, b"\n...............", 1)
 }

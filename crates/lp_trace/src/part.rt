@@ -1,8 +1,7 @@
 //! Short pieces of text that are put into a longer one again and again.
 ghost use Rattle.std.specs.Prelude.{◌≡◌, ◌≤◌, ◌+◌, ◌∷◌, ◌++◌, [], decimal, length, take};
-ghost use Rattle.lp_text.specs.inside.Writing.{line_rest};
 
-use crate::place::{SHORT, place_bytes, place_id, place_number, place_rest, place_spaced};
+use crate::place::{place_bytes, place_id, place_number};
 use std::marker::Model;
 
 /// The room of a piece: four words of eight bytes, so that a copy is a few stores.
@@ -38,18 +37,6 @@ impl Part {
         }
     }
 
-    /// Turns to a line's beginning: a word, which is so many bytes of a short text, and a number, each with a space after it.
-    #[inline(always)]
-    pub(crate) fn set_words(&mut self, word: &[u8; SHORT], len: usize, number: u64)
-        requires { len ≤ 10 }
-        ensures { self.new ≡ take len word.now ++ (32 ∷ decimal number ++ 32 ∷ []) }
-    {
-        place_bytes(&mut self.text, 0, word);
-        let end = place_spaced(&mut self.text, len, number);
-        self.text[end] = b' ';
-        self.len = end + 1;
-    }
-
     /// Turns to a line's beginning: a word and the numbers of a group and of a task, each with a space after it.
     #[inline(always)]
     pub(crate) fn set_ids(&mut self, word: &[u8; 4], group: u16, task: u16)
@@ -60,15 +47,6 @@ impl Part {
         let end = place_id(&mut self.text, middle, task);
         self.text[end] = b' ';
         self.len = end + 1;
-    }
-
-    /// Turns to a line's end: a number after a space.
-    #[inline(always)]
-    pub(crate) fn set_rest(&mut self, number: u64)
-        ensures { self.new ≡ line_rest (decimal number ∷ []) }
-    {
-        let end = place_rest(&mut self.text, 0, &[number]);
-        self.len = end;
     }
 
     /// Puts the piece after the first `at` bytes, and gives where it ends.
@@ -96,23 +74,4 @@ pub(crate) fn place_after(text: &mut [u8], at: usize, before: &Part, number: u64
     let end = place_number(text, start, number);
     text[end] = b'\n';
     end + 1
-}
-
-/// Puts a number between two pieces after the first `at` bytes, and gives where the second ends.
-#[inline(always)]
-pub(crate) fn place_around(
-    text: &mut [u8],
-    at: usize,
-    before: &Part,
-    number: u64,
-    after: &Part,
-) -> usize
-    requires { at + 84 ≤ length text.old }
-    ensures placed { take result text.new ≡ take at text.old ++ (before.now ++ (decimal number ++ after.now)) }
-    ensures within { result ≤ length text.new }
-    ensures size { length text.new ≡ length text.old }
-{
-    let start = before.place(text, at);
-    let end = place_number(text, start, number);
-    after.place(text, end)
 }

@@ -176,32 +176,6 @@ pub(crate) fn place_bytes<const N: usize>(text: &mut [u8], at: usize, bytes: &[u
     text[at..at + N].copy_from_slice(bytes);
 }
 
-/// Puts a word of four bytes, two numbers and a line's end after the first `at` bytes, with so many bytes between the numbers.
-/// Gives where the line ends.
-#[inline(always)]
-pub(crate) fn place_joined(
-    text: &mut [u8],
-    at: usize,
-    word: &[u8; 4],
-    number: u64,
-    between: &[u8; SHORT],
-    len: usize,
-    last: u64,
-) -> usize
-    requires room { at + 64 ≤ length text.old }
-    requires short { len ≤ 16 }
-    ensures placed { take result text.new ≡ take at text.old ++ (word.now ++ (decimal number ++ (take len between.now ++ (decimal last ++ 10 ∷ [])))) }
-    ensures within { result ≤ length text.new }
-    ensures size { length text.new ≡ length text.old }
-{
-    place_bytes(text, at, word);
-    let first = place_number(text, at + 4, number);
-    place_bytes(text, first, between);
-    let end = place_number(text, first + len, last);
-    text[end] = b'\n';
-    end + 1
-}
-
 /// Puts a line of a word, which is so many bytes of a short text, and of at most six numbers after the first `at` bytes. Gives
 /// where the line ends.
 #[inline(always)]

@@ -10,7 +10,7 @@ ghost use Rattle.lp_text.specs.inside.Writing.{Puts, line_rest, seen_of};
 ghost use Rattle.lp_trace.specs.inside.KeptLines.{AreFirst, text_of};
 
 use super::busy::BusyText;
-use super::claims::{ClaimText, hold_claim, put_claim};
+use super::claims::{LegNumbers, put_claim};
 use super::kept_lines::KeptLines;
 use super::reasons::put_each;
 use super::{level_word, number};
@@ -22,19 +22,16 @@ use lp_cert::{CertLines, CertListRef, LegEndRef, LegList, Line};
 use lp_text::{Counted, TraceForm, WriteFault};
 use std::io::Write;
 
-/// How many certificates of a leg are worth a text that they share: for a single one it costs more than it spares.
-const MANY: usize = 2;
-
 /// How many certificates of a leg are few: if one of them can't be held, the others were held for nothing.
 const FEW: usize = 8;
 
 /// How many lines are worth a text that others may share.
 const SHARED: usize = 8;
 
-/// What a line may have in common with one before, as a text.
+/// What a line may have in common with one before.
 #[derive(Drop)]
 struct Shared {
-    claim: ClaimText,
+    numbers: LegNumbers,
     busy: BusyText,
 }
 
@@ -49,11 +46,11 @@ pub(super) fn put_legs<W: Write>(
     ensures { Puts (seen_of W.contents writer.old) (seen_of W.contents writer.new) page.old.held.items page.new.held.items result (flat_map line_of (flat_map (leg_lines form) legs.now)) }
 {
     let mut shared = Shared {
-        claim: ClaimText::none(),
+        numbers: LegNumbers::new(),
         busy: BusyText::none(),
     };
     for leg in legs {
-        if !hold_leg(&mut page.held, &mut shared.claim, form, &leg) {
+        if !hold_leg(&mut page.held, &mut shared.numbers, form, &leg) {
             put_leg(page, writer, kept, &mut shared, form, &leg)?;
         }
     }
@@ -62,15 +59,15 @@ pub(super) fn put_legs<W: Write>(
 
 /// Holds the lines of a leg where these are few and there is room, and says whether it did: a bit, as for `Held::hold_short`.
 #[inline(always)]
-fn hold_leg(held: &mut Held, shared: &mut ClaimText, form: TraceForm, leg: &LegEndRef<'_>) -> bool
+fn hold_leg(held: &mut Held, numbers: &mut LegNumbers, form: TraceForm, leg: &LegEndRef<'_>) -> bool
     ensures taken { IsTrue result → held.new.items ≡ held.old.items ++ flat_map line_of (leg_lines form (end_in leg.now)) }
     ensures kept { IsFalse result → held.new.items ≡ held.old.items }
 {
     let start = held.len();
-    if !hold_end(held, form, leg) {
+    if !hold_end(held, numbers, form, leg) {
         return false;
     }
-    if hold_certs(held, shared, &leg.certs) {
+    if hold_certs(held, numbers, &leg.certs) {
         return true;
     }
     held.truncate(start);
@@ -80,7 +77,7 @@ fn hold_leg(held: &mut Held, shared: &mut ClaimText, form: TraceForm, leg: &LegE
 /// Holds the lines of certificates where these are few, none has a line beside its first, and there is room, and says whether
 /// it did.
 #[inline(always)]
-fn hold_certs(held: &mut Held, shared: &mut ClaimText, certs: &CertListRef<'_>) -> bool
+fn hold_certs(held: &mut Held, numbers: &mut LegNumbers, certs: &CertListRef<'_>) -> bool
     ensures taken { IsTrue result → held.new.items ≡ held.old.items ++ flat_map line_of (flat_map cert_lines certs.now) }
     ensures kept { IsFalse result → held.new.items ≡ held.old.items }
 {
@@ -90,7 +87,7 @@ fn hold_certs(held: &mut Held, shared: &mut ClaimText, certs: &CertListRef<'_>) 
     }
     let start = held.len();
     for place in 0..count {
-        if !hold_cert(held, shared, certs, place) {
+        if !hold_cert(held, numbers, certs, place) {
             held.truncate(start);
             return false;
         }
@@ -110,7 +107,7 @@ fn put_leg<W: Write>(
 ) -> Result<(), WriteFault>
     ensures { Puts (seen_of W.contents writer.old) (seen_of W.contents writer.new) page.old.held.items page.new.held.items result (flat_map line_of (leg_lines form (end_in leg.now))) }
 {
-    put_end(page, writer, form, leg)?;
+    put_end(page, writer, &mut shared.numbers, form, leg)?;
     put_certs(page, writer, kept, shared, &leg.certs)
 }
 
@@ -145,14 +142,15 @@ fn end_parts(form: TraceForm, leg: &LegEndRef<'_>) -> Option<(&'static [u8; SHOR
 
 /// Holds the line of the end of a leg where it is short and there is room, and says whether it did.
 #[inline(always)]
-fn hold_end(held: &mut Held, form: TraceForm, leg: &LegEndRef<'_>) -> bool
+fn hold_end(held: &mut Held, numbers: &mut LegNumbers, form: TraceForm, leg: &LegEndRef<'_>) -> bool
     ensures taken { IsTrue result → held.new.items ≡ held.old.items ++ line_of (leg_line form (end_in leg.now)) }
     ensures kept { IsFalse result → held.new.items ≡ held.old.items }
 {
     let Some((between, len, last)) = end_parts(form, leg) else {
         return false;
     };
-    held.hold_joined(b"leg ", leg.opened, between, len, last)
+    numbers.leg.turn_to(leg.opened);
+    held.hold_end(&numbers.leg, between, len, last)
 }
 
 /// Puts the line of the end of a leg.
@@ -160,12 +158,13 @@ fn hold_end(held: &mut Held, form: TraceForm, leg: &LegEndRef<'_>) -> bool
 fn put_end<W: Write>(
     page: &mut Page,
     writer: &mut Counted<W>,
+    numbers: &mut LegNumbers,
     form: TraceForm,
     leg: &LegEndRef<'_>,
 ) -> Result<(), WriteFault>
     ensures { Puts (seen_of W.contents writer.old) (seen_of W.contents writer.new) page.old.held.items page.new.held.items result (line_of (leg_line form (end_in leg.now))) }
 {
-    if hold_end(&mut page.held, form, leg) {
+    if hold_end(&mut page.held, numbers, form, leg) {
         return Ok(());
     }
     put_end_line(page, writer, form, leg)
@@ -207,7 +206,7 @@ fn put_certs<W: Write>(
 {
     kept.clear();
     for place in 0..certs.len() {
-        if !hold_cert(&mut page.held, &mut shared.claim, certs, place) {
+        if !hold_cert(&mut page.held, &mut shared.numbers, certs, place) {
             put_cert(page, writer, kept, shared, certs, place)?;
         }
     }
@@ -217,12 +216,17 @@ fn put_certs<W: Write>(
 /// Holds the line of the certificate at a place where it has no other and there is room, and says whether it did: a bit,
 /// as for `Held::hold_short`.
 #[inline(always)]
-fn hold_cert(held: &mut Held, shared: &mut ClaimText, certs: &CertListRef<'_>, place: usize) -> bool
+fn hold_cert(
+    held: &mut Held,
+    numbers: &mut LegNumbers,
+    certs: &CertListRef<'_>,
+    place: usize,
+) -> bool
     requires { place < length certs.now }
     ensures taken { IsTrue result → (cert : Cert) → slice_get certs.now place ≡ Some cert → held.new.items ≡ held.old.items ++ flat_map line_of (cert_lines cert) }
     ensures kept { IsFalse result → held.new.items ≡ held.old.items }
 {
-    certs.is_bare(place) && hold_claim(held, shared, certs.len() >= MANY, certs.head(place))
+    certs.is_bare(place) && numbers.hold_claim(held, certs.head(place))
 }
 
 /// Puts the lines of the certificate at a place.
@@ -243,7 +247,7 @@ fn put_cert<W: Write>(
     ensures text { (cert : Cert) → slice_get certs.now place ≡ Some cert → Puts (seen_of W.contents writer.old) (seen_of W.contents writer.new) page.old.held.items page.new.held.items result (flat_map line_of (cert_lines cert)) }
 {
     let head = certs.head(place);
-    if !hold_claim(&mut page.held, &mut shared.claim, certs.len() >= MANY, head) {
+    if !shared.numbers.hold_claim(&mut page.held, head) {
         put_claim(page, writer, head)?;
     }
     put_reasons(page, writer, kept, &mut shared.busy, certs, place)

@@ -1,6 +1,6 @@
 use Rattle.std.proofs.Common.{arith}
 use Rattle.std.proofs.lemmas.Grind.{common_steps}
-use Rattle.lp_trace.proofs.report.claims.ClaimText.hold.Goals as goal
+use Rattle.lp_trace.proofs.report.claims.LegNumbers.hold_claim.Goals as goal
 
 pub returns-clause-taken : goal.returns-clause-taken
 returns-clause-taken c = grind (arith, common_steps)
