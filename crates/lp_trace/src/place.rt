@@ -173,7 +173,9 @@ pub(crate) fn place_bytes<const N: usize>(text: &mut [u8], at: usize, bytes: &[u
     ensures placed { (n : ℕ) → n ≤ N → take (at + n) text.new ≡ take at text.old ++ take n bytes.now }
     ensures size { length text.new ≡ length text.old }
 {
-    text[at..at + N].copy_from_slice(bytes);
+    // By value: of bytes in another place it would be asked whether they overlap.
+    let bytes = *bytes;
+    text[at..at + N].copy_from_slice(&bytes);
 }
 
 /// Puts a line of a word, which is so many bytes of a short text, and of at most six numbers after the first `at` bytes. Gives

@@ -31,29 +31,16 @@ pub(super) fn put_each<W: Write>(
         if !hold_reason(&mut page.held, busy, &reason) {
             put_reason(page, writer, &reason)?;
         }
-        put_run(page, writer, busy, reasons.take_run())?;
+        let run = reasons.take_run();
+        if !run.scans.is_empty() {
+            put_scans(page, writer, busy, run)?;
+        }
         next = reasons.next();
     }
     Ok(())
 }
 
-/// Puts the lines of a busy run, of which mostly none is left.
-#[inline(always)]
-fn put_run<W: Write>(
-    page: &mut Page,
-    writer: &mut Counted<W>,
-    busy: &mut BusyText,
-    run: BusyScans<'_>,
-) -> Result<(), WriteFault>
-    ensures { Puts (seen_of W.contents writer.old) (seen_of W.contents writer.new) page.old.held.items page.new.held.items result (text_of (busy_scan_lines run.entry)) }
-{
-    if run.scans.is_empty() {
-        return Ok(());
-    }
-    put_scans(page, writer, busy, run)
-}
-
-/// The same, where some are left: each is put without a look at what comes next.
+/// Puts the lines of a busy run, each without a look at what comes next.
 #[inline(never)]
 fn put_scans<W: Write>(
     page: &mut Page,
