@@ -47,6 +47,19 @@ impl Counter {
         }
     }
 
+    /// One more.
+    #[inline(always)]
+    pub(crate) fn increment(&mut self)
+        requires { self.old < 18446744073709551615 }
+        ensures { self.new ≡ self.old + 1 }
+    {
+        if self.ones < 9 {
+            self.ones += 1;
+            return;
+        }
+        self.spell(self.tens + 10);
+    }
+
     /// Turns to a number.
     #[inline(always)]
     pub(crate) fn turn_to(&mut self, number: u64)

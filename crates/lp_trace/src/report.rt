@@ -150,13 +150,12 @@ fn put_replies<W: Write>(
     let mut next = 0;
     let mut event = Counter::new();
     for (i, packed) in replies.iter().enumerate() {
-        let number = i as u64 + 1;
-        event.turn_to(number);
+        event.increment();
         if !hold_common(&mut page.held, rests, &event, packed) {
             let reply = packed.get();
             let groups = lists.at(next);
             if !hold_switched(&mut page.held, &event, reply, groups) {
-                put_event(page, writer, form, number, reply, groups)?;
+                put_event(page, writer, form, i as u64 + 1, reply, groups)?;
             }
             next += reply.lists();
         }
