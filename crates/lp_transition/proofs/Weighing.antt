@@ -61,14 +61,6 @@ module _ (model : Rules) (lawful : IsLawful model) (e : Engine) (waiting : Numbe
       answer-change event t f small (unchecked-control model event quiet) (still event quiet) accepted own levels groups
       ∙ ap {A = What} {B = Reply} (λ what. record { what = what; completed = false }) (done-still event (still event quiet) reports)
 
-  -- a return, a sleep, a wake-up and an entry into the kernel are done
-  pub answer-done : (event : Event) → is_answered_done event ≡ true → done_task event < 65536 → refusal_of model (state_in e) event ≡ None → answer model (state_in e) event ≡ record { what = Done; completed = false }
-  answer-done (Ret t) m small accepted = by (Ret t) t.0 returning small refl accepted refl (λ x. refl) (λ x. refl) refl
-  answer-done (Sleep t) m small accepted = by (Sleep t) t.0 (put_in Asleep) small refl accepted refl (λ x. refl) (λ x. refl) refl
-  answer-done (Wake t) m small accepted = by (Wake t) t.0 (put_in Kernel) small refl accepted refl (λ x. refl) (λ x. refl) refl
-  answer-done (Enter t) m small accepted = by (Enter t) t.0 (put_in Kernel) small refl accepted refl (λ x. refl) (λ x. refl) refl
-  answer-done _ m small accepted = cc
-
   -- a call runs its task's level
   pub answer-call : (t : TaskId) (f : SymId) → t.0 < 65536 → refusal_of model (state_in e) (Call t f) ≡ None → answer model (state_in e) (Call t f) ≡ record { what = told model (state_in e) (Call t f); completed = false }
   answer-call t f small accepted =
@@ -82,7 +74,7 @@ module _ (model : Rules) (lawful : IsLawful model) (e : Engine) (waiting : Numbe
       let other : u ≢ c.0 = λ same. let none = (fork-new model e p c how accepted).0 in let there = slot_from_live e.table c.0 y (subst (λ v. leg_tasks e.table v ≡ Live y) same live) in absurd (cc) in
       each_live-at (bounds_of e.patches) now.tasks (λ v z. nat_eq z.level e.target) all u y positive within (cond-false _ _ _ (ne_eqb u c.0 other) ∙ live))
 
-  pub answer-fork : (p c : TaskId) (how : ForkKind) → refusal_of model (state_in e) (Fork p c how) ≡ None → answer model (state_in e) (Fork p c how) ≡ record { what = Done; completed = false }
+  answer-fork : (p c : TaskId) (how : ForkKind) → refusal_of model (state_in e) (Fork p c how) ≡ None → answer model (state_in e) (Fork p c how) ≡ record { what = Done; completed = false }
   answer-fork p c how accepted =
       let event = Fork p c how in
       let s = state_in e in
@@ -94,6 +86,15 @@ module _ (model : Rules) (lawful : IsLawful model) (e : Engine) (waiting : Numbe
       never : (b : Bool) → complete_in (affected model (state_in e) (Fork p c how)) ≡ b → (b && not (complete_in (state_in e))) ≡ false
       never false h = refl
       never true h = ap not (fork-complete p c how accepted h)
+
+  -- a return, a sleep, a wake-up, an entry into the kernel and a fork are done
+  pub answer-done : (event : Event) → is_answered_done event ≡ true → done_task event < 65536 → refusal_of model (state_in e) event ≡ None → answer model (state_in e) event ≡ record { what = Done; completed = false }
+  answer-done (Ret t) m small accepted = by (Ret t) t.0 returning small refl accepted refl (λ x. refl) (λ x. refl) refl
+  answer-done (Sleep t) m small accepted = by (Sleep t) t.0 (put_in Asleep) small refl accepted refl (λ x. refl) (λ x. refl) refl
+  answer-done (Wake t) m small accepted = by (Wake t) t.0 (put_in Kernel) small refl accepted refl (λ x. refl) (λ x. refl) refl
+  answer-done (Enter t) m small accepted = by (Enter t) t.0 (put_in Kernel) small refl accepted refl (λ x. refl) (λ x. refl) refl
+  answer-done (Fork p c how) m small accepted = answer-fork p c how accepted
+  answer-done _ m small accepted = cc
 
   -- after the end of a task the others decide whether the transition is complete
   die-complete : (t : TaskId) → IsTrue (complete_in (affected model (state_in e) (Die t))) ↔ ((u : ℕ) → u ≢ t.0 → has waiting u ≡ false)

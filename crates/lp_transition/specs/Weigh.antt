@@ -4,7 +4,7 @@ use Rattle.lp_model.specs.Rules.{Rules}
 use Rattle.lp_model.specs.declared.check.CheckKind.TheVariants as check
 use Rattle.lp_model.specs.declared.verdict.Verdict.{Verdict}
 use Rattle.lp_definitions.specs.declared.event.Event.{Event}
-use Rattle.lp_definitions.specs.declared.event.Event.TheVariants.{Ret, Sleep, Wake, Enter, Exit, Idle, Resched, Walk, Stop}
+use Rattle.lp_definitions.specs.declared.event.Event.TheVariants.{Call, Ret, Sleep, Wake, Enter, Exit, Idle, Resched, Fork, Die, Walk, Stop}
 use Rattle.lp_definitions.specs.declared.refusal.Refusal.{Refusal}
 use Rattle.lp_definitions.specs.declared.reply.What.{What}
 use Rattle.lp_definitions.specs.declared.reply.What.TheVariants.{Switched, Refused}
@@ -32,20 +32,33 @@ pub record IsWeighed (model : Rules) (engine : Engine) (step : Weighed) : Type 0
   pub reply : step.reply ≡ answer model (state_in engine) step.event
   pub verdicts : AreVerdictsFor model (state_in engine) step.event step.verdicts
 
--- a return, a sleep, a wake-up or an entry into the kernel: it moves one task, and is no check
+-- nothing is checked at the event, and it opens no leg: so it never allocates
+abbrev pub is_unchecked : Event → Bool
+is_unchecked (Call t f) = true
+is_unchecked (Ret t) = true
+is_unchecked (Sleep t) = true
+is_unchecked (Wake t) = true
+is_unchecked (Enter t) = true
+is_unchecked (Fork p c how) = true
+is_unchecked (Die t) = true
+is_unchecked _ = false
+
+-- it is answered with no look at anybody: a return, a sleep, a wake-up, an entry into the kernel or a fork
 abbrev pub is_answered_done : Event → Bool
 is_answered_done (Ret t) = true
 is_answered_done (Sleep t) = true
 is_answered_done (Wake t) = true
 is_answered_done (Enter t) = true
+is_answered_done (Fork p c how) = true
 is_answered_done _ = false
 
--- its task
+-- the task that makes it
 abbrev pub done_task : Event → ℕ
 done_task (Ret t) = t.0
 done_task (Sleep t) = t.0
 done_task (Wake t) = t.0
 done_task (Enter t) = t.0
+done_task (Fork p c how) = p.0
 done_task _ = 0
 
 -- ---- What an event did

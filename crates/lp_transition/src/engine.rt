@@ -24,7 +24,6 @@ mod moves;
 mod open_scan;
 mod opening;
 mod own_check;
-mod quiet_events;
 mod quiet_scan;
 mod refuse;
 mod scan;
@@ -32,6 +31,7 @@ mod step;
 mod switches;
 mod take;
 mod unchanged;
+mod unchecked_events;
 mod weigh;
 
 use blames::Blames;

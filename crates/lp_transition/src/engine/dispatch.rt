@@ -5,7 +5,7 @@ ghost use Rattle.lp_patch.specs.Aimed.{aimed};
 ghost use Rattle.lp_transition.specs.declared.engine.step.Halt.TheVariants.{NoMemory, JournalFull};
 ghost use Rattle.lp_definitions.specs.Events.{is_scan};
 ghost use Rattle.lp_transition.specs.Scan.{is_scan_kind, scan_event, verdict_of, verdicts_of};
-ghost use Rattle.lp_machine.specs.Steps.{IsReply, IsStep};
+ghost use Rattle.lp_machine.specs.Steps.{IsStep};
 ghost use Rattle.lp_transition.specs.Blames.{AreBlamesAfter, HasBlamesAfter};
 ghost use Rattle.lp_transition.specs.LastScan.{IsLastScanAfter};
 ghost use Rattle.lp_machine.specs.Table.{state_in};
@@ -103,26 +103,6 @@ impl<M: Consistency> Core<M> {
         self.events < MOST_EVENTS
     }
 
-    /// A walk or a stop, weighed after a look at every waiting task, or at none where the model
-    /// doesn't use the check.
-    pub(super) fn weigh_check(&self, alloc: Global, kind: CheckKind) -> Result<Step, Halt>
-        requires scan { is_scan_kind kind ≡ true }
-        ensures full { (result ≡ Err JournalFull) ↔ (1000000 ≤ self.now.number) }
-        ensures reply { IfOk result (λ step. IsReply M.rules (state_in self.now) (scan_event kind) step.reply) }
-        ensures weighed { IfOk result (λ step. IsWeighed M.rules self.now step) }
-        ensures event { IfOk result (λ step. step.event ≡ scan_event kind) }
-        ensures verdicts { IfOk result (λ step. IsTrue (M.rules.uses kind) → step.verdicts ≡ verdicts_of M.rules kind (state_in self.now)) }
-    {
-        if self.events >= MOST_EVENTS {
-            return Err(Halt::JournalFull);
-        }
-        if !self.model.uses(kind) {
-            return self.weigh_found(alloc, kind, Vec::new(alloc), false);
-        }
-        let found = self.all_verdicts(alloc, kind)?;
-        self.weigh_found(alloc, kind, found, true)
-    }
-
     /// It takes a number too: else the numbers of a run's events would depend on its replies.
     #[inline(always)]
     pub(super) fn take_refused(&mut self, event: Event, why: Refusal)
@@ -148,15 +128,12 @@ impl<M: Consistency> Core<M> {
         // For the proof alone, which knows what every value keeps once a field is read.
         let _ = &self.tasks;
         match event {
-            Event::Call(..) | Event::Ret(_) | Event::Sleep(_) | Event::Wake(_) | Event::Enter(_) =>
-                self.take_quiet(event),
             Event::Exit(task) => self.take_own_check(CheckKind::KernelExit, task, switching),
             Event::Idle(task) => self.take_own_check(CheckKind::IdlePoint, task, switching),
             Event::Resched(task) => self.take_own_check(CheckKind::Resched, task, switching),
-            Event::Fork(parent, child, how) => self.take_fork(parent, child, how),
-            Event::Die(task) => self.take_die(task),
             Event::Enable | Event::Disable | Event::Reverse => self.take_control(event),
             Event::Walk | Event::Stop => unreachable!(),
+            _ => self.take_unchecked(event),
         }
     }
 }

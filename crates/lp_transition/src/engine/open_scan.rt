@@ -59,7 +59,8 @@ impl<M: Consistency> Core<M> {
         self.unchanged.asked(kind)
     }
 
-    /// After the first scan of a leg a further one costs what changed, and not what waits.
+    /// After the first scan of a leg a further one costs what changed, and not what waits. The first looks at every waiting task, or at
+    /// none where the model doesn't use the check.
     fn weigh_changed_scan(&self, alloc: Global, kind: CheckKind) -> Result<Step, Halt>
         requires scan { is_scan_kind kind ≡ true }
         ensures full { (result ≡ Err JournalFull) ↔ (1000000 ≤ self.now.number) }
@@ -68,10 +69,17 @@ impl<M: Consistency> Core<M> {
         ensures event { IfOk result (λ step. step.event ≡ scan_event kind) }
         ensures told { IfOk result (λ step. IsTrue (M.rules.uses kind) → TellOfChanges M.rules self.now kind step.verdicts) }
     {
-        match self.changed_since(kind) {
-            Some(asked) => self.weigh_first_refusals(alloc, kind, asked),
-            None => self.weigh_check(alloc, kind),
+        if let Some(asked) = self.changed_since(kind) {
+            return self.weigh_first_refusals(alloc, kind, asked);
         }
+        if self.events >= MOST_EVENTS {
+            return Err(Halt::JournalFull);
+        }
+        if !self.model.uses(kind) {
+            return self.weigh_found(alloc, kind, Vec::new(alloc), false);
+        }
+        let found = self.all_verdicts(alloc, kind)?;
+        self.weigh_found(alloc, kind, found, true)
     }
 
     /// What a check finds of the waiting tasks of some groups, by increasing number; None where a group has other members than the

@@ -25,10 +25,10 @@ impl<M: Consistency> Core<M> {
             Event::Ret(task) => ret_refusal(&self.tasks, symbols, task),
             Event::Sleep(task) => mode_refusal(&self.tasks, task, Mode::Kernel),
             Event::Wake(task) => mode_refusal(&self.tasks, task, Mode::Asleep),
-            Event::Enter(task) => enter_refusal(&self.tasks, symbols, task),
+            Event::Enter(task) => class_refusal(&self.tasks, task, Class::Normal, Mode::User),
             Event::Exit(task) => empty_refusal(&self.tasks, task, Class::Normal),
             Event::Idle(task) => empty_refusal(&self.tasks, task, Class::Idle),
-            Event::Resched(task) => kernel_refusal(&self.tasks, task, Class::Normal),
+            Event::Resched(task) => class_refusal(&self.tasks, task, Class::Normal, Mode::Kernel),
             Event::Fork(parent, child, how) => {
                 fork_refusal(&self.tasks, symbols, parent, child, how)
             }
@@ -92,29 +92,12 @@ fn mode_refusal(tasks: &TaskTable, task: TaskId, mode: Mode) -> Option<Refusal>
     None
 }
 
-/// Why entering the kernel is refused.
-#[inline(always)]
-fn enter_refusal(tasks: &TaskTable, symbols: usize, task: TaskId) -> Option<Refusal>
-    ensures { result ≡ first_of (tests (task_numbers symbols) (outlines_of (leg_tasks tasks.now)) (Event.Enter task)) }
-{
-    let Some(live) = tasks.get(task) else {
-        return Some(Refusal::UnknownTask);
-    };
-    if live.class() != Class::Normal {
-        return Some(Refusal::WrongClass);
-    }
-    if live.mode() != Mode::User {
-        return Some(Refusal::WrongMode);
-    }
-    None
-}
-
 /// Why an event is refused at which a task of this class leaves the kernel or is done with it: an
 /// exit, an idle point, an end. A frame left there would be a call that never returns.
 fn empty_refusal(tasks: &TaskTable, task: TaskId, class: Class) -> Option<Refusal>
     ensures { let now = outlines_of (leg_tasks tasks.now) in result ≡ first_of (unknown_task now task.0 ∷ not_of class now task.0 ∷ not_in Mode.Kernel now task.0 ∷ stack_not_empty now task.0 ∷ []) }
 {
-    if let Some(why) = kernel_refusal(tasks, task, class) {
+    if let Some(why) = class_refusal(tasks, task, class, Mode::Kernel) {
         return Some(why);
     }
     let Some(live) = tasks.get(task) else {
@@ -126,11 +109,11 @@ fn empty_refusal(tasks: &TaskTable, task: TaskId, class: Class) -> Option<Refusa
     None
 }
 
-/// Why an event is refused that a task of this class makes in the kernel on a CPU, whatever is on its
-/// stack.
+/// Why an event is refused that a task of this class makes in this mode, whatever is on its stack: an entry into the kernel, a
+/// check that it makes there.
 #[inline(always)]
-fn kernel_refusal(tasks: &TaskTable, task: TaskId, class: Class) -> Option<Refusal>
-    ensures { let now = outlines_of (leg_tasks tasks.now) in result ≡ first_of (unknown_task now task.0 ∷ not_of class now task.0 ∷ not_in Mode.Kernel now task.0 ∷ []) }
+fn class_refusal(tasks: &TaskTable, task: TaskId, class: Class, mode: Mode) -> Option<Refusal>
+    ensures { let now = outlines_of (leg_tasks tasks.now) in result ≡ first_of (unknown_task now task.0 ∷ not_of class now task.0 ∷ not_in mode now task.0 ∷ []) }
 {
     let Some(live) = tasks.get(task) else {
         return Some(Refusal::UnknownTask);
@@ -138,7 +121,7 @@ fn kernel_refusal(tasks: &TaskTable, task: TaskId, class: Class) -> Option<Refus
     if live.class() != class {
         return Some(Refusal::WrongClass);
     }
-    if live.mode() != Mode::Kernel {
+    if live.mode() != mode {
         return Some(Refusal::WrongMode);
     }
     None

@@ -13,7 +13,7 @@ ghost use Rattle.lp_machine.specs.Machine.{refusal_of, answer};
 use super::Core;
 use super::step::{Halt, Step};
 use crate::{Event, GroupList, MOST_EVENTS, Refusal, Reply, What};
-use lp_model::{CheckKind, Consistency, ForkKind};
+use lp_model::{CheckKind, Consistency};
 use lp_numbers::NumberSet;
 use lp_stack::{GroupId, Level, TaskId};
 use lp_symbols::SymId;
@@ -52,15 +52,12 @@ impl<M: Consistency> Core<M> {
         ensures answer { IfOk result (λ reply. reply ≡ answer M.rules (state_in self.now) event) }
     {
         match event {
-            Event::Call(..) | Event::Ret(_) | Event::Sleep(_) | Event::Wake(_) | Event::Enter(_) =>
-                Ok(self.answer_quiet(event)),
             Event::Exit(task) => self.answer_own_check(alloc, CheckKind::KernelExit, task),
             Event::Idle(task) => self.answer_own_check(alloc, CheckKind::IdlePoint, task),
             Event::Resched(task) => self.answer_own_check(alloc, CheckKind::Resched, task),
-            Event::Fork(parent, child, how) => Ok(self.answer_fork(parent, child, how)),
-            Event::Die(task) => Ok(self.answer_die(task)),
             Event::Enable | Event::Disable | Event::Reverse => Ok(self.answer_control(event)),
             Event::Walk | Event::Stop => unreachable!(),
+            _ => Ok(self.answer_unchecked(event)),
         }
     }
 
@@ -77,8 +74,8 @@ impl<M: Consistency> Core<M> {
         }
     }
 
-    /// A return, a sleep, a wake-up or an entry into the kernel is no check and ends no task, so there
-    /// is nothing to look at.
+    /// A return, a sleep, a wake-up or an entry into the kernel is no check and ends no task, and a child begins on its
+    /// parent's level: so there is nothing to look at.
     #[inline(always)]
     pub(super) fn answer_done(&self, event: Event, task: TaskId) -> Reply
         requires room { self.now.number < 1000000 }
@@ -92,19 +89,8 @@ impl<M: Consistency> Core<M> {
         done()
     }
 
-    /// A child begins on its parent's level, so that a fork switches nobody and completes nothing.
-    fn answer_fork(&self, parent: TaskId, child: TaskId, how: ForkKind) -> Reply
-        requires room { self.now.number < 1000000 }
-        requires accepted { refusal_of M.rules (state_in self.now) (Event.Fork parent child how) ≡ None }
-        ensures { result ≡ answer M.rules (state_in self.now) (Event.Fork parent child how) }
-    {
-        // For the proof alone, which knows what every value keeps once a field is read.
-        let _ = &self.tasks;
-        done()
-    }
-
     /// A task that ends may have been the last that waited: then its end completes the transition.
-    fn answer_die(&self, task: TaskId) -> Reply
+    pub(super) fn answer_die(&self, task: TaskId) -> Reply
         requires room { self.now.number < 1000000 }
         requires accepted { refusal_of M.rules (state_in self.now) (Event.Die task) ≡ None }
         ensures { result ≡ answer M.rules (state_in self.now) (Event.Die task) }

@@ -2,9 +2,6 @@ use Rattle.std.proofs.Common.{arith}
 use Rattle.std.proofs.lemmas.Grind.{common_steps}
 use Rattle.lp_transition.proofs.engine.Core.take_accepted.Goals as goal
 
-pub returns-in-Fork-clause-last_scan : goal.returns-in-Fork-clause-last_scan
-returns-in-Fork-clause-last_scan g c = grind (arith, common_steps)
-
 pub returns-in-Idle-clause-last_scan : goal.returns-in-Idle-clause-last_scan
 returns-in-Idle-clause-last_scan g c = grind (arith, common_steps)
 
@@ -13,6 +10,3 @@ returns-in-Resched-clause-last_scan g c = grind (arith, common_steps)
 
 pub returns-in-Exit-clause-last_scan : goal.returns-in-Exit-clause-last_scan
 returns-in-Exit-clause-last_scan g c = grind (arith, common_steps)
-
-pub returns-in-Die-clause-last_scan : goal.returns-in-Die-clause-last_scan
-returns-in-Die-clause-last_scan g c = grind (arith, common_steps)

@@ -1,6 +1,6 @@
 use Rattle.std.proofs.Common.{arith}
 use Rattle.std.proofs.lemmas.Grind.{common_steps}
-use Rattle.lp_transition.proofs.engine.Core.take_quiet.Goals as goal
+use Rattle.lp_transition.proofs.engine.Core.take_unchecked.Goals as goal
 
 pub returns-in-Enter-clause-last_scan : goal.returns-in-Enter-clause-last_scan
 returns-in-Enter-clause-last_scan c = grind (arith, common_steps)
@@ -16,3 +16,9 @@ returns-in-Call-clause-last_scan c = grind (arith, common_steps)
 
 pub returns-in-Ret-clause-last_scan : goal.returns-in-Ret-clause-last_scan
 returns-in-Ret-clause-last_scan c = grind (arith, common_steps)
+
+pub returns-in-Fork-clause-last_scan : goal.returns-in-Fork-clause-last_scan
+returns-in-Fork-clause-last_scan c = grind (arith, common_steps)
+
+pub returns-in-Die-clause-last_scan : goal.returns-in-Die-clause-last_scan
+returns-in-Die-clause-last_scan c = grind (arith, common_steps)

@@ -2,7 +2,7 @@ use Rattle.std.proofs.Common.{sym, ◌∙◌}
 use Rattle.lp_machine.specs.Table.{state_in}
 use Rattle.lp_machine_laws.proofs.Runs.{is_step}
 use Rattle.lp_machine.proofs.EngineLemmas.{answer-refused}
-use Rattle.lp_transition.proofs.engine.Core.step_quiet_inline.Goals as goal
+use Rattle.lp_transition.proofs.engine.Core.step_unchecked.Goals as goal
 
 pub returns-in-Some-clause-step : goal.returns-in-Some-clause-step
 returns-in-Some-clause-step g c =
@@ -10,4 +10,4 @@ returns-in-Some-clause-step g c =
     is_step g.M.Consistency.rules g.met.M.Consistency.lawful s (state_in c.take_refused.new.self) c.args.event c.refused.result (c.refused.ensures ∙ sym (answer-refused g.M.Consistency.rules s c.args.event c.in-Some.why (sym c.refusal.ensures ∙ c.in-Some.is))) c.take_refused.ensures.state
 
 pub returns-clause-step : goal.returns-clause-step
-returns-clause-step g c = is_step g.M.Consistency.rules g.met.M.Consistency.lawful (state_in c.args.self.now) (state_in c.take_quiet.new.self) c.args.event c.answer_quiet-reply.result c.answer_quiet-reply.ensures c.take_quiet.ensures.state
+returns-clause-step g c = is_step g.M.Consistency.rules g.met.M.Consistency.lawful (state_in c.args.self.now) (state_in c.take_unchecked.new.self) c.args.event c.answer_unchecked-reply.result c.answer_unchecked-reply.ensures c.take_unchecked.ensures.state
