@@ -1,5 +1,5 @@
 -- Groups that wait without a line.
-use Rattle.std.proofs.Common.{◌≡◌, ℕ, zero, suc, ◌-◌, ◌<◌, ◌⊎◌, ⊎_elim, Bool, true, false, List, [], ◌∷◌, length, map, filter, reverse, get_or, slice_get, Option, Some, None, refl, sym, ap, ap₂, subst, ◌∙◌, arith}
+use Rattle.std.proofs.Common.{◌≡◌, ℕ, zero, suc, ◌-◌, ◌<◌, ◌⊎◌, ⊎_elim, Bool, true, false, List, [], ◌∷◌, length, map, filter, reverse, get_or, slice_get, Option, Some, None, option_to_list, refl, sym, ap, ap₂, subst, ◌∙◌, arith}
 use Rattle.std.specs.List.{range_with_len}
 use Rattle.std.specs.Option.{option_map}
 use Rattle.std.proofs.lemmas.Bool.{cond-true, cond-false}
@@ -7,6 +7,7 @@ use Rattle.lp_stack.specs.declared.number.GroupId.{GroupId}
 use Rattle.lp_numbers.specs.Numbers.{has}
 use Rattle.lp_tasks.specs.Passing.{passing}
 use Rattle.lp_definitions.specs.declared.cert.Claim.{Claim}
+use Rattle.lp_definitions.specs.declared.cert.Claim.TheVariants.{Waiting, Floor}
 use Rattle.lp_definitions.specs.declared.cert.Cert.{Cert}
 use Rattle.lp_cert.specs.declared.head.Head.{Head}
 use Rattle.lp_definitions.specs.declared.line.Line.{Line}
@@ -18,11 +19,11 @@ use Rattle.lp_cert.specs.declared.ongoing.Ongoing.TheVariants.{Nothing, Hold, Bu
 use Rattle.lp_cert.specs.declared.reason.Reason.{Reason}
 use Rattle.lp_definitions.specs.Certificates.{group_id}
 use Rattle.lp_cert.specs.Heads.{head_lines}
-use Rattle.lp_cert.specs.Invariant.{claim_of, end_waiters, upto_of}
+use Rattle.lp_cert.specs.Invariant.{claim_of, end_waiters, floor_waiters, upto_of}
 use Rattle.lp_cert.specs.Waiters.{LegReasons, WaitingGroups, head_of, kept_cert, waiter_in, waiters_of}
 use Rattle.lp_cert.specs.inside.Heads.{IsKnown, IsHead}
-use Rattle.lp_cert.specs.inside.Invariant.{certs_at}
-use Rattle.lp_cert.specs.declared.cert_list.BareHead.{BareHead}
+use Rattle.lp_cert.specs.inside.Invariant.{IsBareLeg, end_groups}
+use Rattle.lp_cert.specs.declared.cert_head.CommonHead.{CommonHead}
 use Rattle.lp_cert.specs.inside.Bare.{bare_cert, bare_certs as certs_of}
 use Rattle.lp_cert.specs.inside.Kept.{up_to}
 use Rattle.lp_cert.specs.inside.Waiters.{AreBare, AreStanding, lines_in}
@@ -88,18 +89,39 @@ no_lines claim leg upto (group ∷ groups) zero within = refl
 no_lines claim leg upto (group ∷ groups) (suc k) within = no_lines claim leg upto groups k (omega arith)
 
 -- of these certificates none has
-pub none_has_lines : (certs : List Cert) (head : BareHead) (groups : List GroupId) (k : ℕ) → certs ≡ certs_of head groups → k < length certs → option_map (λ (cert : Cert). cert.lines) (slice_get certs k) ≡ Some []
+pub none_has_lines : (certs : List Cert) (head : CommonHead) (groups : List GroupId) (k : ℕ) → certs ≡ certs_of head groups → k < length certs → option_map (λ (cert : Cert). cert.lines) (slice_get certs k) ≡ Some []
 none_has_lines certs head groups k is within =
     ap (λ (cs : List Cert). option_map (λ (cert : Cert). cert.lines) (slice_get cs k)) is
     ∙ no_lines head.claim head.leg head.upto groups k (subst (λ (cs : List Cert). k < length cs) is within)
 
--- those of a leg that isn't complete
-pub open_bare : (leg : OpenLeg) (noted : ℕ) (w : WaitingGroups) (claim : Claim) (upto : ℕ) (groups : List GroupId)
-    → claim ≡ claim_of leg.completed → upto ≡ upto_of noted leg.completed → leg.completed ≡ None → AreBare w → groups ≡ map group_id (passing 0 65536 (has w.groups))
-    → map (bare_cert claim leg.opened upto) groups ≡ certs_at noted w leg
-open_bare leg noted w claim upto groups claimed up unended bare all =
-    let of_waiters = λ (c : Claim) (u : ℕ) (waiters : List Waiter). map (kept_cert c leg.opened u w.reasons.lists w.reasons.scans) waiters in
-    ap (map (bare_cert claim leg.opened upto)) all
-    ∙ (bare_certs claim leg.opened upto w bare
-    ∙ (ap₂ (λ (c : Claim) (u : ℕ). of_waiters c u (waiters_of w)) claimed up
-    ∙ ap (λ (o : Option Completion). of_waiters (claim_of leg.completed) (upto_of noted leg.completed) (end_waiters o w)) (sym unended)))
+-- ---- Those of a leg
+
+module _ (leg : OpenLeg) (w : WaitingGroups) where
+  abbrev kept_certs : ℕ → Option Completion → List Waiter → List Cert
+  kept_certs noted o waiters = map (kept_cert (claim_of o) leg.opened (upto_of noted o) w.reasons.lists w.reasons.scans) waiters
+
+  abbrev bare_by : ℕ → Option Completion → List GroupId → List Cert
+  bare_by noted o groups = map (bare_cert (claim_of o) leg.opened (upto_of noted o)) groups
+
+  abbrev IsBareBy : ℕ → Option Completion → Type 0
+  IsBareBy noted o = kept_certs noted o (end_waiters o w) ≡ bare_by noted o (end_groups o w)
+
+  -- one that isn't complete
+  pub open_bare : leg.completed ≡ None → AreBare w → IsBareLeg w leg
+  open_bare unended bare = λ noted. subst (IsBareBy noted) (sym unended) (sym (bare_certs Waiting leg.opened noted w bare))
+
+  -- and one that is, where its floor has no line
+  module _ (done : Completion) (complete : leg.completed ≡ Some done) where
+    by_floor : ((noted : ℕ) → kept_certs noted (Some done) (floor_waiters w.reasons done.floor) ≡ bare_by noted (Some done) (option_to_list done.floor)) → IsBareLeg w leg
+    by_floor same = λ noted. subst (IsBareBy noted) (sym complete) (same noted)
+
+    pub floorless_bare : done.floor ≡ None → IsBareLeg w leg
+    floorless_bare none = by_floor (λ noted.
+        ap (λ (f : Option GroupId). kept_certs noted (Some done) (floor_waiters w.reasons f)) none
+        ∙ sym (ap (λ (f : Option GroupId). bare_by noted (Some done) (option_to_list f)) none))
+
+    pub floor_bare : (group : GroupId) → done.floor ≡ Some group → ((scans : List ℕ) → head_lines w.reasons.lists scans group (head_of w.reasons group.0) ≡ []) → IsBareLeg w leg
+    floor_bare group some bare = by_floor (λ noted.
+        ap (λ (f : Option GroupId). kept_certs noted (Some done) (floor_waiters w.reasons f)) some
+        ∙ (ap (λ (lines : List Line). record { claim = Floor; leg = leg.opened; group = group; upto = done.at - 1; lines = reverse lines } ∷ []) (bare w.reasons.scans)
+        ∙ sym (ap (λ (f : Option GroupId). bare_by noted (Some done) (option_to_list f)) some)))

@@ -52,14 +52,6 @@ pub ended_so : (leg : OpenLeg) (w : WaitingGroups) (noted : ℕ) (certs : List C
 ended_so leg w noted certs end is same =
     is ∙ ap (λ (cs : List Cert). record { opened = leg.opened; target = leg.target; completed = option_map (λ done. done.at) leg.completed; certs = cs }) same
 
--- a group after which none waits
-pub one_passes : (set : Numbers) (n : ℕ) (left : List ℕ) → members_from 0 set ≡ n ∷ left → left ≡ [] → passing 0 65536 (has set) ≡ n ∷ []
-one_passes set n left first none = sym (members-passing set) ∙ (first ∙ ap (λ (l : List ℕ). n ∷ l) none)
-
--- the least group that waits does wait
-pub first_waits : (set : Numbers) (n : ℕ) (left : List ℕ) → members_from 0 set ≡ n ∷ left → n < 65536 → has set n ≡ true
-first_waits set n left first few = sym (members-any set (n ∷ left) (sym first) n few) ∙ ap (λ (b : Bool). b || list_any (nat_eq n) left) (eq-eqb n n refl)
-
 -- a group of which nothing continues and nothing is older
 pub bare_lines : (lists : List (List Reason)) (head : Head) → head.ongoing ≡ Nothing → length (get_or lists head.older.0 []) ≡ 0 → (scans : List ℕ) (group : GroupId) → head_lines lists scans group head ≡ []
 unfolding lines_of

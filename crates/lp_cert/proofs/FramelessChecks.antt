@@ -1,7 +1,6 @@
 -- An exit and an idle point write no line: whom they don't switch waits on for the same reasons.
-use Rattle.std.proofs.Common.{◌≡◌, ℕ, true, false, ◌||◌, Bool, List, [], Option, Some, None, is_none, is_some, if◌then◌else◌, nat_eq, refl, sym, ap, ◌∙◌}
+use Rattle.std.proofs.Common.{◌≡◌, ℕ, true, false, List, [], Option, Some, None, is_none, if◌then◌else◌, nat_eq, refl, sym, ap, ◌∙◌}
 use Rattle.std.specs.List.{list_any}
-use Rattle.std.proofs.lemmas.Bool.{false≢true}
 use Rattle.lp_model.specs.Rules.{Rules}
 use Rattle.lp_definitions.specs.declared.event.Event.{Event}
 use Rattle.lp_definitions.specs.declared.event.Event.TheVariants.{Exit, Idle}
@@ -58,13 +57,3 @@ answered model e event plain before group =
     let what = (answer model (state_in e) event).what in
     only_accepted what (lines_at before group) group
     ∙ ap (λ ls. if is_none (refusal_in what) then (if list_any (nat_eq group) (groups_of what) then None else ls) else lines_at before group) (sym (noted model e event plain before group))
-
--- ---- Whether the leg is over
-
-pub going : {A : Type 0} (o : Option A) (b : Bool) → (is_some o || b) ≡ true → o ≡ None → b ≡ false → ⊥
-going None b over unended unfinished = false≢true (sym unfinished ∙ over)
-going (Some done) b over unended unfinished = absurd (cc)
-
-pub goes : {A : Type 0} (o : Option A) (b : Bool) → (is_some o || b) ≡ false → (o ≡ None) × (b ≡ false)
-goes None b e = (refl, e)
-goes (Some done) b e = absurd (cc)

@@ -1,14 +1,22 @@
 -- Ends of legs as they are kept: what is added leaves the others as they are.
-use Rattle.std.proofs.Common.{◌≡◌, ℕ, zero, suc, ◌+◌, ◌≤◌, true, false, List, [], ◌∷◌, ◌++◌, length, map, drop, take, get_or, slice_get, Some, All, refl, sym, ap, ap₂, ◌∙◌, arith}
+use Rattle.std.proofs.Common.{◌≡◌, ℕ, zero, suc, ◌+◌, ◌≤◌, true, false, List, [], ◌∷◌, ◌++◌, length, map, drop, take, get_or, slice_get, Option, Some, None, All, refl, sym, ap, ap₂, ◌∙◌, arith}
 use Rattle.std.proofs.lemmas.Bool.{false≢true}
 use Rattle.std.proofs.lemmas.List.{drop-append-le, drop_all, get_or_append_left, length-append, length-drop, map-append, take-append-le, take_all}
 use Rattle.std.proofs.lemmas.List.Elements.{All-head, All-push, All-tail, All-weaker}
 use Rattle.lp_stack.specs.declared.number.GroupId.{GroupId}
 use Rattle.lp_definitions.specs.Ends.{LegEnd}
+use Rattle.lp_definitions.specs.declared.cert.Cert.{Cert}
+use Rattle.std.specs.Option.{option_map}
+use Rattle.lp_cert.specs.declared.open_leg.Completion.{Completion}
+use Rattle.lp_cert.specs.declared.open_leg.OpenLeg.{OpenLeg}
+use Rattle.lp_cert.specs.Invariant.{open_end}
+use Rattle.lp_cert.specs.Waiters.{WaitingGroups}
+use Rattle.lp_cert.specs.inside.Bare.{bare_certs}
+use Rattle.lp_cert.specs.inside.Invariant.{IsBareLeg, end_groups, head_after}
 use Rattle.lp_cert.specs.declared.leg_rows.LegRow.{LegRow}
 use Rattle.lp_cert.specs.declared.leg_rows.RowKind.{RowKind}
 use Rattle.lp_cert.specs.declared.leg_rows.RowKind.TheVariants.{Waiting, Complete, Other}
-use Rattle.lp_cert.specs.inside.LegRows.{IsFitting, IsFittingAs, IsRowOf, bare_end, is_other, row_end, row_end_as}
+use Rattle.lp_cert.specs.inside.LegRows.{IsFitting, IsFittingAs, bare_end, is_other, kind_of, row_after, row_end, row_end_as}
 
 -- ---- A part of a list
 
@@ -65,19 +73,25 @@ other_as Other gs os end row other place = ap (λ (n : ℕ). get_or (os ++ end �
     last [] = refl
     last (e ∷ es) = last es
 
-module _ (gs ms : List GroupId) (os : List LegEnd) (rows : List LegRow) (row : LegRow) (end : LegEnd) (all : All (IsFitting (length gs) (length os)) rows) (is : IsRowOf end (length gs) row ms) where
-  pub own_pushed : map (row_end (gs ++ ms) os) (rows ++ row ∷ []) ≡ map (row_end gs os) rows ++ end ∷ []
-  own_pushed =
-      map-append (row_end (gs ++ ms) os) rows (row ∷ [])
-      ∙ ap₂ (λ (es : List LegEnd) (e : LegEnd). es ++ e ∷ [])
-      (all_same (row_end (gs ++ ms) os) (row_end gs os) (IsFitting (length gs) (length os)) (λ r fits. same_with_groups r.kind gs ms os r fits) rows all)
-      (own_as row.kind gs ms os row is.own is.begins is.many ∙ sym is.tells)
+module _ (gs ms : List GroupId) (os : List LegEnd) (rows : List LegRow) (all : All (IsFitting (length gs) (length os)) rows) where
+  -- groups that no row tells of change nothing
+  pub groups_added : map (row_end (gs ++ ms) os) rows ≡ map (row_end gs os) rows
+  groups_added = all_same (row_end (gs ++ ms) os) (row_end gs os) (IsFitting (length gs) (length os)) (λ r fits. same_with_groups r.kind gs ms os r fits) rows all
 
-  pub own_fitting : All (IsFitting (length (gs ++ ms)) (length os)) (rows ++ row ∷ [])
-  own_fitting =
-      All-push (IsFitting (length (gs ++ ms)) (length os)) rows row
-      (All-weaker (IsFitting (length gs) (length os)) (IsFitting (length (gs ++ ms)) (length os)) (λ r fits. fits_further r.kind (length gs) (length (gs ++ ms)) (length os) (length os) r (omega (arith, length-append gs ms)) (omega arith) fits) rows all)
-      (own_fits row.kind (length (gs ++ ms)) (length os) row is.own (omega (arith, is.begins, is.many, length-append gs ms)))
+  pub still_fitting : All (IsFitting (length (gs ++ ms)) (length os)) rows
+  still_fitting =
+      All-weaker (IsFitting (length gs) (length os)) (IsFitting (length (gs ++ ms)) (length os)) (λ r fits. fits_further r.kind (length gs) (length (gs ++ ms)) (length os) (length os) r (omega (arith, length-append gs ms)) (omega arith) fits) rows all
+
+  module _ (row : LegRow) (own : is_other row.kind ≡ false) (begins : row.start ≡ length gs) (many : row.count ≡ length ms) where
+    pub own_pushed : map (row_end (gs ++ ms) os) (rows ++ row ∷ []) ≡ map (row_end gs os) rows ++ bare_end row ms ∷ []
+    own_pushed =
+        map-append (row_end (gs ++ ms) os) rows (row ∷ [])
+        ∙ ap₂ (λ (es : List LegEnd) (e : LegEnd). es ++ e ∷ []) groups_added (own_as row.kind gs ms os row own begins many)
+
+    pub own_fitting : All (IsFitting (length (gs ++ ms)) (length os)) (rows ++ row ∷ [])
+    own_fitting =
+        All-push (IsFitting (length (gs ++ ms)) (length os)) rows row still_fitting
+        (own_fits row.kind (length (gs ++ ms)) (length os) row own (omega (arith, begins, many, length-append gs ms)))
 
 module _ (gs : List GroupId) (os : List LegEnd) (rows : List LegRow) (row : LegRow) (end : LegEnd) (all : All (IsFitting (length gs) (length os)) rows) (other : is_other row.kind ≡ true) (place : row.start ≡ length os) where
   pub other_pushed : map (row_end gs (os ++ end ∷ [])) (rows ++ row ∷ []) ≡ map (row_end gs os) rows ++ end ∷ []
@@ -86,6 +100,30 @@ module _ (gs : List GroupId) (os : List LegEnd) (rows : List LegRow) (row : LegR
       ∙ ap₂ (λ (es : List LegEnd) (e : LegEnd). es ++ e ∷ [])
       (all_same (row_end gs (os ++ end ∷ [])) (row_end gs os) (IsFitting (length gs) (length os)) (λ r fits. same_with_ends r.kind gs os (end ∷ []) r fits) rows all)
       (other_as row.kind gs os end row other place)
+
+-- ---- The row of a leg
+
+pub own_row : (noted : ℕ) (leg : OpenLeg) (start count : ℕ) → is_other (row_after noted leg start count).kind ≡ false
+own_row noted leg start count = by leg.completed
+  where
+    by : (o : Option Completion) → is_other (kind_of o) ≡ false
+    by None = refl
+    by (Some done) = refl
+
+-- it tells the end of the leg
+pub row_tells : (noted : ℕ) (leg : OpenLeg) (start count : ℕ) (w : WaitingGroups) → IsBareLeg w leg → bare_end (row_after noted leg start count) (end_groups leg.completed w) ≡ open_end noted w leg
+row_tells noted leg start count w bare =
+    by leg.completed
+    ∙ ap (λ (certs : List Cert). record { opened = leg.opened; target = leg.target; completed = option_map (λ done. done.at) leg.completed; certs = certs }) (sym (bare noted))
+  where
+    gs : List GroupId
+    gs = end_groups leg.completed w
+
+    by : (o : Option Completion)
+        → bare_end (row_after noted (record leg { completed = o }) start count) gs
+        ≡ record { opened = leg.opened; target = leg.target; completed = option_map (λ done. done.at) o; certs = bare_certs (head_after noted (record leg { completed = o })) gs }
+    by None = refl
+    by (Some done) = refl
 
 -- ---- One after the other
 

@@ -36,6 +36,7 @@ pub mod Noted
 pub mod NotedBy
 pub mod PlainEvents
 pub mod FramelessChecks
+pub mod LegSteps
 pub mod Passed
 pub mod Upto
 pub mod QuietScans

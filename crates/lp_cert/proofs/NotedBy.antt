@@ -1,6 +1,5 @@
 -- What is made of a run with an event more that opens no leg, by verdicts that tell of each group that has changed.
 use Rattle.std.proofs.Common.{◌≡◌, ◌⊎◌, ℕ, ◌+◌, ◌<◌, true, false, List, length, Option, Some, None, if◌then◌else◌, nat_eq, refl, sym, ap, subst, inl, inr, ◌∙◌, ⊎_elim}
-use Rattle.std.specs.List.{list_any}
 use Rattle.std.proofs.lemmas.Bool.{cases_Bool, eq-eqb}
 use Rattle.lp_numbers.specs.Numbers.{has}
 use Rattle.lp_model.specs.Rules.{Rules, IsLawful}
@@ -9,18 +8,15 @@ use Rattle.lp_model.specs.declared.verdict.Verdict.{Verdict}
 use Rattle.lp_definitions.specs.declared.event.Event.{Event}
 use Rattle.lp_definitions.specs.Tasks.{Live, on_live}
 use Rattle.lp_definitions.specs.Leg.{LegTask, State}
-use Rattle.lp_machine.specs.Machine.{waits_in}
 use Rattle.lp_definitions.specs.Run.{Run, leg_of, plus}
 use Rattle.lp_transition.specs.Scan.{is_of, verdicts_of}
 use Rattle.lp_definitions.specs.Sound.{IsSound}
 use Rattle.lp_machine.specs.Steps.{StandsIn}
-use Rattle.lp_machine.specs.Table.{Engine, IsWide, LastScan, state_in}
+use Rattle.lp_machine.specs.Table.{Engine, LastScan, state_in}
 use Rattle.lp_transition.specs.Weigh.{AreVerdictsFor, IsWeighed, Weighed}
 use Rattle.lp_transition.proofs.AskedScans.{all-enough}
 use Rattle.lp_transition.proofs.ScanAnswers.{verdicts-scan}
 use Rattle.lp_transition.proofs.ScanLists.{verdict-from}
-use Rattle.lp_transition.proofs.ScanTakes.{group_fits}
-use Rattle.lp_tasks.proofs.TableLemmas.{slot_from_live}
 use Rattle.lp_cert.specs.declared.open_leg.OpenLeg.{OpenLeg}
 use Rattle.lp_definitions.specs.Certificates.{lines}
 use Rattle.lp_cert.specs.Ends.{Made, IsMadeWith, is_opening}
@@ -29,11 +25,10 @@ use Rattle.lp_transition.specs.Blames.{TellOf}
 use Rattle.lp_transition.specs.LastScan.{IsLastScanAfter, TellOfChanges, used_scan}
 use Rattle.lp_cert.specs.Waiters.{WaitingGroups}
 use Rattle.lp_cert.specs.inside.Invariant.{IsNoted, with_verdicts}
-use Rattle.lp_cert.specs.inside.ToldGroups.{AreToldOf, TellOfChanged, is_of_group}
-use Rattle.lp_cert.proofs.Noted.{engine_sound, lines_before, present_sound, some_before, still_made, was_unchanged}
+use Rattle.lp_cert.specs.inside.ToldGroups.{TellOfChanged, Tells}
+use Rattle.lp_cert.proofs.Noted.{engine_sound, still_made, was_unchanged}
 use Rattle.lp_cert.proofs.ScanTold.{tells_unchanged}
-use Rattle.lp_cert.proofs.HeldLines.{lines_held}
-use Rattle.lp_cert.proofs.UnchangedSteps.{of_member, scan_is}
+use Rattle.lp_cert.proofs.UnchangedSteps.{scan_is}
 
 -- ---- The verdicts of all waiting tasks
 
@@ -54,6 +49,37 @@ enough_all model s event on is =
     let scan = scan_is model event on is in
     subst (λ (ev : Event). AreVerdictsFor model s ev (verdicts_of model on s)) (sym scan.is) (verdicts-scan model s on (verdicts_of model on s) scan.scan (all-enough model on s (verdicts_of model on s) refl))
 
+-- verdicts by which an event may be answered, and that tell of each group that has changed
+pub record AreTold (model : Rules) (e : Engine) (step : Weighed) : Type 0 where
+  pub verdicts : List Verdict
+  pub enough : AreVerdictsFor model (state_in e) step.event verdicts
+  pub tells : Tells model e (with_verdicts step verdicts)
+
+-- at a scan those of all
+pub whole_told : (model : Rules) (e : Engine) (step : Weighed) (on : CheckKind) → used_scan model step.event ≡ Some on → AreTold model e step
+whole_told model e step on is = record {
+  verdicts = verdicts_of model on (state_in e);
+  enough = enough_all model (state_in e) step.event on is;
+  tells = λ other used. inl (ap (λ (k : CheckKind). verdicts_of model k (state_in e)) (same_some on other (sym is ∙ used)));
+}
+  where
+    same_some : (a b : CheckKind) → Some a ≡ Some b → a ≡ b
+    same_some a b e = cc
+
+-- at any other event its own
+pub own_told : (model : Rules) (e : Engine) (step : Weighed) → IsWeighed model e step → used_scan model step.event ≡ None → AreTold model e step
+own_told model e step weighed none = record { verdicts = step.verdicts; enough = weighed.verdicts; tells = λ on used. absurd (none_some on (sym none ∙ used)) }
+  where
+    none_some : {A : Type 0} (a : A) → None ≡ Some a → ⊥
+    none_some a e = absurd (cc)
+
+pub all_told : (model : Rules) (e : Engine) (step : Weighed) → IsWeighed model e step → AreTold model e step
+all_told model e step weighed = by (used_scan model step.event) refl
+  where
+    by : (o : Option CheckKind) → used_scan model step.event ≡ o → AreTold model e step
+    by None is = own_told model e step weighed is
+    by (Some on) is = whole_told model e step on is
+
 -- ---- Verdicts of the groups that have changed
 
 -- the scan tells of them
@@ -69,46 +95,21 @@ tells_changed model e sound on vs tells =
     (cases_Bool (has e.last_scan.changed x.group)))
     tells
 
-suffices_from : (model : Rules) (e : Engine) (event : Event) (before : WaitingGroups) (vs : List Verdict) → IsSound (state_in e) → IsWide e.table
-    → ((t : ℕ) (x : LegTask) → (state_in e).tasks t ≡ Live x → nat_eq x.level e.target ≡ false → x.group < 65536 → has before.groups x.group ≡ true)
-    → AreToldOf model e event before vs → TellOfChanged (state_in e) (used_scan model event) vs e.last_scan
-suffices_from model e event before vs sound wide waits told = by (used_scan model event) refl
+suffices_from : (model : Rules) (e : Engine) (event : Event) (vs : List Verdict) → IsSound (state_in e) → ((on : CheckKind) → used_scan model event ≡ Some on → TellOfChanges model e on vs)
+    → TellOfChanged (state_in e) (used_scan model event) vs e.last_scan
+suffices_from model e event vs sound tells = by (used_scan model event) refl
   where
     by : (o : Option CheckKind) → used_scan model event ≡ o → TellOfChanged (state_in e) o vs e.last_scan
     by None is = tt
-    by (Some on) is =
-        ⊎_elim
-        (tells_changed model e sound on vs)
-        (λ (groups : (g : ℕ) → g < 65536 → has before.groups g ≡ true → (list_any (is_of_group e g) vs ≡ true) ⊎ ((e.last_scan.kind ≡ Some on) × (has e.last_scan.changed g ≡ false))).
-        λ t x live off.
-        let few = group_fits e t x sound wide (slot_from_live e.table t x live) in
-        ⊎_elim
-        (λ (some : list_any (is_of_group e x.group) vs ≡ true). inl (of_member e x.group vs ∙ some))
-        (λ (left : (e.last_scan.kind ≡ Some on) × (has e.last_scan.changed x.group ≡ false)). inr left)
-        (groups x.group few (waits t x live off few)))
-        (told on is)
+    by (Some on) is = tells_changed model e sound on vs (tells on is)
 
 module _ (model : Rules) (lawful : IsLawful model) (run : Run) (e : Engine) (stands : StandsIn model run (state_in e)) (step : Weighed) (weighed : IsWeighed model e step) (made new : Made) (is : IsMadeWith model run e.last_scan made)
     (after : Engine) (stands_after : StandsIn model (plus run step.event) (state_in after)) (known : IsLastScanAfter model e step.event after)
-    (stays : is_opening step ≡ false) (ended : new.ended ≡ made.ended) (wide : IsWide e.table) (noted number : ℕ) (leg later_leg : OpenLeg) (before later : WaitingGroups) (old : made.current ≡ Some (open_end noted before leg)) where
-  abbrev sound : IsSound (state_in e)
-  sound = engine_sound model lawful run e stands
-
-  -- who waits is kept
-  waits_kept : leg.completed ≡ None → (t : ℕ) (x : LegTask) → (state_in e).tasks t ≡ Live x → nat_eq x.level e.target ≡ false → x.group < 65536 → has before.groups x.group ≡ true
-  waits_kept unended t x live off few =
-      let present = leg_of model run in
-      let was = some_before model _ present (open_end noted before leg) (sym old ∙ is.current) in
-      let told : (g : ℕ) → g < 65536 → _ = λ g below.
-      lines_before model lawful e sound present (present_sound model lawful run e stands) stands.there step weighed noted leg before was.0 unended g below
-      ∙ ap (λ (s : State). if waits_in s g then Some (lines model present (length present.events) g) else None) stands.there in
-      (lines_held model lawful present (present_sound model lawful run e stands) before (length present.events) told t x
-      (subst (λ (s : State). s.tasks t ≡ Live x) stands.there live) (subst (λ (s : State). nat_eq x.level s.target ≡ false) stands.there off) few).0
-
+    (stays : is_opening step ≡ false) (ended : new.ended ≡ made.ended) (noted number : ℕ) (leg later_leg : OpenLeg) (before later : WaitingGroups) (old : made.current ≡ Some (open_end noted before leg)) where
   pub noted_made : number ≡ e.number + 1 → IsNoted model e step number leg later_leg before later → new.current ≡ Some (open_end number later later_leg) → IsMadeWith model (plus run step.event) after.last_scan new
   noted_made numbered on now =
-      still_made model lawful run e stands (with_verdicts step on.verdicts) (record { room = weighed.room; reply = weighed.reply; verdicts = on.told.enough }) made new is after stands_after known stays ended noted number leg later_leg before later numbered on.gone_on
+      still_made model lawful run e stands (with_verdicts step on.verdicts) (record { room = weighed.room; reply = weighed.reply; verdicts = on.enough }) made new is after stands_after known stays ended noted number leg later_leg before later numbered on.gone_on
       (λ unended incomplete.
       tells_unchanged model (state_in e) (lines model (leg_of model run) (length (leg_of model run).events)) e.last_scan (was_unchanged model lawful run e stands made is) (used_scan model step.event) on.verdicts
-      (suffices_from model e step.event before on.verdicts sound wide (waits_kept unended) (on.told.told unended incomplete)))
+      (suffices_from model e step.event on.verdicts (engine_sound model lawful run e stands) on.tells))
       old now

@@ -22,7 +22,6 @@ use Rattle.lp_tasks.specs.inside.Table.{is_in}
 use Rattle.lp_definitions.specs.declared.line.Line.{Line}
 use Rattle.lp_definitions.specs.Certificates.{lines}
 use Rattle.lp_cert.specs.Unchanged.{AreUnchanged, AreUnchangedBy, AreUnchangedSince}
-use Rattle.lp_cert.specs.inside.ToldGroups.{is_of_group}
 use Rattle.lp_cert.proofs.UnchangedEvents.{IsNoUsedScan, unchanged_by}
 use Rattle.lp_cert.proofs.UnchangedScans.{scan_leaves_unchanged}
 
@@ -70,15 +69,6 @@ scan_is model Stop on some =
     let told = used_some model kind.Stop on some in
     subst (IsUsedScan model Stop) told.0 (record { is = refl; scan = refl; used = told.1 })
 scan_is model _ on some = absurd (some_none on (sym some))
-
--- a verdict is of a member of the group in the words of the machine and in those of the engine
-fate_is : (g : ℕ) (o : Option LegTask) (used : Bool) → on_live false (λ y. nat_eq y.group g) (fate_at o used) ≡ is_in g o
-fate_is g None true = refl
-fate_is g None false = refl
-fate_is g (Some x) used = refl
-
-pub of_member : (e : Engine) (g : ℕ) (vs : List Verdict) → list_any (is_of (state_in e) g) vs ≡ list_any (is_of_group e g) vs
-of_member e g vs = ap (λ test. list_any test vs) (fun_ext (λ v. fate_is g (slot e.table v.task.0) (has e.table.used v.task.0)))
 
 -- ---- An event that opens no leg
 

@@ -1,4 +1,4 @@
-//! A certificate without its lines.
+//! Certificates without their lines.
 
 use lp_definitions::Claim;
 use lp_stack::GroupId;
@@ -14,4 +14,14 @@ pub struct CertHead {
     pub group: GroupId,
     /// The number of the last event after which it waits.
     pub upto: u64,
+}
+
+/// What the certificates of a leg have in common.
+#[derive(Clone, Copy)]
+pub(crate) struct CommonHead {
+    pub(crate) claim: Claim,
+    /// The event that opened the leg.
+    pub(crate) leg: u32,
+    /// The event up to which they go.
+    pub(crate) upto: u32,
 }

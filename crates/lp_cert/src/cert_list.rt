@@ -1,19 +1,19 @@
 //! The certificates of one leg.
-ghost use Rattle.std.specs.Prelude.{◌≡◌, ◌<◌, ◌≤◌, ◌↔◌, [], ◌∷◌, Some, length, map, slice_get, IfOk, IfSome, IsTrue};
+ghost use Rattle.std.specs.Prelude.{◌≡◌, ◌<◌, ◌≤◌, ◌↔◌, [], Some, length, map, slice_get, IfOk, IsTrue};
 ghost use Rattle.std.specs.Option.{option_map};
 ghost use Rattle.lp_cert.specs.Beside.{BeginWith};
 ghost use Rattle.lp_cert.specs.Ends.{cert_head};
 ghost use Rattle.lp_cert.specs.Waiters.{kept_cert};
-ghost use Rattle.lp_cert.specs.inside.Bare.{bare_cert, bare_certs};
+ghost use Rattle.lp_cert.specs.inside.Bare.{bare_certs};
 ghost use Rattle.lp_cert.specs.inside.Kept.{up_to};
 ghost use Rattle.lp_cert.specs.inside.Waiters.{AreHeads};
 
-use crate::cert_head::CertHead;
+use crate::cert_head::{CertHead, CommonHead};
 use crate::cert_lines::CertLines;
 use crate::chains::Chains;
 use crate::head::Waiter;
 use crate::many_certs::ManyCerts;
-use lp_definitions::{Cert, Claim};
+use lp_definitions::Cert;
 use lp_stack::GroupId;
 use std::alloc::{AllocError, Global};
 use std::marker::Model;
@@ -33,24 +33,10 @@ impl Drop for CertList {
     }
 }
 
-/// What certificates of groups of which the leg has no reason have in common.
-#[derive(Clone, Copy)]
-pub(crate) struct BareHead {
-    pub(crate) claim: Claim,
-    /// The event that opened the leg.
-    pub(crate) leg: u32,
-    /// The event up to which they go.
-    pub(crate) upto: u32,
-}
-
-/// What is kept of the certificates of a leg. Most short legs have no certificate or one without a
-/// line, which take no memory beside the leg's, or several without a line, of which the groups are
-/// enough.
+/// What is kept of the certificates of a leg: of those without a line the groups are enough.
 #[derive(Drop)]
 pub(crate) enum Kept {
-    Nothing(BareHead),
-    Bare(BareHead, [GroupId; 1]),
-    Bares(BareHead, Vec<GroupId>),
+    Bare(CommonHead, Vec<GroupId>),
     Many(Box<ManyCerts>),
 }
 
@@ -65,30 +51,12 @@ impl Model for CertList {
 }
 
 impl CertList {
-    /// No certificate. Never allocates.
-    pub(crate) fn none(claim: Claim, leg: u32, upto: u32) -> CertList
-        ensures { result ≡ [] }
-    {
-        CertList {
-            kept: Kept::Nothing(BareHead { claim, leg, upto }),
-        }
-    }
-
-    /// The certificate of a group without any reason. Never allocates.
-    pub(crate) fn bare(claim: Claim, leg: u32, upto: u32, group: GroupId) -> CertList
-        ensures { result ≡ bare_cert claim leg upto group ∷ [] }
-    {
-        CertList {
-            kept: Kept::Bare(BareHead { claim, leg, upto }, [group]),
-        }
-    }
-
     /// The certificates of groups without any reason. Never allocates.
-    pub(crate) fn bares(claim: Claim, leg: u32, upto: u32, groups: Vec<GroupId>) -> CertList
-        ensures { result ≡ map (bare_cert claim leg upto) groups.items }
+    pub(crate) fn bare(head: CommonHead, groups: Vec<GroupId>) -> CertList
+        ensures { result ≡ bare_certs head groups.items }
     {
         CertList {
-            kept: Kept::Bares(BareHead { claim, leg, upto }, groups),
+            kept: Kept::Bare(head, groups),
         }
     }
 
@@ -96,17 +64,15 @@ impl CertList {
     /// AllocError where an allocation failed.
     pub(crate) fn many(
         alloc: Global,
-        claim: Claim,
-        leg: u32,
-        upto: u32,
+        head: CommonHead,
         waiters: Vec<Waiter>,
         chains: Chains,
         scans: Vec<u32>,
     ) -> Result<CertList, AllocError>
         requires { AreHeads chains.lists (length scans.items) waiters.items }
-        ensures { IfOk result (λ certs. certs ≡ map (kept_cert claim leg upto chains.lists scans.items) waiters.items) }
+        ensures { IfOk result (λ certs. certs ≡ map (kept_cert head.claim head.leg head.upto chains.lists scans.items) waiters.items) }
     {
-        let many = ManyCerts::new(claim, leg, upto, waiters, chains, scans);
+        let many = ManyCerts::new(head, waiters, chains, scans);
         Ok(CertList {
             kept: Kept::Many(Box::new(alloc, many)?),
         })
@@ -117,9 +83,7 @@ impl CertList {
         ensures { self.new ≡ up_to upto self.old }
     {
         match &mut self.kept {
-            Kept::Nothing(head) => head.upto = upto,
             Kept::Bare(head, _) => head.upto = upto,
-            Kept::Bares(head, _) => head.upto = upto,
             Kept::Many(many) => many.go_up_to(upto),
         }
     }
@@ -129,9 +93,7 @@ impl CertList {
         ensures { result ≡ self.now }
     {
         match &self.kept {
-            Kept::Nothing(head) => CertListRef::bare(*head, &[]),
-            Kept::Bare(head, group) => CertListRef::bare(*head, group),
-            Kept::Bares(head, groups) => CertListRef::bare(*head, groups.as_slice()),
+            Kept::Bare(head, groups) => CertListRef::bare(*head, groups.as_slice()),
             Kept::Many(many) => CertListRef::many(many),
         }
     }
@@ -148,7 +110,7 @@ pub struct CertListRef<'a> {
 /// What is borrowed: groups without any reason, or groups with their reasons.
 #[derive(Clone, Copy)]
 pub(crate) enum KeptRef<'a> {
-    Bare(BareHead, &'a [GroupId]),
+    Bare(CommonHead, &'a [GroupId]),
     Many(&'a ManyCerts),
 }
 
@@ -164,7 +126,7 @@ impl<'a> Model for CertListRef<'a> {
 
 impl<'a> CertListRef<'a> {
     /// Those of groups without any reason.
-    pub(crate) fn bare(head: BareHead, groups: &'a [GroupId]) -> CertListRef<'a>
+    pub(crate) fn bare(head: CommonHead, groups: &'a [GroupId]) -> CertListRef<'a>
         ensures { result ≡ bare_certs head groups.now }
     {
         CertListRef {
@@ -178,16 +140,6 @@ impl<'a> CertListRef<'a> {
     {
         CertListRef {
             kept: KeptRef::Many(certs),
-        }
-    }
-
-    /// What they have in common and their groups, where it is known that none has a line.
-    pub(crate) fn bare_parts(&self) -> Option<(BareHead, &'a [GroupId])>
-        ensures { IfSome result (λ parts. self.now ≡ bare_certs parts.0 parts.1.now) }
-    {
-        match self.kept {
-            KeptRef::Bare(head, groups) => Some((head, groups)),
-            KeptRef::Many(_) => None,
         }
     }
 
@@ -296,7 +248,7 @@ impl<'a> CertListRef<'a> {
     }
 }
 
-impl BareHead {
+impl CommonHead {
     /// The certificate of the group at a place, without its lines, of which there is none.
     fn of_group(self, groups: &[GroupId], place: usize) -> CertHead
         requires { place < length groups.now }

@@ -120,6 +120,17 @@ impl Chains {
         ChainId(self.entries.len())
     }
 
+    /// The empty list.
+    #[inline(always)]
+    pub(crate) fn none(&self) -> ChainId
+        ensures known { result.0 < length self.now.lists }
+        ensures list { slice_index_or self.now.lists result.0 [] ≡ [] }
+    {
+        // For the proof alone, which knows what every value keeps once a field is read.
+        let _ = &self.entries;
+        ChainId(0)
+    }
+
     /// How many reasons a list has.
     pub(crate) fn count(&self, id: ChainId) -> usize
         requires { id.0 < length self.now.lists }

@@ -1,6 +1,7 @@
 //! Sets of groups.
 ghost use Rattle.std.specs.Prelude.{◌≡◌, ◌<◌, ℕ, true, false, length, map, slice_set, IfOk};
 ghost use Rattle.lp_numbers.specs.Numbers.{has, IsEmpty, IsNextFrom};
+ghost use Rattle.lp_cert.specs.inside.GroupSet.{IsLonger};
 ghost use Rattle.lp_numbers.specs.Ascending.{members_from};
 ghost use Rattle.lp_tasks.specs.Passing.{passing};
 ghost use Rattle.lp_definitions.specs.Certificates.{group_id};
@@ -9,9 +10,6 @@ use lp_numbers::{Ascending, NumberSet};
 use lp_stack::GroupId;
 use std::alloc::{AllocError, Global};
 use std::marker::Model;
-
-/// How many groups there is room for in a new list: no memory that is asked for is less.
-const LEAST_ROOM: usize = 12;
 
 /// A set of groups that knows a number above all of them, so that a table of what is kept of each
 /// needn't be longer. Only `new` allocates.
@@ -73,15 +71,15 @@ impl GroupSet {
         self.groups.iter()
     }
 
-    /// The members as a list, in increasing order; AllocError where an allocation failed.
-    pub(crate) fn list(&self, alloc: Global) -> Result<Vec<GroupId>, AllocError>
-        ensures { IfOk result (λ list. list.items ≡ map group_id (passing 0 65536 (has self.now))) }
+    /// Puts the members behind a list, in increasing order; AllocError where an allocation failed, and then
+    /// some of them may be there.
+    pub(crate) fn append_to(&self, list: &mut Vec<GroupId>) -> Result<(), AllocError>
+        ensures { IsLonger list.old.items list.new.items result (map group_id (passing 0 65536 (has self.now))) }
     {
-        let mut list = Vec::with_capacity(alloc, LEAST_ROOM)?;
         for number in self {
             list.push(GroupId(number))?;
         }
-        Ok(list)
+        Ok(())
     }
 
     /// Makes a group a member.
@@ -91,13 +89,6 @@ impl GroupSet {
     {
         self.groups.insert(group);
         self.bound = self.bound.max(usize::from(group) + 1);
-    }
-
-    /// The groups, as a set.
-    pub(crate) fn as_set(&self) -> &NumberSet
-        ensures { result.now ≡ self.now }
-    {
-        &self.groups
     }
 
     /// Makes a group no member.

@@ -69,9 +69,7 @@ impl Head {
         if self.is_bare(chains) {
             return CertLines::none();
         }
-        let ongoing = ongoing_reason(scans, group, self.ongoing);
-        let reasons = OldestFirst::new(chains, self.older, ongoing);
-        CertLines::new(group, scans, reasons)
+        self.lines_after(chains, scans, group, chains.none())
     }
 
     /// The lines of the reasons as they stand but for those of a list that the older ones end with.

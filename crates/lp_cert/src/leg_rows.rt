@@ -1,10 +1,15 @@
 //! The ends of legs, in as little memory as a run with as many legs as events wants.
-ghost use Rattle.std.specs.Prelude.{◌≡◌, ◌+◌, ◌<◌, ◌≤◌, ◌++◌, ◌∷◌, [], drop, false, length, option_to_list, slice_get, take, true, IfSome, OnOk, Some};
+ghost use Rattle.std.specs.Prelude.{◌≡◌, ◌+◌, ◌<◌, ◌≤◌, ◌++◌, ◌∷◌, [], drop, false, length, option_to_list, slice_get, take, true, IfOk, OnErr, OnOk, Some};
 ghost use Rattle.lp_cert.specs.Ends.{end_in};
-ghost use Rattle.lp_cert.specs.inside.LegRows.{HasRoomFor, IsRowOf, bare_end, claim_in, completed_in, is_other};
+ghost use Rattle.lp_cert.specs.Invariant.{open_end};
+ghost use Rattle.lp_cert.specs.inside.Invariant.{HasFloor, IsBareLeg};
+ghost use Rattle.lp_cert.specs.inside.LegRows.{HasRoom, bare_end, is_other};
 
-use crate::cert_list::{BareHead, CertList, CertListRef};
+use crate::cert_head::CommonHead;
+use crate::cert_list::CertListRef;
 use crate::leg_end::{LegEnd, LegEndRef};
+use crate::open_leg::OpenLeg;
+use crate::waiters::Waiters;
 use lp_definitions::Claim;
 use lp_stack::{GroupId, Level};
 use std::alloc::{AllocError, Global};
@@ -32,8 +37,8 @@ pub(crate) enum RowKind {
 pub(crate) struct LegRow {
     /// The event that opened the leg.
     pub(crate) opened: u32,
-    /// The event up to which its certificates go: the last before it was complete.
-    pub(crate) upto: u32,
+    /// The event from which on it was complete; of one that isn't the event up to which its certificates go.
+    pub(crate) at: u32,
     /// Where the groups of its certificates begin, or its place among the others.
     pub(crate) start: u32,
     /// How many certificates there are.
@@ -59,7 +64,7 @@ impl Model for LegRows {
 
     ghost Value = { KeptEnds };
 
-    ghost view = { λ l. record { ends = map (row_end l.groups.items l.others.items) l.rows.items; row_room = vec_capacity l.rows - vec_len l.rows; group_room = vec_capacity l.groups - vec_len l.groups; other_room = vec_capacity l.others - vec_len l.others; places = 4294967296 - vec_len l.others } };
+    ghost view = { λ l. record { ends = map (row_end l.groups.items l.others.items) l.rows.items; row_room = vec_capacity l.rows - vec_len l.rows; other_room = vec_capacity l.others - vec_len l.others; places = 4294967296 - vec_len l.others } };
 
     ghost invariant = { λ l. All (IsFitting (length l.groups.items) (length l.others.items)) l.rows.items };
 }
@@ -83,34 +88,68 @@ impl LegRows {
         self.rows.len()
     }
 
-    /// Makes room for an end with these certificates; AllocError where an allocation failed.
-    pub(crate) fn reserve(&mut self, certs: &CertList) -> Result<(), AllocError>
+    /// Makes room for an end that is kept whole; AllocError where an allocation failed.
+    pub(crate) fn reserve(&mut self) -> Result<(), AllocError>
         ensures ends { self.new.ends ≡ self.old.ends }
-        ensures room { OnOk result (HasRoomFor self.new certs.now) }
+        ensures room { OnOk result (HasRoom self.new) }
     {
-        if self.others.len() > u32::MAX as usize {
+        if self.others.len() > MOST_PLACES {
             return Err(AllocError);
         }
         self.rows.reserve(1)?;
-        self.others.reserve(1)?;
-        self.groups.reserve(certs.borrowed().len())
+        self.others.reserve(1)
     }
 
-    /// One end more, for which there is room. Never allocates.
+    /// One end more, which is kept whole, and for which there is room. Never allocates.
     pub(crate) fn push_reserved(&mut self, end: LegEnd)
-        requires { HasRoomFor self.old end.certs }
+        requires { HasRoom self.old }
         ensures { self.new.ends ≡ self.old.ends ++ end ∷ [] }
     {
-        let Some((row, groups)) = row_of(&end, self.groups.len()) else {
-            let row = other_row(self.others.len() as u32);
-            self.others.push_reserved(end);
-            self.rows.push_reserved(row);
-            return;
-        };
-        let Ok(()) = self.groups.extend_from_slice(groups) else {
-            unreachable!()
-        };
+        let row = other_row(self.others.len() as u32);
+        self.others.push_reserved(end);
         self.rows.push_reserved(row);
+    }
+
+    /// The end of a leg more, as it stands after so many events; AllocError where an allocation failed, and then
+    /// the ends are as they were.
+    pub(crate) fn push_leg(
+        &mut self,
+        alloc: Global,
+        leg: OpenLeg,
+        noted: u32,
+        waiters: &Waiters,
+    ) -> Result<(), AllocError>
+        requires { HasFloor waiters.now leg.completed }
+        ensures ends { OnOk result (self.new.ends ≡ self.old.ends ++ open_end noted waiters.now leg ∷ []) }
+        ensures left { OnErr result (self.new.ends ≡ self.old.ends) }
+    {
+        if leg.is_bare(waiters) {
+            if self.push_bare(leg, noted, waiters)? {
+                return Ok(());
+            }
+        }
+        let certs = leg.certs(alloc, noted, waiters)?;
+        self.reserve()?;
+        self.push_reserved(leg.end(certs));
+        Ok(())
+    }
+
+    /// The same, where no certificate has a line and a row can tell all. Says whether it can: if not, the ends
+    /// are as they were.
+    fn push_bare(&mut self, leg: OpenLeg, noted: u32, waiters: &Waiters) -> Result<bool, AllocError>
+        requires { IsBareLeg waiters.now leg }
+        ensures ends { IfOk result (λ told. told ≡ true → self.new.ends ≡ self.old.ends ++ open_end noted waiters.now leg ∷ []) }
+        ensures whole { IfOk result (λ told. told ≡ false → self.new.ends ≡ self.old.ends) }
+        ensures left { OnErr result (self.new.ends ≡ self.old.ends) }
+    {
+        let start = self.groups.len();
+        leg.append_groups(waiters, &mut self.groups)?;
+        let count = self.groups.len() - start;
+        if start > MOST_PLACES || count > MOST_GROUPS {
+            return Ok(false);
+        }
+        self.rows.push(leg.row(noted, start as u32, count as u16))?;
+        Ok(true)
     }
 
     /// The end at a place, from 0, borrowed.
@@ -140,14 +179,20 @@ impl LegRow {
         requires within { self.start + self.count ≤ length groups.now }
         ensures { end_in result ≡ bare_end self (take self.count (drop self.start groups.now)) }
     {
-        let (claim, completed) = match self.kind {
-            RowKind::Complete => (Claim::Floor, Some(u64::from(self.upto) + 1)),
-            _ => (Claim::Waiting, None),
+        let (claim, completed, upto) = match self.kind {
+            RowKind::Complete => {
+                (
+                    Claim::Floor,
+                    Some(u64::from(self.at)),
+                    self.at.saturating_sub(1),
+                )
+            }
+            _ => (Claim::Waiting, None, self.at),
         };
-        let head = BareHead {
+        let head = CommonHead {
             claim,
             leg: self.opened,
-            upto: self.upto,
+            upto,
         };
         let (_, from_start) = groups.split_at(self.start as usize);
         let (own, _) = from_start.split_at(usize::from(self.count));
@@ -160,45 +205,6 @@ impl LegRow {
     }
 }
 
-/// The row of an end whose certificates have no line, where their groups begin at a place, and these
-/// groups; None where a row can't tell all.
-fn row_of(end: &LegEnd, start: usize) -> Option<(LegRow, &[GroupId])>
-    ensures { IfSome result (λ found. IsRowOf end.now start found.0 found.1.now) }
-{
-    let Some((head, groups)) = end.certs.borrowed().bare_parts() else {
-        return None;
-    };
-    let Some(kind) = kind_of(end.completed, head) else {
-        return None;
-    };
-    let count = groups.len();
-    if end.opened != u64::from(head.leg) || start > MOST_PLACES || count > MOST_GROUPS {
-        return None;
-    }
-    let row = LegRow {
-        opened: head.leg,
-        upto: head.upto,
-        start: start as u32,
-        count: count as u16,
-        target: end.target,
-        kind,
-    };
-    Some((row, groups))
-}
-
-/// By which kind a row tells that a leg was complete so and has certificates that begin so, if by any.
-fn kind_of(completed: Option<u64>, head: BareHead) -> Option<RowKind>
-    ensures { IfSome result (λ kind. (is_other kind ≡ false) × (completed ≡ completed_in kind head.upto) × (head.claim ≡ claim_in kind)) }
-{
-    match completed {
-        None if head.claim == Claim::Waiting => Some(RowKind::Waiting),
-        Some(at) if head.claim == Claim::Floor && at == u64::from(head.upto) + 1 => Some(
-            RowKind::Complete,
-        ),
-        _ => None,
-    }
-}
-
 /// The row of an end that is kept whole, at a place among those.
 fn other_row(place: u32) -> LegRow
     ensures kind { is_other result.kind ≡ true }
@@ -206,7 +212,7 @@ fn other_row(place: u32) -> LegRow
 {
     LegRow {
         opened: 0,
-        upto: 0,
+        at: 0,
         start: place,
         count: 0,
         target: Level(0),

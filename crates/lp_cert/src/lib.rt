@@ -2,9 +2,9 @@
 //!
 //! Costs: the memory is linear in the events. Lists of reasons share their older parts, so a child has its parent's
 //! reasons for one entry of about 75 bytes, and what continues is kept by its beginning alone. Lines come to be only
-//! where a certificate is written out. A scan costs what its verdicts cost, one that leaves out a changed group that
-//! waits a look at each live task; a control event that opens a leg goes over the live tasks; any other event is
-//! constant. A `Maker` has 32 bytes for each number up to the greatest group that waited. The end of a leg keeps a
+//! where a certificate is written out. A scan costs what its verdicts cost, and with
+//! `Maker::note` a look at each live task; a control event that opens a leg goes over the live tasks; any other event
+//! is constant. A `Maker` has 32 bytes for each number up to the greatest group that waited. The end of a leg keeps a
 //! copy of the leg's reasons; ends without a line are rows of numbers. `CertLines` never allocates: a search of a list
 //! of n reasons finds the sixteen oldest that are left in some log n steps.
 #![tactic(auto)]
@@ -28,7 +28,6 @@ mod open_leg;
 mod opening;
 mod reason;
 mod reasons;
-mod told;
 mod waiter_steps;
 mod waiters;
 

@@ -4,12 +4,13 @@ ghost use Rattle.lp_definitions.specs.Events.{is_scan};
 ghost use Rattle.lp_definitions.specs.Run.{new_target};
 ghost use Rattle.lp_definitions.specs.declared.event.Event.{Event};
 ghost use Rattle.lp_machine.specs.Table.{state_in};
+ghost use Rattle.lp_transition.specs.LastScan.{used_scan};
 ghost use Rattle.lp_transition.specs.Weigh.{IsWeighed};
 ghost use Rattle.lp_cert.specs.Ends.{IsFresh, IsMadeFurther, ends_left, floor_in, is_complete_in, is_opening, room_for, waiting_in};
 ghost use Rattle.lp_cert.specs.Invariant.{open_end};
-ghost use Rattle.lp_cert.specs.inside.Invariant.{HasClosing, HasEndRoom, HasFloor, HasFloors, IsClosing, IsNoted, leg_at, waiting_cert};
+ghost use Rattle.lp_cert.specs.inside.Invariant.{HasClosing, HasFloor, HasFloors, IsClosing, IsNoted, leg_at, waiting_cert};
 ghost use Rattle.lp_cert.specs.Waiters.{WaitingGroups};
-ghost use Rattle.lp_cert.specs.inside.LegRows.{HasRoomFor};
+ghost use Rattle.lp_cert.specs.inside.LegRows.{HasRoom};
 ghost use Rattle.lp_cert.specs.inside.ToldGroups.{Tells};
 ghost use Rattle.lp_cert.specs.inside.Waiters.{HasHeadFor, HasHeads, lines_at};
 ghost use Rattle.std.specs.Option.{option_map};
@@ -19,17 +20,16 @@ mod own_check;
 mod passed;
 mod quiet_scan;
 
+use crate::cert_head::CommonHead;
 use crate::cert_list::CertList;
 use crate::leg_end::LegEnd;
 use crate::leg_list::{LegEnds, LegList};
 use crate::leg_rows::LegRows;
 use crate::open_leg::OpenLeg;
 use crate::opening::opens_leg;
-use crate::waiter_steps::untold;
 use crate::waiters::Waiters;
 use lp_definitions::{Cert, Claim};
-use lp_model::Consistency;
-use lp_numbers::NumberSet;
+use lp_model::{CheckKind, Consistency};
 use lp_stack::GroupId;
 use lp_transition::{Core, Event, Step};
 use std::alloc::{AllocError, Global};
@@ -55,8 +55,6 @@ pub struct Maker {
     ended: LegRows,
     current: Option<OpenLeg>,
     waiters: Waiters,
-    /// Within a scan the groups of which it found anything: kept here, so that a scan needs no memory.
-    told: NumberSet,
     /// The number of the last event noted.
     noted: u32,
     ready: Option<Ready>,
@@ -72,7 +70,6 @@ impl Drop for Maker {
             ended: _,
             current: _,
             waiters: _,
-            told: _,
             noted: _,
             ready: _,
             closing: _,
@@ -100,7 +97,6 @@ impl Maker {
     {
         Ok(Maker {
             waiters: Waiters::new(alloc)?,
-            told: NumberSet::new(alloc)?,
             ended: LegRows::new(alloc),
             current: None,
             noted: 0,
@@ -141,9 +137,9 @@ impl Maker {
         Ok(())
     }
 
-    /// Notes an event that was weighed on the engine, before the engine takes it, however it was weighed: where a scan's
-    /// verdicts leave out a group to which something may have happened since the last one, each task is looked at here
-    /// once more. Never allocates.
+    /// Notes an event that was weighed on the engine, before the engine takes it, however it was weighed. Of a scan it isn't
+    /// known whether its verdicts leave out a group to which something happened since the last one, so each live task is
+    /// looked at here once more. Never allocates.
     pub fn note<M: Consistency>(&mut self, core: &Core<M>, step: &Step)
         requires weighed { IsWeighed M.rules core.now step.now }
         requires ready { self.old.ready ≡ Some (room_for step.now) }
@@ -159,8 +155,7 @@ impl Maker {
             let Some(leg) = &mut self.current else {
                 return;
             };
-            let (waiters, told) = (&mut self.waiters, &mut self.told);
-            step_leg(core, step, number, leg, waiters, told, false);
+            look_leg(core, step, number, leg, &mut self.waiters);
             return;
         }
         let Some(closing) = self.closing.take() else {
@@ -194,8 +189,7 @@ impl Maker {
         let Some(leg) = &mut self.current else {
             return Ok(());
         };
-        let (waiters, told) = (&mut self.waiters, &mut self.told);
-        step_leg(core, step, self.noted, leg, waiters, told, true);
+        step_leg(core, step, self.noted, leg, &mut self.waiters);
         Ok(())
     }
 
@@ -264,14 +258,13 @@ impl Maker {
             mut ended,
             current,
             waiters,
-            told: _,
             noted,
             ready: _,
             closing: _,
         } = self;
         if let Some(leg) = current {
             let certs = leg.into_certs(alloc, noted, waiters)?;
-            ended.reserve(&certs)?;
+            ended.reserve()?;
             ended.push_reserved(leg.end(certs));
         }
         Ok(LegList::from_rows(ended))
@@ -296,18 +289,40 @@ impl Maker {
     }
 }
 
-/// The leg under way after an event that opens none. Never allocates.
+/// The leg under way after an event that opens none, if at a scan it is known to tell of each group that has changed. Never
+/// allocates.
 fn step_leg<M: Consistency>(
     core: &Core<M>,
     step: &Step,
     number: u32,
     leg: &mut OpenLeg,
     waiters: &mut Waiters,
-    told: &mut NumberSet,
-    tells: bool,
 )
     requires weighed { IsWeighed M.rules core.now step.now }
-    requires tells { IsTrue tells → Tells M.rules core.now step.now }
+    requires tells { Tells M.rules core.now step.now }
+    requires floor { HasFloor waiters.old leg.old.completed }
+    requires heads { HasHeads waiters.old }
+    requires child { HasHeadFor step.now.event waiters.old.reasons }
+    requires room { length step.now.verdicts + 1 < waiters.old.reasons.room }
+    requires scan_room { 0 < waiters.old.reasons.scan_room }
+    ensures noted { IsNoted M.rules core.now step.now number leg.old leg.new waiters.old waiters.new }
+    ensures floor { HasFloor waiters.new leg.new.completed }
+{
+    if leg.is_over(number, step.reply(), waiters) {
+        return;
+    }
+    waiters.step_waiters(core, step);
+}
+
+/// The leg under way after an event that opens none, with a look at each task at a scan. Never allocates.
+fn look_leg<M: Consistency>(
+    core: &Core<M>,
+    step: &Step,
+    number: u32,
+    leg: &mut OpenLeg,
+    waiters: &mut Waiters,
+)
+    requires weighed { IsWeighed M.rules core.now step.now }
     requires floor { HasFloor waiters.old leg.old.completed }
     requires heads { HasHeads waiters.old }
     requires child { HasHeadFor step.now.event waiters.old.reasons }
@@ -320,15 +335,27 @@ fn step_leg<M: Consistency>(
     if leg.is_over(number, step.reply(), waiters) {
         return;
     }
-    match untold(core, step, waiters, told, tells) {
+    match used_scan(&core.model(), step.event()) {
         Some(kind) => waiters.step_whole(core, step, kind),
         None => waiters.step_waiters(core, step),
     }
 }
 
+/// The kind of scan that an event is, if the model uses it.
+fn used_scan<M: Consistency>(model: &M, event: Event) -> Option<CheckKind>
+    ensures { result ≡ used_scan M.rules event }
+{
+    let kind = match event {
+        Event::Walk => CheckKind::Walk,
+        Event::Stop => CheckKind::Stop,
+        _ => return None,
+    };
+    if model.uses(kind) { Some(kind) } else { None }
+}
+
 /// Ends the leg under way after so many events, if there is one. Never allocates.
 fn end_leg(ended: &mut LegRows, noted: u32, current: Option<OpenLeg>, closing: CertList)
-    requires room { HasRoomFor ended.old closing }
+    requires room { HasRoom ended.old }
     ensures { (waiters : WaitingGroups) → IsClosing current waiters closing → ended.new.ends ≡ ended.old.ends ++ option_to_list (option_map (open_end noted waiters) current) }
 {
     let Some(leg) = current else {
@@ -363,7 +390,7 @@ fn close(
 ) -> Result<bool, AllocError>
     requires { HasFloors waiters.now current }
     ensures opens { IfOk result (λ opens. opens ≡ is_opening step.now) }
-    ensures room { IfOk result (λ opens. HasEndRoom ended.new opens closing.new) }
+    ensures room { IfOk result (λ opens. opens ≡ true → HasRoom ended.new) }
     ensures closing { IfOk result (λ opens. HasClosing current waiters.now opens closing.new) }
     ensures ended { ended.new.ends ≡ ended.old.ends }
 {
@@ -371,7 +398,7 @@ fn close(
         return Ok(false);
     }
     let certs = closing_of(alloc, current, noted, waiters)?;
-    ended.reserve(&certs)?;
+    ended.reserve()?;
     *closing = Some(certs);
     Ok(true)
 }
@@ -389,7 +416,14 @@ fn closing_of(
 {
     match current {
         Some(leg) => leg.certs(alloc, noted, waiters),
-        None => Ok(CertList::none(Claim::Waiting, 0, noted)),
+        None => Ok(CertList::bare(
+            CommonHead {
+                claim: Claim::Waiting,
+                leg: 0,
+                upto: noted,
+            },
+            Vec::new(alloc),
+        )),
     }
 }
 

@@ -8,20 +8,17 @@ ghost use Rattle.lp_cert.specs.Waiters.{kept_cert};
 ghost use Rattle.lp_cert.specs.inside.Kept.{up_to};
 ghost use Rattle.lp_cert.specs.inside.Waiters.{AreHeads};
 
-use crate::cert_head::CertHead;
+use crate::cert_head::{CertHead, CommonHead};
 use crate::cert_lines::CertLines;
 use crate::chains::Chains;
 use crate::head::Waiter;
-use lp_definitions::Claim;
 use std::marker::Model;
 
 /// Certificates of one leg, over the older reasons and the scans that they share.
 ///
 /// Contracts see the list of these certificates.
 pub(crate) struct ManyCerts {
-    claim: Claim,
-    leg: u32,
-    upto: u32,
+    head: CommonHead,
     waiters: Vec<Waiter>,
     chains: Chains,
     scans: Vec<u32>,
@@ -31,9 +28,7 @@ pub(crate) struct ManyCerts {
 impl Drop for ManyCerts {
     fn drop(self) {
         let ManyCerts {
-            claim: _,
-            leg: _,
-            upto: _,
+            head: _,
             waiters: _,
             chains: _,
             scans: _,
@@ -49,7 +44,7 @@ impl Model for ManyCerts {
 
     ghost Value = { List Cert };
 
-    ghost view = { λ c. map (kept_cert c.claim c.leg c.upto c.chains.lists c.scans.items) c.waiters.items };
+    ghost view = { λ c. map (kept_cert c.head.claim c.head.leg c.head.upto c.chains.lists c.scans.items) c.waiters.items };
 
     ghost invariant = { λ c. AreHeads c.chains.lists (length c.scans.items) c.waiters.items };
 }
@@ -58,20 +53,16 @@ impl ManyCerts {
     /// The certificates of these groups, over their older reasons and the scans of the leg. Never
     /// allocates.
     pub(crate) fn new(
-        claim: Claim,
-        leg: u32,
-        upto: u32,
+        head: CommonHead,
         waiters: Vec<Waiter>,
         chains: Chains,
         scans: Vec<u32>,
     ) -> ManyCerts
         requires { AreHeads chains.lists (length scans.items) waiters.items }
-        ensures { result ≡ map (kept_cert claim leg upto chains.lists scans.items) waiters.items }
+        ensures { result ≡ map (kept_cert head.claim head.leg head.upto chains.lists scans.items) waiters.items }
     {
         ManyCerts {
-            claim,
-            leg,
-            upto,
+            head,
             waiters,
             chains,
             scans,
@@ -89,7 +80,7 @@ impl ManyCerts {
     pub(crate) fn go_up_to(&mut self, upto: u32)
         ensures { self.new ≡ up_to upto self.old }
     {
-        self.upto = upto;
+        self.head.upto = upto;
     }
 
     /// The certificate at a place, from 0, without its lines.
@@ -98,10 +89,10 @@ impl ManyCerts {
         ensures { option_map cert_head (slice_get self.now place) ≡ Some result }
     {
         CertHead {
-            claim: self.claim,
-            leg: u64::from(self.leg),
+            claim: self.head.claim,
+            leg: u64::from(self.head.leg),
             group: self.waiters[place].group,
-            upto: u64::from(self.upto),
+            upto: u64::from(self.head.upto),
         }
     }
 

@@ -49,24 +49,6 @@ impl<'a> Model for OldestFirst<'a> {
 }
 
 impl<'a> OldestFirst<'a> {
-    /// All reasons of a list, and the one in front of it that continues.
-    pub(crate) fn new(chains: &'a Chains, list: ChainId, ongoing: Option<Reason>) -> OldestFirst<'a>
-        requires { list.0 < length chains.now.lists }
-        ensures { result ≡ option_to_list ongoing ++ slice_index_or chains.now.lists list.0 [] }
-    {
-        let left = chains.count(list);
-        OldestFirst {
-            chains,
-            ongoing,
-            list,
-            left,
-            found: Found {
-                first: left,
-                places: [0; RUN],
-            },
-        }
-    }
-
     /// The reasons of a list that another, which it ends with, hasn't, and the one in front of them that continues.
     pub(crate) fn after(
         chains: &'a Chains,

@@ -1,14 +1,17 @@
 //! The leg under way.
-ghost use Rattle.std.specs.Prelude.{◌≡◌, ◌||◌, [], ◌∷◌, true, false, None, Some, is_some, length, IfOk, IfSome};
+ghost use Rattle.std.specs.Prelude.{◌≡◌, ◌||◌, true, false, None, is_some, length, IfOk, IsTrue, Some};
 ghost use Rattle.std.specs.Option.{option_map};
-ghost use Rattle.lp_cert.specs.Invariant.{claim_of, end_waiters, floor_waiters, upto_of};
-ghost use Rattle.lp_cert.specs.Waiters.{waiter_in};
-ghost use Rattle.lp_cert.specs.inside.Invariant.{HasFloor, IsCompletedAt, certs_at, leg_at};
+ghost use Rattle.lp_cert.specs.Invariant.{end_waiters};
+ghost use Rattle.lp_cert.specs.inside.GroupSet.{IsLonger};
+ghost use Rattle.lp_cert.specs.inside.Invariant.{HasFloor, IsBareLeg, IsCompletedAt, certs_at, end_groups, head_after, leg_at};
+ghost use Rattle.lp_cert.specs.inside.LegRows.{row_after};
 ghost use Rattle.lp_cert.specs.inside.Waiters.{AreHeads};
 
+use crate::cert_head::CommonHead;
 use crate::cert_list::CertList;
 use crate::head::Waiter;
 use crate::leg_end::LegEnd;
+use crate::leg_rows::{LegRow, RowKind};
 use crate::waiters::Waiters;
 use lp_definitions::Claim;
 use lp_stack::{GroupId, Level};
@@ -77,30 +80,14 @@ impl OpenLeg {
         requires { HasFloor waiters.now self.completed }
         ensures { IfOk result (λ certs. certs ≡ certs_at noted waiters.now self) }
     {
-        if let Some(group) = self.lone(waiters) {
-            if waiters.is_bare(group) {
-                return Ok(CertList::bare(self.claim(), self.opened, self.upto(noted), group));
-            }
-        }
-        self.several(alloc, noted, waiters)
-    }
-
-    /// The same, where there may be several.
-    fn several(self, alloc: Global, noted: u32, waiters: &Waiters) -> Result<CertList, AllocError>
-        requires { HasFloor waiters.now self.completed }
-        ensures { IfOk result (λ certs. certs ≡ certs_at noted waiters.now self) }
-    {
-        let (claim, upto) = (self.claim(), self.upto(noted));
-        if self.completed.is_none() && waiters.are_bare() {
-            let groups = waiters.groups(alloc)?;
-            return Ok(CertList::bares(claim, self.opened, upto, groups));
+        if self.is_bare(waiters) {
+            let mut groups = Vec::new(alloc);
+            self.append_groups(waiters, &mut groups)?;
+            return Ok(CertList::bare(self.head(noted), groups));
         }
         let list = self.waiters(alloc, waiters)?;
-        if list.is_empty() {
-            return Ok(CertList::none(claim, self.opened, upto));
-        }
         let (chains, scans) = waiters.copy_past(alloc)?;
-        CertList::many(alloc, claim, self.opened, upto, list, chains, scans)
+        CertList::many(alloc, self.head(noted), list, chains, scans)
     }
 
     /// The same, with the older reasons and the scans moved. They may be as many as the events.
@@ -113,10 +100,9 @@ impl OpenLeg {
         requires { HasFloor waiters self.completed }
         ensures { IfOk result (λ certs. certs ≡ certs_at noted waiters self) }
     {
-        let (claim, upto) = (self.claim(), self.upto(noted));
         let list = self.waiters(alloc, &waiters)?;
         let (chains, scans) = waiters.into_past();
-        CertList::many(alloc, claim, self.opened, upto, list, chains, scans)
+        CertList::many(alloc, self.head(noted), list, chains, scans)
     }
 
     /// Whether an event that was answered so leaves nothing to note of the leg: it was complete, or is so from this event on, which
@@ -142,35 +128,69 @@ impl OpenLeg {
         true
     }
 
-    /// What the certificates claim.
-    fn claim(self) -> Claim
-        ensures { result ≡ claim_of self.completed }
+    /// What the certificates have in common, after so many events.
+    fn head(self, noted: u32) -> CommonHead
+        ensures { result ≡ head_after noted self }
     {
-        match self.completed {
-            None => Claim::Waiting,
-            Some(_) => Claim::Floor,
+        let (claim, upto) = match self.completed {
+            None => (Claim::Waiting, noted),
+            Some(done) => (Claim::Floor, done.at.saturating_sub(1)),
+        };
+        CommonHead {
+            claim,
+            leg: self.opened,
+            upto,
         }
     }
 
-    /// The event up to which the certificates go, after so many events.
-    fn upto(self, noted: u32) -> u32
-        ensures { result ≡ upto_of noted self.completed }
-    {
-        match self.completed {
-            None => noted,
-            Some(done) => done.at.saturating_sub(1),
-        }
-    }
-
-    /// The only group that has a certificate, if there is just one.
-    fn lone(self, waiters: &Waiters) -> Option<GroupId>
+    /// Whether it is known that no certificate has a line.
+    pub(crate) fn is_bare(self, waiters: &Waiters) -> bool
         requires { HasFloor waiters.now self.completed }
-        ensures lone { IfSome result (λ group. end_waiters self.completed waiters.now ≡ waiter_in waiters.now.reasons group.0 ∷ []) }
-        ensures stands { AreHeads waiters.now.reasons.lists (length waiters.now.reasons.scans) (floor_waiters waiters.now.reasons result) }
+        ensures { IsTrue result → IsBareLeg waiters.now self }
     {
-        match self.completed {
-            None => waiters.lone(),
-            Some(done) => done.floor,
+        let Some(done) = self.completed else {
+            return waiters.are_bare();
+        };
+        match done.floor {
+            None => true,
+            Some(group) => waiters.is_bare(group),
+        }
+    }
+
+    /// Puts the groups that have a certificate behind a list, in increasing order; AllocError where an allocation
+    /// failed, and then some of them may be there.
+    pub(crate) fn append_groups(
+        self,
+        waiters: &Waiters,
+        list: &mut Vec<GroupId>,
+    ) -> Result<(), AllocError>
+        ensures { IsLonger list.old.items list.new.items result (end_groups self.completed waiters.now) }
+    {
+        let Some(done) = self.completed else {
+            return waiters.append_to(list);
+        };
+        match done.floor {
+            None => Ok(()),
+            Some(group) => Ok(list.push(group)?),
+        }
+    }
+
+    /// The row of the end after so many events, if its certificates have no line, with the place where their groups
+    /// begin and how many these are.
+    pub(crate) fn row(self, noted: u32, start: u32, count: u16) -> LegRow
+        ensures { result ≡ row_after noted self start count }
+    {
+        let (at, kind) = match self.completed {
+            None => (noted, RowKind::Waiting),
+            Some(done) => (done.at, RowKind::Complete),
+        };
+        LegRow {
+            opened: self.opened,
+            at,
+            start,
+            count,
+            target: self.target,
+            kind,
         }
     }
 

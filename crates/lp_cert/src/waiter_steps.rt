@@ -3,22 +3,18 @@ ghost use Rattle.std.specs.Prelude.{◌≡◌, ◌+◌, ◌<◌, ◌≤◌, ℕ,
 ghost use Rattle.std.specs.List.{AllByRecursion, list_any};
 ghost use Rattle.lp_definitions.specs.Events.{group_numbers};
 ghost use Rattle.lp_transition.specs.inside.ScanSteps.{groups_of};
-ghost use Rattle.lp_numbers.specs.Numbers.{has};
 ghost use Rattle.lp_transition.specs.Scan.{verdicts_of};
 ghost use Rattle.lp_machine.specs.Table.{state_in};
 ghost use Rattle.lp_transition.specs.Weigh.{IsWeighed, refusal_in};
 ghost use Rattle.lp_transition.specs.LastScan.{used_kind, used_scan};
-ghost use Rattle.lp_cert.specs.inside.ToldGroups.{AreToldOf, Tells, is_of_group};
 ghost use Rattle.lp_cert.specs.inside.Invariant.{with_verdicts};
 ghost use Rattle.lp_cert.specs.inside.StepLines.{stepped_lines, after_scan_kind, noted_lines};
 ghost use Rattle.lp_cert.specs.inside.Heads.{IsUsed};
 ghost use Rattle.lp_cert.specs.inside.Waiters.{AreStanding, own_blame, HasFewGroups, HasHeadFor, HasHeads, IsUsedVerdict, after_switch, lines_at, own_lines};
 
 use crate::head::OwnFork;
-use crate::told::{take_in_all, used_scan};
 use crate::waiters::Waiters;
 use lp_model::{Blame, CheckKind, Consistency, ForkKind, Verdict};
-use lp_numbers::NumberSet;
 use lp_stack::{GroupId, TaskId};
 use lp_transition::{Core, Event, Step, What};
 
@@ -41,8 +37,8 @@ impl Waiters {
         }
     }
 
-    /// A scan of this kind that was weighed and opens no leg, of which it isn't known of each group
-    /// what it found: so all tasks are looked at. Never allocates.
+    /// A scan of this kind that was weighed and opens no leg, with a look at all tasks. Never
+    /// allocates.
     pub(crate) fn step_whole<M: Consistency>(
         &mut self,
         core: &Core<M>,
@@ -202,31 +198,4 @@ fn own_blame<M: Consistency>(core: &Core<M>, task: TaskId) -> Option<Blame>
     }
     let view = core.task(task)?;
     model.blame(CheckKind::Resched, &view, &core.aim())
-}
-
-/// The kind of a scan that the model uses, where a group waits of which the scan found nothing, and
-/// to which something may have happened since the last scan. None too where the scan is known to tell of each such group. The set
-/// is of use within the call alone.
-pub(crate) fn untold<M: Consistency>(
-    core: &Core<M>,
-    step: &Step,
-    waiters: &Waiters,
-    told: &mut NumberSet,
-    tells: bool,
-) -> Option<CheckKind>
-    requires { IsTrue tells → Tells M.rules core.now step.now }
-    ensures used { IfSome result (λ kind. used_scan M.rules step.now.event ≡ Some kind) }
-    ensures enough { result ≡ None → AreToldOf M.rules core.now step.now.event waiters.now step.now.verdicts }
-{
-    if tells {
-        return None;
-    }
-    let kind = used_scan(&core.model(), step.event())?;
-    told.clear();
-    take_in_all(core, step.verdicts(), told);
-    let is_told = match core.changed_since(kind) {
-        Some(asked) => waiters.are_told(asked, told),
-        None => waiters.all_told(told),
-    };
-    if is_told { None } else { Some(kind) }
 }

@@ -13,6 +13,7 @@ ghost use Rattle.lp_machine.specs.Table.{slot, state_in};
 ghost use Rattle.lp_tasks.specs.inside.Table.{is_in};
 ghost use Rattle.lp_definitions.specs.Certificates.{after_refusal, group_id};
 ghost use Rattle.lp_transition.specs.Blames.{has_frame_in};
+ghost use Rattle.lp_cert.specs.inside.GroupSet.{IsLonger};
 ghost use Rattle.lp_cert.specs.inside.Heads.{IsUsed};
 ghost use Rattle.lp_cert.specs.Heads.{head_lines};
 ghost use Rattle.lp_cert.specs.Invariant.{floor_waiters};
@@ -135,20 +136,6 @@ impl Waiters {
         listed(alloc, &self.groups, &self.reasons)
     }
 
-    /// The only group that waits, if there is just one.
-    #[tactic(auto, using(lp_tasks::proofs::AscendingLemmas::in_order))]
-    pub(crate) fn lone(&self) -> Option<GroupId>
-        ensures lone { IfSome result (λ group. waiters_of self.now ≡ waiter_in self.now.reasons group.0 ∷ []) }
-        ensures stands { AreHeads self.now.reasons.lists (length self.now.reasons.scans) (floor_waiters self.now.reasons result) }
-    {
-        let mut groups = self.groups.iter();
-        let number = groups.next()?;
-        match groups.next() {
-            Some(_) => None,
-            None => Some(GroupId(number)),
-        }
-    }
-
     /// Whether nothing is known of a group yet.
     pub(crate) fn is_bare(&self, group: GroupId) -> bool
         requires { StandsAt (length self.now.reasons.scans) self.now.reasons group.0 }
@@ -166,12 +153,12 @@ impl Waiters {
         self.reasons.is_empty()
     }
 
-    /// The groups that wait, in increasing order, without their reasons; AllocError where an
-    /// allocation failed.
-    pub(crate) fn groups(&self, alloc: Global) -> Result<Vec<GroupId>, AllocError>
-        ensures { IfOk result (λ list. list.items ≡ map group_id (passing 0 65536 (has self.now.groups))) }
+    /// Puts the groups that wait behind a list, in increasing order; AllocError where an allocation failed, and
+    /// then some of them may be there.
+    pub(crate) fn append_to(&self, list: &mut Vec<GroupId>) -> Result<(), AllocError>
+        ensures { IsLonger list.old.items list.new.items result (map group_id (passing 0 65536 (has self.now.groups))) }
     {
-        self.groups.list(alloc)
+        self.groups.append_to(list)
     }
 
     /// A copy of the older reasons, and of the scans; AllocError where an allocation failed.

@@ -1,5 +1,5 @@
 -- What holds of a maker between events, and what an event makes of the leg under way.
-use Rattle.std.specs.Prelude.{◌≡◌, ℕ, ◌+◌, ◌<◌, ◌≤◌, Bool, true, false, List, [], length, map, reverse, Option, Some, None, IfSome, IsSome, is_some, if◌then◌else◌}
+use Rattle.std.specs.Prelude.{◌≡◌, ℕ, ◌+◌, ◌<◌, ◌≤◌, Bool, true, false, List, [], length, map, option_to_list, reverse, Option, Some, None, IfSome, IsSome, is_some, if◌then◌else◌}
 use Rattle.std.specs.Option.{option_map}
 use Rattle.lp_stack.specs.declared.number.GroupId.{GroupId}
 use Rattle.lp_numbers.specs.Numbers.{has, IsNextFrom}
@@ -10,16 +10,20 @@ use Rattle.lp_definitions.specs.Events.{is_scan}
 use Rattle.lp_machine.specs.Machine.{answer}
 use Rattle.lp_machine.specs.Table.{Engine, state_in}
 use Rattle.lp_transition.specs.Weigh.{Weighed, AreVerdictsFor, refusal_in}
+use Rattle.lp_definitions.specs.Certificates.{group_id}
+use Rattle.lp_tasks.specs.Passing.{passing}
 use Rattle.lp_definitions.specs.declared.cert.Claim.{Claim}
 use Rattle.lp_definitions.specs.declared.cert.Cert.{Cert}
 use Rattle.lp_definitions.specs.declared.line.Line.{Line}
 use Rattle.lp_cert.specs.declared.open_leg.Completion.{Completion}
 use Rattle.lp_cert.specs.declared.open_leg.OpenLeg.{OpenLeg}
 use Rattle.lp_cert.specs.declared.maker.Ready.{Ready}
-use Rattle.lp_cert.specs.inside.LegRows.{HasRoomFor, KeptEnds}
+use Rattle.lp_cert.specs.declared.cert_head.CommonHead.{CommonHead}
+use Rattle.lp_cert.specs.inside.Bare.{bare_certs}
+use Rattle.lp_cert.specs.inside.LegRows.{HasRoom, KeptEnds}
 use Rattle.lp_cert.specs.inside.StepLines.{stepped_lines}
 use Rattle.lp_transition.specs.LastScan.{used_scan}
-use Rattle.lp_cert.specs.inside.ToldGroups.{AreToldOf}
+use Rattle.lp_cert.specs.inside.ToldGroups.{Tells}
 use Rattle.lp_cert.specs.Waiters.{WaitingGroups, kept_cert}
 use Rattle.lp_cert.specs.inside.Waiters.{AreHeads, AreStanding, HasFewGroups, HasHeadFor, HasHeads, lines_at}
 use Rattle.lp_cert.specs.Invariant.{claim_of, upto_of, floor_waiters, end_waiters}
@@ -33,6 +37,19 @@ abbrev pub certs_at : ℕ → WaitingGroups → OpenLeg → List Cert
 certs_at noted waiters leg =
     map (kept_cert (claim_of leg.completed) leg.opened (upto_of noted leg.completed) waiters.reasons.lists waiters.reasons.scans)
     (end_waiters leg.completed waiters)
+
+-- what they have in common
+abbrev pub head_after : ℕ → OpenLeg → CommonHead
+head_after noted leg = record { claim = claim_of leg.completed; leg = leg.opened; upto = upto_of noted leg.completed }
+
+-- the groups that have one
+abbrev pub end_groups : Option Completion → WaitingGroups → List GroupId
+end_groups None waiters = map group_id (passing 0 65536 (has waiters.groups))
+end_groups (Some done) waiters = option_to_list done.floor
+
+-- none of them has a line
+abbrev pub IsBareLeg : WaitingGroups → OpenLeg → Type 0
+IsBareLeg waiters leg = (noted : ℕ) → certs_at noted waiters leg ≡ bare_certs (head_after noted leg) (end_groups leg.completed waiters)
 
 -- the group of the floor has reasons
 abbrev pub HasFloor : WaitingGroups → Option Completion → Type 0
@@ -54,19 +71,13 @@ HasClosing current waiters false closing = Unit {0}
 HasClosing current waiters true None = ⊥
 HasClosing current waiters true (Some certs) = IsClosing current waiters certs
 
--- where an event opens a leg, there is room for the end of the one under way with these certificates
-abbrev pub HasEndRoom : KeptEnds → Bool → Option (List Cert) → Type 0
-HasEndRoom ended false closing = Unit {0}
-HasEndRoom ended true None = ⊥
-HasEndRoom ended true (Some certs) = HasRoomFor ended certs
-
 -- there is room for the event: for its reasons and its scan and, if it opens a leg, for the end of the one under way
 pub record IsReady (current : Option OpenLeg) (waiters : WaitingGroups) (ended : KeptEnds) (closing : Option (List Cert)) (ready : Ready) : Type 0 where
   pub room : ready.verdicts + 1 < waiters.reasons.room
   pub scan_room : 0 < waiters.reasons.scan_room
   pub heads : HasHeads waiters
   pub child : HasHeadFor ready.event waiters.reasons
-  pub end_room : HasEndRoom ended ready.opens closing
+  pub end_room : ready.opens ≡ true → HasRoom ended
   -- and for a look at all tasks, at a scan
   pub all_room : is_scan ready.event ≡ true → length waiters.reasons.heads ≤ waiters.reasons.room
   pub left : HasClosing current waiters ready.opens closing
@@ -118,14 +129,10 @@ plain_step model e event = record { event = event; reply = answer model (state_i
 abbrev pub with_verdicts : Weighed → List Verdict → Weighed
 with_verdicts step verdicts = record { event = step.event; reply = step.reply; verdicts = verdicts }
 
--- an event may be noted by these verdicts: it may be answered by them, and where the leg continues they tell of each group that
--- has changed
-pub record MayBeNotedBy (model : Rules) (e : Engine) (step : Weighed) (leg : OpenLeg) (waiters : WaitingGroups) (verdicts : List Verdict) : Type 0 where
-  pub enough : AreVerdictsFor model (state_in e) step.event verdicts
-  pub told : leg.completed ≡ None → step.reply.completed ≡ false → AreToldOf model e step.event waiters verdicts
-
--- what an event that opens no leg makes of the one under way, by verdicts that tell enough: its own, or those of all who wait
+-- what an event that opens no leg makes of the one under way, by verdicts by which it may be answered and that tell of each group
+-- that has changed: its own, or those of all who wait
 pub record IsNoted (model : Rules) (e : Engine) (step : Weighed) (number : ℕ) (old new : OpenLeg) (before after : WaitingGroups) : Type 0 where
   pub verdicts : List Verdict
-  pub told : MayBeNotedBy model e step old before verdicts
+  pub enough : AreVerdictsFor model (state_in e) step.event verdicts
+  pub tells : Tells model e (with_verdicts step verdicts)
   pub gone_on : IsStepped model e (with_verdicts step verdicts) number old new before after

@@ -1,5 +1,5 @@
 -- The certificates of a leg as they are kept.
-use Rattle.std.specs.Prelude.{ℕ, List, [], map}
+use Rattle.std.specs.Prelude.{ℕ, List, map}
 use Rattle.lp_definitions.specs.declared.cert.Cert.{Cert}
 use Rattle.lp_cert.specs.declared.cert_list.Kept.{Kept}
 use Rattle.lp_cert.specs.declared.cert_list.Kept.TheVariants as kept
@@ -8,9 +8,7 @@ use Rattle.lp_cert.specs.declared.cert_list.KeptRef.TheVariants as borrowed
 use Rattle.lp_cert.specs.inside.Bare.{bare_certs}
 
 abbrev pub certs_in : Kept → List Cert
-certs_in (kept.Nothing head) = []
-certs_in (kept.Bare head group) = bare_certs head group
-certs_in (kept.Bares head groups) = bare_certs head groups.items
+certs_in (kept.Bare head groups) = bare_certs head groups.items
 certs_in (kept.Many certs) = certs.value
 
 abbrev pub certs_borrowed : KeptRef → List Cert

@@ -1,27 +1,41 @@
 -- Ends of legs as they are kept.
-use Rattle.std.specs.Prelude.{◌≡◌, ℕ, ◌+◌, ◌<◌, ◌≤◌, Bool, true, false, List, [], drop, length, take, Option, Some, None, slice_index_or}
+use Rattle.std.specs.Prelude.{◌≡◌, ℕ, ◌+◌, ◌-◌, ◌<◌, ◌≤◌, Bool, true, false, List, [], drop, take, Option, Some, None, slice_index_or}
 use Rattle.lp_stack.specs.declared.number.GroupId.{GroupId}
 use Rattle.lp_definitions.specs.declared.cert.Claim.{Claim}
 use Rattle.lp_definitions.specs.declared.cert.Claim.TheVariants as claim
-use Rattle.lp_definitions.specs.declared.cert.Cert.{Cert}
 use Rattle.lp_definitions.specs.Ends.{LegEnd}
 use Rattle.lp_cert.specs.declared.leg_rows.LegRow.{LegRow}
+use Rattle.lp_cert.specs.declared.open_leg.Completion.{Completion}
+use Rattle.lp_cert.specs.declared.open_leg.OpenLeg.{OpenLeg}
 use Rattle.lp_cert.specs.declared.leg_rows.RowKind.{RowKind}
-use Rattle.lp_cert.specs.declared.leg_rows.RowKind.TheVariants.{Complete, Other}
+use Rattle.lp_cert.specs.declared.leg_rows.RowKind.TheVariants.{Waiting, Complete, Other}
 use Rattle.lp_cert.specs.inside.Bare.{bare_certs}
 
 abbrev pub claim_in : RowKind → Claim
 claim_in Complete = claim.Floor
 claim_in _ = claim.Waiting
 
--- a leg is complete after the last event up to which its certificates go
-abbrev pub completed_in : RowKind → (upto : ℕ) → Option ℕ
-completed_in Complete upto = Some (upto + 1)
-completed_in _ upto = None
+abbrev pub completed_in : RowKind → (at : ℕ) → Option ℕ
+completed_in Complete at = Some at
+completed_in _ at = None
+
+-- the certificates of a leg that is complete go up to the last event before it was
+abbrev pub upto_in : RowKind → (at : ℕ) → ℕ
+upto_in Complete at = at - 1
+upto_in _ at = at
 
 abbrev pub is_other : RowKind → Bool
 is_other Other = true
 is_other _ = false
+
+-- how the row of a leg tells when it was complete, if it is, after so many events
+abbrev pub kind_of : Option Completion → RowKind
+kind_of None = Waiting
+kind_of (Some done) = Complete
+
+abbrev pub at_of : ℕ → Option Completion → ℕ
+at_of noted None = noted
+at_of noted (Some done) = done.at
 
 -- the end of a leg whose certificates have no line, with their groups
 abbrev pub bare_end : LegRow → List GroupId → LegEnd
@@ -29,8 +43,8 @@ bare_end row groups =
     record {
       opened = row.opened;
       target = row.target;
-      completed = completed_in row.kind row.upto;
-      certs = bare_certs (record { claim = claim_in row.kind; leg = row.opened; upto = row.upto }) groups;
+      completed = completed_in row.kind row.at;
+      certs = bare_certs (record { claim = claim_in row.kind; leg = row.opened; upto = upto_in row.kind row.at }) groups;
     }
 
 -- the end of a leg, of which only the kind is looked at
@@ -50,24 +64,20 @@ IsFittingAs _ groups others row = row.start + row.count ≤ groups
 abbrev pub IsFitting : (groups others : ℕ) → LegRow → Type 0
 IsFitting groups others row = IsFittingAs row.kind groups others row
 
--- the row is that of an end whose certificates have no line, with their groups from a place on
-pub record IsRowOf (end : LegEnd) (start : ℕ) (row : LegRow) (groups : List GroupId) : Type 0 where
-  pub own : is_other row.kind ≡ false
-  pub tells : end ≡ bare_end row groups
-  pub begins : row.start ≡ start
-  pub many : row.count ≡ length groups
+-- the row of a leg after so many events
+abbrev pub row_after : ℕ → OpenLeg → (start count : ℕ) → LegRow
+row_after noted leg start count =
+    record { opened = leg.opened; at = at_of noted leg.completed; start = start; count = count; target = leg.target; kind = kind_of leg.completed }
 
--- ends of legs, and the room: for rows, for groups, for ends that are kept whole, and how many places of these can be told
+-- ends of legs, and the room: for rows, for ends that are kept whole, and how many places of these can be told
 pub record KeptEnds : Type 0 where
   pub ends : List LegEnd
   pub row_room : ℕ
-  pub group_room : ℕ
   pub other_room : ℕ
   pub places : ℕ
 
--- there is room for an end with these certificates
-pub record HasRoomFor (kept : KeptEnds) (certs : List Cert) : Type 0 where
+-- there is room for an end that is kept whole
+pub record HasRoom (kept : KeptEnds) : Type 0 where
   pub rows : 0 < kept.row_room
-  pub groups : length certs ≤ kept.group_room
   pub others : 0 < kept.other_room
   pub places : 0 < kept.places

@@ -1,26 +1,20 @@
 -- Of which groups the verdicts of a scan tell, and which it may leave out.
-use Rattle.std.specs.Prelude.{◌≡◌, ◌⊎◌, ℕ, ◌<◌, Bool, true, false, List, Option, Some, None, nat_eq}
+use Rattle.std.specs.Prelude.{◌≡◌, ◌⊎◌, ℕ, Bool, true, false, List, Option, Some, None, nat_eq}
 use Rattle.std.specs.List.{list_any}
 use Rattle.lp_numbers.specs.Numbers.{has}
 use Rattle.lp_model.specs.Rules.{Rules}
 use Rattle.lp_model.specs.declared.check.CheckKind.{CheckKind}
 use Rattle.lp_model.specs.declared.verdict.Verdict.{Verdict}
-use Rattle.lp_definitions.specs.declared.event.Event.{Event}
 use Rattle.lp_definitions.specs.Tasks.{Live}
 use Rattle.lp_definitions.specs.Leg.{LegTask, State}
 use Rattle.lp_transition.specs.LastScan.{TellOfChanges, used_scan}
 use Rattle.lp_transition.specs.Scan.{is_of}
 use Rattle.lp_transition.specs.Weigh.{Weighed}
-use Rattle.lp_machine.specs.Table.{Engine, LastScan, slot, state_in}
-use Rattle.lp_tasks.specs.inside.Table.{is_in}
+use Rattle.lp_machine.specs.Table.{Engine, LastScan}
 use Rattle.lp_cert.specs.declared.ongoing.Ongoing.{Ongoing}
 use Rattle.lp_cert.specs.declared.ongoing.Ongoing.TheVariants.{Nothing, Hold, Busy}
-use Rattle.lp_cert.specs.Waiters.{LegReasons, WaitingGroups, head_of}
+use Rattle.lp_cert.specs.Waiters.{LegReasons, head_of}
 use Rattle.lp_transition.specs.Blames.{has_frame_in}
-
--- the verdict's task is a member of the group
-abbrev pub is_of_group : Engine → (group : ℕ) → Verdict → Bool
-is_of_group e group verdict = is_in group (slot e.table verdict.task.0)
 
 -- a reason is a hold whose frame is still on its task's stack
 abbrev pub is_held : (has_frame : (task serial : ℕ) → Bool) → Ongoing → Bool
@@ -43,10 +37,3 @@ TellOfChanged s (Some kind) verdicts last_scan =
 -- a scan that the model uses tells of each group that has changed since the last one
 abbrev pub Tells : Rules → Engine → Weighed → Type 0
 Tells model e step = (kind : CheckKind) → used_scan model step.event ≡ Some kind → TellOfChanges model e kind step.verdicts
-
--- of a scan that the model uses the verdicts tell of each group that has changed, or one is of a member of each that waits and has
-abbrev pub AreToldOf : Rules → Engine → Event → WaitingGroups → List Verdict → Type 0
-AreToldOf model e event waiters verdicts =
-    (kind : CheckKind) → used_scan model event ≡ Some kind →
-    TellOfChanges model e kind verdicts
-    ⊎ ((group : ℕ) → group < 65536 → has waiters.groups group ≡ true → (list_any (is_of_group e group) verdicts ≡ true) ⊎ ((e.last_scan.kind ≡ Some kind) × (has e.last_scan.changed group ≡ false)))

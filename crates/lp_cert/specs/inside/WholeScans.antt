@@ -1,7 +1,7 @@
 -- A scan of which each waiting task is looked at, one after the other.
-use Rattle.std.specs.Prelude.{◌≡◌, ℕ, zero, suc, ◌+◌, Bool, true, List, [], ◌++◌, option_to_list, Option, Some, None, if◌then◌else◌}
+use Rattle.std.specs.Prelude.{◌≡◌, ℕ, zero, suc, ◌+◌, Bool, List, [], ◌++◌, option_to_list, Option, Some, None, if◌then◌else◌}
 use Rattle.std.specs.Option.{option_map}
-use Rattle.lp_numbers.specs.Numbers.{Numbers, has}
+use Rattle.lp_numbers.specs.Numbers.{Numbers}
 use Rattle.lp_model.specs.Rules.{Rules}
 use Rattle.lp_model.specs.declared.check.CheckKind.{CheckKind}
 use Rattle.lp_model.specs.declared.verdict.Verdict.{Verdict}
@@ -28,7 +28,3 @@ IsLookedAt s at (Some verdict) waiting was is old new = IsJudged s at verdict (i
 unfoldable pub count_below : (ℕ → Bool) → (limit : ℕ) → ℕ
 count_below test zero = 0
 count_below test (suc n) = (if test n then 1 else 0) + count_below test n
-
--- the group is told of, where it waits
-abbrev pub IsTold : (waiting told : Numbers) → (group : ℕ) → Type 0
-IsTold waiting told group = has waiting group ≡ true → has told group ≡ true

@@ -1,12 +1,10 @@
-//! Scans of which it isn't known of each group that waits what they found.
+//! Scans with a look at each task that waits.
 ghost use Rattle.std.specs.Prelude.{◌≡◌, ◌+◌, ◌<◌, ◌≤◌, ℕ, true, length, IfSome, IsTrue};
-ghost use Rattle.std.specs.List.{AllByRecursion};
-ghost use Rattle.lp_numbers.specs.Ascending.{members_from};
 ghost use Rattle.lp_numbers.specs.Numbers.{has};
 ghost use Rattle.lp_transition.specs.Scan.{verdicts_of};
 ghost use Rattle.lp_machine.specs.Table.{state_in};
 ghost use Rattle.lp_cert.specs.inside.Waiters.{AreJudged, AreStanding, HasHeads, IsUsedVerdict, StandsAt, is_left, lines_at, scanned_lines};
-ghost use Rattle.lp_cert.specs.inside.WholeScans.{IsLookedAt, IsTold, count_below, found_of};
+ghost use Rattle.lp_cert.specs.inside.WholeScans.{IsLookedAt, count_below, found_of};
 
 use super::{Waiters, judge};
 use crate::group_set::GroupSet;
@@ -17,20 +15,6 @@ use lp_stack::TaskId;
 use lp_transition::Core;
 
 impl Waiters {
-    /// Whether each of these groups that waits is among those that are told of.
-    pub(crate) fn are_told(&self, asked: &NumberSet, told: &NumberSet) -> bool
-        ensures { IsTrue result → (group : ℕ) → group < 65536 → has self.now.groups group ≡ true → has asked.now group ≡ true → has told.now group ≡ true }
-    {
-        each_is_told(asked, &self.groups, told)
-    }
-
-    /// Whether each group that waits is among those that are told of.
-    pub(crate) fn all_told(&self, told: &NumberSet) -> bool
-        ensures { IsTrue result → (group : ℕ) → group < 65536 → has self.now.groups group ≡ true → has told.now group ≡ true }
-    {
-        each_is_told(self.groups.as_set(), &self.groups, told)
-    }
-
     /// A scan of this kind, with what it finds of each task that waits. Never allocates.
     pub(crate) fn scan_all<M: Consistency>(&mut self, core: &Core<M>, kind: CheckKind, at: u32)
         requires used { IsTrue (M.rules.uses kind) }
@@ -45,25 +29,6 @@ impl Waiters {
         judge_tasks(core, kind, at, &self.groups, refused, &mut self.reasons);
         self.reasons.scanned(at);
     }
-}
-
-/// Whether each of these groups is told of, where it waits.
-fn each_is_told(groups: &NumberSet, waiting: &GroupSet, told: &NumberSet) -> bool
-    ensures { IsTrue result → AllByRecursion (IsTold waiting.now told.now) (members_from 0 groups.now) }
-{
-    for number in groups {
-        if !is_told(waiting, told, number) {
-            return false;
-        }
-    }
-    true
-}
-
-/// Whether a group is told of, where it waits.
-fn is_told(waiting: &GroupSet, told: &NumberSet, group: u16) -> bool
-    ensures { IsTrue result → IsTold waiting.now told.now group }
-{
-    !waiting.contains(group) || told.contains(group)
 }
 
 /// Notes what a scan of this kind finds of each task that waits.

@@ -14,21 +14,21 @@ use Rattle.lp_cert.proofs.NotedBy.{noted_made}
 use Rattle.lp_cert.proofs.Asked.{not_so, not_other}
 use Rattle.lp_cert.proofs.maker.Maker.note.Goals as goal
 
-pub step_leg-requires-clause-heads : goal.step_leg-requires-clause-heads
-step_leg-requires-clause-heads g c =
+pub look_leg-requires-clause-heads : goal.look_leg-requires-clause-heads
+look_leg-requires-clause-heads g c =
     let i = c.self.inside in
     (ready_for i.current i.waiters _ i.closing i.ready c.in-Some.ready c.self.invariant.for_event (sym c.take.ensures.value ∙ c.in-Some.is)).heads
 
-pub step_leg-requires-clause-child : goal.step_leg-requires-clause-child
-step_leg-requires-clause-child g c =
+pub look_leg-requires-clause-child : goal.look_leg-requires-clause-child
+look_leg-requires-clause-child g c =
     let i = c.self.inside in
     let kept : i.ready ≡ Some c.in-Some.ready = sym c.take.ensures.value ∙ c.in-Some.is in
     let asked = rw (← c.self.view_is) at c.requires.ready in
     let ready = ready_for i.current i.waiters _ i.closing i.ready c.in-Some.ready c.self.invariant.for_event kept in
     subst (λ (event : Event). HasHeadFor event i.waiters.reasons) (ap (λ (r : Room). r.event) (room_is i.ready c.in-Some.ready (room_for c.args.step.now) kept asked)) ready.child
 
-pub step_leg-requires-clause-all_room : goal.step_leg-requires-clause-all_room
-step_leg-requires-clause-all_room g c = λ scan.
+pub look_leg-requires-clause-all_room : goal.look_leg-requires-clause-all_room
+look_leg-requires-clause-all_room g c = λ scan.
     let i = c.self.inside in
     let kept : i.ready ≡ Some c.in-Some.ready = sym c.take.ensures.value ∙ c.in-Some.is in
     let asked = rw (← c.self.view_is) at c.requires.ready in
@@ -55,12 +55,12 @@ returns-then-not-ready g c = record {
       let i = c.self.inside in
       let number = c.events.result + 1 in
       let old : Made = record { ended = i.ended.ends; current = option_map (open_end i.noted i.waiters) i.current; ready = option_map room_of i.ready } in
-      let new : Made = record { ended = i.ended.ends; current = Some (open_end number c.step_leg.new.waiters c.step_leg.new.leg); ready = option_map room_of c.take.new.self } in
+      let new : Made = record { ended = i.ended.ends; current = Some (open_end number c.look_leg.new.waiters c.look_leg.new.leg); ready = option_map room_of c.take.new.self } in
       let was : IsMadeWith g.M.Consistency.rules run c.args.core.now.last_scan old = rw (← c.self.view_is) at is in
       let asked = rw (← c.self.view_is) at c.requires.ready in
       let stays : is_opening c.args.step.now ≡ false = sym (opens_is i.ready c.in-Some.ready (room_for c.args.step.now) (sym c.take.ensures.value ∙ c.in-Some.is) asked) ∙ not_so c.in-Some.ready.opens c.if-not-ready.true in
-      noted_made g.M.Consistency.rules g.met.M.Consistency.lawful run c.args.core.now stands c.args.step.now c.requires.weighed old new was after stands_after known stays refl c.events.ensures.wide i.noted number c.in-Some-current.leg c.step_leg.new.leg i.waiters c.step_leg.new.waiters
-      (ap (option_map (open_end i.noted i.waiters)) c.in-Some-current.is) (ap (λ m. m + 1) c.events.ensures.value) c.step_leg.ensures.noted refl;
+      noted_made g.M.Consistency.rules g.met.M.Consistency.lawful run c.args.core.now stands c.args.step.now c.requires.weighed old new was after stands_after known stays refl i.noted number c.in-Some-current.leg c.look_leg.new.leg i.waiters c.look_leg.new.waiters
+      (ap (option_map (open_end i.noted i.waiters)) c.in-Some-current.is) (ap (λ m. m + 1) c.events.ensures.value) c.look_leg.ensures.noted refl;
 }
 
 pub returns : goal.returns
@@ -98,19 +98,21 @@ pub invariant_of-self-then-not-ready : goal.invariant_of-self-then-not-ready
 invariant_of-self-then-not-ready g c = grind (arith, common_steps)
 
 pub end_leg-requires : goal.end_leg-requires
-end_leg-requires g c = grind (arith, common_steps)
+end_leg-requires g c =
+    let i = c.self.inside in
+    record { room = (ready_for i.current i.waiters _ i.closing i.ready c.in-Some.ready c.self.invariant.for_event (sym c.take.ensures.value ∙ c.in-Some.is)).end_room (not_other c.in-Some.ready.opens c.if-not-ready.false) }
 
-pub step_leg-requires-clause-room : goal.step_leg-requires-clause-room
-step_leg-requires-clause-room g c = grind (arith, common_steps)
+pub look_leg-requires-clause-room : goal.look_leg-requires-clause-room
+look_leg-requires-clause-room g c = grind (arith, common_steps)
 
-pub step_leg-requires-clause-scan_room : goal.step_leg-requires-clause-scan_room
-step_leg-requires-clause-scan_room g c = grind (arith, common_steps)
+pub look_leg-requires-clause-scan_room : goal.look_leg-requires-clause-scan_room
+look_leg-requires-clause-scan_room g c = grind (arith, common_steps)
 
-pub step_leg-requires-clause-floor : goal.step_leg-requires-clause-floor
-step_leg-requires-clause-floor g c = grind (arith, common_steps)
+pub look_leg-requires-clause-floor : goal.look_leg-requires-clause-floor
+look_leg-requires-clause-floor g c = grind (arith, common_steps)
 
-pub step_leg-requires-clause-weighed : goal.step_leg-requires-clause-weighed
-step_leg-requires-clause-weighed g c = c.requires.weighed
+pub look_leg-requires-clause-weighed : goal.look_leg-requires-clause-weighed
+look_leg-requires-clause-weighed g c = c.requires.weighed
 
 pub opened-next-requires-clause-weighed : goal.opened-next-requires-clause-weighed
 opened-next-requires-clause-weighed g c = c.requires.weighed

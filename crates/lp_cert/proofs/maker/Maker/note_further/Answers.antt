@@ -26,7 +26,7 @@ returns-clause-made g c = λ run after stands is stands_after known.
     let old : Made = record { ended = i.ended.ends; current = option_map (open_end i.noted i.waiters) i.current; ready = option_map room_of i.ready } in
     let new : Made = record { ended = i.ended.ends; current = Some (open_end number c.step_leg.new.waiters c.step_leg.new.leg); ready = None } in
     let was : IsMadeWith g.M.Consistency.rules run c.args.core.now.last_scan old = rw (← c.self.view_is) at is in
-    noted_made g.M.Consistency.rules g.met.M.Consistency.lawful run c.args.core.now stands c.args.step.now c.requires.weighed old new was after stands_after known c.requires.stays refl c.events.ensures.wide i.noted number c.in-Some.leg c.step_leg.new.leg waiters c.step_leg.new.waiters
+    noted_made g.M.Consistency.rules g.met.M.Consistency.lawful run c.args.core.now stands c.args.step.now c.requires.weighed old new was after stands_after known c.requires.stays refl i.noted number c.in-Some.leg c.step_leg.new.leg waiters c.step_leg.new.waiters
     (sym same ∙ ap (option_map (open_end i.noted waiters)) c.in-Some.is) (ap (λ m. m + 1) c.events.ensures.value) c.step_leg.ensures.noted refl
 
 on_err : {A E P : Type 0} (r : Result A E) → P → OnErr r P

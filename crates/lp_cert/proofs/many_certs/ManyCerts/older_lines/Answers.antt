@@ -10,7 +10,7 @@ use Rattle.lp_cert.proofs.many_certs.ManyCerts.older_lines.Goals as goal
 pub returns : goal.returns
 returns c = λ cert found.
     let i = c.self.inside in
-    let of_waiter = kept_cert i.claim i.leg i.upto i.chains.lists i.scans.items in
+    let of_waiter = kept_cert i.head.claim i.head.leg i.head.upto i.chains.lists i.scans.items in
     let within = rw (← c.self.view_is) at c.requires in
     let waiter = c.index.result.now in
     let is = mapped_at of_waiter i.waiters.items c.args.place waiter within c.index.ensures in
@@ -22,6 +22,6 @@ returns c = λ cert found.
 pub lines_to_share-requires : goal.lines_to_share-requires
 lines_to_share-requires c =
     let i = c.self.inside in
-    let of_waiter = kept_cert i.claim i.leg i.upto i.chains.lists i.scans.items in
+    let of_waiter = kept_cert i.head.claim i.head.leg i.head.upto i.chains.lists i.scans.items in
     let within = rw (← c.self.view_is) at c.requires in
     (head_at i.chains.lists (length i.scans.items) i.waiters.items c.args.place c.index.result.now c.self.invariant (omega (arith, within, length-map i.waiters.items of_waiter)) c.index.ensures).known

@@ -1,9 +1,0 @@
-use Rattle.std.proofs.Common.{◌≡◌, map, ◌++◌}
-use Rattle.lp_numbers.specs.Numbers.{has}
-use Rattle.lp_tasks.specs.Passing.{passing}
-use Rattle.lp_definitions.specs.Certificates.{group_id}
-use Rattle.lp_cert.proofs.group_set.GroupSet.list.Given as goal
-
--- the members so far, and those still to come
-abbrev pub invariant-loop-number : goal.invariant-loop-number
-invariant-loop-number l = l.list.items ++ map group_id l.number-iterator ≡ map group_id (passing 0 65536 (has l.self))
