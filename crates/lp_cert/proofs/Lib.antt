@@ -37,6 +37,7 @@ pub mod NotedBy
 pub mod PlainEvents
 pub mod FramelessChecks
 pub mod LegSteps
+pub mod OwnEffects
 pub mod Passed
 pub mod Upto
 pub mod QuietScans

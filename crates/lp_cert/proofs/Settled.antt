@@ -1,4 +1,4 @@
--- An own check changes nothing of a leg that is complete.
+-- An event that is no scan and no control event changes nothing of a leg that is complete.
 use Rattle.std.proofs.Common.{◌≡◌, ◌<◌, ◌+◌, ℕ, true, false, Option, Some, None, is_some, refl, sym, ap, ◌∙◌}
 use Rattle.std.specs.Option.{option_map}
 use Rattle.std.proofs.lemmas.Bool.{false≢true}
@@ -46,7 +46,7 @@ uncontrolled (Idle t) own_check = refl
 uncontrolled (Resched t) own_check = refl
 uncontrolled _ own_check = cc
 
-module _ (model : Rules) (lawful : IsLawful model) (run : Run) (e : Engine) (stands : StandsIn model run (state_in e)) (event : Event) (own_check : is_own_check event ≡ true) (room : e.number < 1000000) where
+module _ (model : Rules) (lawful : IsLawful model) (run : Run) (e : Engine) (stands : StandsIn model run (state_in e)) (event : Event) (no_scan : is_scan event ≡ false) (no_control : is_control event ≡ false) (room : e.number < 1000000) where
   unfinished_not : (leg : OpenLeg) → is_some leg.completed ≡ true → leg.completed ≡ None → ⊥
   unfinished_not leg settled unfinished = false≢true (sym (ap is_some unfinished) ∙ settled)
 
@@ -63,4 +63,4 @@ module _ (model : Rules) (lawful : IsLawful model) (run : Run) (e : Engine) (sta
       → (noted number : ℕ) (waiters : WaitingGroups) → number ≡ e.number + 1 → (current : Option OpenLeg) → is_settled current ≡ true → made.current ≡ option_map (open_end noted waiters) current → new.current ≡ option_map (open_end number waiters) current
       → IsMadeWith model (plus run event) after.last_scan new
   rested made new is after stands_after known ended noted number waiters numbered current settled =
-      plain_made model lawful run e stands event (unscanned event own_check) (uncontrolled event own_check) room made new is after stands_after known ended noted number numbered waiters waiters current current (stays number waiters current settled)
+      plain_made model lawful run e stands event no_scan no_control room made new is after stands_after known ended noted number numbered waiters waiters current current (stays number waiters current settled)

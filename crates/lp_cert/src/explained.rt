@@ -121,7 +121,7 @@ impl<M: Consistency> ExplainedCore<M> {
     {
         let core: &mut Core<M> = &mut self.core;
         self.maker.let_pass(core);
-        core.step_quiet_inline(event)
+        core.step_unchecked(event)
     }
 
     /// Takes a walk or a stop, and answers it, if no group has to be asked. If one has to be, all is as it was.
@@ -240,6 +240,7 @@ fn take<M: Consistency>(
 {
     match event {
         Event::Exit(_) | Event::Idle(_) => take_own_check(alloc, core, maker, event),
+        Event::Fork(..) | Event::Die(_) => maker.take_fork_or_end(core, event),
         Event::Enable | Event::Disable | Event::Reverse => {
             take_control(alloc, core, maker, event)
         }

@@ -9,6 +9,7 @@
 //! of n reasons finds the sixteen oldest that are left in some log n steps.
 #![tactic(auto)]
 
+mod births;
 mod cert_head;
 mod cert_lines;
 mod cert_list;

@@ -15,6 +15,7 @@ ghost use Rattle.lp_cert.specs.inside.ToldGroups.{Tells};
 ghost use Rattle.lp_cert.specs.inside.Waiters.{HasHeadFor, HasHeads, lines_at};
 ghost use Rattle.std.specs.Option.{option_map};
 
+mod births;
 mod control;
 mod own_check;
 mod passed;

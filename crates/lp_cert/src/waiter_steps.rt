@@ -7,14 +7,14 @@ ghost use Rattle.lp_transition.specs.Scan.{verdicts_of};
 ghost use Rattle.lp_machine.specs.Table.{state_in};
 ghost use Rattle.lp_transition.specs.Weigh.{IsWeighed, refusal_in};
 ghost use Rattle.lp_transition.specs.LastScan.{used_kind, used_scan};
+ghost use Rattle.lp_cert.specs.inside.Births.{is_fork_or_end};
 ghost use Rattle.lp_cert.specs.inside.Invariant.{with_verdicts};
 ghost use Rattle.lp_cert.specs.inside.StepLines.{stepped_lines, after_scan_kind, noted_lines};
 ghost use Rattle.lp_cert.specs.inside.Heads.{IsUsed};
 ghost use Rattle.lp_cert.specs.inside.Waiters.{AreStanding, own_blame, HasFewGroups, HasHeadFor, HasHeads, IsUsedVerdict, after_switch, lines_at, own_lines};
 
-use crate::head::OwnFork;
 use crate::waiters::Waiters;
-use lp_model::{Blame, CheckKind, Consistency, ForkKind, Verdict};
+use lp_model::{Blame, CheckKind, Consistency, Verdict};
 use lp_stack::{GroupId, TaskId};
 use lp_transition::{Core, Event, Step, What};
 
@@ -77,8 +77,7 @@ impl Waiters {
         match step.event() {
             Event::Walk => self.scan_of(core, CheckKind::Walk, at, step.verdicts()),
             Event::Stop => self.scan_of(core, CheckKind::Stop, at, step.verdicts()),
-            Event::Fork(parent, child, how) => self.fork(core, parent, child, how, u64::from(at)),
-            Event::Die(task) => self.die(core, task),
+            Event::Fork(..) | Event::Die(_) => self.fork_or_end(core, step.event()),
             Event::Resched(task) => self.check_own(core, task, at),
             _ => {}
         }
@@ -105,48 +104,16 @@ impl Waiters {
         }
     }
 
-    /// A child of a group that waits was born on its level, so what kept its parent's group back is
-    /// why it waits too. Never allocates.
-    fn fork<M: Consistency>(
-        &mut self,
-        core: &Core<M>,
-        parent: TaskId,
-        child: TaskId,
-        how: ForkKind,
-        at: u64,
-    )
-        requires wide { child.0 < length self.old.reasons.heads }
+    /// An accepted fork or end of a task. Never allocates.
+    fn fork_or_end<M: Consistency>(&mut self, core: &Core<M>, event: Event)
+        requires own { is_fork_or_end event ≡ true }
+        requires child { HasHeadFor event self.old.reasons }
         requires room { 1 < self.old.reasons.room }
-        requires at { at ≡ suc core.now.number }
-        ensures lines { (group : ℕ) → lines_at self.new group ≡ own_lines M.rules core.now (Event.Fork parent child how) [] (lines_at self.old) group }
-        ensures few { HasFewGroups core.now (Event.Fork parent child how) }
+        ensures lines { (group : ℕ) → lines_at self.new group ≡ own_lines M.rules core.now event [] (lines_at self.old) group }
+        ensures few { HasFewGroups core.now event }
     {
-        let Some(group) = core.group_of(parent) else {
-            return;
-        };
-        let born = core.model().child_group(group, child, how);
-        if born.0 != child.0 || !self.waits(group) {
-            return;
-        }
-        let birth = OwnFork {
-            child: born,
-            parent,
-            at,
-        };
-        self.bear(group, &birth);
-    }
-
-    /// An accepted end of a task: its group waits no longer where it was the only member. Never
-    /// allocates.
-    fn die<M: Consistency>(&mut self, core: &Core<M>, task: TaskId)
-        ensures { (group : ℕ) → lines_at self.new group ≡ own_lines M.rules core.now (Event.Die task) [] (lines_at self.old) group }
-    {
-        let Some(group) = core.group_of(task) else {
-            return;
-        };
-        if core.is_alone(task) {
-            self.switch_one(group);
-        }
+        let effect = self.own_effect(core, event);
+        self.have_effect(&effect);
     }
 
     /// An accepted check that a task makes of itself with frames on its stack: where it is of its group, and refuses it, that is

@@ -1,6 +1,6 @@
 use Rattle.std.proofs.Common.{◌+◌, refl, sym, ap, ◌∙◌}
 use Rattle.lp_cert.specs.Ends.{Made, made_upto}
-use Rattle.lp_cert.proofs.Settled.{rested}
+use Rattle.lp_cert.proofs.Settled.{rested, uncontrolled, unscanned}
 use Rattle.lp_cert.proofs.Upto.{open_upto}
 use Rattle.lp_cert.proofs.maker.Maker.lets_own_check_pass.Goals as goal
 
@@ -10,7 +10,7 @@ returns g c = record {
       let i = c.self.inside in
       let number = c.args.core.now.number in
       let kept = c.args.self.now in
-      rested g.M.Consistency.rules g.met.M.Consistency.lawful run c.args.core.now stands event own_check c.requires.room (made_upto number kept) (made_upto (number + 1) kept) is after stands_after known refl number (number + 1) i.waiters refl i.current (sym c.is_settled.ensures ∙ settled)
+      rested g.M.Consistency.rules g.met.M.Consistency.lawful run c.args.core.now stands event (unscanned event own_check) (uncontrolled event own_check) c.requires.room (made_upto number kept) (made_upto (number + 1) kept) is after stands_after known refl number (number + 1) i.waiters refl i.current (sym c.is_settled.ensures ∙ settled)
       (ap (λ (made : Made). (made_upto number made).current) (sym c.self.view_is) ∙ open_upto number i.noted i.waiters i.current)
       (ap (λ (made : Made). (made_upto (number + 1) made).current) (sym c.self.view_is) ∙ open_upto (number + 1) i.noted i.waiters i.current);
 }

@@ -10,9 +10,6 @@ use Rattle.lp_cert.specs.inside.Waiters.{HasHeadFor, IsUsedVerdict}
 use Rattle.lp_cert.proofs.MoreWaiters.{used_enough}
 use Rattle.lp_cert.proofs.waiters.Waiters.affect.Goals as goal
 
-pub fork-requires-clause-wide : goal.fork-requires-clause-wide
-fork-requires-clause-wide g c = subst (λ (event : Event). HasHeadFor event c.args.self.now.reasons) (sym c.event.ensures ∙ c.in-Fork.is) c.requires.child
-
 pub scan_of-requires-clause-used : goal.scan_of-requires-clause-used
 scan_of-requires-clause-used g c = λ used.
     let model = g.M.Consistency.rules in
