@@ -1,60 +1,36 @@
-use Rattle.std.proofs.Common.{◌≡◌, None, Some, IsSome, is_some, refl, sym, ap, subst, ◌∙◌}
+use Rattle.std.proofs.Common.{IsSome, is_some, sym, ap, subst, ◌∙◌}
 use Rattle.std.proofs.lemmas.Bool.{false≢true}
 use Rattle.lp_definitions.specs.declared.reply.Reply.{Reply}
 use Rattle.lp_transition.specs.Weigh.{refusal_in}
 use Rattle.lp_transition.specs.inside.ScanSteps.{groups_of}
 use Rattle.lp_cert.specs.declared.open_leg.OpenLeg.{OpenLeg}
-use Rattle.lp_cert.specs.inside.Invariant.{HasFloor}
+use Rattle.lp_cert.specs.inside.Invariant.{HasFloor, plain_step}
 use Rattle.lp_cert.specs.inside.Waiters.{after_switch, lines_at}
-use Rattle.lp_cert.proofs.FramelessChecks.{goes, going}
+use Rattle.lp_cert.proofs.LegSteps.{goes, gone_stepped, over_stepped}
 use Rattle.lp_cert.proofs.OwnEffects.{left_accepted, left_refused, unscanned}
 use Rattle.lp_cert.proofs.PlainEvents.{no_used}
 use Rattle.lp_cert.proofs.maker.births.affect_leg.Goals as goal
 
-none_some : {A : Type 0} (a : A) → None ≡ Some a → ⊥
-none_some a e = absurd (cc)
-
 pub returns-then-is_over-clause-stepped : goal.returns-then-is_over-clause-stepped
 returns-then-is_over-clause-stepped c = λ model e event own lines few is.
-    let over = sym c.is_over.ensures.over ∙ c.if-is_over.true in
-    record {
-      complete = λ done ends. (c.is_over.ensures.complete done ends, refl);
-      completes = λ unended completed. (refl, c.is_over.ensures.completes unended (ap (λ (r : Reply). r.completed) is ∙ completed));
-      continues = λ unended unfinished. absurd (going _ _ over unended (ap (λ (r : Reply). r.completed) is ∙ unfinished));
-    }
+    over_stepped model e (plain_step model e event) _ _ _ _ _ (ap (λ (r : Reply). r.completed) is) (sym c.is_over.ensures.over ∙ c.if-is_over.true) c.is_over.ensures.complete c.is_over.ensures.completes
 
 pub returns-then-is_refused-clause-stepped : goal.returns-then-is_refused-clause-stepped
 returns-then-is_refused-clause-stepped c = λ model e event own lines few is.
-    let goes_on = goes _ _ (sym c.is_over.ensures.over ∙ c.if-is_over.false) in
     let refused = sym (c.is_refused.ensures ∙ ap (λ (r : Reply). is_some (refusal_in r.what)) is) ∙ c.if-is_refused.true in
-    record {
-      complete = λ done ends. absurd (none_some done (sym goes_on.0 ∙ ends));
-      completes = λ unended completed. absurd (false≢true (sym goes_on.1 ∙ (ap (λ (r : Reply). r.completed) is ∙ completed)));
-      continues = λ unended unfinished. (
-        c.is_over.ensures.goes_on c.if-is_over.false,
-        λ group. left_refused model e event c.args.waiters.now group refused,
-        λ accepted. few,
-        λ used accepted. absurd (false≢true (subst IsSome (no_used model event (unscanned event own)) used)),
-      );
-    }
+    gone_stepped model e (plain_step model e event) _ _ _ _ _ (ap (λ (r : Reply). r.completed) is) _ (sym c.is_over.ensures.over ∙ c.if-is_over.false) (c.is_over.ensures.goes_on c.if-is_over.false)
+    (λ group. left_refused model e event c.args.waiters.now group refused)
+    (λ accepted. few) (λ used accepted. absurd (false≢true (subst IsSome (no_used model event (unscanned event own)) used)))
 
 pub returns-clause-stepped : goal.returns-clause-stepped
 returns-clause-stepped c = λ model e event own lines few is.
-    let goes_on = goes _ _ (sym c.is_over.ensures.over ∙ c.if-is_over.false) in
     let accepted = sym (c.is_refused.ensures ∙ ap (λ (r : Reply). is_some (refusal_in r.what)) is) ∙ c.if-is_refused.false in
-    record {
-      complete = λ done ends. absurd (none_some done (sym goes_on.0 ∙ ends));
-      completes = λ unended completed. absurd (false≢true (sym goes_on.1 ∙ (ap (λ (r : Reply). r.completed) is ∙ completed)));
-      continues = λ unended unfinished. (
-        c.is_over.ensures.goes_on c.if-is_over.false,
-        λ group.
-            c.switch.ensures group
-            ∙ (ap (λ (r : Reply). after_switch (groups_of r.what) (lines_at c.have_effect.new.self) group) is
-            ∙ left_accepted model e event own c.args.waiters.now group (lines_at c.have_effect.new.self group) (lines group ∙ sym (c.have_effect.ensures group)) accepted),
-        λ accepted. few,
-        λ used accepted. absurd (false≢true (subst IsSome (no_used model event (unscanned event own)) used)),
-      );
-    }
+    gone_stepped model e (plain_step model e event) _ _ _ _ _ (ap (λ (r : Reply). r.completed) is) _ (sym c.is_over.ensures.over ∙ c.if-is_over.false) (c.is_over.ensures.goes_on c.if-is_over.false)
+    (λ group.
+    c.switch.ensures group
+    ∙ (ap (λ (r : Reply). after_switch (groups_of r.what) (lines_at c.have_effect.new.self) group) is
+    ∙ left_accepted model e event own c.args.waiters.now group (lines_at c.have_effect.new.self group) (lines group ∙ sym (c.have_effect.ensures group)) accepted))
+    (λ accepted. few) (λ used accepted. absurd (false≢true (subst IsSome (no_used model event (unscanned event own)) used)))
 
 pub returns-clause-floor : goal.returns-clause-floor
 returns-clause-floor c =
