@@ -7,7 +7,7 @@ use Rattle.std.proofs.lemmas.List.Sums.{fold-append}
 use Rattle.std.specs.List.{fold}
 use Rattle.lp_cert.specs.declared.reason.Reason.{Reason}
 use Rattle.lp_cert.specs.declared.chains.Entry.{Entry}
-use Rattle.lp_cert.specs.inside.Chains.{with_entry, lists_of, line_count, reason_count, IsLineCount, IsTail, IsLinked, AreLinked}
+use Rattle.lp_cert.specs.inside.Chains.{with_entry, lists_of, reason_count, IsLineCount, IsTail, IsLinked, AreLinked}
 
 -- an entry adds one list
 with_entry-length : (lists : List (List Reason)) (entry : Entry) → length (with_entry lists entry) ≡ suc (length lists)

@@ -1,24 +1,19 @@
 -- Which groups are unchanged after an event that opens no leg, by what the engine knows of the last scan.
 use Rattle.std.proofs.Common.{◌≡◌, ℕ, suc, Bool, true, false, List, length, Option, Some, None, IsTrue, IsFalse, nat_eq, refl, sym, ap, subst, ◌∙◌}
-use mathlib.Core.Path.{fun_ext}
-use Rattle.std.specs.List.{list_any}
 use Rattle.std.proofs.lemmas.Bool.{false≢true, cond-true, cond-false}
 use Rattle.lp_numbers.specs.Numbers.{has}
 use Rattle.lp_model.specs.Rules.{Rules, IsLawful}
 use Rattle.lp_model.specs.declared.check.CheckKind.{CheckKind}
 use Rattle.lp_model.specs.declared.check.CheckKind.TheVariants as kind
-use Rattle.lp_model.specs.declared.verdict.Verdict.{Verdict}
 use Rattle.lp_definitions.specs.declared.event.Event.{Event}
 use Rattle.lp_definitions.specs.declared.event.Event.TheVariants.{Walk, Stop}
 use Rattle.lp_transition.specs.LastScan.{IsLastScanAfter, AreSameMembers, used_kind, used_scan}
-use Rattle.lp_definitions.specs.Tasks.{on_live}
-use Rattle.lp_definitions.specs.Leg.{LegTask, State, Leg}
+use Rattle.lp_definitions.specs.Leg.{State, Leg}
 use Rattle.lp_definitions.specs.Run.{and_then, opens}
 use Rattle.lp_definitions.specs.Sound.{IsSound}
 use Rattle.lp_machine.specs.Machine.{state_of}
-use Rattle.lp_transition.specs.Scan.{is_scan_kind, scan_event, is_of}
-use Rattle.lp_machine.specs.Table.{Engine, LastScan, fate_at, slot, state_in}
-use Rattle.lp_tasks.specs.inside.Table.{is_in}
+use Rattle.lp_transition.specs.Scan.{is_scan_kind, scan_event}
+use Rattle.lp_machine.specs.Table.{Engine, LastScan, state_in}
 use Rattle.lp_definitions.specs.declared.line.Line.{Line}
 use Rattle.lp_definitions.specs.Certificates.{lines}
 use Rattle.lp_cert.specs.Unchanged.{AreUnchanged, AreUnchangedBy, AreUnchangedSince}

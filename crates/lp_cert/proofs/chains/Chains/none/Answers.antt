@@ -1,5 +1,4 @@
 use Rattle.std.proofs.Common.{arith}
-use Rattle.std.proofs.lemmas.Grind.{common_steps}
 use Rattle.lp_cert.proofs.ChainLemmas.{empty_first, lists_of-length}
 use Rattle.lp_cert.proofs.chains.Chains.none.Goals as goal
 

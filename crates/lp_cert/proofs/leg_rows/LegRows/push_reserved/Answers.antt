@@ -1,5 +1,4 @@
 use Rattle.std.proofs.Common.{◌++◌, ◌∷◌, [], List, map, ap, ap₂, ◌∙◌, arith}
-use Rattle.std.proofs.lemmas.Grind.{common_steps}
 use Rattle.lp_definitions.specs.Ends.{LegEnd}
 use Rattle.lp_cert.specs.declared.leg_rows.LegRow.{LegRow}
 use Rattle.lp_cert.specs.inside.LegRows.{KeptEnds, row_end}

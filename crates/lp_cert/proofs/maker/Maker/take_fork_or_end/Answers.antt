@@ -1,4 +1,4 @@
-use Rattle.std.proofs.Common.{◌+◌, Some, None, Result, Ok, Err, OnErr, refl, sym, ap, ◌∙◌, arith}
+use Rattle.std.proofs.Common.{◌+◌, Some, None, Result, Ok, Err, OnErr, refl, sym, ap, ◌∙◌}
 use Rattle.std.specs.Option.{option_map}
 use Rattle.lp_cert.specs.Ends.{Made, IsMadeWith}
 use Rattle.lp_cert.specs.Invariant.{open_end, room_of}

@@ -1,4 +1,4 @@
-use Rattle.std.proofs.Common.{[], get_or, option_to_list, ap₂, ◌-◌, ◌∙◌}
+use Rattle.std.proofs.Common.{[], get_or, option_to_list, ap₂, ◌-◌}
 use Rattle.lp_cert.proofs.PartLemmas.{before_tail}
 use Rattle.lp_cert.proofs.oldest_first.OldestFirst.after.Goals as goal
 

@@ -6,7 +6,7 @@ use Rattle.lp_model.specs.declared.check.CheckKind.TheVariants as kind
 use Rattle.lp_definitions.specs.declared.event.Event.{Event}
 use Rattle.lp_machine.specs.Table.{state_in}
 use Rattle.lp_transition.specs.Weigh.{AreVerdictsFor}
-use Rattle.lp_cert.specs.inside.Waiters.{HasHeadFor, IsUsedVerdict}
+use Rattle.lp_cert.specs.inside.Waiters.{IsUsedVerdict}
 use Rattle.lp_cert.proofs.MoreWaiters.{used_enough}
 use Rattle.lp_cert.proofs.waiters.Waiters.affect.Goals as goal
 
