@@ -1,5 +1,5 @@
 -- The first lines of a certificate that are kept, and their text.
-use Rattle.std.proofs.Common.{◌≡◌, ◌<◌, ◌≤◌, ◌+◌, ℕ, zero, suc, List, [], ◌∷◌, ◌++◌, length, map, take, drop, get_or, option_to_list, slice_get, Option, Some, None, Result, Ok, Err, is_ok, if◌then◌else◌, IfNone, OnErr, add-zero, zero-add, refl, subst, sym, ap, ◌∙◌, arith, length-append, append_assoc, take-append-drop}
+use Rattle.std.proofs.Common.{◌≡◌, ◌<◌, ◌≤◌, ◌+◌, ℕ, List, [], ◌∷◌, ◌++◌, length, map, take, drop, get_or, option_to_list, slice_get, Option, Some, None, Result, Ok, Err, is_ok, if◌then◌else◌, IfNone, OnErr, refl, subst, sym, ap, ◌∙◌, arith, length-append, append_assoc, take-append-drop}
 use Rattle.std.proofs.Math.Seq.{get_or-append_seam, take-append_seam}
 use Rattle.std.proofs.lemmas.Grind.{flat_map-append}
 use Rattle.std.proofs.lemmas.List.{append-nil, get_or-take, get_or_read, length-take-le, map-append, take_all, take-append-le, take-take}

@@ -9,7 +9,6 @@ use Rattle.std.proofs.Math.Seq.{drop-cons}
 use Rattle.lp_stack.specs.declared.number.GroupId.{GroupId}
 use Rattle.lp_definitions.specs.Events.{group_numbers}
 use Rattle.lp_definitions.specs.declared.reply.Reply.{Reply}
-use Rattle.lp_definitions.specs.Ends.{LegEnd}
 use Rattle.lp_text.specs.declared.form.TraceForm.{TraceForm}
 use Rattle.lp_definitions.specs.Outcome.{Outcome}
 use Rattle.lp_text.specs.Words.{line_of}

@@ -1,5 +1,5 @@
 -- The report of a run, as a text.
-use Rattle.std.specs.Prelude.{ℕ, suc, true, false, Bool, List, [], ◌∷◌, ◌++◌, length, map, Option, Some, None, decimal, codes, nat_eq, if◌then◌else◌}
+use Rattle.std.specs.Prelude.{ℕ, suc, true, false, Bool, List, [], ◌∷◌, ◌++◌, length, map, decimal, codes, nat_eq, if◌then◌else◌}
 use Rattle.std.specs.List.{flat_map}
 use Rattle.lp_stack.specs.declared.number.Level.{Level}
 use Rattle.lp_definitions.specs.declared.reply.What.{What}

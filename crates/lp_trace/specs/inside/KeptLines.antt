@@ -1,11 +1,10 @@
 -- The first lines of a certificate, and their text.
-use Rattle.std.specs.Prelude.{◌≡◌, ℕ, ◌<◌, ◌≤◌, List, ◌++◌, length, map, option_to_list, slice_get, slice_index, take, Option, Some}
+use Rattle.std.specs.Prelude.{◌≡◌, ℕ, ◌<◌, ◌≤◌, List, ◌++◌, length, map, slice_get, slice_index, take, Some}
 use Rattle.std.specs.List.{flat_map}
 use Rattle.lp_definitions.specs.declared.cert.Cert.{Cert}
 use Rattle.lp_definitions.specs.declared.line.Line.{Line}
 use Rattle.lp_text.specs.CertTexts.{reason_words}
 use Rattle.lp_text.specs.Words.{line_of}
-use Rattle.lp_trace.specs.declared.report.kept_lines.KeptLines.{KeptLines}
 
 -- the text of lines
 abbrev pub text_of : List Line → List ℕ

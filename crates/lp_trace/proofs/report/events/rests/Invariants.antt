@@ -1,4 +1,3 @@
-use Rattle.std.proofs.Common.{◌≡◌, length}
 use Rattle.lp_trace.specs.inside.Rests.{AreRests}
 use Rattle.lp_trace.proofs.report.events.rests.Given as goal
 

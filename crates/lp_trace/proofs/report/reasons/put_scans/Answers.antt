@@ -1,4 +1,4 @@
-use Rattle.std.proofs.Common.{◌++◌, ◌+◌, List, ℕ, drop, map, refl, subst, sym, arith}
+use Rattle.std.proofs.Common.{◌++◌, List, ℕ, drop, map, refl, subst, sym, arith}
 use Rattle.lp_definitions.specs.declared.line.Line.TheVariants.{Busy}
 use Rattle.lp_cert.specs.Parts.{busy_scan_lines}
 use Rattle.lp_text.specs.CertTexts.{reason_words}
