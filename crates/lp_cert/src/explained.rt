@@ -22,9 +22,9 @@ use lp_transition::{Core, Event, Halt, Reply};
 use std::alloc::{AllocError, Global};
 use std::marker::Model;
 
-/// An engine with the maker of its certificates. An event that may give a group a line is noted before the engine takes it: noted
-/// later, the line would be of the tasks as the event left them. Exits, idle points and accepted control events give none, and are
-/// noted by their answers.
+/// An engine with the maker of its certificates. What gives a group a line is asked before the engine takes the event: asked later,
+/// the line would be of the tasks as the event left them. So a scan is noted before, and a fork by what was asked of it then. Exits,
+/// idle points and accepted control events give none, and are noted by their answers.
 ///
 /// Contracts see the engine, the ends of the legs that ended, and the end of the leg under way as it stands.
 pub struct ExplainedCore<M: Consistency> {
