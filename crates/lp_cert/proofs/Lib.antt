@@ -35,7 +35,6 @@ pub mod Ending
 pub mod Noted
 pub mod NotedBy
 pub mod PlainEvents
-pub mod FramelessChecks
 pub mod LegSteps
 pub mod OwnEffects
 pub mod Passed

@@ -55,30 +55,26 @@ pub record AreTold (model : Rules) (e : Engine) (step : Weighed) : Type 0 where
   pub enough : AreVerdictsFor model (state_in e) step.event verdicts
   pub tells : Tells model e (with_verdicts step verdicts)
 
+none_some : {A : Type 0} (a : A) → None ≡ Some a → ⊥
+none_some a e = absurd (cc)
+
+same_some : (a b : CheckKind) → Some a ≡ Some b → a ≡ b
+same_some a b e = cc
+
 -- at a scan those of all
-pub whole_told : (model : Rules) (e : Engine) (step : Weighed) (on : CheckKind) → used_scan model step.event ≡ Some on → AreTold model e step
-whole_told model e step on is = record {
-  verdicts = verdicts_of model on (state_in e);
-  enough = enough_all model (state_in e) step.event on is;
-  tells = λ other used. inl (ap (λ (k : CheckKind). verdicts_of model k (state_in e)) (same_some on other (sym is ∙ used)));
-}
-  where
-    same_some : (a b : CheckKind) → Some a ≡ Some b → a ≡ b
-    same_some a b e = cc
+pub whole_tells : (model : Rules) (e : Engine) (step : Weighed) (on : CheckKind) → used_scan model step.event ≡ Some on → Tells model e (with_verdicts step (verdicts_of model on (state_in e)))
+whole_tells model e step on is = λ other used. inl (ap (λ (k : CheckKind). verdicts_of model k (state_in e)) (same_some on other (sym is ∙ used)))
 
 -- at any other event its own
-pub own_told : (model : Rules) (e : Engine) (step : Weighed) → IsWeighed model e step → used_scan model step.event ≡ None → AreTold model e step
-own_told model e step weighed none = record { verdicts = step.verdicts; enough = weighed.verdicts; tells = λ on used. absurd (none_some on (sym none ∙ used)) }
-  where
-    none_some : {A : Type 0} (a : A) → None ≡ Some a → ⊥
-    none_some a e = absurd (cc)
+pub own_tells : (model : Rules) (e : Engine) (step : Weighed) → used_scan model step.event ≡ None → Tells model e step
+own_tells model e step none = λ on used. absurd (none_some on (sym none ∙ used))
 
 pub all_told : (model : Rules) (e : Engine) (step : Weighed) → IsWeighed model e step → AreTold model e step
 all_told model e step weighed = by (used_scan model step.event) refl
   where
     by : (o : Option CheckKind) → used_scan model step.event ≡ o → AreTold model e step
-    by None is = own_told model e step weighed is
-    by (Some on) is = whole_told model e step on is
+    by None is = record { verdicts = step.verdicts; enough = weighed.verdicts; tells = own_tells model e step is }
+    by (Some on) is = record { verdicts = verdicts_of model on (state_in e); enough = enough_all model (state_in e) step.event on is; tells = whole_tells model e step on is }
 
 -- ---- Verdicts of the groups that have changed
 

@@ -13,17 +13,17 @@ use Rattle.lp_definitions.specs.Leg.{LegTask, State, is_alone}
 use Rattle.lp_definitions.specs.Sound.{IsSound}
 use Rattle.lp_machine.specs.Machine.{outlines_of, view_of}
 use Rattle.lp_machine.proofs.Alone.{alone-other}
-use Rattle.lp_transition.specs.Blames.{has_frame_in, blame_in, first_blamed_in}
+use Rattle.lp_transition.specs.Blames.{blame_in, first_blamed_in}
 use Rattle.lp_definitions.specs.declared.line.Line.{Line}
 use Rattle.lp_definitions.specs.Certificates.{group_id, after_refusal}
 use Rattle.lp_cert.specs.declared.head.Head.{Head}
+use Rattle.lp_cert.specs.declared.ongoing.Ongoing.{Ongoing}
+use Rattle.lp_cert.specs.declared.ongoing.Ongoing.TheVariants.{Nothing, Hold, Busy}
 use Rattle.lp_cert.specs.declared.head.Refused.{Refused}
 use Rattle.lp_cert.specs.Heads.{head_lines}
 use Rattle.lp_cert.specs.Waiters.{LegReasons, WaitingGroups, head_of}
-use Rattle.lp_cert.specs.inside.Heads.{IsHead, IsRefusedAlone}
-use Rattle.lp_cert.specs.inside.ToldGroups.{is_held}
+use Rattle.lp_cert.specs.inside.Heads.{HasFrameAs, IsHead, IsRefusedAlone}
 use Rattle.lp_cert.specs.inside.Waiters.{StandsAt, lines_at, lines_in}
-use Rattle.lp_cert.proofs.HeadLemmas.{frame_as}
 use Rattle.lp_cert.proofs.HoldNames.{first_at}
 use Rattle.lp_cert.proofs.WaiterLemmas.{head_kept, lines_kept}
 
@@ -92,13 +92,19 @@ module _ (model : Rules) (s : State) (sound : IsSound s) (kind : CheckKind) (t :
 
 -- ---- The groups that wait
 
-module _ (s : State) (group : GroupId) (refused : Refused) (groups : Numbers) (old new : LegReasons)
+-- what is said of a hold's frame is so of some frames
+pub as_said : (ongoing : Ongoing) (stands : Bool) → HasFrameAs (λ task serial. stands) ongoing stands
+as_said Nothing stands = tt
+as_said (Hold task serial from last) stands = refl
+as_said (Busy task first) stands = tt
+
+module _ (has_frame : (task serial : ℕ) → Bool) (group : GroupId) (refused : Refused) (groups : Numbers) (old new : LegReasons)
     (stand : (g : ℕ) → has groups g ≡ true → StandsAt (length old.scans) old g)
     (waits : has groups group.0 ≡ true)
     (alone : IsRefusedAlone refused group old.scans (head_of old group.0) (head_of new group.0) old.lists new.lists)
     (rest : (other : ℕ) → other ≢ group.0 → head_of new other ≡ head_of old other)
     (scans : new.scans ≡ old.scans)
-    (held : refused.frame_stands ≡ is_held (has_frame_in s) (head_of old group.0).ongoing) where
+    (as_told : HasFrameAs has_frame (head_of old group.0).ongoing refused.frame_stands) where
   abbrev before : WaitingGroups
   before = record { groups = groups; reasons = old }
 
@@ -106,12 +112,12 @@ module _ (s : State) (group : GroupId) (refused : Refused) (groups : Numbers) (o
   later = record { groups = groups; reasons = new }
 
   abbrev next : ℕ → List Line → List Line
-  next g ls = after_refusal (has_frame_in s) g refused.at (refused.task.0, refused.blame) ls
+  next g ls = after_refusal has_frame g refused.at (refused.task.0, refused.blame) ls
 
   own_lines : lines_in new group.0 ≡ next group.0 (lines_in old group.0)
   own_lines =
       ap (λ xs. head_lines new.lists xs group (head_of new group.0)) scans
-      ∙ alone.lines (has_frame_in s) (frame_as (has_frame_in s) (head_of old group.0).ongoing refused.frame_stands held)
+      ∙ alone.lines has_frame as_told
 
   mine : lines_at later group.0 ≡ option_map (next group.0) (lines_at before group.0)
   mine =

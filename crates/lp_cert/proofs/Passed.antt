@@ -33,7 +33,7 @@ use Rattle.lp_cert.specs.Waiters.{WaitingGroups}
 use Rattle.lp_cert.specs.inside.Waiters.{lines_at, HasFewGroups, own_lines}
 use Rattle.lp_cert.specs.inside.StepLines.{noted_by, noted_lines}
 use Rattle.lp_transition.specs.LastScan.{IsLastScanAfter, used_scan}
-use Rattle.lp_cert.proofs.PlainEvents.{HasGoneOn, no_used, plain_made}
+use Rattle.lp_cert.proofs.PlainEvents.{HasGoneOn, no_used, opens_none, plain_made}
 
 quiet : (event : Event) → is_quiet event ≡ true → is_unchecked event ≡ true
 quiet (Call t f) h = refl
@@ -150,7 +150,7 @@ module _ (model : Rules) (lawful : IsLawful model) (run : Run) (e : Engine) (sta
       → (noted number : ℕ) (waiters : WaitingGroups) → number ≡ e.number + 1 → (current : Option OpenLeg) → made.current ≡ option_map (open_end noted waiters) current → new.current ≡ option_map (open_end number waiters) current
       → IsMadeWith model (plus run event) after.last_scan new
   passed made new is after stands_after known ended noted number waiters numbered current =
-      plain_made model lawful run e stands event (unscanned event plain) (unchecked-control model event (quiet event plain)) room made new is after stands_after known ended noted number numbered waiters waiters current current (gone current)
+      plain_made model lawful run e stands event (unscanned event plain) (opens_none model e event (unchecked-control model event (quiet event plain))) room made new is after stands_after known ended noted number numbered waiters waiters current current (gone current)
     where
       gone : (leg : Option OpenLeg) → HasGoneOn model e event number leg leg waiters waiters
       gone None = tt

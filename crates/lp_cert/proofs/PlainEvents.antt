@@ -41,6 +41,10 @@ control_unscanned Walk control = cc
 control_unscanned Stop control = cc
 control_unscanned _ control = refl
 
+-- an event that is no control event opens no leg
+pub opens_none : (model : Rules) (e : Engine) (event : Event) → is_control event ≡ false → is_opening (plain_step model e event) ≡ false
+opens_none model e event uncontrolled = ap (λ b. b && is_none (refusal_in (plain_step model e event).reply.what)) uncontrolled
+
 -- an event that isn't an accepted control event opens no leg
 pub stays_in : (model : Rules) (e : Engine) (step : Weighed) → IsWeighed model e step → (is_control step.event ≡ true → refusal_of model (state_in e) step.event ≢ None) → is_opening step ≡ false
 stays_in model e step weighed refused =
@@ -74,10 +78,7 @@ module _ (model : Rules) (lawful : IsLawful model) (run : Run) (e : Engine) (sta
   pub turns : is_control event ≡ true → refusal_of model (state_in e) event ≡ None → is_opening (plain_step model e event) ≡ true
   turns control accepted = ap₂ (λ a b. a && b) control (ap is_none (refused-as model (state_in e) event ∙ accepted))
 
-  module _ (unscanned : is_scan event ≡ false) (uncontrolled : is_control event ≡ false) (room : e.number < 1000000) where
-    opens_none : is_opening (plain_step model e event) ≡ false
-    opens_none = ap (λ b. b && is_none (refusal_in (plain_step model e event).reply.what)) uncontrolled
-
+  module _ (unscanned : is_scan event ≡ false) (stays : is_opening (plain_step model e event) ≡ false) (room : e.number < 1000000) where
     suffices : TellsOrUnchanged model (state_in e) (lines model (leg_of model run) (length (leg_of model run).events)) (used_scan model event) []
     suffices = subst (λ (o : Option CheckKind). TellsOrUnchanged model (state_in e) (lines model (leg_of model run) (length (leg_of model run).events)) o []) (sym (no_used model event unscanned)) tt
 
@@ -86,8 +87,8 @@ module _ (model : Rules) (lawful : IsLawful model) (run : Run) (e : Engine) (sta
         → (noted number : ℕ) → number ≡ e.number + 1 → (before later : WaitingGroups) (current next : Option OpenLeg) → HasGoneOn model e event number current next before later → made.current ≡ option_map (open_end noted before) current → new.current ≡ option_map (open_end number later) next
         → IsMadeWith model (plus run event) after.last_scan new
     plain_made made new is after stands_after known ended noted number numbered before later None None gone was now =
-        none_made model lawful run e stands (plain_step model e event) (weighed unscanned room) made new is after stands_after known opens_none ended was now
+        none_made model lawful run e stands (plain_step model e event) (weighed unscanned room) made new is after stands_after known stays ended was now
     plain_made made new is after stands_after known ended noted number numbered before later (Some leg) (Some on) gone was now =
-        still_made model lawful run e stands (plain_step model e event) (weighed unscanned room) made new is after stands_after known opens_none ended noted number leg on before later numbered gone (λ unended unfinished. suffices) was now
+        still_made model lawful run e stands (plain_step model e event) (weighed unscanned room) made new is after stands_after known stays ended noted number leg on before later numbered gone (λ unended unfinished. suffices) was now
     plain_made made new is after stands_after known ended noted number numbered before later None (Some on) gone was now = absurd gone
     plain_made made new is after stands_after known ended noted number numbered before later (Some leg) None gone was now = absurd gone

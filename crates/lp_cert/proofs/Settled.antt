@@ -1,21 +1,19 @@
--- An event that is no scan and no control event changes nothing of a leg that is complete.
+-- An event that is no scan and opens no leg changes nothing of a leg that is complete.
 use Rattle.std.proofs.Common.{◌≡◌, ◌<◌, ◌+◌, ℕ, true, false, Option, Some, None, is_some, refl, sym, ap, ◌∙◌}
 use Rattle.std.specs.Option.{option_map}
 use Rattle.std.proofs.lemmas.Bool.{false≢true}
 use Rattle.lp_model.specs.Rules.{Rules, IsLawful}
 use Rattle.lp_definitions.specs.declared.event.Event.{Event}
-use Rattle.lp_definitions.specs.declared.event.Event.TheVariants.{Exit, Idle, Resched}
-use Rattle.lp_definitions.specs.Events.{is_control, is_scan}
+use Rattle.lp_definitions.specs.Events.{is_scan}
 use Rattle.lp_transition.specs.LastScan.{IsLastScanAfter}
-use Rattle.lp_definitions.specs.TaskEvents.{is_own_check}
 use Rattle.lp_definitions.specs.Run.{Run, plus}
 use Rattle.lp_machine.specs.Steps.{StandsIn}
 use Rattle.lp_machine.specs.Table.{Engine, state_in}
 use Rattle.lp_cert.specs.declared.open_leg.Completion.{Completion}
 use Rattle.lp_cert.specs.declared.open_leg.OpenLeg.{OpenLeg}
-use Rattle.lp_cert.specs.Ends.{Made, IsMadeWith}
+use Rattle.lp_cert.specs.Ends.{Made, IsMadeWith, is_opening}
 use Rattle.lp_cert.specs.Invariant.{open_end}
-use Rattle.lp_cert.specs.inside.Invariant.{is_settled}
+use Rattle.lp_cert.specs.inside.Invariant.{is_settled, plain_step}
 use Rattle.lp_cert.specs.Waiters.{WaitingGroups}
 use Rattle.lp_cert.proofs.Asked.{not_some}
 use Rattle.lp_cert.proofs.PlainEvents.{HasGoneOn, plain_made}
@@ -34,19 +32,7 @@ pub ends_stay : (noted number : ℕ) (w : WaitingGroups) (current : Option OpenL
 ends_stay noted number w None settled = refl
 ends_stay noted number w (Some leg) settled = ap Some (end_stays noted number w leg leg.completed settled)
 
-pub unscanned : (event : Event) → is_own_check event ≡ true → is_scan event ≡ false
-unscanned (Exit t) own_check = refl
-unscanned (Idle t) own_check = refl
-unscanned (Resched t) own_check = refl
-unscanned _ own_check = cc
-
-pub uncontrolled : (event : Event) → is_own_check event ≡ true → is_control event ≡ false
-uncontrolled (Exit t) own_check = refl
-uncontrolled (Idle t) own_check = refl
-uncontrolled (Resched t) own_check = refl
-uncontrolled _ own_check = cc
-
-module _ (model : Rules) (lawful : IsLawful model) (run : Run) (e : Engine) (stands : StandsIn model run (state_in e)) (event : Event) (no_scan : is_scan event ≡ false) (no_control : is_control event ≡ false) (room : e.number < 1000000) where
+module _ (model : Rules) (lawful : IsLawful model) (run : Run) (e : Engine) (stands : StandsIn model run (state_in e)) (event : Event) (no_scan : is_scan event ≡ false) (opens_none : is_opening (plain_step model e event) ≡ false) (room : e.number < 1000000) where
   unfinished_not : (leg : OpenLeg) → is_some leg.completed ≡ true → leg.completed ≡ None → ⊥
   unfinished_not leg settled unfinished = false≢true (sym (ap is_some unfinished) ∙ settled)
 
@@ -63,4 +49,4 @@ module _ (model : Rules) (lawful : IsLawful model) (run : Run) (e : Engine) (sta
       → (noted number : ℕ) (waiters : WaitingGroups) → number ≡ e.number + 1 → (current : Option OpenLeg) → is_settled current ≡ true → made.current ≡ option_map (open_end noted waiters) current → new.current ≡ option_map (open_end number waiters) current
       → IsMadeWith model (plus run event) after.last_scan new
   rested made new is after stands_after known ended noted number waiters numbered current settled =
-      plain_made model lawful run e stands event no_scan no_control room made new is after stands_after known ended noted number numbered waiters waiters current current (stays number waiters current settled)
+      plain_made model lawful run e stands event no_scan opens_none room made new is after stands_after known ended noted number numbered waiters waiters current current (stays number waiters current settled)

@@ -33,7 +33,7 @@ use Rattle.lp_transition.proofs.ScanAnswers.{switches-walk, switches-stop}
 use Rattle.lp_laws.proofs.OneMore.{plain_refusal}
 use Rattle.lp_machine_laws.proofs.Steps.{refusal_is}
 use Rattle.lp_tasks.proofs.TableLemmas.{live_from_slot, slot_from_live}
-use Rattle.lp_transition.proofs.Weighing.{refused-as}
+use Rattle.lp_transition.proofs.Weighing.{refused-as, scan_accepted}
 use Rattle.lp_definitions.specs.declared.line.Line.{Line}
 use Rattle.lp_definitions.specs.Certificates.{lines, birth_line, after_refusal, after_check}
 use Rattle.lp_cert.specs.EventLines.{lines_after_scan, lines_after_own_check, is_resched, lines_after_fork, is_fork}
@@ -204,24 +204,6 @@ module _ (model : Rules) (lawful : IsLawful model) (e : Engine) (sound : IsSound
 
   -- ---- The event
 
-  scan_accepted : (event : Event) → is_scan event ≡ true → refusal_of model s event ≡ None
-  unfolding refusal_of
-  scan_accepted Walk scan = refl
-  scan_accepted Stop scan = refl
-  scan_accepted (Call t f) scan = absurd (false≢true scan)
-  scan_accepted (Ret t) scan = absurd (false≢true scan)
-  scan_accepted (Sleep t) scan = absurd (false≢true scan)
-  scan_accepted (Wake t) scan = absurd (false≢true scan)
-  scan_accepted (Enter t) scan = absurd (false≢true scan)
-  scan_accepted (Exit t) scan = absurd (false≢true scan)
-  scan_accepted (Idle t) scan = absurd (false≢true scan)
-  scan_accepted (Resched t) scan = absurd (false≢true scan)
-  scan_accepted (Fork p c how) scan = absurd (false≢true scan)
-  scan_accepted (Die t) scan = absurd (false≢true scan)
-  scan_accepted Enable scan = absurd (false≢true scan)
-  scan_accepted Disable scan = absurd (false≢true scan)
-  scan_accepted Reverse scan = absurd (false≢true scan)
-
   is_fork-control : (event : Event) → is_fork event ≡ true → is_control event ≡ false
   is_fork-control (Fork p c how) fork = refl
   is_fork-control (Call t f) fork = absurd (false≢true fork)
@@ -246,7 +228,7 @@ module _ (model : Rules) (lawful : IsLawful model) (e : Engine) (sound : IsSound
   refused_same : (event : Event) (g : ℕ) (why : Refusal) → refusal_of model s event ≡ Some why → lines model (and_then leg event) (suc n) g ≡ lines model leg n g
   refused_same event g why turned_down =
       ⊎_elim
-      (λ (scan : is_scan event ≡ true). absurd (some_none why (sym turned_down ∙ scan_accepted event scan)))
+      (λ (scan : is_scan event ≡ true). absurd (some_none why (sym turned_down ∙ scan_accepted model s event scan)))
       (λ (plain : is_scan event ≡ false).
       ⊎_elim
       (λ (fork : is_fork event ≡ true). by_tests (is_fork-control event fork))

@@ -1,6 +1,6 @@
 -- What code and proofs share and no public contract names.
 pub mod Bare
-pub mod Births
+pub mod OwnEffects
 pub mod Chains
 pub mod GroupSet
 pub mod StepLines

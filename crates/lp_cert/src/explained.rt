@@ -1,17 +1,14 @@
 //! An engine that explains itself: the maker of certificates notes each event as the engine takes it.
-ghost use Rattle.std.specs.Prelude.{◌≡◌, ◌≢◌, ◌++◌, ◌<◌, [], None, true, is_some, option_to_list, IfOk, IfSome, OnErr, OnOk, OnSome};
+ghost use Rattle.std.specs.Prelude.{◌≡◌, ◌++◌, ◌<◌, [], None, true, false, is_some, option_to_list, IfOk, OnErr, OnOk};
 ghost use Rattle.std.specs.Option.{option_map};
-ghost use Rattle.lp_definitions.specs.Events.{is_control, is_scan};
-ghost use Rattle.lp_definitions.specs.TaskEvents.{is_own_check, is_quiet};
+ghost use Rattle.lp_definitions.specs.Events.{is_scan};
 ghost use Rattle.lp_definitions.specs.Run.{Run, plus};
-ghost use Rattle.lp_machine.specs.Machine.{refusal_of};
 ghost use Rattle.lp_machine.specs.Steps.{IsStep, StandsIn};
 ghost use Rattle.lp_machine.specs.Table.{state_in};
 ghost use Rattle.lp_transition.specs.Blames.{HasBlamesAfter};
 ghost use Rattle.lp_transition.specs.Scan.{is_scan_kind, scan_event};
 ghost use Rattle.lp_cert.specs.Ends.{IsMadeWith, cert_upto, ends_left, floor_in, is_complete_in, waiting_in};
 ghost use Rattle.lp_cert.specs.Explained.{IsExplained};
-ghost use Rattle.lp_cert.specs.inside.StepLines.{is_frameless_check};
 
 use crate::leg_list::{LegEnds, LegList};
 use crate::maker::Maker;
@@ -23,8 +20,7 @@ use std::alloc::{AllocError, Global};
 use std::marker::Model;
 
 /// An engine with the maker of its certificates. What gives a group a line is asked before the engine takes the event: asked later,
-/// the line would be of the tasks as the event left them. So a scan is noted before, and a fork by what was asked of it then. Exits,
-/// idle points and accepted control events give none, and are noted by their answers.
+/// the line would be of the tasks as the event left them.
 ///
 /// Contracts see the engine, the ends of the legs that ended, and the end of the leg under way as it stands.
 pub struct ExplainedCore<M: Consistency> {
@@ -59,7 +55,8 @@ impl<M: Consistency> ExplainedCore<M> {
         Ok(ExplainedCore { core, maker })
     }
 
-    /// Takes one event, and answers it. Where an allocation failed all is as it was.
+    /// Takes one event, and answers it. Where an allocation failed all is as it was. It is compiled where it is called, so that a kind
+    /// of event that is known there pays for no other.
     #[inline(always)]
     pub fn step(&mut self, alloc: Global, event: Event) -> Result<Reply, AllocError>
         requires room { self.old.core.number < 1000000 }
@@ -71,91 +68,14 @@ impl<M: Consistency> ExplainedCore<M> {
         let core: &mut Core<M> = &mut self.core;
         if event.is_quiet() {
             self.maker.let_pass(core);
-            return Ok(core.step_quiet(event));
+            return core.step_plain(alloc, event);
         }
-        if is_own_check(event) && self.maker.lets_own_check_pass(core) {
-            return core.step_own_check(alloc, event);
-        }
+        self.maker.note_passed(core);
         match event {
-            Event::Walk => self.step_scan(alloc, CheckKind::Walk, event),
-            Event::Stop => self.step_scan(alloc, CheckKind::Stop, event),
-            _ => {
-                self.maker.note_passed(core);
-                take(alloc, core, &mut self.maker, event)
-            }
+            Event::Walk => take_scan(alloc, core, &mut self.maker, CheckKind::Walk, event),
+            Event::Stop => take_scan(alloc, core, &mut self.maker, CheckKind::Stop, event),
+            _ => take_other(alloc, core, &mut self.maker, event),
         }
-    }
-
-    /// Takes a walk or a stop, and answers it: without a look at anybody where no group has to be asked, since then it switches
-    /// nobody and each group's newest reason continues.
-    #[inline(never)]
-    fn step_scan(
-        &mut self,
-        alloc: Global,
-        kind: CheckKind,
-        event: Event,
-    ) -> Result<Reply, AllocError>
-        requires scan { is_scan_kind kind ≡ true }
-        requires event { event ≡ scan_event kind }
-        requires room { self.old.core.number < 1000000 }
-        ensures step { IfOk result (λ reply. IsStep M.rules (state_in self.old.core) event reply (state_in self.new.core)) }
-        ensures explained { OnOk result ((run : Run) → IsExplained M.rules run self.old → IsExplained M.rules (plus run event) self.new) }
-        ensures blames { OnOk result (HasBlamesAfter M.rules self.old.core event self.new.core) }
-        ensures unchanged { OnErr result (self.new ≡ self.old) }
-    {
-        match self.step_quiet_scan(kind) {
-            Some(reply) => Ok(reply),
-            None => self.step_changed_scan(alloc, event),
-        }
-    }
-
-    /// Takes a quiet event, and answers it. What that takes is compiled where this is called, so that a caller who has told the
-    /// event's kind pays for no other.
-    #[inline(always)]
-    pub fn step_quiet(&mut self, event: Event) -> Reply
-        requires room { self.old.core.number < 1000000 }
-        requires quiet { is_quiet event ≡ true }
-        ensures step { IsStep M.rules (state_in self.old.core) event result (state_in self.new.core) }
-        ensures explained { (run : Run) → IsExplained M.rules run self.old → IsExplained M.rules (plus run event) self.new }
-        ensures blames { HasBlamesAfter M.rules self.old.core event self.new.core }
-    {
-        let core: &mut Core<M> = &mut self.core;
-        self.maker.let_pass(core);
-        core.step_unchecked(event)
-    }
-
-    /// Takes a walk or a stop, and answers it, if no group has to be asked. If one has to be, all is as it was.
-    #[inline(always)]
-    pub fn step_quiet_scan(&mut self, kind: CheckKind) -> Option<Reply>
-        requires scan { is_scan_kind kind ≡ true }
-        requires room { self.old.core.number < 1000000 }
-        ensures step { IfSome result (λ reply. IsStep M.rules (state_in self.old.core) (scan_event kind) reply (state_in self.new.core)) }
-        ensures explained { OnSome result ((run : Run) → IsExplained M.rules run self.old → IsExplained M.rules (plus run (scan_event kind)) self.new) }
-        ensures blames { OnSome result (HasBlamesAfter M.rules self.old.core (scan_event kind) self.new.core) }
-        ensures unchanged { result ≡ None → self.new ≡ self.old }
-    {
-        let core: &mut Core<M> = &mut self.core;
-        self.maker.note_passed(core);
-        if !self.maker.note_quiet_scan(core, kind) {
-            return None;
-        }
-        Some(core.step_quiet_scan(kind))
-    }
-
-    /// Takes a walk or a stop, and answers it by those to whom something happened since the last one: for a caller whom
-    /// `step_quiet_scan` gave no answer. Where an allocation failed all is as it was.
-    #[inline(always)]
-    pub fn step_changed_scan(&mut self, alloc: Global, event: Event) -> Result<Reply, AllocError>
-        requires scan { is_scan event ≡ true }
-        requires room { self.old.core.number < 1000000 }
-        ensures step { IfOk result (λ reply. IsStep M.rules (state_in self.old.core) event reply (state_in self.new.core)) }
-        ensures explained { OnOk result ((run : Run) → IsExplained M.rules run self.old → IsExplained M.rules (plus run event) self.new) }
-        ensures blames { OnOk result (HasBlamesAfter M.rules self.old.core event self.new.core) }
-        ensures unchanged { OnErr result (self.new ≡ self.old) }
-    {
-        let core: &mut Core<M> = &mut self.core;
-        self.maker.note_passed(core);
-        take_weighed(alloc, core, &mut self.maker, event)
     }
 
     /// The engine, which tells how its tasks stand.
@@ -222,14 +142,18 @@ fn up_to(cert: Option<Cert>, upto: u64) -> Option<Cert>
     Some(cert)
 }
 
-/// Takes an event that is neither quiet nor a scan. Out of line, so that those pay nothing for what the others need.
-#[inline(never)]
-fn take<M: Consistency>(
+/// Takes a walk or a stop: without a look at anybody where no group has to be asked, since then it switches nobody and each group's
+/// newest reason continues.
+#[inline(always)]
+fn take_scan<M: Consistency>(
     alloc: Global,
     core: &mut Core<M>,
     maker: &mut Maker,
+    kind: CheckKind,
     event: Event,
 ) -> Result<Reply, AllocError>
+    requires scan { is_scan_kind kind ≡ true }
+    requires event { event ≡ scan_event kind }
     requires room { core.old.number < 1000000 }
     ensures step { IfOk result (λ reply. IsStep M.rules (state_in core.old) event reply (state_in core.new)) }
     ensures made { OnOk result ((run : Run) → StandsIn M.rules run (state_in core.old) → IsMadeWith M.rules run core.old.last_scan maker.old → IsMadeWith M.rules (plus run event) core.new.last_scan maker.new) }
@@ -238,60 +162,14 @@ fn take<M: Consistency>(
     ensures ended { OnErr result (maker.new.ended ≡ maker.old.ended) }
     ensures current { OnErr result (maker.new.current ≡ maker.old.current) }
 {
-    match event {
-        Event::Exit(_) | Event::Idle(_) => take_own_check(alloc, core, maker, event),
-        Event::Fork(..) | Event::Die(_) => maker.take_fork_or_end(core, event),
-        Event::Enable | Event::Disable | Event::Reverse => {
-            take_control(alloc, core, maker, event)
-        }
-        _ => take_weighed(alloc, core, maker, event),
+    if maker.note_quiet_scan(core, kind) {
+        return Ok(core.step_quiet_scan(kind));
     }
+    take_weighed(alloc, core, maker, event)
 }
 
-/// Takes an exit or an idle point: what it does to the leg is told by its answer alone, and wants no memory.
-fn take_own_check<M: Consistency>(
-    alloc: Global,
-    core: &mut Core<M>,
-    maker: &mut Maker,
-    event: Event,
-) -> Result<Reply, AllocError>
-    requires frameless { is_frameless_check event ≡ true }
-    requires room { core.old.number < 1000000 }
-    ensures step { IfOk result (λ reply. IsStep M.rules (state_in core.old) event reply (state_in core.new)) }
-    ensures made { OnOk result ((run : Run) → StandsIn M.rules run (state_in core.old) → IsMadeWith M.rules run core.old.last_scan maker.old → IsMadeWith M.rules (plus run event) core.new.last_scan maker.new) }
-    ensures blames { OnOk result (HasBlamesAfter M.rules core.old event core.new) }
-    ensures unchanged { OnErr result (core.new ≡ core.old) }
-    ensures left { OnErr result (maker.new ≡ maker.old) }
-{
-    let reply = core.step_own_check(alloc, event)?;
-    maker.note_own_check(core, &reply);
-    Ok(reply)
-}
-
-/// Takes a control event: one that is accepted opens a leg; of any other there is nothing to note but that it came.
-fn take_control<M: Consistency>(
-    alloc: Global,
-    core: &mut Core<M>,
-    maker: &mut Maker,
-    event: Event,
-) -> Result<Reply, AllocError>
-    requires control { is_control event ≡ true }
-    requires room { core.old.number < 1000000 }
-    ensures step { IfOk result (λ reply. IsStep M.rules (state_in core.old) event reply (state_in core.new)) }
-    ensures made { OnOk result ((run : Run) → StandsIn M.rules run (state_in core.old) → IsMadeWith M.rules run core.old.last_scan maker.old → IsMadeWith M.rules (plus run event) core.new.last_scan maker.new) }
-    ensures blames { OnOk result (HasBlamesAfter M.rules core.old event core.new) }
-    ensures unchanged { OnErr result (core.new ≡ core.old) }
-    ensures ended { OnErr result (maker.new.ended ≡ maker.old.ended) }
-    ensures current { OnErr result (maker.new.current ≡ maker.old.current) }
-{
-    if core.refusal(event).is_some() {
-        return take_weighed(alloc, core, maker, event);
-    }
-    maker.open_leg(alloc, core, event)
-}
-
-/// Takes an event that opens no leg: it is weighed, a scan by those alone to whom something happened since the last one, and noted as it
-/// was weighed.
+/// Takes a scan that has to ask somebody, by those alone to whom something happened since the last one. Out of line, so that others
+/// pay nothing for what it needs.
 #[inline(never)]
 fn take_weighed<M: Consistency>(
     alloc: Global,
@@ -299,8 +177,8 @@ fn take_weighed<M: Consistency>(
     maker: &mut Maker,
     event: Event,
 ) -> Result<Reply, AllocError>
+    requires scan { is_scan event ≡ true }
     requires room { core.old.number < 1000000 }
-    requires opens { is_control event ≡ true → refusal_of M.rules (state_in core.old) event ≢ None }
     ensures step { IfOk result (λ reply. IsStep M.rules (state_in core.old) event reply (state_in core.new)) }
     ensures made { OnOk result ((run : Run) → StandsIn M.rules run (state_in core.old) → IsMadeWith M.rules run core.old.last_scan maker.old → IsMadeWith M.rules (plus run event) core.new.last_scan maker.new) }
     ensures blames { OnOk result (HasBlamesAfter M.rules core.old event core.new) }
@@ -313,7 +191,7 @@ fn take_weighed<M: Consistency>(
         Err(Halt::NoMemory) => return Err(AllocError),
         Err(Halt::JournalFull) => unreachable!(),
     };
-    match maker.note_further(alloc, core, &step) {
+    match maker.note_scan(alloc, core, &step) {
         Ok(()) => Ok(core.take(step)),
         Err(error) => {
             drop(step);
@@ -322,10 +200,26 @@ fn take_weighed<M: Consistency>(
     }
 }
 
-/// Whether an event is a check that a task makes of itself.
-#[inline(always)]
-fn is_own_check(event: Event) -> bool
-    ensures { result ≡ is_own_check event }
+/// Takes an event that is neither quiet nor a scan: a control event that is accepted opens a leg. Out of line, so that others pay
+/// nothing for what it needs.
+#[inline(never)]
+fn take_other<M: Consistency>(
+    alloc: Global,
+    core: &mut Core<M>,
+    maker: &mut Maker,
+    event: Event,
+) -> Result<Reply, AllocError>
+    requires plain { is_scan event ≡ false }
+    requires room { core.old.number < 1000000 }
+    ensures step { IfOk result (λ reply. IsStep M.rules (state_in core.old) event reply (state_in core.new)) }
+    ensures made { OnOk result ((run : Run) → StandsIn M.rules run (state_in core.old) → IsMadeWith M.rules run core.old.last_scan maker.old → IsMadeWith M.rules (plus run event) core.new.last_scan maker.new) }
+    ensures blames { OnOk result (HasBlamesAfter M.rules core.old event core.new) }
+    ensures unchanged { OnErr result (core.new ≡ core.old) }
+    ensures ended { OnErr result (maker.new.ended ≡ maker.old.ended) }
+    ensures current { OnErr result (maker.new.current ≡ maker.old.current) }
 {
-    matches!(event, Event::Exit(_) | Event::Idle(_) | Event::Resched(_))
+    if event.is_control() && core.refusal(event).is_none() {
+        return maker.open_leg(alloc, core, event);
+    }
+    maker.take_plain(alloc, core, event)
 }

@@ -9,7 +9,6 @@
 //! of n reasons finds the sixteen oldest that are left in some log n steps.
 #![tactic(auto)]
 
-mod births;
 mod cert_head;
 mod cert_lines;
 mod cert_list;
@@ -29,7 +28,6 @@ mod open_leg;
 mod opening;
 mod reason;
 mod reasons;
-mod waiter_steps;
 mod waiters;
 
 pub use cert_head::CertHead;

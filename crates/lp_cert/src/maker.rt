@@ -1,5 +1,5 @@
 //! The maker of certificates.
-ghost use Rattle.std.specs.Prelude.{◌≡◌, ◌+◌, ◌<◌, [], ◌∷◌, ◌++◌, true, false, Some, None, IsTrue, ◌≤◌, length, option_to_list, is_some, IfOk, IfSome, OnErr, OnOk};
+ghost use Rattle.std.specs.Prelude.{◌≡◌, suc, ◌<◌, [], ◌∷◌, ◌++◌, true, false, Some, None, IsTrue, ◌≤◌, length, option_to_list, is_some, IfOk, IfSome, OnErr, OnOk};
 ghost use Rattle.lp_definitions.specs.Events.{is_scan};
 ghost use Rattle.lp_definitions.specs.Run.{new_target};
 ghost use Rattle.lp_definitions.specs.declared.event.Event.{Event};
@@ -12,15 +12,16 @@ ghost use Rattle.lp_cert.specs.inside.Invariant.{HasClosing, HasFloor, HasFloors
 ghost use Rattle.lp_cert.specs.Waiters.{WaitingGroups};
 ghost use Rattle.lp_cert.specs.inside.LegRows.{HasRoom};
 ghost use Rattle.lp_cert.specs.inside.ToldGroups.{Tells};
-ghost use Rattle.lp_cert.specs.inside.Waiters.{HasHeadFor, HasHeads, lines_at};
+ghost use Rattle.lp_cert.specs.inside.OwnEffects.{HasOwnRoom};
+ghost use Rattle.lp_cert.specs.inside.Waiters.{HasHeads, lines_at};
 ghost use Rattle.std.specs.Option.{option_map};
 
-mod births;
 mod control;
-mod own_check;
 mod passed;
+mod plain;
 mod quiet_scan;
 
+use self::plain::affect_leg;
 use crate::cert_head::CommonHead;
 use crate::cert_list::CertList;
 use crate::leg_end::LegEnd;
@@ -156,7 +157,7 @@ impl Maker {
             let Some(leg) = &mut self.current else {
                 return;
             };
-            look_leg(core, step, number, leg, &mut self.waiters);
+            note_leg(core, step, number, leg, &mut self.waiters);
             return;
         }
         let Some(closing) = self.closing.take() else {
@@ -168,16 +169,16 @@ impl Maker {
         self.current = Some(next);
     }
 
-    /// Notes an event that was weighed on the engine and opens no leg, before the engine takes it, if at a scan it is known to tell
-    /// of each group that has changed. AllocError where an allocation failed, and then the certificates are as they were.
-    pub(crate) fn note_further<M: Consistency>(
+    /// Notes a scan that was weighed on the engine, before the engine takes it, if it is known to tell of each group that has
+    /// changed. AllocError where an allocation failed, and then the certificates are as they were.
+    pub(crate) fn note_scan<M: Consistency>(
         &mut self,
         alloc: Global,
         core: &Core<M>,
         step: &Step,
     ) -> Result<(), AllocError>
         requires weighed { IsWeighed M.rules core.now step.now }
-        requires stays { is_opening step.now ≡ false }
+        requires scan { is_scan step.now.event ≡ true }
         requires tells { Tells M.rules core.now step.now }
         ensures made { OnOk result (IsMadeFurther M.rules core.now step.now.event self.old self.new) }
         ensures ended { self.new.ended ≡ self.old.ended }
@@ -190,7 +191,7 @@ impl Maker {
         let Some(leg) = &mut self.current else {
             return Ok(());
         };
-        step_leg(core, step, self.noted, leg, &mut self.waiters);
+        scan_leg(core, step, self.noted, leg, &mut self.waiters);
         Ok(())
     }
 
@@ -290,33 +291,8 @@ impl Maker {
     }
 }
 
-/// The leg under way after an event that opens none, if at a scan it is known to tell of each group that has changed. Never
-/// allocates.
-fn step_leg<M: Consistency>(
-    core: &Core<M>,
-    step: &Step,
-    number: u32,
-    leg: &mut OpenLeg,
-    waiters: &mut Waiters,
-)
-    requires weighed { IsWeighed M.rules core.now step.now }
-    requires tells { Tells M.rules core.now step.now }
-    requires floor { HasFloor waiters.old leg.old.completed }
-    requires heads { HasHeads waiters.old }
-    requires child { HasHeadFor step.now.event waiters.old.reasons }
-    requires room { length step.now.verdicts + 1 < waiters.old.reasons.room }
-    requires scan_room { 0 < waiters.old.reasons.scan_room }
-    ensures noted { IsNoted M.rules core.now step.now number leg.old leg.new waiters.old waiters.new }
-    ensures floor { HasFloor waiters.new leg.new.completed }
-{
-    if leg.is_over(number, step.reply(), waiters) {
-        return;
-    }
-    waiters.step_waiters(core, step);
-}
-
 /// The leg under way after an event that opens none, with a look at each task at a scan. Never allocates.
-fn look_leg<M: Consistency>(
+fn note_leg<M: Consistency>(
     core: &Core<M>,
     step: &Step,
     number: u32,
@@ -324,22 +300,55 @@ fn look_leg<M: Consistency>(
     waiters: &mut Waiters,
 )
     requires weighed { IsWeighed M.rules core.now step.now }
+    requires number { number ≡ suc core.now.number }
     requires floor { HasFloor waiters.old leg.old.completed }
     requires heads { HasHeads waiters.old }
-    requires child { HasHeadFor step.now.event waiters.old.reasons }
-    requires room { length step.now.verdicts + 1 < waiters.old.reasons.room }
+    requires own_room { HasOwnRoom step.now.event waiters.old }
     requires all_room { is_scan step.now.event ≡ true → length waiters.old.reasons.heads ≤ waiters.old.reasons.room }
     requires scan_room { 0 < waiters.old.reasons.scan_room }
     ensures noted { IsNoted M.rules core.now step.now number leg.old leg.new waiters.old waiters.new }
     ensures floor { HasFloor waiters.new leg.new.completed }
 {
+    let Some(kind) = used_scan(&core.model(), step.event()) else {
+        let effect = waiters.own_effect(core, step.event());
+        affect_leg(number, step.reply(), leg, waiters, &effect);
+        return;
+    };
     if leg.is_over(number, step.reply(), waiters) {
         return;
     }
-    match used_scan(&core.model(), step.event()) {
-        Some(kind) => waiters.step_whole(core, step, kind),
-        None => waiters.step_waiters(core, step),
+    waiters.scan_all(core, kind, number);
+    waiters.switch(&step.reply().what);
+}
+
+/// The leg under way after a scan that is known to tell of each group that has changed. Never allocates.
+fn scan_leg<M: Consistency>(
+    core: &Core<M>,
+    step: &Step,
+    number: u32,
+    leg: &mut OpenLeg,
+    waiters: &mut Waiters,
+)
+    requires weighed { IsWeighed M.rules core.now step.now }
+    requires scan { is_scan step.now.event ≡ true }
+    requires tells { Tells M.rules core.now step.now }
+    requires number { number ≡ suc core.now.number }
+    requires floor { HasFloor waiters.old leg.old.completed }
+    requires heads { HasHeads waiters.old }
+    requires room { length step.now.verdicts ≤ waiters.old.reasons.room }
+    requires scan_room { 0 < waiters.old.reasons.scan_room }
+    ensures noted { IsNoted M.rules core.now step.now number leg.old leg.new waiters.old waiters.new }
+    ensures floor { HasFloor waiters.new leg.new.completed }
+{
+    if leg.is_over(number, step.reply(), waiters) {
+        return;
     }
+    if used_scan(&core.model(), step.event()).is_none() {
+        waiters.switch(&step.reply().what);
+        return;
+    }
+    waiters.scan(core, number, step.verdicts());
+    waiters.switch(&step.reply().what);
 }
 
 /// The kind of scan that an event is, if the model uses it.

@@ -4,7 +4,7 @@ ghost use Rattle.std.specs.List.{AllByRecursion, list_any};
 ghost use Rattle.std.specs.Option.{option_map};
 ghost use Rattle.lp_cert.specs.inside.WholeScans.{count_below};
 ghost use Rattle.lp_numbers.specs.Numbers.{has, IsEmpty, IsNextFrom};
-ghost use Rattle.lp_definitions.specs.Events.{is_scan};
+ghost use Rattle.lp_definitions.specs.Events.{group_numbers, is_scan};
 ghost use Rattle.lp_definitions.specs.Leg.{State};
 ghost use Rattle.lp_definitions.specs.Sound.{IsSound};
 ghost use Rattle.lp_tasks.specs.Passing.{passing};
@@ -12,27 +12,29 @@ ghost use Rattle.lp_transition.specs.Scan.{first_refused};
 ghost use Rattle.lp_machine.specs.Table.{slot, state_in};
 ghost use Rattle.lp_tasks.specs.inside.Table.{is_in};
 ghost use Rattle.lp_definitions.specs.Certificates.{after_refusal, group_id};
-ghost use Rattle.lp_transition.specs.Blames.{has_frame_in};
+ghost use Rattle.lp_transition.specs.inside.ScanSteps.{groups_of};
 ghost use Rattle.lp_cert.specs.inside.GroupSet.{IsLonger};
-ghost use Rattle.lp_cert.specs.inside.Heads.{IsUsed};
+ghost use Rattle.lp_cert.specs.inside.Heads.{HasFrameAs, IsUsed};
 ghost use Rattle.lp_cert.specs.Heads.{head_lines};
 ghost use Rattle.lp_cert.specs.Invariant.{floor_waiters};
 ghost use Rattle.lp_cert.specs.Waiters.{head_of, waiter_in, waiters_of};
-ghost use Rattle.lp_cert.specs.inside.Waiters.{AreBare, HasHeadFor, HasHeads, IsAboveChild, AreHeads, AreStanding, StandsAt, IsJudged, AreJudged, IsUsedVerdict, is_left, after_birth, has_off, lines_at, scanned_lines, AreTakenIn, IsTakenIn};
+ghost use Rattle.lp_cert.specs.inside.Waiters.{AreBare, HasHeadFor, HasHeads, IsAboveChild, AreHeads, AreStanding, StandsAt, IsJudged, AreJudged, IsUsedVerdict, is_left, after_birth, after_switch, has_off, lines_at, scanned_lines, AreTakenIn, IsTakenIn};
 
 mod held;
+mod own_effect;
 mod whole;
 
 use self::held::is_held;
+pub(crate) use self::own_effect::OwnEffect;
 use crate::cert_lines::CertLines;
 use crate::chains::Chains;
 use crate::group_set::GroupSet;
 use crate::head::{OwnFork, Refused, Waiter};
 use crate::reasons::Reasons;
-use lp_model::{Blame, Consistency, Verdict};
+use lp_model::{Consistency, Verdict};
 use lp_numbers::NumberSet;
 use lp_stack::{GroupId, Level, TaskId};
-use lp_transition::{Core, Event};
+use lp_transition::{Core, Event, What};
 use std::alloc::{AllocError, Global};
 use std::marker::Model;
 
@@ -190,7 +192,7 @@ impl Waiters {
     }
 
     /// A group waits no longer. Never allocates.
-    pub(crate) fn switch_one(&mut self, group: GroupId)
+    fn switch_one(&mut self, group: GroupId)
         ensures groups { self.new.groups ≡ slice_set self.old.groups group.0 false }
         ensures reasons { self.new.reasons ≡ self.old.reasons }
     {
@@ -198,7 +200,7 @@ impl Waiters {
     }
 
     /// A group that waits gives birth to another, which waits too. Never allocates.
-    pub(crate) fn bear(&mut self, parent: GroupId, birth: &OwnFork)
+    fn bear(&mut self, parent: GroupId, birth: &OwnFork)
         requires waits { has self.old.groups parent.0 ≡ true }
         requires wide { birth.now.child.0 < length self.old.reasons.heads }
         requires room { 1 < self.old.reasons.room }
@@ -241,27 +243,32 @@ impl Waiters {
     }
 
     /// The own check of the only member of a group that waits refuses it. Never allocates.
-    pub(crate) fn refuse_alone<M: Consistency>(
-        &mut self,
-        core: &Core<M>,
-        group: GroupId,
-        at: u32,
-        task: TaskId,
-        blame: Blame,
-    )
+    fn refuse_alone(&mut self, group: GroupId, refused: &Refused)
         requires waits { has self.old.groups group.0 ≡ true }
         requires wide { group.0 < length self.old.reasons.heads }
         requires room { 1 < self.old.reasons.room }
-        requires used { IsUsed blame }
-        ensures { (other : ℕ) → lines_at self.new other ≡ (if nat_eq other group.0 then option_map (after_refusal (has_frame_in (state_in core.now)) other at (task.0, blame)) (lines_at self.old other) else lines_at self.old other) }
+        requires used { IsUsed refused.now.blame }
+        ensures { (has_frame : (task serial : ℕ) → Bool) → HasFrameAs has_frame (head_of self.old.reasons group.0).ongoing refused.now.frame_stands → (other : ℕ) → lines_at self.new other ≡ (if nat_eq other group.0 then option_map (after_refusal has_frame other refused.now.at (refused.now.task.0, refused.now.blame)) (lines_at self.old other) else lines_at self.old other) }
     {
-        let refused = Refused {
-            at,
-            task,
-            blame,
-            frame_stands: is_held(core, self.reasons.head(group).ongoing),
-        };
-        self.reasons.refuse_alone(group, &refused);
+        self.reasons.refuse_alone(group, refused);
+    }
+
+    /// The groups that an event switched wait no longer. Never allocates.
+    pub(crate) fn switch(&mut self, what: &What)
+        ensures { (group : ℕ) → lines_at self.new group ≡ after_switch (groups_of what.now) (lines_at self.old) group }
+    {
+        if let What::Switched(groups) = what {
+            self.switch_all(groups.as_slice());
+        }
+    }
+
+    /// These groups wait no longer. Never allocates.
+    fn switch_all(&mut self, groups: &[GroupId])
+        ensures { (group : ℕ) → lines_at self.new group ≡ after_switch (group_numbers groups.now) (lines_at self.old) group }
+    {
+        for group in groups {
+            self.switch_one(*group);
+        }
     }
 
     /// Whether one more scan can be noted that looks at nobody.

@@ -10,7 +10,7 @@ use Rattle.lp_definitions.specs.declared.reply.Reply.{Reply}
 use Rattle.lp_definitions.specs.Events.{is_control}
 use Rattle.lp_definitions.specs.Leg.{LegTask, State, each_live}
 use Rattle.lp_definitions.specs.Run.{new_target}
-use Rattle.lp_machine.specs.Machine.{complete_in, refusal_of, next, answer}
+use Rattle.lp_machine.specs.Machine.{refusal_of, next, answer}
 use Rattle.lp_machine.specs.Table.{Engine, slot, leg_tasks, state_in, bounds_of}
 use Rattle.lp_tasks.specs.inside.Table.{is_off}
 use Rattle.lp_transition.specs.inside.Invariant.{IsBetween, IsEngine}
@@ -55,16 +55,6 @@ module _ (model : Rules) where
       subst (λ o. record { what = Done; completed = all } ≡ answer model (state_in o) event) was
       (sym (answer-accepted model (state_in e) event (subst (λ o. refusal_of model (state_in o) event ≡ None) (sym was) accepted) ∙ cond-true _ _ _ control
       ∙ ap {A = ℕ} {B = Reply} (λ n. record { what = Done; completed = each_live (bounds_of e.patches) (leg_tasks e.table) (λ t x. nat_eq x.level n) }) (sym at) ∙ ap {A = Bool} {B = Reply} (λ b. record { what = Done; completed = b }) (sym same)))
-
-  -- the same, by the state after it
-  pub answer_after : (s now : State) (event : Event) (busy : Bool) → refusal_of model s event ≡ None → is_control event ≡ true → now ≡ next model s event → busy ≡ not (complete_in now) → record { what = Done; completed = not busy } ≡ answer model s event
-  answer_after s now event busy accepted control there tells =
-      ap {A = Bool} {B = Reply} (λ b. record { what = Done; completed = b }) (ap not tells ∙ (not_not (complete_in now) ∙ ap complete_in (there ∙ next-turned model s event accepted control)))
-      ∙ sym (answer-accepted model s event accepted ∙ cond-true _ _ _ control)
-    where
-      not_not : (b : Bool) → not (not b) ≡ b
-      not_not true = refl
-      not_not false = refl
 
   -- and the engine after it
   pub takes_turn : IsLawful model → (e old : Engine) (waiting now : Numbers) (event : Event) (level : ℕ) → e ≡ old → IsEngine e waiting → length now ≡ 65536 → ((t : ℕ) → has now t ≡ is_off level (slot e.table t)) → ((t : ℕ) → IsBetween e.target level (slot e.table t)) → old.number < 1000000 → refusal_of model (state_in old) event ≡ None → is_control event ≡ true → level ≡ new_target (state_in old) event → level ≤ length e.patches

@@ -199,6 +199,25 @@ refused-as model s event = by (refusal_of model s event)
     by (Some why) = refl
     by None = accepted (is_control event) refl
 
+-- a scan is never refused
+pub scan_accepted : (model : Rules) (s : State) (event : Event) → is_scan event ≡ true → refusal_of model s event ≡ None
+unfolding refusal_of
+scan_accepted model s Walk scan = refl
+scan_accepted model s Stop scan = refl
+scan_accepted model s (Call t f) scan = absurd (false≢true scan)
+scan_accepted model s (Ret t) scan = absurd (false≢true scan)
+scan_accepted model s (Sleep t) scan = absurd (false≢true scan)
+scan_accepted model s (Wake t) scan = absurd (false≢true scan)
+scan_accepted model s (Enter t) scan = absurd (false≢true scan)
+scan_accepted model s (Exit t) scan = absurd (false≢true scan)
+scan_accepted model s (Idle t) scan = absurd (false≢true scan)
+scan_accepted model s (Resched t) scan = absurd (false≢true scan)
+scan_accepted model s (Fork p c how) scan = absurd (false≢true scan)
+scan_accepted model s (Die t) scan = absurd (false≢true scan)
+scan_accepted model s Enable scan = absurd (false≢true scan)
+scan_accepted model s Disable scan = absurd (false≢true scan)
+scan_accepted model s Reverse scan = absurd (false≢true scan)
+
 -- the child that an accepted fork brings
 pub born-child : (model : Rules) (e : Engine) (p c : TaskId) (how : ForkKind) (x : LegTask) → refusal_of model (state_in e) (Fork p c how) ≡ None → slot e.table p.0 ≡ Some x
     → Some (bearing model.child_group c.0 how x) ≡ born_of model (state_in e) (Fork p c how)

@@ -4,7 +4,7 @@ use Rattle.lp_model.specs.Rules.{Rules}
 use Rattle.lp_model.specs.declared.check.CheckKind.TheVariants as check
 use Rattle.lp_model.specs.declared.verdict.Verdict.{Verdict}
 use Rattle.lp_definitions.specs.declared.event.Event.{Event}
-use Rattle.lp_definitions.specs.declared.event.Event.TheVariants.{Call, Ret, Sleep, Wake, Enter, Exit, Idle, Resched, Fork, Die, Walk, Stop}
+use Rattle.lp_definitions.specs.declared.event.Event.TheVariants.{Ret, Sleep, Wake, Enter, Exit, Idle, Resched, Fork, Walk, Stop}
 use Rattle.lp_definitions.specs.declared.refusal.Refusal.{Refusal}
 use Rattle.lp_definitions.specs.declared.reply.What.{What}
 use Rattle.lp_definitions.specs.declared.reply.What.TheVariants.{Switched, Refused}
@@ -31,17 +31,6 @@ pub record IsWeighed (model : Rules) (engine : Engine) (step : Weighed) : Type 0
   pub room : engine.number < 1000000
   pub reply : step.reply ≡ answer model (state_in engine) step.event
   pub verdicts : AreVerdictsFor model (state_in engine) step.event step.verdicts
-
--- nothing is checked at the event, and it opens no leg: so it never allocates
-abbrev pub is_unchecked : Event → Bool
-is_unchecked (Call t f) = true
-is_unchecked (Ret t) = true
-is_unchecked (Sleep t) = true
-is_unchecked (Wake t) = true
-is_unchecked (Enter t) = true
-is_unchecked (Fork p c how) = true
-is_unchecked (Die t) = true
-is_unchecked _ = false
 
 -- it is answered with no look at anybody: a return, a sleep, a wake-up, an entry into the kernel or a fork
 abbrev pub is_answered_done : Event → Bool

@@ -31,7 +31,6 @@ mod step;
 mod switches;
 mod take;
 mod unchanged;
-mod unchecked_events;
 mod weigh;
 
 use blames::Blames;

@@ -46,7 +46,10 @@ impl Maker {
         let target = core.new_level(event);
         self.noted = number;
         self.waiters.open(core, target);
-        let reply = core.step_control(event);
+        let reply = match core.step_plain(alloc, event) {
+            Ok(reply) => reply,
+            Err(_) => unreachable!(),
+        };
         self.current = Some(OpenLeg::new(number, target, reply.completed));
         Ok(reply)
     }

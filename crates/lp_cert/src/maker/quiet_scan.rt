@@ -7,7 +7,7 @@ ghost use Rattle.lp_cert.specs.Ends.{IsMadeFurther};
 ghost use Rattle.lp_cert.specs.inside.ToldGroups.{IsHeld};
 
 use super::Maker;
-use super::own_check::is_settled;
+use super::plain::is_settled;
 use crate::waiters::Waiters;
 use lp_model::{CheckKind, Consistency};
 use lp_transition::Core;

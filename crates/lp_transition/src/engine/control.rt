@@ -6,7 +6,6 @@ ghost use Rattle.lp_definitions.specs.Tasks.{first_of};
 ghost use Rattle.lp_definitions.specs.Run.{control_tests, new_target};
 ghost use Rattle.lp_transition.specs.Blames.{AreBlamesAfter};
 ghost use Rattle.lp_transition.specs.LastScan.{IsLastScanAfter};
-ghost use Rattle.lp_machine.specs.Steps.{IsStep};
 ghost use Rattle.lp_machine.specs.Table.{state_in};
 ghost use Rattle.lp_transition.specs.inside.Turning.{waits_turned};
 ghost use Rattle.lp_machine.specs.Machine.{complete_in, refusal_of, answer, next};
@@ -90,23 +89,6 @@ impl<M: Consistency> Core<M> {
         turn(&mut self.waiting, self.tasks.live_set(), event);
         self.unchanged.reset();
         self.blames.clear();
-    }
-
-    /// An accepted control event: takes it and answers, with no step in between. There has to be an event left. Never allocates.
-    pub fn step_control(&mut self, event: Event) -> Reply
-        requires room { self.old.number < 1000000 }
-        requires accepted { refusal_of M.rules (state_in self.old) event ≡ None }
-        requires control { is_control event ≡ true }
-        ensures answer { result ≡ answer M.rules (state_in self.old) event }
-        ensures step { IsStep M.rules (state_in self.old) event result (state_in self.new) }
-        ensures blames { AreBlamesAfter M.rules self.old event [] self.new }
-        ensures last_scan { IsLastScanAfter M.rules self.old event self.new }
-    {
-        self.take_control(event);
-        Reply {
-            what: What::Done,
-            completed: !self.in_transition(),
-        }
     }
 
     /// Why the turning of the transition is refused.

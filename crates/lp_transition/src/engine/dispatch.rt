@@ -1,5 +1,5 @@
 //! The events of a run: each is weighed, and taken as it was answered.
-ghost use Rattle.std.specs.Prelude.{◌≡◌, [], ◌≤◌, ◌<◌, ◌↔◌, map, true, false, None, Some, Err, IfOk, OnErr, IsTrue};
+ghost use Rattle.std.specs.Prelude.{◌≡◌, [], ◌≤◌, ◌<◌, ◌↔◌, map, true, false, None, Some, Err, IfOk, IsErr, OnErr, OnOk, IsTrue};
 ghost use Rattle.lp_stack.specs.TaskView.{seen};
 ghost use Rattle.lp_patch.specs.Aimed.{aimed};
 ghost use Rattle.lp_transition.specs.declared.engine.step.Halt.TheVariants.{NoMemory, JournalFull};
@@ -13,7 +13,9 @@ ghost use Rattle.lp_transition.specs.Weigh.{IsWeighed, is_switched, may_allocate
 ghost use Rattle.lp_machine.specs.Machine.{refusal_of, answer, next};
 
 use super::Core;
+use super::moves::Move;
 use super::step::{Halt, Step};
+use super::weigh::refused;
 use crate::{Event, MOST_EVENTS, Refusal, Reply, What};
 use lp_model::{CheckKind, Consistency, Verdict};
 use lp_patch::Aim;
@@ -33,15 +35,40 @@ impl<M: Consistency> Core<M> {
         ensures last_scan { IfOk result (λ reply. IsLastScanAfter M.rules self.old event self.new) }
         ensures unchanged { OnErr result (self.new ≡ self.old) }
     {
-        if event.is_quiet() && self.has_room() {
-            return Ok(self.step_quiet(event));
+        if event.is_scan() {
+            return self.step_scan(alloc, event);
         }
-        self.step_weighed(alloc, event)
+        if self.events >= MOST_EVENTS {
+            return Err(Halt::JournalFull);
+        }
+        Ok(self.step_plain(alloc, event)?)
     }
 
-    /// Out of line, so that a quiet event pays nothing for what scans, forks and legs need.
+    /// An event that is no scan, of which one has to be left: answers and takes it, with no step in between. AllocError where an
+    /// allocation failed, which there is only where an own check switches its group; the engine is then as it was. It is compiled
+    /// where it is called, so that a kind of event that is known there pays for no other.
+    #[inline(always)]
+    pub fn step_plain(&mut self, alloc: Global, event: Event) -> Result<Reply, AllocError>
+        requires room { self.old.number < 1000000 }
+        requires plain { is_scan event ≡ false }
+        ensures memory { IsErr result → IsTrue (may_allocate event (answer M.rules (state_in self.old) event).what) }
+        ensures step { IfOk result (λ reply. IsStep M.rules (state_in self.old) event reply (state_in self.new)) }
+        ensures blames { OnOk result (AreBlamesAfter M.rules self.old event [] self.new) }
+        ensures last_scan { OnOk result (IsLastScanAfter M.rules self.old event self.new) }
+        ensures unchanged { OnErr result (self.new ≡ self.old) }
+    {
+        if let Some(why) = self.refusal(event) {
+            self.take_refused(event, why);
+            return Ok(refused(why));
+        }
+        let reply = self.answer_accepted(alloc, event)?;
+        self.take_accepted(event, is_switched(&reply.what));
+        Ok(reply)
+    }
+
+    /// Out of line, so that no other event pays for what scans need.
     #[inline(never)]
-    fn step_weighed(&mut self, alloc: Global, event: Event) -> Result<Reply, Halt>
+    fn step_scan(&mut self, alloc: Global, event: Event) -> Result<Reply, Halt>
         ensures full { (result ≡ Err JournalFull) ↔ (1000000 ≤ self.old.number) }
         ensures memory { result ≡ Err NoMemory → IsTrue (may_allocate event (answer M.rules (state_in self.old) event).what) }
         ensures step { IfOk result (λ reply. IsStep M.rules (state_in self.old) event reply (state_in self.new)) }
@@ -95,17 +122,9 @@ impl<M: Consistency> Core<M> {
         reply
     }
 
-    /// Without room a quiet event has to fail as any other does, so it goes the long way.
-    #[inline(always)]
-    fn has_room(&self) -> bool
-        ensures { IsTrue result ↔ (self.now.number < 1000000) }
-    {
-        self.events < MOST_EVENTS
-    }
-
     /// It takes a number too: else the numbers of a run's events would depend on its replies.
     #[inline(always)]
-    pub(super) fn take_refused(&mut self, event: Event, why: Refusal)
+    fn take_refused(&mut self, event: Event, why: Refusal)
         requires room { self.old.number < 1000000 }
         requires refused { refusal_of M.rules (state_in self.old) event ≡ Some why }
         ensures state { state_in self.new ≡ next M.rules (state_in self.old) event }
@@ -116,6 +135,7 @@ impl<M: Consistency> Core<M> {
     }
 
     /// What was weighed is handed in, so that nothing here can fail once the engine has begun to change.
+    #[inline(always)]
     fn take_accepted(&mut self, event: Event, switching: bool)
         requires room { self.old.number < 1000000 }
         requires accepted { refusal_of M.rules (state_in self.old) event ≡ None }
@@ -128,12 +148,18 @@ impl<M: Consistency> Core<M> {
         // For the proof alone, which knows what every value keeps once a field is read.
         let _ = &self.tasks;
         match event {
+            Event::Call(task, func) => self.take_call(task, func),
+            Event::Ret(task) => self.take_ret(task),
+            Event::Sleep(task) => self.take_move(Move::Sleep, task),
+            Event::Wake(task) => self.take_move(Move::Wake, task),
+            Event::Enter(task) => self.take_move(Move::Enter, task),
             Event::Exit(task) => self.take_own_check(CheckKind::KernelExit, task, switching),
             Event::Idle(task) => self.take_own_check(CheckKind::IdlePoint, task, switching),
             Event::Resched(task) => self.take_own_check(CheckKind::Resched, task, switching),
+            Event::Fork(parent, child, how) => self.take_fork(parent, child, how),
+            Event::Die(task) => self.take_die(task),
             Event::Enable | Event::Disable | Event::Reverse => self.take_control(event),
             Event::Walk | Event::Stop => unreachable!(),
-            _ => self.take_unchecked(event),
         }
     }
 }

@@ -1,73 +1,23 @@
 //! Own checks: those that a task makes of itself where it returns to user space, at its idle point,
 //! and where it would let another run.
-ghost use Rattle.std.specs.Prelude.{◌≡◌, [], ◌<◌, None, true, false, IfOk, IsErr, IsTrue, OnErr, OnOk};
+ghost use Rattle.std.specs.Prelude.{◌≡◌, [], ◌<◌, None, true, IfOk, IsErr, IsTrue};
 ghost use Rattle.std.specs.Option.{ForSome};
 ghost use Rattle.lp_transition.specs.Weigh.{is_switched};
 ghost use Rattle.lp_transition.specs.Blames.{AreBlamesAfter};
 ghost use Rattle.lp_transition.specs.LastScan.{IsLastScanAfter};
-ghost use Rattle.lp_definitions.specs.TaskEvents.{is_own_check};
-ghost use Rattle.lp_machine.specs.Steps.{IsStep};
 ghost use Rattle.lp_machine.specs.Table.{slot, state_in};
 ghost use Rattle.lp_machine.specs.Machine.{affected, switches_at, refusal_of, answer, next};
 ghost use Rattle.lp_tasks.specs.inside.OwnChecks.{is_own_kind, own_check_event, own_check_mode};
 
 use super::Core;
-use super::dispatch::is_switched;
-use super::weigh::{done, group_of, is_only, one_group, refused};
-use crate::{Event, Reply, What};
+use super::weigh::{done, group_of, is_only, one_group};
+use crate::{Reply, What};
 use lp_model::{CheckKind, Consistency};
 use lp_stack::{Mode, TaskId, View};
 use lp_tasks::own_check_mode;
 use std::alloc::{AllocError, Global};
 
 impl<M: Consistency> Core<M> {
-    /// An own check: answers and takes it, with no step in between. There has to be an event left. AllocError
-    /// where an allocation failed, which there is only where the task's group switches; the engine is then as it was.
-    pub fn step_own_check(&mut self, alloc: Global, event: Event) -> Result<Reply, AllocError>
-        requires room { self.old.number < 1000000 }
-        requires own_check { is_own_check event ≡ true }
-        ensures memory { IsErr result → IsTrue (is_switched (answer M.rules (state_in self.old) event).what) }
-        ensures step { IfOk result (λ reply. IsStep M.rules (state_in self.old) event reply (state_in self.new)) }
-        ensures blames { OnOk result (AreBlamesAfter M.rules self.old event [] self.new) }
-        ensures last_scan { OnOk result (IsLastScanAfter M.rules self.old event self.new) }
-        ensures unchanged { OnErr result (self.new ≡ self.old) }
-    {
-        // For the proof alone, which knows what every value keeps once a field is read.
-        let _ = &self.tasks;
-        match event {
-            Event::Exit(task) => self.step_kind(alloc, CheckKind::KernelExit, task, event),
-            Event::Idle(task) => self.step_kind(alloc, CheckKind::IdlePoint, task, event),
-            Event::Resched(task) => self.step_kind(alloc, CheckKind::Resched, task, event),
-            _ => unreachable!(),
-        }
-    }
-
-    /// The same, by the kind of its check.
-    fn step_kind(
-        &mut self,
-        alloc: Global,
-        kind: CheckKind,
-        task: TaskId,
-        event: Event,
-    ) -> Result<Reply, AllocError>
-        requires own_check { is_own_kind kind ≡ true }
-        requires event { event ≡ own_check_event kind task }
-        requires room { self.old.number < 1000000 }
-        ensures memory { IsErr result → IsTrue (is_switched (answer M.rules (state_in self.old) event).what) }
-        ensures step { IfOk result (λ reply. IsStep M.rules (state_in self.old) event reply (state_in self.new)) }
-        ensures blames { OnOk result (AreBlamesAfter M.rules self.old event [] self.new) }
-        ensures last_scan { OnOk result (IsLastScanAfter M.rules self.old event self.new) }
-        ensures unchanged { OnErr result (self.new ≡ self.old) }
-    {
-        if let Some(why) = self.refusal(event) {
-            self.take_refused(event, why);
-            return Ok(refused(why));
-        }
-        let reply = self.answer_own_check(alloc, kind, task)?;
-        self.take_own_check(kind, task, is_switched(&reply.what));
-        Ok(reply)
-    }
-
     /// The answer to an accepted own check; AllocError where an allocation failed, which
     /// there is only where the task's group switches.
     pub(super) fn answer_own_check(

@@ -19,19 +19,18 @@ impl<M: Consistency> Core<M> {
     pub fn refusal(&self, event: Event) -> Option<Refusal>
         ensures { result ≡ refusal_of M.rules (state_in self.now) event }
     {
-        let symbols = self.patches.symbols();
         match event {
-            Event::Call(task, func) => call_refusal(&self.tasks, symbols, task, func),
-            Event::Ret(task) => ret_refusal(&self.tasks, symbols, task),
+            Event::Call(task, func) => {
+                call_refusal(&self.tasks, self.patches.symbols(), task, func)
+            }
+            Event::Ret(task) => ret_refusal(&self.tasks, task),
             Event::Sleep(task) => mode_refusal(&self.tasks, task, Mode::Kernel),
             Event::Wake(task) => mode_refusal(&self.tasks, task, Mode::Asleep),
             Event::Enter(task) => class_refusal(&self.tasks, task, Class::Normal, Mode::User),
             Event::Exit(task) => empty_refusal(&self.tasks, task, Class::Normal),
             Event::Idle(task) => empty_refusal(&self.tasks, task, Class::Idle),
             Event::Resched(task) => class_refusal(&self.tasks, task, Class::Normal, Mode::Kernel),
-            Event::Fork(parent, child, how) => {
-                fork_refusal(&self.tasks, symbols, parent, child, how)
-            }
+            Event::Fork(parent, child, how) => fork_refusal(&self.tasks, parent, child, how),
             Event::Die(task) => empty_refusal(&self.tasks, task, Class::Normal),
             Event::Walk | Event::Stop => None,
             Event::Enable => self.enable_refusal(),
@@ -61,10 +60,10 @@ fn call_refusal(tasks: &TaskTable, symbols: usize, task: TaskId, func: SymId) ->
     None
 }
 
-/// Why a return is refused.
+/// Why a return is refused, whatever symbols there are.
 #[inline(always)]
-fn ret_refusal(tasks: &TaskTable, symbols: usize, task: TaskId) -> Option<Refusal>
-    ensures { result ≡ first_of (tests (task_numbers symbols) (outlines_of (leg_tasks tasks.now)) (Event.Ret task)) }
+fn ret_refusal(tasks: &TaskTable, task: TaskId) -> Option<Refusal>
+    ensures { result ≡ first_of (tests (task_numbers 0) (outlines_of (leg_tasks tasks.now)) (Event.Ret task)) }
 {
     let Some(live) = tasks.get(task) else {
         return Some(Refusal::UnknownTask);
@@ -127,15 +126,14 @@ fn class_refusal(tasks: &TaskTable, task: TaskId, class: Class, mode: Mode) -> O
     None
 }
 
-/// Why a fork is refused.
+/// Why a fork is refused, whatever symbols there are.
 fn fork_refusal(
     tasks: &TaskTable,
-    symbols: usize,
     parent: TaskId,
     child: TaskId,
     how: ForkKind,
 ) -> Option<Refusal>
-    ensures { result ≡ first_of (tests (task_numbers symbols) (outlines_of (leg_tasks tasks.now)) (Event.Fork parent child how)) }
+    ensures { result ≡ first_of (tests (task_numbers 0) (outlines_of (leg_tasks tasks.now)) (Event.Fork parent child how)) }
 {
     let Some(live) = tasks.get(parent) else {
         return Some(Refusal::UnknownTask);

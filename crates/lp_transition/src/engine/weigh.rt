@@ -43,8 +43,10 @@ impl<M: Consistency> Core<M> {
         Ok(Step::plain(alloc, event, reply))
     }
 
-    /// The answer to an accepted event that is no scan.
-    fn answer_accepted(&self, alloc: Global, event: Event) -> Result<Reply, AllocError>
+    /// The answer to an accepted event that is no scan. The reply to a call names the level before it is taken: a call never
+    /// switches its task.
+    #[inline(always)]
+    pub(super) fn answer_accepted(&self, alloc: Global, event: Event) -> Result<Reply, AllocError>
         requires room { self.now.number < 1000000 }
         requires accepted { refusal_of M.rules (state_in self.now) event ≡ None }
         requires scan { is_scan event ≡ false }
@@ -52,18 +54,24 @@ impl<M: Consistency> Core<M> {
         ensures answer { IfOk result (λ reply. reply ≡ answer M.rules (state_in self.now) event) }
     {
         match event {
+            Event::Call(task, func) => Ok(self.answer_call(task, func)),
+            Event::Ret(task) => Ok(self.answer_done(event, task)),
+            Event::Sleep(task) => Ok(self.answer_done(event, task)),
+            Event::Wake(task) => Ok(self.answer_done(event, task)),
+            Event::Enter(task) => Ok(self.answer_done(event, task)),
             Event::Exit(task) => self.answer_own_check(alloc, CheckKind::KernelExit, task),
             Event::Idle(task) => self.answer_own_check(alloc, CheckKind::IdlePoint, task),
             Event::Resched(task) => self.answer_own_check(alloc, CheckKind::Resched, task),
+            Event::Fork(parent, _, _) => Ok(self.answer_done(event, parent)),
+            Event::Die(task) => Ok(self.answer_die(task)),
             Event::Enable | Event::Disable | Event::Reverse => Ok(self.answer_control(event)),
             Event::Walk | Event::Stop => unreachable!(),
-            _ => Ok(self.answer_unchecked(event)),
         }
     }
 
     /// The answer to an accepted call.
     #[inline(always)]
-    pub(super) fn answer_call(&self, task: TaskId, func: SymId) -> Reply
+    fn answer_call(&self, task: TaskId, func: SymId) -> Reply
         requires room { self.now.number < 1000000 }
         requires accepted { refusal_of M.rules (state_in self.now) (Event.Call task func) ≡ None }
         ensures { result ≡ answer M.rules (state_in self.now) (Event.Call task func) }
@@ -77,7 +85,7 @@ impl<M: Consistency> Core<M> {
     /// A return, a sleep, a wake-up or an entry into the kernel is no check and ends no task, and a child begins on its
     /// parent's level: so there is nothing to look at.
     #[inline(always)]
-    pub(super) fn answer_done(&self, event: Event, task: TaskId) -> Reply
+    fn answer_done(&self, event: Event, task: TaskId) -> Reply
         requires room { self.now.number < 1000000 }
         requires accepted { refusal_of M.rules (state_in self.now) event ≡ None }
         requires is_answered_done { is_answered_done event ≡ true }
@@ -90,7 +98,7 @@ impl<M: Consistency> Core<M> {
     }
 
     /// A task that ends may have been the last that waited: then its end completes the transition.
-    pub(super) fn answer_die(&self, task: TaskId) -> Reply
+    fn answer_die(&self, task: TaskId) -> Reply
         requires room { self.now.number < 1000000 }
         requires accepted { refusal_of M.rules (state_in self.now) (Event.Die task) ≡ None }
         ensures { result ≡ answer M.rules (state_in self.now) (Event.Die task) }

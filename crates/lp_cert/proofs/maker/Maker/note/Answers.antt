@@ -12,23 +12,25 @@ use Rattle.lp_cert.specs.inside.Waiters.{HasHeadFor, has_off}
 use Rattle.lp_cert.proofs.Noted.{none_made, turned_made, ready_for, room_is, opens_is}
 use Rattle.lp_cert.proofs.NotedBy.{noted_made}
 use Rattle.lp_cert.proofs.Asked.{not_so, not_other}
+use Rattle.lp_cert.proofs.OwnEffects.{own_room}
 use Rattle.lp_cert.proofs.maker.Maker.note.Goals as goal
 
-pub look_leg-requires-clause-heads : goal.look_leg-requires-clause-heads
-look_leg-requires-clause-heads g c =
+pub note_leg-requires-clause-heads : goal.note_leg-requires-clause-heads
+note_leg-requires-clause-heads g c =
     let i = c.self.inside in
     (ready_for i.current i.waiters _ i.closing i.ready c.in-Some.ready c.self.invariant.for_event (sym c.take.ensures.value ∙ c.in-Some.is)).heads
 
-pub look_leg-requires-clause-child : goal.look_leg-requires-clause-child
-look_leg-requires-clause-child g c =
+pub note_leg-requires-clause-own_room : goal.note_leg-requires-clause-own_room
+note_leg-requires-clause-own_room g c =
     let i = c.self.inside in
     let kept : i.ready ≡ Some c.in-Some.ready = sym c.take.ensures.value ∙ c.in-Some.is in
     let asked = rw (← c.self.view_is) at c.requires.ready in
     let ready = ready_for i.current i.waiters _ i.closing i.ready c.in-Some.ready c.self.invariant.for_event kept in
-    subst (λ (event : Event). HasHeadFor event i.waiters.reasons) (ap (λ (r : Room). r.event) (room_is i.ready c.in-Some.ready (room_for c.args.step.now) kept asked)) ready.child
+    let child = subst (λ (event : Event). HasHeadFor event i.waiters.reasons) (ap (λ (r : Room). r.event) (room_is i.ready c.in-Some.ready (room_for c.args.step.now) kept asked)) ready.child in
+    own_room c.args.step.now.event i.waiters ready.heads child (omega (arith, ready.room))
 
-pub look_leg-requires-clause-all_room : goal.look_leg-requires-clause-all_room
-look_leg-requires-clause-all_room g c = λ scan.
+pub note_leg-requires-clause-all_room : goal.note_leg-requires-clause-all_room
+note_leg-requires-clause-all_room g c = λ scan.
     let i = c.self.inside in
     let kept : i.ready ≡ Some c.in-Some.ready = sym c.take.ensures.value ∙ c.in-Some.is in
     let asked = rw (← c.self.view_is) at c.requires.ready in
@@ -55,12 +57,12 @@ returns-then-not-ready g c = record {
       let i = c.self.inside in
       let number = c.events.result + 1 in
       let old : Made = record { ended = i.ended.ends; current = option_map (open_end i.noted i.waiters) i.current; ready = option_map room_of i.ready } in
-      let new : Made = record { ended = i.ended.ends; current = Some (open_end number c.look_leg.new.waiters c.look_leg.new.leg); ready = option_map room_of c.take.new.self } in
+      let new : Made = record { ended = i.ended.ends; current = Some (open_end number c.note_leg.new.waiters c.note_leg.new.leg); ready = option_map room_of c.take.new.self } in
       let was : IsMadeWith g.M.Consistency.rules run c.args.core.now.last_scan old = rw (← c.self.view_is) at is in
       let asked = rw (← c.self.view_is) at c.requires.ready in
       let stays : is_opening c.args.step.now ≡ false = sym (opens_is i.ready c.in-Some.ready (room_for c.args.step.now) (sym c.take.ensures.value ∙ c.in-Some.is) asked) ∙ not_so c.in-Some.ready.opens c.if-not-ready.true in
-      noted_made g.M.Consistency.rules g.met.M.Consistency.lawful run c.args.core.now stands c.args.step.now c.requires.weighed old new was after stands_after known stays refl i.noted number c.in-Some-current.leg c.look_leg.new.leg i.waiters c.look_leg.new.waiters
-      (ap (option_map (open_end i.noted i.waiters)) c.in-Some-current.is) (ap (λ m. m + 1) c.events.ensures.value) c.look_leg.ensures.noted refl;
+      noted_made g.M.Consistency.rules g.met.M.Consistency.lawful run c.args.core.now stands c.args.step.now c.requires.weighed old new was after stands_after known stays refl i.noted number c.in-Some-current.leg c.note_leg.new.leg i.waiters c.note_leg.new.waiters
+      (ap (option_map (open_end i.noted i.waiters)) c.in-Some-current.is) (ap (λ m. m + 1) c.events.ensures.value) c.note_leg.ensures.noted refl;
 }
 
 pub returns : goal.returns
@@ -102,17 +104,14 @@ end_leg-requires g c =
     let i = c.self.inside in
     record { room = (ready_for i.current i.waiters _ i.closing i.ready c.in-Some.ready c.self.invariant.for_event (sym c.take.ensures.value ∙ c.in-Some.is)).end_room (not_other c.in-Some.ready.opens c.if-not-ready.false) }
 
-pub look_leg-requires-clause-room : goal.look_leg-requires-clause-room
-look_leg-requires-clause-room g c = grind (arith, common_steps)
+pub note_leg-requires-clause-scan_room : goal.note_leg-requires-clause-scan_room
+note_leg-requires-clause-scan_room g c = grind (arith, common_steps)
 
-pub look_leg-requires-clause-scan_room : goal.look_leg-requires-clause-scan_room
-look_leg-requires-clause-scan_room g c = grind (arith, common_steps)
+pub note_leg-requires-clause-floor : goal.note_leg-requires-clause-floor
+note_leg-requires-clause-floor g c = grind (arith, common_steps)
 
-pub look_leg-requires-clause-floor : goal.look_leg-requires-clause-floor
-look_leg-requires-clause-floor g c = grind (arith, common_steps)
-
-pub look_leg-requires-clause-weighed : goal.look_leg-requires-clause-weighed
-look_leg-requires-clause-weighed g c = c.requires.weighed
+pub note_leg-requires-clause-weighed : goal.note_leg-requires-clause-weighed
+note_leg-requires-clause-weighed g c = c.requires.weighed
 
 pub opened-next-requires-clause-weighed : goal.opened-next-requires-clause-weighed
 opened-next-requires-clause-weighed g c = c.requires.weighed

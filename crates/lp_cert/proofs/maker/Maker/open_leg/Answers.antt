@@ -8,7 +8,7 @@ use Rattle.lp_cert.specs.Invariant.{open_end, room_of}
 use Rattle.lp_cert.specs.inside.Invariant.{leg_at, plain_step}
 use Rattle.lp_cert.specs.inside.Waiters.{has_off}
 use Rattle.lp_cert.proofs.Noted.{turned_made}
-use Rattle.lp_cert.proofs.PlainEvents.{control_unscanned, turns, weighed}
+use Rattle.lp_cert.proofs.PlainEvents.{control_unscanned, replied, turns, weighed}
 use Rattle.lp_cert.proofs.maker.Maker.open_leg.Goals as goal
 
 pub returns-clause-made : goal.returns-clause-made
@@ -29,4 +29,4 @@ returns-clause-made g c = λ run after stands is stands_after known.
     number later (ap (λ m. m + 1) c.events.ensures.value)
     (λ sound group. c.open.ensures sound group ∙ ap (λ level. if has_off s level group then Some [] else None) target)
     c.in_ok-add_end.ensures.ends
-    (ap (λ (l : OpenLeg). Some (open_end number later l)) (c.new.ensures ∙ ap₂ (λ level (b : Bool). leg_at number level b) target (ap (λ (r : Reply). r.completed) c.step_control-reply.ensures.answer)))
+    (ap (λ (l : OpenLeg). Some (open_end number later l)) (c.new.ensures ∙ ap₂ (λ level (b : Bool). leg_at number level b) target (ap (λ (r : Reply). r.completed) (replied model lawful run e stands event c.in-Ok.reply c.in-Ok.ensures.step.replies))))

@@ -1,16 +1,14 @@
-use Rattle.lp_machine.specs.Table.{state_in}
-use Rattle.lp_cert.proofs.OwnChecks.{alone_lines, alone_stand}
+use Rattle.lp_cert.proofs.OwnChecks.{alone_lines, alone_stand, as_said}
 use Rattle.lp_cert.proofs.waiters.Waiters.refuse_alone.Goals as goal
 
 pub invariant_of-self : goal.invariant_of-self
-invariant_of-self g c =
+invariant_of-self c =
     let waits = rw (← c.self.view_is) at c.requires.waits in
-    alone_stand (state_in c.args.core.now) c.args.group _ c.self.inside.groups c.self.inside.reasons c.refuse_alone.new.self c.self.invariant waits c.refuse_alone.ensures.refused c.refuse_alone.ensures.others c.refuse_alone.ensures.scans (rw c.head.ensures at c.is_held.ensures)
+    let stands = c.args.refused.now.frame_stands in
+    alone_stand (λ task serial. stands) c.args.group c.args.refused.now c.self.inside.groups c.self.inside.reasons c.refuse_alone.new.self c.self.invariant waits c.refuse_alone.ensures.refused c.refuse_alone.ensures.others c.refuse_alone.ensures.scans (as_said _ stands)
 
 pub returns : goal.returns
-returns g c =
+returns c = λ has_frame told.
     let waits = rw (← c.self.view_is) at c.requires.waits in
-    rw (← c.self.view_is) (alone_lines (state_in c.args.core.now) c.args.group _ c.self.inside.groups c.self.inside.reasons c.refuse_alone.new.self c.self.invariant waits c.refuse_alone.ensures.refused c.refuse_alone.ensures.others c.refuse_alone.ensures.scans (rw c.head.ensures at c.is_held.ensures))
-
-pub refuse_alone-requires-clause-head : goal.refuse_alone-requires-clause-head
-refuse_alone-requires-clause-head g c = c.self.invariant c.args.group.0 (rw (← c.self.view_is) at c.requires.waits)
+    let told_inside = rw (← c.self.view_is) at told in
+    rw (← c.self.view_is) (alone_lines has_frame c.args.group c.args.refused.now c.self.inside.groups c.self.inside.reasons c.refuse_alone.new.self c.self.invariant waits c.refuse_alone.ensures.refused c.refuse_alone.ensures.others c.refuse_alone.ensures.scans told_inside)

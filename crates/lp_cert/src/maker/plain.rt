@@ -1,0 +1,102 @@
+//! Events that are no scans and open no leg, which needn't be weighed first.
+ghost use Rattle.std.specs.Prelude.{◌≡◌, ◌≢◌, ◌<◌, ℕ, Bool, true, false, None, is_some, IfOk, OnErr, OnOk};
+ghost use Rattle.lp_definitions.specs.Events.{is_control, is_scan};
+ghost use Rattle.lp_definitions.specs.Run.{Run, plus};
+ghost use Rattle.lp_model.specs.Rules.{Rules};
+ghost use Rattle.lp_machine.specs.Machine.{refusal_of};
+ghost use Rattle.lp_machine.specs.Steps.{IsStep, StandsIn};
+ghost use Rattle.lp_machine.specs.Table.{Engine, state_in};
+ghost use Rattle.lp_transition.specs.Blames.{HasBlamesAfter};
+ghost use Rattle.lp_transition.specs.LastScan.{used_scan};
+ghost use Rattle.lp_transition.specs.Weigh.{Weighed, refusal_in};
+ghost use Rattle.lp_cert.specs.Ends.{IsMadeWith};
+ghost use Rattle.lp_cert.specs.inside.Invariant.{HasFloor, IsStepped, is_settled};
+ghost use Rattle.lp_cert.specs.inside.OwnEffects.{HasEffectRoom, IsTold, after_effect};
+ghost use Rattle.lp_cert.specs.inside.Waiters.{HasFewGroups, lines_at, own_lines};
+
+use super::Maker;
+use crate::open_leg::OpenLeg;
+use crate::waiters::{OwnEffect, Waiters};
+use lp_model::Consistency;
+use lp_transition::{Core, Event, Reply, What};
+use std::alloc::{AllocError, Global};
+
+impl Maker {
+    /// Lets the engine take an event that is no scan and opens no leg, and notes it. What it does to the groups that wait is told
+    /// before, as they stand then; where no transition is under way the end of the leg stays as it is. AllocError where an
+    /// allocation failed, and then the engine and the certificates are as they were.
+    pub(crate) fn take_plain<M: Consistency>(
+        &mut self,
+        alloc: Global,
+        core: &mut Core<M>,
+        event: Event,
+    ) -> Result<Reply, AllocError>
+        requires room { core.old.number < 1000000 }
+        requires plain { is_scan event ≡ false }
+        requires stays { is_control event ≡ true → refusal_of M.rules (state_in core.old) event ≢ None }
+        ensures step { IfOk result (λ reply. IsStep M.rules (state_in core.old) event reply (state_in core.new)) }
+        ensures made { OnOk result ((run : Run) → StandsIn M.rules run (state_in core.old) → IsMadeWith M.rules run core.old.last_scan self.old → IsMadeWith M.rules (plus run event) core.new.last_scan self.new) }
+        ensures blames { OnOk result (HasBlamesAfter M.rules core.old event core.new) }
+        ensures unchanged { OnErr result (core.new ≡ core.old) }
+        ensures ended { OnErr result (self.new.ended ≡ self.old.ended) }
+        ensures current { OnErr result (self.new.current ≡ self.old.current) }
+    {
+        let number = core.events() as u32 + 1;
+        if is_settled(self.current) {
+            let reply = core.step_plain(alloc, event)?;
+            self.noted = number;
+            return Ok(reply);
+        }
+        self.ready = None;
+        self.waiters.reserve_own(event)?;
+        let effect = self.waiters.own_effect(core, event);
+        let reply = core.step_plain(alloc, event)?;
+        self.noted = number;
+        let Some(leg) = &mut self.current else {
+            return Ok(reply);
+        };
+        affect_leg(number, &reply, leg, &mut self.waiters, &effect);
+        Ok(reply)
+    }
+}
+
+/// The leg under way after an event that was answered so, and does this where it is accepted. Never allocates.
+pub(super) fn affect_leg(
+    number: u32,
+    reply: &Reply,
+    leg: &mut OpenLeg,
+    waiters: &mut Waiters,
+    effect: &OwnEffect,
+)
+    requires floor { HasFloor waiters.old leg.old.completed }
+    requires room { HasEffectRoom effect.now waiters.old }
+    ensures stepped { (model : Rules) (e : Engine) (step : Weighed) (has_frame : (task serial : ℕ) → Bool) → used_scan model step.event ≡ None → ((group : ℕ) → own_lines model e step.event step.verdicts (lines_at waiters.old) group ≡ after_effect has_frame effect.now (lines_at waiters.old) group) → IsTold has_frame effect.now waiters.old → HasFewGroups e step.event → reply.now ≡ step.reply → IsStepped model e step number leg.old leg.new waiters.old waiters.new }
+    ensures floor { HasFloor waiters.new leg.new.completed }
+{
+    if leg.is_over(number, reply, waiters) {
+        return;
+    }
+    if is_refused(&reply.what) {
+        return;
+    }
+    waiters.have_effect(effect);
+    waiters.switch(&reply.what);
+}
+
+/// Whether an event was refused.
+fn is_refused(what: &What) -> bool
+    ensures { result ≡ is_some (refusal_in what.now) }
+{
+    matches!(what, What::Refused(_))
+}
+
+/// Whether the leg under way is complete, or there is none.
+#[inline(always)]
+pub(super) fn is_settled(current: Option<OpenLeg>) -> bool
+    ensures { result ≡ is_settled current }
+{
+    match current {
+        Some(leg) => leg.completed.is_some(),
+        None => true,
+    }
+}
