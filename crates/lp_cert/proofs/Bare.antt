@@ -25,9 +25,8 @@ use Rattle.lp_cert.specs.inside.Heads.{IsKnown, IsHead}
 use Rattle.lp_cert.specs.inside.Invariant.{IsBareLeg, end_groups}
 use Rattle.lp_cert.specs.declared.cert_head.CommonHead.{CommonHead}
 use Rattle.lp_cert.specs.inside.Bare.{bare_cert, bare_certs as certs_of}
-use Rattle.lp_cert.specs.inside.Kept.{up_to}
 use Rattle.lp_cert.specs.inside.Waiters.{AreBare, AreStanding, lines_in}
-use Rattle.lp_cert.proofs.Ending.{bare_lines}
+use Rattle.lp_cert.proofs.BareLines.{bare_lines}
 
 -- ---- Before any scan and any birth
 
@@ -75,11 +74,6 @@ pub bare_certs : (claim : Claim) (leg upto : ℕ) (w : WaitingGroups) → AreBar
     → map (bare_cert claim leg upto) (map group_id (passing 0 65536 (has w.groups))) ≡ map (kept_cert claim leg upto w.reasons.lists w.reasons.scans) (waiters_of w)
 unfolding passing
 bare_certs claim leg upto w bare = each_bare claim leg upto w.reasons (has w.groups) (range_with_len 0 (65536 - 0)) bare
-
--- up to another event they are those of the same groups
-pub up_to_bare : (upto before : ℕ) (claim : Claim) (leg : ℕ) (groups : List GroupId) → up_to upto (map (bare_cert claim leg before) groups) ≡ map (bare_cert claim leg upto) groups
-up_to_bare upto before claim leg [] = refl
-up_to_bare upto before claim leg (group ∷ groups) = ap (λ (certs : List Cert). bare_cert claim leg upto group ∷ certs) (up_to_bare upto before claim leg groups)
 
 -- and none has a line
 pub no_lines : (claim : Claim) (leg upto : ℕ) (groups : List GroupId) (k : ℕ) → k < length (map (bare_cert claim leg upto) groups)

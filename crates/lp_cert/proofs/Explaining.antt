@@ -14,7 +14,7 @@ use Rattle.lp_definitions.specs.Run.{Run, and_then, first_leg, leg_after, leg_of
 use Rattle.lp_machine.specs.Steps.{IsStep, StandsIn}
 use Rattle.lp_machine.specs.Table.{Engine, LastScan, state_in}
 use Rattle.lp_transition.specs.LastScan.{IsLastScanAfter}
-use Rattle.lp_cert.specs.Ends.{Made, IsMadeFurther, IsMadeWith, cert_upto, end_upto, floor_in, is_complete_in, made_upto, waiting_in}
+use Rattle.lp_cert.specs.Ends.{Made, IsMadeFurther, IsMadeWith, cert_upto, end_upto, floor_in, is_complete_in, made_upto, passed_upto, waiting_in}
 use Rattle.lp_cert.specs.Explained.{Explained, IsExplained, made_in}
 use Rattle.lp_cert.proofs.Making.{map_twice}
 use Rattle.lp_cert.proofs.Tellings.{begun_with}
@@ -91,7 +91,7 @@ twice n None = refl
 twice n (Some leg) = ap Some (twice_by n leg leg.completed)
 
 -- where an event isn't taken, nothing is seen of what it was made ready for
-pub left : (core after : Engine) (made noted ready : Made) → after ≡ core → noted ≡ made_upto core.number made → ready.ended ≡ noted.ended → ready.current ≡ noted.current → explained_by after ready ≡ explained_by core made
+pub left : (core after : Engine) (made noted ready : Made) → after ≡ core → noted ≡ passed_upto core.number made → ready.ended ≡ noted.ended → ready.current ≡ noted.current → explained_by after ready ≡ explained_by core made
 left core after made noted ready same noted_is ended current =
     ap (λ (e : Engine). explained_by e ready) same
     ∙ (ap₂ (λ (es : List LegEnd) (o : Option LegEnd). (let seen : Explained = record { core = core; ended = es; current = option_map (end_upto core.number) o } in seen))
@@ -155,7 +155,7 @@ module _ (model : Rules) where
         }
 
     -- with an event that was noted
-    pub explained_noted : (made noted after : Made) → noted ≡ made_upto old.number made → (IsMadeWith model run old.last_scan noted → IsMadeWith model (plus run event) new.last_scan after) → IsExplained model run (explained_by old made) → IsExplained model (plus run event) (explained_by new after)
+    pub explained_noted : (made noted after : Made) → noted ≡ passed_upto old.number made → (IsMadeWith model run old.last_scan noted → IsMadeWith model (plus run event) new.last_scan after) → IsExplained model run (explained_by old made) → IsExplained model (plus run event) (explained_by new after)
     explained_noted made noted after noted_is further is =
         let stands = step.reaches run is.stands in
         let before = made_same run old.last_scan (made_in (explained_by old made)) noted (ap (λ (m : Made). m.ended) noted_is) (ap (λ (m : Made). m.current) noted_is) is.made in

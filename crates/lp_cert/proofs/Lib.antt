@@ -31,7 +31,7 @@ pub mod Bare
 pub mod Listed
 pub mod Keeping
 pub mod Making
-pub mod Ending
+pub mod BareLines
 pub mod Noted
 pub mod NotedBy
 pub mod PlainEvents

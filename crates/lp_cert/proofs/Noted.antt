@@ -457,8 +457,8 @@ module _ (model : Rules) (lawful : IsLawful model) (run : Run) (e : Engine) (sta
 -- ---- What the maker needs of what it keeps
 
 -- there is room for the event
-pub ready_for : (current : Option OpenLeg) (w : WaitingGroups) (room : KeptEnds) (closing : Option (List Cert)) (o : Option Ready) (ready : Ready) → IfReady current w room closing o → o ≡ Some ready → IsReady current w room closing ready
-ready_for current w room closing o ready h is = subst (IfReady current w room closing) is h
+pub ready_for : (noted : ℕ) (current : Option OpenLeg) (w : WaitingGroups) (room : KeptEnds) (closing : Option LegEnd) (o : Option Ready) (ready : Ready) → IfReady noted current w room closing o → o ≡ Some ready → IsReady noted current w room closing ready
+ready_for noted current w room closing o ready h is = subst (IfReady noted current w room closing) is h
 
 -- it is what was asked for, and opens a leg or doesn't
 pub room_is : (o : Option Ready) (ready : Ready) (room : Room) → o ≡ Some ready → option_map room_of o ≡ Some room → room_of ready ≡ room

@@ -73,6 +73,10 @@ end_upto upto end = if is_none end.completed then record end { certs = map (cert
 abbrev pub made_upto : ℕ → Made → Made
 made_upto upto made = record made { current = option_map (end_upto upto) made.current }
 
+-- the same, with room for no event
+abbrev pub passed_upto : ℕ → Made → Made
+passed_upto upto made = record (made_upto upto made) { ready = None }
+
 -- a certificate without its lines
 abbrev pub cert_head : Cert → CertHead
 cert_head cert = record { claim = cert.claim; leg = cert.leg; group = cert.group; upto = cert.upto }

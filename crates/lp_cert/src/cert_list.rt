@@ -5,7 +5,6 @@ ghost use Rattle.lp_cert.specs.Beside.{BeginWith};
 ghost use Rattle.lp_cert.specs.Ends.{cert_head};
 ghost use Rattle.lp_cert.specs.Waiters.{kept_cert};
 ghost use Rattle.lp_cert.specs.inside.Bare.{bare_certs};
-ghost use Rattle.lp_cert.specs.inside.Kept.{up_to};
 ghost use Rattle.lp_cert.specs.inside.Waiters.{AreHeads};
 
 use crate::cert_head::{CertHead, CommonHead};
@@ -23,43 +22,26 @@ use std::marker::Model;
 ///
 /// Contracts see the list.
 pub struct CertList {
-    kept: Kept,
+    many: Box<ManyCerts>,
 }
 
 /// By hand, so that the proof of who owns one lets go of it in one step, not field by field.
 impl Drop for CertList {
     fn drop(self) {
-        let CertList { kept: _ } = self;
+        let CertList { many: _ } = self;
     }
-}
-
-/// What is kept of the certificates of a leg: of those without a line the groups are enough.
-#[derive(Drop)]
-pub(crate) enum Kept {
-    Bare(CommonHead, Vec<GroupId>),
-    Many(Box<ManyCerts>),
 }
 
 impl Model for CertList {
     ghost use Rattle.std.specs.Prelude.{List};
     ghost use Rattle.lp_definitions.specs.declared.cert.Cert.{Cert};
-    ghost use Rattle.lp_cert.specs.inside.Kept.{certs_in};
 
     ghost Value = { List Cert };
 
-    ghost view = { λ c. certs_in c.kept };
+    ghost view = { λ c. c.many.value };
 }
 
 impl CertList {
-    /// The certificates of groups without any reason. Never allocates.
-    pub(crate) fn bare(head: CommonHead, groups: Vec<GroupId>) -> CertList
-        ensures { result ≡ bare_certs head groups.items }
-    {
-        CertList {
-            kept: Kept::Bare(head, groups),
-        }
-    }
-
     /// The certificates of these groups, over their older reasons and the scans of the leg;
     /// AllocError where an allocation failed.
     pub(crate) fn many(
@@ -74,27 +56,16 @@ impl CertList {
     {
         let many = ManyCerts::new(head, waiters, chains, scans);
         Ok(CertList {
-            kept: Kept::Many(Box::new(alloc, many)?),
+            many: Box::new(alloc, many)?,
         })
-    }
-
-    /// Lets the certificates go up to another event. Never allocates.
-    pub(crate) fn go_up_to(&mut self, upto: u32)
-        ensures { self.new ≡ up_to upto self.old }
-    {
-        match &mut self.kept {
-            Kept::Bare(head, _) => head.upto = upto,
-            Kept::Many(many) => many.go_up_to(upto),
-        }
     }
 
     /// The certificates, borrowed.
     pub fn borrowed(&self) -> CertListRef<'_>
         ensures { result ≡ self.now }
     {
-        match &self.kept {
-            Kept::Bare(head, groups) => CertListRef::bare(*head, groups.as_slice()),
-            Kept::Many(many) => CertListRef::many(many),
+        CertListRef {
+            kept: KeptRef::Many(&self.many),
         }
     }
 }
@@ -131,15 +102,6 @@ impl<'a> CertListRef<'a> {
     {
         CertListRef {
             kept: KeptRef::Bare(head, groups),
-        }
-    }
-
-    /// Those of groups with reasons.
-    fn many(certs: &'a ManyCerts) -> CertListRef<'a>
-        ensures { result ≡ certs.now }
-    {
-        CertListRef {
-            kept: KeptRef::Many(certs),
         }
     }
 

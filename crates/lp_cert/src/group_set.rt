@@ -64,13 +64,6 @@ impl GroupSet {
         self.groups.next(from)
     }
 
-    /// The members in increasing order.
-    pub(crate) fn iter(&self) -> Ascending<'_>
-        ensures { result ≡ members_from 0 self.now }
-    {
-        self.groups.iter()
-    }
-
     /// Puts the members behind a list, in increasing order; AllocError where an allocation failed, and then
     /// some of them may be there.
     pub(crate) fn append_to(&self, list: &mut Vec<GroupId>) -> Result<(), AllocError>
@@ -117,6 +110,6 @@ impl<'a> IntoIterator for &'a GroupSet {
     ghost into_iter_gives = { λ set left. left ≡ members_from 0 set.now };
 
     fn into_iter(self) -> Ascending<'a> {
-        self.iter()
+        self.groups.iter()
     }
 }

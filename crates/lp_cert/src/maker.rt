@@ -8,8 +8,7 @@ ghost use Rattle.lp_transition.specs.LastScan.{used_scan};
 ghost use Rattle.lp_transition.specs.Weigh.{IsWeighed};
 ghost use Rattle.lp_cert.specs.Ends.{IsFresh, IsMadeFurther, ends_left, floor_in, is_complete_in, is_opening, room_for, waiting_in};
 ghost use Rattle.lp_cert.specs.Invariant.{open_end};
-ghost use Rattle.lp_cert.specs.inside.Invariant.{HasClosing, HasFloor, HasFloors, IsClosing, IsNoted, leg_at, waiting_cert};
-ghost use Rattle.lp_cert.specs.Waiters.{WaitingGroups};
+ghost use Rattle.lp_cert.specs.inside.Invariant.{HasFloor, IsNoted, leg_at, waiting_cert};
 ghost use Rattle.lp_cert.specs.inside.LegRows.{HasRoom};
 ghost use Rattle.lp_cert.specs.inside.ToldGroups.{Tells};
 ghost use Rattle.lp_cert.specs.inside.OwnEffects.{HasOwnRoom};
@@ -22,8 +21,6 @@ mod plain;
 mod quiet_scan;
 
 use self::plain::affect_leg;
-use crate::cert_head::CommonHead;
-use crate::cert_list::CertList;
 use crate::leg_end::LegEnd;
 use crate::leg_list::{LegEnds, LegList};
 use crate::leg_rows::LegRows;
@@ -60,9 +57,9 @@ pub struct Maker {
     /// The number of the last event noted.
     noted: u32,
     ready: Option<Ready>,
-    /// The certificates of the leg under way, where `ready` opens another: copies, as the maker's own
-    /// room is for the greatest scan. They stand beside `ready`, since few events need them.
-    closing: Option<CertList>,
+    /// The end of the leg under way, if there is one, where `ready` opens another. It stands beside `ready`, since few events
+    /// need it.
+    closing: Option<LegEnd>,
 }
 
 /// By hand, so that the proof of who owns one lets go of it in one step, not field by field.
@@ -89,7 +86,7 @@ impl Model for Maker {
 
     ghost view = { λ m. record { ended = m.ended.ends; current = option_map (open_end m.noted m.waiters) m.current; ready = option_map room_of m.ready } };
 
-    ghost invariant = { λ m. IsMaker m.current m.waiters m.ended m.closing m.ready };
+    ghost invariant = { λ m. IsMaker m.noted m.current m.waiters m.ended m.closing m.ready };
 }
 
 impl Maker {
@@ -122,20 +119,19 @@ impl Maker {
         self.ready = None;
         let verdicts = step.verdicts().len();
         self.waiters.reserve(verdicts + 2, step.event())?;
-        let opens = close(
-            alloc,
-            step,
-            self.current,
-            self.noted,
-            &self.waiters,
-            &mut self.ended,
-            &mut self.closing,
-        )?;
-        self.ready = Some(Ready {
+        let opens = opens_leg(step.event(), &step.reply().what);
+        let ready = Ready {
             event: step.event(),
             verdicts,
             opens,
-        });
+        };
+        if opens {
+            self.closing = self.current(alloc)?;
+            self.ended.reserve()?;
+            self.ready = Some(ready);
+            return Ok(());
+        }
+        self.ready = Some(ready);
         Ok(())
     }
 
@@ -151,7 +147,6 @@ impl Maker {
         let Some(ready) = self.ready.take() else {
             unreachable!()
         };
-        let noted = self.noted;
         self.noted = number;
         if !ready.opens {
             let Some(leg) = &mut self.current else {
@@ -160,12 +155,9 @@ impl Maker {
             note_leg(core, step, number, leg, &mut self.waiters);
             return;
         }
-        let Some(closing) = self.closing.take() else {
-            unreachable!()
-        };
         let next = opened(core, step, number);
         self.waiters.open(core, next.target);
-        end_leg(&mut self.ended, noted, self.current, closing);
+        push_end(&mut self.ended, self.closing.take());
         self.current = Some(next);
     }
 
@@ -363,19 +355,14 @@ fn used_scan<M: Consistency>(model: &M, event: Event) -> Option<CheckKind>
     if model.uses(kind) { Some(kind) } else { None }
 }
 
-/// Ends the leg under way after so many events, if there is one. Never allocates.
-fn end_leg(ended: &mut LegRows, noted: u32, current: Option<OpenLeg>, closing: CertList)
-    requires room { HasRoom ended.old }
-    ensures { (waiters : WaitingGroups) → IsClosing current waiters closing → ended.new.ends ≡ ended.old.ends ++ option_to_list (option_map (open_end noted waiters) current) }
+/// The end of the leg that was under way more, if one was. Never allocates.
+fn push_end(ended: &mut LegRows, end: Option<LegEnd>)
+    requires { HasRoom ended.old }
+    ensures { ended.new.ends ≡ ended.old.ends ++ option_to_list end }
 {
-    let Some(leg) = current else {
-        return;
-    };
-    let mut certs = closing;
-    if leg.completed.is_none() {
-        certs.go_up_to(noted);
+    if let Some(end) = end {
+        ended.push_reserved(end);
     }
-    ended.push_reserved(leg.end(certs));
 }
 
 /// The leg that an event opens.
@@ -385,56 +372,6 @@ fn opened<M: Consistency>(core: &Core<M>, step: &Step, number: u32) -> OpenLeg
     ensures { result ≡ leg_at number (new_target (state_in core.now) step.now.event) step.now.reply.completed }
 {
     OpenLeg::new(number, core.new_level(step.event()), step.reply().completed)
-}
-
-/// Where an event opens a leg, makes room for the end of the one under way, and makes its
-/// certificates; says whether the event does. AllocError where an allocation failed.
-fn close(
-    alloc: Global,
-    step: &Step,
-    current: Option<OpenLeg>,
-    noted: u32,
-    waiters: &Waiters,
-    ended: &mut LegRows,
-    closing: &mut Option<CertList>,
-) -> Result<bool, AllocError>
-    requires { HasFloors waiters.now current }
-    ensures opens { IfOk result (λ opens. opens ≡ is_opening step.now) }
-    ensures room { IfOk result (λ opens. opens ≡ true → HasRoom ended.new) }
-    ensures closing { IfOk result (λ opens. HasClosing current waiters.now opens closing.new) }
-    ensures ended { ended.new.ends ≡ ended.old.ends }
-{
-    if !opens_leg(step.event(), &step.reply().what) {
-        return Ok(false);
-    }
-    let certs = closing_of(alloc, current, noted, waiters)?;
-    ended.reserve()?;
-    *closing = Some(certs);
-    Ok(true)
-}
-
-/// The certificates of the leg under way as they stand after so many events, if there is one;
-/// AllocError where an allocation failed.
-fn closing_of(
-    alloc: Global,
-    current: Option<OpenLeg>,
-    noted: u32,
-    waiters: &Waiters,
-) -> Result<CertList, AllocError>
-    requires { HasFloors waiters.now current }
-    ensures { IfOk result (IsClosing current waiters.now) }
-{
-    match current {
-        Some(leg) => leg.certs(alloc, noted, waiters),
-        None => Ok(CertList::bare(
-            CommonHead {
-                claim: Claim::Waiting,
-                leg: 0,
-                upto: noted,
-            },
-            Vec::new(alloc),
-        )),
-    }
 }
 
 /// The certificate of a group after so many events, if it waits; AllocError where an allocation

@@ -5,7 +5,6 @@ ghost use Rattle.lp_definitions.specs.declared.cert.Cert.{Cert};
 ghost use Rattle.lp_cert.specs.Beside.{BeginWith};
 ghost use Rattle.lp_cert.specs.Ends.{cert_head};
 ghost use Rattle.lp_cert.specs.Waiters.{kept_cert};
-ghost use Rattle.lp_cert.specs.inside.Kept.{up_to};
 ghost use Rattle.lp_cert.specs.inside.Waiters.{AreHeads};
 
 use crate::cert_head::{CertHead, CommonHead};
@@ -74,13 +73,6 @@ impl ManyCerts {
         ensures { result ≡ length self.now }
     {
         self.waiters.len()
-    }
-
-    /// Lets the certificates go up to another event.
-    pub(crate) fn go_up_to(&mut self, upto: u32)
-        ensures { self.new ≡ up_to upto self.old }
-    {
-        self.head.upto = upto;
     }
 
     /// The certificate at a place, from 0, without its lines.

@@ -80,11 +80,6 @@ impl OpenLeg {
         requires { HasFloor waiters.now self.completed }
         ensures { IfOk result (λ certs. certs ≡ certs_at noted waiters.now self) }
     {
-        if self.is_bare(waiters) {
-            let mut groups = Vec::new(alloc);
-            self.append_groups(waiters, &mut groups)?;
-            return Ok(CertList::bare(self.head(noted), groups));
-        }
         let list = self.waiters(alloc, waiters)?;
         let (chains, scans) = waiters.copy_past(alloc)?;
         CertList::many(alloc, self.head(noted), list, chains, scans)

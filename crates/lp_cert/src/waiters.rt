@@ -238,7 +238,8 @@ impl Waiters {
         ensures stood { AreStanding self.old }
     {
         let refused = &mut self.refused;
-        judge_waiting(core, at, verdicts, &self.groups, refused, &mut self.reasons);
+        refused.clear();
+        judge_all(core, at, verdicts, &self.groups, refused, &mut self.reasons);
         self.reasons.scanned(at);
     }
 
@@ -288,28 +289,6 @@ impl Waiters {
         let _ = &self.groups;
         self.reasons.scanned(at);
     }
-}
-
-/// Notes what a scan found of the groups that wait, at no cost where nothing was found.
-fn judge_waiting<M: Consistency>(
-    core: &Core<M>,
-    at: u32,
-    verdicts: &[Verdict],
-    waiting: &GroupSet,
-    refused: &mut NumberSet,
-    reasons: &mut Reasons,
-)
-    requires stand { (group : ℕ) → has waiting.now group ≡ true → StandsAt (length reasons.old.scans) reasons.old group }
-    requires wide { (group : ℕ) → has waiting.now group ≡ true → group < length reasons.old.heads }
-    requires used { AllByRecursion IsUsedVerdict verdicts.now }
-    requires room { length verdicts.now ≤ reasons.old.room }
-    ensures { (left : ℕ → Bool) × AreJudged (state_in core.now) at verdicts.now (has waiting.now) left reasons.old reasons.new }
-{
-    if verdicts.is_empty() {
-        return;
-    }
-    refused.clear();
-    judge_all(core, at, verdicts, waiting, refused, reasons);
 }
 
 /// Notes what a scan found, and takes the groups that it refuses in among those that it has refused.

@@ -15,6 +15,7 @@ use Rattle.lp_tasks.specs.Passing.{passing}
 use Rattle.lp_definitions.specs.declared.cert.Claim.{Claim}
 use Rattle.lp_definitions.specs.declared.cert.Cert.{Cert}
 use Rattle.lp_definitions.specs.declared.line.Line.{Line}
+use Rattle.lp_definitions.specs.Ends.{LegEnd}
 use Rattle.lp_cert.specs.declared.open_leg.Completion.{Completion}
 use Rattle.lp_cert.specs.declared.open_leg.OpenLeg.{OpenLeg}
 use Rattle.lp_cert.specs.declared.maker.Ready.{Ready}
@@ -26,7 +27,7 @@ use Rattle.lp_transition.specs.LastScan.{used_scan}
 use Rattle.lp_cert.specs.inside.ToldGroups.{Tells}
 use Rattle.lp_cert.specs.Waiters.{WaitingGroups, kept_cert}
 use Rattle.lp_cert.specs.inside.Waiters.{AreHeads, AreStanding, HasFewGroups, HasHeadFor, HasHeads, lines_at}
-use Rattle.lp_cert.specs.Invariant.{claim_of, upto_of, floor_waiters, end_waiters}
+use Rattle.lp_cert.specs.Invariant.{claim_of, upto_of, floor_waiters, end_waiters, open_end}
 
 -- the certificate of a group with these lines, the newest in front
 abbrev pub waiting_cert : Claim → (leg upto : ℕ) → GroupId → List Line → Cert
@@ -60,19 +61,8 @@ abbrev pub HasFloors : WaitingGroups → Option OpenLeg → Type 0
 HasFloors waiters None = Unit {0}
 HasFloors waiters (Some leg) = HasFloor waiters leg.completed
 
--- these are the certificates of the leg under way, as they stood after some event
-abbrev pub IsClosing : Option OpenLeg → WaitingGroups → List Cert → Type 0
-IsClosing None waiters certs = Unit {0}
-IsClosing (Some leg) waiters certs = (noted : ℕ) × (certs ≡ certs_at noted waiters leg)
-
--- where an event opens a leg, the certificates of the one under way are there
-abbrev pub HasClosing : Option OpenLeg → WaitingGroups → Bool → Option (List Cert) → Type 0
-HasClosing current waiters false closing = Unit {0}
-HasClosing current waiters true None = ⊥
-HasClosing current waiters true (Some certs) = IsClosing current waiters certs
-
 -- there is room for the event: for its reasons and its scan and, if it opens a leg, for the end of the one under way
-pub record IsReady (current : Option OpenLeg) (waiters : WaitingGroups) (ended : KeptEnds) (closing : Option (List Cert)) (ready : Ready) : Type 0 where
+pub record IsReady (noted : ℕ) (current : Option OpenLeg) (waiters : WaitingGroups) (ended : KeptEnds) (closing : Option LegEnd) (ready : Ready) : Type 0 where
   pub room : ready.verdicts + 1 < waiters.reasons.room
   pub scan_room : 0 < waiters.reasons.scan_room
   pub heads : HasHeads waiters
@@ -80,15 +70,15 @@ pub record IsReady (current : Option OpenLeg) (waiters : WaitingGroups) (ended :
   pub end_room : ready.opens ≡ true → HasRoom ended
   -- and for a look at all tasks, at a scan
   pub all_room : is_scan ready.event ≡ true → length waiters.reasons.heads ≤ waiters.reasons.room
-  pub left : HasClosing current waiters ready.opens closing
+  pub left : ready.opens ≡ true → closing ≡ option_map (open_end noted waiters) current
 
-abbrev pub IfReady : Option OpenLeg → WaitingGroups → KeptEnds → Option (List Cert) → Option Ready → Type 0
-IfReady current waiters ended closing None = Unit {0}
-IfReady current waiters ended closing (Some ready) = IsReady current waiters ended closing ready
+abbrev pub IfReady : ℕ → Option OpenLeg → WaitingGroups → KeptEnds → Option LegEnd → Option Ready → Type 0
+IfReady noted current waiters ended closing None = Unit {0}
+IfReady noted current waiters ended closing (Some ready) = IsReady noted current waiters ended closing ready
 
-pub record IsMaker (current : Option OpenLeg) (waiters : WaitingGroups) (ended : KeptEnds) (closing : Option (List Cert)) (ready : Option Ready) : Type 0 where
+pub record IsMaker (noted : ℕ) (current : Option OpenLeg) (waiters : WaitingGroups) (ended : KeptEnds) (closing : Option LegEnd) (ready : Option Ready) : Type 0 where
   pub floors : HasFloors waiters current
-  pub for_event : IfReady current waiters ended closing ready
+  pub for_event : IfReady noted current waiters ended closing ready
 
 -- the certificates of the leg under way stay as they are: it is complete, or there is none
 abbrev pub is_settled : Option OpenLeg → Bool

@@ -2,7 +2,7 @@
 ghost use Rattle.std.specs.Prelude.{◌≡◌, ◌+◌, ◌<◌, true};
 ghost use Rattle.lp_definitions.specs.TaskEvents.{is_quiet};
 ghost use Rattle.lp_definitions.specs.declared.event.Event.{Event};
-ghost use Rattle.lp_cert.specs.Ends.{IsMadeFurther, made_upto};
+ghost use Rattle.lp_cert.specs.Ends.{IsMadeFurther, made_upto, passed_upto};
 
 use super::Maker;
 use lp_model::Consistency;
@@ -13,7 +13,7 @@ impl Maker {
     /// it: `note_passed` notes all such events that passed. A call of this does nothing, as its contract is all that is
     /// wanted of it.
     #[inline(always)]
-    pub fn let_pass<M: Consistency>(&self, core: &Core<M>)
+    pub(crate) fn let_pass<M: Consistency>(&self, core: &Core<M>)
         requires room { core.now.number < 1000000 }
         ensures made { (event : Event) → is_quiet event ≡ true → IsMadeFurther M.rules core.now event (made_upto core.now.number self.now) (made_upto (core.now.number + 1) self.now) }
     {
@@ -23,9 +23,10 @@ impl Maker {
     }
 
     /// Notes the events that passed since the last one noted, which the engine has taken. Never allocates.
-    pub fn note_passed<M: Consistency>(&mut self, core: &Core<M>)
-        ensures { self.new ≡ made_upto core.now.number self.old }
+    pub(crate) fn note_passed<M: Consistency>(&mut self, core: &Core<M>)
+        ensures { self.new ≡ passed_upto core.now.number self.old }
     {
+        self.ready = None;
         self.noted = core.events() as u32;
     }
 }

@@ -42,12 +42,12 @@ impl Maker {
         ensures current { OnErr result (self.new.current ≡ self.old.current) }
     {
         let number = core.events() as u32 + 1;
+        self.ready = None;
         if is_settled(self.current) {
             let reply = core.step_plain(alloc, event)?;
             self.noted = number;
             return Ok(reply);
         }
-        self.ready = None;
         self.waiters.reserve_own(event)?;
         let effect = self.waiters.own_effect(core, event);
         let reply = core.step_plain(alloc, event)?;

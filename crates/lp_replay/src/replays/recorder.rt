@@ -1,15 +1,12 @@
 //! What a run comes to, event by event.
-ghost use Rattle.std.specs.Prelude.{◌≡◌, true, ◌≤◌, ◌<◌, ◌+◌, ◌++◌, length, IfOk, OnOk};
-ghost use Rattle.lp_definitions.specs.Events.{is_scan};
+ghost use Rattle.std.specs.Prelude.{◌≡◌, ◌≤◌, ◌<◌, ◌+◌, ◌++◌, length, IfOk, OnOk};
 ghost use Rattle.lp_definitions.specs.Run.{Run, leg_of, plus};
-ghost use Rattle.lp_definitions.specs.TaskEvents.{is_quiet};
 ghost use Rattle.lp_stack.specs.declared.number.TaskId.{TaskId};
 ghost use Rattle.lp_stays.specs.Counts.{top_of};
 ghost use Rattle.lp_definitions.specs.Stays.{stack};
 ghost use Rattle.lp_machine.specs.Steps.{StandsIn};
 ghost use Rattle.lp_machine.specs.Table.{state_in};
 ghost use Rattle.lp_replay.specs.Outcome.{run_of};
-ghost use Rattle.lp_transition.specs.Scan.{is_scan_kind, scan_event};
 ghost use Rattle.lp_definitions.specs.Outcome.{IsOutcome};
 ghost use Rattle.lp_replay.specs.inside.Recording.{IsRecorded};
 
@@ -18,7 +15,7 @@ use super::start;
 use crate::outcome::Outcome;
 use crate::replies::ReplyList;
 use lp_cert::ExplainedCore;
-use lp_model::{CheckKind, Consistency};
+use lp_model::Consistency;
 use lp_stays::StayCount;
 use lp_symbols::SymId;
 use lp_text::Trace;
@@ -80,8 +77,8 @@ impl<M: Consistency> Recorder<M> {
         Ok(())
     }
 
-    /// Steps by the next event. For a quiet one that is compiled for each kind by itself, so that the event is told from those of
-    /// other kinds once, and not by each part of the step.
+    /// Steps by the next event. For a quiet one and a scan that is compiled for each kind by itself, so that the event is told from
+    /// those of other kinds once, and not by each part of the step.
     #[inline(always)]
     fn step(&mut self, alloc: Global, event: &Event) -> Result<(), ReplayFault>
         requires numbered { self.old.explained.core.number < 1000000 }
@@ -89,73 +86,34 @@ impl<M: Consistency> Recorder<M> {
         ensures { OnOk result ((run : Run) → IsRecorded M.rules run self.old → IsRecorded M.rules (plus run event.now) self.new) }
     {
         match *event {
-            Event::Call(task, func) => self.step_quiet(Event::Call(task, func)),
-            Event::Ret(task) => self.step_quiet(Event::Ret(task)),
-            Event::Enter(task) => self.step_quiet(Event::Enter(task)),
-            Event::Sleep(task) => self.step_quiet(Event::Sleep(task)),
-            Event::Wake(task) => self.step_quiet(Event::Wake(task)),
-            Event::Walk => self.step_scan(alloc, CheckKind::Walk, Event::Walk),
-            Event::Stop => self.step_scan(alloc, CheckKind::Stop, Event::Stop),
+            Event::Call(task, func) => self.step_here(alloc, Event::Call(task, func)),
+            Event::Ret(task) => self.step_here(alloc, Event::Ret(task)),
+            Event::Enter(task) => self.step_here(alloc, Event::Enter(task)),
+            Event::Sleep(task) => self.step_here(alloc, Event::Sleep(task)),
+            Event::Wake(task) => self.step_here(alloc, Event::Wake(task)),
+            Event::Walk => self.step_here(alloc, Event::Walk),
+            Event::Stop => self.step_here(alloc, Event::Stop),
             _ => self.step_other(alloc, event),
         }
     }
 
-    /// Steps by a quiet event.
-    #[inline(always)]
-    fn step_quiet(&mut self, event: Event) -> Result<(), ReplayFault>
-        requires numbered { self.old.explained.core.number < 1000000 }
-        requires counted { self.old.stays.events < 1000000 }
-        requires quiet { is_quiet event ≡ true }
-        ensures { OnOk result ((run : Run) → IsRecorded M.rules run self.old → IsRecorded M.rules (plus run event) self.new) }
-    {
-        let top = last_function(self.explained.core(), event);
-        let reply = self.explained.step_quiet(event);
-        self.stays.step(event, &reply, top);
-        self.replies.push(reply)?;
-        Ok(())
-    }
-
-    /// Steps by a walk or a stop: most find each group that waits as the one before left it.
-    #[inline(always)]
-    fn step_scan(&mut self, alloc: Global, kind: CheckKind, event: Event) -> Result<(), ReplayFault>
-        requires numbered { self.old.explained.core.number < 1000000 }
-        requires counted { self.old.stays.events < 1000000 }
-        requires scan { is_scan_kind kind ≡ true }
-        requires event { event ≡ scan_event kind }
-        ensures { OnOk result ((run : Run) → IsRecorded M.rules run self.old → IsRecorded M.rules (plus run event) self.new) }
-    {
-        let top = last_function(self.explained.core(), event);
-        let Some(reply) = self.explained.step_quiet_scan(kind) else {
-            return self.step_changed_scan(alloc, event);
-        };
-        self.stays.step(event, &reply, top);
-        self.replies.push(reply)?;
-        Ok(())
-    }
-
-    /// Steps by a walk or a stop that has to ask somebody.
-    #[inline(never)]
-    fn step_changed_scan(&mut self, alloc: Global, event: Event) -> Result<(), ReplayFault>
-        requires scan { is_scan event ≡ true }
-        requires numbered { self.old.explained.core.number < 1000000 }
-        requires counted { self.old.stays.events < 1000000 }
-        ensures { OnOk result ((run : Run) → IsRecorded M.rules run self.old → IsRecorded M.rules (plus run event) self.new) }
-    {
-        let top = last_function(self.explained.core(), event);
-        let reply = self.explained.step_changed_scan(alloc, event)?;
-        self.stays.step(event, &reply, top);
-        self.replies.push(reply)?;
-        Ok(())
-    }
-
-    /// Steps by an event of any kind.
+    /// Steps by an event of a kind that isn't known where this is compiled.
     #[inline(never)]
     fn step_other(&mut self, alloc: Global, event: &Event) -> Result<(), ReplayFault>
         requires numbered { self.old.explained.core.number < 1000000 }
         requires counted { self.old.stays.events < 1000000 }
         ensures { OnOk result ((run : Run) → IsRecorded M.rules run self.old → IsRecorded M.rules (plus run event.now) self.new) }
     {
-        let event = *event;
+        self.step_here(alloc, *event)
+    }
+
+    /// Steps by an event.
+    #[inline(always)]
+    fn step_here(&mut self, alloc: Global, event: Event) -> Result<(), ReplayFault>
+        requires numbered { self.old.explained.core.number < 1000000 }
+        requires counted { self.old.stays.events < 1000000 }
+        ensures { OnOk result ((run : Run) → IsRecorded M.rules run self.old → IsRecorded M.rules (plus run event) self.new) }
+    {
         let top = last_function(self.explained.core(), event);
         let reply = self.explained.step(alloc, event)?;
         self.stays.step(event, &reply, top);

@@ -48,7 +48,7 @@ impl<M: Consistency> Core<M> {
         }
         let may_refuse = self.unchanged.may_refuse(kind);
         let found = self.first_refusals(alloc, kind, may_refuse, asked)?;
-        self.weigh_found(alloc, kind, found, false)
+        self.weigh_found(alloc, kind, found)
     }
 
     /// Where each group has one member, or nothing is known of who would be admitted, it looks at all

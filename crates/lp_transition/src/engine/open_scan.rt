@@ -76,10 +76,10 @@ impl<M: Consistency> Core<M> {
             return Err(Halt::JournalFull);
         }
         if !self.model.uses(kind) {
-            return self.weigh_found(alloc, kind, Vec::new(alloc), false);
+            return self.weigh_found(alloc, kind, Vec::new(alloc));
         }
         let found = self.all_verdicts(alloc, kind)?;
-        self.weigh_found(alloc, kind, found, true)
+        self.weigh_found(alloc, kind, found)
     }
 
     /// What a check finds of the waiting tasks of some groups, by increasing number; None where a group has other members than the
@@ -150,7 +150,7 @@ impl<M: Consistency> Core<M> {
             return Err(Halt::JournalFull);
         }
         let copied = Vec::from_slice(alloc, verdicts)?;
-        self.weigh_found(alloc, kind, copied, false)
+        self.weigh_found(alloc, kind, copied)
     }
 }
 

@@ -102,21 +102,18 @@ impl<M: Consistency> Core<M> {
             return Err(Halt::JournalFull);
         }
         let copied = Vec::from_slice(alloc, verdicts)?;
-        self.weigh_found(alloc, kind, copied, true)
+        self.weigh_found(alloc, kind, copied)
     }
 
-    /// Shared by scans that look at all, where these are known to, and scans that leave out whom they would only refuse
-    /// again.
+    /// Shared by scans that look at all and scans that leave out whom they would only refuse again.
     pub(super) fn weigh_found(
         &self,
         alloc: Global,
         kind: CheckKind,
         verdicts: Vec<Verdict>,
-        are_all: bool,
     ) -> Result<Step, Halt>
         requires scan { is_scan_kind kind ≡ true }
         requires found { AreEnough M.rules kind (state_in self.now) verdicts.items }
-        requires all { IsTrue are_all → verdicts.items ≡ verdicts_of M.rules kind (state_in self.now) }
         ensures full { (result ≡ Err JournalFull) ↔ (1000000 ≤ self.now.number) }
         ensures reply { IfOk result (λ step. IsReply M.rules (state_in self.now) (scan_event kind) step.reply) }
         ensures weighed { IfOk result (λ step. IsWeighed M.rules self.now step) }
@@ -129,7 +126,7 @@ impl<M: Consistency> Core<M> {
         let what = scanned(alloc, &self.tasks, verdicts.as_slice())?;
         let reply = Reply {
             what,
-            completed: completes(&self.waiting, verdicts.as_slice(), are_all),
+            completed: completes(&self.waiting, verdicts.as_slice()),
         };
         Ok(Step::scan(scan_event(kind), reply, verdicts))
     }
@@ -393,11 +390,10 @@ pub(super) fn remove_group(groups: &mut NumberSet, tasks: &TaskTable, task: Task
 }
 
 /// The verdicts may be of some waiting tasks alone, and then others still wait.
-fn completes(waiting: &NumberSet, verdicts: &[Verdict], are_all: bool) -> bool
-    requires { IsTrue are_all → tasks_of verdicts.now ≡ passing 0 65536 (has waiting.now) }
+fn completes(waiting: &NumberSet, verdicts: &[Verdict]) -> bool
     ensures { IsTrue result ↔ ((all_admit verdicts.now ≡ true) × (tasks_of verdicts.now ≡ passing 0 65536 (has waiting.now))) }
 {
-    all_admit(verdicts) && (are_all || looks_at_all(waiting, verdicts))
+    all_admit(verdicts) && looks_at_all(waiting, verdicts)
 }
 
 /// Whether a task was looked at, and each was admitted.

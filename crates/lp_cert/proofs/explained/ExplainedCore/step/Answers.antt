@@ -1,5 +1,5 @@
 use Rattle.std.proofs.Common.{◌≡◌, sym, subst, ◌∙◌}
-use Rattle.lp_cert.specs.Ends.{made_upto}
+use Rattle.lp_cert.specs.Ends.{passed_upto}
 use Rattle.lp_cert.specs.Explained.{IsExplained}
 use Rattle.lp_cert.proofs.Explaining.{explained_noted, explained_passed, left, on_err, on_ok}
 use Rattle.lp_cert.proofs.explained.ExplainedCore.step.Goals as goal
@@ -17,7 +17,7 @@ pub returns-in_default-clause-explained : goal.returns-in_default-clause-explain
 returns-in_default-clause-explained g c =
     let model = g.M.Consistency.rules in
     let i = c.self.inside in
-    let noted : c.note_passed.new.self ≡ made_upto i.core.value.number i.maker = rw c.deref_mut-core.ensures.value at c.note_passed.ensures in
+    let noted : c.note_passed.new.self ≡ passed_upto i.core.value.number i.maker = rw c.deref_mut-core.ensures.value at c.note_passed.ensures in
     on_ok _ _ _ (λ reply step made. λ run is.
     let kept = subst (IsExplained model run) (sym c.self.view_is) is in
     explained_noted model run c.args.event i.core.value c.take_other.new.core reply step i.maker c.note_passed.new.self c.take_other.new.maker noted (made run kept.stands) kept)
@@ -26,7 +26,7 @@ returns-in_default-clause-explained g c =
 pub returns-in_default-clause-unchanged : goal.returns-in_default-clause-unchanged
 returns-in_default-clause-unchanged g c =
     let i = c.self.inside in
-    let noted : c.note_passed.new.self ≡ made_upto i.core.value.number i.maker = rw c.deref_mut-core.ensures.value at c.note_passed.ensures in
+    let noted : c.note_passed.new.self ≡ passed_upto i.core.value.number i.maker = rw c.deref_mut-core.ensures.value at c.note_passed.ensures in
     on_err _ _ _ _ (λ same ended current. left i.core.value c.take_other.new.core i.maker c.note_passed.new.self c.take_other.new.maker same noted ended current ∙ c.self.view_is)
     c.take_other.result (rw c.deref_mut-core.ensures.value at c.take_other.ensures.unchanged) c.take_other.ensures.ended c.take_other.ensures.current
 
@@ -34,7 +34,7 @@ pub returns-in-Walk-clause-explained : goal.returns-in-Walk-clause-explained
 returns-in-Walk-clause-explained g c =
     let model = g.M.Consistency.rules in
     let i = c.self.inside in
-    let noted : c.note_passed.new.self ≡ made_upto i.core.value.number i.maker = rw c.deref_mut-core.ensures.value at c.note_passed.ensures in
+    let noted : c.note_passed.new.self ≡ passed_upto i.core.value.number i.maker = rw c.deref_mut-core.ensures.value at c.note_passed.ensures in
     on_ok _ _ _ (λ reply step made. λ run is.
     let kept = subst (IsExplained model run) (sym c.self.view_is) is in
     explained_noted model run c.args.event i.core.value c.take_scan.new.core reply step i.maker c.note_passed.new.self c.take_scan.new.maker noted (made run kept.stands) kept)
@@ -44,7 +44,7 @@ pub returns-in-Stop-clause-explained : goal.returns-in-Stop-clause-explained
 returns-in-Stop-clause-explained g c =
     let model = g.M.Consistency.rules in
     let i = c.self.inside in
-    let noted : c.note_passed.new.self ≡ made_upto i.core.value.number i.maker = rw c.deref_mut-core.ensures.value at c.note_passed.ensures in
+    let noted : c.note_passed.new.self ≡ passed_upto i.core.value.number i.maker = rw c.deref_mut-core.ensures.value at c.note_passed.ensures in
     on_ok _ _ _ (λ reply step made. λ run is.
     let kept = subst (IsExplained model run) (sym c.self.view_is) is in
     explained_noted model run c.args.event i.core.value c.take_scan-in-Stop.new.core reply step i.maker c.note_passed.new.self c.take_scan-in-Stop.new.maker noted (made run kept.stands) kept)
@@ -53,13 +53,13 @@ returns-in-Stop-clause-explained g c =
 pub returns-in-Walk-clause-unchanged : goal.returns-in-Walk-clause-unchanged
 returns-in-Walk-clause-unchanged g c =
     let i = c.self.inside in
-    let noted : c.note_passed.new.self ≡ made_upto i.core.value.number i.maker = rw c.deref_mut-core.ensures.value at c.note_passed.ensures in
+    let noted : c.note_passed.new.self ≡ passed_upto i.core.value.number i.maker = rw c.deref_mut-core.ensures.value at c.note_passed.ensures in
     on_err _ _ _ _ (λ same ended current. left i.core.value c.take_scan.new.core i.maker c.note_passed.new.self c.take_scan.new.maker same noted ended current ∙ c.self.view_is)
     c.take_scan.result (rw c.deref_mut-core.ensures.value at c.take_scan.ensures.unchanged) c.take_scan.ensures.ended c.take_scan.ensures.current
 
 pub returns-in-Stop-clause-unchanged : goal.returns-in-Stop-clause-unchanged
 returns-in-Stop-clause-unchanged g c =
     let i = c.self.inside in
-    let noted : c.note_passed.new.self ≡ made_upto i.core.value.number i.maker = rw c.deref_mut-core.ensures.value at c.note_passed.ensures in
+    let noted : c.note_passed.new.self ≡ passed_upto i.core.value.number i.maker = rw c.deref_mut-core.ensures.value at c.note_passed.ensures in
     on_err _ _ _ _ (λ same ended current. left i.core.value c.take_scan-in-Stop.new.core i.maker c.note_passed.new.self c.take_scan-in-Stop.new.maker same noted ended current ∙ c.self.view_is)
     c.take_scan-in-Stop.result (rw c.deref_mut-core.ensures.value at c.take_scan-in-Stop.ensures.unchanged) c.take_scan-in-Stop.ensures.ended c.take_scan-in-Stop.ensures.current

@@ -1,6 +1,6 @@
 use Rattle.std.proofs.Common.{sym, ◌∙◌}
 use Rattle.std.proofs.lemmas.Bool.{eqb-true}
-use Rattle.lp_cert.proofs.Ending.{bare_lines}
+use Rattle.lp_cert.proofs.BareLines.{bare_lines}
 use Rattle.lp_cert.proofs.head.Head.is_bare.Goals as goal
 
 pub returns-in-Nothing : goal.returns-in-Nothing

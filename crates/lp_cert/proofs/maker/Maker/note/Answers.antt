@@ -1,4 +1,4 @@
-use Rattle.std.proofs.Common.{Bool, ◌≡◌, ◌+◌, [], Some, None, true, false, if◌then◌else◌, refl, sym, ap, subst, ◌∙◌, arith}
+use Rattle.std.proofs.Common.{◌≡◌, ◌+◌, ◌++◌, [], Option, option_to_list, Some, None, true, false, if◌then◌else◌, refl, sym, ap, subst, ◌∙◌, arith}
 use Rattle.std.proofs.lemmas.Grind.{common_steps}
 use Rattle.std.specs.Option.{option_map}
 use Rattle.lp_definitions.specs.declared.event.Event.{Event}
@@ -7,7 +7,7 @@ use Rattle.lp_machine.specs.Table.{state_in}
 use Rattle.lp_cert.specs.declared.open_leg.OpenLeg.{OpenLeg}
 use Rattle.lp_cert.specs.Ends.{Made, Room, IsMadeWith, is_opening, room_for}
 use Rattle.lp_cert.specs.Invariant.{open_end, room_of}
-use Rattle.lp_cert.specs.inside.Invariant.{HasClosing, IsClosing}
+use Rattle.lp_definitions.specs.Ends.{LegEnd}
 use Rattle.lp_cert.specs.inside.Waiters.{HasHeadFor, has_off}
 use Rattle.lp_cert.proofs.Noted.{none_made, turned_made, ready_for, room_is, opens_is}
 use Rattle.lp_cert.proofs.NotedBy.{noted_made}
@@ -18,14 +18,14 @@ use Rattle.lp_cert.proofs.maker.Maker.note.Goals as goal
 pub note_leg-requires-clause-heads : goal.note_leg-requires-clause-heads
 note_leg-requires-clause-heads g c =
     let i = c.self.inside in
-    (ready_for i.current i.waiters _ i.closing i.ready c.in-Some.ready c.self.invariant.for_event (sym c.take.ensures.value ∙ c.in-Some.is)).heads
+    (ready_for i.noted i.current i.waiters _ i.closing i.ready c.in-Some.ready c.self.invariant.for_event (sym c.take.ensures.value ∙ c.in-Some.is)).heads
 
 pub note_leg-requires-clause-own_room : goal.note_leg-requires-clause-own_room
 note_leg-requires-clause-own_room g c =
     let i = c.self.inside in
     let kept : i.ready ≡ Some c.in-Some.ready = sym c.take.ensures.value ∙ c.in-Some.is in
     let asked = rw (← c.self.view_is) at c.requires.ready in
-    let ready = ready_for i.current i.waiters _ i.closing i.ready c.in-Some.ready c.self.invariant.for_event kept in
+    let ready = ready_for i.noted i.current i.waiters _ i.closing i.ready c.in-Some.ready c.self.invariant.for_event kept in
     let child = subst (λ (event : Event). HasHeadFor event i.waiters.reasons) (ap (λ (r : Room). r.event) (room_is i.ready c.in-Some.ready (room_for c.args.step.now) kept asked)) ready.child in
     own_room c.args.step.now.event i.waiters ready.heads child (omega (arith, ready.room))
 
@@ -34,7 +34,7 @@ note_leg-requires-clause-all_room g c = λ scan.
     let i = c.self.inside in
     let kept : i.ready ≡ Some c.in-Some.ready = sym c.take.ensures.value ∙ c.in-Some.is in
     let asked = rw (← c.self.view_is) at c.requires.ready in
-    let ready = ready_for i.current i.waiters _ i.closing i.ready c.in-Some.ready c.self.invariant.for_event kept in
+    let ready = ready_for i.noted i.current i.waiters _ i.closing i.ready c.in-Some.ready c.self.invariant.for_event kept in
     ready.all_room (ap (λ (r : Room). is_scan r.event) (room_is i.ready c.in-Some.ready (room_for c.args.step.now) kept asked) ∙ scan)
 
 pub returns-in_default-current : goal.returns-in_default-current
@@ -74,22 +74,19 @@ returns g c = record {
       let step = c.args.step.now in
       let number = c.events.result + 1 in
       let later = c.open.new.self in
-      let left = c.in-Some-take.closing in
       let old : Made = record { ended = i.ended.ends; current = option_map (open_end i.noted i.waiters) i.current; ready = option_map room_of i.ready } in
-      let new : Made = record { ended = c.end_leg.new.ended.ends; current = Some (open_end number later c.opened-next.result); ready = option_map room_of c.take.new.self } in
+      let new : Made = record { ended = c.push_end.new.ended.ends; current = Some (open_end number later c.opened-next.result); ready = option_map room_of c.take.new.self } in
       let was : IsMadeWith model run c.args.core.now.last_scan old = rw (← c.self.view_is) at is in
       let asked = rw (← c.self.view_is) at c.requires.ready in
       let kept : i.ready ≡ Some c.in-Some.ready = sym c.take.ensures.value ∙ c.in-Some.is in
       let turns : is_opening step ≡ true = sym (opens_is i.ready c.in-Some.ready (room_for step) kept asked) ∙ not_other c.in-Some.ready.opens c.if-not-ready.false in
-      let ready = ready_for i.current i.waiters _ i.closing i.ready c.in-Some.ready c.self.invariant.for_event kept in
-      let there : i.closing ≡ Some left = sym c.take-2.ensures.value ∙ c.in-Some-take.is in
-      let closing : IsClosing i.current i.waiters left =
-      subst (HasClosing i.current i.waiters true) there (subst (λ (opens : Bool). HasClosing i.current i.waiters opens i.closing) (not_other c.in-Some.ready.opens c.if-not-ready.false) ready.left) in
+      let ready = ready_for i.noted i.current i.waiters _ i.closing i.ready c.in-Some.ready c.self.invariant.for_event kept in
+      let closing = c.take-2.ensures.value ∙ ready.left (not_other c.in-Some.ready.opens c.if-not-ready.false) in
       let target = ap (λ (l : OpenLeg). l.target.0) c.opened-next.ensures in
       turned_made model g.met.M.Consistency.lawful run c.args.core.now stands step c.requires.weighed old new was after stands_after known turns
       number later (ap (λ m. m + 1) c.events.ensures.value)
       (λ sound group. c.open.ensures sound group ∙ ap (λ level. if has_off s level group then Some [] else None) target)
-      (c.end_leg.ensures i.waiters closing)
+      (c.push_end.ensures ∙ ap (λ (o : Option LegEnd). i.ended.ends ++ option_to_list o) closing)
       (ap (λ (l : OpenLeg). Some (open_end number later l)) c.opened-next.ensures);
 }
 
@@ -99,10 +96,10 @@ invariant_of-self-2 g c = grind (arith, common_steps)
 pub invariant_of-self-then-not-ready : goal.invariant_of-self-then-not-ready
 invariant_of-self-then-not-ready g c = grind (arith, common_steps)
 
-pub end_leg-requires : goal.end_leg-requires
-end_leg-requires g c =
+pub push_end-requires : goal.push_end-requires
+push_end-requires g c =
     let i = c.self.inside in
-    record { room = (ready_for i.current i.waiters _ i.closing i.ready c.in-Some.ready c.self.invariant.for_event (sym c.take.ensures.value ∙ c.in-Some.is)).end_room (not_other c.in-Some.ready.opens c.if-not-ready.false) }
+    (ready_for i.noted i.current i.waiters _ i.closing i.ready c.in-Some.ready c.self.invariant.for_event (sym c.take.ensures.value ∙ c.in-Some.is)).end_room (not_other c.in-Some.ready.opens c.if-not-ready.false)
 
 pub note_leg-requires-clause-scan_room : goal.note_leg-requires-clause-scan_room
 note_leg-requires-clause-scan_room g c = grind (arith, common_steps)

@@ -8,8 +8,18 @@ returns-in_err-reserve-clause-current g c =
     let i = c.self.inside in
     rw (← c.self.view_is) (open_end_same c.reserve.new.self i.waiters c.reserve.ensures.groups c.reserve.ensures.heads i.noted c.reserve.ensures.lists c.reserve.ensures.scans i.current)
 
-pub returns-in_err-opens-clause-current : goal.returns-in_err-opens-clause-current
-returns-in_err-opens-clause-current g c =
+pub returns-in_err-self-inside-clause-current : goal.returns-in_err-self-inside-clause-current
+returns-in_err-self-inside-clause-current g c =
+    let i = c.self.inside in
+    rw (← c.self.view_is) (open_end_same c.reserve.new.self i.waiters c.reserve.ensures.groups c.reserve.ensures.heads i.noted c.reserve.ensures.lists c.reserve.ensures.scans i.current)
+
+pub returns-in_err-reserve-2-clause-current : goal.returns-in_err-reserve-2-clause-current
+returns-in_err-reserve-2-clause-current g c =
+    let i = c.self.inside in
+    rw (← c.self.view_is) (open_end_same c.reserve.new.self i.waiters c.reserve.ensures.groups c.reserve.ensures.heads i.noted c.reserve.ensures.lists c.reserve.ensures.scans i.current)
+
+pub returns-then-opens-clause-current : goal.returns-then-opens-clause-current
+returns-then-opens-clause-current g c =
     let i = c.self.inside in
     rw (← c.self.view_is) (open_end_same c.reserve.new.self i.waiters c.reserve.ensures.groups c.reserve.ensures.heads i.noted c.reserve.ensures.lists c.reserve.ensures.scans i.current)
 
@@ -17,12 +27,6 @@ pub returns-clause-current : goal.returns-clause-current
 returns-clause-current g c =
     let i = c.self.inside in
     rw (← c.self.view_is) (open_end_same c.reserve.new.self i.waiters c.reserve.ensures.groups c.reserve.ensures.heads i.noted c.reserve.ensures.lists c.reserve.ensures.scans i.current)
-
-pub invariant_of-self-in_err-opens : goal.invariant_of-self-in_err-opens
-invariant_of-self-in_err-opens g c = grind (arith, common_steps)
-
-pub invariant_of-self : goal.invariant_of-self
-invariant_of-self g c = grind (arith, common_steps)
 
 pub returns-clause-ended : goal.returns-clause-ended
 returns-clause-ended g c = grind (arith, common_steps)

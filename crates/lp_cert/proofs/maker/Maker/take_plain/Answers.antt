@@ -21,7 +21,7 @@ returns-then-is_settled-clause-made g c = λ run stands is.
     let number = c.events.result + 1 in
     let step = c.in_ok-reply.ensures.step in
     let old : Made = record { ended = i.ended.ends; current = option_map (open_end i.noted i.waiters) i.current; ready = option_map room_of i.ready } in
-    let new : Made = record { ended = i.ended.ends; current = option_map (open_end number i.waiters) i.current; ready = option_map room_of i.ready } in
+    let new : Made = record { ended = i.ended.ends; current = option_map (open_end number i.waiters) i.current; ready = None } in
     let was : IsMadeWith model run c.args.core.now.last_scan old = rw (← c.self.view_is) at is in
     let stays = stays_in model c.args.core.now (plain_step model c.args.core.now event) (weighed model g.met.M.Consistency.lawful run c.args.core.now stands event c.requires.plain c.requires.room) c.requires.stays in
     rested model g.met.M.Consistency.lawful run c.args.core.now stands event c.requires.plain stays c.requires.room old new was c.step_plain.new.self (step.reaches run stands) c.in_ok-reply.ensures.last_scan refl

@@ -1,27 +1,39 @@
+use Rattle.std.proofs.Common.{sym, ◌∙◌}
+use Rattle.lp_numbers.specs.Numbers.{has}
 use Rattle.lp_machine.specs.Table.{state_in}
-use Rattle.lp_cert.proofs.WaiterLemmas.{after_all, all_stand}
+use Rattle.lp_cert.specs.inside.Waiters.{is_left}
+use Rattle.lp_cert.proofs.WaiterLemmas.{after_all, all_left, all_stand, judged_as}
 use Rattle.lp_cert.proofs.waiters.Waiters.scan.Goals as goal
+
+pub judge_all-requires-clause-stand : goal.judge_all-requires-clause-stand
+judge_all-requires-clause-stand g c = λ group there. c.self.invariant group (sym (all_left c.self.inside.groups c.clear.new.self c.clear.ensures.empty group) ∙ there)
 
 pub invariant_of-self : goal.invariant_of-self
 invariant_of-self g c =
     let i = c.self.inside in
     let s = state_in c.args.core.now in
-    all_stand s c.args.at c.args.verdicts.now i.groups c.judge_waiting.ensures.0 i.reasons c.judge_waiting.new.reasons c.scanned.new.self c.self.invariant c.judge_waiting.ensures.1 c.scanned.ensures.heads c.scanned.ensures.lists c.scanned.ensures.scans
+    let vs = c.args.verdicts.now in
+    let left = is_left i.groups c.judge_all.new.refused in
+    let judged = judged_as s c.args.at vs (has i.groups) (is_left i.groups c.clear.new.self) left i.reasons c.judge_all.new.reasons (all_left i.groups c.clear.new.self c.clear.ensures.empty) c.judge_all.ensures in
+    all_stand s c.args.at vs i.groups left i.reasons c.judge_all.new.reasons c.scanned.new.self c.self.invariant judged c.scanned.ensures.heads c.scanned.ensures.lists c.scanned.ensures.scans
 
 pub returns-clause-lines : goal.returns-clause-lines
 returns-clause-lines g c =
     let i = c.self.inside in
     let s = state_in c.args.core.now in
-    rw (← c.self.view_is) (after_all s c.args.at c.args.verdicts.now i.groups c.judge_waiting.ensures.0 i.reasons c.judge_waiting.new.reasons c.scanned.new.self c.self.invariant c.judge_waiting.ensures.1 c.scanned.ensures.heads c.scanned.ensures.lists c.scanned.ensures.scans)
+    let vs = c.args.verdicts.now in
+    let left = is_left i.groups c.judge_all.new.refused in
+    let judged = judged_as s c.args.at vs (has i.groups) (is_left i.groups c.clear.new.self) left i.reasons c.judge_all.new.reasons (all_left i.groups c.clear.new.self c.clear.ensures.empty) c.judge_all.ensures in
+    rw (← c.self.view_is) (after_all s c.args.at vs i.groups left i.reasons c.judge_all.new.reasons c.scanned.new.self c.self.invariant judged c.scanned.ensures.heads c.scanned.ensures.lists c.scanned.ensures.scans)
 
 pub returns-clause-stood : goal.returns-clause-stood
 returns-clause-stood g c = rw (← c.self.view_is) c.self.invariant
 
-pub judge_waiting-requires-clause-wide : goal.judge_waiting-requires-clause-wide
-judge_waiting-requires-clause-wide g c = rw (← c.self.view_is) at c.requires.wide
+pub judge_all-requires-clause-wide : goal.judge_all-requires-clause-wide
+judge_all-requires-clause-wide g c = rw (← c.self.view_is) at c.requires.wide
 
-pub judge_waiting-requires-clause-room : goal.judge_waiting-requires-clause-room
-judge_waiting-requires-clause-room g c = rw (← c.self.view_is) at c.requires.room
+pub judge_all-requires-clause-room : goal.judge_all-requires-clause-room
+judge_all-requires-clause-room g c = rw (← c.self.view_is) at c.requires.room
 
-pub judge_waiting-requires-clause-used : goal.judge_waiting-requires-clause-used
-judge_waiting-requires-clause-used g c = c.requires.used
+pub judge_all-requires-clause-used : goal.judge_all-requires-clause-used
+judge_all-requires-clause-used g c = c.requires.used

@@ -8,6 +8,3 @@ weigh_found-requires-clause-found g c = rw c.new.ensures.items (none-enough g.M.
 
 pub weigh_found-requires-2-clause-found : goal.weigh_found-requires-2-clause-found
 weigh_found-requires-2-clause-found g c = all-enough g.M.Consistency.rules c.args.kind (state_in c.args.self.now) c.in_ok-found.found.items c.in_ok-found.ensures
-
-pub weigh_found-requires-2-clause-all : goal.weigh_found-requires-2-clause-all
-weigh_found-requires-2-clause-all g c = λ all. c.in_ok-found.ensures

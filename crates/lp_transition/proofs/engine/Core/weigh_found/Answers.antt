@@ -1,21 +1,10 @@
-use Rattle.std.proofs.Common.{◌<◌, sym, ap, ◌∙◌, arith}
+use Rattle.std.proofs.Common.{◌<◌, ap, ◌∙◌, arith}
 use Rattle.lp_transition.specs.Weigh.{Weighed}
-use Rattle.lp_machine.specs.Table.{Engine, state_in}
-use Rattle.lp_transition.specs.Scan.{scan_event, verdicts_of}
-use Rattle.lp_transition.specs.inside.ScanSteps.{tasks_of}
-use Rattle.lp_transition.proofs.AskedScans.{tasks-judged}
+use Rattle.lp_transition.specs.Scan.{scan_event}
 use Rattle.lp_transition.proofs.ScanAnswers.{weighs}
 use Rattle.lp_transition.proofs.Replies.{weighed_reply}
 use Rattle.lp_transition.specs.inside.Invariant.{told_scan}
 use Rattle.lp_transition.proofs.engine.Core.weigh_found.Goals as goal
-
-pub completes-requires : goal.completes-requires
-completes-requires g c = λ all.
-    let i = c.self.inside in
-    let rules = g.M.Consistency.rules in
-    let e : Engine = record { number = i.events; from = i.from.0; target = i.target.0; patches = i.patches; table = i.tasks; blames = i.blames; last_scan = told_scan i.unchanged } in
-    let here = ap (λ (o : Engine). verdicts_of rules c.args.kind (state_in o)) (sym c.self.view_is) in
-    ap tasks_of (c.as_slice-2.ensures.value ∙ (c.requires.all all ∙ here)) ∙ tasks-judged rules c.args.kind e i.waiting c.self.invariant.engine
 
 pub returns-clause-weighed : goal.returns-clause-weighed
 returns-clause-weighed g c =

@@ -9,6 +9,3 @@ weigh_found-requires-clause-found g c = all-enough g.M.Consistency.rules c.args.
 
 pub returns-clause-verdicts : goal.returns-clause-verdicts
 returns-clause-verdicts g c = grind (arith, common_steps)
-
-pub weigh_found-requires-clause-all : goal.weigh_found-requires-clause-all
-weigh_found-requires-clause-all g c = λ all. c.in_ok-copied.ensures.items ∙ c.requires.found

@@ -3,7 +3,7 @@ use Rattle.lp_definitions.specs.Run.{plus}
 use Rattle.lp_definitions.specs.declared.reply.Reply.{Reply}
 use Rattle.lp_replay.specs.inside.Recording.{IsRecorded, Recorded}
 use Rattle.lp_replay.proofs.Recording.{stepped}
-use Rattle.lp_replay.proofs.replays.recorder.Recorder.step_other.Goals as goal
+use Rattle.lp_replay.proofs.replays.recorder.Recorder.step_here.Goals as goal
 
 pub returns : goal.returns
 returns g c = λ run is.
@@ -13,5 +13,5 @@ returns g c = λ run is.
     let top = rw c.core.ensures at c.last_function-top.ensures in
     let is_kept : IsRecorded model run before = subst (IsRecorded model run) (sym c.self.view_is) is in
     let after : List Reply → Recorded = λ replies. record { explained = c.step.new.self; replies = replies; stays = c.step-2.new.self } in
-    subst (λ replies. IsRecorded model (plus run c.args.event.now) (after replies)) (sym c.in_ok-push.ensures.ok)
-    (stepped model run c.args.event.now before given c.last_function-top.result c.step.new.self c.step-2.new.self g.met.M.Consistency.lawful is_kept c.in_ok-reply.ensures.step (c.in_ok-reply.ensures.explained run) (top run is_kept.explained.stands) c.step-2.ensures.counts)
+    subst (λ replies. IsRecorded model (plus run c.args.event) (after replies)) (sym c.in_ok-push.ensures.ok)
+    (stepped model run c.args.event before given c.last_function-top.result c.step.new.self c.step-2.new.self g.met.M.Consistency.lawful is_kept c.in_ok-reply.ensures.step (c.in_ok-reply.ensures.explained run) (top run is_kept.explained.stands) c.step-2.ensures.counts)
