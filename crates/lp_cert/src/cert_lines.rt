@@ -67,6 +67,7 @@ impl<'a> Model for CertLines<'a> {
 
 impl<'a> CertLines<'a> {
     /// The lines of a group's reasons over the scans of the leg.
+    #[inline(always)]
     pub(crate) fn new(group: GroupId, scans: &'a [u32], reasons: OldestFirst<'a>) -> CertLines<'a>
         requires { AllByRecursion (FitsIn (length scans.now)) reasons }
         ensures { result ≡ reverse (lines_of scans.now reasons.entry) }

@@ -185,6 +185,7 @@ impl<'a> CertListRef<'a> {
 
     /// How many of the first lines of the certificate at one place, from 0, are those of the certificate at another, but no
     /// more than so many, and the lines after these. Never allocates.
+    #[inline(always)]
     pub fn lines_beside(&self, place: usize, other: usize, most: usize) -> (usize, CertLines<'a>)
         requires place { place < length self.now }
         requires other { other < length self.now }

@@ -73,6 +73,7 @@ impl Head {
     }
 
     /// The lines of the reasons as they stand but for those of a list that the older ones end with.
+    #[inline(always)]
     pub(crate) fn lines_after<'a>(
         self,
         chains: &'a Chains,

@@ -107,6 +107,7 @@ impl ManyCerts {
 
     /// How many of the first lines of the certificate at one place, from 0, are those of the certificate at another, but no
     /// more than so many, and the lines after these. Never allocates.
+    #[inline(always)]
     pub(crate) fn lines_beside(
         &self,
         place: usize,

@@ -50,6 +50,7 @@ impl<'a> Model for OldestFirst<'a> {
 
 impl<'a> OldestFirst<'a> {
     /// The reasons of a list that another, which it ends with, hasn't, and the one in front of them that continues.
+    #[inline(always)]
     pub(crate) fn after(
         chains: &'a Chains,
         list: ChainId,

@@ -52,6 +52,7 @@ impl KeptLines {
 
     /// Turns to the certificate at a place: keeps its lines but for a reason that continues, so many as there is room for.
     /// Gives the lines after those.
+    #[inline(always)]
     pub(super) fn turn_to<'a>(
         &mut self,
         certs: &CertListRef<'a>,
