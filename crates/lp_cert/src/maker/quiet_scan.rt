@@ -17,7 +17,11 @@ impl Maker {
     /// why each waits on is known: nothing happened to the group since the last scan, which was of this
     /// kind, or a frame that holds it back is still there. Says whether it did so; if not, all is as it
     /// was, and the scan has to be weighed. That may be so for want of room alone. Never allocates.
-    pub(crate) fn note_quiet_scan<M: Consistency>(&mut self, core: &Core<M>, kind: CheckKind) -> bool
+    pub(crate) fn note_quiet_scan<M: Consistency>(
+        &mut self,
+        core: &Core<M>,
+        kind: CheckKind,
+    ) -> bool
         requires scan { is_scan_kind kind ≡ true }
         requires room { core.now.number < 1000000 }
         ensures quiet { IsTrue result → MayLeaveOut M.rules kind (state_in core.now) (λ group. false) }

@@ -127,12 +127,7 @@ fn class_refusal(tasks: &TaskTable, task: TaskId, class: Class, mode: Mode) -> O
 }
 
 /// Why a fork is refused, whatever symbols there are.
-fn fork_refusal(
-    tasks: &TaskTable,
-    parent: TaskId,
-    child: TaskId,
-    how: ForkKind,
-) -> Option<Refusal>
+fn fork_refusal(tasks: &TaskTable, parent: TaskId, child: TaskId, how: ForkKind) -> Option<Refusal>
     ensures { result ≡ first_of (tests (task_numbers 0) (outlines_of (leg_tasks tasks.now)) (Event.Fork parent child how)) }
 {
     let Some(live) = tasks.get(parent) else {
