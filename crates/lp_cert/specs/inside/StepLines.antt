@@ -1,11 +1,9 @@
 -- How the lines of the groups that wait, as they are kept, come with an event.
-use Rattle.std.specs.Prelude.{ℕ, suc, Bool, true, false, List, Option, Some, None, is_none, if◌then◌else◌}
+use Rattle.std.specs.Prelude.{ℕ, suc, List, Option, Some, None, is_none, if◌then◌else◌}
 use Rattle.lp_model.specs.Rules.{Rules}
 use Rattle.lp_model.specs.declared.check.CheckKind.{CheckKind}
 use Rattle.lp_model.specs.declared.verdict.Verdict.{Verdict}
 use Rattle.lp_definitions.specs.declared.event.Event.{Event}
-use Rattle.lp_definitions.specs.declared.event.Event.TheVariants.{Exit, Idle}
-use Rattle.lp_definitions.specs.Leg.{State}
 use Rattle.lp_transition.specs.inside.ScanSteps.{groups_of}
 use Rattle.lp_machine.specs.Table.{Engine, state_in}
 use Rattle.lp_transition.specs.Weigh.{Weighed, refusal_in}
@@ -13,11 +11,6 @@ use Rattle.lp_definitions.specs.declared.line.Line.{Line}
 use Rattle.lp_transition.specs.LastScan.{used_scan}
 use Rattle.lp_cert.specs.Waiters.{WaitingGroups}
 use Rattle.lp_cert.specs.inside.Waiters.{after_switch, lines_at, own_lines, scanned_lines}
-
--- the lines of a group after a scan of a kind that the model uses, if it is one, with what it found
-abbrev pub after_scan_kind : State → Option CheckKind → List Verdict → WaitingGroups → (group : ℕ) → Option (List Line)
-after_scan_kind s None verdicts waiters group = lines_at waiters group
-after_scan_kind s (Some kind) verdicts waiters group = scanned_lines s (suc s.number) verdicts waiters group
 
 -- the lines of a group after an accepted event's own effect; of a scan, with what it found
 abbrev pub noted_by : Rules → Engine → Option CheckKind → Event → List Verdict → WaitingGroups → (group : ℕ) → Option (List Line)
@@ -33,9 +26,3 @@ stepped_lines model e step waiters group =
     if is_none (refusal_in step.reply.what)
     then after_switch (groups_of step.reply.what) (noted_lines model e step.event step.verdicts waiters) group
     else lines_at waiters group
-
--- an exit to user space and an idle point: the task has no frame then, so that its check writes no line
-abbrev pub is_frameless_check : Event → Bool
-is_frameless_check (Exit t) = true
-is_frameless_check (Idle t) = true
-is_frameless_check _ = false
