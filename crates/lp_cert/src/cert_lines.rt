@@ -100,6 +100,7 @@ impl<'a> CertLines<'a> {
     }
 
     /// The next line, which is no longer left then, if one is left.
+    #[inline(always)]
     pub fn next(&mut self) -> Option<Line>
         ensures line { result ≡ slice_get self.old 0 }
         ensures left { self.new ≡ drop 1 self.old }

@@ -76,6 +76,7 @@ impl<'a> OldestFirst<'a> {
     }
 
     /// The oldest reason that is left, which is no longer left then.
+    #[inline(always)]
     pub(crate) fn next(&mut self) -> Option<Reason>
         ensures reasons { self.old ≡ self.new ++ option_to_list result }
         ensures none { IfNone result (self.old ≡ []) }
