@@ -6,3 +6,4 @@ pub mod LinkTables
 pub mod Chains
 pub mod Links
 pub mod Ascents
+pub mod Tables

@@ -1,3 +1,4 @@
 -- What code and proofs share and no public contract names.
 pub mod Words
 pub mod Links
+pub mod Tables

@@ -5,7 +5,7 @@ ghost use Rattle.std.specs.Int.Bits.{bit_xor};
 ghost use Rattle.lp_numbers.specs.Numbers.{IsNextFrom};
 ghost use Rattle.lp_numbers.specs.inside.Words.{word_has, row_has, IsBlank, IsThreeLevel};
 
-use crate::word::{later_in_word, lowest_bit, next_in_word, with_bit, without_bit};
+use crate::row::{later_in_word, lowest_bit, next_in_word, with_bit, without_bit};
 use crate::{NUMBERS, row};
 
 /// How many words there are, with 64 bits each.

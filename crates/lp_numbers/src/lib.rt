@@ -1,8 +1,8 @@
-//! Sets of 16-bit numbers, and the members of groups, that never allocate once they are made.
+//! Sets of 16-bit numbers, tables of a value for each, and the members of groups, that never allocate once they are made.
 //!
-//! Costs: only `new` and `copy` allocate, about 8 KB for a set and 384 KB for the members of groups, of which nothing
-//! is written past the greatest group and number that came. `contains`, `insert` and `remove` are constant, `next`
-//! reads five words at most. `clear` goes over the words that have a member, `copy_from` over the words of each 4,096
+//! Costs: only `new` and `copy` allocate, about 8 KB for a set, 384 KB for the members of groups and room for 65,536 values
+//! for a table, of which two nothing is written past the greatest number that came. `contains`, `insert` and `remove` are
+//! constant, `next` reads five words at most. `clear` goes over the words that have a member, `copy_from` over the words of each 4,096
 //! numbers of which either set has one. `add_to` goes over the members of one group, `has_more_than` over one more
 //! than it asks for.
 //!
@@ -16,8 +16,9 @@ mod link_table;
 mod members;
 mod row;
 mod set;
-mod word;
+mod table;
 
 pub use ascending::Ascending;
 pub use members::Members;
 pub use set::{NUMBERS, NumberSet};
+pub use table::NumberTable;

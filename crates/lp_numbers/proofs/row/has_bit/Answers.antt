@@ -1,5 +1,5 @@
 use Rattle.lp_numbers.proofs.Bits.{word_has-shr}
-use Rattle.lp_numbers.proofs.word.has_bit.Goals as goal
+use Rattle.lp_numbers.proofs.row.has_bit.Goals as goal
 
 pub returns : goal.returns
 returns c = word_has-shr c.args.word c.args.bit

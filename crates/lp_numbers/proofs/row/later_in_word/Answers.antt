@@ -1,7 +1,7 @@
 use Rattle.std.proofs.Common.{◌+◌, sym, ◌∙◌}
 use Rattle.std.proofs.lemmas.Nat.{shr-shr}
 use Rattle.lp_numbers.proofs.Bits.{none-shifted, least-shifted-twice, bit-below}
-use Rattle.lp_numbers.proofs.word.later_in_word.Goals as goal
+use Rattle.lp_numbers.proofs.row.later_in_word.Goals as goal
 
 pub returns-then-rest-eq0-clause-next : goal.returns-then-rest-eq0-clause-next
 returns-then-rest-eq0-clause-next c = none-shifted c.args.word (c.args.bit + 1) (sym (shr-shr c.args.word c.args.bit 1) ∙ c.if-rest-eq0.true)

@@ -1,5 +1,5 @@
 use Rattle.lp_numbers.proofs.Bits.{word_has-without, without-less}
-use Rattle.lp_numbers.proofs.word.without_bit.Goals as goal
+use Rattle.lp_numbers.proofs.row.without_bit.Goals as goal
 
 pub returns-clause-bits : goal.returns-clause-bits
 returns-clause-bits c = λ k. word_has-without c.args.word c.args.bit k c.ranges.word.fits c.requires.within

@@ -1,5 +1,5 @@
 use Rattle.lp_numbers.proofs.Bits.{none-shifted, least-shifted, bit-below}
-use Rattle.lp_numbers.proofs.word.next_in_word.Goals as goal
+use Rattle.lp_numbers.proofs.row.next_in_word.Goals as goal
 
 pub returns-then-rest-eq0-clause-next : goal.returns-then-rest-eq0-clause-next
 returns-then-rest-eq0-clause-next c = none-shifted c.args.word c.args.from c.if-rest-eq0.true

@@ -1,5 +1,5 @@
 use Rattle.lp_numbers.proofs.Bits.{word_has-set, word_has-without}
-use Rattle.lp_numbers.proofs.word.with_bit.Goals as goal
+use Rattle.lp_numbers.proofs.row.with_bit.Goals as goal
 
 pub returns-then-is_set : goal.returns-then-is_set
 returns-then-is_set c = λ k. rw c.if-is_set.true (word_has-set c.args.word c.args.bit k c.requires)
