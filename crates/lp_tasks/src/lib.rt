@@ -6,16 +6,12 @@
 mod deep_stack;
 mod deep_stacks;
 mod live_task;
-mod live_view;
 mod opening;
-mod own_check;
 mod task_table;
 
-pub use live_task::LiveTask;
-pub use live_view::LiveView;
+pub use live_task::{LiveTask, LiveView, own_check_mode};
 pub use lp_numbers::{Ascending, NumberSet};
 pub use lp_patch::PatchStack;
 pub use lp_stack::{Class, GroupId, Level, Mode, TaskId, View};
 pub use opening::Opening;
-pub use own_check::own_check_mode;
 pub use task_table::TaskTable;

@@ -10,8 +10,7 @@ ghost use Rattle.lp_machine.specs.Machine.{put_in, calling, returning};
 ghost use Rattle.lp_tasks.specs.inside.OwnChecks.{at_own_check};
 
 use crate::deep_stacks::DeepStacks;
-use crate::live_task::LiveTask;
-use crate::live_view::LiveView;
+use crate::live_task::{LiveTask, LiveView};
 use lp_model::CheckKind;
 use lp_numbers::{Ascending, Members, NUMBERS, NumberSet};
 use lp_stack::{GroupId, Level, Mode, TaskId};

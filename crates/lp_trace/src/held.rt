@@ -4,9 +4,10 @@ ghost use Rattle.std.specs.List.{flat_map};
 ghost use Rattle.lp_definitions.specs.Events.{group_numbers};
 ghost use Rattle.lp_text.specs.inside.Writing.{line_rest};
 
-use crate::counter::Counter;
 use crate::part::{Part, place_after};
-use crate::place::{SHORT, place_bytes, place_groups, place_number, place_numbers, place_slice};
+use crate::place::{
+    Counter, SHORT, place_bytes, place_groups, place_number, place_numbers, place_slice,
+};
 use lp_stack::GroupId;
 use std::alloc::{AllocError, Global};
 use std::marker::Model;

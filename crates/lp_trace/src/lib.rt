@@ -6,7 +6,6 @@
 #![tactic(auto)]
 
 mod checks;
-mod counter;
 mod held;
 pub mod laws;
 mod page;

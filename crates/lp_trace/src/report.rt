@@ -17,8 +17,8 @@ mod kept_lines;
 mod legs;
 mod reasons;
 
-use crate::counter::Counter;
 use crate::page::Page;
+use crate::place::Counter;
 use events::{CODES, Rest, hold_common, hold_switched, rests};
 use itoa::Buffer;
 pub(crate) use kept_lines::KeptLines;

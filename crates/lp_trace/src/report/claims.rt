@@ -5,10 +5,9 @@ ghost use Rattle.lp_text.specs.Words.{line_of};
 ghost use Rattle.lp_text.specs.inside.Writing.{Puts, seen_of};
 ghost use Rattle.lp_trace.specs.inside.Claims.{head_words};
 
-use crate::counter::Counter;
 use crate::held::Held;
 use crate::page::Page;
-use crate::place::SHORT;
+use crate::place::{Counter, SHORT};
 use lp_cert::{CertHead, Claim};
 use lp_text::{Counted, WriteFault};
 use std::io::Write;

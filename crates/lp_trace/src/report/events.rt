@@ -8,9 +8,8 @@ ghost use Rattle.lp_text.specs.inside.Writing.{line_rest};
 ghost use Rattle.lp_trace.specs.Report.{complete_words, level_word, reply_line, what_words};
 ghost use Rattle.lp_trace.specs.inside.Rests.{AreRests, IsRest};
 
-use crate::counter::Counter;
 use crate::held::Held;
-use crate::place::SHORT;
+use crate::place::{Counter, SHORT};
 use lp_replay::{PackedReply, Refusal, ShortReply, ShortWhat};
 use lp_stack::{GroupId, Level};
 use lp_text::TraceForm;

@@ -1,6 +1,6 @@
 use Rattle.std.proofs.Common.{◌≡◌, ◌-◌, ◌/◌, ◌%◌, ◌∙◌, ap, arith}
 use Rattle.lp_trace.specs.inside.Counting.{tens_digits}
-use Rattle.lp_trace.proofs.counter.Counter.spell.Goals as goal
+use Rattle.lp_trace.proofs.place.Counter.spell.Goals as goal
 
 pub invariant_of-self : goal.invariant_of-self
 invariant_of-self c =

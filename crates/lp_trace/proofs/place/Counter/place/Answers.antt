@@ -1,6 +1,6 @@
 use Rattle.std.proofs.Common.{arith, ◌+◌, ◌/◌, refl, ◌∙◌, ap, ◌++◌, take}
 use Rattle.lp_trace.proofs.Counting.{counted_put, last_digit}
-use Rattle.lp_trace.proofs.counter.Counter.place.Goals as goal
+use Rattle.lp_trace.proofs.place.Counter.place.Goals as goal
 
 pub returns-clause-placed : goal.returns-clause-placed
 returns-clause-placed c =

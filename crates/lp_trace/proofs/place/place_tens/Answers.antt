@@ -1,6 +1,6 @@
 use Rattle.std.proofs.Common.{arith, ◌∙◌}
 use Rattle.lp_trace.proofs.Counting.{few_tens, some_tens}
-use Rattle.lp_trace.proofs.counter.place_tens.Goals as goal
+use Rattle.lp_trace.proofs.place.place_tens.Goals as goal
 
 pub returns-clause-digits : goal.returns-clause-digits
 returns-clause-digits c = c.place_number.ensures.placed ∙ some_tens c.args.tens (omega arith)
