@@ -54,6 +54,8 @@ impl Drop for Parser {
 }
 
 impl Model for Parser {
+    ghost use Rattle.std.specs.List.{IsDistinct};
+    ghost use Rattle.std.specs.Str.{bytes_eq};
     ghost use Rattle.lp_text.specs.Traces.{TraceValue, AreNames, functions};
     ghost use Rattle.lp_text.specs.inside.Parsers.{IsTable};
 
@@ -61,7 +63,7 @@ impl Model for Parser {
 
     ghost view = { λ d. record { form = d.form; symbols = d.symbols; patches = functions d.patches.items; boots = d.boots.items; events = d.events.items } };
 
-    ghost invariant = { λ d. AreNames d.symbols × IsTable d.boots.items d.booted.items };
+    ghost invariant = { λ d. AreNames d.symbols × IsTable d.boots.items d.booted.items × IsDistinct bytes_eq d.symbols };
 }
 
 impl Parser {
@@ -169,8 +171,6 @@ impl Parser {
         {
             return None;
         }
-        // No name is there twice, as the length's contract says.
-        let _ = self.symbols.len();
         let (event, rest) = quick_event(&self.symbols, &self.cache, text)?;
         self.events.push_reserved(event);
         Some(rest)
@@ -249,7 +249,10 @@ impl Parser {
         let Ok(text) = str::from_utf8(name) else {
             return Err(LineFault::Cause(Cause::Name));
         };
-        match self.symbols.add(text) {
+        let added = self.symbols.add(text);
+        // For the proof alone: its contract says that no name is there twice, by which a call's name tells one symbol.
+        let _ = self.symbols.len();
+        match added {
             Ok(_) => Ok(()),
             Err(SymFault::BadName) => Err(LineFault::Cause(Cause::Name)),
             Err(SymFault::Doubled) => Err(LineFault::Cause(Cause::Doubled)),

@@ -16,7 +16,7 @@ returns-clause-taken c =
     let events : vec_len c.self.inside.events ≡ length c.self.inside.events.items = c.self.inside.events.ok.0 in
     let patched : 0 < length (functions c.self.inside.patches.items) = omega (arith, long, patches) in
     let room : length c.self.inside.events.items < 1000000 = omega (arith, events, c.len-count.ensures, c.if-count.false) in
-    rw (← c.self.view_is, c.push_reserved.ensures.items) (taken _ _ c.in_ok-event.event c.args.text.now c.in_ok-event.rest.now c.self.invariant.0 c.len.ensures.distinct patched room c.in_ok-event.ensures refl)
+    rw (← c.self.view_is, c.push_reserved.ensures.items) (taken _ _ c.in_ok-event.event c.args.text.now c.in_ok-event.rest.now c.self.invariant.0 c.self.invariant.2 patched room c.in_ok-event.ensures refl)
 
 pub returns-in_err-event-clause-taken : goal.returns-in_err-event-clause-taken
 returns-in_err-event-clause-taken c = grind (arith, common_steps)
