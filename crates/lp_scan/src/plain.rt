@@ -19,5 +19,9 @@ pub fn scan_plain<M: Consistency>(
 ) -> Result<Vec<Verdict>, AllocError>
     ensures { IfOk result (λ found. found.items ≡ found_of M.rules kind (aimed aim.now) (map seen views.now)) }
 {
-    lp_transition::verdicts(alloc, &model, kind, views, aim)
+    let mut found = Vec::with_capacity(alloc, views.len())?;
+    for view in views {
+        found.push(Verdict::of(&model, kind, view, aim))?;
+    }
+    Ok(found)
 }

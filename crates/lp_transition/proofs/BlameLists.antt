@@ -1,8 +1,9 @@
 -- What code makes of a list of standing blames.
-use Rattle.std.proofs.Common.{◌≡◌, ℕ, zero, suc, ◌+◌, ◌<◌, ◌≤◌, Bool, true, false, not, ◌&&◌, ◌||◌, List, [], ◌∷◌, ◌++◌, length, map, take, get_or, Option, Some, None, is_some, if◌then◌else◌, nat_eq, refl, sym, ap, ◌∙◌, ⊎_elim}
+use Rattle.std.proofs.Common.{◌≡◌, ℕ, zero, suc, ◌+◌, ◌<◌, ◌≤◌, Bool, true, false, not, ◌&&◌, ◌||◌, List, [], ◌∷◌, ◌++◌, length, map, take, get_or, Option, Some, None, is_some, if◌then◌else◌, nat_eq, refl, sym, ap, ap₂, ◌∙◌, ⊎_elim}
 use Rattle.std.proofs.lemmas.Bool.{cond-true, cond-false, cases_eq, eq-eqb, ne_eqb}
 use Rattle.std.proofs.lemmas.List.{map_more}
 use Rattle.std.specs.List.{list_any}
+use Rattle.std.specs.Option.{option_map}
 use Rattle.lp_stack.specs.declared.frame.Frame.{Frame}
 use Rattle.lp_numbers.specs.Numbers.{Numbers, has}
 use Rattle.lp_model.specs.declared.check.Blame.{Blame}
@@ -13,18 +14,8 @@ use Rattle.lp_definitions.specs.Leg.{LegTask}
 use Rattle.lp_machine.specs.Table.{Table, slot}
 use Rattle.lp_transition.specs.Blames.{or_blame, frame_blame}
 use Rattle.lp_tasks.specs.inside.Table.{is_in}
+use Rattle.lp_transition.specs.inside.ScanSteps.{is_found}
 use Rattle.lp_transition.specs.inside.Blames.{blame_at, frame_there, looked_at, told_of, found_by, IsDecided}
-
--- ---- A place more
-
-no_blame_more : (blames : List (Option StandingBlame)) (g : ℕ) → blame_at (blames ++ None ∷ []) g ≡ blame_at blames g
-no_blame_more [] zero = refl
-no_blame_more [] (suc g) = refl
-no_blame_more (b ∷ blames) zero = refl
-no_blame_more (b ∷ blames) (suc g) = no_blame_more blames g
-
-pub same_more : (blames old : List (Option StandingBlame)) → ((g : ℕ) → blame_at blames g ≡ blame_at old g) → (g : ℕ) → blame_at (blames ++ None ∷ []) g ≡ blame_at old g
-same_more blames old same g = no_blame_more blames g ∙ same g
 
 -- ---- A look at a task
 
@@ -123,3 +114,21 @@ decided_next table verdicts i d old now later noted more_noted decided more_deci
       ∙ ap is_some (sym (told_more told verdicts i d within)));
   others = is.others so_far.others;
 }
+
+-- a verdict that tells anything of a group refuses a member
+told_found : (table : Table) (group : ℕ) (v : Verdict) → is_some (told_of table group v) ≡ is_found table true group v
+told_found table group v = by (is_in group (slot table v.task.0)) v.blame
+  where
+    by : (b : Bool) (o : Option Blame) → is_some (if b then option_map {U = ℕ × Blame} (λ why. (v.task.0, why)) o else None) ≡ (is_some o && b)
+    by true None = refl
+    by true (Some why) = refl
+    by false None = refl
+    by false (Some why) = refl
+
+first_some : {A : Type 0} (o : Option A) (rest : List (Option A)) → is_some (first_of (o ∷ rest)) ≡ (is_some o || is_some (first_of rest))
+first_some None rest = refl
+first_some (Some a) rest = refl
+
+pub told_any : (table : Table) (group : ℕ) (vs : List Verdict) → is_some (first_of (map (told_of table group) vs)) ≡ list_any (is_found table true group) vs
+told_any table group [] = refl
+told_any table group (v ∷ vs) = first_some (told_of table group v) (map (told_of table group) vs) ∙ ap₂ (λ a b. a || b) (told_found table group v) (told_any table group vs)

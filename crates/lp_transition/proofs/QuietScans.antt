@@ -18,17 +18,18 @@ use Rattle.lp_transition.specs.Blames.{or_blame, is_open, HasBlamesAfter}
 use Rattle.lp_transition.specs.Scan.{is_scan_kind, scan_event, verdicts_of, is_asked, verdicts_among, MayLeaveOut}
 use Rattle.lp_tasks.specs.Passing.{passing}
 use Rattle.lp_transition.specs.LastScan.{IsLastScanAfter}
-use Rattle.lp_machine.specs.Table.{Table, Engine, LastScan, state_in}
+use Rattle.lp_machine.specs.Table.{Engine, LastScan, state_in}
 use Rattle.lp_transition.specs.Weigh.{Weighed, IsWeighed}
 use Rattle.lp_transition.specs.inside.Blames.{blame_at}
 use Rattle.lp_transition.specs.inside.Invariant.{KeptScan, IsNoted, IsWhole, told_scan}
-use Rattle.lp_transition.specs.inside.ScanSteps.{is_judged, AreSwitched, switches_by, all_admit, tasks_of}
+use Rattle.lp_transition.specs.inside.ScanSteps.{is_judged, is_unrefused, switches_by, all_admit, tasks_of}
 use Rattle.lp_transition.proofs.AskedScans.{asked_none, among-enough, left-out, switches-among, completes-among}
 use Rattle.lp_transition.proofs.Blames.{Leaves, blamed_out}
 use Rattle.lp_transition.proofs.BlamedScans.{leaves_scanned, blame_within}
 use Rattle.lp_transition.proofs.Effects.{HasTaken, with_table, with_scan}
 use Rattle.lp_machine_laws.proofs.Runs.{is_step}
 use Rattle.lp_transition.proofs.ScanAnswers.{answer-scan, still, verdicts-scan}
+use Rattle.lp_transition.proofs.ScanSwitches.{none_switched}
 use Rattle.lp_transition.proofs.ScanTakes.{takes_scan, group_fits}
 use Rattle.lp_tasks.proofs.TableLemmas.{slot_from_live}
 use Rattle.lp_transition.proofs.Unchanged.{core_scanned}
@@ -75,16 +76,6 @@ kept_and : (b : Bool) → b ≡ (b && not false)
 kept_and true = refl
 kept_and false = refl
 
--- nobody goes where nobody was looked at
-nobody_goes : (target : ℕ) (table : Table) (waiting : Numbers) → AreSwitched (is_judged []) (λ group. false) target table table waiting waiting
-nobody_goes target table waiting = record {
-  tasks = λ t. refl;
-  waits = λ t. kept_and (has waiting t);
-  numbers = refl;
-  used = refl;
-  wide = λ wide. wide;
-}
-
 or_none : (o : Option StandingBlame) → o ≡ or_blame o None
 or_none None = refl
 or_none (Some b) = refl
@@ -106,7 +97,8 @@ module _ (model : Rules) (lawful : IsLawful model) (e old : Engine) (waiting : N
   taken : HasTaken model old (scan_event on) (record (with_table e.table e) { last_scan = told_scan left }) waiting
   taken =
       with_scan model old (with_table e.table e) (scan_event on) waiting (told_scan left)
-      (takes_scan model lawful e old e.table waiting waiting (quiet_step on) (λ group. false) was whole.engine weighed (event_scans on) (λ group h. refl) (nobody_goes e.target e.table waiting))
+      (takes_scan model lawful e old waiting (quiet_step on) on was whole.engine weighed scan refl [] (λ group few. refl) e.table waiting
+      (none_switched (is_judged []) (is_unrefused []) e.target e.table waiting (λ t judged. absurd (false≢true judged))))
 
   leaves_blames : Leaves model old (scan_event on) [] (record (with_table e.table e) { last_scan = told_scan left })
   leaves_blames =

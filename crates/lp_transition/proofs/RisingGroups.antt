@@ -1,13 +1,9 @@
--- Lists of groups in increasing order: those that switch by verdicts of greater and greater groups, and the search for one.
-use Rattle.std.proofs.Common.{◌≡◌, ◌≢◌, ℕ, zero, suc, ◌+◌, ◌-◌, ◌<◌, ◌≤◌, Bool, true, false, not, ◌&&◌, ◌||◌, List, [], ◌∷◌, ◌++◌, length, get_or, Result, Ok, Err, Option, Some, None, is_ok, is_some, is_none, if◌then◌else◌, nat_eq, refl, sym, ap, ap₂, subst, ◌∙◌, ⊎_elim, arith}
-use Rattle.std.proofs.lemmas.Bool.{cases_Bool, cases_lt, eq-eqb, ne_eqb}
-use Rattle.std.proofs.lemmas.Bool.Decides.{nat_tests}
-use Rattle.std.proofs.lemmas.Cmp.{ranked}
-use Rattle.std.proofs.lemmas.List.{append-nil, get_or-map, length-map}
-use Rattle.std.proofs.lemmas.List.Folds.{list_any-append, list_any_at, list_any_none}
+-- The groups that switch by verdicts of greater and greater groups.
+use Rattle.std.proofs.Common.{◌≡◌, ◌≢◌, ℕ, zero, suc, ◌+◌, ◌-◌, ◌<◌, ◌≤◌, Bool, true, false, not, ◌&&◌, ◌||◌, List, [], ◌∷◌, ◌++◌, Option, Some, None, is_some, is_none, if◌then◌else◌, nat_eq, refl, sym, ap, ap₂, subst, ◌∙◌, ⊎_elim, arith}
+use Rattle.std.proofs.lemmas.Bool.{cases_Bool, eq-eqb, ne_eqb}
+use Rattle.std.proofs.lemmas.List.{append-nil}
+use Rattle.std.proofs.lemmas.List.Folds.{list_any-append}
 use Rattle.std.specs.List.{list_any}
-use Rattle.std.specs.List.Sorted.{IsSearchInRange, IsBinarySearchResult, IsNonDecreasing}
-use Rattle.std.specs.Ordering.{nat_cmp, ordering_index}
 use Rattle.lp_numbers.proofs.Ascents.{none_in}
 use Rattle.lp_stack.specs.declared.number.GroupId.{GroupId}
 use Rattle.lp_model.specs.declared.verdict.Verdict.{Verdict}
@@ -15,10 +11,8 @@ use Rattle.lp_definitions.specs.Events.{group_numbers}
 use Rattle.lp_tasks.specs.Passing.{passing}
 use Rattle.lp_machine.specs.Table.{Table, slot}
 use Rattle.lp_tasks.specs.inside.Table.{is_in}
-use Rattle.lp_transition.specs.inside.ScanSteps.{is_found, switches_by, is_listed}
+use Rattle.lp_transition.specs.inside.ScanSteps.{is_found, switches_by}
 use Rattle.lp_tasks.proofs.Passing.{passes, keep_one, skip_one, passing-skip}
-
--- ---- Verdicts of greater and greater groups
 
 split : (test : ℕ → Bool) (k m a : ℕ) → passes test a (k + m) ≡ passes test a k ++ passes test (a + k) m
 split test zero m a =
@@ -136,67 +130,3 @@ turn-all table vs from groups turn =
     ∙ ap (λ ns. passes test 0 from ++ ns) (sym none_later)
     ∙ sym (split test from (65536 - from) 0)
     ∙ ap (passes test 0) (sym count)
-
--- ---- The search for a group
-
-above_cons : (a : ℕ) (ns : List ℕ) (j d : ℕ) → ((i : ℕ) → i < length ns → a + 1 ≤ get_or ns i d) → j < length (a ∷ ns) → a ≤ get_or (a ∷ ns) j d
-above_cons a ns zero d later within = omega arith
-above_cons a ns (suc j) d later within = let more = later j (omega arith) in omega (arith, more)
-
-above : (test : ℕ → Bool) (k a j d : ℕ) → j < length (passes test a k) → a ≤ get_or (passes test a k) j d
-above test zero a j d within = absurd (omega arith)
-above test (suc k) a j d within =
-    ⊎_elim
-    (λ (yes : test a ≡ true).
-    subst (λ (ns : List ℕ). j < length ns → a ≤ get_or ns j d) (sym (keep_one test a k yes)) (above_cons a (passes test (a + 1) k) j d (λ i few. above test k (a + 1) i d few)) within)
-    (λ (out : test a ≡ false).
-    subst (λ (ns : List ℕ). j < length ns → a ≤ get_or ns j d) (sym (skip_one test a k out)) (λ few. let more = above test k (a + 1) j d few in omega (arith, more)) within)
-    (cases_Bool (test a))
-
-abbrev Rise : List ℕ → Type 0
-Rise ns = (i j d : ℕ) → i ≤ j → j < length ns → get_or ns i d ≤ get_or ns j d
-
-rise_cons : (a : ℕ) (ns : List ℕ) → ((j d : ℕ) → j < length (a ∷ ns) → a ≤ get_or (a ∷ ns) j d) → Rise ns → Rise (a ∷ ns)
-rise_cons a ns low rise zero j d le within = low j d within
-rise_cons a ns low rise (suc i) zero d le within = absurd (omega arith)
-rise_cons a ns low rise (suc i) (suc j) d le within = rise i j d (omega arith) (omega arith)
-
--- the numbers that pass a test rise
-pub passes-rise : (test : ℕ → Bool) (k a : ℕ) → IsNonDecreasing (passes test a k)
-passes-rise test zero a = λ i j d le within. absurd (omega arith)
-passes-rise test (suc k) a =
-    ⊎_elim
-    (λ (yes : test a ≡ true).
-    subst IsNonDecreasing (sym (keep_one test a k yes)) (rise_cons a (passes test (a + 1) k) (λ j d few. above_cons a (passes test (a + 1) k) j d (λ i less. above test k (a + 1) i d less) few) (passes-rise test k (a + 1))))
-    (λ (out : test a ≡ false). subst IsNonDecreasing (sym (skip_one test a k out)) (passes-rise test k (a + 1)))
-    (cases_Bool (test a))
-
-module _ (groups : List GroupId) (group : GroupId) (rise : IsNonDecreasing (group_numbers groups)) where
-  abbrev number : GroupId → ℕ
-  number g = g.0
-
-  comparisons_rise : (i j : ℕ) (d : GroupId) → i ≤ j → j < length groups → ordering_index (nat_cmp (get_or groups i d).0 group.0) ≤ ordering_index (nat_cmp (get_or groups j d).0 group.0)
-  comparisons_rise i j d le within =
-      let long = length-map groups number in
-      let numbers = rise i j 0 le (omega (arith, long)) in
-      let first = get_or-map number groups i d 0 (omega arith) in
-      let second = get_or-map number groups j d 0 within in
-      let keys : (get_or groups i d).0 ≤ (get_or groups j d).0 = omega (arith, numbers, first, second) in
-      grind (arith, nat_tests, keys)
-
-  -- a binary search finds a group where it is listed
-  pub search-tells : (r : Result ℕ ℕ) → IsSearchInRange r (length groups) → IsBinarySearchResult (λ g. nat_cmp g.0 group.0) groups r → is_ok r ≡ is_listed (group_numbers groups) group.0
-  search-tells (Ok at) within found =
-      let long = length-map groups number in
-      let same : (get_or groups at group).0 ≡ group.0 = ranked (get_or groups at group).0 group.0 _ (sym (found group)) in
-      sym (list_any_at (nat_eq group.0) (group_numbers groups) at 0 (omega (arith, long, within)) (eq-eqb group.0 _ (sym (get_or-map number groups at group 0 within ∙ same))))
-  search-tells (Err at) within parted =
-      let long = length-map groups number in
-      let sides = parted comparisons_rise in
-      sym (list_any_none (nat_eq group.0) (group_numbers groups) (λ k d few.
-      let there = get_or-map number groups k group d (omega (arith, long)) in
-      ne_eqb group.0 (get_or (group_numbers groups) k d) (λ (e : group.0 ≡ get_or (group_numbers groups) k d).
-      ⊎_elim
-      (λ (low : k < at). let less : (get_or groups k group).0 < group.0 = ranked (get_or groups k group).0 group.0 _ (sym (sides.0 k group (omega arith) low)) in omega (arith, less, there, e))
-      (λ (high : at ≤ k). let greater : group.0 < (get_or groups k group).0 = ranked (get_or groups k group).0 group.0 _ (sym (sides.1 k group high (omega (arith, long)))) in omega (arith, greater, there, e))
-      (cases_lt k at))))

@@ -1,25 +1,13 @@
 -- Waiting tasks switch with their groups, one after another.
-use Rattle.std.proofs.Common.{◌≡◌, ◌≢◌, ℕ, Bool, true, false, not, ◌&&◌, ◌||◌, List, [], length, Option, Some, None, if◌then◌else◌, nat_eq, refl, sym, ap, ap₂, ◌∙◌, subst, ⊎_elim}
+use Rattle.std.proofs.Common.{◌≡◌, ◌≢◌, ℕ, Bool, true, false, not, ◌&&◌, ◌||◌, Option, Some, None, if◌then◌else◌, nat_eq, refl, sym, ap, ap₂, ◌∙◌, subst, ⊎_elim}
 use Rattle.std.proofs.lemmas.Bool.{cond-true, cond-false, cases_Bool, cases_eq, eq-eqb, ne_eqb}
 use Rattle.std.specs.Option.{option_map}
-use Rattle.lp_numbers.specs.Numbers.{Numbers, has, IsEmpty}
-use Rattle.lp_model.specs.declared.verdict.Verdict.{Verdict}
-use Rattle.lp_definitions.specs.declared.reply.What.{What}
-use Rattle.lp_definitions.specs.declared.reply.What.TheVariants.{Switched}
+use Rattle.lp_numbers.specs.Numbers.{Numbers, has}
 use Rattle.lp_definitions.specs.Leg.{LegTask}
 use Rattle.lp_machine.specs.Table.{Table, slot}
-use Rattle.lp_transition.specs.Weigh.{is_switched}
-use Rattle.lp_transition.specs.inside.ScanSteps.{groups_of, is_judged, is_listed, switched_if, task_switches, AllSwitch, IsTaskSwitched, AreSwitched}
+use Rattle.lp_transition.specs.inside.ScanSteps.{switched_if, task_switches, IsTaskSwitched, AreSwitched}
 
 -- ---- One task
-
-and-true : (b : Bool) → (b && true) ≡ b
-and-true true = refl
-and-true false = refl
-
-and-false : (b : Bool) → (b && false) ≡ false
-and-false true = refl
-and-false false = refl
 
 switched-group : (switches : ℕ → Bool) (target : ℕ) (x : LegTask) → (switched_if switches target x).group ≡ x.group
 switched-group switches target x =
@@ -27,10 +15,6 @@ switched-group switches target x =
     (λ (went : switches x.group ≡ true). ap (λ (y : LegTask). y.group) (cond-true (switches x.group) (record x { level = target }) x went))
     (λ (stays : switches x.group ≡ false). ap (λ (y : LegTask). y.group) (cond-false (switches x.group) (record x { level = target }) x stays))
     (cases_Bool (switches x.group))
-
-pub slot_stays : (switches : ℕ → Bool) (target : ℕ) (o : Option LegTask) → task_switches switches o ≡ false → o ≡ option_map (switched_if switches target) o
-slot_stays switches target None h = refl
-slot_stays switches target (Some x) h = ap Some (sym (cond-false (switches x.group) (record x { level = target }) x h))
 
 -- ---- One task after another
 
@@ -96,56 +80,45 @@ moving_more taken more switches target n old now new waiting mid left so_far ste
         ∙ waits_again (has waiting n) (taken n) (task_switches switches (slot old n))
         ∙ ap (λ b. has waiting n && not (b && task_switches switches (slot old n))) (sym here)
 
--- ---- All who wait
+-- ---- The same who go
 
-level_if : (switches : ℕ → Bool) (target : ℕ) (taken : Bool) (o : Option LegTask) → (taken ≡ true → task_switches switches o ≡ true) → (if taken then option_map (switched_if (λ g. true) target) o else o) ≡ (if taken then option_map (switched_if switches target) o else o)
-level_if switches target false o went = refl
-level_if switches target true None went = refl
-level_if switches target true (Some x) went = ap Some (sym (cond-true (switches x.group) (record x { level = target }) x (went refl)))
+goes : (switches : ℕ → Bool) (target : ℕ) (taken : Bool) (o : Option LegTask) → (if taken then option_map (switched_if switches target) o else o) ≡ (if taken && task_switches switches o then option_map (λ (x : LegTask). record x { level = target }) o else o)
+goes switches target false o = refl
+goes switches target true None = refl
+goes switches target true (Some x) = by (switches x.group)
+  where
+    by : (b : Bool) → Some (if b then record x { level = target } else x) ≡ (if b then Some (record x { level = target }) else Some x)
+    by true = refl
+    by false = refl
 
-none_waits : (waits taken went : Bool) → (waits ≡ true → taken ≡ true) → (taken ≡ true → went ≡ true) → false ≡ (waits && not (taken && went))
-none_waits false taken went judged listed = refl
-none_waits true true true judged listed = refl
-none_waits true true false judged listed = listed refl
-none_waits true false went judged listed = judged refl
-
--- where all who wait switch, nobody waits
-pub all_switched : (vs : List Verdict) (groups : List ℕ) (target : ℕ) (old new : Table) (waiting left : Numbers) → AllSwitch vs groups old waiting → AreSwitched (is_judged vs) (λ g. true) target old new [] [] → IsEmpty left → length left ≡ length waiting → AreSwitched (is_judged vs) (is_listed groups) target old new waiting left
-all_switched vs groups target old new waiting left all levelled empty numbers = record {
-  tasks = λ t. levelled.tasks t ∙ level_if (is_listed groups) target (is_judged vs t) (slot old t) (all.listed t);
-  waits = λ t. empty t ∙ none_waits (has waiting t) (is_judged vs t) (task_switches (is_listed groups) (slot old t)) (all.judged t) (all.listed t);
-  numbers = numbers;
-  used = levelled.used;
-  wide = levelled.wide;
+-- where others are taken and other groups switch, and the same tasks go
+pub same_switched : (taken others some all : ℕ → Bool) (target : ℕ) (old new : Table) (waiting left : Numbers) → ((t : ℕ) → (taken t && task_switches some (slot old t)) ≡ (others t && task_switches all (slot old t))) → AreSwitched taken some target old new waiting left → AreSwitched others all target old new waiting left
+same_switched taken others some all target old new waiting left same are = record {
+  tasks = λ t. are.tasks t ∙ goes some target (taken t) (slot old t) ∙ ap (λ b. if b then option_map (λ (x : LegTask). record x { level = target }) (slot old t) else slot old t) (same t) ∙ sym (goes all target (others t) (slot old t));
+  waits = λ t. are.waits t ∙ ap (λ b. has waiting t && not b) (same t);
+  numbers = are.numbers;
+  used = are.used;
+  wide = are.wide;
 }
 
 -- ---- Nobody
 
-unswitched : (switches : ℕ → Bool) → ((g : ℕ) → switches g ≡ false) → (o : Option LegTask) → task_switches switches o ≡ false
-unswitched switches none None = refl
-unswitched switches none (Some x) = none x.group
-
-still_there : (switches : ℕ → Bool) (target : ℕ) (taken : Bool) (o : Option LegTask) → task_switches switches o ≡ false → o ≡ (if taken then option_map (switched_if switches target) o else o)
-still_there switches target true o stays = slot_stays switches target o stays
+still_there : (switches : ℕ → Bool) (target : ℕ) (taken : Bool) (o : Option LegTask) → (taken ≡ true → task_switches switches o ≡ false) → o ≡ (if taken then option_map (switched_if switches target) o else o)
+still_there switches target true None stays = refl
+still_there switches target true (Some x) stays = ap Some (sym (cond-false (switches x.group) (record x { level = target }) x (stays refl)))
 still_there switches target false o stays = refl
 
-still_waits : (waits taken went : Bool) → went ≡ false → waits ≡ (waits && not (taken && went))
-still_waits true true went stays = sym (ap not stays)
+still_waits : (waits taken went : Bool) → (taken ≡ true → went ≡ false) → waits ≡ (waits && not (taken && went))
+still_waits true true went stays = sym (ap not (stays refl))
 still_waits true false went stays = refl
 still_waits false taken went stays = refl
 
--- where no group switches all is as it was
-pub none_switched : (what : What) → is_switched what ≡ false → (taken : ℕ → Bool) (target : ℕ) (table : Table) (waiting : Numbers) → AreSwitched taken (is_listed (groups_of what)) target table table waiting waiting
-none_switched what is taken target table waiting =
-    let stays = λ (t : ℕ). unswitched (is_listed (groups_of what)) (λ g. ap (λ groups. is_listed groups g) (no_groups what is)) (slot table t) in
-    record {
-      tasks = λ t. still_there (is_listed (groups_of what)) target (taken t) (slot table t) (stays t);
-      waits = λ t. still_waits (has waiting t) (taken t) (task_switches (is_listed (groups_of what)) (slot table t)) (stays t);
-      numbers = refl;
-      used = refl;
-      wide = λ wide. wide;
-    }
-  where
-    no_groups : (what : What) → is_switched what ≡ false → groups_of what ≡ []
-    no_groups (Switched groups) is = absurd (cc)
-    no_groups _ is = refl
+-- where no group of those who are taken switches all is as it was
+pub none_switched : (taken switches : ℕ → Bool) (target : ℕ) (table : Table) (waiting : Numbers) → ((t : ℕ) → taken t ≡ true → task_switches switches (slot table t) ≡ false) → AreSwitched taken switches target table table waiting waiting
+none_switched taken switches target table waiting stays = record {
+  tasks = λ t. still_there switches target (taken t) (slot table t) (stays t);
+  waits = λ t. still_waits (has waiting t) (taken t) (task_switches switches (slot table t)) (stays t);
+  numbers = refl;
+  used = refl;
+  wide = λ wide. wide;
+}

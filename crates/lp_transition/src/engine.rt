@@ -14,7 +14,6 @@ ghost use Rattle.lp_definitions.specs.Leg.{is_alone};
 ghost use Rattle.lp_stack.specs.TaskView.{seen};
 ghost use Rattle.lp_machine.specs.Machine.{complete_in, outlines_of, view_of};
 
-mod blame_table;
 mod blames;
 mod boot;
 mod control;
@@ -35,7 +34,6 @@ mod weigh;
 
 use blames::Blames;
 pub use boot::BootFault;
-pub use dispatch::verdicts;
 use lp_machine::StandingBlame;
 use lp_model::Consistency;
 use lp_numbers::{Ascending, NumberSet};
@@ -62,6 +60,8 @@ pub struct Core<M: Consistency> {
     waiting: NumberSet,
     unchanged: Unchanged,
     blames: Blames,
+    /// The groups of which the present scan refused a member; of use in a scan alone.
+    refused: NumberSet,
 }
 
 /// By hand, so that the proof of who owns one lets go of it in one step, not field by field.
@@ -77,6 +77,7 @@ impl<M: Consistency> Drop for Core<M> {
             waiting: _,
             unchanged: _,
             blames: _,
+            refused: _,
         } = self;
     }
 }

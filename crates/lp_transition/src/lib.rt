@@ -15,7 +15,7 @@
 mod engine;
 pub mod laws;
 
-pub use engine::{BootFault, Core, Halt, Step, verdicts};
+pub use engine::{BootFault, Core, Halt, Step};
 pub use lp_definitions::{Event, GroupList, MOST_EVENTS, Refusal, Reply, What};
 pub use lp_machine::StandingBlame;
 pub use lp_model::{CheckKind, Consistency, ForkKind, Verdict};

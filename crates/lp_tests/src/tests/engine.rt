@@ -23,9 +23,10 @@ use crate::tests::said::{Said, in_short};
 use lp_model::{CheckKind, Consistency};
 use lp_models::Hybrid;
 use lp_patch::{PatchFault, PatchSet, PatchStack};
+use lp_scan::scan_plain;
 use lp_stack::{Class, GroupId, Level, TaskId};
 use lp_symbols::{SymId, Symbols};
-use lp_transition::{BootFault, Core, Event, Halt, Opening, Reply, Step, What, verdicts};
+use lp_transition::{BootFault, Core, Event, Halt, Opening, Reply, Step, What};
 use std::alloc::{AllocError, Global};
 
 const A: SymId = SymId(0);
@@ -118,7 +119,7 @@ fn weigh_whole<M: Consistency>(alloc: Global, core: &Core<M>, kind: CheckKind) -
     requires { is_scan_kind kind ≡ true }
 {
     let views = core.views(alloc)?;
-    let found = verdicts(alloc, &core.model(), kind, views.as_slice(), &core.aim())?;
+    let found = scan_plain(alloc, core.model(), kind, &core.aim(), views.as_slice())?;
     core.weigh_scan(alloc, kind, found.as_slice())
 }
 

@@ -21,11 +21,6 @@ use Rattle.lp_transition.specs.Blames.{frame_blame, or_blame}
 abbrev pub blame_at : List (Option StandingBlame) → (group : ℕ) → Option StandingBlame
 blame_at blames group = slice_index_or blames group None
 
--- no more places than groups, and room for one of each
-pub record HasPlaces (blames : List (Option StandingBlame)) (capacity : ℕ) : Type 0 where
-  pub few : length blames ≤ 65536
-  pub room : 65536 ≤ capacity
-
 -- no more places than groups, and a set with each group that has a blame
 pub record AreNoted (blames : List (Option StandingBlame)) (noted : Numbers) : Type 0 where
   pub few : length blames ≤ 65536

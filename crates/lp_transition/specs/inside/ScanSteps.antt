@@ -49,10 +49,6 @@ abbrev pub groups_of : What → List ℕ
 groups_of (Switched groups) = groups
 groups_of _ = []
 
--- the group is in the list
-abbrev pub is_listed : List ℕ → ℕ → Bool
-is_listed groups group = list_any (nat_eq group) groups
-
 -- ---- Whom a scan looks at
 
 -- the task of this number and no other live task is a member of the group of this number, if one is
@@ -60,6 +56,10 @@ abbrev pub IsOwnGroup : Table → ℕ → Type 0
 IsOwnGroup table number = (t : ℕ) (x : LegTask) → slot table t ≡ Some x → (x.group ≡ number) ↔ (t ≡ number)
 
 -- ---- What a scan leaves
+
+-- the group isn't one of those refused
+abbrev pub is_unrefused : (refused : Numbers) → (group : ℕ) → Bool
+is_unrefused refused group = not (has refused group)
 
 -- a live task after its group switched, if it switches
 abbrev pub switched_if : (ℕ → Bool) → ℕ → LegTask → LegTask
@@ -87,8 +87,3 @@ pub record AreSwitched (taken switches : ℕ → Bool) (target : ℕ) (old new :
   pub numbers : length left ≡ length waiting
   pub used : new.used ≡ old.used
   pub wide : IsWide old → IsWide new
-
--- each task that waits is one of those looked at, and the group of each of those is in the list
-pub record AllSwitch (verdicts : List Verdict) (groups : List ℕ) (table : Table) (waiting : Numbers) : Type 0 where
-  pub judged : (t : ℕ) → has waiting t ≡ true → is_judged verdicts t ≡ true
-  pub listed : (t : ℕ) → is_judged verdicts t ≡ true → task_switches (is_listed groups) (slot table t) ≡ true

@@ -1,27 +1,28 @@
 //! The frames by which the waiting groups are known to be refused.
-ghost use Rattle.std.specs.Prelude.{◌≡◌, ◌<◌, ◌≤◌, ℕ, List, Option, None, false, if◌then◌else◌, length, nat_eq, slice_index_or, IfOk};
+ghost use Rattle.std.specs.Prelude.{◌≡◌, ◌<◌, ◌≤◌, ℕ, List, Option, None, true, false, if◌then◌else◌, length, nat_eq, slice_index_or, IfOk};
 ghost use Rattle.std.specs.List.{list_any};
 ghost use Rattle.lp_numbers.specs.Numbers.{has};
 ghost use Rattle.lp_machine.specs.Table.{slot};
 ghost use Rattle.lp_transition.specs.Blames.{or_blame};
 ghost use Rattle.lp_transition.specs.inside.Blames.{blame_at, looked_at, found_by, told_of, IsDecided};
+ghost use Rattle.lp_transition.specs.inside.ScanSteps.{is_found};
 
-use super::blame_table::BlameTable;
 use lp_machine::StandingBlame;
 use lp_model::{Blame, Verdict};
-use lp_numbers::NumberSet;
+use lp_numbers::{NumberSet, NumberTable};
 use lp_stack::{GroupId, TaskId};
 use lp_tasks::TaskTable;
 use std::alloc::{AllocError, Global};
 use std::marker::Model;
+
+/// The standing blame of each group that got one.
+type BlameTable = NumberTable<Option<StandingBlame>>;
 
 /// For each group its standing blame, if it has one. Only `new` allocates.
 pub(super) struct Blames {
     of_group: BlameTable,
     /// The groups that got a blame since the last control event, so that one needn't go over all.
     noted: NumberSet,
-    /// The groups of which the present scan refused a member; of use in a scan alone.
-    decided: NumberSet,
 }
 
 /// By hand, so that the proof of who owns one lets go of it in one step, not field by field.
@@ -30,7 +31,6 @@ impl Drop for Blames {
         let Blames {
             of_group: _,
             noted: _,
-            decided: _,
         } = self;
     }
 }
@@ -54,9 +54,8 @@ impl Blames {
         ensures groups { IfOk result (λ blames. length blames ≤ 65536) }
     {
         Ok(Blames {
-            of_group: BlameTable::new(alloc)?,
+            of_group: NumberTable::new(alloc)?,
             noted: NumberSet::new(alloc)?,
-            decided: NumberSet::new(alloc)?,
         })
     }
 
@@ -64,7 +63,7 @@ impl Blames {
     pub(super) fn of(&self, group: GroupId) -> Option<StandingBlame>
         ensures { result ≡ blame_at self.now group.0 }
     {
-        self.of_group.of(group)
+        blame_of(&self.of_group, group)
     }
 
     /// Against another target a blame says nothing.
@@ -110,24 +109,37 @@ impl Blames {
         if live.has_frame(blame.serial) {
             return;
         }
-        self.of_group.put(group.0, None);
+        self.of_group.put(group.0, None, None);
     }
 
     /// After a scan: a group without a blame gets that of the first member that was refused, if
-    /// that was for a frame.
+    /// that was for a frame. The groups of which a member was refused are then those of the set.
     #[inline(always)]
-    pub(super) fn note(&mut self, tasks: &TaskTable, verdicts: &[Verdict])
+    pub(super) fn note(&mut self, refused: &mut NumberSet, tasks: &TaskTable, verdicts: &[Verdict])
         ensures blames { (group : ℕ) → group < 65536 → blame_at self.new group ≡ or_blame (blame_at self.old group) (found_by tasks.now group verdicts.now) }
         ensures groups { length self.new ≤ 65536 }
+        ensures refused { (group : ℕ) → group < 65536 → has refused.new group ≡ list_any (is_found tasks.now true group) verdicts.now }
     {
-        self.decided.clear();
+        refused.clear();
         decide_all(
             &mut self.of_group,
             &mut self.noted,
-            &mut self.decided,
+            refused,
             tasks,
             verdicts,
         );
+    }
+}
+
+/// The standing blame of a group, if it has one.
+#[inline(always)]
+fn blame_of(of_group: &BlameTable, group: GroupId) -> Option<StandingBlame>
+    ensures value { result ≡ blame_at of_group.now group.0 }
+    ensures few { length of_group.now ≤ 65536 }
+{
+    match of_group.get(group.0) {
+        Some(blame) => blame,
+        None => None,
     }
 }
 
@@ -139,7 +151,7 @@ fn clear_members(of_group: &mut BlameTable, groups: &NumberSet)
     ensures count { length of_group.new ≤ 65536 }
 {
     for number in groups {
-        of_group.put(number, None);
+        of_group.put(number, None, None);
     }
 }
 
@@ -148,19 +160,20 @@ fn clear_members(of_group: &mut BlameTable, groups: &NumberSet)
 fn decide_all(
     of_group: &mut BlameTable,
     noted: &mut NumberSet,
-    decided: &mut NumberSet,
+    refused: &mut NumberSet,
     tasks: &TaskTable,
     verdicts: &[Verdict],
 )
     requires count { length of_group.old ≤ 65536 }
     requires others { (group : ℕ) → has noted.old group ≡ false → blame_at of_group.old group ≡ None }
-    requires undecided { (group : ℕ) → has decided.old group ≡ false }
+    requires fresh { (group : ℕ) → has refused.old group ≡ false }
     ensures blames { (group : ℕ) → group < 65536 → blame_at of_group.new group ≡ or_blame (blame_at of_group.old group) (found_by tasks.now group verdicts.now) }
     ensures count { length of_group.new ≤ 65536 }
     ensures others { (group : ℕ) → has noted.new group ≡ false → blame_at of_group.new group ≡ None }
+    ensures refused { (group : ℕ) → group < 65536 → has refused.new group ≡ list_any (is_found tasks.now true group) verdicts.now }
 {
     for verdict in verdicts {
-        decide(of_group, noted, decided, tasks, verdict);
+        decide(of_group, noted, refused, tasks, verdict);
     }
 }
 
@@ -168,12 +181,12 @@ fn decide_all(
 fn decide(
     of_group: &mut BlameTable,
     noted: &mut NumberSet,
-    decided: &mut NumberSet,
+    refused: &mut NumberSet,
     tasks: &TaskTable,
     verdict: &Verdict,
 )
     requires { length of_group.old ≤ 65536 }
-    ensures { IsDecided (λ group. told_of tasks.now group verdict.now) of_group.old of_group.new noted.old noted.new decided.old decided.new }
+    ensures { IsDecided (λ group. told_of tasks.now group verdict.now) of_group.old of_group.new noted.old noted.new refused.old refused.new }
 {
     let Some(why) = verdict.blame else {
         return;
@@ -181,19 +194,19 @@ fn decide(
     let Some(group) = tasks.group_of(verdict.task) else {
         return;
     };
-    if decided.contains(group.0) {
+    if refused.contains(group.0) {
         return;
     }
-    decided.insert(group.0);
+    refused.insert(group.0);
     let Blame::Frame(serial) = why else {
         return;
     };
-    if of_group.of(group).is_none() {
+    if blame_of(of_group, group).is_none() {
         noted.insert(group.0);
         let blame = StandingBlame {
             task: verdict.task,
             serial,
         };
-        of_group.put(group.0, Some(blame));
+        of_group.put(group.0, Some(blame), None);
     }
 }

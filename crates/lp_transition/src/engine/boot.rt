@@ -98,6 +98,7 @@ impl<M: Consistency> Core<M> {
             waiting: NumberSet::new(alloc)?,
             unchanged: Unchanged::new(alloc)?,
             blames: Blames::new(alloc)?,
+            refused: NumberSet::new(alloc)?,
         })
     }
 }

@@ -1,10 +1,8 @@
 //! The events of a run: each is weighed, and taken as it was answered.
-ghost use Rattle.std.specs.Prelude.{◌≡◌, [], ◌≤◌, ◌<◌, ◌↔◌, map, true, false, None, Some, Err, IfOk, IsErr, OnErr, OnOk, IsTrue};
-ghost use Rattle.lp_stack.specs.TaskView.{seen};
-ghost use Rattle.lp_patch.specs.Aimed.{aimed};
+ghost use Rattle.std.specs.Prelude.{◌≡◌, [], ◌≤◌, ◌<◌, ◌↔◌, true, false, None, Some, Err, IfOk, IsErr, OnErr, OnOk, IsTrue};
 ghost use Rattle.lp_transition.specs.declared.engine.step.Halt.TheVariants.{NoMemory, JournalFull};
 ghost use Rattle.lp_definitions.specs.Events.{is_scan};
-ghost use Rattle.lp_transition.specs.Scan.{is_scan_kind, scan_event, verdict_of, verdicts_of};
+ghost use Rattle.lp_transition.specs.Scan.{is_scan_kind, scan_event, verdicts_of};
 ghost use Rattle.lp_machine.specs.Steps.{IsStep};
 ghost use Rattle.lp_transition.specs.Blames.{AreBlamesAfter, HasBlamesAfter};
 ghost use Rattle.lp_transition.specs.LastScan.{IsLastScanAfter};
@@ -15,11 +13,8 @@ ghost use Rattle.lp_machine.specs.Machine.{refusal_of, answer, next};
 use super::Core;
 use super::moves::Move;
 use super::step::{Halt, Step};
-use super::weigh::refused;
 use crate::{Event, MOST_EVENTS, Refusal, Reply, What};
 use lp_model::{CheckKind, Consistency, Verdict};
-use lp_patch::Aim;
-use lp_stack::{TaskId, View};
 use std::alloc::{AllocError, Global};
 
 impl<M: Consistency> Core<M> {
@@ -122,6 +117,32 @@ impl<M: Consistency> Core<M> {
         reply
     }
 
+    /// The answer to an accepted event that is no scan. The reply to a call names the level before it is taken: a call never
+    /// switches its task.
+    #[inline(always)]
+    pub(super) fn answer_accepted(&self, alloc: Global, event: Event) -> Result<Reply, AllocError>
+        requires room { self.now.number < 1000000 }
+        requires accepted { refusal_of M.rules (state_in self.now) event ≡ None }
+        requires scan { is_scan event ≡ false }
+        ensures memory { IsErr result → IsTrue (may_allocate event (answer M.rules (state_in self.now) event).what) }
+        ensures answer { IfOk result (λ reply. reply ≡ answer M.rules (state_in self.now) event) }
+    {
+        match event {
+            Event::Call(task, func) => Ok(self.answer_call(task, func)),
+            Event::Ret(task) => Ok(self.answer_done(event, task)),
+            Event::Sleep(task) => Ok(self.answer_done(event, task)),
+            Event::Wake(task) => Ok(self.answer_done(event, task)),
+            Event::Enter(task) => Ok(self.answer_done(event, task)),
+            Event::Exit(task) => self.answer_own_check(alloc, CheckKind::KernelExit, task),
+            Event::Idle(task) => self.answer_own_check(alloc, CheckKind::IdlePoint, task),
+            Event::Resched(task) => self.answer_own_check(alloc, CheckKind::Resched, task),
+            Event::Fork(parent, _, _) => Ok(self.answer_done(event, parent)),
+            Event::Die(task) => Ok(self.answer_die(task)),
+            Event::Enable | Event::Disable | Event::Reverse => Ok(self.answer_control(event)),
+            Event::Walk | Event::Stop => unreachable!(),
+        }
+    }
+
     /// It takes a number too: else the numbers of a run's events would depend on its replies.
     #[inline(always)]
     fn take_refused(&mut self, event: Event, why: Refusal)
@@ -164,22 +185,26 @@ impl<M: Consistency> Core<M> {
     }
 }
 
-/// What a check of a kind finds of each of these tasks, in their order; AllocError where an
-/// allocation failed.
-pub fn verdicts<M: Consistency>(
-    alloc: Global,
-    model: &M,
-    kind: CheckKind,
-    views: &[View<'_>],
-    aim: &Aim<'_>,
-) -> Result<Vec<Verdict>, AllocError>
-    ensures { IfOk result (λ found. found.items ≡ map (verdict_of M.rules kind (aimed aim.now)) (map seen views.now)) }
+/// The answer to an event that was accepted and switched no group.
+#[inline(always)]
+pub(super) fn done() -> Reply
+    ensures { result ≡ record { what = What.Done; completed = false } }
 {
-    let mut found = Vec::with_capacity(alloc, views.len())?;
-    for view in views {
-        found.push(Verdict::of(model, kind, view, aim))?;
+    Reply {
+        what: What::Done,
+        completed: false,
     }
-    Ok(found)
+}
+
+/// The answer to a refused event.
+#[inline(always)]
+pub(super) fn refused(why: Refusal) -> Reply
+    ensures { result ≡ record { what = What.Refused why; completed = false } }
+{
+    Reply {
+        what: What::Refused(why),
+        completed: false,
+    }
 }
 
 /// Whether the event switched groups.

@@ -14,7 +14,7 @@ ghost use Rattle.lp_transition.specs.Weigh.{IsWeighed, may_allocate};
 ghost use Rattle.lp_machine.specs.Steps.{IsReply};
 ghost use Rattle.lp_transition.specs.Scan.{is_asked, is_scan_kind, scan_event, MayLeaveOut, verdict_of, verdicts_among, views_of};
 ghost use Rattle.lp_tasks.specs.Passing.{passing};
-ghost use Rattle.lp_transition.specs.inside.ScanSteps.{IsOwnGroup, tasks_of, waiting_slot};
+ghost use Rattle.lp_transition.specs.inside.ScanSteps.{IsOwnGroup, waiting_slot};
 ghost use Rattle.lp_tasks.specs.inside.Table.{is_in};
 ghost use Rattle.lp_transition.specs.declared.engine.step.Halt.TheVariants.{NoMemory, JournalFull};
 ghost use Rattle.lp_machine.specs.Machine.{answer, view_of};
@@ -208,18 +208,4 @@ pub(super) fn members_of(
         tasks.add_members(GroupId(group), &mut members);
     }
     Ok(members)
-}
-
-/// Whether these verdicts, which are by increasing number, are of all members of the waiting set.
-/// It stops at the first that isn't.
-pub(super) fn looks_at_all(waiting: &NumberSet, verdicts: &[Verdict]) -> bool
-    ensures { IsTrue result ↔ (tasks_of verdicts.now ≡ passing 0 65536 (has waiting.now)) }
-{
-    let mut tasks = waiting.iter();
-    for verdict in verdicts {
-        if tasks.next() != Some(verdict.task.0) {
-            return false;
-        }
-    }
-    tasks.next().is_none()
 }

@@ -10,7 +10,8 @@ ghost use Rattle.lp_machine.specs.Machine.{affected, switches_at, refusal_of, an
 ghost use Rattle.lp_tasks.specs.inside.OwnChecks.{is_own_kind, own_check_event, own_check_mode};
 
 use super::Core;
-use super::weigh::{done, group_of, is_only, one_group};
+use super::dispatch::done;
+use super::weigh::{group_of, is_only, one_group};
 use crate::{Reply, What};
 use lp_model::{CheckKind, Consistency};
 use lp_stack::{Mode, TaskId, View};

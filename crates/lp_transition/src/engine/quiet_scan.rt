@@ -8,7 +8,7 @@ ghost use Rattle.lp_machine.specs.Steps.{IsStep};
 ghost use Rattle.lp_machine.specs.Table.{state_in};
 
 use super::Core;
-use super::weigh::done;
+use super::dispatch::done;
 use crate::Reply;
 use lp_model::{CheckKind, Consistency};
 use lp_numbers::NumberSet;

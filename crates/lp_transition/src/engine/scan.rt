@@ -1,5 +1,5 @@
 //! Scans, which look at the stacks of all waiting tasks.
-ghost use Rattle.std.specs.Prelude.{◌≡◌, ℕ, ◌||◌, ◌&&◌, not, ◌<◌, ◌≤◌, ◌↔◌, true, false, Err, map, is_some, is_none, nat_eq, IfOk, IfSome, IsTrue};
+ghost use Rattle.std.specs.Prelude.{◌≡◌, ℕ, ◌||◌, ◌&&◌, not, ◌<◌, ◌≤◌, ◌↔◌, true, false, Err, map, is_none, nat_eq, IfOk, IfSome, IsTrue};
 ghost use Rattle.std.specs.List.{filter_map, list_any};
 ghost use Rattle.std.specs.Option.{option_map};
 ghost use Rattle.lp_stack.specs.TaskView.{seen};
@@ -20,7 +20,6 @@ ghost use Rattle.lp_transition.specs.inside.ScanSteps.{waiting_slot, tasks_of, i
 ghost use Rattle.lp_transition.specs.declared.engine.step.Halt.TheVariants.{JournalFull};
 
 use super::Core;
-use super::open_scan::looks_at_all;
 use super::step::{Halt, Step};
 use super::switches::switch_scanned;
 use crate::{Event, GroupList, MOST_EVENTS, Reply, What};
@@ -141,9 +140,16 @@ impl<M: Consistency> Core<M> {
         ensures last_scan { IsLastScanAfter M.rules self.old step.now.event self.new }
     {
         self.events += 1;
-        self.blames.note(&self.tasks, step.verdicts());
+        self.blames
+            .note(&mut self.refused, &self.tasks, step.verdicts());
         let kind = scan_kind(step.event());
-        switch_scanned(&mut self.tasks, &mut self.waiting, step, self.target);
+        switch_scanned(
+            &mut self.tasks,
+            &mut self.waiting,
+            &self.refused,
+            step,
+            self.target,
+        );
         if self.waiting.is_empty() {
             self.unchanged.reset();
             return;
@@ -389,25 +395,21 @@ pub(super) fn remove_group(groups: &mut NumberSet, tasks: &TaskTable, task: Task
     }
 }
 
-/// The verdicts may be of some waiting tasks alone, and then others still wait.
+/// Whether a task waits, and these verdicts, which are by increasing number, are of all that do and
+/// admit each. It stops at the first that doesn't fit.
 fn completes(waiting: &NumberSet, verdicts: &[Verdict]) -> bool
     ensures { IsTrue result ↔ ((all_admit verdicts.now ≡ true) × (tasks_of verdicts.now ≡ passing 0 65536 (has waiting.now))) }
 {
-    all_admit(verdicts) && looks_at_all(waiting, verdicts)
-}
-
-/// Whether a task was looked at, and each was admitted.
-fn all_admit(verdicts: &[Verdict]) -> bool
-    ensures { result ≡ all_admit verdicts.now }
-{
-    !verdicts.is_empty() && !any_refuses(verdicts)
-}
-
-/// Whether a task was refused.
-fn any_refuses(verdicts: &[Verdict]) -> bool
-    ensures { result ≡ list_any (λ verdict. is_some verdict.blame) verdicts.now }
-{
-    verdicts.iter().any(|verdict| verdict.blame.is_some())
+    let mut tasks = waiting.iter();
+    for verdict in verdicts {
+        if verdict.blame.is_some() {
+            return false;
+        }
+        if tasks.next() != Some(verdict.task.0) {
+            return false;
+        }
+    }
+    !verdicts.is_empty() && tasks.next().is_none()
 }
 
 /// Whether a task was admitted.

@@ -1,5 +1,5 @@
 //! The answers to events that are no scans.
-ghost use Rattle.std.specs.Prelude.{◌≡◌, ◌≢◌, ◌≤◌, ◌<◌, ◌↔◌, ℕ, [], ◌∷◌, true, false, None, Some, Err, IfOk, IsErr, IsTrue};
+ghost use Rattle.std.specs.Prelude.{◌≡◌, ◌≢◌, ◌≤◌, ◌<◌, ◌↔◌, ℕ, [], ◌∷◌, true, false, None, Some, Err, IfOk, IsTrue};
 ghost use Rattle.lp_transition.specs.declared.engine.step.Halt.TheVariants.{NoMemory, JournalFull};
 ghost use Rattle.lp_definitions.specs.Events.{is_scan};
 ghost use Rattle.std.specs.Option.{ForSome};
@@ -11,9 +11,10 @@ ghost use Rattle.lp_machine.specs.Steps.{IsReply};
 ghost use Rattle.lp_machine.specs.Machine.{refusal_of, answer};
 
 use super::Core;
+use super::dispatch::{done, refused};
 use super::step::{Halt, Step};
-use crate::{Event, GroupList, MOST_EVENTS, Refusal, Reply, What};
-use lp_model::{CheckKind, Consistency};
+use crate::{Event, GroupList, MOST_EVENTS, Reply, What};
+use lp_model::Consistency;
 use lp_numbers::NumberSet;
 use lp_stack::{GroupId, Level, TaskId};
 use lp_symbols::SymId;
@@ -43,35 +44,9 @@ impl<M: Consistency> Core<M> {
         Ok(Step::plain(alloc, event, reply))
     }
 
-    /// The answer to an accepted event that is no scan. The reply to a call names the level before it is taken: a call never
-    /// switches its task.
-    #[inline(always)]
-    pub(super) fn answer_accepted(&self, alloc: Global, event: Event) -> Result<Reply, AllocError>
-        requires room { self.now.number < 1000000 }
-        requires accepted { refusal_of M.rules (state_in self.now) event ≡ None }
-        requires scan { is_scan event ≡ false }
-        ensures memory { IsErr result → IsTrue (may_allocate event (answer M.rules (state_in self.now) event).what) }
-        ensures answer { IfOk result (λ reply. reply ≡ answer M.rules (state_in self.now) event) }
-    {
-        match event {
-            Event::Call(task, func) => Ok(self.answer_call(task, func)),
-            Event::Ret(task) => Ok(self.answer_done(event, task)),
-            Event::Sleep(task) => Ok(self.answer_done(event, task)),
-            Event::Wake(task) => Ok(self.answer_done(event, task)),
-            Event::Enter(task) => Ok(self.answer_done(event, task)),
-            Event::Exit(task) => self.answer_own_check(alloc, CheckKind::KernelExit, task),
-            Event::Idle(task) => self.answer_own_check(alloc, CheckKind::IdlePoint, task),
-            Event::Resched(task) => self.answer_own_check(alloc, CheckKind::Resched, task),
-            Event::Fork(parent, _, _) => Ok(self.answer_done(event, parent)),
-            Event::Die(task) => Ok(self.answer_die(task)),
-            Event::Enable | Event::Disable | Event::Reverse => Ok(self.answer_control(event)),
-            Event::Walk | Event::Stop => unreachable!(),
-        }
-    }
-
     /// The answer to an accepted call.
     #[inline(always)]
-    fn answer_call(&self, task: TaskId, func: SymId) -> Reply
+    pub(super) fn answer_call(&self, task: TaskId, func: SymId) -> Reply
         requires room { self.now.number < 1000000 }
         requires accepted { refusal_of M.rules (state_in self.now) (Event.Call task func) ≡ None }
         ensures { result ≡ answer M.rules (state_in self.now) (Event.Call task func) }
@@ -85,7 +60,7 @@ impl<M: Consistency> Core<M> {
     /// A return, a sleep, a wake-up or an entry into the kernel is no check and ends no task, and a child begins on its
     /// parent's level: so there is nothing to look at.
     #[inline(always)]
-    fn answer_done(&self, event: Event, task: TaskId) -> Reply
+    pub(super) fn answer_done(&self, event: Event, task: TaskId) -> Reply
         requires room { self.now.number < 1000000 }
         requires accepted { refusal_of M.rules (state_in self.now) event ≡ None }
         requires is_answered_done { is_answered_done event ≡ true }
@@ -98,7 +73,7 @@ impl<M: Consistency> Core<M> {
     }
 
     /// A task that ends may have been the last that waited: then its end completes the transition.
-    fn answer_die(&self, task: TaskId) -> Reply
+    pub(super) fn answer_die(&self, task: TaskId) -> Reply
         requires room { self.now.number < 1000000 }
         requires accepted { refusal_of M.rules (state_in self.now) (Event.Die task) ≡ None }
         ensures { result ≡ answer M.rules (state_in self.now) (Event.Die task) }
@@ -107,28 +82,6 @@ impl<M: Consistency> Core<M> {
             what: What::Done,
             completed: is_only(&self.waiting, task.0),
         }
-    }
-}
-
-/// The answer to an event that was accepted and switched no group.
-#[inline(always)]
-pub(super) fn done() -> Reply
-    ensures { result ≡ record { what = What.Done; completed = false } }
-{
-    Reply {
-        what: What::Done,
-        completed: false,
-    }
-}
-
-/// The answer to a refused event.
-#[inline(always)]
-pub(super) fn refused(why: Refusal) -> Reply
-    ensures { result ≡ record { what = What.Refused why; completed = false } }
-{
-    Reply {
-        what: What::Refused(why),
-        completed: false,
     }
 }
 

@@ -9,8 +9,8 @@ use super::*;
 use lp_desk::{Book, OpenedBook};
 use lp_log::{Log, Opened};
 use lp_model::{CheckKind, Verdict};
-use lp_scan::{Judged, judge};
-use lp_transition::{Core, verdicts};
+use lp_scan::{Judged, judge, scan_plain};
+use lp_transition::Core;
 use std::alloc::AllocError;
 
 /// Task 1 sleeps in a call of `a` as the transition begins.
@@ -26,13 +26,12 @@ fn found<M: Consistency>(alloc: Global, core: &Core<M>) -> Result<Vec<Verdict>, 
     ensures { IfOk result (λ found. found.items ≡ verdicts_of M.rules Walk (state_in core.now)) }
 {
     let views = core.views(alloc)?;
-    let model = core.model();
-    verdicts(
+    scan_plain(
         alloc,
-        &model,
+        core.model(),
         CheckKind::Walk,
-        views.as_slice(),
         &core.aim(),
+        views.as_slice(),
     )
 }
 

@@ -8,7 +8,6 @@ ghost use Rattle.lp_machine.specs.Table.{state_in};
 
 use super::*;
 use lp_model::{CheckKind, Verdict};
-use lp_transition::verdicts;
 
 /// Whether so many events are numbered, and the engine is in transition or not.
 fn is_at(core: &Core<Hybrid>, events: u64, in_transition: bool) -> bool {
@@ -52,12 +51,12 @@ fn found(alloc: Global, core: &Core<Hybrid>) -> Result<Vec<Verdict>, AllocError>
     ensures { IfOk result (λ found. found.items ≡ verdicts_of (rules_of hybrid) Walk (state_in core.now)) }
 {
     let views = core.views(alloc)?;
-    verdicts(
+    scan_plain(
         alloc,
-        &Hybrid,
+        Hybrid,
         CheckKind::Walk,
-        views.as_slice(),
         &core.aim(),
+        views.as_slice(),
     )
 }
 

@@ -5,7 +5,7 @@ ghost use Rattle.lp_transition.specs.Weigh.{IsWeighed};
 
 use super::*;
 use lp_model::CheckKind;
-use lp_transition::{StandingBlame, verdicts};
+use lp_transition::StandingBlame;
 
 /// A task that waits and sleeps in a call.
 const HELD: [Event; 4] = [
@@ -24,8 +24,7 @@ fn open_scan<M: Consistency>(alloc: Global, core: &Core<M>, kind: CheckKind) -> 
     ensures { IfOk result (λ step. IsWeighed M.rules core.now step) }
 {
     let views = core.open_views(alloc)?;
-    let model = core.model();
-    let found = verdicts(alloc, &model, kind, views.as_slice(), &core.aim())?;
+    let found = scan_plain(alloc, core.model(), kind, &core.aim(), views.as_slice())?;
     core.weigh_open(alloc, kind, found.as_slice())
 }
 

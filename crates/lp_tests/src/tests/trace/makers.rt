@@ -13,8 +13,9 @@ use super::*;
 use given::{given_by, given_in, heads, lines};
 use lp_cert::{Cert, CertLines, CertListRef, LegEndRef, LegEnds, LegList, LineList, Maker};
 use lp_model::CheckKind;
+use lp_scan::scan_plain;
 use lp_trace::ReplyList;
-use lp_transition::{Halt, Reply, Step, What, verdicts};
+use lp_transition::{Halt, Reply, Step, What};
 use std::alloc::AllocError;
 
 /// A scan of this kind, weighed by the verdicts on all who wait.
@@ -23,7 +24,7 @@ fn scan(alloc: Global, core: &Core<Hybrid>, kind: CheckKind) -> Result<Step, Hal
     ensures { IfOk result (λ step. IsWeighed (rules_of hybrid) core.now step) }
 {
     let views = core.views(alloc)?;
-    let found = verdicts(alloc, &core.model(), kind, views.as_slice(), &core.aim())?;
+    let found = scan_plain(alloc, core.model(), kind, &core.aim(), views.as_slice())?;
     core.weigh_scan(alloc, kind, found.as_slice())
 }
 

@@ -15,8 +15,7 @@ fn open_scan<M: Consistency>(alloc: Global, core: &Core<M>, kind: CheckKind) -> 
     ensures { IfOk result (λ step. IsWeighed M.rules core.now step) }
 {
     let views = core.open_views(alloc)?;
-    let model = core.model();
-    let found = verdicts(alloc, &model, kind, views.as_slice(), &core.aim())?;
+    let found = scan_plain(alloc, core.model(), kind, &core.aim(), views.as_slice())?;
     core.weigh_open(alloc, kind, found.as_slice())
 }
 

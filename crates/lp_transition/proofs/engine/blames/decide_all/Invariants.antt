@@ -10,6 +10,6 @@ abbrev pub invariant-loop-verdict : goal.invariant-loop-verdict
 invariant-loop-verdict l = record {
   few : length l.of_group ≤ 65536;
   blames : (group : ℕ) → group < 65536 → blame_at l.of_group group ≡ or_blame (blame_at l.fn.of_group group) (found_by l.tasks group (take l.verdict-index l.verdicts));
-  decides : (group : ℕ) → group < 65536 → has l.decided group ≡ is_some (first_of (map (told_of l.tasks group) (take l.verdict-index l.verdicts)));
+  decides : (group : ℕ) → group < 65536 → has l.refused group ≡ is_some (first_of (map (told_of l.tasks group) (take l.verdict-index l.verdicts)));
   others : (group : ℕ) → has l.noted group ≡ false → blame_at l.of_group group ≡ None;
 }

@@ -19,7 +19,7 @@ returns-clause-blames c =
     let gone = sym c.has_frame.ensures ∙ c.if-has_frame.false in
     let stands : blame_at old c.group-group.result.0 ≡ Some b = ap (λ (bs : List (Option StandingBlame)). blame_at bs c.group-group.result.0) c.self.view_is ∙ (sym c.of.ensures ∙ c.in-Some-of.is) in
     λ group.
-    looked-gone c.args.tasks.now c.args.task.0 c.group-group.result.0 x b old (sym c.in-Some.ensures.value) c.group-group.ensures stands c.if-blame-task.false gone c.put.new.self c.put.ensures.blames group
+    looked-gone c.args.tasks.now c.args.task.0 c.group-group.result.0 x b old (sym c.in-Some.ensures.value) c.group-group.ensures stands c.if-blame-task.false gone c.put.new.self c.put.ensures.values group
     ∙ ap (λ (bs : List (Option StandingBlame)). looked_at c.args.tasks.now c.args.task.0 group (blame_at bs group)) c.self.view_is
 
 pub returns-then-has_frame-clause-groups : goal.returns-then-has_frame-clause-groups

@@ -2,7 +2,7 @@ use Rattle.std.proofs.Common.{◌≡◌, map, take}
 use Rattle.lp_stack.specs.TaskView.{seen}
 use Rattle.lp_patch.specs.Aimed.{aimed}
 use Rattle.lp_transition.specs.Scan.{verdict_of}
-use Rattle.lp_transition.proofs.engine.dispatch.verdicts.Given as goal
+use Rattle.lp_scan.proofs.plain.scan_plain.Given as goal
 
 -- the verdicts so far
 abbrev pub invariant-loop-view : goal.invariant-loop-view

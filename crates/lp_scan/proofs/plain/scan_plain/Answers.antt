@@ -7,7 +7,7 @@ use Rattle.lp_patch.specs.Aimed.{aimed}
 use Rattle.lp_model.specs.declared.check.Blame.{Blame}
 use Rattle.lp_model.specs.declared.verdict.Verdict.{Verdict}
 use Rattle.lp_transition.specs.Scan.{verdict_of}
-use Rattle.lp_transition.proofs.engine.dispatch.verdicts.Goals as goal
+use Rattle.lp_scan.proofs.plain.scan_plain.Goals as goal
 
 pub loop-view-preserved : goal.loop-view-preserved
 loop-view-preserved g c =
