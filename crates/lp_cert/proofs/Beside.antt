@@ -20,9 +20,9 @@ module _ (lists : List (List Reason)) (scans : List ℕ) (group : GroupId) (head
       omega (arith, all, counted)
 
   -- the lines of a group whose older reasons end with some of these begin with the lines of those
-  pub beside : (shared : List Reason) (lines after : List Line) (most count : ℕ) → IsTail shared (get_or lists head.older.0 []) → line_count shared ≤ most → most < 18446744073709551615
+  pub beside : (shared : List Reason) (lines after : List Line) (count : ℕ) → IsTail shared (get_or lists head.older.0 []) → line_count shared < 4294967295
       → IsLineCount shared count → lines ≡ reverse (lines_of scans shared) ++ after → BeginWith lines (reverse (head_lines lists scans group head)) count after
-  beside shared lines after most count tail few small counted so =
+  beside shared lines after count tail told counted so =
       let this = get_or lists head.older.0 [] in
       let ongoing = ongoing_reasons scans group head.ongoing in
       let fits = subst (AllByRecursion (FitsIn (length scans))) (sym tail.rest) (all_dropped (FitsIn (length scans)) (length this - length shared) this is_head.fits) in

@@ -7,7 +7,7 @@ use Rattle.std.proofs.lemmas.List.Sums.{fold-append}
 use Rattle.std.specs.List.{fold}
 use Rattle.lp_cert.specs.declared.reason.Reason.{Reason}
 use Rattle.lp_cert.specs.declared.chains.Entry.{Entry}
-use Rattle.lp_cert.specs.inside.Chains.{with_entry, lists_of, reason_count, IsLineCount, IsTail, IsLinked, AreLinked}
+use Rattle.lp_cert.specs.inside.Chains.{with_entry, lists_of, reason_count, IsEmptyAt, IsEntryAt, IsLineCount, IsTail, IsLinked, AreLinked}
 
 -- an entry adds one list
 with_entry-length : (lists : List (List Reason)) (entry : Entry) → length (with_entry lists entry) ≡ suc (length lists)
@@ -127,54 +127,29 @@ empty_first entries = fold-keeps ([] ∷ []) entries 0 (omega arith)
 pub place_below : (entries : List Entry) (at : ℕ) → at < length (lists_of entries) → 0 < at → at - 1 < length entries
 place_below entries at known h = omega (arith, lists_of-length entries)
 
-module _ (entries : List Entry) (at : ℕ) (entry : Entry) (linked : AreLinked ([] ∷ []) entries) (known : at < length (lists_of entries)) (some : 0 < at) (is : entry ≡ get_or entries (at - 1) entry) where
-  -- a list is its newest reason and an earlier list
-  pub one_on : get_or (lists_of entries) at [] ≡ entry.reason ∷ get_or (lists_of entries) entry.older.0 []
-  unfolding lists_of
-  one_on =
-      let e : at ≡ 1 + (at - 1) = omega arith in
-      ap (λ k. get_or (lists_of entries) k []) e ∙ fold-at ([] ∷ []) entries (at - 1) entry linked (place_below entries at known some) is
+-- the empty list has none
+pub empty_at : (entries : List Entry) (at : ℕ) → at ≡ 0 → IsEmptyAt (lists_of entries) at
+empty_at entries at none = record { first = none; empty = ap (λ k. get_or (lists_of entries) k []) none ∙ empty_first entries }
 
-  -- and its entry is linked to those before it
-  pub linked_at : IsLinked (lists_of entries) at entry
-  unfolding lists_of
-  linked_at =
-      let e : 1 + (at - 1) ≡ at = omega arith in
-      subst (λ n. IsLinked (lists_of entries) n entry) e (fold-linked ([] ∷ []) entries (at - 1) entry linked (place_below entries at known some) is)
+-- a list is its newest reason and an earlier list, and its entry is linked to those before it
+pub entry_at : (entries : List Entry) (at : ℕ) (entry : Entry) → AreLinked ([] ∷ []) entries → at < length (lists_of entries) → 0 < at → entry ≡ get_or entries (at - 1) entry
+    → IsEntryAt (lists_of entries) at entry
+unfolding lists_of
+entry_at entries at entry linked known some is =
+    let e : 1 + (at - 1) ≡ at = omega arith in
+    let below = place_below entries at known some in
+    record {
+      list = ap (λ k. get_or (lists_of entries) k []) (sym e) ∙ fold-at ([] ∷ []) entries (at - 1) entry linked below is;
+      linked = subst (λ n. IsLinked (lists_of entries) n entry) e (fold-linked ([] ∷ []) entries (at - 1) entry linked below is);
+    }
 
-  -- and counts its reasons
-  pub counted : entry.count ≡ length (get_or (lists_of entries) at [])
-  counted = linked_at.count ∙ ap length (sym one_on)
-
-  -- and their lines
-  pub lines_counted : IsLineCount (get_or (lists_of entries) at []) entry.lines
-  lines_counted = subst (λ list. IsLineCount list entry.lines) (sym one_on) linked_at.lines
-
-pub some_place : (entries : List Entry) (at : ℕ) → 0 < length (get_or (lists_of entries) at []) → 0 < at
-some_place entries zero some =
-    let e = ap length (empty_first entries) in
-    absurd (omega arith)
-some_place entries (suc at) some = omega arith
-
--- the empty list has no reason
-pub none_counted : (entries : List Entry) (at : ℕ) → at ≡ 0 → 0 ≡ length (get_or (lists_of entries) at [])
-none_counted entries at none = ap length (sym (ap (λ k. get_or (lists_of entries) k []) none ∙ empty_first entries))
-
--- and no line
-pub no_lines : (entries : List Entry) (at : ℕ) → at ≡ 0 → IsLineCount (get_or (lists_of entries) at []) 0
-no_lines entries at none =
-    let empty = ap (λ k. get_or (lists_of entries) k []) none ∙ empty_first entries in
-    subst (λ list. IsLineCount list 0) (sym empty) (record { no_more = omega arith; all = λ _. refl })
-
--- nor an older list
-pub nothing_older : (entries : List Entry) (at : ℕ) → at ≡ 0 → get_or (lists_of entries) at [] ≡ drop 1 (get_or (lists_of entries) at [])
-nothing_older entries at none =
-    let empty = ap (λ k. get_or (lists_of entries) k []) none ∙ empty_first entries in
-    empty ∙ ap (drop 1) (sym empty)
+-- no reason has no line
+pub no_lines : (list : List Reason) → list ≡ [] → IsLineCount list 0
+no_lines list empty = subst (λ list. IsLineCount list 0) (sym empty) (record { no_more = omega arith; all = λ _. refl })
 
 -- the lines of one more reason are counted
 pub one_more_counted : (list : List Reason) (reason : Reason) (lines more all : ℕ) → IsLineCount list lines → more ≡ reason_count reason
-    → all ≡ min (lines + more) 18446744073709551615 → IsLineCount (reason ∷ list) all
+    → all ≡ min (min (lines + more) 18446744073709551615) 4294967295 → IsLineCount (reason ∷ list) all
 one_more_counted list reason lines more all is own sum = record {
   no_more = omega (arith, is.no_more);
   all = λ few. omega (arith, is.all (omega arith));

@@ -1,5 +1,4 @@
 pub mod ChainLemmas
-pub mod GroupSets
 pub mod PartLemmas
 pub mod LegRows
 pub mod LineLemmas
@@ -30,6 +29,7 @@ pub mod UnchangedScans
 pub mod Bare
 pub mod Listed
 pub mod Keeping
+pub mod KeptCerts
 pub mod Making
 pub mod BareLines
 pub mod Noted

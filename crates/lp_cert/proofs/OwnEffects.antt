@@ -23,7 +23,7 @@ use Rattle.lp_cert.specs.Waiters.{WaitingGroups}
 use Rattle.lp_cert.specs.inside.Invariant.{with_verdicts}
 use Rattle.lp_cert.specs.inside.OwnEffects.{HasOwnRoom}
 use Rattle.lp_cert.specs.inside.StepLines.{noted_by, noted_lines, stepped_lines}
-use Rattle.lp_cert.specs.inside.Waiters.{HasFewGroups, HasHeadFor, HasHeads, IsUsedVerdict, lines_at, own_lines, scanned_lines}
+use Rattle.lp_cert.specs.inside.Waiters.{HasFewGroups, IsUsedVerdict, lines_at, own_lines, scanned_lines}
 use Rattle.lp_cert.proofs.MoreWaiters.{used_enough}
 use Rattle.lp_cert.proofs.UnchangedSteps.{scan_is}
 
@@ -36,10 +36,10 @@ none_some None none = refl
 none_some (Some x) none = cc
 
 -- there is room for what an event does by itself
-pub own_room : (event : Event) (waiters : WaitingGroups) → HasHeads waiters → HasHeadFor event waiters.reasons → 1 < waiters.reasons.room → HasOwnRoom event waiters
-own_room (Fork p c how) waiters heads child room = (child, room)
-own_room (Resched t) waiters heads child room = (heads, room)
-own_room _ waiters heads child room = tt
+pub own_room : (event : Event) (waiters : WaitingGroups) → 1 < waiters.reasons.room → HasOwnRoom event waiters
+own_room (Fork p c how) waiters room = room
+own_room (Resched t) waiters room = room
+own_room _ waiters room = tt
 
 -- an event that is told by itself
 abbrev pub is_told : Event → Bool

@@ -31,15 +31,14 @@ is_opened event what = is_control event && is_none (refusal_in what)
 abbrev pub is_opening : Weighed → Bool
 is_opening step = is_opened step.event step.reply.what
 
--- room for an event, with so many verdicts, that may open a leg
+-- room for an event that may open a leg
 pub record Room : Type 0 where
   pub event : Event
-  pub verdicts : ℕ
   pub opens : Bool
 
 -- the room that an event needs
 abbrev pub room_for : Weighed → Room
-room_for step = record { event = step.event; verdicts = length step.verdicts; opens = is_opening step }
+room_for step = record { event = step.event; opens = is_opening step }
 
 -- the ends of the legs that ended, the end of the leg under way as it stands, and the event for which there is room
 pub record Made : Type 0 where

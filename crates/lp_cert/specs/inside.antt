@@ -2,7 +2,6 @@
 pub mod Bare
 pub mod OwnEffects
 pub mod Chains
-pub mod GroupSet
 pub mod StepLines
 pub mod Heads
 pub mod Invariant

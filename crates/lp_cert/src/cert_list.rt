@@ -11,7 +11,6 @@ use crate::cert_head::{CertHead, CommonHead};
 use crate::cert_lines::CertLines;
 use crate::chains::Chains;
 use crate::head::Waiter;
-use crate::many_certs::ManyCerts;
 use lp_definitions::Cert;
 use lp_stack::GroupId;
 use std::alloc::{AllocError, Global};
@@ -54,7 +53,12 @@ impl CertList {
         requires { AreHeads chains.lists (length scans.items) waiters.items }
         ensures { IfOk result (λ certs. certs ≡ map (kept_cert head.claim head.leg head.upto chains.lists scans.items) waiters.items) }
     {
-        let many = ManyCerts::new(head, waiters, chains, scans);
+        let many = ManyCerts {
+            head,
+            waiters,
+            chains,
+            scans,
+        };
         Ok(CertList {
             many: Box::new(alloc, many)?,
         })
@@ -68,6 +72,41 @@ impl CertList {
             kept: KeptRef::Many(&self.many),
         }
     }
+}
+
+/// Certificates of one leg, over the older reasons and the scans that they share.
+///
+/// Contracts see the list of these certificates.
+pub(crate) struct ManyCerts {
+    head: CommonHead,
+    waiters: Vec<Waiter>,
+    chains: Chains,
+    scans: Vec<u32>,
+}
+
+/// By hand, so that the proof of who owns one lets go of it in one step, not field by field.
+impl Drop for ManyCerts {
+    fn drop(self) {
+        let ManyCerts {
+            head: _,
+            waiters: _,
+            chains: _,
+            scans: _,
+        } = self;
+    }
+}
+
+impl Model for ManyCerts {
+    ghost use Rattle.std.specs.Prelude.{List, length, map};
+    ghost use Rattle.lp_definitions.specs.declared.cert.Cert.{Cert};
+    ghost use Rattle.lp_cert.specs.Waiters.{kept_cert};
+    ghost use Rattle.lp_cert.specs.inside.Waiters.{AreHeads};
+
+    ghost Value = { List Cert };
+
+    ghost view = { λ c. map (kept_cert c.head.claim c.head.leg c.head.upto c.chains.lists c.scans.items) c.waiters.items };
+
+    ghost invariant = { λ c. AreHeads c.chains.lists (length c.scans.items) c.waiters.items };
 }
 
 /// The certificates of one leg, borrowed from a list of them or of ends of legs.
@@ -111,7 +150,7 @@ impl<'a> CertListRef<'a> {
     {
         match self.kept {
             KeptRef::Bare(_, groups) => groups.len(),
-            KeptRef::Many(many) => many.len(),
+            KeptRef::Many(many) => many.waiters.len(),
         }
     }
 
@@ -153,7 +192,12 @@ impl<'a> CertListRef<'a> {
     {
         match self.kept {
             KeptRef::Bare(head, groups) => head.of_group(groups, place),
-            KeptRef::Many(many) => many.head(place),
+            KeptRef::Many(many) => CertHead {
+                claim: many.head.claim,
+                leg: u64::from(many.head.leg),
+                group: many.waiters[place].group,
+                upto: u64::from(many.head.upto),
+            },
         }
     }
 
@@ -166,7 +210,7 @@ impl<'a> CertListRef<'a> {
     {
         match self.kept {
             KeptRef::Bare(_, _) => true,
-            KeptRef::Many(many) => many.is_bare(place),
+            KeptRef::Many(many) => many.waiters[place].head.is_bare(&many.chains),
         }
     }
 
@@ -179,7 +223,7 @@ impl<'a> CertListRef<'a> {
     {
         match self.kept {
             KeptRef::Bare(_, _) => 0,
-            KeptRef::Many(many) => many.older_lines(place),
+            KeptRef::Many(many) => { many.chains.lines_to_share(many.waiters[place].head.older) }
         }
     }
 
@@ -195,7 +239,15 @@ impl<'a> CertListRef<'a> {
     {
         match self.kept {
             KeptRef::Bare(_, _) => (0, CertLines::none()),
-            KeptRef::Many(many) => many.lines_beside(place, other, most),
+            KeptRef::Many(many) => {
+                let chains = &many.chains;
+                let (one, beside) = (many.waiters[place], many.waiters[other]);
+                let shared = chains.shared(one.head.older, beside.head.older, most);
+                let after = one
+                    .head
+                    .lines_after(chains, many.scans.as_slice(), one.group, shared);
+                (chains.lines(shared), after)
+            }
         }
     }
 
@@ -206,7 +258,10 @@ impl<'a> CertListRef<'a> {
     {
         match self.kept {
             KeptRef::Bare(_, _) => CertLines::none(),
-            KeptRef::Many(many) => many.lines(place),
+            KeptRef::Many(many) => {
+                let Waiter { group, head } = many.waiters[place];
+                head.lines(&many.chains, many.scans.as_slice(), group)
+            }
         }
     }
 }

@@ -1,6 +1,6 @@
 //! Lists of reasons that share their older parts.
-ghost use Rattle.std.specs.Prelude.{◌≡◌, ◌+◌, ◌<◌, ◌≤◌, [], ◌∷◌, ◌++◌, Some, false, drop, length, slice_get, slice_index_or, IfOk, IsTrue, OnOk};
-ghost use Rattle.lp_cert.specs.inside.Chains.{IsLineCount, IsTail, line_count};
+ghost use Rattle.std.specs.Prelude.{◌≡◌, ◌+◌, ◌<◌, ◌≤◌, [], ◌∷◌, ◌++◌, Some, false, drop, length, slice_get, slice_index_or, IfNone, IfOk, IfSome, IsTrue, OnOk};
+ghost use Rattle.lp_cert.specs.inside.Chains.{IsEmptyAt, IsEntryAt, IsLineCount, IsTail, line_count};
 ghost use Rattle.lp_cert.specs.inside.Parts.{AreWithout};
 
 use crate::reason::Reason;
@@ -11,9 +11,12 @@ use std::marker::Model;
 /// How many lists are found by one search.
 pub(crate) const RUN: usize = 16;
 
+/// The greatest number in an entry.
+const MOST: usize = u32::MAX as usize;
+
 /// One of the lists.
 #[derive(Clone, Copy, Default)]
-pub(crate) struct ChainId(pub(crate) usize);
+pub(crate) struct ChainId(pub(crate) u32);
 
 /// A reason in front of a list.
 #[derive(Clone, Copy)]
@@ -21,9 +24,9 @@ pub(crate) struct Entry {
     pub(crate) reason: Reason,
     pub(crate) older: ChainId,
     /// How many reasons there are with this one.
-    pub(crate) count: usize,
+    pub(crate) count: u32,
     /// How many lines these have, or the greatest number where they have more.
-    pub(crate) lines: usize,
+    pub(crate) lines: u32,
     /// The older list or one further back. Without such jumps each step to the oldest reasons of a
     /// long list would follow all of its links.
     pub(crate) jump: ChainId,
@@ -41,12 +44,12 @@ pub(crate) struct Chains {
 }
 
 impl Model for Chains {
-    ghost use Rattle.std.specs.Prelude.{◌-◌, [], ◌∷◌, vec_len, vec_capacity};
+    ghost use Rattle.std.specs.Prelude.{◌-◌, [], ◌∷◌, min, vec_len, vec_capacity};
     ghost use Rattle.lp_cert.specs.inside.Chains.{Lists, lists_of, AreLinked};
 
     ghost Value = { Lists };
 
-    ghost view = { λ c. record { lists = lists_of c.entries.items; room = vec_capacity c.entries - vec_len c.entries } };
+    ghost view = { λ c. record { lists = lists_of c.entries.items; room = min (vec_capacity c.entries) 4294967295 - vec_len c.entries } };
 
     ghost invariant = { λ c. AreLinked ([] ∷ []) c.entries.items };
 }
@@ -78,12 +81,15 @@ impl Chains {
         self.entries.is_empty()
     }
 
-    /// Makes room for so many more lists; AllocError where an allocation failed.
+    /// Makes room for so many more lists; AllocError where an allocation failed or there would be too many to be told.
     pub(crate) fn reserve(&mut self, more: usize) -> Result<(), AllocError>
         ensures lists { self.new.lists ≡ self.old.lists }
         ensures room { OnOk result (more ≤ self.new.room) }
         ensures kept { self.old.room ≤ self.new.room }
     {
+        if more > MOST.saturating_sub(self.entries.len()) {
+            return Err(AllocError);
+        }
         self.entries.reserve(more)
     }
 
@@ -113,11 +119,11 @@ impl Chains {
         self.entries.push_reserved(Entry {
             reason,
             older,
-            count,
-            lines,
+            count: count as u32,
+            lines: lines.min(MOST) as u32,
             jump,
         });
-        ChainId(self.entries.len())
+        ChainId(self.entries.len() as u32)
     }
 
     /// The empty list.
@@ -131,31 +137,43 @@ impl Chains {
         ChainId(0)
     }
 
+    /// The entry of a list; the empty one has none.
+    #[inline(always)]
+    fn entry(&self, id: ChainId) -> Option<&Entry>
+        requires { id.0 < length self.now.lists }
+        ensures none { IfNone result (IsEmptyAt self.now.lists id.0) }
+        ensures some { IfSome result (λ entry. IsEntryAt self.now.lists id.0 entry.now) }
+    {
+        let entries = &self.entries;
+        if id.0 == 0 {
+            return None;
+        }
+        Some(&entries[id.0 as usize - 1])
+    }
+
     /// How many reasons a list has.
     pub(crate) fn count(&self, id: ChainId) -> usize
         requires { id.0 < length self.now.lists }
         ensures all { result ≡ length (slice_index_or self.now.lists id.0 []) }
         ensures few { result ≤ id.0 }
     {
-        let entries = &self.entries;
-        if id.0 == 0 {
-            return 0;
+        match self.entry(id) {
+            None => 0,
+            Some(entry) => entry.count as usize,
         }
-        entries[id.0 - 1].count
     }
 
-    /// How many lines the reasons of a list have, or the greatest number where they have more.
+    /// How many lines the reasons of a list have, or the greatest number that an entry tells where they have more.
     #[inline(always)]
     pub(crate) fn lines(&self, id: ChainId) -> usize
         requires { id.0 < length self.now.lists }
         ensures all { IsLineCount (slice_index_or self.now.lists id.0 []) result }
         ensures none { id.0 ≡ 0 → result ≡ 0 }
     {
-        let entries = &self.entries;
-        if id.0 == 0 {
-            return 0;
+        match self.entry(id) {
+            None => 0,
+            Some(entry) => entry.lines as usize,
         }
-        entries[id.0 - 1].lines
     }
 
     /// How many of the lines of a list other groups may have too.
@@ -173,7 +191,10 @@ impl Chains {
         requires some { 0 < length (slice_index_or self.now.lists id.0 []) }
         ensures { slice_get (slice_index_or self.now.lists id.0 []) 0 ≡ Some result }
     {
-        self.entries[id.0 - 1].reason
+        let Some(entry) = self.entry(id) else {
+            unreachable!()
+        };
+        entry.reason
     }
 
     /// A list without so many of its newest reasons, in some `log n` jumps where it has `n`.
@@ -193,7 +214,7 @@ impl Chains {
 
     /// The places of a list without so many of its newest reasons, without one more, and so on, before
     /// it is without another number of them: one search, and then a link each.
-    pub(crate) fn run(&self, id: ChainId, first: usize, end: usize) -> [usize; RUN]
+    pub(crate) fn run(&self, id: ChainId, first: usize, end: usize) -> [u32; RUN]
         requires known { id.0 < length self.now.lists }
         requires order { first ≤ end }
         requires few { end ≤ first + 16 }
@@ -213,12 +234,13 @@ impl Chains {
     pub(crate) fn shared(&self, first: ChainId, second: ChainId, most: usize) -> ChainId
         requires first { first.0 < length self.now.lists }
         requires second { second.0 < length self.now.lists }
-        requires most { most < 18446744073709551615 }
         ensures known { result.0 < length self.now.lists }
         ensures first { IsTail (slice_index_or self.now.lists result.0 []) (slice_index_or self.now.lists first.0 []) }
         ensures second { IsTail (slice_index_or self.now.lists result.0 []) (slice_index_or self.now.lists second.0 []) }
         ensures few { line_count (slice_index_or self.now.lists result.0 []) ≤ most }
+        ensures told { line_count (slice_index_or self.now.lists result.0 []) < 4294967295 }
     {
+        let most = most.min(MOST - 1);
         let mut shared = self.common(first, second);
         while self.lines(shared) > most {
             shared = self.older(shared);
@@ -254,11 +276,10 @@ impl Chains {
         ensures known { result.0 < length self.now.lists }
         ensures list { slice_index_or self.now.lists result.0 [] ≡ drop 1 (slice_index_or self.now.lists id.0 []) }
     {
-        let entries = &self.entries;
-        if id.0 == 0 {
-            return id;
+        match self.entry(id) {
+            None => id,
+            Some(entry) => entry.older,
         }
-        entries[id.0 - 1].older
     }
 
     /// A list further back that still has so many reasons, as far as one link leads.
@@ -270,7 +291,10 @@ impl Chains {
         ensures tail { IsTail (slice_index_or self.now.lists result.0 []) (slice_index_or self.now.lists id.0 []) }
         ensures enough { kept ≤ length (slice_index_or self.now.lists result.0 []) }
     {
-        let Entry { older, jump, .. } = self.entries[id.0 - 1];
+        let Some(entry) = self.entry(id) else {
+            unreachable!()
+        };
+        let Entry { older, jump, .. } = *entry;
         if self.count(jump) < kept { older } else { jump }
     }
 
@@ -296,9 +320,9 @@ impl Chains {
         ensures known { result.0 < length self.now.lists }
         ensures tail { IsTail (slice_index_or self.now.lists result.0 []) (slice_index_or self.now.lists id.0 []) }
     {
-        if id.0 == 0 {
-            return id;
+        match self.entry(id) {
+            None => id,
+            Some(entry) => entry.jump,
         }
-        self.entries[id.0 - 1].jump
     }
 }

@@ -9,7 +9,7 @@ use std::marker::Model;
 /// A list of ends of legs. Contracts see the list.
 #[derive(Drop)]
 pub struct LegList {
-    rows: LegRows,
+    pub(crate) rows: LegRows,
 }
 
 impl Model for LegList {
@@ -22,13 +22,6 @@ impl Model for LegList {
 }
 
 impl LegList {
-    /// The list of the ends that are kept so.
-    pub(crate) fn from_rows(rows: LegRows) -> LegList
-        ensures { result ≡ rows.ends }
-    {
-        LegList { rows }
-    }
-
     /// The ends, borrowed, one after the other.
     pub fn iter(&self) -> LegEnds<'_>
         ensures { ends_left result ≡ self.now }

@@ -12,11 +12,10 @@ ghost use Rattle.lp_cert.specs.inside.Invariant.{HasFloor, IsNoted, leg_at, wait
 ghost use Rattle.lp_cert.specs.inside.LegRows.{HasRoom};
 ghost use Rattle.lp_cert.specs.inside.ToldGroups.{Tells};
 ghost use Rattle.lp_cert.specs.inside.OwnEffects.{HasOwnRoom};
-ghost use Rattle.lp_cert.specs.inside.Waiters.{HasHeads, lines_at};
+ghost use Rattle.lp_cert.specs.inside.Waiters.{lines_at};
 ghost use Rattle.std.specs.Option.{option_map};
 
 mod control;
-mod passed;
 mod plain;
 mod quiet_scan;
 
@@ -26,9 +25,10 @@ use crate::leg_list::{LegEnds, LegList};
 use crate::leg_rows::LegRows;
 use crate::open_leg::OpenLeg;
 use crate::opening::opens_leg;
-use crate::waiters::Waiters;
+use crate::waiters::{OWN_REASONS, Waiters};
 use lp_definitions::{Cert, Claim};
 use lp_model::{CheckKind, Consistency};
+use lp_numbers::NUMBERS;
 use lp_stack::GroupId;
 use lp_transition::{Core, Event, Step};
 use std::alloc::{AllocError, Global};
@@ -39,8 +39,6 @@ use std::marker::Model;
 pub(crate) struct Ready {
     /// The event.
     pub(crate) event: Event,
-    /// How many verdicts it has.
-    pub(crate) verdicts: usize,
     /// Whether it opens a leg.
     pub(crate) opens: bool,
 }
@@ -117,12 +115,15 @@ impl Maker {
         ensures ready { OnOk result (self.new.ready ≡ Some (room_for step.now)) }
     {
         self.ready = None;
-        let verdicts = step.verdicts().len();
-        self.waiters.reserve(verdicts + 2, step.event())?;
+        let more = if step.event().is_scan() {
+            NUMBERS
+        } else {
+            OWN_REASONS
+        };
+        self.waiters.reserve(more)?;
         let opens = opens_leg(step.event(), &step.reply().what);
         let ready = Ready {
             event: step.event(),
-            verdicts,
             opens,
         };
         if opens {
@@ -177,8 +178,7 @@ impl Maker {
         ensures current { OnErr result (self.new.current ≡ self.old.current) }
     {
         self.ready = None;
-        self.waiters
-            .reserve(step.verdicts().len() + 2, step.event())?;
+        self.waiters.reserve(step.verdicts().len())?;
         self.noted = core.events() as u32 + 1;
         let Some(leg) = &mut self.current else {
             return Ok(());
@@ -261,7 +261,7 @@ impl Maker {
             ended.reserve()?;
             ended.push_reserved(leg.end(certs));
         }
-        Ok(LegList::from_rows(ended))
+        Ok(LegList { rows: ended })
     }
 
     /// Whether the leg under way is complete; false where there is none. Its end stays the same from
@@ -294,9 +294,8 @@ fn note_leg<M: Consistency>(
     requires weighed { IsWeighed M.rules core.now step.now }
     requires number { number ≡ suc core.now.number }
     requires floor { HasFloor waiters.old leg.old.completed }
-    requires heads { HasHeads waiters.old }
     requires own_room { HasOwnRoom step.now.event waiters.old }
-    requires all_room { is_scan step.now.event ≡ true → length waiters.old.reasons.heads ≤ waiters.old.reasons.room }
+    requires all_room { is_scan step.now.event ≡ true → 65536 ≤ waiters.old.reasons.room }
     requires scan_room { 0 < waiters.old.reasons.scan_room }
     ensures noted { IsNoted M.rules core.now step.now number leg.old leg.new waiters.old waiters.new }
     ensures floor { HasFloor waiters.new leg.new.completed }
@@ -326,7 +325,6 @@ fn scan_leg<M: Consistency>(
     requires tells { Tells M.rules core.now step.now }
     requires number { number ≡ suc core.now.number }
     requires floor { HasFloor waiters.old leg.old.completed }
-    requires heads { HasHeads waiters.old }
     requires room { length step.now.verdicts ≤ waiters.old.reasons.room }
     requires scan_room { 0 < waiters.old.reasons.scan_room }
     ensures noted { IsNoted M.rules core.now step.now number leg.old leg.new waiters.old waiters.new }

@@ -14,7 +14,7 @@ pub(crate) struct Found {
     /// How many reasons the list at the first place is without.
     pub(crate) first: usize,
     /// The places.
-    pub(crate) places: [usize; RUN],
+    pub(crate) places: [u32; RUN],
 }
 
 /// The reasons of a group that are left, of which the oldest comes next. No call allocates, and each

@@ -2,10 +2,9 @@
 ghost use Rattle.std.specs.Prelude.{◌≡◌, ◌||◌, true, false, None, is_some, length, IfOk, IsTrue, Some};
 ghost use Rattle.std.specs.Option.{option_map};
 ghost use Rattle.lp_cert.specs.Invariant.{end_waiters};
-ghost use Rattle.lp_cert.specs.inside.GroupSet.{IsLonger};
 ghost use Rattle.lp_cert.specs.inside.Invariant.{HasFloor, IsBareLeg, IsCompletedAt, certs_at, end_groups, head_after, leg_at};
 ghost use Rattle.lp_cert.specs.inside.LegRows.{row_after};
-ghost use Rattle.lp_cert.specs.inside.Waiters.{AreHeads};
+ghost use Rattle.lp_cert.specs.inside.Waiters.{AreHeads, IsLonger};
 
 use crate::cert_head::CommonHead;
 use crate::cert_list::CertList;

@@ -10,6 +10,7 @@ use crate::cert_lines::CertLines;
 use crate::chains::{ChainId, Chains};
 use crate::head::{Head, OwnFork, Refused, Waiter};
 use crate::ongoing::Ongoing;
+use lp_numbers::NumberTable;
 use lp_stack::GroupId;
 use std::alloc::{AllocError, Global};
 use std::marker::Model;
@@ -26,7 +27,7 @@ const NO_REASON: Head = Head {
 /// Contracts see the head of each group, the lists and the scans, and how many more reasons and
 /// scans there is room for.
 pub(crate) struct Reasons {
-    heads: Vec<Head>,
+    heads: NumberTable<Head>,
     chains: Chains,
     scans: Vec<u32>,
 }
@@ -48,59 +49,42 @@ impl Model for Reasons {
 
     ghost Value = { LegReasons };
 
-    ghost view = { λ r. record { heads = r.heads.items; lists = r.chains.lists; scans = r.scans.items; room = r.chains.room; scan_room = vec_capacity r.scans - vec_len r.scans } };
+    ghost view = { λ r. record { heads = r.heads; lists = r.chains.lists; scans = r.scans.items; room = r.chains.room; scan_room = vec_capacity r.scans - vec_len r.scans } };
 }
 
 impl Reasons {
-    /// No reason of any group. Never allocates.
-    pub(crate) fn new(alloc: Global) -> Reasons
-        ensures heads { (group : ℕ) → head_of result group ≡ no_head }
-        ensures lists { result.lists ≡ [] ∷ [] }
-        ensures scans { result.scans ≡ [] }
+    /// No reason of any group; AllocError where an allocation failed.
+    pub(crate) fn new(alloc: Global) -> Result<Reasons, AllocError>
+        ensures heads { IfOk result (λ reasons. (group : ℕ) → head_of reasons group ≡ no_head) }
+        ensures lists { IfOk result (λ reasons. reasons.lists ≡ [] ∷ []) }
+        ensures scans { IfOk result (λ reasons. reasons.scans ≡ []) }
     {
-        Reasons {
-            heads: Vec::new(alloc),
+        Ok(Reasons {
+            heads: NumberTable::new(alloc)?,
             chains: Chains::new(alloc),
             scans: Vec::new(alloc),
-        }
+        })
     }
 
-    /// Makes room for so many more reasons, for one more scan, and for the heads of the groups below
-    /// a number; AllocError where an allocation failed.
-    pub(crate) fn reserve(&mut self, more: usize, groups: usize) -> Result<(), AllocError>
-        ensures wide { OnOk result (groups ≤ length self.new.heads) }
-        ensures heads { (group : ℕ) → head_of self.new group ≡ head_of self.old group }
+    /// Makes room for so many more reasons, and for one more scan; AllocError where an allocation failed.
+    pub(crate) fn reserve(&mut self, more: usize) -> Result<(), AllocError>
+        ensures heads { self.new.heads ≡ self.old.heads }
         ensures lists { self.new.lists ≡ self.old.lists }
         ensures scans { self.new.scans ≡ self.old.scans }
         ensures room { OnOk result (more ≤ self.new.room) }
         ensures scan_room { OnOk result (0 < self.new.scan_room) }
     {
         self.scans.reserve(1)?;
-        self.chains.reserve(more)?;
-        widen(&mut self.heads, groups)
-    }
-
-    /// Makes room for one more reason of each group; AllocError where an allocation failed.
-    pub(crate) fn reserve_all(&mut self) -> Result<(), AllocError>
-        ensures heads { self.new.heads ≡ self.old.heads }
-        ensures lists { self.new.lists ≡ self.old.lists }
-        ensures scans { self.new.scans ≡ self.old.scans }
-        ensures room { OnOk result (length self.new.heads ≤ self.new.room) }
-        ensures no_less { self.old.room ≤ self.new.room }
-        ensures scan_room { self.new.scan_room ≡ self.old.scan_room }
-    {
-        self.chains.reserve(self.heads.len())
+        self.chains.reserve(more)
     }
 
     /// How a group stands.
     pub(crate) fn head(&self, group: GroupId) -> Head
         ensures { result ≡ head_of self.now group.0 }
     {
-        let at = usize::from(group.0);
-        if at < self.heads.len() {
-            self.heads[at]
-        } else {
-            NO_REASON
+        match self.heads.get(group.0) {
+            Some(head) => head,
+            None => NO_REASON,
         }
     }
 
@@ -146,35 +130,31 @@ impl Reasons {
         ensures lists { self.new.lists ≡ self.old.lists }
         ensures scans { self.new.scans ≡ self.old.scans }
     {
-        let at = usize::from(group.0);
-        if at >= self.heads.len() {
-            return;
+        match self.heads.get(group.0) {
+            Some(_) => self.heads.put(group.0, NO_REASON, NO_REASON),
+            None => {}
         }
-        self.heads[at] = NO_REASON;
     }
 
     /// A scan, which isn't noted yet, has refused a group. Never allocates.
     pub(crate) fn refuse(&mut self, group: GroupId, refused: &Refused)
         requires head { StandsAt (length self.old.scans) self.old group.0 }
-        requires wide { group.0 < length self.old.heads }
         requires room { 0 < self.old.room }
         requires used { IsUsed refused.now.blame }
         ensures refused { IsRefusedBy refused.now group self.old.scans (head_of self.old group.0) (head_of self.new group.0) self.old.lists self.new.lists }
         ensures others { (other : ℕ) → other ≢ group.0 → head_of self.new other ≡ head_of self.old other }
-        ensures width { length self.new.heads ≡ length self.old.heads }
         ensures scans { self.new.scans ≡ self.old.scans }
         ensures room { self.old.room ≤ self.new.room + 1 }
         ensures scan_room { self.new.scan_room ≡ self.old.scan_room }
     {
         let head = self.head(group);
         let next = head.refuse(&mut self.chains, self.scans.as_slice(), group, refused);
-        self.heads[usize::from(group.0)] = next;
+        self.heads.put(group.0, next, NO_REASON);
     }
 
     /// The own check of a group's only member has refused it. Never allocates.
     pub(crate) fn refuse_alone(&mut self, group: GroupId, refused: &Refused)
         requires head { StandsAt (length self.old.scans) self.old group.0 }
-        requires wide { group.0 < length self.old.heads }
         requires room { 1 < self.old.room }
         requires used { IsUsed refused.now.blame }
         ensures refused { IsRefusedAlone refused.now group self.old.scans (head_of self.old group.0) (head_of self.new group.0) self.old.lists self.new.lists }
@@ -183,13 +163,12 @@ impl Reasons {
     {
         let head = self.head(group);
         let next = head.refuse_alone(&mut self.chains, self.scans.as_slice(), group, refused);
-        self.heads[usize::from(group.0)] = next;
+        self.heads.put(group.0, next, NO_REASON);
     }
 
     /// A group gives birth to another. Never allocates.
     pub(crate) fn bear(&mut self, group: GroupId, birth: &OwnFork)
         requires head { StandsAt (length self.old.scans) self.old group.0 }
-        requires wide { birth.now.child.0 < length self.old.heads }
         requires room { 1 < self.old.room }
         ensures born { IsBornBy birth.now group self.old.scans (head_of self.old group.0) (head_of self.new birth.now.child.0) self.old.lists self.new.lists }
         ensures others { (other : ℕ) → other ≢ birth.now.child.0 → head_of self.new other ≡ head_of self.old other }
@@ -197,7 +176,7 @@ impl Reasons {
     {
         let head = self.head(group);
         let next = head.bear(&mut self.chains, self.scans.as_slice(), group, birth);
-        self.heads[usize::from(birth.child.0)] = next;
+        self.heads.put(birth.child.0, next, NO_REASON);
     }
 
     /// A copy of the older reasons, and of the scans; AllocError where an allocation failed.
@@ -249,16 +228,4 @@ impl Reasons {
     {
         self.scans.push_reserved(at);
     }
-}
-
-/// Makes a table of heads so long at least, by heads without any reason; AllocError where an
-/// allocation failed.
-fn widen(heads: &mut Vec<Head>, groups: usize) -> Result<(), AllocError>
-    ensures wide { OnOk result (groups ≤ length heads.new.items) }
-    ensures same { (n : ℕ) → slice_index_or heads.new.items n no_head ≡ slice_index_or heads.old.items n no_head }
-{
-    while heads.len() < groups {
-        heads.push(NO_REASON)?;
-    }
-    Ok(())
 }

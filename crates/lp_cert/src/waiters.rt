@@ -13,28 +13,26 @@ ghost use Rattle.lp_machine.specs.Table.{slot, state_in};
 ghost use Rattle.lp_tasks.specs.inside.Table.{is_in};
 ghost use Rattle.lp_definitions.specs.Certificates.{after_refusal, group_id};
 ghost use Rattle.lp_transition.specs.inside.ScanSteps.{groups_of};
-ghost use Rattle.lp_cert.specs.inside.GroupSet.{IsLonger};
 ghost use Rattle.lp_cert.specs.inside.Heads.{HasFrameAs, IsUsed};
 ghost use Rattle.lp_cert.specs.Heads.{head_lines};
 ghost use Rattle.lp_cert.specs.Invariant.{floor_waiters};
 ghost use Rattle.lp_cert.specs.Waiters.{head_of, waiter_in, waiters_of};
-ghost use Rattle.lp_cert.specs.inside.Waiters.{AreBare, HasHeadFor, HasHeads, IsAboveChild, AreHeads, AreStanding, StandsAt, IsJudged, AreJudged, IsUsedVerdict, is_left, after_birth, after_switch, has_off, lines_at, scanned_lines, AreTakenIn, IsTakenIn};
+ghost use Rattle.lp_cert.specs.inside.Waiters.{AreBare, IsLonger, AreHeads, AreStanding, StandsAt, IsJudged, AreJudged, IsUsedVerdict, is_left, after_birth, after_switch, has_off, lines_at, scanned_lines, AreTakenIn, IsTakenIn};
 
 mod held;
 mod own_effect;
 mod whole;
 
 use self::held::is_held;
-pub(crate) use self::own_effect::OwnEffect;
+pub(crate) use self::own_effect::{OWN_REASONS, OwnEffect};
 use crate::cert_lines::CertLines;
 use crate::chains::Chains;
-use crate::group_set::GroupSet;
 use crate::head::{OwnFork, Refused, Waiter};
 use crate::reasons::Reasons;
 use lp_model::{Consistency, Verdict};
 use lp_numbers::NumberSet;
 use lp_stack::{GroupId, Level, TaskId};
-use lp_transition::{Core, Event, What};
+use lp_transition::{Core, What};
 use std::alloc::{AllocError, Global};
 use std::marker::Model;
 
@@ -42,7 +40,7 @@ use std::marker::Model;
 ///
 /// Contracts see the set of these groups, and the reasons of all.
 pub(crate) struct Waiters {
-    groups: GroupSet,
+    groups: NumberSet,
     /// Within a scan the groups that it has refused so far.
     refused: NumberSet,
     reasons: Reasons,
@@ -76,31 +74,22 @@ impl Waiters {
         ensures none { IfOk result (λ waiters. IsEmpty waiters.groups) }
     {
         Ok(Waiters {
-            groups: GroupSet::new(alloc)?,
+            groups: NumberSet::new(alloc)?,
             refused: NumberSet::new(alloc)?,
-            reasons: Reasons::new(alloc),
+            reasons: Reasons::new(alloc)?,
         })
     }
 
-    /// Makes room for an event with so many more reasons, for one more scan, and for what is kept of
-    /// each group that waits then; at a scan for one more reason of each. AllocError where an allocation failed.
-    pub(crate) fn reserve(&mut self, more: usize, event: Event) -> Result<(), AllocError>
+    /// Makes room for so many more reasons, and for one more scan; AllocError where an allocation failed.
+    pub(crate) fn reserve(&mut self, more: usize) -> Result<(), AllocError>
         ensures groups { self.new.groups ≡ self.old.groups }
-        ensures wide { OnOk result (HasHeads self.new) }
-        ensures child { OnOk result (HasHeadFor event self.new.reasons) }
         ensures heads { (group : ℕ) → head_of self.new.reasons group ≡ head_of self.old.reasons group }
         ensures lists { self.new.reasons.lists ≡ self.old.reasons.lists }
         ensures scans { self.new.reasons.scans ≡ self.old.reasons.scans }
         ensures room { OnOk result (more ≤ self.new.reasons.room) }
-        ensures all_room { OnOk result (is_scan event ≡ true → length self.new.reasons.heads ≤ self.new.reasons.room) }
         ensures scan_room { OnOk result (0 < self.new.reasons.scan_room) }
     {
-        let groups = self.groups.bound().max(above_child(event));
-        self.reasons.reserve(more, groups)?;
-        if matches!(event, Event::Walk | Event::Stop) {
-            self.reasons.reserve_all()?;
-        }
-        Ok(())
+        self.reasons.reserve(more)
     }
 
     /// Whether a group waits.
@@ -160,7 +149,7 @@ impl Waiters {
     pub(crate) fn append_to(&self, list: &mut Vec<GroupId>) -> Result<(), AllocError>
         ensures { IsLonger list.old.items list.new.items result (map group_id (passing 0 65536 (has self.now.groups))) }
     {
-        self.groups.append_to(list)
+        append(&self.groups, list)
     }
 
     /// A copy of the older reasons, and of the scans; AllocError where an allocation failed.
@@ -202,7 +191,6 @@ impl Waiters {
     /// A group that waits gives birth to another, which waits too. Never allocates.
     fn bear(&mut self, parent: GroupId, birth: &OwnFork)
         requires waits { has self.old.groups parent.0 ≡ true }
-        requires wide { birth.now.child.0 < length self.old.reasons.heads }
         requires room { 1 < self.old.reasons.room }
         ensures { (group : ℕ) → lines_at self.new group ≡ after_birth birth.now parent.0 (lines_at self.old) group }
     {
@@ -231,7 +219,6 @@ impl Waiters {
     /// allocates.
     pub(crate) fn scan<M: Consistency>(&mut self, core: &Core<M>, at: u32, verdicts: &[Verdict])
         requires used { AllByRecursion IsUsedVerdict verdicts.now }
-        requires wide { HasHeads self.old }
         requires room { length verdicts.now ≤ self.old.reasons.room }
         requires scan_room { 0 < self.old.reasons.scan_room }
         ensures lines { (group : ℕ) → lines_at self.new group ≡ scanned_lines (state_in core.now) at verdicts.now self.old group }
@@ -246,7 +233,6 @@ impl Waiters {
     /// The own check of the only member of a group that waits refuses it. Never allocates.
     fn refuse_alone(&mut self, group: GroupId, refused: &Refused)
         requires waits { has self.old.groups group.0 ≡ true }
-        requires wide { group.0 < length self.old.reasons.heads }
         requires room { 1 < self.old.reasons.room }
         requires used { IsUsed refused.now.blame }
         ensures { (has_frame : (task serial : ℕ) → Bool) → HasFrameAs has_frame (head_of self.old.reasons group.0).ongoing refused.now.frame_stands → (other : ℕ) → lines_at self.new other ≡ (if nat_eq other group.0 then option_map (after_refusal has_frame other refused.now.at (refused.now.task.0, refused.now.blame)) (lines_at self.old other) else lines_at self.old other) }
@@ -296,12 +282,11 @@ fn judge_all<M: Consistency>(
     core: &Core<M>,
     at: u32,
     verdicts: &[Verdict],
-    waiting: &GroupSet,
+    waiting: &NumberSet,
     refused: &mut NumberSet,
     reasons: &mut Reasons,
 )
     requires stand { (group : ℕ) → is_left waiting.now refused.old group ≡ true → StandsAt (length reasons.old.scans) reasons.old group }
-    requires wide { (group : ℕ) → has waiting.now group ≡ true → group < length reasons.old.heads }
     requires used { AllByRecursion IsUsedVerdict verdicts.now }
     requires room { length verdicts.now ≤ reasons.old.room }
     ensures { AreJudged (state_in core.now) at verdicts.now (is_left waiting.now refused.old) (is_left waiting.now refused.new) reasons.old reasons.new }
@@ -316,16 +301,14 @@ fn judge<M: Consistency>(
     core: &Core<M>,
     at: u32,
     verdict: &Verdict,
-    waiting: &GroupSet,
+    waiting: &NumberSet,
     refused: &mut NumberSet,
     reasons: &mut Reasons,
 )
     requires stand { (group : ℕ) → is_left waiting.now refused.old group ≡ true → StandsAt (length reasons.old.scans) reasons.old group }
-    requires wide { (group : ℕ) → has waiting.now group ≡ true → group < length reasons.old.heads }
     requires used { IsUsedVerdict verdict.now }
-    requires room { (group : ℕ) → is_left waiting.now refused.old group ≡ true → 0 < reasons.old.room }
-    ensures width { length reasons.new.heads ≡ length reasons.old.heads }
-    ensures spent { reasons.old.room + count_below (is_left waiting.now refused.new) (length reasons.old.heads) ≤ reasons.new.room + count_below (is_left waiting.now refused.old) (length reasons.old.heads) }
+    requires room { (group : ℕ) → group < 65536 → is_left waiting.now refused.old group ≡ true → 0 < reasons.old.room }
+    ensures spent { reasons.old.room + count_below (is_left waiting.now refused.new) 65536 ≤ reasons.new.room + count_below (is_left waiting.now refused.old) 65536 }
     ensures judged { IsJudged (state_in core.now) at verdict.now (is_left waiting.now refused.old) (is_left waiting.now refused.new) reasons.old reasons.new }
 {
     let Some(blame) = verdict.blame else {
@@ -348,25 +331,25 @@ fn judge<M: Consistency>(
 }
 
 /// Whether a group waits and the scan hasn't refused it so far.
-fn is_left(waiting: &GroupSet, refused: &NumberSet, group: GroupId) -> bool
-    ensures left { result ≡ is_left waiting.now refused.now group.0 }
-    ensures waits { result ≡ true → has waiting.now group.0 ≡ true }
+fn is_left(waiting: &NumberSet, refused: &NumberSet, group: GroupId) -> bool
+    ensures { result ≡ is_left waiting.now refused.now group.0 }
 {
     waiting.contains(group.0) && !refused.contains(group.0)
 }
 
-/// A number above the group of a child's own that an event may bring.
-fn above_child(event: Event) -> usize
-    ensures { IsAboveChild event result }
+/// Puts the groups of a set behind a list, in increasing order; AllocError where an allocation failed, and then
+/// some of them may be there.
+fn append(groups: &NumberSet, list: &mut Vec<GroupId>) -> Result<(), AllocError>
+    ensures { IsLonger list.old.items list.new.items result (map group_id (passing 0 65536 (has groups.now))) }
 {
-    match event {
-        Event::Fork(_, child, _) => usize::from(child.0) + 1,
-        _ => 0,
+    for number in groups {
+        list.push(GroupId(number))?;
     }
+    Ok(())
 }
 
 /// The groups of a set as they stand, in increasing order.
-fn listed(alloc: Global, groups: &GroupSet, reasons: &Reasons) -> Result<Vec<Waiter>, AllocError>
+fn listed(alloc: Global, groups: &NumberSet, reasons: &Reasons) -> Result<Vec<Waiter>, AllocError>
     ensures { IfOk result (λ list. list.items ≡ map (waiter_in reasons.now) (passing 0 65536 (has groups.now))) }
 {
     // A list that grows from nothing begins with room for four, which is most of what a short leg takes.
@@ -383,7 +366,7 @@ fn take_in_all<M: Consistency>(
     core: &Core<M>,
     level: Level,
     named: &NumberSet,
-    groups: &mut GroupSet,
+    groups: &mut NumberSet,
     reasons: &mut Reasons,
 )
     requires named { (group : ℕ) → has named.now group ≡ false → (t : ℕ) → is_in group (slot core.now.table t) ≡ false }
@@ -403,7 +386,7 @@ fn take_in<M: Consistency>(
     core: &Core<M>,
     level: Level,
     group: GroupId,
-    groups: &mut GroupSet,
+    groups: &mut NumberSet,
     reasons: &mut Reasons,
 )
     requires { length groups.old ≡ 65536 }

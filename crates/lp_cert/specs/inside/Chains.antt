@@ -33,10 +33,10 @@ abbrev pub line_count : List Reason → ℕ
 line_count [] = 0
 line_count (reason ∷ reasons) = line_count reasons + reason_count reason
 
--- a number of lines: all that reasons have, or the greatest number where they have more
+-- a number of lines: all that reasons have, or the greatest number of 32 bits where they have more
 pub record IsLineCount (reasons : List Reason) (lines : ℕ) : Type 0 where
   pub no_more : lines ≤ line_count reasons
-  pub all : lines < 18446744073709551615 → lines ≡ line_count reasons
+  pub all : lines < 4294967295 → lines ≡ line_count reasons
 
 -- an entry stands in front of one of the lists before it, counts its reasons and their lines, and jumps to that list or further back
 pub record IsLinked (lists : List (List Reason)) (before : ℕ) (entry : Entry) : Type 0 where
@@ -46,6 +46,16 @@ pub record IsLinked (lists : List (List Reason)) (before : ℕ) (entry : Entry) 
   pub lines : IsLineCount (entry.reason ∷ slice_index_or lists entry.older.0 []) entry.lines
   pub jump : entry.jump.0 < before
   pub tail : IsTail (slice_index_or lists entry.jump.0 []) (slice_index_or lists entry.older.0 [])
+
+-- at the first place is the empty list
+pub record IsEmptyAt (lists : List (List Reason)) (at : ℕ) : Type 0 where
+  pub first : at ≡ 0
+  pub empty : slice_index_or lists at [] ≡ []
+
+-- at a place is the list of an entry
+pub record IsEntryAt (lists : List (List Reason)) (at : ℕ) (entry : Entry) : Type 0 where
+  pub list : slice_index_or lists at [] ≡ entry.reason ∷ slice_index_or lists entry.older.0 []
+  pub linked : IsLinked lists at entry
 
 -- each entry is linked to the lists before it, where these are there before the first entry
 abbrev pub AreLinked : List (List Reason) → List Entry → Type 0

@@ -1,5 +1,5 @@
 -- What holds of a maker between events, and what an event makes of the leg under way.
-use Rattle.std.specs.Prelude.{◌≡◌, ℕ, ◌+◌, ◌<◌, ◌≤◌, Bool, true, false, List, [], length, map, option_to_list, reverse, Option, Some, None, IfSome, IsSome, is_some, if◌then◌else◌}
+use Rattle.std.specs.Prelude.{◌≡◌, ℕ, ◌<◌, ◌≤◌, Bool, true, false, List, [], length, map, option_to_list, reverse, Option, Some, None, IfSome, IsSome, is_some, if◌then◌else◌}
 use Rattle.std.specs.Option.{option_map}
 use Rattle.lp_stack.specs.declared.number.GroupId.{GroupId}
 use Rattle.lp_numbers.specs.Numbers.{has, IsNextFrom}
@@ -26,7 +26,7 @@ use Rattle.lp_cert.specs.inside.StepLines.{stepped_lines}
 use Rattle.lp_transition.specs.LastScan.{used_scan}
 use Rattle.lp_cert.specs.inside.ToldGroups.{Tells}
 use Rattle.lp_cert.specs.Waiters.{WaitingGroups, kept_cert}
-use Rattle.lp_cert.specs.inside.Waiters.{AreHeads, AreStanding, HasFewGroups, HasHeadFor, HasHeads, lines_at}
+use Rattle.lp_cert.specs.inside.Waiters.{AreHeads, AreStanding, HasFewGroups, lines_at}
 use Rattle.lp_cert.specs.Invariant.{claim_of, upto_of, floor_waiters, end_waiters, open_end}
 
 -- the certificate of a group with these lines, the newest in front
@@ -63,13 +63,11 @@ HasFloors waiters (Some leg) = HasFloor waiters leg.completed
 
 -- there is room for the event: for its reasons and its scan and, if it opens a leg, for the end of the one under way
 pub record IsReady (noted : ℕ) (current : Option OpenLeg) (waiters : WaitingGroups) (ended : KeptEnds) (closing : Option LegEnd) (ready : Ready) : Type 0 where
-  pub room : ready.verdicts + 1 < waiters.reasons.room
+  pub room : 1 < waiters.reasons.room
   pub scan_room : 0 < waiters.reasons.scan_room
-  pub heads : HasHeads waiters
-  pub child : HasHeadFor ready.event waiters.reasons
   pub end_room : ready.opens ≡ true → HasRoom ended
   -- and for a look at all tasks, at a scan
-  pub all_room : is_scan ready.event ≡ true → length waiters.reasons.heads ≤ waiters.reasons.room
+  pub all_room : is_scan ready.event ≡ true → 65536 ≤ waiters.reasons.room
   pub left : ready.opens ≡ true → closing ≡ option_map (open_end noted waiters) current
 
 abbrev pub IfReady : ℕ → Option OpenLeg → WaitingGroups → KeptEnds → Option LegEnd → Option Ready → Type 0

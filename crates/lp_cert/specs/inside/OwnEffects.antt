@@ -1,5 +1,5 @@
 -- What an accepted event that is no scan does to the groups that wait.
-use Rattle.std.specs.Prelude.{◌≡◌, ℕ, ◌<◌, Bool, true, List, length, Option, None, if◌then◌else◌, nat_eq}
+use Rattle.std.specs.Prelude.{◌≡◌, ℕ, ◌<◌, Bool, true, List, Option, None, if◌then◌else◌, nat_eq}
 use Rattle.std.specs.Option.{option_map}
 use Rattle.lp_numbers.specs.Numbers.{has}
 use Rattle.lp_definitions.specs.declared.event.Event.{Event}
@@ -12,7 +12,7 @@ use Rattle.lp_cert.specs.declared.waiters.own_effect.OwnEffect.{OwnEffect}
 use Rattle.lp_cert.specs.declared.waiters.own_effect.OwnEffect.TheVariants.{Birth, End, Refusal, Nothing}
 use Rattle.lp_cert.specs.Waiters.{WaitingGroups, head_of}
 use Rattle.lp_cert.specs.inside.Heads.{HasFrameAs, IsUsed}
-use Rattle.lp_cert.specs.inside.Waiters.{HasHeads, after_birth}
+use Rattle.lp_cert.specs.inside.Waiters.{after_birth}
 
 -- the lines of a group after the effect
 abbrev pub after_effect : (has_frame : (task serial : ℕ) → Bool) → OwnEffect → (ℕ → Option (List Line)) → (group : ℕ) → Option (List Line)
@@ -32,13 +32,11 @@ IsTold has_frame _ waiters = Unit {0}
 -- a birth is of a group that waits, and there is room for it
 pub record HasBirthRoom (parent : ℕ) (birth : OwnFork) (waiters : WaitingGroups) : Type 0 where
   pub waits : has waiters.groups parent ≡ true
-  pub wide : birth.child.0 < length waiters.reasons.heads
   pub room : 1 < waiters.reasons.room
 
 -- a refusal is of a group that waits, by a check that the model uses, and there is room for it
 pub record HasRefusalRoom (group : ℕ) (refused : Refused) (waiters : WaitingGroups) : Type 0 where
   pub waits : has waiters.groups group ≡ true
-  pub wide : group < length waiters.reasons.heads
   pub room : 1 < waiters.reasons.room
   pub used : IsUsed refused.blame
 
@@ -49,6 +47,6 @@ HasEffectRoom _ waiters = Unit {0}
 
 -- there is room for what the event does by itself
 abbrev pub HasOwnRoom : Event → WaitingGroups → Type 0
-HasOwnRoom (Fork p c how) waiters = (c.0 < length waiters.reasons.heads) × (1 < waiters.reasons.room)
-HasOwnRoom (Resched t) waiters = HasHeads waiters × (1 < waiters.reasons.room)
+HasOwnRoom (Fork p c how) waiters = 1 < waiters.reasons.room
+HasOwnRoom (Resched t) waiters = 1 < waiters.reasons.room
 HasOwnRoom _ waiters = Unit {0}

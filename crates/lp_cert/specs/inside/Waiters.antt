@@ -1,8 +1,9 @@
 -- What events make of the groups that wait, and of their lines.
-use Rattle.std.specs.Prelude.{◌≡◌, ◌≢◌, ◌⊎◌, ℕ, suc, ◌+◌, ◌<◌, ◌≤◌, Bool, true, false, not, ◌&&◌, List, [], ◌++◌, ◌∷◌, length, nat_eq, Option, Some, None, is_some, IfSome, if◌then◌else◌}
+use Rattle.std.specs.Prelude.{◌≡◌, ◌≢◌, ◌⊎◌, ℕ, suc, ◌+◌, ◌<◌, ◌≤◌, Bool, true, false, not, ◌&&◌, List, [], ◌++◌, ◌∷◌, length, nat_eq, Option, Some, None, is_some, IfSome, OnOk, Result, if◌then◌else◌}
 use Rattle.std.specs.List.{AllByRecursion, list_any}
 use Rattle.std.specs.Option.{option_map}
 use Rattle.lp_numbers.specs.Numbers.{Numbers, has}
+use Rattle.lp_stack.specs.declared.number.GroupId.{GroupId}
 use Rattle.lp_stack.specs.declared.number.TaskId.{TaskId}
 use Rattle.lp_model.specs.Rules.{Rules}
 use Rattle.lp_model.specs.declared.check.ForkKind.{ForkKind}
@@ -40,19 +41,11 @@ StandsAt scans reasons group = IsHead reasons.lists scans (head_of reasons group
 abbrev pub is_left : (waiting refused : Numbers) → (group : ℕ) → Bool
 is_left waiting refused group = has waiting group && not (has refused group)
 
--- the table of what is kept of each group is long enough for those that wait
-abbrev pub HasHeads : WaitingGroups → Type 0
-HasHeads waiters = (group : ℕ) → has waiters.groups group ≡ true → group < length waiters.reasons.heads
-
--- and for the group of a child's own that the event may bring
-abbrev pub HasHeadFor : Event → LegReasons → Type 0
-HasHeadFor (Fork p c how) reasons = c.0 < length reasons.heads
-HasHeadFor _ reasons = Unit {0}
-
--- a number above the group of a child's own that the event may bring
-abbrev pub IsAboveChild : Event → ℕ → Type 0
-IsAboveChild (Fork p c how) bound = c.0 < bound
-IsAboveChild _ bound = Unit {0}
+-- a list is longer by some, and by all of these if the call went well
+pub record IsLonger {A E : Type 0} (old new : List GroupId) (result : Result A E) (all : List GroupId) : Type 0 where
+  pub more : List GroupId
+  pub longer : new ≡ old ++ more
+  pub done : OnOk result (more ≡ all)
 
 -- a scan refused the group, blaming this member
 pub record IsRefusedOnce (s : State) (at group : ℕ) (blamed : ℕ × Blame) (old new : LegReasons) : Type 0 where

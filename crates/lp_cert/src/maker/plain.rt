@@ -1,7 +1,10 @@
-//! Events that are no scans and open no leg, which needn't be weighed first.
-ghost use Rattle.std.specs.Prelude.{◌≡◌, ◌≢◌, ◌<◌, ℕ, Bool, true, false, None, is_some, IfOk, OnErr, OnOk};
+//! Events that are no scans and open no leg, which needn't be weighed first: of these the quiet ones pass, and are noted
+//! together once they are over.
+ghost use Rattle.std.specs.Prelude.{◌≡◌, ◌≢◌, ◌+◌, ◌<◌, ℕ, Bool, true, false, None, is_some, IfOk, OnErr, OnOk};
 ghost use Rattle.lp_definitions.specs.Events.{is_control, is_scan};
 ghost use Rattle.lp_definitions.specs.Run.{Run, plus};
+ghost use Rattle.lp_definitions.specs.TaskEvents.{is_quiet};
+ghost use Rattle.lp_definitions.specs.declared.event.Event.{Event};
 ghost use Rattle.lp_model.specs.Rules.{Rules};
 ghost use Rattle.lp_machine.specs.Machine.{refusal_of};
 ghost use Rattle.lp_machine.specs.Steps.{IsStep, StandsIn};
@@ -9,7 +12,7 @@ ghost use Rattle.lp_machine.specs.Table.{Engine, state_in};
 ghost use Rattle.lp_transition.specs.Blames.{HasBlamesAfter};
 ghost use Rattle.lp_transition.specs.LastScan.{used_scan};
 ghost use Rattle.lp_transition.specs.Weigh.{Weighed, refusal_in};
-ghost use Rattle.lp_cert.specs.Ends.{IsMadeWith};
+ghost use Rattle.lp_cert.specs.Ends.{IsMadeFurther, IsMadeWith, made_upto, passed_upto};
 ghost use Rattle.lp_cert.specs.inside.Invariant.{HasFloor, IsStepped, is_settled};
 ghost use Rattle.lp_cert.specs.inside.OwnEffects.{HasEffectRoom, IsTold, after_effect};
 ghost use Rattle.lp_cert.specs.inside.Waiters.{HasFewGroups, lines_at, own_lines};
@@ -22,6 +25,27 @@ use lp_transition::{Core, Event, Reply, What};
 use std::alloc::{AllocError, Global};
 
 impl Maker {
+    /// Lets a call, a return, a sleep, a wake-up or an entry into the kernel pass, whichever it is, before the engine takes
+    /// it: `note_passed` notes all such events that passed. A call of this does nothing, as its contract is all that is
+    /// wanted of it.
+    #[inline(always)]
+    pub(crate) fn let_pass<M: Consistency>(&self, core: &Core<M>)
+        requires room { core.now.number < 1000000 }
+        ensures made { (event : Event) → is_quiet event ≡ true → IsMadeFurther M.rules core.now event (made_upto core.now.number self.now) (made_upto (core.now.number + 1) self.now) }
+    {
+        // For the proof alone, which knows what every value keeps once a field is read.
+        let _ = &self.waiters;
+        let _ = core;
+    }
+
+    /// Notes the events that passed since the last one noted, which the engine has taken. Never allocates.
+    pub(crate) fn note_passed<M: Consistency>(&mut self, core: &Core<M>)
+        ensures { self.new ≡ passed_upto core.now.number self.old }
+    {
+        self.ready = None;
+        self.noted = core.events() as u32;
+    }
+
     /// Lets the engine take an event that is no scan and opens no leg, and notes it. What it does to the groups that wait is told
     /// before, as they stand then; where no transition is under way the end of the leg stays as it is. AllocError where an
     /// allocation failed, and then the engine and the certificates are as they were.

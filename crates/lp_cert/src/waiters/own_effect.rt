@@ -17,6 +17,9 @@ use lp_stack::{GroupId, TaskId};
 use lp_transition::{Core, Event};
 use std::alloc::AllocError;
 
+/// How many reasons an event that is no scan adds at most: the one that continued, and its own.
+pub(crate) const OWN_REASONS: usize = 2;
+
 /// What an accepted event that is no scan does to the groups that wait, but for those that it switches.
 #[derive(Clone, Copy)]
 pub(crate) enum OwnEffect {
@@ -40,7 +43,7 @@ impl Waiters {
         ensures room { OnOk result (HasOwnRoom event self.new) }
     {
         match event {
-            Event::Fork(..) | Event::Resched(_) => self.reserve(2, event),
+            Event::Fork(..) | Event::Resched(_) => self.reserve(OWN_REASONS),
             _ => Ok(()),
         }
     }

@@ -3,11 +3,10 @@ ghost use Rattle.std.specs.Prelude.{◌≡◌, ◌+◌, ◌<◌, ◌≤◌, ℕ,
 ghost use Rattle.lp_numbers.specs.Numbers.{has};
 ghost use Rattle.lp_transition.specs.Scan.{verdicts_of};
 ghost use Rattle.lp_machine.specs.Table.{state_in};
-ghost use Rattle.lp_cert.specs.inside.Waiters.{AreJudged, AreStanding, HasHeads, IsUsedVerdict, StandsAt, is_left, lines_at, scanned_lines};
+ghost use Rattle.lp_cert.specs.inside.Waiters.{AreJudged, AreStanding, IsUsedVerdict, StandsAt, is_left, lines_at, scanned_lines};
 ghost use Rattle.lp_cert.specs.inside.WholeScans.{IsLookedAt, count_below, found_of};
 
 use super::{Waiters, judge};
-use crate::group_set::GroupSet;
 use crate::reasons::Reasons;
 use lp_model::{CheckKind, Consistency, Verdict};
 use lp_numbers::NumberSet;
@@ -18,8 +17,7 @@ impl Waiters {
     /// A scan of this kind, with what it finds of each task that waits. Never allocates.
     pub(crate) fn scan_all<M: Consistency>(&mut self, core: &Core<M>, kind: CheckKind, at: u32)
         requires used { IsTrue (M.rules.uses kind) }
-        requires wide { HasHeads self.old }
-        requires room { length self.old.reasons.heads ≤ self.old.reasons.room }
+        requires room { 65536 ≤ self.old.reasons.room }
         requires scan_room { 0 < self.old.reasons.scan_room }
         ensures lines { (group : ℕ) → lines_at self.new group ≡ scanned_lines (state_in core.now) at (verdicts_of M.rules kind (state_in core.now)) self.old group }
         ensures stood { AreStanding self.old }
@@ -36,14 +34,13 @@ fn judge_tasks<M: Consistency>(
     core: &Core<M>,
     kind: CheckKind,
     at: u32,
-    waiting: &GroupSet,
+    waiting: &NumberSet,
     refused: &mut NumberSet,
     reasons: &mut Reasons,
 )
     requires used { IsTrue (M.rules.uses kind) }
     requires stand { (group : ℕ) → is_left waiting.now refused.old group ≡ true → StandsAt (length reasons.old.scans) reasons.old group }
-    requires wide { (group : ℕ) → has waiting.now group ≡ true → group < length reasons.old.heads }
-    requires room { length reasons.old.heads ≤ reasons.old.room }
+    requires room { 65536 ≤ reasons.old.room }
     ensures { AreJudged (state_in core.now) at (verdicts_of M.rules kind (state_in core.now)) (is_left waiting.now refused.old) (is_left waiting.now refused.new) reasons.old reasons.new }
 {
     for number in core.live() {
@@ -57,17 +54,15 @@ fn judge_task<M: Consistency>(
     kind: CheckKind,
     at: u32,
     task: TaskId,
-    waiting: &GroupSet,
+    waiting: &NumberSet,
     refused: &mut NumberSet,
     reasons: &mut Reasons,
 )
     requires used { IsTrue (M.rules.uses kind) }
     requires stand { (group : ℕ) → is_left waiting.now refused.old group ≡ true → StandsAt (length reasons.old.scans) reasons.old group }
-    requires wide { (group : ℕ) → has waiting.now group ≡ true → group < length reasons.old.heads }
-    requires room { count_below (is_left waiting.now refused.old) (length reasons.old.heads) ≤ reasons.old.room }
-    ensures width { length reasons.new.heads ≡ length reasons.old.heads }
+    requires room { count_below (is_left waiting.now refused.old) 65536 ≤ reasons.old.room }
     ensures looked { IsLookedAt (state_in core.now) at (found_of M.rules kind (state_in core.now) task.0) waiting.now refused.old refused.new reasons.old reasons.new }
-    ensures room { count_below (is_left waiting.now refused.new) (length reasons.new.heads) ≤ reasons.new.room }
+    ensures room { count_below (is_left waiting.now refused.new) 65536 ≤ reasons.new.room }
 {
     let Some(verdict) = found_of(core, kind, task) else {
         return;

@@ -1,4 +1,4 @@
-use Rattle.std.proofs.Common.{◌≡◌, ◌<◌, length, subst, sym, ◌∙◌, arith}
+use Rattle.std.proofs.Common.{◌≡◌, ◌<◌, subst, sym, ◌∙◌, arith}
 use Rattle.std.proofs.lemmas.Grind.{common_steps}
 use Rattle.lp_cert.specs.declared.head.Head.{Head}
 use Rattle.lp_cert.specs.inside.Heads.{HasFrameAs}
@@ -10,15 +10,12 @@ use Rattle.lp_cert.proofs.HeadLemmas.{frame_as}
 use Rattle.lp_cert.proofs.WaiterLemmas.{grouped, judges, not_left, others_left, blameless_judged, other_judged}
 use Rattle.lp_cert.proofs.waiters.judge.Goals as goal
 
-pub refuse-requires-clause-wide : goal.refuse-requires-clause-wide
-refuse-requires-clause-wide g c = c.requires.wide c.in-Some-group_of.group.0 (c.is_left.ensures.waits c.if-not-is_left.false)
-
 pub returns-clause-judged : goal.returns-clause-judged
 returns-clause-judged g c =
     let group = c.in-Some-group_of.group in
     let s = state_in c.args.core.now in
     let mine = grouped c.args.core.now.table c.args.verdict.now.task.0 group c.in-Some-group_of.ensures in
-    let left : is_left c.args.waiting.now c.args.refused.now group.0 ≡ c.is_left.result = sym c.is_left.ensures.left in
+    let left : is_left c.args.waiting.now c.args.refused.now group.0 ≡ c.is_left.result = sym c.is_left.ensures in
     let waits = left ∙ c.if-not-is_left.false in
     let few : group.0 < 65536 = omega arith in
     judges s c.args.at c.args.verdict.now c.in-Some.blame group c.is_held.result (is_left c.args.waiting.now c.args.refused.now) (is_left c.args.waiting.now c.insert.new.self) c.args.reasons.now c.refuse.new.self
@@ -28,19 +25,18 @@ returns-clause-judged g c =
 pub returns-clause-spent : goal.returns-clause-spent
 returns-clause-spent g c =
     let group = c.in-Some-group_of.group in
-    let waits = sym c.is_left.ensures.left ∙ c.if-not-is_left.false in
+    let waits = sym c.is_left.ensures ∙ c.if-not-is_left.false in
     let few : group.0 < 65536 = omega arith in
-    let below = c.requires.wide group.0 (c.is_left.ensures.waits c.if-not-is_left.false) in
     let less = count_less (is_left c.args.waiting.now c.args.refused.now) (is_left c.args.waiting.now c.insert.new.self) group.0 waits
     (not_left c.args.waiting.now c.args.refused.now c.insert.new.self group.0 c.insert.ensures.after c.insert.ensures.numbers few)
-    (others_left c.args.waiting.now c.args.refused.now c.insert.new.self group.0 c.insert.ensures.after) (length c.args.reasons.now.heads) below in
+    (others_left c.args.waiting.now c.args.refused.now c.insert.new.self group.0 c.insert.ensures.after) 65536 few in
     omega (arith, less, c.refuse.ensures.room)
 
 pub refuse-requires-clause-head : goal.refuse-requires-clause-head
 refuse-requires-clause-head g c = grind (arith, common_steps)
 
 pub refuse-requires-clause-room : goal.refuse-requires-clause-room
-refuse-requires-clause-room g c = grind (arith, common_steps)
+refuse-requires-clause-room g c = c.requires.room c.in-Some-group_of.group.0 (omega arith) (sym c.is_left.ensures ∙ c.if-not-is_left.false)
 
 pub refuse-requires-clause-used : goal.refuse-requires-clause-used
 refuse-requires-clause-used g c = grind (arith, common_steps)
@@ -48,7 +44,7 @@ refuse-requires-clause-used g c = grind (arith, common_steps)
 pub returns-then-not-is_left-clause-judged : goal.returns-then-not-is_left-clause-judged
 returns-then-not-is_left-clause-judged g c =
     let group = c.in-Some-group_of.group in
-    let left : is_left c.args.waiting.now c.args.refused.now group.0 ≡ c.is_left.result = sym c.is_left.ensures.left in
+    let left : is_left c.args.waiting.now c.args.refused.now group.0 ≡ c.is_left.result = sym c.is_left.ensures in
     other_judged (state_in c.args.core.now) c.args.at c.args.verdict.now (is_left c.args.waiting.now c.args.refused.now) c.args.reasons.now c.in-Some.blame group
     (grouped c.args.core.now.table c.args.verdict.now.task.0 group c.in-Some-group_of.ensures) c.in-Some.is (left ∙ c.if-not-is_left.true)
 

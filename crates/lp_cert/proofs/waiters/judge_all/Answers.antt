@@ -1,4 +1,4 @@
-use Rattle.std.proofs.Common.{◌≡◌, ◌+◌, ◌<◌, List, [], ◌∷◌, ◌++◌, length, take, get_or, None, sym, subst, ◌∙◌, add-one, arith}
+use Rattle.std.proofs.Common.{◌≡◌, ◌+◌, ◌<◌, List, [], ◌∷◌, ◌++◌, length, take, get_or, None, sym, subst, add-one, arith}
 use Rattle.std.proofs.lemmas.Grind.{common_steps}
 use Rattle.std.proofs.Math.Seq.{take-suc}
 use Rattle.lp_model.specs.declared.verdict.Verdict.{Verdict}
@@ -6,9 +6,6 @@ use Rattle.lp_machine.specs.Table.{state_in}
 use Rattle.lp_cert.specs.inside.Waiters.{AreJudged, is_left}
 use Rattle.lp_cert.proofs.WaiterLemmas.{one_judged, still_standing}
 use Rattle.lp_cert.proofs.waiters.judge_all.Goals as goal
-
-pub judge-requires-clause-wide : goal.judge-requires-clause-wide
-judge-requires-clause-wide g c = λ group there. omega (arith, c.requires.wide group there, c.loop-verdict.invariant.width)
 
 pub loop-verdict-preserved : goal.loop-verdict-preserved
 loop-verdict-preserved g c =
@@ -21,7 +18,6 @@ loop-verdict-preserved g c =
     let all = one_judged s c.args.at (take i vs) (get_or vs i none) (is_left c.args.waiting.now c.args.refused.now) (is_left c.args.waiting.now c.loop-verdict.refused) (is_left c.args.waiting.now c.judge.new.refused) c.args.reasons.now c.loop-verdict.reasons c.judge.new.reasons c.requires.stand c.loop-verdict.invariant.judged c.judge.ensures.judged in
     record {
       judged = subst (λ (l : List Verdict). AreJudged s c.args.at l (is_left c.args.waiting.now c.args.refused.now) (is_left c.args.waiting.now c.judge.new.refused) c.args.reasons.now c.judge.new.reasons) (sym step) all;
-      width = c.judge.ensures.width ∙ c.loop-verdict.invariant.width;
       stand = still_standing s c.args.at (take i vs) (get_or vs i none) (is_left c.args.waiting.now c.args.refused.now) (is_left c.args.waiting.now c.loop-verdict.refused) (is_left c.args.waiting.now c.judge.new.refused) c.args.reasons.now c.loop-verdict.reasons c.judge.new.reasons c.requires.stand c.loop-verdict.invariant.judged c.judge.ensures.judged;
     }
 

@@ -7,6 +7,5 @@ use Rattle.lp_cert.proofs.waiters.judge_all.Given as goal
 abbrev pub invariant-loop-verdict : goal.invariant-loop-verdict
 invariant-loop-verdict g l = record {
   judged : AreJudged (state_in l.core) l.at (take l.verdict-index l.verdicts) (is_left l.waiting l.fn.refused) (is_left l.waiting l.refused) l.fn.reasons l.reasons;
-  width : length l.reasons.heads ≡ length l.fn.reasons.heads;
   stand : (group : ℕ) → is_left l.waiting l.refused group ≡ true → StandsAt (length l.reasons.scans) l.reasons group;
 }

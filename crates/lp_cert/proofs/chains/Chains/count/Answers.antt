@@ -1,24 +1,11 @@
-use Rattle.std.proofs.Common.{◌<◌, arith}
-use Rattle.lp_cert.proofs.ChainLemmas.{place_below, linked_at, counted, none_counted}
+use Rattle.std.proofs.Common.{ap, length, sym, ◌∙◌}
 use Rattle.lp_cert.proofs.chains.Chains.count.Goals as goal
 
-pub returns-then-id-eq0-clause-all : goal.returns-then-id-eq0-clause-all
-returns-then-id-eq0-clause-all c = rw (← c.self.view_is) (none_counted c.self.inside.entries.items c.args.id.0 c.if-id-eq0.true)
+pub returns-in-None-clause-all : goal.returns-in-None-clause-all
+returns-in-None-clause-all c = ap length (sym c.in-None.ensures.none.empty)
 
-pub index-requires : goal.index-requires
-index-requires c =
-    let known = rw (← c.self.view_is) at c.requires in
-    let some : 0 < c.args.id.0 = omega arith in
-    omega (arith, place_below c.self.inside.entries.items c.args.id.0 known some, c.self.inside.entries.ok)
+pub returns-in-Some-clause-all : goal.returns-in-Some-clause-all
+returns-in-Some-clause-all c = c.in-Some.ensures.some.linked.count ∙ ap length (sym c.in-Some.ensures.some.list)
 
-pub returns-clause-all : goal.returns-clause-all
-returns-clause-all c =
-    let known = rw (← c.self.view_is) at c.requires in
-    let some : 0 < c.args.id.0 = omega arith in
-    rw (← c.self.view_is) (counted c.self.inside.entries.items c.args.id.0 c.index.result.now c.self.invariant known some c.index.ensures)
-
-pub returns-clause-few : goal.returns-clause-few
-returns-clause-few c =
-    let known = rw (← c.self.view_is) at c.requires in
-    let some : 0 < c.args.id.0 = omega arith in
-    (linked_at c.self.inside.entries.items c.args.id.0 c.index.result.now c.self.invariant known some c.index.ensures).few
+pub returns-in-Some-clause-few : goal.returns-in-Some-clause-few
+returns-in-Some-clause-few c = c.in-Some.ensures.some.linked.few

@@ -1,21 +1,6 @@
-use Rattle.std.proofs.Common.{ap, arith}
+use Rattle.std.proofs.Common.{ap, length, arith}
 use Rattle.std.specs.List.{slice_get}
-use Rattle.lp_cert.proofs.ChainLemmas.{place_below, one_on, some_place}
 use Rattle.lp_cert.proofs.chains.Chains.newest.Goals as goal
 
-pub overflow_sub-id : goal.overflow_sub-id
-overflow_sub-id c = some_place c.self.inside.entries.items c.args.id.0 (rw (← c.self.view_is) at c.requires.some)
-
-pub index-requires : goal.index-requires
-index-requires c =
-    let entries = c.self.inside.entries.items in
-    let known = rw (← c.self.view_is) at c.requires.known in
-    let some = some_place entries c.args.id.0 (rw (← c.self.view_is) at c.requires.some) in
-    omega (arith, place_below entries c.args.id.0 known some, c.self.inside.entries.ok)
-
 pub returns : goal.returns
-returns c =
-    let entries = c.self.inside.entries.items in
-    let known = rw (← c.self.view_is) at c.requires.known in
-    let some = some_place entries c.args.id.0 (rw (← c.self.view_is) at c.requires.some) in
-    rw (← c.self.view_is) (ap (λ list. slice_get list 0) (one_on entries c.args.id.0 c.index.result.now c.self.invariant known some c.index.ensures))
+returns c = ap (λ list. slice_get list 0) c.in-Some.ensures.some.list

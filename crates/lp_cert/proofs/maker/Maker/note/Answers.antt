@@ -1,33 +1,25 @@
-use Rattle.std.proofs.Common.{◌≡◌, ◌+◌, ◌++◌, [], Option, option_to_list, Some, None, true, false, if◌then◌else◌, refl, sym, ap, subst, ◌∙◌, arith}
+use Rattle.std.proofs.Common.{◌≡◌, ◌+◌, ◌++◌, [], Option, option_to_list, Some, None, true, false, if◌then◌else◌, refl, sym, ap, ◌∙◌, arith}
 use Rattle.std.proofs.lemmas.Grind.{common_steps}
 use Rattle.std.specs.Option.{option_map}
-use Rattle.lp_definitions.specs.declared.event.Event.{Event}
 use Rattle.lp_definitions.specs.Events.{is_scan}
 use Rattle.lp_machine.specs.Table.{state_in}
 use Rattle.lp_cert.specs.declared.open_leg.OpenLeg.{OpenLeg}
 use Rattle.lp_cert.specs.Ends.{Made, Room, IsMadeWith, is_opening, room_for}
 use Rattle.lp_cert.specs.Invariant.{open_end, room_of}
 use Rattle.lp_definitions.specs.Ends.{LegEnd}
-use Rattle.lp_cert.specs.inside.Waiters.{HasHeadFor, has_off}
+use Rattle.lp_cert.specs.inside.Waiters.{has_off}
 use Rattle.lp_cert.proofs.Noted.{none_made, turned_made, ready_for, room_is, opens_is}
 use Rattle.lp_cert.proofs.NotedBy.{noted_made}
 use Rattle.lp_cert.proofs.Asked.{not_so, not_other}
 use Rattle.lp_cert.proofs.OwnEffects.{own_room}
 use Rattle.lp_cert.proofs.maker.Maker.note.Goals as goal
 
-pub note_leg-requires-clause-heads : goal.note_leg-requires-clause-heads
-note_leg-requires-clause-heads g c =
-    let i = c.self.inside in
-    (ready_for i.noted i.current i.waiters _ i.closing i.ready c.in-Some.ready c.self.invariant.for_event (sym c.take.ensures.value ∙ c.in-Some.is)).heads
-
 pub note_leg-requires-clause-own_room : goal.note_leg-requires-clause-own_room
 note_leg-requires-clause-own_room g c =
     let i = c.self.inside in
     let kept : i.ready ≡ Some c.in-Some.ready = sym c.take.ensures.value ∙ c.in-Some.is in
-    let asked = rw (← c.self.view_is) at c.requires.ready in
     let ready = ready_for i.noted i.current i.waiters _ i.closing i.ready c.in-Some.ready c.self.invariant.for_event kept in
-    let child = subst (λ (event : Event). HasHeadFor event i.waiters.reasons) (ap (λ (r : Room). r.event) (room_is i.ready c.in-Some.ready (room_for c.args.step.now) kept asked)) ready.child in
-    own_room c.args.step.now.event i.waiters ready.heads child (omega (arith, ready.room))
+    own_room c.args.step.now.event i.waiters ready.room
 
 pub note_leg-requires-clause-all_room : goal.note_leg-requires-clause-all_room
 note_leg-requires-clause-all_room g c = λ scan.

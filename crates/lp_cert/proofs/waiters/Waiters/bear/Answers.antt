@@ -15,8 +15,5 @@ returns c =
 pub bear-requires-clause-head : goal.bear-requires-clause-head
 bear-requires-clause-head c = c.self.invariant c.args.parent.0 (rw (← c.self.view_is) at c.requires.waits)
 
-pub bear-requires-clause-wide : goal.bear-requires-clause-wide
-bear-requires-clause-wide c = rw (← c.self.view_is) at c.requires.wide
-
 pub bear-requires-clause-room : goal.bear-requires-clause-room
 bear-requires-clause-room c = rw (← c.self.view_is) at c.requires.room

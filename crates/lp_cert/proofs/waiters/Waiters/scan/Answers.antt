@@ -29,9 +29,6 @@ returns-clause-lines g c =
 pub returns-clause-stood : goal.returns-clause-stood
 returns-clause-stood g c = rw (← c.self.view_is) c.self.invariant
 
-pub judge_all-requires-clause-wide : goal.judge_all-requires-clause-wide
-judge_all-requires-clause-wide g c = rw (← c.self.view_is) at c.requires.wide
-
 pub judge_all-requires-clause-room : goal.judge_all-requires-clause-room
 judge_all-requires-clause-room g c = rw (← c.self.view_is) at c.requires.room
 

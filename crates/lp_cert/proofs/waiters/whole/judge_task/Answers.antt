@@ -1,9 +1,7 @@
-use Rattle.std.proofs.Common.{not, length, subst, arith}
+use Rattle.std.proofs.Common.{subst, arith}
 use Rattle.std.specs.Prelude.{Option}
 use Rattle.std.proofs.lemmas.Grind.{common_steps}
-use Rattle.std.proofs.lemmas.Bool.{and_parts}
 use Rattle.lp_model.specs.declared.verdict.Verdict.{Verdict}
-use Rattle.lp_numbers.specs.Numbers.{has}
 use Rattle.lp_machine.specs.Table.{state_in}
 use Rattle.lp_cert.specs.inside.Waiters.{is_left}
 use Rattle.lp_cert.specs.inside.WholeScans.{IsLookedAt}
@@ -11,9 +9,8 @@ use Rattle.lp_cert.proofs.WholeScans.{count_some}
 use Rattle.lp_cert.proofs.waiters.whole.judge_task.Goals as goal
 
 pub judge-requires-clause-room : goal.judge-requires-clause-room
-judge-requires-clause-room g c = λ group left.
-    let waits = (and_parts (has c.args.waiting.now group) (not (has c.args.refused.now group)) left).0 in
-    let some = count_some (is_left c.args.waiting.now c.args.refused.now) (length c.args.reasons.now.heads) group (c.requires.wide group waits) left in
+judge-requires-clause-room g c = λ group few left.
+    let some = count_some (is_left c.args.waiting.now c.args.refused.now) 65536 group few left in
     omega (arith, some, c.requires.room)
 
 pub returns-clause-looked : goal.returns-clause-looked
@@ -23,9 +20,6 @@ returns-clause-looked g c =
 
 pub returns-clause-room : goal.returns-clause-room
 returns-clause-room g c = grind (arith, common_steps)
-
-pub judge-requires-clause-wide : goal.judge-requires-clause-wide
-judge-requires-clause-wide g c = c.requires.wide
 
 pub judge-requires-clause-used : goal.judge-requires-clause-used
 judge-requires-clause-used g c = c.in-Some.ensures.used

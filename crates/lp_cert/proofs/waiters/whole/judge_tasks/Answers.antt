@@ -1,4 +1,4 @@
-use Rattle.std.proofs.Common.{◌≡◌, ◌+◌, ◌-◌, ◌<◌, ◌≤◌, ℕ, suc, Bool, List, ◌∷◌, ◌++◌, length, option_to_list, is_some, refl, sym, ap, subst, ◌∙◌, arith}
+use Rattle.std.proofs.Common.{◌≡◌, ◌+◌, ◌-◌, ◌<◌, ◌≤◌, ℕ, suc, Bool, List, ◌∷◌, ◌++◌, option_to_list, is_some, refl, sym, ap, subst, ◌∙◌, arith}
 use Rattle.lp_model.specs.declared.verdict.Verdict.{Verdict}
 use Rattle.lp_tasks.specs.Passing.{passing}
 use Rattle.lp_machine.specs.Table.{slot, state_in}
@@ -14,19 +14,15 @@ use Rattle.lp_cert.proofs.waiters.whole.judge_tasks.Goals as goal
 pub loop-number-init : goal.loop-number-init
 unfolding found_up_to
 loop-number-init g c =
-    let few = count_few (is_left c.args.waiting.now c.args.refused.now) (length c.args.reasons.now.heads) in
+    let few = count_few (is_left c.args.waiting.now c.args.refused.now) 65536 in
     record {
       from = 0;
       fits = omega arith;
       rest = c.into_iter-number-iterator.ensures.into_iter_gives ∙ c.live-number-items.ensures.numbers;
       judged = none_judged (state_in c.args.core.now) c.args.at (is_left c.args.waiting.now c.args.refused.now) c.args.reasons.now;
-      width = refl;
       stand = c.requires.stand;
       room = omega (arith, few, c.requires.room);
     }
-
-pub judge_task-requires-clause-wide : goal.judge_task-requires-clause-wide
-judge_task-requires-clause-wide g c = λ group there. omega (arith, c.requires.wide group there, c.loop-number.invariant.width)
 
 pub loop-number-preserved : goal.loop-number-preserved
 unfolding found_up_to
@@ -57,7 +53,6 @@ loop-number-preserved g c =
       fits = omega (arith, few);
       rest = passing-rest lives from n c.next.new.self next;
       judged = subst (λ (vs : List Verdict). AreJudged s c.args.at vs (is_left c.args.waiting.now c.args.refused.now) (is_left c.args.waiting.now c.judge_task.new.refused) c.args.reasons.now c.judge_task.new.reasons) (sym found ∙ ap (found_up_to model c.args.kind s) up) more;
-      width = c.judge_task.ensures.width ∙ now.width;
       stand = looked_stand s c.args.at (found_up_to model c.args.kind s (n - 1)) (found_of model c.args.kind s n) c.args.waiting.now c.args.refused.now c.loop-number.refused c.judge_task.new.refused c.args.reasons.now c.loop-number.reasons c.judge_task.new.reasons c.requires.stand judged now.stand c.judge_task.ensures.looked;
       room = c.judge_task.ensures.room;
     }

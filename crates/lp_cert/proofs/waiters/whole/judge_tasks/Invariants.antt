@@ -12,7 +12,6 @@ invariant-loop-number g l = record {
   fits : from ≤ 65536;
   rest : l.number-iterator ≡ passing from 65536 (λ t. is_some (slot l.core.table t));
   judged : AreJudged (state_in l.core) l.at (found_up_to g.M.Consistency.rules l.kind (state_in l.core) (from - 1)) (is_left l.waiting l.fn.refused) (is_left l.waiting l.refused) l.fn.reasons l.reasons;
-  width : length l.reasons.heads ≡ length l.fn.reasons.heads;
   stand : (group : ℕ) → is_left l.waiting l.refused group ≡ true → StandsAt (length l.reasons.scans) l.reasons group;
-  room : count_below (is_left l.waiting l.refused) (length l.reasons.heads) ≤ l.reasons.room;
+  room : count_below (is_left l.waiting l.refused) 65536 ≤ l.reasons.room;
 }

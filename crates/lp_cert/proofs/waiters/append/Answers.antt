@@ -4,13 +4,13 @@ use Rattle.std.proofs.lemmas.List.{append-nil}
 use Rattle.lp_stack.specs.declared.number.GroupId.{GroupId}
 use Rattle.lp_definitions.specs.Certificates.{group_id}
 use Rattle.lp_cert.proofs.Listed.{all_listed, none_listed, one_listed}
-use Rattle.lp_cert.proofs.group_set.GroupSet.append_to.Goals as goal
+use Rattle.lp_cert.proofs.waiters.append.Goals as goal
 
 pub loop-number-init : goal.loop-number-init
 loop-number-init c = record {
   more = [];
   longer = sym (append-nil c.args.list.now.items);
-  all = none_listed group_id c.args.self.now [] c.into_iter-number-iterator.result refl c.into_iter-number-iterator.ensures.into_iter_gives;
+  all = none_listed group_id c.args.groups.now [] c.into_iter-number-iterator.result refl c.into_iter-number-iterator.ensures.into_iter_gives;
 }
 
 pub loop-number-preserved : goal.loop-number-preserved
