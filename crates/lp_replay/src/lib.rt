@@ -1,8 +1,9 @@
 //! The replay of a trace under a model: the outcome, its legs, and the headline.
 //!
-//! Costs: for each event a step of the engine and of the count of stays, and a note for the certificates, which for
-//! all but scans, forks, switches and control events is a number. Each loop over the events has an engine of a model
-//! of its own, so that it is the only caller of the engine's steps, and they are compiled into it.
+//! Costs: for each event a step of the engine and a note for the certificates, which for all but scans, forks, switches
+//! and control events is a number, and for each call and return a step of the count of stays. Each loop over the events
+//! has an engine of a model of its own, so that it is the only caller of the engine's steps, and they are compiled into
+//! it.
 #![tactic(auto)]
 
 pub mod laws;

@@ -28,6 +28,20 @@ fn last_function<M: Consistency>(core: &Core<M>, event: Event) -> Option<SymId> 
     Some(frame.func)
 }
 
+/// Counts what an event did to the stays; `top` is the function that a return is from.
+fn count(stays: &mut StayCount, event: Event, what: &What, top: Option<SymId>) {
+    match (event, what, top) {
+        (Event::Call(task, func), What::Ran(level), _) => {
+            if stays.calls() < 1_000_000 {
+                stays.call(task, func, *level);
+            }
+        }
+        (Event::Ret(_), What::Refused(_), _) => {}
+        (Event::Ret(task), _, Some(func)) => stays.ret(task, func),
+        _ => {}
+    }
+}
+
 /// The reply to an event, with which the stays are counted.
 fn step<M: Consistency>(
     alloc: Global,
@@ -37,9 +51,7 @@ fn step<M: Consistency>(
 ) -> Result<Reply, Trouble> {
     let top = last_function(core, event);
     let reply = core.step(alloc, event)?;
-    if stays.events() < 1_000_000 {
-        stays.step(event, &reply, top);
-    }
+    count(stays, event, &reply.what, top);
     Ok(reply)
 }
 

@@ -75,7 +75,7 @@ module _ (model : Rules) (lawful : IsLawful model) (run : Run) (in_range : AreIn
   -- at most one task's stays change
   pub record IsTallied (now : Tally) (at : ℕ) (more mixed_more : ℕ → ℕ) : Type 0 where
     pub patches : now.patches ≡ count.patches
-    pub events : now.events ≡ count.events + 1
+    pub calls : now.calls ≤ count.calls + 1
     pub positive : 1 ≤ at
     pub within : at < 65536
     pub stays : now.stays ≡ count.stays + sum_from more 1 (length count.patches)
@@ -115,7 +115,7 @@ module _ (model : Rules) (lawful : IsLawful model) (run : Run) (in_range : AreIn
       record {
         patches = h.patches ∙ counts.patches;
         tasks = counts.tasks;
-        events = h.events ∙ (let a = length-append run.events (event ∷ []) in let b = counts.events in omega arith);
+        calls = let a = length-append run.events (event ∷ []) in omega (arith, a, h.calls, counts.calls);
         stays =
             let all = all_more (λ found. length found) refl (λ xs ys. length-append xs ys) at more h.positive h.within (λ below lt. (h.here below lt).total) (λ below t lt small other. (h.others below t lt small other).total) in
             h.stays ∙ ap (λ n. n + sum_from more 1 (length count.patches)) counts.stays ∙ sym all;
@@ -134,12 +134,12 @@ module _ (model : Rules) (lawful : IsLawful model) (run : Run) (in_range : AreIn
 
   -- ---- No stack changes
 
-  pub still_counts : IsStill before after → Counts model (plus run event) (one_more count)
+  pub still_counts : IsStill before after → Counts model (plus run event) count
   still_counts still =
       let same = λ (below t : ℕ). ap (sides count.patches (suc below)) (still t) in
-      counts_next (one_more count) 1 (λ patch. 0) (λ patch. 0) (record {
+      counts_next count 1 (λ patch. 0) (λ patch. 0) (record {
         patches = refl;
-        events = refl;
+        calls = omega arith;
         positive = omega arith;
         within = omega arith;
         stays = let none = sum_none (λ patch. 0) 1 (length count.patches) (λ k low high. refl) in omega arith;
@@ -202,7 +202,7 @@ module _ (model : Rules) (lawful : IsLawful model) (run : Run) (in_range : AreIn
       call_counts =
           counts_next called_count at (more_in at func.0 level (one_more count)) (mixed_in at func.0 level (one_more count)) (record {
             patches = (call_same at func.0 level (one_more count) (length count.patches)).patches;
-            events = (call_same at func.0 level (one_more count) (length count.patches)).events;
+            calls = let same = (call_same at func.0 level (one_more count) (length count.patches)).calls in omega (arith, same);
             positive = positive;
             within = within;
             stays = call_stays at func.0 level (one_more count) within (length count.patches);
@@ -219,15 +219,15 @@ module _ (model : Rules) (lawful : IsLawful model) (run : Run) (in_range : AreIn
       func_left = pop.frame.func.0
 
       abbrev returned_count : Tally
-      returned_count = returns (length count.patches) at func_left (one_more count)
+      returned_count = returns (length count.patches) at func_left count
 
-      kept_back : (below : ℕ) → below < length count.patches → kept returned_count below at ≡ return_change at func_left (one_more count) below (kept count below at)
+      kept_back : (below : ℕ) → below < length count.patches → kept returned_count below at ≡ return_change at func_left count below (kept count below at)
       kept_back below lt =
-          changed (return_run at func_left (one_more count)) at within (return_change at func_left (one_more count)) (return_goes at func_left (one_more count)) (length count.patches) below lt (subst (λ c. below * 65536 + at < length c.present) (sym (return_start at func_left (one_more count))) (roomy below lt)) ∙ ap (λ c. return_change at func_left (one_more count) below (kept c below at)) (return_start at func_left (one_more count))
+          changed (return_run at func_left count) at within (return_change at func_left count) (return_goes at func_left count) (length count.patches) below lt (subst (λ c. below * 65536 + at < length c.present) (sym (return_start at func_left count)) (roomy below lt)) ∙ ap (λ c. return_change at func_left count below (kept c below at)) (return_start at func_left count)
 
       kept_apart : (below t : ℕ) → t < 65536 → t ≢ at → kept returned_count below t ≡ kept count below t
       kept_apart below t small other =
-          others (return_run at func_left (one_more count)) at within (return_change at func_left (one_more count)) (return_goes at func_left (one_more count)) (length count.patches) below t small other ∙ ap (λ c. kept c below t) (return_start at func_left (one_more count))
+          others (return_run at func_left count) at within (return_change at func_left count) (return_goes at func_left count) (length count.patches) below t small other ∙ ap (λ c. kept c below t) (return_start at func_left count)
 
       return_cell : (below : ℕ) → below < length count.patches → IsCell returned_count below at 0 0
       return_cell below lt =
@@ -247,11 +247,11 @@ module _ (model : Rules) (lawful : IsLawful model) (run : Run) (in_range : AreIn
 
       pub return_counts : Counts model (plus run event) returned_count
       return_counts =
-          let same = return_same at func_left (one_more count) (length count.patches) in
+          let same = return_same at func_left count (length count.patches) in
           let none = sum_none (λ patch. 0) 1 (length count.patches) (λ k low high. refl) in
           counts_next returned_count at (λ patch. 0) (λ patch. 0) (record {
             patches = same.patches;
-            events = same.events;
+            calls = omega (arith, same.calls);
             positive = positive;
             within = within;
             stays = let e : returned_count.stays ≡ count.stays = same.stays in omega (arith, e, none);

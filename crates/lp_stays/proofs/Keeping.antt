@@ -1,14 +1,9 @@
 -- What calls and returns do to what is kept, patch by patch.
-use Rattle.std.proofs.Common.{◌≡◌, ◌≢◌, ℕ, zero, suc, pred, ◌+◌, ◌<◌, ◌≤◌, Bool, true, false, not, ◌&&◌, length, Option, Some, None, if◌then◌else◌, nat_le, get_or, set, refl, sym, ap, ap₂, ◌∙◌, subst, ⊎_elim, arith, length-set, get_or-set_same, get_or-set_other}
+use Rattle.std.proofs.Common.{◌≡◌, ◌≢◌, ℕ, zero, suc, pred, ◌+◌, ◌<◌, ◌≤◌, Bool, true, false, not, ◌&&◌, length, if◌then◌else◌, nat_le, get_or, set, refl, sym, ap, ap₂, ◌∙◌, subst, ⊎_elim, arith, length-set, get_or-set_same, get_or-set_other}
 use Rattle.std.proofs.lemmas.Bool.{cases_Bool, cases_eq, cond-true, cond-false}
 use Rattle.lp_patch.specs.Patches.{patch_has}
-use Rattle.lp_symbols.specs.declared.sym_id.SymId.{SymId}
-use Rattle.lp_definitions.specs.declared.event.Event.{Event}
-use Rattle.lp_definitions.specs.declared.event.Event.TheVariants.{Call, Ret}
-use Rattle.lp_definitions.specs.declared.reply.What.{What}
-use Rattle.lp_definitions.specs.declared.reply.What.TheVariants.{Ran, Refused}
 use Rattle.lp_stays.specs.Invariant.{Ongoing, Tally, outside, place, kept}
-use Rattle.lp_stays.specs.inside.Calls.{is_outside, is_both, called, returned, one_if, begins, mixes, after_call, after_return, calls, returns, one_more, by_call, by_return, after_event}
+use Rattle.lp_stays.specs.inside.Calls.{is_outside, is_both, called, returned, one_if, begins, mixes, after_call, after_return, calls, returns}
 use Rattle.lp_stays.proofs.Sums.{sum_from, sum_last}
 
 -- ---- Numbers
@@ -121,14 +116,14 @@ module _ (t func level : ℕ) (count : Tally) where
   -- what else is kept stays
   pub record IsSame (now : Tally) : Type 0 where
     pub patches : now.patches ≡ count.patches
-    pub events : now.events ≡ count.events
+    pub calls : now.calls ≡ count.calls
 
   pub call_same : (k : ℕ) → IsSame (call_run k)
-  call_same zero = subst IsSame (sym call_start) (record { patches = refl; events = refl })
+  call_same zero = subst IsSame (sym call_start) (record { patches = refl; calls = refl })
   call_same (suc below) =
       let before = call_same below in
       ⊎_elim
-      (λ (yes : has below ≡ true). record { patches = ap (λ c. c.patches) (call_yes below yes) ∙ before.patches; events = ap (λ c. c.events) (call_yes below yes) ∙ before.events })
+      (λ (yes : has below ≡ true). record { patches = ap (λ c. c.patches) (call_yes below yes) ∙ before.patches; calls = ap (λ c. c.calls) (call_yes below yes) ∙ before.calls })
       (λ (no : has below ≡ false). subst IsSame (sym (call_no below no)) before)
       (cases_Bool (has below))
 
@@ -184,12 +179,6 @@ module _ (t func level : ℕ) (count : Tally) where
       let next : below + 1 ≡ suc below = omega arith in
       let yes_here : has below ≡ true = ap₂ (λ patches patch. patch_has patches patch func) (sym (ap (λ c. c.patches) e ∙ (call_same below).patches)) (sym next) ∙ found in
       made ∙ ap₂ (λ b c. after_call below t b c) (is ∙ ap (λ patch. nat_le patch level) next) e ∙ sym (call_yes below yes_here) ∙ ap call_run (sym next)
-
-  pub call_else : (below : ℕ) (self after : Tally) → self ≡ call_run below → patch_has self.patches (below + 1) func ≡ false → after ≡ self → after ≡ call_run (below + 1)
-  call_else below self after e found made =
-      let next : below + 1 ≡ suc below = omega arith in
-      let no_here : has below ≡ false = ap₂ (λ patches patch. patch_has patches patch func) (sym (ap (λ c. c.patches) e ∙ (call_same below).patches)) (sym next) ∙ found in
-      made ∙ e ∙ sym (call_no below no_here) ∙ ap call_run (sym next)
 
   -- patches that don't have the function are passed over
   pub call_skip : (n m : ℕ) → n ≤ m → ((k : ℕ) → n ≤ k → k < m → has k ≡ false) → call_run m ≡ call_run n
@@ -262,19 +251,19 @@ module _ (t func : ℕ) (count : Tally) where
   -- what else is kept stays
   pub record IsKeptElse (now : Tally) : Type 0 where
     pub patches : now.patches ≡ count.patches
-    pub events : now.events ≡ count.events
+    pub calls : now.calls ≡ count.calls
     pub stays : now.stays ≡ count.stays
     pub mixed : now.mixed ≡ count.mixed
 
   pub return_same : (k : ℕ) → IsKeptElse (return_run k)
-  return_same zero = subst IsKeptElse (sym return_start) (record { patches = refl; events = refl; stays = refl; mixed = refl })
+  return_same zero = subst IsKeptElse (sym return_start) (record { patches = refl; calls = refl; stays = refl; mixed = refl })
   return_same (suc below) =
       let before = return_same below in
       ⊎_elim
       (λ (yes : had below ≡ true).
       record {
         patches = ap (λ c. c.patches) (return_yes below yes) ∙ before.patches;
-        events = ap (λ c. c.events) (return_yes below yes) ∙ before.events;
+        calls = ap (λ c. c.calls) (return_yes below yes) ∙ before.calls;
         stays = ap (λ c. c.stays) (return_yes below yes) ∙ before.stays;
         mixed = ap (λ c. c.mixed) (return_yes below yes) ∙ before.mixed;
       })
@@ -289,12 +278,6 @@ module _ (t func : ℕ) (count : Tally) where
       let yes_here : had below ≡ true = ap₂ (λ patches patch. patch_has patches patch func) (sym (ap (λ c. c.patches) e ∙ (return_same below).patches)) (sym next) ∙ found in
       made ∙ ap (after_return below t) e ∙ sym (return_yes below yes_here) ∙ ap return_run (sym next)
 
-  pub return_else : (below : ℕ) (self after : Tally) → self ≡ return_run below → patch_has self.patches (below + 1) func ≡ false → after ≡ self → after ≡ return_run (below + 1)
-  return_else below self after e found made =
-      let next : below + 1 ≡ suc below = omega arith in
-      let no_here : had below ≡ false = ap₂ (λ patches patch. patch_has patches patch func) (sym (ap (λ c. c.patches) e ∙ (return_same below).patches)) (sym next) ∙ found in
-      made ∙ e ∙ sym (return_no below no_here) ∙ ap return_run (sym next)
-
   -- patches that don't have the function are passed over
   pub return_skip : (n m : ℕ) → n ≤ m → ((k : ℕ) → n ≤ k → k < m → had k ≡ false) → return_run m ≡ return_run n
   return_skip n zero le none = ap return_run (omega arith)
@@ -305,21 +288,3 @@ module _ (t func : ℕ) (count : Tally) where
       let less : n ≤ m = omega (arith, other) in
       return_no m (none m less (omega arith)) ∙ return_skip n m less (λ k a b. none k a (omega arith)))
       (cases_eq n (suc m))
-
--- ---- An event
-
-module _ (count : Tally) (top : Option SymId) where
-  called_once : (t : ℕ) (func : SymId) (what : What) → (by_call t func what (one_more count)).events ≡ count.events + 1
-  called_once t func (Ran level) = (call_same t func.0 level.0 (one_more count) (length count.patches)).events
-  called_once t func _ = refl
-
-  returned_once : (t : ℕ) (what : What) (o : Option SymId) → (by_return t what o (one_more count)).events ≡ count.events + 1
-  returned_once t (Refused why) o = refl
-  returned_once t _ None = refl
-  returned_once t _ (Some func) = (return_same t func.0 (one_more count) (length count.patches)).events
-
-  -- each event counts once
-  pub once_more : (event : Event) (what : What) → (after_event event what top count).events ≡ count.events + 1
-  once_more (Call t func) what = called_once t.0 func what
-  once_more (Ret t) what = returned_once t.0 what top
-  once_more _ what = refl

@@ -8,4 +8,3 @@ pub mod Versions
 pub mod Moments
 pub mod Counting
 pub mod Stepping
-pub mod Following

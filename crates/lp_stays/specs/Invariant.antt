@@ -13,11 +13,11 @@ pub record Ongoing : Type 0 where
 abbrev pub outside : Ongoing
 outside = record { frames = 0; old = false; new = false }
 
--- how many events there were, how many stays and mixed stays there were, and for each patch, one after the other,
--- the stay that each task is in
+-- how many calls were counted, how many stays and mixed stays there were, and for each patch, one after the other, the stay
+-- that each task is in
 pub record Tally : Type 0 where
   pub patches : Patches
-  pub events : ℕ
+  pub calls : ℕ
   pub stays : ℕ
   pub mixed : ℕ
   pub present : List Ongoing
@@ -32,6 +32,6 @@ kept count below t = slice_index_or count.present (place below t) outside
 -- what every count keeps: a place for each patch and task number, and counts that fit
 pub record IsKept (count : Tally) : Type 0 where
   pub wide : length count.present ≡ length count.patches * 65536
-  pub few : count.events ≤ 1000000
-  pub stays : count.stays ≤ 16 * count.events
-  pub mixed : count.mixed ≤ 16 * count.events
+  pub few : count.calls ≤ 1000000
+  pub stays : count.stays ≤ 16 * count.calls
+  pub mixed : count.mixed ≤ 16 * count.calls

@@ -1,13 +1,12 @@
 //! The count of stays.
-ghost use Rattle.std.specs.Prelude.{◌≡◌, ◌+◌, ◌*◌, ◌<◌, ◌≤◌, nat_le, length, replicate, IfOk};
+ghost use Rattle.std.specs.Prelude.{◌≡◌, ◌+◌, ◌*◌, ◌<◌, nat_le, length, replicate, IfOk};
 ghost use Rattle.lp_stays.specs.Invariant.{outside};
-ghost use Rattle.lp_stays.specs.inside.Calls.{after_call, after_return, calls, returns, by_call, by_return, after_event};
+ghost use Rattle.lp_stays.specs.inside.Calls.{after_call, after_return};
 ghost use Rattle.lp_stays.specs.inside.Holders.{IsHolders};
-ghost use Rattle.lp_stays.specs.Counts.{IsFirst, CountsOne};
+ghost use Rattle.lp_stays.specs.Counts.{IsFirst, CountsCall, CountsReturn};
 
 use crate::holders::{all_holders, holders, next_holder};
 use crate::present::Present;
-use lp_definitions::{Event, Reply, What};
 use lp_numbers::NUMBERS;
 use lp_patch::PatchStack;
 use lp_stack::{Level, TaskId};
@@ -19,7 +18,9 @@ use std::marker::Model;
 ///
 /// For a patch and a task, a stay is as long as a function of the patch is on the task's stack.
 /// Stays are counted for each patch by itself, those that aren't over too. A count is made before
-/// the first event, and then steps by each event with its reply.
+/// the first event, and then hears of each call that ran and each return that was accepted. No other
+/// event moves a stack: the count as it is then is that of the run with the event too (`unmoved` in
+/// proofs/Stepping.antt).
 ///
 /// It keeps what is under way alone: for each patch and task how many calls of the patch are on the
 /// stack, and which sides ran since the stack was last free of them. So an event costs the same
@@ -28,7 +29,8 @@ use std::marker::Model;
 /// Contracts see what it keeps.
 pub struct StayCount {
     patches: PatchStack,
-    events: u32,
+    /// How many calls it heard of.
+    calls: u32,
     stays: u64,
     mixed: u64,
     /// For each patch, one after the other, the stay that each task is in.
@@ -42,7 +44,7 @@ impl Drop for StayCount {
     fn drop(self) {
         let StayCount {
             patches: _,
-            events: _,
+            calls: _,
             stays: _,
             mixed: _,
             present: _,
@@ -57,9 +59,9 @@ impl Model for StayCount {
 
     ghost Value = { Tally };
 
-    ghost view = { λ c. record { patches = c.patches; events = c.events; stays = c.stays; mixed = c.mixed; present = c.present.items } };
+    ghost view = { λ c. record { patches = c.patches; calls = c.calls; stays = c.stays; mixed = c.mixed; present = c.present.items } };
 
-    ghost invariant = { λ c. IsCount (record { patches = c.patches; events = c.events; stays = c.stays; mixed = c.mixed; present = c.present.items }) c.holders.items };
+    ghost invariant = { λ c. IsCount (record { patches = c.patches; calls = c.calls; stays = c.stays; mixed = c.mixed; present = c.present.items }) c.holders.items };
 }
 
 impl StayCount {
@@ -67,14 +69,14 @@ impl StayCount {
     /// failed.
     pub fn new(alloc: Global, patches: &PatchStack) -> Result<StayCount, AllocError>
         ensures first { IfOk result (λ count. IsFirst patches.now count) }
-        ensures events { IfOk result (λ count. count.events ≡ 0) }
+        ensures calls { IfOk result (λ count. count.calls ≡ 0) }
     {
         let patches = patches.copy(alloc)?;
         let present = all_outside(alloc, usize::from(patches.patches().0) * NUMBERS)?;
         let holders = all_holders(alloc, &patches)?;
         Ok(StayCount {
             patches,
-            events: 0,
+            calls: 0,
             stays: 0,
             mixed: 0,
             present,
@@ -82,25 +84,45 @@ impl StayCount {
         })
     }
 
-    /// Takes in an event with its reply, in constant time. `top` is the function of the last frame
-    /// on the stack of the event's task before the event, `None` without one; only a return looks
-    /// at it. At most 1,000,000 events are counted.
+    /// Counts a call that ran at a level, in each patch that has the function. At most 1,000,000
+    /// calls are counted.
     #[inline(always)]
-    pub fn step(&mut self, event: Event, reply: &Reply, top: Option<SymId>)
-        requires { self.old.events < 1000000 }
-        ensures counts { CountsOne event reply.now top self.old self.new }
-        ensures events { self.new.events ≡ self.old.events + 1 }
+    pub fn call(&mut self, task: TaskId, func: SymId, level: Level)
+        requires { self.old.calls < 1000000 }
+        ensures counts { CountsCall task func level self.old self.new }
+        ensures calls { self.new.calls ≡ self.old.calls + 1 }
+    {
+        let holders = self.holders(func);
+        self.calls += 1;
+        let mut from = 0;
+        while let Some(below) = next_holder(holders, from) {
+            self.call_in(below, task, has_patch(level, below));
+            from = below + 1;
+        }
+    }
+
+    /// Counts an accepted return from a function, that of the task's last frame before it, in each
+    /// patch that has the function.
+    #[inline(always)]
+    pub fn ret(&mut self, task: TaskId, func: SymId)
+        ensures counts { CountsReturn task func self.old self.new }
+        ensures calls { self.new.calls ≡ self.old.calls }
     {
         // For the proof alone, which knows what every value keeps once a field is read.
         let _ = &self.patches;
-        self.keep(event, &reply.what, top);
+        let holders = self.holders(func);
+        let mut from = 0;
+        while let Some(below) = next_holder(holders, from) {
+            self.return_in(below, task);
+            from = below + 1;
+        }
     }
 
-    /// How many events there were so far.
-    pub fn events(&self) -> u64
-        ensures { result ≡ self.now.events }
+    /// How many calls were counted.
+    pub fn calls(&self) -> u64
+        ensures { result ≡ self.now.calls }
     {
-        u64::from(self.events)
+        u64::from(self.calls)
     }
 
     /// How many stays there were.
@@ -115,73 +137,6 @@ impl StayCount {
         ensures { result ≡ self.now.mixed }
     {
         self.mixed
-    }
-
-    /// Keeps what an event did.
-    #[inline(always)]
-    fn keep(&mut self, event: Event, what: &What, top: Option<SymId>)
-        requires { self.old.events < 1000000 }
-        ensures { self.new ≡ after_event event what.now top self.old }
-    {
-        self.events += 1;
-        match event {
-            Event::Call(task, func) => self.keep_call(task, func, what),
-            Event::Ret(task) => self.keep_return(task, what, top),
-            _ => {}
-        }
-    }
-
-    /// A call, where it ran.
-    #[inline(always)]
-    fn keep_call(&mut self, task: TaskId, func: SymId, what: &What)
-        requires stays { self.old.stays + 16 ≤ 16 * self.old.events }
-        requires mixed { self.old.mixed + 16 ≤ 16 * self.old.events }
-        ensures { self.new ≡ by_call task.0 func what.now self.old }
-    {
-        if let What::Ran(level) = what {
-            self.call(task, func, *level);
-        }
-    }
-
-    /// A return, where it was accepted.
-    #[inline(always)]
-    fn keep_return(&mut self, task: TaskId, what: &What, top: Option<SymId>)
-        ensures { self.new ≡ by_return task.0 what.now top self.old }
-    {
-        if let What::Refused(_) = what {
-            return;
-        }
-        if let Some(func) = top {
-            self.ret(task, func);
-        }
-    }
-
-    /// A call of a function at a level, in each patch that has the function.
-    #[inline(always)]
-    fn call(&mut self, task: TaskId, func: SymId, level: Level)
-        requires stays { self.old.stays + 16 ≤ 16 * self.old.events }
-        requires mixed { self.old.mixed + 16 ≤ 16 * self.old.events }
-        ensures { self.new ≡ calls (length self.old.patches) task.0 func.0 level.0 self.old }
-    {
-        let holders = self.holders(func);
-        let mut from = 0;
-        while let Some(below) = next_holder(holders, from) {
-            self.call_in(below, task, has_patch(level, below));
-            from = below + 1;
-        }
-    }
-
-    /// A return from a function, in each patch that has the function.
-    #[inline(always)]
-    fn ret(&mut self, task: TaskId, func: SymId)
-        ensures { self.new ≡ returns (length self.old.patches) task.0 func.0 self.old }
-    {
-        let holders = self.holders(func);
-        let mut from = 0;
-        while let Some(below) = next_holder(holders, from) {
-            self.return_in(below, task);
-            from = below + 1;
-        }
     }
 
     /// The patches that have a function.
@@ -199,8 +154,8 @@ impl StayCount {
     #[inline(always)]
     fn call_in(&mut self, below: u8, task: TaskId, new_side: bool)
         requires patch { below < length self.old.patches }
-        requires stays { self.old.stays < 16 * self.old.events }
-        requires mixed { self.old.mixed < 16 * self.old.events }
+        requires stays { self.old.stays < 16 * self.old.calls }
+        requires mixed { self.old.mixed < 16 * self.old.calls }
         ensures { self.new ≡ after_call below task.0 new_side self.old }
     {
         let place = place(below, task);

@@ -1,7 +1,7 @@
-//! Stays of tasks in a patch's functions, counted event by event.
+//! Stays of tasks in a patch's functions, counted call by call and return by return.
 //!
-//! Costs: `step` looks at the patches that have the function, 16 at most, and never allocates. `new` takes 3 bytes for
-//! each patch and task number, 192 KB a patch, and 2 bytes for each symbol.
+//! Costs: a call or a return looks at the patches that have the function, 16 at most, and never allocates. `new` takes
+//! 3 bytes for each patch and task number, 192 KB a patch, and 2 bytes for each symbol.
 #![tactic(auto)]
 
 mod count;
@@ -9,6 +9,6 @@ mod holders;
 mod present;
 
 pub use count::StayCount;
-pub use lp_definitions::{Event, Reply};
 pub use lp_patch::PatchStack;
+pub use lp_stack::{Level, TaskId};
 pub use lp_symbols::SymId;

@@ -1,8 +1,9 @@
 //! What a run comes to, event by event.
-ghost use Rattle.std.specs.Prelude.{◌≡◌, ◌≤◌, ◌<◌, ◌+◌, ◌++◌, length, IfOk, OnOk};
+ghost use Rattle.std.specs.Prelude.{◌≡◌, ◌≤◌, ◌<◌, ◌+◌, ◌++◌, false, length, IfOk, OnOk};
 ghost use Rattle.lp_definitions.specs.Run.{Run, leg_of, plus};
 ghost use Rattle.lp_stack.specs.declared.number.TaskId.{TaskId};
-ghost use Rattle.lp_stays.specs.Counts.{top_of};
+ghost use Rattle.lp_stays.specs.Counts.{moves, top_of};
+ghost use Rattle.lp_definitions.specs.declared.reply.What.{What};
 ghost use Rattle.lp_definitions.specs.Stays.{stack};
 ghost use Rattle.lp_machine.specs.Steps.{StandsIn};
 ghost use Rattle.lp_machine.specs.Table.{state_in};
@@ -16,10 +17,11 @@ use crate::outcome::Outcome;
 use crate::replies::ReplyList;
 use lp_cert::ExplainedCore;
 use lp_model::Consistency;
+use lp_stack::TaskId;
 use lp_stays::StayCount;
 use lp_symbols::SymId;
 use lp_text::Trace;
-use lp_transition::{Core, Event};
+use lp_transition::{Core, Event, What};
 use std::alloc::Global;
 use std::marker::Model;
 
@@ -82,12 +84,12 @@ impl<M: Consistency> Recorder<M> {
     #[inline(always)]
     fn step(&mut self, alloc: Global, event: &Event) -> Result<(), ReplayFault>
         requires numbered { self.old.explained.core.number < 1000000 }
-        requires counted { self.old.stays.events < 1000000 }
+        requires counted { self.old.stays.calls < 1000000 }
         ensures { OnOk result ((run : Run) → IsRecorded M.rules run self.old → IsRecorded M.rules (plus run event.now) self.new) }
     {
         match *event {
-            Event::Call(task, func) => self.step_here(alloc, Event::Call(task, func)),
-            Event::Ret(task) => self.step_here(alloc, Event::Ret(task)),
+            Event::Call(task, func) => self.call(alloc, task, func),
+            Event::Ret(task) => self.ret(alloc, task),
             Event::Enter(task) => self.step_here(alloc, Event::Enter(task)),
             Event::Sleep(task) => self.step_here(alloc, Event::Sleep(task)),
             Event::Wake(task) => self.step_here(alloc, Event::Wake(task)),
@@ -97,26 +99,56 @@ impl<M: Consistency> Recorder<M> {
         }
     }
 
+    /// Steps by a call. Where it ran, the count of stays hears of it.
+    #[inline(always)]
+    fn call(&mut self, alloc: Global, task: TaskId, func: SymId) -> Result<(), ReplayFault>
+        requires numbered { self.old.explained.core.number < 1000000 }
+        requires counted { self.old.stays.calls < 1000000 }
+        ensures { OnOk result ((run : Run) → IsRecorded M.rules run self.old → IsRecorded M.rules (plus run (Event.Call task func)) self.new) }
+    {
+        let reply = self.explained.step(alloc, Event::Call(task, func))?;
+        if let What::Ran(level) = &reply.what {
+            self.stays.call(task, func, *level);
+        }
+        self.replies.push(reply)?;
+        Ok(())
+    }
+
+    /// Steps by a return. Where it is accepted, the count of stays hears of it.
+    #[inline(always)]
+    fn ret(&mut self, alloc: Global, task: TaskId) -> Result<(), ReplayFault>
+        requires { self.old.explained.core.number < 1000000 }
+        ensures { OnOk result ((run : Run) → IsRecorded M.rules run self.old → IsRecorded M.rules (plus run (Event.Ret task)) self.new) }
+    {
+        let left = last_function(self.explained.core(), task);
+        let reply = self.explained.step(alloc, Event::Ret(task))?;
+        if let Some(func) = left {
+            if is_accepted(&reply.what) {
+                self.stays.ret(task, func);
+            }
+        }
+        self.replies.push(reply)?;
+        Ok(())
+    }
+
     /// Steps by an event of a kind that isn't known where this is compiled.
     #[inline(never)]
     fn step_other(&mut self, alloc: Global, event: &Event) -> Result<(), ReplayFault>
         requires numbered { self.old.explained.core.number < 1000000 }
-        requires counted { self.old.stays.events < 1000000 }
+        requires unmoved { (what : What) → moves event.now what ≡ false }
         ensures { OnOk result ((run : Run) → IsRecorded M.rules run self.old → IsRecorded M.rules (plus run event.now) self.new) }
     {
         self.step_here(alloc, *event)
     }
 
-    /// Steps by an event.
+    /// Steps by an event that moves no stack.
     #[inline(always)]
     fn step_here(&mut self, alloc: Global, event: Event) -> Result<(), ReplayFault>
         requires numbered { self.old.explained.core.number < 1000000 }
-        requires counted { self.old.stays.events < 1000000 }
+        requires unmoved { (what : What) → moves event what ≡ false }
         ensures { OnOk result ((run : Run) → IsRecorded M.rules run self.old → IsRecorded M.rules (plus run event) self.new) }
     {
-        let top = last_function(self.explained.core(), event);
         let reply = self.explained.step(alloc, event)?;
-        self.stays.step(event, &reply, top);
         self.replies.push(reply)?;
         Ok(())
     }
@@ -139,15 +171,20 @@ impl<M: Consistency> Recorder<M> {
     }
 }
 
-/// The function of the last frame of the task that returns at an event; None at any other event.
+/// The function of a task's last frame; None without one.
 #[inline(always)]
-fn last_function<M: Consistency>(core: &Core<M>, event: Event) -> Option<SymId>
-    ensures { (run : Run) → StandsIn M.rules run (state_in core.now) → (t : TaskId) → event ≡ Event.Ret t → result ≡ top_of (stack M.rules (leg_of M.rules run) t.0) }
+fn last_function<M: Consistency>(core: &Core<M>, task: TaskId) -> Option<SymId>
+    ensures { (run : Run) → StandsIn M.rules run (state_in core.now) → result ≡ top_of (stack M.rules (leg_of M.rules run) task.0) }
 {
-    let Event::Ret(task) = event else {
-        return None;
-    };
     let view = core.task(task)?;
     let frame = view.frames.last()?;
     Some(frame.func)
+}
+
+/// Whether a return that did this was accepted.
+#[inline(always)]
+fn is_accepted(what: &What) -> bool
+    ensures { (task : TaskId) → result ≡ moves (Event.Ret task) what.now }
+{
+    !matches!(what, What::Refused(_))
 }

@@ -1,12 +1,7 @@
 -- What a call and a return do to what a count keeps. The code is proved against these definitions, and they against
 -- the stays of runs; no public contract names them.
-use Rattle.std.specs.Prelude.{ℕ, zero, suc, ◌+◌, ◌-◌, min, Bool, not, ◌&&◌, ◌||◌, length, Option, Some, None, if◌then◌else◌, nat_eq, nat_le, slice_set}
-use Rattle.lp_symbols.specs.declared.sym_id.SymId.{SymId}
+use Rattle.std.specs.Prelude.{ℕ, zero, suc, ◌+◌, ◌-◌, min, Bool, not, ◌&&◌, ◌||◌, if◌then◌else◌, nat_eq, nat_le, slice_set}
 use Rattle.lp_patch.specs.Patches.{patch_has}
-use Rattle.lp_definitions.specs.declared.event.Event.{Event}
-use Rattle.lp_definitions.specs.declared.event.Event.TheVariants.{Call, Ret}
-use Rattle.lp_definitions.specs.declared.reply.What.{What}
-use Rattle.lp_definitions.specs.declared.reply.What.TheVariants.{Ran, Refused}
 use Rattle.lp_stays.specs.Invariant.{Ongoing, Tally, outside, place, kept}
 
 -- ---- The stay that one task is in, for one patch
@@ -67,20 +62,6 @@ returns (suc below) t func count =
     let before = returns below t func count in
     if patch_has count.patches (suc below) func then after_return below t before else before
 
+-- one more call is counted
 abbrev pub one_more : Tally → Tally
-one_more count = record count { events = count.events + 1 }
-
-abbrev pub by_return : ℕ → What → Option SymId → Tally → Tally
-by_return t (Refused why) top count = count
-by_return t _ None count = count
-by_return t _ (Some func) count = returns (length count.patches) t func.0 count
-
-abbrev pub by_call : ℕ → SymId → What → Tally → Tally
-by_call t func (Ran level) count = calls (length count.patches) t func.0 level.0 count
-by_call t func _ count = count
-
--- after an event with what it did, and the function of its task's last frame before it
-abbrev pub after_event : Event → What → Option SymId → Tally → Tally
-after_event (Call t func) what top count = by_call t.0 func what (one_more count)
-after_event (Ret t) what top count = by_return t.0 what top (one_more count)
-after_event _ what top count = one_more count
+one_more count = record count { calls = count.calls + 1 }

@@ -1,7 +1,6 @@
-//! Stays by themselves: small runs, each event with the reply that the definitions give it.
+//! Stays by themselves: the calls and returns of small runs.
 use super::*;
 use lp_stays::StayCount;
-use lp_transition::Refusal;
 
 const LAST: TaskId = TaskId(65_535);
 
@@ -19,48 +18,17 @@ enum Step {
     Call(TaskId, SymId, u8),
     /// A return from a function.
     Ret(TaskId, SymId),
-    /// A call that is refused.
-    Refused(TaskId, SymId),
-    /// A return that is refused, with a function on the stack all the same.
-    Held(TaskId, SymId),
-    /// Another event, which is accepted.
-    Other(Event),
 }
 
-impl Step {
-    /// Its event, what is said to it, and the function that a return is from.
-    fn parts(self) -> (Event, What, Option<SymId>) {
-        match self {
-            Step::Call(task, func, level) => (
-                Event::Call(task, func),
-                What::Ran(Level(level)),
-                None,
-            ),
-            Step::Ret(task, func) => (Event::Ret(task), What::Done, Some(func)),
-            Step::Refused(task, func) => (
-                Event::Call(task, func),
-                What::Refused(Refusal::WrongMode),
-                None,
-            ),
-            Step::Held(task, func) => (
-                Event::Ret(task),
-                What::Refused(Refusal::WrongMode),
-                Some(func),
-            ),
-            Step::Other(event) => (event, What::Done, None),
-        }
-    }
-}
-
-/// Counts a step; a count that is full stays as it is.
+/// Counts a step; a count that is full takes no call.
 fn take(count: &mut StayCount, step: Step) {
-    let (event, what, top) = step.parts();
-    let reply = Reply {
-        what,
-        completed: false,
-    };
-    if count.events() < 1_000_000 {
-        count.step(event, &reply, top);
+    match step {
+        Step::Call(task, func, level) => {
+            if count.calls() < 1_000_000 {
+                count.call(task, func, Level(level));
+            }
+        }
+        Step::Ret(task, func) => count.ret(task, func),
     }
 }
 
@@ -86,15 +54,13 @@ type Row = (
 );
 
 /// Calls within a stay.
-const NESTED: [Step; 8] = [
-    Step::Other(Event::Enter(ONE)),
+const NESTED: [Step; 6] = [
     Step::Call(ONE, A, 0),
     Step::Call(ONE, B, 0),
     Step::Call(ONE, A, 0),
     Step::Ret(ONE, A),
     Step::Ret(ONE, B),
     Step::Ret(ONE, A),
-    Step::Other(Event::Exit(ONE)),
 ];
 
 /// A stay ends with its last call, and the next begins.
@@ -135,15 +101,7 @@ const MIXED_IN_THE_SECOND: [Step; 3] = [
     Step::Call(ONE, C, 2),
 ];
 
-/// Refused events about a call.
-const REFUSED: [Step; 4] = [
-    Step::Refused(ONE, A),
-    Step::Call(ONE, A, 0),
-    Step::Held(ONE, A),
-    Step::Call(ONE, A, 0),
-];
-
-const ROWS: [Row; 10] = [
+const ROWS: [Row; 8] = [
     ("nested calls are one stay", &[&[A]], &NESTED, (1, 0)),
     ("a stay ends with its last call", &[&[A]], &TWICE, (2, 0)),
     ("a stay that isn't mixed", &[&[A, B]], &[FIRST], (1, 0)),
@@ -162,13 +120,6 @@ const ROWS: [Row; 10] = [
         &MIXED_IN_THE_SECOND,
         (2, 1),
     ),
-    (
-        "a refused call is no stay",
-        &[&[A]],
-        &[Step::Refused(ONE, A)],
-        (0, 0),
-    ),
-    ("refused events change no stay", &[&[A]], &REFUSED, (1, 0)),
 ];
 
 /// Whether a row has its counts.
@@ -187,27 +138,27 @@ fn stays_are_counted_by_patch_and_task(rt: HostRuntime) {
     }
 }
 
-/// Whether so many events, and no stays or mixed stays, are counted.
-fn has_no_stay(count: &StayCount, events: u64) -> bool {
-    count.events() == events && count.stays() == 0 && count.mixed() == 0
+/// Whether so many calls, and no stays or mixed stays, are counted.
+fn has_no_stay(count: &StayCount, calls: u64) -> bool {
+    count.calls() == calls && count.stays() == 0 && count.mixed() == 0
 }
 
-/// Whether a count begins at nothing, and a refused event is counted as one, but as no stay.
-fn counts_a_refusal(count: &mut StayCount) -> bool {
+/// Whether a count begins at nothing, and a call of a function without a new version is counted as one, but as no stay.
+fn counts_a_call(count: &mut StayCount) -> bool {
     let before = has_no_stay(count, 0);
-    take(count, Step::Refused(ONE, A));
+    take_all(count, &[Step::Call(ONE, C, 0), Step::Ret(ONE, C)]);
     before && has_no_stay(count, 1)
 }
 
 /// Whether a new count does.
-fn counts_a_refusal_at_first(alloc: Global) -> bool {
+fn counts_a_call_at_first(alloc: Global) -> bool {
     match count(alloc, &[&[A]]) {
-        Some(mut count) => counts_a_refusal(&mut count),
+        Some(mut count) => counts_a_call(&mut count),
         None => false,
     }
 }
 
 #[test]
-fn each_event_counts(rt: HostRuntime) {
-    assert!(rt; counts_a_refusal_at_first(rt.alloc()));
+fn each_call_counts(rt: HostRuntime) {
+    assert!(rt; counts_a_call_at_first(rt.alloc()));
 }

@@ -1,12 +1,12 @@
 use Rattle.std.proofs.Common.{◌≡◌, ◌-◌, ◌≤◌, length}
-use Rattle.lp_stays.specs.inside.Calls.{calls}
+use Rattle.lp_stays.specs.inside.Calls.{calls, one_more}
 use Rattle.lp_stays.proofs.count.StayCount.call.Given as goal
 
 -- the lowest patches are done
 abbrev pub invariant-loop-below : goal.invariant-loop-below
 invariant-loop-below l = record {
-  kept : l.self ≡ calls l.from l.task.0 l.fn.func.0 l.level.0 l.initial.self;
-  within : l.from ≤ length l.initial.self.patches;
+  kept : l.self ≡ calls l.from l.task.0 l.fn.func.0 l.level.0 (one_more l.fn.self);
+  within : l.from ≤ length l.fn.self.patches;
   few : l.from ≤ 16;
 }
 

@@ -1,7 +1,12 @@
-use Rattle.std.proofs.Common.{◌+◌, length, ap, sym, ◌∙◌, arith}
+use Rattle.std.proofs.Common.{◌+◌, length, ap, sym, ◌∙◌, subst, arith}
 use Rattle.lp_patch.specs.Patches.{patch_has}
+use Rattle.lp_definitions.specs.declared.event.Event.TheVariants.{Ret}
+use Rattle.lp_definitions.specs.Run.{plus}
+use Rattle.lp_stays.specs.Invariant.{IsKept}
+use Rattle.lp_stays.specs.Counts.{Counts}
 use Rattle.lp_stays.proofs.Keeping.{return_start, return_same, return_then}
 use Rattle.lp_stays.proofs.Holding.{return_to, return_end, holder_within, holder_has}
+use Rattle.lp_stays.proofs.Stepping.{return_counted}
 use Rattle.lp_stays.proofs.count.StayCount.ret.Goals as goal
 
 pub loop-below-init : goal.loop-below-init
@@ -29,6 +34,12 @@ loop-below-preserved c =
       few = omega (arith, c.in-Some.ensures.below);
     }
 
-pub returns : goal.returns
-returns c =
-    return_end c.args.task.0 c.args.func.0 c.holders-holders.result c.args.self.now c.holders-holders.ensures c.loop-below.from c.loop-below.self c.loop-below.invariant.kept c.loop-below.invariant.within c.in_default.ensures.next
+pub returns-clause-counts : goal.returns-clause-counts
+returns-clause-counts c = λ what moved model lawful run top counts comes.
+    let kept : IsKept c.args.self.now = subst IsKept c.self.view_is c.self.invariant.kept in
+    let here = return_end c.args.task.0 c.args.func.0 c.holders-holders.result c.args.self.now c.holders-holders.ensures c.loop-below.from c.loop-below.self c.loop-below.invariant.kept c.loop-below.invariant.within c.in_default.ensures.next in
+    subst (Counts model (plus run (Ret c.args.task))) (sym here) (return_counted model lawful run c.args.self.now counts kept.wide c.args.task c.args.func what moved top comes)
+
+pub returns-clause-calls : goal.returns-clause-calls
+returns-clause-calls c =
+    ap (λ s. s.calls) c.loop-below.invariant.kept ∙ (return_same c.args.task.0 c.args.func.0 c.args.self.now c.loop-below.from).calls

@@ -5,8 +5,8 @@ use Rattle.lp_stays.proofs.count.StayCount.ret.Given as goal
 -- the lowest patches are done
 abbrev pub invariant-loop-below : goal.invariant-loop-below
 invariant-loop-below l = record {
-  kept : l.self ≡ returns l.from l.task.0 l.fn.func.0 l.initial.self;
-  within : l.from ≤ length l.initial.self.patches;
+  kept : l.self ≡ returns l.from l.task.0 l.fn.func.0 l.fn.self;
+  within : l.from ≤ length l.fn.self.patches;
   few : l.from ≤ 16;
 }
 
