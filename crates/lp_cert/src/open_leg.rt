@@ -151,7 +151,7 @@ impl OpenLeg {
         }
     }
 
-    /// Puts the groups that have a certificate behind a list, in increasing order; AllocError where an allocation
+    /// Puts the groups that have a certificate at the end of a list, in increasing order; AllocError where an allocation
     /// failed, and then some of them may be there.
     pub(crate) fn append_groups(
         self,

@@ -144,7 +144,7 @@ impl Waiters {
         self.reasons.is_empty()
     }
 
-    /// Puts the groups that wait behind a list, in increasing order; AllocError where an allocation failed, and
+    /// Puts the groups that wait at the end of a list, in increasing order; AllocError where an allocation failed, and
     /// then some of them may be there.
     pub(crate) fn append_to(&self, list: &mut Vec<GroupId>) -> Result<(), AllocError>
         ensures { IsLonger list.old.items list.new.items result (map group_id (passing 0 65536 (has self.now.groups))) }
@@ -337,7 +337,7 @@ fn is_left(waiting: &NumberSet, refused: &NumberSet, group: GroupId) -> bool
     waiting.contains(group.0) && !refused.contains(group.0)
 }
 
-/// Puts the groups of a set behind a list, in increasing order; AllocError where an allocation failed, and then
+/// Puts the groups of a set at the end of a list, in increasing order; AllocError where an allocation failed, and then
 /// some of them may be there.
 fn append(groups: &NumberSet, list: &mut Vec<GroupId>) -> Result<(), AllocError>
     ensures { IsLonger list.old.items list.new.items result (map group_id (passing 0 65536 (has groups.now))) }
