@@ -54,7 +54,7 @@ macro_rules! inside {
     };
 }
 
-/// In one step for who owns one: docs/GATE.md says why.
+/// By hand, so that the proof of who owns one lets go of it in one step, not field by field.
 impl Drop for AnySimulator {
     fn drop(self) {
         let AnySimulator { of: _ } = self;

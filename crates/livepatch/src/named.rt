@@ -24,7 +24,7 @@ pub(crate) struct Named<M: Consistency> {
     simulator: Simulator<M>,
 }
 
-/// In one step for who owns one: docs/GATE.md says why.
+/// By hand, so that the proof of who owns one lets go of it in one step, not field by field.
 impl<M: Consistency> Drop for Named<M> {
     fn drop(self) {
         let Named {

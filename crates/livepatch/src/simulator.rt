@@ -40,7 +40,7 @@ pub struct Simulator<M: Consistency> {
     opening: Option<Opening>,
 }
 
-/// In one step for who owns one: docs/GATE.md says why.
+/// By hand, so that the proof of who owns one lets go of it in one step, not field by field.
 impl<M: Consistency> Drop for Simulator<M> {
     fn drop(self) {
         let Simulator {

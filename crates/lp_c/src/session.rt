@@ -19,7 +19,7 @@ pub struct Session {
     cert: Option<Cert>,
 }
 
-/// In one step for who owns one: docs/GATE.md says why.
+/// By hand, so that the proof of who owns one lets go of it in one step, not field by field.
 impl Drop for Session {
     fn drop(self) {
         let Session {

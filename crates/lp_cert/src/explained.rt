@@ -29,7 +29,7 @@ pub struct ExplainedCore<M: Consistency> {
     maker: Maker,
 }
 
-/// In one step for who owns one: docs/GATE.md says why.
+/// By hand, so that the proof of who owns one lets go of it in one step, not field by field.
 impl<M: Consistency> Drop for ExplainedCore<M> {
     fn drop(self) {
         let ExplainedCore { core: _, maker: _ } = self;
