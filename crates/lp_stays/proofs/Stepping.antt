@@ -25,7 +25,7 @@ use Rattle.lp_machine_laws.proofs.Steps.{open_shown, does}
 use Rattle.lp_laws.proofs.WholeRun.{run_sound, start_sound}
 use Rattle.lp_stays.specs.Invariant.{Tally, outside, kept}
 use Rattle.lp_stays.specs.inside.Calls.{calls, returns, one_more}
-use Rattle.lp_stays.specs.Counts.{Shows, Counts, CountsOne, IsNext, moves, top_of}
+use Rattle.lp_stays.specs.Counts.{Shows, Counts, IsNext, KeepsCounts, moves, top_of}
 use Rattle.lp_stays.proofs.Stacks.{frames_in, refused_still, other_still, call_live, call_pushes, ret_live, ret_pops}
 use Rattle.lp_stays.proofs.Moments.{run_bounds}
 use Rattle.lp_stays.proofs.Counting.{still_counts, call_counts, return_counts}
@@ -132,7 +132,7 @@ module _ (model : Rules) (lawful : IsLawful model) (run : Run) (count : Tally) (
             (return_counts model lawful run comes.in_range (Ret t) count counts wide t.0 n.0 n.1 pop)
 
 -- an event that moves no stack leaves each count that of the run with the event
-pub unmoved : (event : Event) (what : What) (count : Tally) → moves event what ≡ false → CountsOne event what count count
+pub unmoved : KeepsCounts
 unmoved event what count none = λ model lawful run counts comes. unmoved_counts model lawful run count counts event what comes none
 
 -- ---- Before any event

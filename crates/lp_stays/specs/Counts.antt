@@ -90,3 +90,7 @@ CountsReturn task func before after =
     (what : What) → moves (Ret task) what ≡ true →
     (model : Rules) → IsLawful model → (run : Run) → top_of (stack model (leg_of model run) task.0) ≡ Some func →
     Counts model run before → IsNext model run (Ret task) what → Counts model (plus run (Ret task)) after
+
+-- with an event that moves no stack each count is still that of its run
+abbrev pub KeepsCounts : Type 0
+KeepsCounts = (event : Event) (what : What) (count : Tally) → moves event what ≡ false → CountsOne event what count count

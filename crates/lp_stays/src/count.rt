@@ -19,8 +19,7 @@ use std::marker::Model;
 /// For a patch and a task, a stay is as long as a function of the patch is on the task's stack.
 /// Stays are counted for each patch by itself, those that aren't over too. A count is made before
 /// the first event, and then hears of each call that ran and each return that was accepted. No other
-/// event moves a stack: the count as it is then is that of the run with the event too (`unmoved` in
-/// proofs/Stepping.antt).
+/// event moves a stack, so it leaves the count that of the run (`other_events_keep_counts`).
 ///
 /// It keeps what is under way alone: for each patch and task how many calls of the patch are on the
 /// stack, and which sides ran since the stack was last free of them. So an event costs the same

@@ -6,6 +6,7 @@
 
 mod count;
 mod holders;
+pub mod laws;
 mod present;
 
 pub use count::StayCount;
