@@ -7,6 +7,7 @@ mod patches;
 mod scans;
 mod stacks;
 mod symbols;
+mod tables;
 
 use super::{A, B, C, names, no_names, patches};
 use lp_patch::{PatchFault, PatchSet, PatchStack};
