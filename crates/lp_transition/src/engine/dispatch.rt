@@ -27,7 +27,6 @@ impl<M: Consistency> Core<M> {
         ensures memory { result ≡ Err NoMemory → IsTrue (may_allocate event (answer M.rules (state_in self.old) event).what) }
         ensures step { IfOk result (λ reply. IsStep M.rules (state_in self.old) event reply (state_in self.new)) }
         ensures blames { IfOk result (λ reply. HasBlamesAfter M.rules self.old event self.new) }
-        ensures last_scan { IfOk result (λ reply. IsLastScanAfter M.rules self.old event self.new) }
         ensures unchanged { OnErr result (self.new ≡ self.old) }
     {
         if event.is_scan() {
@@ -68,7 +67,6 @@ impl<M: Consistency> Core<M> {
         ensures memory { result ≡ Err NoMemory → IsTrue (may_allocate event (answer M.rules (state_in self.old) event).what) }
         ensures step { IfOk result (λ reply. IsStep M.rules (state_in self.old) event reply (state_in self.new)) }
         ensures blames { IfOk result (λ reply. HasBlamesAfter M.rules self.old event self.new) }
-        ensures last_scan { IfOk result (λ reply. IsLastScanAfter M.rules self.old event self.new) }
         ensures unchanged { OnErr result (self.new ≡ self.old) }
     {
         let step = self.weigh_changed(alloc, event)?;

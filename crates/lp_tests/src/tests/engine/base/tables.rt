@@ -49,35 +49,40 @@ fn give_and_has(table: &mut NumberTable<u32>, given: &[Given], values: &[Value])
     has_these(table, values)
 }
 
+/// Whether a table that was made now has them.
+fn has_in_new(
+    made: Result<NumberTable<u32>, AllocError>,
+    given: &[Given],
+    values: &[Value],
+) -> bool {
+    match made {
+        Ok(mut table) => give_and_has(&mut table, given, values),
+        Err(_) => false,
+    }
+}
+
 /// An empty table. Where an allocation fails there is none, and the same call makes it.
-fn empty_again(alloc: Global) -> Result<NumberTable<u32>, AllocError> {
+fn new_or_again(alloc: Global) -> Result<NumberTable<u32>, AllocError> {
     match NumberTable::new(alloc) {
         Err(_) => NumberTable::new(alloc),
         answer => answer,
     }
 }
 
-/// Whether a new table has them.
-fn has_in_new(alloc: Global, given: &[Given], values: &[Value]) -> bool {
-    match empty_again(alloc) {
-        Ok(mut table) => give_and_has(&mut table, given, values),
-        Err(_) => false,
-    }
-}
-
 #[test]
 fn a_number_has_the_value_that_it_was_given_last(rt: HostRuntime) {
-    assert!(rt; has_in_new(rt.alloc(), &GIVEN, &VALUES));
+    assert!(rt; has_in_new(NumberTable::new(rt.alloc()), &GIVEN, &VALUES));
 }
 
 #[test]
 fn a_number_above_all_that_were_given_a_value_has_none(rt: HostRuntime) {
-    assert!(rt; has_in_new(rt.alloc(), &[], &[(0, None), (65_535, None)]));
-    assert!(rt; has_in_new(rt.alloc(), &[(3, 30)], &FIRST_VALUES));
+    let none = [(0, None), (65_535, None)];
+    assert!(rt; has_in_new(NumberTable::new(rt.alloc()), &[], &none));
+    assert!(rt; has_in_new(NumberTable::new(rt.alloc()), &[(3, 30)], &FIRST_VALUES));
 }
 
 /// For `scripts/refuse-memory`: after a failed allocation there is none, and the same call makes it.
 #[test]
 fn a_table_is_made_again_after_a_failed_allocation(rt: HostRuntime) {
-    assert!(rt; has_in_new(rt.alloc(), &GIVEN, &VALUES));
+    assert!(rt; has_in_new(new_or_again(rt.alloc()), &GIVEN, &VALUES));
 }
