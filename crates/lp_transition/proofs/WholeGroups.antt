@@ -34,10 +34,6 @@ module _ (e : Engine) (waiting : Numbers) (kept : IsEngine e waiting) (model : R
   pub own-listed : (groups : Numbers) → ((group : ℕ) → group < 65536 → has groups group ≡ true → IsOwnGroup e.table group) → verdicts_at model kind (state_in e) (has groups) ≡ verdicts_at model kind (state_in e) (is_asked (state_in e) (has groups))
   own-listed groups own = verdicts-agree model kind (state_in e) (has groups) (is_asked (state_in e) (has groups)) (λ t x live off. own-agrees e waiting kept groups own t x live)
 
-  -- as are those of a set of the members of some groups
-  pub member-listed : (groups set : Numbers) → ((task : ℕ) → has set task ≡ list_any (λ group. is_in group (slot e.table task)) (passing 0 65536 (has groups))) → verdicts_at model kind (state_in e) (has set) ≡ verdicts_at model kind (state_in e) (is_asked (state_in e) (has groups))
-  member-listed groups set told = verdicts-agree model kind (state_in e) (has set) (is_asked (state_in e) (has groups)) (λ t x live off. member-agrees e waiting kept groups set told t x live)
-
   -- the verdicts of the waiting set are those of all
   pub all-listed : verdicts_at model kind (state_in e) (has waiting) ≡ verdicts_of model kind (state_in e)
   all-listed =

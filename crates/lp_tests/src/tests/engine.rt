@@ -5,7 +5,6 @@ ghost use Rattle.lp_patch.specs.Patches.{ShareSymbols};
 ghost use Rattle.lp_transition.specs.Scan.{is_scan_kind};
 ghost use Rattle.lp_transition.specs.Weigh.{IsWeighed};
 
-mod asked;
 mod base;
 mod boots;
 mod calls;
@@ -18,6 +17,7 @@ mod limits;
 mod memory;
 mod open;
 mod refusals;
+mod unused_scans;
 
 use crate::tests::said::{Said, in_short};
 use lp_model::{CheckKind, Consistency};

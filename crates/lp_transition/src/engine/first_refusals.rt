@@ -1,20 +1,14 @@
 //! Scans that ask of each group no more than it takes to know its first member that they refuse.
-ghost use Rattle.std.specs.Prelude.{◌≡◌, ◌↔◌, ◌≤◌, ◌&&◌, ◌||◌, not, true, ℕ, Err, IfOk, IfSome};
+ghost use Rattle.std.specs.Prelude.{◌≡◌, ◌&&◌, ◌||◌, not, true, ℕ, Some, IfOk};
 ghost use Rattle.lp_numbers.specs.Numbers.{has};
-ghost use Rattle.lp_transition.specs.Blames.{TellOf};
-ghost use Rattle.lp_transition.specs.Scan.{is_asked, is_scan_kind, scan_event, verdicts_at, MayLeaveOut};
-ghost use Rattle.lp_machine.specs.Steps.{IsReply};
+ghost use Rattle.lp_transition.specs.Scan.{is_asked, verdicts_at};
 ghost use Rattle.lp_machine.specs.Table.{state_in};
-ghost use Rattle.lp_transition.specs.Weigh.{IsWeighed};
-ghost use Rattle.lp_transition.specs.declared.engine.step.Halt.TheVariants.{JournalFull};
 ghost use Rattle.lp_transition.specs.inside.FirstRefusals.{asked_slot, AdmitsOthers, AreTold, HasAsked};
 ghost use Rattle.lp_transition.specs.inside.ScanSteps.{is_found, is_judged};
 
 use super::Core;
 use super::open_scan::members_of;
 use super::scan::{remove_group, waiting_task};
-use super::step::{Halt, Step};
-use crate::MOST_EVENTS;
 use lp_model::{CheckKind, Consistency, Verdict};
 use lp_numbers::NumberSet;
 use lp_stack::{GroupId, TaskId};
@@ -25,56 +19,22 @@ use std::alloc::{AllocError, Global};
 const SMALL_GROUP: usize = 64;
 
 impl<M: Consistency> Core<M> {
-    /// A walk or a stop, weighed after a look at the waiting tasks of some groups: of each of the
-    /// others that waits it would refuse a member. Of a group that it refuses it needn't look at the
-    /// members after the first refused one. NoMemory where an allocation failed, JournalFull where
-    /// no event is left.
-    pub fn weigh_first_refusals(
+    /// What a scan of the kind of the leg's last one finds of enough of the waiting tasks of some groups to
+    /// tell of each of them the first member that it refuses. Where each group has one member, it looks
+    /// at all waiting members.
+    pub(super) fn first_refusals(
         &self,
         alloc: Global,
         kind: CheckKind,
-        asked: &NumberSet,
-    ) -> Result<Step, Halt>
-        requires scan { is_scan_kind kind ≡ true }
-        requires others { MayLeaveOut M.rules kind (state_in self.now) (has asked.now) }
-        ensures full { (result ≡ Err JournalFull) ↔ (1000000 ≤ self.now.number) }
-        ensures reply { IfOk result (λ step. IsReply M.rules (state_in self.now) (scan_event kind) step.reply) }
-        ensures weighed { IfOk result (λ step. IsWeighed M.rules self.now step) }
-        ensures event { IfOk result (λ step. step.event ≡ scan_event kind) }
-        ensures verdicts { IfOk result (λ step. TellOf M.rules kind (state_in self.now) (has asked.now) step.verdicts) }
-    {
-        if self.events >= MOST_EVENTS {
-            return Err(Halt::JournalFull);
-        }
-        let may_refuse = self.unchanged.may_refuse(kind);
-        let found = self.first_refusals(alloc, kind, may_refuse, asked)?;
-        self.weigh_found(alloc, kind, found)
-    }
-
-    /// Where each group has one member, or nothing is known of who would be admitted, it looks at all
-    /// waiting members.
-    fn first_refusals(
-        &self,
-        alloc: Global,
-        kind: CheckKind,
-        may_refuse: Option<&NumberSet>,
         groups: &NumberSet,
     ) -> Result<Vec<Verdict>, AllocError>
-        requires { IfSome may_refuse (λ some. AdmitsOthers M.rules kind (state_in self.now) (has some.now)) }
+        requires last { self.now.last_scan.kind ≡ Some kind }
         ensures { IfOk result (λ told. AreTold M.rules kind (state_in self.now) (has groups.now) told.items) }
     {
-        // For the proof alone, which knows what every value keeps once a field is read.
-        let _ = &self.tasks;
         if let Some(found) = self.own_verdicts(alloc, kind, groups)? {
             return Ok(found);
         }
-        match may_refuse {
-            Some(may_refuse) => self.first_told(alloc, kind, may_refuse, groups),
-            None => {
-                let members = members_of(alloc, &self.tasks, groups)?;
-                self.verdicts_in(alloc, kind, &members)
-            }
-        }
+        self.first_told(alloc, kind, self.unchanged.may_refuse(), groups)
     }
 
     /// What a check finds of enough of the waiting tasks of some groups to tell of each of them the

@@ -12,7 +12,7 @@ ghost use Rattle.lp_transition.specs.Blames.{is_open};
 ghost use Rattle.lp_transition.specs.LastScan.{TellOfChanges, used_scan};
 ghost use Rattle.lp_transition.specs.Weigh.{IsWeighed, may_allocate};
 ghost use Rattle.lp_machine.specs.Steps.{IsReply};
-ghost use Rattle.lp_transition.specs.Scan.{is_asked, is_scan_kind, scan_event, MayLeaveOut, verdict_of, verdicts_among, views_of};
+ghost use Rattle.lp_transition.specs.Scan.{is_asked, is_scan_kind, scan_event, AreEnough, MayLeaveOut, verdict_of, verdicts_among, views_of};
 ghost use Rattle.lp_tasks.specs.Passing.{passing};
 ghost use Rattle.lp_transition.specs.inside.ScanSteps.{IsOwnGroup, waiting_slot};
 ghost use Rattle.lp_tasks.specs.inside.Table.{is_in};
@@ -59,8 +59,6 @@ impl<M: Consistency> Core<M> {
         self.unchanged.asked(kind)
     }
 
-    /// After the first scan of a leg a further one costs what changed, and not what waits. The first looks at every waiting task, or at
-    /// none where the model doesn't use the check.
     fn weigh_changed_scan(&self, alloc: Global, kind: CheckKind) -> Result<Step, Halt>
         requires scan { is_scan_kind kind ≡ true }
         ensures full { (result ≡ Err JournalFull) ↔ (1000000 ≤ self.now.number) }
@@ -69,17 +67,28 @@ impl<M: Consistency> Core<M> {
         ensures event { IfOk result (λ step. step.event ≡ scan_event kind) }
         ensures told { IfOk result (λ step. IsTrue (M.rules.uses kind) → TellOfChanges M.rules self.now kind step.verdicts) }
     {
-        if let Some(asked) = self.changed_since(kind) {
-            return self.weigh_first_refusals(alloc, kind, asked);
-        }
         if self.events >= MOST_EVENTS {
             return Err(Halt::JournalFull);
         }
-        if !self.model.uses(kind) {
-            return self.weigh_found(alloc, kind, Vec::new(alloc));
+        let found = self.changed_verdicts(alloc, kind)?;
+        Ok(self.weigh_found(alloc, kind, found)?)
+    }
+
+    /// After the first scan of a leg a further one costs what changed, and not what waits. The first looks at every waiting task, or at
+    /// none where the model doesn't use the check.
+    fn changed_verdicts(&self, alloc: Global, kind: CheckKind) -> Result<Vec<Verdict>, AllocError>
+        ensures enough { IfOk result (λ found. AreEnough M.rules kind (state_in self.now) found.items) }
+        ensures told { IfOk result (λ found. IsTrue (M.rules.uses kind) → TellOfChanges M.rules self.now kind found.items) }
+    {
+        // For the proof alone, which knows what every value keeps once a field is read.
+        let _ = &self.tasks;
+        if let Some(changed) = self.changed_since(kind) {
+            return self.first_refusals(alloc, kind, changed);
         }
-        let found = self.all_verdicts(alloc, kind)?;
-        self.weigh_found(alloc, kind, found)
+        if !self.model.uses(kind) {
+            return Ok(Vec::new(alloc));
+        }
+        self.all_verdicts(alloc, kind)
     }
 
     /// What a check finds of the waiting tasks of some groups, by increasing number; None where a group has other members than the
@@ -150,7 +159,7 @@ impl<M: Consistency> Core<M> {
             return Err(Halt::JournalFull);
         }
         let copied = Vec::from_slice(alloc, verdicts)?;
-        self.weigh_found(alloc, kind, copied)
+        Ok(self.weigh_found(alloc, kind, copied)?)
     }
 }
 

@@ -101,7 +101,7 @@ impl<M: Consistency> Core<M> {
             return Err(Halt::JournalFull);
         }
         let copied = Vec::from_slice(alloc, verdicts)?;
-        self.weigh_found(alloc, kind, copied)
+        Ok(self.weigh_found(alloc, kind, copied)?)
     }
 
     /// Shared by scans that look at all and scans that leave out whom they would only refuse again.
@@ -110,18 +110,15 @@ impl<M: Consistency> Core<M> {
         alloc: Global,
         kind: CheckKind,
         verdicts: Vec<Verdict>,
-    ) -> Result<Step, Halt>
+    ) -> Result<Step, AllocError>
         requires scan { is_scan_kind kind ≡ true }
+        requires room { self.now.number < 1000000 }
         requires found { AreEnough M.rules kind (state_in self.now) verdicts.items }
-        ensures full { (result ≡ Err JournalFull) ↔ (1000000 ≤ self.now.number) }
         ensures reply { IfOk result (λ step. IsReply M.rules (state_in self.now) (scan_event kind) step.reply) }
         ensures weighed { IfOk result (λ step. IsWeighed M.rules self.now step) }
         ensures event { IfOk result (λ step. step.event ≡ scan_event kind) }
         ensures verdicts { IfOk result (λ step. step.verdicts ≡ verdicts.items) }
     {
-        if self.events >= MOST_EVENTS {
-            return Err(Halt::JournalFull);
-        }
         let what = scanned(alloc, &self.tasks, verdicts.as_slice())?;
         let reply = Reply {
             what,

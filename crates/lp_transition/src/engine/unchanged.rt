@@ -71,15 +71,11 @@ impl Unchanged {
         }
     }
 
-    /// The tasks that a scan of this kind may refuse, if not all that wait: it would admit each other
-    /// one that waits.
-    pub(super) fn may_refuse(&self, kind: CheckKind) -> Option<&NumberSet>
-        ensures { IfSome result (λ some. (self.now.kind ≡ Some kind) × (some.now ≡ self.now.may_refuse)) }
+    /// The tasks that a scan of the last one's kind may refuse: it would admit each other one that waits.
+    pub(super) fn may_refuse(&self) -> &NumberSet
+        ensures { result.now ≡ self.now.may_refuse }
     {
-        if self.kind != Some(kind) {
-            return None;
-        }
-        Some(&self.may_refuse)
+        &self.may_refuse
     }
 
     /// Something happens to a task, or it is born. Without a scan before there is nothing to note,

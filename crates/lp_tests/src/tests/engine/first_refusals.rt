@@ -3,7 +3,6 @@ ghost use Rattle.std.specs.Prelude.{◌≡◌, true, IfOk};
 ghost use Rattle.lp_transition.specs.Scan.{is_scan_kind};
 ghost use Rattle.lp_transition.specs.Weigh.{IsWeighed};
 
-use super::asked::waiting;
 use super::*;
 use lp_model::{Blame, CheckKind, ForkKind, Verdict};
 use lp_models::AllAtOnce;
@@ -76,17 +75,23 @@ pub(super) const RETURNS: [Row; 3] = [FIRST, SECOND, ALL_ADMITTED];
 /// The second member dies, and the group switches.
 const DIES: [Row; 2] = [FIRST, OTHERS_ADMITTED];
 
-/// A scan of the groups that wait, weighed by first refusals.
+/// The event of a scan.
+fn scan_of(kind: CheckKind) -> Event {
+    match kind {
+        CheckKind::Stop => Event::Stop,
+        _ => Event::Walk,
+    }
+}
+
+/// A scan, weighed after a look at no more members than it takes.
 pub(super) fn weighed<M: Consistency>(
     alloc: Global,
     core: &Core<M>,
     kind: CheckKind,
 ) -> Result<Step, Halt>
-    requires { is_scan_kind kind ≡ true }
     ensures { IfOk result (λ step. IsWeighed M.rules core.now step) }
 {
-    let asked = waiting(alloc, core)?;
-    core.weigh_first_refusals(alloc, kind, &asked)
+    core.weigh_changed(alloc, scan_of(kind))
 }
 
 /// Whether a scan that looks at every member says this.
@@ -99,29 +104,19 @@ fn says_whole<M: Consistency>(alloc: Global, core: &Core<M>, kind: CheckKind, sa
     }
 }
 
-/// The event of a scan.
-fn scan_of(kind: CheckKind) -> Event {
-    match kind {
-        CheckKind::Stop => Event::Stop,
-        _ => Event::Walk,
-    }
-}
-
 /// Whether a scan has these verdicts.
 fn has_found(scan: &Step, kind: CheckKind, found: &[Verdict]) -> bool {
     scan.event() == scan_of(kind) && scan.verdicts() == found
 }
 
-/// Whether a scan by first refusals, which is then taken, has these verdicts, and says this.
+/// Whether such a scan, which is then taken, has these verdicts, and says this.
 fn says_in_part<M: Consistency>(
     alloc: Global,
     core: &mut Core<M>,
     kind: CheckKind,
     found: &[Verdict],
     said: Said,
-) -> bool
-    requires { is_scan_kind kind ≡ true }
-{
+) -> bool {
     match weighed(alloc, core, kind) {
         Ok(scan) => {
             let right = has_found(&scan, kind, found);
@@ -223,7 +218,7 @@ const STOPS: [(&[Event], usize, Said); 3] = [
     (&RETURNED, 70, Said::SwitchedLast(0)),
 ];
 
-/// Whether a stop that is weighed by first refusals and then taken has so many verdicts, and says this.
+/// Whether a stop that is so weighed and then taken has so many verdicts, and says this.
 fn stops(alloc: Global, core: &mut Core<AllAtOnce>, count: usize, said: Said) -> bool {
     match weighed(alloc, core, CheckKind::Stop) {
         Ok(scan) => {

@@ -251,7 +251,7 @@ fn give_again(alloc: Global, core: &mut Core<ProcessGroup>, events: &[Event]) ->
     true
 }
 
-/// A walk, weighed by first refusals. Where an allocation fails, the same call weighs it.
+/// A walk, weighed after a look at no more members than it takes. Where an allocation fails, the same call weighs it.
 fn walk(alloc: Global, core: &Core<ProcessGroup>) -> Result<Step, Halt> {
     match weighed(alloc, core, CheckKind::Walk) {
         Err(Halt::NoMemory) => weighed(alloc, core, CheckKind::Walk),

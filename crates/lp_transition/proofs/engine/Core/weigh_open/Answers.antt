@@ -1,5 +1,4 @@
-use Rattle.std.proofs.Common.{◌∙◌, subst, arith}
-use Rattle.std.proofs.lemmas.Grind.{common_steps}
+use Rattle.std.proofs.Common.{◌∙◌, subst}
 use Rattle.lp_transition.specs.Blames.{is_open}
 use Rattle.lp_transition.specs.Scan.{MayLeaveOut}
 use Rattle.lp_machine.specs.Table.{Engine, state_in}
@@ -15,6 +14,3 @@ weigh_found-requires-clause-found g c =
     among-enough g.M.Consistency.rules c.args.kind (state_in c.args.self.now) (is_open c.args.self.now) c.in_ok-copied.copied.items
     (subst (λ (o : Engine). MayLeaveOut g.M.Consistency.rules c.args.kind (state_in o) (is_open o)) c.self.view_is (blamed_out g.M.Consistency.rules g.met.M.Consistency.lawful e c.args.kind c.self.invariant.engine.sound c.self.invariant.blamed))
     (c.in_ok-copied.ensures.items ∙ c.requires.found)
-
-pub returns-clause-verdicts : goal.returns-clause-verdicts
-returns-clause-verdicts g c = grind (arith, common_steps)
