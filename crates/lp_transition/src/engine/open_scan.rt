@@ -59,6 +59,7 @@ impl<M: Consistency> Core<M> {
         self.unchanged.asked(kind)
     }
 
+    /// The same of a walk or a stop of this kind.
     fn weigh_changed_scan(&self, alloc: Global, kind: CheckKind) -> Result<Step, Halt>
         requires scan { is_scan_kind kind ≡ true }
         ensures full { (result ≡ Err JournalFull) ↔ (1000000 ≤ self.now.number) }
