@@ -12,6 +12,7 @@ use Rattle.lp_machine.specs.Machine.{state_of}
 use Rattle.lp_definitions.specs.Run.{Run, and_then, first_leg, leg_after, leg_of, next_leg, opened, opens, plus}
 use Rattle.lp_machine.specs.Steps.{IsStep, StandsIn}
 use Rattle.lp_machine.specs.Table.{Engine, no_scan, state_in}
+use Rattle.lp_transition.specs.Blames.{blame_of}
 use Rattle.lp_machine_laws.proofs.Runs.{leg_after-plus}
 use Rattle.lp_machine_laws.proofs.Steps.{open_shown}
 use Rattle.lp_cert.specs.Ends.{is_opened}
@@ -34,10 +35,10 @@ module _ (model : Rules) where
   unfolding leg_after
   begins run none = ap (leg_after model (first_leg model run)) none
 
-  pub kept_first : (run : Run) (core : Engine) (known : Explained) → run.events ≡ [] → StandsIn model run (state_in core) → core.last_scan.kind ≡ None → known ≡ record { core = core; ended = []; current = None } → IsKept model run known None
-  kept_first run core known none stands unscanned fresh =
+  pub kept_first : (run : Run) (core : Engine) (known : Explained) → run.events ≡ [] → StandsIn model run (state_in core) → core.last_scan.kind ≡ None → ((group : ℕ) → blame_of core group ≡ None) → known ≡ record { core = core; ended = []; current = None } → IsKept model run known None
+  kept_first run core known none stands unscanned blameless fresh =
       record {
-        explained = subst (IsExplained model run) (sym fresh) (explained_first model run core none stands unscanned);
+        explained = subst (IsExplained model run) (sym fresh) (explained_first model run core none stands unscanned blameless);
         opened = ap (λ (leg : Leg). leg.events) (begins run none);
         since = ap (λ (leg : Leg). leg.events) (begins run none) ∙ sym (ap₂ (λ (n : ℕ) (es : List Event). drop n es) (ap (λ (leg : Leg). leg.number) (begins run none)) none);
         count = ap (λ (leg : Leg). leg.number + length leg.events) (begins run none) ∙ sym (ap length none);

@@ -1,7 +1,8 @@
 //! One engine, with the run so far and why each group waits.
-ghost use Rattle.std.specs.Prelude.{◌≡◌, ◌⊎◌, ◌≤◌, ◌<◌, ◌-◌, ◌↔◌, [], true, false, None, Some, Err, drop, is_some, length, take, vec_len, vec_capacity, IfOk, IfSome, IsSome, OnErr, OnOk, MatchResult};
+ghost use Rattle.std.specs.Prelude.{◌≡◌, ◌⊎◌, ◌≤◌, ◌<◌, ◌-◌, ◌↔◌, ℕ, [], true, false, None, Some, Err, drop, is_some, length, take, vec_len, vec_capacity, IfOk, IfSome, IsSome, OnErr, OnOk, MatchResult};
 ghost use Rattle.std.specs.Option.{option_map};
-ghost use Rattle.lp_transition.specs.Blames.{blame_of, HasBlamesAfter};
+ghost use Rattle.lp_transition.specs.Blames.{blame_of};
+ghost use Rattle.lp_transition.specs.Weigh.{HasBlamesAfter};
 ghost use Rattle.lp_transition.specs.Boot.{boot_refusal};
 ghost use Rattle.lp_definitions.specs.Run.{Run, leg_of, plus, reply};
 ghost use Rattle.lp_machine.specs.Steps.{StandsIn};
@@ -100,6 +101,7 @@ impl<M: Consistency> Simulator<M> {
         requires patches { IfOk copied (λ patches. patches ≡ core.patches) }
         requires stands { StandsIn M.rules (run_with core.patches boots.now []) (state_in core) }
         requires unscanned { core.last_scan.kind ≡ None }
+        requires blameless { (group : ℕ) → blame_of core group ≡ None }
         ensures { IfOk result (λ simulator. simulator.run ≡ run_with core.patches boots.now []) }
     {
         let core = Box::new(alloc, core)?;

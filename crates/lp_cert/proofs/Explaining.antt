@@ -12,7 +12,9 @@ use Rattle.lp_definitions.specs.Ends.{LegEnd}
 use Rattle.lp_definitions.specs.Leg.{Leg, State}
 use Rattle.lp_definitions.specs.Run.{Run, and_then, first_leg, leg_after, leg_of, next_leg, opened, opens, plus}
 use Rattle.lp_machine.specs.Steps.{IsStep, StandsIn}
-use Rattle.lp_machine.specs.Table.{Engine, LastScan, state_in}
+use Rattle.lp_machine.specs.Table.{Engine, state_in}
+use Rattle.lp_transition.specs.Blames.{blame_of}
+use Rattle.lp_transition.specs.Weigh.{HasBlamesAfter}
 use Rattle.lp_transition.specs.LastScan.{IsLastScanAfter}
 use Rattle.lp_cert.specs.Ends.{Made, IsMadeFurther, IsMadeWith, cert_upto, end_upto, floor_in, is_complete_in, made_upto, passed_upto, waiting_in}
 use Rattle.lp_cert.specs.Explained.{Explained, IsExplained, made_in}
@@ -29,6 +31,10 @@ explained_by core made = record { core = core; ended = made.ended; current = opt
 pub on_ok : {A E : Type 0} (S : A → Type 0) (P Q : Type 0) → ((x : A) → S x → P → Q) → (r : Result A E) → IfOk r S → OnOk r P → OnOk r Q
 on_ok S P Q f (Ok x) s p = f x s p
 on_ok S P Q f (Err e) s p = tt
+
+pub on_ok_two : {A E : Type 0} (S : A → Type 0) (P R Q : Type 0) → ((x : A) → S x → P → R → Q) → (r : Result A E) → IfOk r S → OnOk r P → OnOk r R → OnOk r Q
+on_ok_two S P R Q f (Ok x) s p t = f x s p t
+on_ok_two S P R Q f (Err e) s p t = tt
 
 pub on_err : {A E : Type 0} (P Q R S : Type 0) → (P → Q → R → S) → (r : Result A E) → OnErr r P → OnErr r Q → OnErr r R → OnErr r S
 on_err P Q R S f (Ok x) p q r = tt
@@ -132,32 +138,32 @@ module _ (model : Rules) where
   -- ---- The run
 
   -- what is made is that of the run whatever there is room for
-  pub made_same : (run : Run) (last_scan : LastScan) (made other : Made) → other.ended ≡ made.ended → other.current ≡ made.current → IsMadeWith model run last_scan made → IsMadeWith model run last_scan other
-  made_same run last_scan made other ended current is =
-      record { of_run = record { ended = ended ∙ is.ended; current = current ∙ is.current }; unchanged = is.unchanged }
+  pub made_same : (run : Run) (e : Engine) (made other : Made) → other.ended ≡ made.ended → other.current ≡ made.current → IsMadeWith model run e made → IsMadeWith model run e other
+  made_same run e made other ended current is =
+      record { of_run = record { ended = ended ∙ is.ended; current = current ∙ is.current }; unchanged = is.unchanged; held = is.held }
 
   -- an engine before its first event
-  pub explained_first : (run : Run) (core : Engine) → run.events ≡ [] → StandsIn model run (state_in core) → core.last_scan.kind ≡ None → IsExplained model run (record { core = core; ended = []; current = None })
-  explained_first run core none stands unscanned =
-      record { stands = stands; made = begun_with model run core.last_scan (record { ended = []; current = None; ready = None }) none unscanned (record { ended = refl; current = refl; ready = refl }) }
+  pub explained_first : (run : Run) (core : Engine) → run.events ≡ [] → StandsIn model run (state_in core) → core.last_scan.kind ≡ None → ((group : ℕ) → blame_of core group ≡ None) → IsExplained model run (record { core = core; ended = []; current = None })
+  explained_first run core none stands unscanned blameless =
+      record { stands = stands; made = begun_with model run core (record { ended = []; current = None; ready = None }) none unscanned blameless (record { ended = refl; current = refl; ready = refl }) }
 
   module _ (run : Run) (event : Event) (old new : Engine) (given : Reply) (step : IsStep model (state_in old) event given (state_in new)) where
     -- with an event that passed
-    pub explained_passed : (made : Made) → IsLastScanAfter model old event new → IsMadeFurther model old event (made_upto old.number made) (made_upto (old.number + 1) made) → IsExplained model run (explained_by old made) → IsExplained model (plus run event) (explained_by new made)
-    explained_passed made last_scan further is =
+    pub explained_passed : (made : Made) → HasBlamesAfter model old event new → IsLastScanAfter model old event new → IsMadeFurther model old event (made_upto old.number made) (made_upto (old.number + 1) made) → IsExplained model run (explained_by old made) → IsExplained model (plus run event) (explained_by new made)
+    explained_passed made blames last_scan further is =
         let after = step.reaches run is.stands in
-        let before = made_same run old.last_scan (made_in (explained_by old made)) (made_upto old.number made) refl refl is.made in
+        let before = made_same run old (made_in (explained_by old made)) (made_upto old.number made) refl refl is.made in
         record {
           stands = after;
           made =
-              made_same (plus run event) new.last_scan (made_upto (old.number + 1) made) (made_in (explained_by new made)) refl
-              (ap (λ n. option_map (end_upto n) made.current) (number_up run event old new is.stands after)) (further run new is.stands before after last_scan);
+              made_same (plus run event) new (made_upto (old.number + 1) made) (made_in (explained_by new made)) refl
+              (ap (λ n. option_map (end_upto n) made.current) (number_up run event old new is.stands after)) (further run new is.stands before after blames last_scan);
         }
 
     -- with an event that was noted
-    pub explained_noted : (made noted after : Made) → noted ≡ passed_upto old.number made → (IsMadeWith model run old.last_scan noted → IsMadeWith model (plus run event) new.last_scan after) → IsExplained model run (explained_by old made) → IsExplained model (plus run event) (explained_by new after)
+    pub explained_noted : (made noted after : Made) → noted ≡ passed_upto old.number made → (IsMadeWith model run old noted → IsMadeWith model (plus run event) new after) → IsExplained model run (explained_by old made) → IsExplained model (plus run event) (explained_by new after)
     explained_noted made noted after noted_is further is =
         let stands = step.reaches run is.stands in
-        let before = made_same run old.last_scan (made_in (explained_by old made)) noted (ap (λ (m : Made). m.ended) noted_is) (ap (λ (m : Made). m.current) noted_is) is.made in
-        let now = upto_now model (plus run event) new new.last_scan after stands (further before) in
-        record { stands = stands; made = made_same (plus run event) new.last_scan (made_upto new.number after) (made_in (explained_by new after)) refl refl now }
+        let before = made_same run old (made_in (explained_by old made)) noted (ap (λ (m : Made). m.ended) noted_is) (ap (λ (m : Made). m.current) noted_is) is.made in
+        let now = upto_now model (plus run event) new after stands (further before) in
+        record { stands = stands; made = made_same (plus run event) new (made_upto new.number after) (made_in (explained_by new after)) refl refl now }

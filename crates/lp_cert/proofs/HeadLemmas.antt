@@ -21,7 +21,7 @@ use Rattle.lp_cert.specs.declared.head.Refused.{Refused}
 use Rattle.lp_cert.specs.declared.head.OwnFork.{OwnFork}
 use Rattle.lp_definitions.specs.Certificates.{refusal_line, after_refusal}
 use Rattle.lp_cert.specs.Heads.{busy_lines, reason_lines, lines_of, ongoing_reasons, hold_end}
-use Rattle.lp_cert.specs.inside.ToldGroups.{is_held}
+use Rattle.lp_cert.specs.inside.Heads.{is_held}
 use Rattle.lp_cert.specs.inside.Heads.{FitsIn, ContinuesIn, IsUnchecked, IsBusyInFront, FitsOlder, IsKnown, IsHead, Keeps, IsUsed, HasFrameAs, is_busy, continues_after, reason_begun_by, busy_reasons, IsRefusedBy, IsRefusedAlone, IsBornBy}
 
 -- ---- A further scan

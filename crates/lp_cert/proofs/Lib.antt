@@ -10,7 +10,6 @@ pub mod NextLines
 pub mod OtherEvents
 pub mod VerdictLines
 pub mod WaiterLemmas
-pub mod WholeScans
 pub mod MoreWaiters
 pub mod Taken
 pub mod Waits
@@ -24,7 +23,9 @@ pub mod HoldNames
 pub mod OwnChecks
 pub mod UnchangedChecks
 pub mod UnchangedEvents
+pub mod Frames
 pub mod HeldLines
+pub mod Held
 pub mod UnchangedScans
 pub mod Bare
 pub mod Listed
@@ -33,7 +34,6 @@ pub mod KeptCerts
 pub mod Making
 pub mod BareLines
 pub mod Noted
-pub mod NotedBy
 pub mod PlainEvents
 pub mod LegSteps
 pub mod OwnEffects

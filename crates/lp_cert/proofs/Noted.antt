@@ -9,6 +9,7 @@ use Rattle.lp_definitions.specs.declared.event.Event.{Event}
 use Rattle.lp_definitions.specs.declared.reply.Reply.{Reply}
 use Rattle.lp_definitions.specs.Events.{is_control}
 use Rattle.lp_definitions.specs.Leg.{State, Leg, after}
+use Rattle.lp_definitions.specs.Tasks.{Live}
 use Rattle.lp_definitions.specs.Schedule.{leg_task, waits, first_check}
 use Rattle.lp_definitions.specs.Run.{Run, plus, first_leg, leg_of, and_then, is_complete_now, opened, opens, next_leg, reply, new_target, shown, leg_after, refused_by as why_refused}
 use Rattle.lp_definitions.specs.Sound.{IsSound}
@@ -18,11 +19,14 @@ use Rattle.lp_machine_laws.proofs.States.{state_sound}
 use Rattle.lp_laws.proofs.WholeRun.{run_sound, start_sound}
 use Rattle.std.proofs.lemmas.List.{map-append}
 use Rattle.lp_machine.specs.Machine.{waits_in, next, turned, answer, refusal_of, state_of}
-use Rattle.lp_machine.specs.Table.{Engine, state_in}
-use Rattle.lp_transition.specs.Weigh.{Weighed, IsWeighed, refusal_in}
+use Rattle.lp_machine.specs.Table.{Engine, IsWide, state_in}
+use Rattle.lp_transition.specs.Weigh.{Weighed, IsWeighed, HasBlamesAfter, refusal_in}
+use Rattle.lp_transition.specs.Blames.{AreOfWaiting, blame_by}
 use Rattle.lp_machine.proofs.EngineLemmas.{next-turned}
 use Rattle.lp_definitions.proofs.Quantifiers.{some_live-map}
 use Rattle.lp_machine_laws.proofs.Steps.{refusal_is, does}
+use Rattle.lp_tasks.proofs.TableLemmas.{slot_from_live}
+use Rattle.lp_transition.proofs.ScanTakes.{group_fits}
 use Rattle.lp_transition.proofs.Weighing.{refused-as}
 use Rattle.lp_definitions.specs.declared.cert.Claim.TheVariants.{Waiting, Floor}
 use Rattle.lp_definitions.specs.declared.cert.Cert.{Cert}
@@ -41,8 +45,9 @@ use Rattle.lp_cert.specs.inside.Waiters.{HasFewGroups, has_off, lines_at}
 use Rattle.lp_laws.proofs.Completions.{past_floor, completion_opened, completion_below, certs_kept, completion_stays, completion_now, incomplete_if}
 use Rattle.lp_cert.proofs.Making.{none_is, cert_for, certs_from, certs_tell, floor_from}
 use Rattle.lp_transition.specs.LastScan.{IsLastScanAfter, used_scan}
-use Rattle.lp_cert.specs.Unchanged.{AreUnchangedBy}
-use Rattle.lp_cert.proofs.ScanTold.{TellsOrUnchanged}
+use Rattle.lp_cert.specs.Unchanged.{AreHeld, AreUnchangedBy}
+use Rattle.lp_cert.proofs.Held.{held_on, none_held}
+use Rattle.lp_cert.proofs.ScanTold.{TellsOrUnchanged, tells_unchanged}
 use Rattle.lp_cert.proofs.UnchangedSteps.{none_unchanged, unchanged_on}
 use Rattle.lp_cert.proofs.StepLines.{IsFew, step_lines}
 
@@ -267,6 +272,15 @@ module _ (model : Rules) (lawful : IsLawful model) (e : Engine) (sound : IsSound
     unfolding lines
     no_lines g = refl
 
+    -- nobody is held, as all blames are gone
+    pub opened_held : (after : Engine) → HasBlamesAfter model e event after → IsWide e.table → AreHeld (state_of model (opened model leg event)) (lines model (opened model leg event) 0) after
+    opened_held after blamed wide =
+        none_held (state_of model (opened model leg event)) (lines model (opened model leg event) 0) after no_lines (λ t x live.
+        let here : (state_in e).tasks t ≡ Live x = ap (λ (s : State). s.tasks t) turned_is ∙ live in
+        blamed.blames x.group (group_fits e t x sound wide (slot_from_live e.table t x here))
+        ∙ (ap (blame_by model e event blamed.verdicts x.group) accepted
+        ∙ cond-true (is_control event) None _ (and_parts (is_control event) (is_none (why_refused model leg event)) turns).0))
+
     pub opened_anew : (number : ℕ) (later : WaitingGroups) → number ≡ e.number + 1
         → ((g : ℕ) → lines_at later g ≡ (if has_off (state_in e) (new_target (state_in e) event) g then Some [] else None))
         → open_end number later (leg_at number (new_target (state_in e) event) step.reply.completed) ≡ end_of model (opened model leg event)
@@ -356,12 +370,15 @@ module _ (model : Rules) (lawful : IsLawful model) (run : Run) (e : Engine) (sta
   pub engine_sound : IsSound (state_in e)
   engine_sound = subst IsSound (sym stands.there) (state_sound model lawful (leg_of model run) present_sound)
 
-  -- who is unchanged where the engine stands
-  pub was_unchanged : (made : Made) → IsMadeWith model run e.last_scan made → AreUnchangedBy model (state_in e) (lines model (leg_of model run) (length (leg_of model run).events)) e.last_scan
+  -- who is unchanged where the engine stands, and who is held
+  was_unchanged : (made : Made) → IsMadeWith model run e made → AreUnchangedBy model (state_in e) (lines model (leg_of model run) (length (leg_of model run).events)) e.last_scan
   was_unchanged made is = subst (λ (st : State). AreUnchangedBy model st (lines model (leg_of model run) (length (leg_of model run).events)) e.last_scan) (sym stands.there) is.unchanged
 
-  module _ (step : Weighed) (weighed : IsWeighed model e step) (made new : Made) (is : IsMadeWith model run e.last_scan made)
-      (after : Engine) (stands_after : StandsIn model (plus run step.event) (state_in after)) (known : IsLastScanAfter model e step.event after) where
+  was_held : (made : Made) → IsMadeWith model run e made → AreHeld (state_in e) (lines model (leg_of model run) (length (leg_of model run).events)) e
+  was_held made is = subst (λ (st : State). AreHeld st (lines model (leg_of model run) (length (leg_of model run).events)) e) (sym stands.there) is.held
+
+  module _ (step : Weighed) (weighed : IsWeighed model e step) (made new : Made) (is : IsMadeWith model run e made) (wide : IsWide e.table) (of_waiting : AreOfWaiting e)
+      (after : Engine) (stands_after : StandsIn model (plus run step.event) (state_in after)) (blamed : HasBlamesAfter model e step.event after) (known : IsLastScanAfter model e step.event after) where
     next_present : leg_of model (plus run step.event) ≡ next_leg model (leg_of model run) step.event
     next_present = leg_after-plus model (first_leg model run) run.events step.event
 
@@ -385,14 +402,24 @@ module _ (model : Rules) (lawful : IsLawful model) (run : Run) (e : Engine) (sta
       ends : new.ended ≡ map (end_of model) (drop 1 (ended_legs model (first_leg model run) (run.events ++ step.event ∷ [])))
       ends = ended ∙ (is.ended ∙ ap (λ ls. map (end_of model) (drop 1 ls)) (sym same_ended))
 
-      -- who is unchanged in the run's leg with the event more
+      -- who is held in the run's leg with the event more, and who is unchanged
+      held_there : AreHeld (state_in after) (lines model (and_then (leg_of model run) step.event) (suc (length (leg_of model run).events))) after
+      held_there =
+          held_on model lawful e engine_sound wide of_waiting (leg_of model run) present_sound stands.there step.event (opens_if false stays) after (stands_after.there ∙ ap (state_of model) longer_is) blamed (was_unchanged made is) (was_held made is)
+
       unchanged_longer : AreUnchangedBy model (state_of model (leg_of model (plus run step.event))) (lines model (leg_of model (plus run step.event)) (length (leg_of model (plus run step.event)).events)) after.last_scan
       unchanged_longer =
           subst (λ (l : Leg). AreUnchangedBy model (state_of model l) (lines model l (length l.events)) after.last_scan) (sym longer_is)
           (subst (λ m. AreUnchangedBy model (state_of model (and_then (leg_of model run) step.event)) (lines model (and_then (leg_of model run) step.event) m) after.last_scan) (sym (length-append (leg_of model run).events (step.event ∷ []) ∙ omega arith))
-          (unchanged_on model lawful e engine_sound (leg_of model run) present_sound stands.there step.event (opens_if false stays) after (stands_after.there ∙ ap (state_of model) longer_is) known is.unchanged))
+          (unchanged_on model lawful e engine_sound (leg_of model run) present_sound stands.there step.event (opens_if false stays) after (stands_after.there ∙ ap (state_of model) longer_is) known is.unchanged held_there))
 
-      pub none_made : made.current ≡ None → new.current ≡ None → IsMadeWith model (plus run step.event) after.last_scan new
+      held_longer : AreHeld (state_of model (leg_of model (plus run step.event))) (lines model (leg_of model (plus run step.event)) (length (leg_of model (plus run step.event)).events)) after
+      held_longer =
+          subst (λ (l : Leg). AreHeld (state_of model (leg_of model (plus run step.event))) (lines model l (length l.events)) after) (sym longer_is)
+          (subst (λ m. AreHeld (state_of model (leg_of model (plus run step.event))) (lines model (and_then (leg_of model run) step.event) m) after) (sym (length-append (leg_of model run).events (step.event ∷ []) ∙ omega arith))
+          (subst (λ (st : State). AreHeld st (lines model (and_then (leg_of model run) step.event) (suc (length (leg_of model run).events))) after) stands_after.there held_there))
+
+      pub none_made : made.current ≡ None → new.current ≡ None → IsMadeWith model (plus run step.event) after new
       none_made old now =
           let none = none_before model (ended_legs model (first_leg model run) run.events) (leg_of model run) (sym old ∙ is.current) in
           record {
@@ -401,14 +428,16 @@ module _ (model : Rules) (lawful : IsLawful model) (run : Run) (e : Engine) (sta
               current = now ∙ ap (λ ls. option_map (end_of model) (under_way model ls (leg_of model (plus run step.event)))) (sym (same_ended ∙ none));
             };
             unchanged = unchanged_longer;
+            held = held_longer;
           }
 
       pub still_made : (noted number : ℕ) (leg later_leg : OpenLeg) (before later : WaitingGroups) → number ≡ e.number + 1 → IsStepped model e step number leg later_leg before later
-          → (leg.completed ≡ None → step.reply.completed ≡ false → TellsOrUnchanged model (state_in e) (lines model (leg_of model run) (length (leg_of model run).events)) (used_scan model step.event) step.verdicts) → made.current ≡ Some (open_end noted before leg) → new.current ≡ Some (open_end number later later_leg)
-          → IsMadeWith model (plus run step.event) after.last_scan new
-      still_made noted number leg later_leg before later numbered gone suffices old now =
+          → made.current ≡ Some (open_end noted before leg) → new.current ≡ Some (open_end number later later_leg)
+          → IsMadeWith model (plus run step.event) after new
+      still_made noted number leg later_leg before later numbered gone old now =
           let was = some_before model (ended_legs model (first_leg model run) run.events) (leg_of model run) (open_end noted before leg) (sym old ∙ is.current) in
-          let went = went_on model lawful e engine_sound (leg_of model run) present_sound stands.there step weighed (opens_if false stays) noted number leg later_leg before later numbered was.0 gone suffices in
+          let went = went_on model lawful e engine_sound (leg_of model run) present_sound stands.there step weighed (opens_if false stays) noted number leg later_leg before later numbered was.0 gone
+          (λ unended incomplete. tells_unchanged model e (lines model (leg_of model run) (length (leg_of model run).events)) (was_unchanged made is) (was_held made is) step.event step.verdicts weighed.told) in
           record {
             of_run = record {
               ended = ends;
@@ -419,6 +448,7 @@ module _ (model : Rules) (lawful : IsLawful model) (run : Run) (e : Engine) (sta
                   ∙ ap₂ (λ ls (l : Leg). option_map (end_of model) (under_way model ls l)) (sym same_ended) (sym longer_is)));
             };
             unchanged = unchanged_longer;
+            held = held_longer;
           }
 
     module _ (turns : is_opening step ≡ true) where
@@ -436,7 +466,7 @@ module _ (model : Rules) (lawful : IsLawful model) (run : Run) (e : Engine) (sta
           → (IsSound (state_in e) → (g : ℕ) → lines_at later g ≡ (if has_off (state_in e) (new_target (state_in e) step.event) g then Some [] else None))
           → new.ended ≡ made.ended ++ option_to_list made.current
           → new.current ≡ Some (open_end number later (leg_at number (new_target (state_in e) step.event) step.reply.completed))
-          → IsMadeWith model (plus run step.event) after.last_scan new
+          → IsMadeWith model (plus run step.event) after new
       turned_made number later numbered lines_are ended now =
           let more : ended_legs model (first_leg model run) (run.events ++ step.event ∷ []) ≡ ended_legs model (first_leg model run) run.events ++ leg_of model run ∷ [] =
           ended_next ∙ ap (λ ls. ended_legs model (first_leg model run) run.events ++ ls) (cond-true (opens model (leg_of model run) step.event) (leg_of model run ∷ []) [] (opens_if true turns)) in
@@ -452,6 +482,9 @@ module _ (model : Rules) (lawful : IsLawful model) (run : Run) (e : Engine) (sta
                   ∙ ap₂ (λ ls (l : Leg). option_map (end_of model) (under_way model ls l)) (sym more) (sym next_is)));
             };
             unchanged = none_unchanged model (state_of model (leg_of model (plus run step.event))) (lines model (leg_of model (plus run step.event)) (length (leg_of model (plus run step.event)).events)) after.last_scan forgotten;
+            held =
+                subst (λ (l : Leg). AreHeld (state_of model l) (lines model l (length l.events)) after) (sym next_is)
+                (opened_held model lawful e engine_sound (leg_of model run) present_sound stands.there step weighed (opens_if true turns) after blamed wide);
           }
 
 -- ---- What the maker needs of what it keeps

@@ -20,7 +20,6 @@ use Rattle.lp_transition.specs.inside.ScanSteps.{groups_of}
 use Rattle.lp_transition.proofs.Weighing.{refused-as, scan_accepted}
 use Rattle.lp_cert.specs.Ends.{is_opening}
 use Rattle.lp_cert.specs.Waiters.{WaitingGroups}
-use Rattle.lp_cert.specs.inside.Invariant.{with_verdicts}
 use Rattle.lp_cert.specs.inside.OwnEffects.{HasOwnRoom}
 use Rattle.lp_cert.specs.inside.StepLines.{noted_by, noted_lines, stepped_lines}
 use Rattle.lp_cert.specs.inside.Waiters.{HasFewGroups, IsUsedVerdict, lines_at, own_lines, scanned_lines}
@@ -88,30 +87,18 @@ module _ (model : Rules) (e : Engine) (step : Weighed) where
   accepts weighed scan =
       ap is_none (ap (λ (r : Reply). refusal_in r.what) weighed.reply ∙ (refused-as model (state_in e) step.event ∙ scan_accepted model (state_in e) step.event scan))
 
-  stepped_from : IsWeighed model e step → is_scan step.event ≡ true → (verdicts : List Verdict) (before : WaitingGroups) (group : ℕ) (left : Option (List Line)) → left ≡ noted_lines model e step.event verdicts before group
-      → (if list_any (nat_eq group) (groups_of step.reply.what) then None else left) ≡ stepped_lines model e (with_verdicts step verdicts) before group
-  stepped_from weighed scan verdicts before group left is =
+  stepped_from : IsWeighed model e step → is_scan step.event ≡ true → (before : WaitingGroups) (group : ℕ) (left : Option (List Line)) → left ≡ noted_lines model e step.event step.verdicts before group
+      → (if list_any (nat_eq group) (groups_of step.reply.what) then None else left) ≡ stepped_lines model e step before group
+  stepped_from weighed scan before group left is =
       ap (λ ls. if list_any (nat_eq group) (groups_of step.reply.what) then None else ls) is
       ∙ sym (cond-true _ _ _ (accepts weighed scan))
 
   -- of a kind that the model uses
-  pub scanned_so : IsWeighed model e step → is_scan step.event ≡ true → (on : CheckKind) → used_scan model step.event ≡ Some on → (verdicts : List Verdict) (before : WaitingGroups) (at group : ℕ) (left : Option (List Line)) → at ≡ suc e.number → left ≡ scanned_lines (state_in e) at verdicts before group
-      → (if list_any (nat_eq group) (groups_of step.reply.what) then None else left) ≡ stepped_lines model e (with_verdicts step verdicts) before group
-  scanned_so weighed scan on used verdicts before at group left numbered is =
-      stepped_from weighed scan verdicts before group left
-      (is ∙ (ap (λ n. scanned_lines (state_in e) n verdicts before group) numbered ∙ sym (ap (λ (o : Option CheckKind). noted_by model e o step.event verdicts before group) used)))
-
-  not_told : (event : Event) → is_scan event ≡ true → is_told event ≡ false
-  not_told Walk scan = refl
-  not_told Stop scan = refl
-  not_told _ scan = cc
-
-  -- and of any other
-  pub unscanned_so : IsWeighed model e step → is_scan step.event ≡ true → used_scan model step.event ≡ None → (before : WaitingGroups) (group : ℕ)
-      → (if list_any (nat_eq group) (groups_of step.reply.what) then None else lines_at before group) ≡ stepped_lines model e step before group
-  unscanned_so weighed scan none before group =
-      stepped_from weighed scan step.verdicts before group (lines_at before group)
-      (sym (noted none before group ∙ does_nothing model e step.event none (not_told step.event scan) step.verdicts (lines_at before) group))
+  pub scanned_so : IsWeighed model e step → is_scan step.event ≡ true → (on : CheckKind) → used_scan model step.event ≡ Some on → (before : WaitingGroups) (at group : ℕ) (left : Option (List Line)) → at ≡ suc e.number → left ≡ scanned_lines (state_in e) at step.verdicts before group
+      → (if list_any (nat_eq group) (groups_of step.reply.what) then None else left) ≡ stepped_lines model e step before group
+  scanned_so weighed scan on used before at group left numbered is =
+      stepped_from weighed scan before group left
+      (is ∙ (ap (λ n. scanned_lines (state_in e) n step.verdicts before group) numbered ∙ sym (ap (λ (o : Option CheckKind). noted_by model e o step.event step.verdicts before group) used)))
 
 -- a scan that the model uses is one
 pub is_used : (model : Rules) (event : Event) (on : CheckKind) → used_scan model event ≡ Some on → is_scan event ≡ true

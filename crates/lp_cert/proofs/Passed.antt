@@ -18,8 +18,9 @@ use Rattle.lp_definitions.specs.Run.{Run, switched, plus}
 use Rattle.lp_machine.specs.Machine.{complete_in, affected, answer, calling, switches_at, put_in, refusal_of, returning, with_switches, told}
 use Rattle.lp_transition.specs.inside.ScanSteps.{groups_of}
 use Rattle.lp_machine.specs.Steps.{StandsIn}
-use Rattle.lp_machine.specs.Table.{Engine, state_in}
-use Rattle.lp_transition.specs.Weigh.{Weighed, refusal_in}
+use Rattle.lp_machine.specs.Table.{Engine, IsWide, state_in}
+use Rattle.lp_transition.specs.Blames.{AreOfWaiting}
+use Rattle.lp_transition.specs.Weigh.{HasBlamesAfter, Weighed, refusal_in}
 use Rattle.lp_machine.proofs.Alone.{same-after}
 use Rattle.lp_machine.proofs.EngineLemmas.{answer-refused, answer-accepted, is_unchecked, unchecked-control, unchecked-stays, switched-still}
 use Rattle.lp_transition.proofs.SwitchedGroups.{switched-none}
@@ -33,7 +34,8 @@ use Rattle.lp_cert.specs.Waiters.{WaitingGroups}
 use Rattle.lp_cert.specs.inside.Waiters.{lines_at, HasFewGroups, own_lines}
 use Rattle.lp_cert.specs.inside.StepLines.{noted_by, noted_lines}
 use Rattle.lp_transition.specs.LastScan.{IsLastScanAfter, used_scan}
-use Rattle.lp_cert.proofs.PlainEvents.{HasGoneOn, no_used, opens_none, plain_made}
+use Rattle.lp_transition.proofs.Told.{plain_unused}
+use Rattle.lp_cert.proofs.PlainEvents.{HasGoneOn, opens_none, plain_made}
 
 quiet : (event : Event) → is_quiet event ≡ true → is_unchecked event ≡ true
 quiet (Call t f) h = refl
@@ -103,7 +105,7 @@ few e (Wake t) plain = tt
 few e (Enter t) plain = tt
 few e _ plain = cc
 
-unscanned : (event : Event) → is_quiet event ≡ true → is_scan event ≡ false
+pub unscanned : (event : Event) → is_quiet event ≡ true → is_scan event ≡ false
 unscanned (Call t f) plain = refl
 unscanned (Ret t) plain = refl
 unscanned (Sleep t) plain = refl
@@ -116,7 +118,7 @@ module _ (model : Rules) (lawful : IsLawful model) (run : Run) (e : Engine) (sta
   step = plain_step model e event
 
   unused : used_scan model event ≡ None
-  unused = no_used model event (unscanned event plain)
+  unused = plain_unused model event (unscanned event plain)
 
   continues : (number : ℕ) (leg : OpenLeg) (waiters : WaitingGroups) → IsStepped model e step number leg leg waiters waiters
   continues number leg waiters =
@@ -146,11 +148,11 @@ module _ (model : Rules) (lawful : IsLawful model) (run : Run) (e : Engine) (sta
           ap (λ (o : Option CheckKind). if accepted then (if list_any (nat_eq group) (groups_of step.reply.what) then None else noted_by model e o event [] waiters group) else lines_at waiters group) (sym unused)
 
   -- what is made of the run with the event more
-  pub passed : (made new : Made) → IsMadeWith model run e.last_scan made → (after : Engine) → StandsIn model (plus run event) (state_in after) → IsLastScanAfter model e event after → new.ended ≡ made.ended
+  pub passed : (made new : Made) → IsMadeWith model run e made → IsWide e.table → AreOfWaiting e → (after : Engine) → StandsIn model (plus run event) (state_in after) → HasBlamesAfter model e event after → IsLastScanAfter model e event after → new.ended ≡ made.ended
       → (noted number : ℕ) (waiters : WaitingGroups) → number ≡ e.number + 1 → (current : Option OpenLeg) → made.current ≡ option_map (open_end noted waiters) current → new.current ≡ option_map (open_end number waiters) current
-      → IsMadeWith model (plus run event) after.last_scan new
-  passed made new is after stands_after known ended noted number waiters numbered current =
-      plain_made model lawful run e stands event (unscanned event plain) (opens_none model e event (unchecked-control model event (quiet event plain))) room made new is after stands_after known ended noted number numbered waiters waiters current current (gone current)
+      → IsMadeWith model (plus run event) after new
+  passed made new is wide of_waiting after stands_after blamed known ended noted number waiters numbered current =
+      plain_made model lawful run e stands event (unscanned event plain) (opens_none model e event (unchecked-control model event (quiet event plain))) room wide of_waiting made new is after stands_after blamed known ended noted number numbered waiters waiters current current (gone current)
     where
       gone : (leg : Option OpenLeg) → HasGoneOn model e event number leg leg waiters waiters
       gone None = tt

@@ -1,8 +1,7 @@
 -- Events that are neither scans nor control events are noted without verdicts.
-use Rattle.std.proofs.Common.{◌≡◌, ◌≢◌, ◌<◌, ◌+◌, ℕ, Bool, true, false, ◌&&◌, [], length, Option, Some, None, is_none, refl, sym, ap, ap₂, subst, ◌∙◌}
+use Rattle.std.proofs.Common.{◌≡◌, ◌≢◌, ◌<◌, ◌+◌, ℕ, Bool, true, false, ◌&&◌, [], Option, Some, None, is_none, refl, sym, ap, ap₂, ◌∙◌}
 use Rattle.std.specs.Option.{option_map}
 use Rattle.lp_model.specs.Rules.{Rules, IsLawful}
-use Rattle.lp_model.specs.declared.check.CheckKind.{CheckKind}
 use Rattle.lp_definitions.specs.declared.event.Event.{Event}
 use Rattle.lp_definitions.specs.declared.event.Event.TheVariants.{Walk, Stop}
 use Rattle.lp_definitions.specs.declared.refusal.Refusal.{Refusal}
@@ -12,29 +11,24 @@ use Rattle.lp_definitions.specs.Leg.{State}
 use Rattle.lp_definitions.specs.Run.{Run, leg_of, plus}
 use Rattle.lp_machine.specs.Machine.{answer, refusal_of}
 use Rattle.lp_machine.specs.Steps.{IsReply, StandsIn}
-use Rattle.lp_machine.specs.Table.{Engine, state_in}
+use Rattle.lp_machine.specs.Table.{Engine, IsWide, state_in}
 use Rattle.lp_machine_laws.proofs.Steps.{does}
-use Rattle.lp_transition.specs.LastScan.{IsLastScanAfter, used_scan}
-use Rattle.lp_transition.specs.Weigh.{IsWeighed, AreVerdictsFor, Weighed, refusal_in}
-use Rattle.lp_transition.proofs.Weighing.{refused-as}
-use Rattle.lp_definitions.specs.Certificates.{lines}
+use Rattle.lp_transition.specs.LastScan.{IsLastScanAfter}
+use Rattle.lp_transition.specs.Blames.{AreBlamesAfter, AreOfWaiting}
+use Rattle.lp_transition.specs.Weigh.{IsWeighed, HasBlamesAfter, Weighed, refusal_in}
+use Rattle.lp_transition.proofs.Told.{plain_tells}
+use Rattle.lp_transition.proofs.Weighing.{refused-as, verdicts-none}
 use Rattle.lp_cert.specs.declared.open_leg.OpenLeg.{OpenLeg}
 use Rattle.lp_cert.specs.Ends.{Made, IsMadeWith, is_opening}
 use Rattle.lp_cert.specs.Invariant.{open_end}
 use Rattle.lp_cert.specs.inside.Invariant.{IsStepped, plain_step}
 use Rattle.lp_cert.specs.Waiters.{WaitingGroups}
-use Rattle.lp_cert.proofs.ScanTold.{TellsOrUnchanged}
 use Rattle.lp_cert.proofs.Noted.{none_made, present_sound, still_made}
 
-no_verdicts : (model : Rules) (s : State) (event : Event) → is_scan event ≡ false → AreVerdictsFor model s event []
-no_verdicts model s Walk plain = cc
-no_verdicts model s Stop plain = cc
-no_verdicts model s _ plain = refl
-
-pub no_used : (model : Rules) (event : Event) → is_scan event ≡ false → used_scan model event ≡ None
-no_used model Walk plain = cc
-no_used model Stop plain = cc
-no_used model _ plain = refl
+-- the engine's blames after an event that is no scan
+pub plain_blames : (model : Rules) (e : Engine) (event : Event) (new : Engine) → is_scan event ≡ false → AreBlamesAfter model e event [] new → HasBlamesAfter model e event new
+plain_blames model e event new plain blames =
+    record { verdicts = []; enough = verdicts-none model (state_in e) event plain; told = plain_tells model e event [] plain; blames = blames }
 
 pub control_unscanned : (event : Event) → is_control event ≡ true → is_scan event ≡ false
 control_unscanned Walk control = cc
@@ -72,23 +66,20 @@ module _ (model : Rules) (lawful : IsLawful model) (run : Run) (e : Engine) (sta
       ∙ sym (ap (λ (s : State). answer model s event) stands.there ∙ (does model (leg_of model run) event lawful (present_sound model lawful run e stands)).answers)
 
   pub weighed : is_scan event ≡ false → e.number < 1000000 → IsWeighed model e (plain_step model e event)
-  weighed unscanned room = record { room = room; reply = refl; verdicts = no_verdicts model (state_in e) event unscanned }
+  weighed unscanned room = record { room = room; reply = refl; verdicts = verdicts-none model (state_in e) event unscanned; told = plain_tells model e event [] unscanned }
 
   -- an accepted control event opens a leg
   pub turns : is_control event ≡ true → refusal_of model (state_in e) event ≡ None → is_opening (plain_step model e event) ≡ true
   turns control accepted = ap₂ (λ a b. a && b) control (ap is_none (refused-as model (state_in e) event ∙ accepted))
 
-  module _ (unscanned : is_scan event ≡ false) (stays : is_opening (plain_step model e event) ≡ false) (room : e.number < 1000000) where
-    suffices : TellsOrUnchanged model (state_in e) (lines model (leg_of model run) (length (leg_of model run).events)) (used_scan model event) []
-    suffices = subst (λ (o : Option CheckKind). TellsOrUnchanged model (state_in e) (lines model (leg_of model run) (length (leg_of model run).events)) o []) (sym (no_used model event unscanned)) tt
-
+  module _ (unscanned : is_scan event ≡ false) (stays : is_opening (plain_step model e event) ≡ false) (room : e.number < 1000000) (wide : IsWide e.table) (of_waiting : AreOfWaiting e) where
     -- what is made of the run with the event more
-    pub plain_made : (made new : Made) → IsMadeWith model run e.last_scan made → (after : Engine) → StandsIn model (plus run event) (state_in after) → IsLastScanAfter model e event after → new.ended ≡ made.ended
+    pub plain_made : (made new : Made) → IsMadeWith model run e made → (after : Engine) → StandsIn model (plus run event) (state_in after) → HasBlamesAfter model e event after → IsLastScanAfter model e event after → new.ended ≡ made.ended
         → (noted number : ℕ) → number ≡ e.number + 1 → (before later : WaitingGroups) (current next : Option OpenLeg) → HasGoneOn model e event number current next before later → made.current ≡ option_map (open_end noted before) current → new.current ≡ option_map (open_end number later) next
-        → IsMadeWith model (plus run event) after.last_scan new
-    plain_made made new is after stands_after known ended noted number numbered before later None None gone was now =
-        none_made model lawful run e stands (plain_step model e event) (weighed unscanned room) made new is after stands_after known stays ended was now
-    plain_made made new is after stands_after known ended noted number numbered before later (Some leg) (Some on) gone was now =
-        still_made model lawful run e stands (plain_step model e event) (weighed unscanned room) made new is after stands_after known stays ended noted number leg on before later numbered gone (λ unended unfinished. suffices) was now
-    plain_made made new is after stands_after known ended noted number numbered before later None (Some on) gone was now = absurd gone
-    plain_made made new is after stands_after known ended noted number numbered before later (Some leg) None gone was now = absurd gone
+        → IsMadeWith model (plus run event) after new
+    plain_made made new is after stands_after blamed known ended noted number numbered before later None None gone was now =
+        none_made model lawful run e stands (plain_step model e event) (weighed unscanned room) made new is wide of_waiting after stands_after blamed known stays ended was now
+    plain_made made new is after stands_after blamed known ended noted number numbered before later (Some leg) (Some on) gone was now =
+        still_made model lawful run e stands (plain_step model e event) (weighed unscanned room) made new is wide of_waiting after stands_after blamed known stays ended noted number leg on before later numbered gone was now
+    plain_made made new is after stands_after blamed known ended noted number numbered before later None (Some on) gone was now = absurd gone
+    plain_made made new is after stands_after blamed known ended noted number numbered before later (Some leg) None gone was now = absurd gone

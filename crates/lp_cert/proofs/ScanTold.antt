@@ -16,13 +16,15 @@ use Rattle.lp_definitions.specs.Tasks.{Live, first_of}
 use Rattle.lp_definitions.proofs.Quantifiers.{some_live-is}
 use Rattle.lp_definitions.specs.declared.line.Line.{Line}
 use Rattle.lp_definitions.specs.Certificates.{group_id, after_refusal}
-use Rattle.lp_cert.specs.Unchanged.{IsUnchanged, AreUnchangedBy, AreUnchangedSince}
-use Rattle.lp_transition.specs.Blames.{has_frame_in}
-use Rattle.lp_machine.specs.Table.{LastScan}
-use Rattle.lp_cert.specs.inside.ToldGroups.{TellOfChanged}
+use Rattle.lp_cert.specs.Unchanged.{AreHeld, IsUnchanged, AreUnchangedBy, AreUnchangedSince}
+use Rattle.lp_transition.specs.Blames.{blame_of, has_frame_in, is_open}
+use Rattle.lp_machine.specs.Table.{Engine, state_in}
+use Rattle.lp_definitions.specs.declared.event.Event.{Event}
+use Rattle.lp_transition.specs.LastScan.{used_scan}
+use Rattle.lp_transition.specs.Weigh.{IsKnown, Tells}
 use Rattle.lp_cert.specs.Waiters.{WaitingGroups, head_of}
 use Rattle.lp_cert.specs.inside.Waiters.{AreStanding, after_verdict, lines_in}
-use Rattle.lp_cert.proofs.UnchangedLines.{unchanged_refused}
+use Rattle.lp_cert.proofs.UnchangedLines.{held_goes_on, unchanged_refused}
 use Rattle.lp_cert.proofs.VerdictLines.{verdicts_tell}
 
 -- ---- Verdicts of other groups
@@ -51,17 +53,22 @@ abbrev pub TellsOrUnchanged : Rules → State → (lines : ℕ → List Line) �
 TellsOrUnchanged model s lines None vs = Unit {0}
 TellsOrUnchanged model s lines (Some on) vs = ToldOrUnchanged model s lines on vs
 
-told_unchanged : (model : Rules) (s : State) (lines : ℕ → List Line) (last_scan : LastScan) → AreUnchangedBy model s lines last_scan → (on : CheckKind) (vs : List Verdict) → TellOfChanged s (Some on) vs last_scan → ToldOrUnchanged model s lines on vs
-told_unchanged model s lines last_scan quiet on vs told t x live off =
-    ⊎_elim
-    (λ (some : list_any (is_of s x.group) vs ≡ true). inl some)
-    (λ (left : (last_scan.kind ≡ Some on) × (has last_scan.changed x.group ≡ false)). inr (subst (λ (k : Option CheckKind). AreUnchangedSince model s lines k (has last_scan.changed)) left.0 quiet t x live off left.1))
-    (told t x live off)
-
--- where what wasn't told of is unchanged since the last scan
-pub tells_unchanged : (model : Rules) (s : State) (lines : ℕ → List Line) (last_scan : LastScan) → AreUnchangedBy model s lines last_scan → (o : Option CheckKind) (vs : List Verdict) → TellOfChanged s o vs last_scan → TellsOrUnchanged model s lines o vs
-tells_unchanged model s lines last_scan quiet None vs told = tt
-tells_unchanged model s lines last_scan quiet (Some on) vs told = told_unchanged model s lines last_scan quiet on vs told
+-- what isn't told of goes on: a frame holds it back, or nothing happened to it since the last scan
+pub tells_unchanged : (model : Rules) (e : Engine) (lines : ℕ → List Line) → AreUnchangedBy model (state_in e) lines e.last_scan → AreHeld (state_in e) lines e → (event : Event) (vs : List Verdict) → Tells model e event vs → TellsOrUnchanged model (state_in e) lines (used_scan model event) vs
+tells_unchanged model e lines quiet held event vs told = by (used_scan model event) refl
+  where
+    by : (o : Option CheckKind) → used_scan model event ≡ o → TellsOrUnchanged model (state_in e) lines o vs
+    by None none = tt
+    by (Some on) some = λ t x live off.
+        ⊎_elim
+        (λ (here : list_any (is_of (state_in e) x.group) vs ≡ true). inl here)
+        (λ (known : IsKnown e on x.group).
+        ⊎_elim
+        (λ (stuck : is_open e x.group ≡ false). inr (held_goes_on model (state_in e) on x.group (lines x.group) (blame_of e x.group) (held t x live off) stuck))
+        (λ (left : (e.last_scan.kind ≡ Some on) × (has e.last_scan.changed x.group ≡ false)).
+        inr (subst (λ (k : Option CheckKind). AreUnchangedSince model (state_in e) lines k (has e.last_scan.changed)) left.0 quiet t x live off left.1))
+        known)
+        (told on some t x live off)
 
 module _ (model : Rules) (s : State) (sound : IsSound s) (on : CheckKind) (lines : ℕ → List Line) (vs : List Verdict) (enough : AreEnough model on s vs)
     (told : ToldOrUnchanged model s lines on vs) (waiters : WaitingGroups) (stand : AreStanding waiters) (at g : ℕ) (there : has waiters.groups g ≡ true) (same : lines_in waiters.reasons g ≡ lines g) (it_waits : IsTrue (waits_in s g))

@@ -8,7 +8,9 @@ use Rattle.lp_definitions.specs.Events.{is_scan}
 use Rattle.lp_transition.specs.LastScan.{IsLastScanAfter}
 use Rattle.lp_definitions.specs.Run.{Run, plus}
 use Rattle.lp_machine.specs.Steps.{StandsIn}
-use Rattle.lp_machine.specs.Table.{Engine, state_in}
+use Rattle.lp_machine.specs.Table.{Engine, IsWide, state_in}
+use Rattle.lp_transition.specs.Blames.{AreOfWaiting}
+use Rattle.lp_transition.specs.Weigh.{HasBlamesAfter}
 use Rattle.lp_cert.specs.declared.open_leg.Completion.{Completion}
 use Rattle.lp_cert.specs.declared.open_leg.OpenLeg.{OpenLeg}
 use Rattle.lp_cert.specs.Ends.{Made, IsMadeWith, is_opening}
@@ -32,7 +34,7 @@ pub ends_stay : (noted number : ℕ) (w : WaitingGroups) (current : Option OpenL
 ends_stay noted number w None settled = refl
 ends_stay noted number w (Some leg) settled = ap Some (end_stays noted number w leg leg.completed settled)
 
-module _ (model : Rules) (lawful : IsLawful model) (run : Run) (e : Engine) (stands : StandsIn model run (state_in e)) (event : Event) (no_scan : is_scan event ≡ false) (opens_none : is_opening (plain_step model e event) ≡ false) (room : e.number < 1000000) where
+module _ (model : Rules) (lawful : IsLawful model) (run : Run) (e : Engine) (stands : StandsIn model run (state_in e)) (event : Event) (no_scan : is_scan event ≡ false) (opens_none : is_opening (plain_step model e event) ≡ false) (room : e.number < 1000000) (wide : IsWide e.table) (of_waiting : AreOfWaiting e) where
   unfinished_not : (leg : OpenLeg) → is_some leg.completed ≡ true → leg.completed ≡ None → ⊥
   unfinished_not leg settled unfinished = false≢true (sym (ap is_some unfinished) ∙ settled)
 
@@ -45,8 +47,8 @@ module _ (model : Rules) (lawful : IsLawful model) (run : Run) (e : Engine) (sta
   }
 
   -- what is made of the run with the event more
-  pub rested : (made new : Made) → IsMadeWith model run e.last_scan made → (after : Engine) → StandsIn model (plus run event) (state_in after) → IsLastScanAfter model e event after → new.ended ≡ made.ended
+  pub rested : (made new : Made) → IsMadeWith model run e made → (after : Engine) → StandsIn model (plus run event) (state_in after) → HasBlamesAfter model e event after → IsLastScanAfter model e event after → new.ended ≡ made.ended
       → (noted number : ℕ) (waiters : WaitingGroups) → number ≡ e.number + 1 → (current : Option OpenLeg) → is_settled current ≡ true → made.current ≡ option_map (open_end noted waiters) current → new.current ≡ option_map (open_end number waiters) current
-      → IsMadeWith model (plus run event) after.last_scan new
-  rested made new is after stands_after known ended noted number waiters numbered current settled =
-      plain_made model lawful run e stands event no_scan opens_none room made new is after stands_after known ended noted number numbered waiters waiters current current (stays number waiters current settled)
+      → IsMadeWith model (plus run event) after new
+  rested made new is after stands_after blamed known ended noted number waiters numbered current settled =
+      plain_made model lawful run e stands event no_scan opens_none room wide of_waiting made new is after stands_after blamed known ended noted number numbered waiters waiters current current (stays number waiters current settled)

@@ -39,9 +39,9 @@ use Rattle.lp_definitions.specs.Certificates.{lines, birth_line, after_refusal, 
 use Rattle.lp_cert.specs.EventLines.{lines_after_scan, lines_after_own_check, is_resched, lines_after_fork, is_fork}
 use Rattle.lp_cert.specs.inside.StepLines.{stepped_lines, noted_by, noted_lines}
 use Rattle.lp_transition.specs.LastScan.{used_kind, used_scan}
-use Rattle.lp_transition.specs.Blames.{has_frame_in}
+use Rattle.lp_transition.specs.Blames.{has_frame_in, own_blame}
 use Rattle.lp_cert.specs.Waiters.{WaitingGroups}
-use Rattle.lp_cert.specs.inside.Waiters.{AreStanding, own_lines, own_blame, after_own_check, after_scan, after_scan_of, after_switch, after_verdict, after_fork, after_death, is_lone, lines_at, lines_in, scanned_lines}
+use Rattle.lp_cert.specs.inside.Waiters.{AreStanding, own_lines, after_own_check, after_scan, after_scan_of, after_switch, after_verdict, after_fork, after_death, is_lone, lines_at, lines_in, scanned_lines}
 use Rattle.lp_cert.proofs.NextLines.{lines_at_fork, lines_at_own_check}
 use Rattle.lp_cert.proofs.OwnChecks.{lone_blamed}
 use Rattle.lp_cert.proofs.OtherEvents.{lines_at_refused, lines_at_others}
@@ -107,7 +107,7 @@ module _ (model : Rules) (lawful : IsLawful model) (e : Engine) (sound : IsSound
   -- an own check in the kernel leaves who waits, and adds a reason where it refuses the only member of its group
   resched_own : (t : TaskId) (vs : List Verdict) (g : ℕ) → g < 65536 → refusal_of model s (Resched t) ≡ None → IsOwn (Resched t) g (own_lines model e (Resched t) vs old g)
   resched_own t vs g below ok =
-      ap (on_live (old g) (λ y. after_own_check s t.0 y.group (is_lone e t.0 y.group) (own_blame model e t.0) old g)) there_is
+      ap (on_live (old g) (λ y. after_own_check s t.0 y.group (is_lone e t.0 y.group) (own_blame model (state_in e) t.0) old g)) there_is
       ∙ by (model.uses kind.Resched) refl (is_alone s.bounds (outlines_of s.tasks) g t.0) refl
     where
       x : LegTask
@@ -133,7 +133,7 @@ module _ (model : Rules) (lawful : IsLawful model) (e : Engine) (sound : IsSound
           lines_at_own_check model leg t g (sym (refusal_is model leg (Resched t)) ∙ (ap (λ (st : State). refusal_of model st (Resched t)) (sym there) ∙ ok))
           ∙ ap (λ (st : State). lines_after_own_check model st t g before) (sym there)
 
-      blame_is : own_blame model e t.0 ≡ (if model.uses kind.Resched then model.blame kind.Resched (view_of t.0 x) s.aim else None)
+      blame_is : own_blame model (state_in e) t.0 ≡ (if model.uses kind.Resched then model.blame kind.Resched (view_of t.0 x) s.aim else None)
       blame_is = ap (λ (fate : Fate LegTask). if model.uses kind.Resched then on_live None (λ y. model.blame kind.Resched (view_of t.0 y) s.aim) fate else None) there_is
 
       remain : new ≡ before → old g ≡ (if waits_in s g then Some new else None)
@@ -170,12 +170,12 @@ module _ (model : Rules) (lawful : IsLawful model) (e : Engine) (sound : IsSound
           ∙ lifted (after_refusal (has_frame_in s) g (suc s.number) (t.0, b)) (h ∙ ap (λ o. after_check (has_frame_in s) g (suc s.number) o before) first) (waits_in s g))
 
       by : (u : Bool) → model.uses kind.Resched ≡ u → (a : Bool) → is_alone s.bounds (outlines_of s.tasks) g t.0 ≡ a
-          → after_own_check s t.0 x.group lone (own_blame model e t.0) old g ≡ (if waits_in s g then Some new else None)
+          → after_own_check s t.0 x.group lone (own_blame model (state_in e) t.0) old g ≡ (if waits_in s g then Some new else None)
       by false unused a is_a =
           ap (λ o. after_own_check s t.0 x.group lone o old g) (blame_is ∙ cond-false (model.uses kind.Resched) _ None unused)
           ∙ remain (law ∙ ap (λ b. after_lines (b && is_alone s.bounds (outlines_of s.tasks) g t.0)) unused)
       by true used false out =
-          untouched (other_group out (nat_eq g x.group) refl) (own_blame model e t.0)
+          untouched (other_group out (nat_eq g x.group) refl) (own_blame model (state_in e) t.0)
           ∙ remain (law ∙ ap₂ (λ b c. after_lines (b && c)) used out)
       by true used true a =
           ap (λ o. after_own_check s t.0 x.group lone o old g) (blame_is ∙ cond-true (model.uses kind.Resched) _ None used)

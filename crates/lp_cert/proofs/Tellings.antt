@@ -8,7 +8,9 @@ use Rattle.lp_definitions.specs.Leg.{Leg}
 use Rattle.lp_definitions.specs.Run.{Run, first_leg, leg_of, opens, next_leg, leg_after}
 use Rattle.lp_definitions.specs.Schedule.{waits, first_check}
 use Rattle.lp_machine.specs.Machine.{state_of}
-use Rattle.lp_machine.specs.Table.{LastScan}
+use Rattle.lp_machine.specs.Table.{Engine}
+use Rattle.lp_transition.specs.Blames.{blame_of}
+use Rattle.lp_cert.proofs.Held.{none_held}
 use Rattle.lp_definitions.specs.declared.cert.Claim.TheVariants.{Waiting, Floor}
 use Rattle.lp_definitions.specs.declared.cert.Cert.{Cert}
 use Rattle.lp_definitions.specs.Ends.{LegEnd, end_of}
@@ -26,10 +28,14 @@ module _ (model : Rules) where
   }
 
   -- and an engine that begins knows nothing of a scan
-  pub begun_with : (run : Run) (last_scan : LastScan) (made : Made) → run.events ≡ [] → last_scan.kind ≡ None → IsFresh made → IsMadeWith model run last_scan made
-  begun_with run last_scan made none unscanned fresh = record {
+  pub begun_with : (run : Run) (e : Engine) (made : Made) → run.events ≡ [] → e.last_scan.kind ≡ None → ((group : ℕ) → blame_of e group ≡ None) → IsFresh made → IsMadeWith model run e made
+  unfolding lines leg_after
+  begun_with run e made none unscanned blameless fresh = record {
     of_run = begins run made none fresh;
-    unchanged = none_unchanged model (state_of model (leg_of model run)) (lines model (leg_of model run) (length (leg_of model run).events)) last_scan unscanned;
+    unchanged = none_unchanged model (state_of model (leg_of model run)) (lines model (leg_of model run) (length (leg_of model run).events)) e.last_scan unscanned;
+    held =
+        none_held (state_of model (leg_of model run)) (lines model (leg_of model run) (length (leg_of model run).events)) e
+        (λ g. ap (λ events. lines model (leg_after model (first_leg model run) events) (length (leg_after model (first_leg model run) events).events) g) none) (λ t x live. blameless x.group);
   }
 
   -- the legs are those that ended, and the last

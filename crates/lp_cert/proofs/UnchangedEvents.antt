@@ -112,8 +112,8 @@ module _ (model : Rules) (s : State) where
   unused_is (Live x) e = absurd (cc)
   unused_is Dead e = absurd (cc)
 
-  -- a child's number is new, and not 0
-  fork_new : (p c : TaskId) (how : ForkKind) → refusal_of model s (Fork p c how) ≡ None → (c.0 ≢ 0) × (s.tasks c.0 ≡ Unused)
+  -- a child's number is new, not 0, and in range
+  pub fork_new : (p c : TaskId) (how : ForkKind) → refusal_of model s (Fork p c how) ≡ None → (c.0 ≢ 0) × (s.tasks c.0 ≡ Unused) × (nat_lt s.bounds.tasks c.0 ≡ false)
   unfolding refusal_of
   fork_new p c how ok =
       let seen = outlines_of s.tasks in
@@ -122,10 +122,10 @@ module _ (model : Rules) (s : State) where
       let b = none_first (out_of_range s.bounds c.0) (used seen c.0 ∷ last) a.1 in
       let d = none_first (used seen c.0) last b.1 in
       let range = or_parts (nat_eq c.0 0) (nat_lt s.bounds.tasks c.0) (unfit (nat_eq c.0 0 || nat_lt s.bounds.tasks c.0) TaskRange b.0) in
-      (eqb-false c.0 0 range.0, unused_is (s.tasks c.0) (unfit (not (is_unused (seen c.0))) TaskUsed d.0))
+      (eqb-false c.0 0 range.0, unused_is (s.tasks c.0) (unfit (not (is_unused (seen c.0))) TaskUsed d.0), range.1)
 
   -- nobody is in the group of a child that isn't born yet
-  not_the_childs : IsSound s → (t : ℕ) (x : LegTask) → s.tasks t ≡ Live x → (p c : TaskId) (how : ForkKind) → refusal_of model s (Fork p c how) ≡ None → x.group ≢ c.0
+  pub not_the_childs : IsSound s → (t : ℕ) (x : LegTask) → s.tasks t ≡ Live x → (p c : TaskId) (how : ForkKind) → refusal_of model s (Fork p c how) ≡ None → x.group ≢ c.0
   not_the_childs sound t x live p c how ok same =
       let new = fork_new p c how ok in
       ⊎_elim
@@ -196,7 +196,7 @@ module _ (model : Rules) (lawful : IsLawful model) (leg : Leg) (leg_sound : IsSo
     unfolding next_leg
     next_is = (does model leg event lawful leg_sound).next_state ∙ ap (state_of model) (cond-false (opens model leg event) (opened model leg event) (and_then leg event) stays)
 
-    no_control : refusal_of model s event ≡ None → is_control event ≡ false
+    pub no_control : refusal_of model s event ≡ None → is_control event ≡ false
     no_control ok =
         and_true (is_control event) (ap (λ r. is_control event && is_none r) (sym (sym (refusal_is model leg event) ∙ ok)) ∙ stays)
       where

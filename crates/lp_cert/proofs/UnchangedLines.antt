@@ -1,6 +1,6 @@
 -- What a further refusal of an unchanged group makes of its lines.
-use Rattle.std.proofs.Common.{◌≡◌, ℕ, ◌<◌, ⊎_elim, Bool, true, false, nat_lt, List, [], ◌∷◌, ◌++◌, length, map, reverse, take, drop, Some, get_or, refl, sym, ap, subst, ◌∙◌, arith}
-use Rattle.std.proofs.lemmas.Bool.{false≢true, ltb-true, cond-true, eq-eqb}
+use Rattle.std.proofs.Common.{◌≡◌, ℕ, ◌<◌, ⊎_elim, Bool, true, false, nat_lt, List, [], ◌∷◌, ◌++◌, length, map, reverse, take, drop, Option, Some, None, is_none, get_or, refl, sym, ap, subst, ◌∙◌, arith}
+use Rattle.std.proofs.lemmas.Bool.{false≢true, ltb-true, cond-true, cond-false, eq-eqb}
 use Rattle.lp_stack.specs.declared.number.GroupId.{GroupId}
 use Rattle.lp_stack.specs.declared.number.TaskId.{TaskId}
 use Rattle.lp_model.specs.declared.check.CheckKind.{CheckKind}
@@ -19,8 +19,8 @@ use Rattle.lp_cert.specs.declared.head.Head.{Head}
 use Rattle.lp_cert.specs.declared.head.Refused.{Refused}
 use Rattle.lp_definitions.specs.Certificates.{after_refusal, task_id}
 use Rattle.lp_cert.specs.Heads.{lines_of, ongoing_reasons, head_lines}
-use Rattle.lp_cert.specs.Unchanged.{IsUnchanged}
-use Rattle.lp_cert.specs.inside.ToldGroups.{is_held}
+use Rattle.lp_cert.specs.Unchanged.{IsHeldBy, IsUnchanged}
+use Rattle.lp_machine.specs.declared.standing_blame.StandingBlame.{StandingBlame}
 use Rattle.lp_cert.specs.inside.Heads.{IsUnchecked, IsBusyInFront, FitsOlder, IsHead, IsRefusedBy, HasFrameAs, continues_after}
 use Rattle.lp_cert.proofs.HeadLemmas.{busy_some, busy_run, no_run, refused_on}
 
@@ -142,12 +142,13 @@ unchanged_refused model s on blamed lists scans group head is_head first unchang
     let goes = goes_on model s on group.0 blamed (head_lines lists scans group head) first unchanged in
     lines_again (has_frame_in s) goes.task goes.why lists scans group head is_head at goes.continues ∙ sym (goes.alike at)
 
--- a group is unchanged whose newest reason is a hold of a frame that is still there
-pub held_unchanged : (model : Rules) (s : State) (on : CheckKind) (g : ℕ) (lists : List (List Reason)) (scans : List ℕ) (group : GroupId) (head : Head) → is_held (has_frame_in s) head.ongoing ≡ true → IsUnchanged model on s g (head_lines lists scans group head)
-unfolding lines_of
-held_unchanged model s on g lists scans group head held = by head.ongoing (get_or lists head.older.0 []) held
+-- a group is unchanged that has a standing blame: its newest line is the hold of that frame
+pub held_goes_on : (model : Rules) (s : State) (on : CheckKind) (g : ℕ) (ls : List Line) (b : Option StandingBlame) → IsHeldBy s ls b → is_none b ≡ false → IsUnchanged model on s g ls
+held_goes_on model s on g [] b held out = absurd (false≢true (sym out ∙ ap is_none held.blamed))
+held_goes_on model s on g (line.Busy h2 task at ∷ older) b held out = absurd (false≢true (sym out ∙ ap is_none held.blamed))
+held_goes_on model s on g (line.Born h2 p at ∷ older) b held out = absurd (false≢true (sym out ∙ ap is_none held.blamed))
+held_goes_on model s on g (line.Hold h2 task serial from to ∷ older) b held out = by (has_frame_in s task.0 serial) refl
   where
-    by : (o : Ongoing) (rs : List Reason) → is_held (has_frame_in s) o ≡ true → IsUnchanged model on s g (lines_of scans (ongoing_reasons scans group o ++ rs))
-    by Nothing rs h = absurd (false≢true h)
-    by (Hold task serial from last) rs h = h
-    by (Busy task first) rs h = absurd (false≢true h)
+    by : (p : Bool) → has_frame_in s task.0 serial ≡ p → has_frame_in s task.0 serial ≡ true
+    by true there = there
+    by false gone = absurd (false≢true (sym out ∙ ap is_none (held.blamed ∙ cond-false (has_frame_in s task.0 serial) (Some (record { task = task; serial = serial })) None gone)))

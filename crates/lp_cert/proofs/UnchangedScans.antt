@@ -58,7 +58,7 @@ used_first model lawful s on used g blamed first unused =
     at Dead e = some_none blame.Unused (sym (sym (ap (on_live None (λ (y : LegTask). if nat_eq y.group g then model.blame on (view_of blamed.0 y) s.aim else None)) e) ∙ told))
 
 -- a task that waits shows that its group does
-is_waiting : (s : State) (sound : IsSound s) (t : ℕ) (x : LegTask) → s.tasks t ≡ Live x → nat_eq x.level s.target ≡ false → IsTrue (waits_in s x.group)
+pub is_waiting : (s : State) (sound : IsSound s) (t : ℕ) (x : LegTask) → s.tasks t ≡ Live x → nat_eq x.level s.target ≡ false → IsTrue (waits_in s x.group)
 is_waiting s sound t x live off =
     let range = sound.numbered t x live in
     some_live-from s.bounds s.tasks (λ u y. nat_eq y.group x.group && not (nat_eq y.level s.target)) (record {
@@ -77,7 +77,7 @@ module _ (model : Rules) (lawful : IsLawful model) (s : State) (on : CheckKind) 
   told = first_at (blame_in model s on g) blamed 1 s.bounds.tasks first
 
   -- a frame for which it is refused is on its stack
-  frame_there : (serial : ℕ) → blamed.1 ≡ blame.Frame serial → has_frame_in s blamed.0 serial ≡ true
+  pub frame_there : (serial : ℕ) → blamed.1 ≡ blame.Frame serial → has_frame_in s blamed.0 serial ≡ true
   frame_there serial why = at (s.tasks blamed.0) refl
     where
       asked : Fate LegTask → Option Blame
@@ -123,7 +123,7 @@ module _ (model : Rules) (lawful : IsLawful model) (s : State) (on : CheckKind) 
 
 -- ---- A scan
 
-scan_free : (model : Rules) (s : State) (on : CheckKind) → refusal_of model s (scan_event on) ≡ None
+pub scan_free : (model : Rules) (s : State) (on : CheckKind) → refusal_of model s (scan_event on) ≡ None
 unfolding refusal_of
 scan_free model s kind.Walk = refl
 scan_free model s kind.Stop = refl
@@ -139,7 +139,7 @@ scan_opens_none model leg kind.IdlePoint = refl
 scan_opens_none model leg kind.Resched = refl
 
 -- the tasks stand as they stood before groups switch
-scan_own : (model : Rules) (s : State) (on : CheckKind) → (affected model s (scan_event on)).tasks ≡ s.tasks
+pub scan_own : (model : Rules) (s : State) (on : CheckKind) → (affected model s (scan_event on)).tasks ≡ s.tasks
 scan_own model s kind.Walk = refl
 scan_own model s kind.Stop = refl
 scan_own model s kind.KernelExit = refl

@@ -1,5 +1,5 @@
 -- Which groups are unchanged after an event that opens no leg, by what the engine knows of the last scan.
-use Rattle.std.proofs.Common.{◌≡◌, ℕ, suc, Bool, true, false, List, length, Option, Some, None, IsTrue, IsFalse, nat_eq, refl, sym, ap, subst, ◌∙◌}
+use Rattle.std.proofs.Common.{◌≡◌, ℕ, suc, Bool, true, false, not, ◌||◌, List, length, Option, Some, None, IsTrue, IsFalse, nat_eq, refl, sym, ap, ap₂, subst, ◌∙◌}
 use Rattle.std.proofs.lemmas.Bool.{false≢true, cond-true, cond-false}
 use Rattle.lp_numbers.specs.Numbers.{has}
 use Rattle.lp_model.specs.Rules.{Rules, IsLawful}
@@ -16,8 +16,10 @@ use Rattle.lp_transition.specs.Scan.{is_scan_kind, scan_event}
 use Rattle.lp_machine.specs.Table.{Engine, LastScan, state_in}
 use Rattle.lp_definitions.specs.declared.line.Line.{Line}
 use Rattle.lp_definitions.specs.Certificates.{lines}
-use Rattle.lp_cert.specs.Unchanged.{AreUnchanged, AreUnchangedBy, AreUnchangedSince}
+use Rattle.lp_transition.specs.Blames.{blame_of, is_open}
+use Rattle.lp_cert.specs.Unchanged.{AreHeld, AreUnchanged, AreUnchangedBy, AreUnchangedSince, IsUnchanged}
 use Rattle.lp_cert.proofs.UnchangedEvents.{IsNoUsedScan, unchanged_by}
+use Rattle.lp_cert.proofs.UnchangedLines.{held_goes_on}
 use Rattle.lp_cert.proofs.UnchangedScans.{scan_leaves_unchanged}
 
 some_none : {A : Type 0} (a : A) → Some a ≡ None → ⊥
@@ -29,7 +31,7 @@ none_unchanged model s ls last_scan none = subst (λ (o : Option CheckKind). Are
 
 -- ---- Which events are scans that the model uses
 
-used_none : (model : Rules) (k : CheckKind) → used_kind model k ≡ None → IsFalse (model.uses k)
+pub used_none : (model : Rules) (k : CheckKind) → used_kind model k ≡ None → IsFalse (model.uses k)
 used_none model k none = by (model.uses k) refl
   where
     by : (b : Bool) → model.uses k ≡ b → model.uses k ≡ false
@@ -69,7 +71,7 @@ scan_is model _ on some = absurd (some_none on (sym some))
 
 module _ (model : Rules) (lawful : IsLawful model) (e : Engine) (sound : IsSound (state_in e)) (leg : Leg) (leg_sound : IsSound leg.opening) (there : state_in e ≡ state_of model leg) (event : Event)
     (stays : opens model leg event ≡ false) (after : Engine) (there_after : state_in after ≡ state_of model (and_then leg event)) (known : IsLastScanAfter model e event after)
-    (was : AreUnchangedBy model (state_of model leg) (lines model leg (length leg.events)) e.last_scan) where
+    (was : AreUnchangedBy model (state_of model leg) (lines model leg (length leg.events)) e.last_scan) (held : AreHeld (state_in after) (lines model (and_then leg event) (suc (length leg.events))) after) where
   abbrev longer : Leg
   longer = and_then leg event
 
@@ -78,13 +80,34 @@ module _ (model : Rules) (lawful : IsLawful model) (e : Engine) (sound : IsSound
 
   -- an event that is no scan that the model uses
   others_unchanged : used_scan model event ≡ None → (on : CheckKind) → after.last_scan.kind ≡ Some on → AreUnchanged model (state_of model longer) (lines model longer (suc n)) on (has after.last_scan.changed)
-  others_unchanged none on is =
-      let before : AreUnchanged model (state_of model leg) (lines model leg n) on (has e.last_scan.changed) =
-      subst (λ (o : Option CheckKind). AreUnchangedSince model (state_of model leg) (lines model leg n) o (has e.last_scan.changed)) (known.kind none on is) was in
-      unchanged_by model lawful leg leg_sound event stays (no_scan model event none) on (has e.last_scan.changed) (has after.last_scan.changed) before
-      (λ t x live off out.
-      let told = known.others none on is t x (ap (λ (s : State). s.tasks t) there_after ∙ live) (ap (λ (s : State). nat_eq x.level s.target) there_after ∙ off) out in
-      (told.0, subst (λ (s : State). AreSameMembers s (state_of model longer) x.group) there (subst (λ (s : State). AreSameMembers (state_in e) s x.group) there_after told.1)))
+  others_unchanged none on is t x live off out = by (is_open after x.group) refl
+    where
+      before : AreUnchanged model (state_of model leg) (lines model leg n) on (has e.last_scan.changed)
+      before = subst (λ (o : Option CheckKind). AreUnchangedSince model (state_of model leg) (lines model leg n) o (has e.last_scan.changed)) (known.kind none on is) was
+
+      -- the groups to which something happened, or that a frame holds back
+      touched : ℕ → Bool
+      touched g = has after.last_scan.changed g || not (is_open after g)
+
+      either : (a b : Bool) → (a || not b) ≡ false → (a ≡ false) × (b ≡ true)
+      either true b h = absurd (false≢true (sym h))
+      either false true h = (refl, refl)
+      either false false h = absurd (false≢true (sym h))
+
+      rest : AreUnchanged model (state_of model longer) (lines model longer (suc n)) on touched
+      rest =
+          unchanged_by model lawful leg leg_sound event stays (no_scan model event none) on (has e.last_scan.changed) touched before
+          (λ u y lives waiting quiet.
+          let parts = either (has after.last_scan.changed y.group) (is_open after y.group) quiet in
+          let told = known.others none on is u y (ap (λ (s : State). s.tasks u) there_after ∙ lives) (ap (λ (s : State). nat_eq y.level s.target) there_after ∙ waiting) parts.1 parts.0 in
+          (told.0, subst (λ (s : State). AreSameMembers s (state_of model longer) y.group) there (subst (λ (s : State). AreSameMembers (state_in e) s y.group) there_after told.1)))
+
+      by : (free : Bool) → is_open after x.group ≡ free → IsUnchanged model on (state_of model longer) x.group (lines model longer (suc n) x.group)
+      by true free = rest t x live off (ap₂ (λ a b. a || not b) out free)
+      by false stuck =
+          subst (λ (s : State). IsUnchanged model on s x.group (lines model longer (suc n) x.group)) there_after
+          (held_goes_on model (state_in after) on x.group (lines model longer (suc n) x.group) (blame_of after x.group)
+          (held t x (ap (λ (s : State). s.tasks t) there_after ∙ live) (ap (λ (s : State). nat_eq x.level s.target) there_after ∙ off)) stuck)
 
   -- and one that it uses, which is the last one from then on
   scan_unchanged : (used : CheckKind) → used_scan model event ≡ Some used → (on : CheckKind) → after.last_scan.kind ≡ Some on → AreUnchanged model (state_of model longer) (lines model longer (suc n)) on (has after.last_scan.changed)

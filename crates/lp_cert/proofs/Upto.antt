@@ -5,7 +5,7 @@ use Rattle.lp_model.specs.Rules.{Rules}
 use Rattle.lp_definitions.specs.Leg.{Leg, State}
 use Rattle.lp_definitions.specs.Run.{Run, first_leg, leg_of}
 use Rattle.lp_machine.specs.Steps.{StandsIn}
-use Rattle.lp_machine.specs.Table.{Engine, LastScan, state_in}
+use Rattle.lp_machine.specs.Table.{Engine, state_in}
 use Rattle.lp_definitions.specs.declared.cert.Claim.TheVariants.{Waiting}
 use Rattle.lp_definitions.specs.Ends.{LegEnd, end_of}
 use Rattle.lp_cert.specs.declared.open_leg.Completion.{Completion}
@@ -54,5 +54,5 @@ module _ (model : Rules) where
       ∙ (current_same e.number (leg_of model run) last (ended_legs model (first_leg model run) run.events) ∙ sym is.current))
 
   -- what is made of a run stands as after the run's events
-  pub upto_now : (run : Run) (e : Engine) (last_scan : LastScan) (made : Made) → StandsIn model run (state_in e) → IsMadeWith model run last_scan made → IsMadeWith model run last_scan (made_upto e.number made)
-  upto_now run e last_scan made stands is = subst (IsMadeWith model run last_scan) (sym (same run e made stands is.of_run)) is
+  pub upto_now : (run : Run) (e : Engine) (made : Made) → StandsIn model run (state_in e) → IsMadeWith model run e made → IsMadeWith model run e (made_upto e.number made)
+  upto_now run e made stands is = subst (IsMadeWith model run e) (sym (same run e made stands is.of_run)) is

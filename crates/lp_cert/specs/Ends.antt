@@ -6,13 +6,13 @@ use Rattle.lp_model.specs.Rules.{Rules}
 use Rattle.lp_definitions.specs.declared.event.Event.{Event}
 use Rattle.lp_definitions.specs.declared.reply.What.{What}
 use Rattle.lp_definitions.specs.Events.{is_control}
-use Rattle.lp_transition.specs.Weigh.{Weighed, refusal_in}
+use Rattle.lp_transition.specs.Weigh.{Weighed, HasBlamesAfter, refusal_in}
 use Rattle.lp_definitions.specs.Leg.{Leg}
 use Rattle.lp_definitions.specs.Run.{Run, plus, first_leg, leg_of, opens, next_leg}
 use Rattle.lp_definitions.specs.Schedule.{waits, first_check}
 use Rattle.lp_machine.specs.Machine.{state_of}
 use Rattle.lp_machine.specs.Steps.{StandsIn}
-use Rattle.lp_machine.specs.Table.{Engine, LastScan, state_in}
+use Rattle.lp_machine.specs.Table.{Engine, state_in}
 use Rattle.lp_transition.specs.LastScan.{IsLastScanAfter}
 use Rattle.lp_definitions.specs.declared.cert.Claim.TheVariants.{Floor}
 use Rattle.lp_definitions.specs.declared.cert.Cert.{Cert}
@@ -21,7 +21,7 @@ use Rattle.lp_definitions.specs.Ends.{LegEnd, end_of}
 use Rattle.lp_cert.specs.declared.leg_end.LegEndRef.{LegEndRef}
 use Rattle.lp_cert.specs.declared.leg_list.LegEnds.{LegEnds}
 use Rattle.lp_definitions.specs.Certificates.{lines, opened_legs}
-use Rattle.lp_cert.specs.Unchanged.{AreUnchangedBy}
+use Rattle.lp_cert.specs.Unchanged.{AreUnchangedBy, AreHeld}
 
 -- an event of which this is told opens a leg: it is a control event, and was accepted
 abbrev pub is_opened : Event → What → Bool
@@ -31,14 +31,15 @@ is_opened event what = is_control event && is_none (refusal_in what)
 abbrev pub is_opening : Weighed → Bool
 is_opening step = is_opened step.event step.reply.what
 
--- room for an event that may open a leg
+-- room for an event that may open a leg, answered by so many verdicts
 pub record Room : Type 0 where
   pub event : Event
   pub opens : Bool
+  pub verdicts : ℕ
 
 -- the room that an event needs
 abbrev pub room_for : Weighed → Room
-room_for step = record { event = step.event; opens = is_opening step }
+room_for step = record { event = step.event; opens = is_opening step; verdicts = length step.verdicts }
 
 -- the ends of the legs that ended, the end of the leg under way as it stands, and the event for which there is room
 pub record Made : Type 0 where
@@ -115,21 +116,23 @@ module _ (model : Rules) where
     pub ended : made.ended ≡ map (end_of model) (drop 1 (ended_legs (first_leg model run) run.events))
     pub current : made.current ≡ option_map (end_of model) (under_way (ended_legs (first_leg model run) run.events) (leg_of model run))
 
-  -- and the groups are unchanged to which, as the engine knows it, nothing happened since the last scan
-  pub record IsMadeWith (run : Run) (last_scan : LastScan) (made : Made) : Type 0 where
+  -- and the engine knows of each group that waits how its newest line goes on: the frame that holds it back is its standing blame, and the
+  -- group is unchanged where, as the engine knows it, nothing happened to it since the last scan
+  pub record IsMadeWith (run : Run) (e : Engine) (made : Made) : Type 0 where
     pub of_run : IsMadeOf run made
     pub open of_run use {ended, current}
     pub unchanged :
         AreUnchangedBy model (state_of model (leg_of model run)) (lines model (leg_of model run) (length (leg_of model run).events))
-        last_scan
+        e.last_scan
+    pub held : AreHeld (state_of model (leg_of model run)) (lines model (leg_of model run) (length (leg_of model run).events)) e
 
   -- what is made follows an event: if it was that of a run that stood in one engine, it is that of the run with the event in
   -- each engine that the event can leave
   abbrev pub IsMadeFurther : (old : Engine) → Event → (before after : Made) → Type 0
   IsMadeFurther old event before after =
-      (run : Run) (new : Engine) → StandsIn model run (state_in old) → IsMadeWith run old.last_scan before →
-      StandsIn model (plus run event) (state_in new) → IsLastScanAfter model old event new →
-      IsMadeWith (plus run event) new.last_scan after
+      (run : Run) (new : Engine) → StandsIn model run (state_in old) → IsMadeWith run old before →
+      StandsIn model (plus run event) (state_in new) → HasBlamesAfter model old event new → IsLastScanAfter model old event new →
+      IsMadeWith (plus run event) new after
 
   -- ---- The leg under way
 

@@ -21,4 +21,4 @@ module _ (model : Rules) where
   -- the engine stands where the run stands, and what is made is that of the run
   pub record IsExplained (run : Run) (explained : Explained) : Type 0 where
     pub stands : StandsIn model run (state_in explained.core)
-    pub made : IsMadeWith model run explained.core.last_scan (made_in explained)
+    pub made : IsMadeWith model run explained.core (made_in explained)

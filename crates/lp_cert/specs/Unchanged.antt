@@ -1,13 +1,15 @@
--- Groups that a scan needn't look at again: their newest line goes on once more when it refuses them.
-use Rattle.std.specs.Prelude.{◌≡◌, ℕ, Bool, true, false, List, ◌∷◌, Option, Some, None, nat_eq}
+-- What the engine knows of a group's newest line: whether it goes on once more when a scan refuses the group, and the frame that holds
+-- the group back.
+use Rattle.std.specs.Prelude.{◌≡◌, ◌≤◌, ℕ, Bool, true, false, List, ◌∷◌, Option, Some, None, nat_eq}
 use Rattle.lp_numbers.specs.Numbers.{has}
 use Rattle.lp_model.specs.declared.check.CheckKind.{CheckKind}
 use Rattle.lp_model.specs.declared.check.Blame.TheVariants as blame
 use Rattle.lp_model.specs.Rules.{Rules}
 use Rattle.lp_definitions.specs.Tasks.{Live}
 use Rattle.lp_definitions.specs.Leg.{LegTask, State}
-use Rattle.lp_machine.specs.Table.{LastScan}
-use Rattle.lp_transition.specs.Blames.{has_frame_in, first_blamed_in}
+use Rattle.lp_machine.specs.declared.standing_blame.StandingBlame.{StandingBlame}
+use Rattle.lp_machine.specs.Table.{Engine, LastScan}
+use Rattle.lp_transition.specs.Blames.{blame_of, has_frame_in, first_blamed_in, while_there}
 use Rattle.lp_definitions.specs.declared.line.Line.{Line}
 use Rattle.lp_definitions.specs.declared.line.Line.TheVariants.{Hold, Busy}
 
@@ -32,3 +34,25 @@ AreUnchangedSince model s lines (Some kind) changed = AreUnchanged model s lines
 -- the waiting groups are unchanged to which nothing happened since the last scan
 abbrev pub AreUnchangedBy : Rules → State → (lines : ℕ → List Line) → LastScan → Type 0
 AreUnchangedBy model s lines last_scan = AreUnchangedSince model s lines last_scan.kind (has last_scan.changed)
+
+-- ---- Frames that hold groups back
+
+-- the frame for which the group waits by its newest line, if that is a hold
+abbrev pub hold_of : List Line → Option StandingBlame
+hold_of (Hold group task serial from to ∷ older) = Some (record { task = task; serial = serial })
+hold_of _ = None
+
+-- it came with one of so many events
+abbrev pub IsPast : (number : ℕ) → Option StandingBlame → Type 0
+IsPast number None = Unit {0}
+IsPast number (Some b) = b.serial ≤ number
+
+-- the standing blame of a group with these lines is the hold of the newest, while its frame is on its task's stack
+pub record IsHeldBy (s : State) (lines : List Line) (blame : Option StandingBlame) : Type 0 where
+  pub past : IsPast s.number (hold_of lines)
+  pub blamed : blame ≡ while_there s (hold_of lines)
+
+-- so it is of each group that waits
+abbrev pub AreHeld : State → (lines : ℕ → List Line) → Engine → Type 0
+AreHeld s lines e =
+    (t : ℕ) (x : LegTask) → s.tasks t ≡ Live x → nat_eq x.level s.target ≡ false → IsHeldBy s (lines x.group) (blame_of e x.group)

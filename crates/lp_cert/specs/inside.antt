@@ -8,6 +8,4 @@ pub mod Invariant
 pub mod Kept
 pub mod LegRows
 pub mod Parts
-pub mod ToldGroups
 pub mod Waiters
-pub mod WholeScans

@@ -5,7 +5,7 @@ ghost use Rattle.lp_definitions.specs.Events.{is_scan};
 ghost use Rattle.lp_definitions.specs.Run.{Run, plus};
 ghost use Rattle.lp_machine.specs.Steps.{IsStep, StandsIn};
 ghost use Rattle.lp_machine.specs.Table.{state_in};
-ghost use Rattle.lp_transition.specs.Blames.{HasBlamesAfter};
+ghost use Rattle.lp_transition.specs.Weigh.{HasBlamesAfter};
 ghost use Rattle.lp_transition.specs.Scan.{is_scan_kind, scan_event};
 ghost use Rattle.lp_cert.specs.Ends.{IsMadeWith, cert_upto, ends_left, floor_in, is_complete_in, waiting_in};
 ghost use Rattle.lp_cert.specs.Explained.{IsExplained};
@@ -156,7 +156,7 @@ fn take_scan<M: Consistency>(
     requires event { event ≡ scan_event kind }
     requires room { core.old.number < 1000000 }
     ensures step { IfOk result (λ reply. IsStep M.rules (state_in core.old) event reply (state_in core.new)) }
-    ensures made { OnOk result ((run : Run) → StandsIn M.rules run (state_in core.old) → IsMadeWith M.rules run core.old.last_scan maker.old → IsMadeWith M.rules (plus run event) core.new.last_scan maker.new) }
+    ensures made { OnOk result ((run : Run) → StandsIn M.rules run (state_in core.old) → IsMadeWith M.rules run core.old maker.old → IsMadeWith M.rules (plus run event) core.new maker.new) }
     ensures blames { OnOk result (HasBlamesAfter M.rules core.old event core.new) }
     ensures unchanged { OnErr result (core.new ≡ core.old) }
     ensures ended { OnErr result (maker.new.ended ≡ maker.old.ended) }
@@ -180,7 +180,7 @@ fn take_weighed<M: Consistency>(
     requires scan { is_scan event ≡ true }
     requires room { core.old.number < 1000000 }
     ensures step { IfOk result (λ reply. IsStep M.rules (state_in core.old) event reply (state_in core.new)) }
-    ensures made { OnOk result ((run : Run) → StandsIn M.rules run (state_in core.old) → IsMadeWith M.rules run core.old.last_scan maker.old → IsMadeWith M.rules (plus run event) core.new.last_scan maker.new) }
+    ensures made { OnOk result ((run : Run) → StandsIn M.rules run (state_in core.old) → IsMadeWith M.rules run core.old maker.old → IsMadeWith M.rules (plus run event) core.new maker.new) }
     ensures blames { OnOk result (HasBlamesAfter M.rules core.old event core.new) }
     ensures unchanged { OnErr result (core.new ≡ core.old) }
     ensures ended { OnErr result (maker.new.ended ≡ maker.old.ended) }
@@ -191,8 +191,11 @@ fn take_weighed<M: Consistency>(
         Err(Halt::NoMemory) => return Err(AllocError),
         Err(Halt::JournalFull) => unreachable!(),
     };
-    match maker.note_scan(alloc, core, &step) {
-        Ok(()) => Ok(core.take(step)),
+    match maker.ready(alloc, core, &step) {
+        Ok(()) => {
+            maker.note(core, &step);
+            Ok(core.take(step))
+        }
         Err(error) => {
             drop(step);
             Err(error)
@@ -212,7 +215,7 @@ fn take_other<M: Consistency>(
     requires plain { is_scan event ≡ false }
     requires room { core.old.number < 1000000 }
     ensures step { IfOk result (λ reply. IsStep M.rules (state_in core.old) event reply (state_in core.new)) }
-    ensures made { OnOk result ((run : Run) → StandsIn M.rules run (state_in core.old) → IsMadeWith M.rules run core.old.last_scan maker.old → IsMadeWith M.rules (plus run event) core.new.last_scan maker.new) }
+    ensures made { OnOk result ((run : Run) → StandsIn M.rules run (state_in core.old) → IsMadeWith M.rules run core.old maker.old → IsMadeWith M.rules (plus run event) core.new maker.new) }
     ensures blames { OnOk result (HasBlamesAfter M.rules core.old event core.new) }
     ensures unchanged { OnErr result (core.new ≡ core.old) }
     ensures ended { OnErr result (maker.new.ended ≡ maker.old.ended) }

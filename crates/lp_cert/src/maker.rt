@@ -1,6 +1,5 @@
 //! The maker of certificates.
 ghost use Rattle.std.specs.Prelude.{◌≡◌, suc, ◌<◌, [], ◌∷◌, ◌++◌, true, false, Some, None, IsTrue, ◌≤◌, length, option_to_list, is_some, IfOk, IfSome, OnErr, OnOk};
-ghost use Rattle.lp_definitions.specs.Events.{is_scan};
 ghost use Rattle.lp_definitions.specs.Run.{new_target};
 ghost use Rattle.lp_definitions.specs.declared.event.Event.{Event};
 ghost use Rattle.lp_machine.specs.Table.{state_in};
@@ -8,9 +7,8 @@ ghost use Rattle.lp_transition.specs.LastScan.{used_scan};
 ghost use Rattle.lp_transition.specs.Weigh.{IsWeighed};
 ghost use Rattle.lp_cert.specs.Ends.{IsFresh, IsMadeFurther, ends_left, floor_in, is_complete_in, is_opening, room_for, waiting_in};
 ghost use Rattle.lp_cert.specs.Invariant.{open_end};
-ghost use Rattle.lp_cert.specs.inside.Invariant.{HasFloor, IsNoted, leg_at, waiting_cert};
+ghost use Rattle.lp_cert.specs.inside.Invariant.{HasFloor, IsStepped, leg_at, waiting_cert};
 ghost use Rattle.lp_cert.specs.inside.LegRows.{HasRoom};
-ghost use Rattle.lp_cert.specs.inside.ToldGroups.{Tells};
 ghost use Rattle.lp_cert.specs.inside.OwnEffects.{HasOwnRoom};
 ghost use Rattle.lp_cert.specs.inside.Waiters.{lines_at};
 ghost use Rattle.std.specs.Option.{option_map};
@@ -28,7 +26,6 @@ use crate::opening::opens_leg;
 use crate::waiters::{OWN_REASONS, Waiters};
 use lp_definitions::{Cert, Claim};
 use lp_model::{CheckKind, Consistency};
-use lp_numbers::NUMBERS;
 use lp_stack::GroupId;
 use lp_transition::{Core, Event, Step};
 use std::alloc::{AllocError, Global};
@@ -41,6 +38,8 @@ pub(crate) struct Ready {
     pub(crate) event: Event,
     /// Whether it opens a leg.
     pub(crate) opens: bool,
+    /// How many verdicts it was answered by.
+    pub(crate) verdicts: usize,
 }
 
 /// Makes the certificates of a run, event by event: why each group still waits, and why no leg was
@@ -115,16 +114,13 @@ impl Maker {
         ensures ready { OnOk result (self.new.ready ≡ Some (room_for step.now)) }
     {
         self.ready = None;
-        let more = if step.event().is_scan() {
-            NUMBERS
-        } else {
-            OWN_REASONS
-        };
-        self.waiters.reserve(more)?;
+        let verdicts = step.verdicts().len();
+        self.waiters.reserve(verdicts.max(OWN_REASONS))?;
         let opens = opens_leg(step.event(), &step.reply().what);
         let ready = Ready {
             event: step.event(),
             opens,
+            verdicts,
         };
         if opens {
             self.closing = self.current(alloc)?;
@@ -136,9 +132,8 @@ impl Maker {
         Ok(())
     }
 
-    /// Notes an event that was weighed on the engine, before the engine takes it, however it was weighed. Of a scan it isn't
-    /// known whether its verdicts leave out a group to which something happened since the last one, so each live task is
-    /// looked at here once more. Never allocates.
+    /// Notes an event that was weighed on the engine, before the engine takes it, however it was weighed: of a group that a scan
+    /// leaves out the newest line goes on. Never allocates.
     pub fn note<M: Consistency>(&mut self, core: &Core<M>, step: &Step)
         requires weighed { IsWeighed M.rules core.now step.now }
         requires ready { self.old.ready ≡ Some (room_for step.now) }
@@ -160,31 +155,6 @@ impl Maker {
         self.waiters.open(core, next.target);
         push_end(&mut self.ended, self.closing.take());
         self.current = Some(next);
-    }
-
-    /// Notes a scan that was weighed on the engine, before the engine takes it, if it is known to tell of each group that has
-    /// changed. AllocError where an allocation failed, and then the certificates are as they were.
-    pub(crate) fn note_scan<M: Consistency>(
-        &mut self,
-        alloc: Global,
-        core: &Core<M>,
-        step: &Step,
-    ) -> Result<(), AllocError>
-        requires weighed { IsWeighed M.rules core.now step.now }
-        requires scan { is_scan step.now.event ≡ true }
-        requires tells { Tells M.rules core.now step.now }
-        ensures made { OnOk result (IsMadeFurther M.rules core.now step.now.event self.old self.new) }
-        ensures ended { self.new.ended ≡ self.old.ended }
-        ensures current { OnErr result (self.new.current ≡ self.old.current) }
-    {
-        self.ready = None;
-        self.waiters.reserve(step.verdicts().len())?;
-        self.noted = core.events() as u32 + 1;
-        let Some(leg) = &mut self.current else {
-            return Ok(());
-        };
-        scan_leg(core, step, self.noted, leg, &mut self.waiters);
-        Ok(())
     }
 
     /// The certificate that a group waits in the leg under way, if it does; AllocError where an
@@ -283,7 +253,7 @@ impl Maker {
     }
 }
 
-/// The leg under way after an event that opens none, with a look at each task at a scan. Never allocates.
+/// The leg under way after an event that opens none. Never allocates.
 fn note_leg<M: Consistency>(
     core: &Core<M>,
     step: &Step,
@@ -295,46 +265,17 @@ fn note_leg<M: Consistency>(
     requires number { number ≡ suc core.now.number }
     requires floor { HasFloor waiters.old leg.old.completed }
     requires own_room { HasOwnRoom step.now.event waiters.old }
-    requires all_room { is_scan step.now.event ≡ true → 65536 ≤ waiters.old.reasons.room }
+    requires room { length step.now.verdicts ≤ waiters.old.reasons.room }
     requires scan_room { 0 < waiters.old.reasons.scan_room }
-    ensures noted { IsNoted M.rules core.now step.now number leg.old leg.new waiters.old waiters.new }
+    ensures stepped { IsStepped M.rules core.now step.now number leg.old leg.new waiters.old waiters.new }
     ensures floor { HasFloor waiters.new leg.new.completed }
 {
-    let Some(kind) = used_scan(&core.model(), step.event()) else {
+    if used_scan(&core.model(), step.event()).is_none() {
         let effect = waiters.own_effect(core, step.event());
         affect_leg(number, step.reply(), leg, waiters, &effect);
         return;
-    };
-    if leg.is_over(number, step.reply(), waiters) {
-        return;
     }
-    waiters.scan_all(core, kind, number);
-    waiters.switch(&step.reply().what);
-}
-
-/// The leg under way after a scan that is known to tell of each group that has changed. Never allocates.
-fn scan_leg<M: Consistency>(
-    core: &Core<M>,
-    step: &Step,
-    number: u32,
-    leg: &mut OpenLeg,
-    waiters: &mut Waiters,
-)
-    requires weighed { IsWeighed M.rules core.now step.now }
-    requires scan { is_scan step.now.event ≡ true }
-    requires tells { Tells M.rules core.now step.now }
-    requires number { number ≡ suc core.now.number }
-    requires floor { HasFloor waiters.old leg.old.completed }
-    requires room { length step.now.verdicts ≤ waiters.old.reasons.room }
-    requires scan_room { 0 < waiters.old.reasons.scan_room }
-    ensures noted { IsNoted M.rules core.now step.now number leg.old leg.new waiters.old waiters.new }
-    ensures floor { HasFloor waiters.new leg.new.completed }
-{
     if leg.is_over(number, step.reply(), waiters) {
-        return;
-    }
-    if used_scan(&core.model(), step.event()).is_none() {
-        waiters.switch(&step.reply().what);
         return;
     }
     waiters.scan(core, number, step.verdicts());

@@ -2,32 +2,30 @@
 ghost use Rattle.std.specs.Prelude.{◌≡◌, ◌≢◌, Bool, ◌+◌, ◌<◌, ◌≤◌, ◌↔◌, ℕ, List, [], ◌∷◌, ◌++◌, true, false, Some, None, length, map, reverse, slice_set, IfOk, IfSome, IsTrue, OnOk, if◌then◌else◌, nat_eq};
 ghost use Rattle.std.specs.List.{AllByRecursion, list_any};
 ghost use Rattle.std.specs.Option.{option_map};
-ghost use Rattle.lp_cert.specs.inside.WholeScans.{count_below};
 ghost use Rattle.lp_numbers.specs.Numbers.{has, IsEmpty, IsNextFrom};
 ghost use Rattle.lp_definitions.specs.Events.{group_numbers, is_scan};
 ghost use Rattle.lp_definitions.specs.Leg.{State};
 ghost use Rattle.lp_definitions.specs.Sound.{IsSound};
 ghost use Rattle.lp_tasks.specs.Passing.{passing};
+ghost use Rattle.lp_transition.specs.Blames.{has_frame_in};
 ghost use Rattle.lp_transition.specs.Scan.{first_refused};
 ghost use Rattle.lp_machine.specs.Table.{slot, state_in};
 ghost use Rattle.lp_tasks.specs.inside.Table.{is_in};
 ghost use Rattle.lp_definitions.specs.Certificates.{after_refusal, group_id};
 ghost use Rattle.lp_transition.specs.inside.ScanSteps.{groups_of};
-ghost use Rattle.lp_cert.specs.inside.Heads.{HasFrameAs, IsUsed};
+ghost use Rattle.lp_cert.specs.inside.Heads.{HasFrameAs, IsUsed, is_held};
 ghost use Rattle.lp_cert.specs.Heads.{head_lines};
 ghost use Rattle.lp_cert.specs.Invariant.{floor_waiters};
 ghost use Rattle.lp_cert.specs.Waiters.{head_of, waiter_in, waiters_of};
 ghost use Rattle.lp_cert.specs.inside.Waiters.{AreBare, IsLonger, AreHeads, AreStanding, StandsAt, IsJudged, AreJudged, IsUsedVerdict, is_left, after_birth, after_switch, has_off, lines_at, scanned_lines, AreTakenIn, IsTakenIn};
 
-mod held;
 mod own_effect;
-mod whole;
 
-use self::held::is_held;
 pub(crate) use self::own_effect::{OWN_REASONS, OwnEffect};
 use crate::cert_lines::CertLines;
 use crate::chains::Chains;
 use crate::head::{OwnFork, Refused, Waiter};
+use crate::ongoing::Ongoing;
 use crate::reasons::Reasons;
 use lp_model::{Consistency, Verdict};
 use lp_numbers::NumberSet;
@@ -307,9 +305,8 @@ fn judge<M: Consistency>(
 )
     requires stand { (group : ℕ) → is_left waiting.now refused.old group ≡ true → StandsAt (length reasons.old.scans) reasons.old group }
     requires used { IsUsedVerdict verdict.now }
-    requires room { (group : ℕ) → group < 65536 → is_left waiting.now refused.old group ≡ true → 0 < reasons.old.room }
-    ensures spent { reasons.old.room + count_below (is_left waiting.now refused.new) 65536 ≤ reasons.new.room + count_below (is_left waiting.now refused.old) 65536 }
-    ensures judged { IsJudged (state_in core.now) at verdict.now (is_left waiting.now refused.old) (is_left waiting.now refused.new) reasons.old reasons.new }
+    requires room { 0 < reasons.old.room }
+    ensures { IsJudged (state_in core.now) at verdict.now (is_left waiting.now refused.old) (is_left waiting.now refused.new) reasons.old reasons.new }
 {
     let Some(blame) = verdict.blame else {
         return;
@@ -328,6 +325,16 @@ fn judge<M: Consistency>(
     };
     reasons.refuse(group, &refusal);
     refused.insert(group.0);
+}
+
+/// Whether a reason is a hold whose frame is still on its task's stack.
+fn is_held<M: Consistency>(core: &Core<M>, ongoing: Ongoing) -> bool
+    ensures { result ≡ is_held (has_frame_in (state_in core.now)) ongoing }
+{
+    match ongoing {
+        Ongoing::Hold { task, serial, .. } => core.has_frame(task, serial),
+        _ => false,
+    }
 }
 
 /// Whether a group waits and the scan hasn't refused it so far.

@@ -19,7 +19,7 @@ use Rattle.lp_definitions.specs.Sound.{IsSound}
 use Rattle.lp_machine.specs.Machine.{view_of, refusal_of, affected, own_effect}
 use Rattle.lp_machine.specs.Table.{slot, leg_tasks, fate_at, Engine, state_in}
 use Rattle.lp_transition.specs.Scan.{verdicts_of, AreEnough, member_verdict, first_refused}
-use Rattle.lp_transition.specs.Blames.{frame_blame, while_there, or_blame, has_frame_in}
+use Rattle.lp_transition.specs.Blames.{frame_blame, refused_first, while_there, or_blame, has_frame_in}
 use Rattle.lp_tasks.specs.inside.Table.{is_in}
 use Rattle.lp_transition.specs.inside.Blames.{found_by, IsBlamed, blame_at, AreBlamed}
 use Rattle.lp_transition.proofs.ScanLists.{verdict-is}
@@ -151,6 +151,13 @@ module _ (model : Rules) (lawful : IsLawful model) (e : Engine) where
   accepts event.Disable scan = absurd (cc)
   accepts event.Reverse scan = absurd (cc)
 
+  -- whom it refuses first its verdicts tell
+  first_of_scan : (event : Event) → is_scan event ≡ true → (vs : List Verdict) (g : ℕ) → refused_first model (state_in e) event vs g ≡ first_refused (state_in e) g vs
+  first_of_scan (event.Resched t) scan vs g = absurd (cc)
+  first_of_scan event.Walk scan vs g = refl
+  first_of_scan event.Stop scan vs g = refl
+  first_of_scan _ scan vs g = absurd (cc)
+
   scan-plain : (event : Event) → is_scan event ≡ true → is_control event ≡ false
   scan-plain event.Walk scan = refl
   scan-plain event.Stop scan = refl
@@ -209,7 +216,10 @@ pub leaves_scanned : (model : Rules) (lawful : IsLawful model) (e old new : Engi
 leaves_scanned model lawful e old new waiting left_waiting step was kept blamed taken weighed scan noted small =
     leaves model lawful e old new step.event was taken.kept.sound taken.state accepted (scan-plain model lawful e step.event scan) step.verdicts
     (λ g b at. right g b (blame_at e.blames g) refl (sym (now g (small g b at)) ∙ at))
-    (λ g within. now g within ∙ ap (λ o. or_blame o (found g)) (all_there g (blame_at e.blames g) refl))
+    (λ g within.
+    now g within
+    ∙ ap (λ o. or_blame o (found g)) (all_there g (blame_at e.blames g) refl)
+    ∙ ap (λ o. or_blame (while_there (affected model (state_in e) step.event) (blame_at e.blames g)) (frame_blame o)) (sym (first_of_scan model lawful e step.event scan step.verdicts g)))
   where
     here : IsWeighed model e step
     here = subst (λ (o : Engine). IsWeighed model o step) (sym was) weighed

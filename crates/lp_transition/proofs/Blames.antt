@@ -1,6 +1,6 @@
 -- A standing blame stays right at each event, and refuses its group at each check.
 use Rattle.std.proofs.Common.{◌≡◌, ◌⊎◌, ℕ, suc, ◌<◌, ◌≤◌, Bool, true, false, not, ◌&&◌, ◌||◌, List, [], length, pred, take, get_or, Contains, Option, Some, None, is_some, is_none, if◌then◌else◌, nat_eq, refl, sym, ap, subst, ◌∙◌, ⊎_elim, inl, inr, arith}
-use Rattle.std.proofs.lemmas.Bool.{false≢true, cond-true, cond-false, cases_Bool, cases_order, and_parts, or_cases, eqb-true, eq-eqb, not-true, false_from_ne_true}
+use Rattle.std.proofs.lemmas.Bool.{false≢true, cond-true, cond-false, cases_Bool, cases_order, and_parts, and_from, not_from_false, or_cases, eqb-true, eq-eqb, not-true, false_from_ne_true}
 use Rattle.std.proofs.lemmas.List.{get_or_default}
 use Rattle.std.proofs.lemmas.List.Folds.{Any-from_list_any, list_any_at}
 use Rattle.std.specs.List.{list_any}
@@ -24,15 +24,15 @@ use Rattle.lp_definitions.specs.Leg.{LegTask, State, check_by, if_used}
 use Rattle.lp_definitions.specs.Sound.{IsSound}
 use Rattle.lp_machine.specs.Machine.{view_of, outlines_of, waits_in, admits_all, switches_at, own_effect, affected, returning, switched_task, with_switches, counted, refusal_of, next}
 use Rattle.lp_machine.specs.Table.{Table, Engine, slot, leg_tasks, state_in}
-use Rattle.lp_transition.specs.Scan.{RefusesMember, MayLeaveOut, first_refused}
-use Rattle.lp_transition.specs.Blames.{blame_of, is_open, has_frame_in, while_there, or_blame, frame_blame, blame_by, AreBlamesAfter}
+use Rattle.lp_transition.specs.Scan.{RefusesMember, MayLeaveOut}
+use Rattle.lp_transition.specs.Blames.{blame_of, is_open, has_frame_in, while_there, or_blame, frame_blame, refused_first, blame_by, AreBlamesAfter, AreOfWaiting}
 use Rattle.lp_transition.specs.inside.Blames.{blame_at, frame_there, looked_at, IsBlamed, AreBlamed}
 use Rattle.lp_tasks.specs.inside.Table.{is_in, is_off, changed}
 use Rattle.lp_transition.specs.inside.Invariant.{IsEngine}
 use Rattle.lp_machine.proofs.Accept.{fork-new, die-empty}
 use Rattle.std.proofs.lemmas.List.Elements.{All-take, All-contains, All-contains_itself}
 use Rattle.lp_machine.proofs.EngineLemmas.{next-refused, next-accepted}
-use Rattle.lp_definitions.proofs.Quantifiers.{each_live-at}
+use Rattle.lp_definitions.proofs.Quantifiers.{each_live-at, some_live-from}
 use Rattle.lp_transition.proofs.Unchanged.{switched_not, touches, own_same}
 use Rattle.lp_transition.proofs.Effects.{HasTaken}
 use Rattle.lp_tasks.proofs.TableLemmas.{slot_from_live, slot-changed}
@@ -223,7 +223,7 @@ module _ (model : Rules) (lawful : IsLawful model) (e old new : Engine) (event :
       blamed = λ g b at. absurd (none_some b (sym (none g) ∙ at));
       after = λ g within.
           none g
-          ∙ (sym (cond-true (is_control event) None (or_blame (while_there (affected model (state_in old) event) (blame_of old g)) (frame_blame (first_refused (state_in old) g []))) control)
+          ∙ (sym (cond-true (is_control event) None (or_blame (while_there (affected model (state_in old) event) (blame_of old g)) (frame_blame (refused_first model (state_in old) event [] g))) control)
           ∙ ap (blame_by model old event [] g) (sym accepted));
     }
       where
@@ -236,21 +236,38 @@ module _ (model : Rules) (lawful : IsLawful model) (e old new : Engine) (event :
 
       -- each blame that is kept or found is right after the event's own effect, and so afterwards
       pub leaves : (verdicts : List Verdict) → ((g : ℕ) (b : StandingBlame) → blame_at new.blames g ≡ Some b → IsBlamed model (affected model (state_in e) event) g b)
-          → ((g : ℕ) → g < 65536 → blame_of new g ≡ or_blame (while_there (affected model (state_in e) event) (blame_of e g)) (frame_blame (first_refused (state_in e) g verdicts)))
+          → ((g : ℕ) → g < 65536 → blame_of new g ≡ or_blame (while_there (affected model (state_in e) event) (blame_of e g)) (frame_blame (refused_first model (state_in e) event verdicts g)))
           → Leaves model old event verdicts new
       leaves verdicts right is = record {
         blamed = λ g b at. subst (λ (st : State). IsBlamed model st g b) (sym switched) (through model lawful (state_in e) event g b (subst IsSound switched sound) (right g b at));
         after = λ g within.
             is g within
-            ∙ (ap (λ (o : Engine). or_blame (while_there (affected model (state_in o) event) (blame_of o g)) (frame_blame (first_refused (state_in o) g verdicts))) was
-            ∙ (sym (cond-false (is_control event) None (or_blame (while_there (affected model (state_in old) event) (blame_of old g)) (frame_blame (first_refused (state_in old) g verdicts))) plain)
+            ∙ (ap (λ (o : Engine). or_blame (while_there (affected model (state_in o) event) (blame_of o g)) (frame_blame (refused_first model (state_in o) event verdicts g))) was
+            ∙ (sym (cond-false (is_control event) None (or_blame (while_there (affected model (state_in old) event) (blame_of old g)) (frame_blame (refused_first model (state_in old) event verdicts g))) plain)
             ∙ ap (blame_by model old event verdicts g) (sym accepted)));
       }
 
-      -- where all are kept
-      pub leaves_same : new.blames ≡ e.blames → ((g : ℕ) (b : StandingBlame) → blame_at e.blames g ≡ Some b → IsBlamed model (affected model (state_in e) event) g b) → Leaves model old event [] new
-      leaves_same same right =
-          leaves [] (λ g b at. right g b (ap (λ (bs : List (Option StandingBlame)). blame_at bs g) (sym same) ∙ at)) (λ g within. ap (λ (bs : List (Option StandingBlame)). blame_at bs g) same ∙ all_there g (blame_of e g) refl)
+      -- where all are kept, and some may be found
+      pub leaves_found : ((g : ℕ) (b : StandingBlame) → blame_at new.blames g ≡ Some b → g < 65536) → ((g : ℕ) → g < 65536 → blame_at new.blames g ≡ or_blame (blame_at e.blames g) (frame_blame (refused_first model (state_in e) event [] g)))
+          → ((g : ℕ) (b : StandingBlame) → frame_blame (refused_first model (state_in e) event [] g) ≡ Some b → IsBlamed model (affected model (state_in e) event) g b)
+          → ((g : ℕ) (b : StandingBlame) → blame_at e.blames g ≡ Some b → IsBlamed model (affected model (state_in e) event) g b) → Leaves model old event [] new
+      leaves_found small is finds right =
+          leaves [] (λ g b at. either g b (blame_at e.blames g) refl (sym (is g (small g b at)) ∙ at))
+          (λ g within. is g within ∙ ap (λ o. or_blame o (frame_blame (refused_first model (state_in e) event [] g))) (all_there g (blame_at e.blames g) refl))
+        where
+          all_there : (g : ℕ) (o : Option StandingBlame) → blame_of e g ≡ o → o ≡ while_there (affected model (state_in e) event) o
+          all_there g None is = refl
+          all_there g (Some b) is = sym (cond-true (has_frame_in (affected model (state_in e) event) b.task.0 b.serial) (Some b) None (blamed_there model (affected model (state_in e) event) g b (right g b is)))
+
+          either : (g : ℕ) (b : StandingBlame) (o : Option StandingBlame) → blame_at e.blames g ≡ o → or_blame o (frame_blame (refused_first model (state_in e) event [] g)) ≡ Some b → IsBlamed model (affected model (state_in e) event) g b
+          either g b None was at = finds g b at
+          either g b (Some c) was at = right g b (was ∙ at)
+
+      -- where all are kept, and none is found
+      pub leaves_same : new.blames ≡ e.blames → ((g : ℕ) → frame_blame (refused_first model (state_in e) event [] g) ≡ None) → ((g : ℕ) (b : StandingBlame) → blame_at e.blames g ≡ Some b → IsBlamed model (affected model (state_in e) event) g b) → Leaves model old event [] new
+      leaves_same same none right =
+          leaves [] (λ g b at. right g b (ap (λ (bs : List (Option StandingBlame)). blame_at bs g) (sym same) ∙ at))
+          (λ g within. ap (λ (bs : List (Option StandingBlame)). blame_at bs g) same ∙ all_there g (blame_of e g) refl ∙ sym (ap (or_blame (while_there (affected model (state_in e) event) (blame_of e g))) (none g)))
         where
           all_there : (g : ℕ) (o : Option StandingBlame) → blame_of e g ≡ o → o ≡ or_blame (while_there (affected model (state_in e) event) o) None
           all_there g None is = refl
@@ -289,16 +306,16 @@ module _ (model : Rules) (lawful : IsLawful model) (e old new : Engine) (waiting
 
     module _ (plain : is_control event ≡ false) where
       -- an event whose own effect is a change of a task, which keeps its level, its group and its frames
-      pub leaves_changed : new.blames ≡ e.blames → (a : ℕ) (f : LegTask → LegTask) → own_effect model.child_group (suc e.number) event (leg_tasks e.table) ≡ change a f (leg_tasks e.table) → ((x : LegTask) → (f x).level ≡ x.level) → ((x : LegTask) → (f x).group ≡ x.group)
+      pub leaves_changed : new.blames ≡ e.blames → ((g : ℕ) → frame_blame (refused_first model (state_in e) event [] g) ≡ None) → (a : ℕ) (f : LegTask → LegTask) → own_effect model.child_group (suc e.number) event (leg_tasks e.table) ≡ change a f (leg_tasks e.table) → ((x : LegTask) → (f x).level ≡ x.level) → ((x : LegTask) → (f x).group ≡ x.group)
           → ((x : LegTask) (frame : Frame) → Contains x.frames frame → Contains (f x).frames frame) → Leaves model old event [] new
-      leaves_changed same a f own levels groups frames =
-          leaves_same model lawful e old new event was taken.kept.sound taken.state accepted plain same
+      leaves_changed same none a f own levels groups frames =
+          leaves_same model lawful e old new event was taken.kept.sound taken.state accepted plain same none
           (λ g b at. let w = blamed g b at in moves model lawful (state_in e) g b w event a f own levels groups (λ _. frames w.life w.frame w.there))
 
       -- an event at which nothing happens to those who have a frame
-      pub leaves_apart : new.blames ≡ e.blames → ((t : ℕ) (x : LegTask) (frame : Frame) → slot e.table t ≡ Some x → Contains x.frames frame → touches event t ≡ false) → Leaves model old event [] new
-      leaves_apart same apart =
-          leaves_same model lawful e old new event was taken.kept.sound taken.state accepted plain same
+      pub leaves_apart : new.blames ≡ e.blames → ((g : ℕ) → frame_blame (refused_first model (state_in e) event [] g) ≡ None) → ((t : ℕ) (x : LegTask) (frame : Frame) → slot e.table t ≡ Some x → Contains x.frames frame → touches event t ≡ false) → Leaves model old event [] new
+      leaves_apart same none apart =
+          leaves_same model lawful e old new event was taken.kept.sound taken.state accepted plain same none
           (λ g b at.
           let w = blamed g b at in
           still model lawful (state_in e) g b w event (own_same model (state_in e) event event b.task.0 (apart b.task.0 w.life w.frame (slot_from_live e.table b.task.0 w.life w.live) w.there)))
@@ -426,6 +443,24 @@ leaves_returned model lawful e old new table waiting left_waiting a was kept bla
     right g c (Some b) h at = right_after model lawful e a waiting kept within g b c (blamed g b h) (sym (ap (while_there (affected model (state_in e) (Ret a))) h) ∙ at)
 
 -- ---- Who may be left out
+
+-- a group with a standing blame waits
+pub blamed_waits : (model : Rules) (e : Engine) → IsSound (state_in e) → AreBlamed model (state_in e) e.blames → AreOfWaiting e
+blamed_waits model e sound blamed g held = by (blame_of e g) refl
+  where
+    by : (o : Option StandingBlame) → blame_of e g ≡ o → waits_in (state_in e) g ≡ true
+    by None is = absurd (false≢true (sym held ∙ ap is_none is))
+    by (Some b) is =
+        let w = blamed g b is in
+        let range = sound.numbered b.task.0 w.life w.live in
+        some_live-from (state_in e).bounds (state_in e).tasks (λ t x. nat_eq x.group g && not (nat_eq x.level e.target)) (record {
+          task = b.task.0;
+          life = w.life;
+          positive = range.0;
+          within = range.1;
+          live = w.live;
+          passed = and_from (nat_eq w.life.group g) (not (nat_eq w.life.level e.target)) (eq-eqb w.life.group g w.grouped) (not_from_false (nat_eq w.life.level e.target) w.off);
+        })
 
 -- of each group with a standing blame a scan refuses a member
 pub blamed_out : (model : Rules) → IsLawful model → (e : Engine) (on : CheckKind) → IsSound (state_in e) → AreBlamed model (state_in e) e.blames → MayLeaveOut model on (state_in e) (is_open e)

@@ -14,6 +14,7 @@ use Rattle.lp_definitions.specs.Tasks.{Live, change}
 use Rattle.lp_definitions.specs.Leg.{LegTask, State}
 use Rattle.lp_machine.specs.Machine.{own_effect, switches_at, switched_task, refusal_of, affected, with_switches, next}
 use Rattle.lp_machine.specs.Table.{Engine, LastScan, leg_tasks, state_in}
+use Rattle.lp_transition.specs.Blames.{is_open}
 use Rattle.lp_transition.specs.Scan.{is_scan_kind, scan_event}
 use Rattle.lp_transition.specs.LastScan.{used_kind, used_scan, AreSameMembers, IsLastScanAfter}
 use Rattle.lp_transition.specs.inside.Invariant.{KeptScan, told_scan}
@@ -50,7 +51,7 @@ module _ (model : Rules) where
   own_check_unused kind.Stop t = refl
 
   -- the kind of a scan
-  scan_used : (on : CheckKind) → is_scan_kind on ≡ true → used_scan model (scan_event on) ≡ used_kind model on
+  pub scan_used : (on : CheckKind) → is_scan_kind on ≡ true → used_scan model (scan_event on) ≡ used_kind model on
   scan_used kind.Walk scan = refl
   scan_used kind.Stop scan = refl
   scan_used kind.KernelExit scan = absurd (cc)
@@ -81,7 +82,7 @@ grouped_still : (x : LegTask) (target : ℕ) (goes : Bool) → (if goes then rec
 grouped_still x target true = refl
 grouped_still x target false = refl
 
-module _ (model : Rules) (s : State) (event : Event) (before after : KeptScan) (takes : TakesIn model s event before after) (group : ℕ) (out : has after.changed group ≡ false) (stays : switches_at model (affected model s event) event group ≡ false) where
+module _ (model : Rules) (s : State) (event : Event) (opens : ℕ → Bool) (before after : KeptScan) (takes : TakesIn model s event opens before after) (group : ℕ) (free : opens group ≡ true) (out : has after.changed group ≡ false) (stays : switches_at model (affected model s event) event group ≡ false) where
   -- nothing happens to a task that is in it before or after the event's own effect
   apart_from : (t : ℕ) (x : LegTask) → x.group ≡ group → (touches event t ≡ true → has after.changed x.group ≡ true) → touches event t ≡ false
   apart_from t x grouped noted =
@@ -90,7 +91,7 @@ module _ (model : Rules) (s : State) (event : Event) (before after : KeptScan) (
   -- its members stay,
   stays_member : (t : ℕ) (x : LegTask) → x.group ≡ group → s.tasks t ≡ Live x → (with_switches model s event).tasks t ≡ Live x
   stays_member t x grouped live =
-      stands_still model s event t x (apart_from t x grouped (λ hit. takes.before t x hit live)) live
+      stands_still model s event t x (apart_from t x grouped (λ hit. takes.before t x hit live (ap opens grouped ∙ free))) live
       (ap (switches_at model (affected model s event) event) grouped ∙ stays)
 
   -- and nobody joins it
@@ -101,7 +102,7 @@ module _ (model : Rules) (s : State) (event : Event) (before after : KeptScan) (
       let grouped_then : w.0.group ≡ group = sym (grouped_still w.0 s.target (switches_at model now event w.0.group)) ∙ (ap (λ (y : LegTask). y.group) w.2 ∙ grouped) in
       let same : w.0 ≡ x = sym (switched_not model s event w.0 (ap (switches_at model now event) grouped_then ∙ stays)) ∙ w.2 in
       let there : now.tasks t ≡ Live x = w.1 ∙ ap Live same in
-      sym (own_same model s event event t (apart_from t x grouped (λ hit. takes.after t x hit there))) ∙ there
+      sym (own_same model s event event t (apart_from t x grouped (λ hit. takes.after t x hit there (ap opens grouped ∙ free)))) ∙ there
 
   same_members : AreSameMembers s (with_switches model s event) group
   same_members t x grouped = (stays_member t x grouped, was_member t x grouped)
@@ -115,7 +116,7 @@ last_forgotten model old event new none = record {
   fresh = λ on other used some. absurd (none_some other (sym none ∙ some));
   opening = λ control accepted. none;
   kind = λ unused on some. absurd (none_some on (sym none ∙ some));
-  others = λ unused on some t x live off out. absurd (none_some on (sym none ∙ some));
+  others = λ unused on some t x live off free out. absurd (none_some on (sym none ∙ some));
 }
 
 -- where nothing was forgotten, or all
@@ -150,14 +151,14 @@ module _ (model : Rules) (e old new : Engine) (left_waiting : Numbers) (event : 
         fresh = λ on other used some. absurd (none_some why (sym (used_free model (state_in old) event on used) ∙ refused));
         opening = λ control accepted. absurd (none_some why (sym accepted ∙ (ap (λ (o : Engine). refusal_of model (state_in o) event) was ∙ refused)));
         kind = λ unused. kept_kind (ap (λ (l : KeptScan). l.kind) same);
-        others = λ unused on some t x live off out. (
+        others = λ unused on some t x live off free out. (
           ap (λ (l : LastScan). has l.changed x.group) (told ∙ (ap told_scan (sym same) ∙ sym tells)) ∙ out,
           (λ u y grouped. ((λ before_it. ap (λ now. now u) tasks ∙ before_it), (λ after_it. sym (ap (λ now. now u) tasks) ∙ after_it))),
         );
       })
 
   -- an accepted event that is no scan of use, and whose task's group is noted
-  pub last_takes : refusal_of model (state_in old) event ≡ None → is_control event ≡ false → used_scan model event ≡ None → after.kind ≡ before.kind → (is_some before.kind ≡ true → TakesIn model (state_in e) event before after) → IsLastScanAfter model old event new
+  pub last_takes : refusal_of model (state_in old) event ≡ None → is_control event ≡ false → used_scan model event ≡ None → after.kind ≡ before.kind → (is_some before.kind ≡ true → TakesIn model (state_in e) event (is_open new) before after) → IsLastScanAfter model old event new
   last_takes accepted plain unused same takes =
       let switched = came ∙ next-accepted model (state_in e) event (ap (λ (o : Engine). refusal_of model (state_in o) event) was ∙ accepted) plain in
       of_old (record {
@@ -165,20 +166,20 @@ module _ (model : Rules) (e old new : Engine) (left_waiting : Numbers) (event : 
         fresh = λ on other used some. absurd (none_some on (sym unused ∙ used));
         opening = λ control free. absurd (false≢true (sym plain ∙ control));
         kind = λ none. kept_kind same;
-        others = λ none on some t x live off out.
+        others = λ none on some t x live off free out.
             let noted = takes (ap is_some (sym same ∙ kind_after on some)) in
             let out_now : has after.changed x.group ≡ false = ap (λ (l : LastScan). has l.changed x.group) (sym tells) ∙ out in
             let w = left model (state_in e) event t x (ap (λ (st : State). st.tasks t) (sym switched) ∙ live) (ap (λ (st : State). nat_eq x.level st.target) (sym switched) ∙ off) in (
               ap (λ (l : LastScan). has l.changed x.group) told ∙ noted.keeps x.group out_now,
-              subst (λ (st : State). AreSameMembers (state_in e) st x.group) (sym switched) (same_members model (state_in e) event before after noted x.group out_now w.1),
+              subst (λ (st : State). AreSameMembers (state_in e) st x.group) (sym switched) (same_members model (state_in e) event (is_open new) before after noted x.group free out_now w.1),
             );
       })
 
   -- after a change of a task
-  pub last_changes : (a : ℕ) (f : LegTask → LegTask) → refusal_of model (state_in old) event ≡ None → is_control event ≡ false → used_scan model event ≡ None → after.kind ≡ before.kind → Notes e.table a before after → ((t : ℕ) → touches event t ≡ nat_eq t a)
+  pub last_changes : (a : ℕ) (f : LegTask → LegTask) → refusal_of model (state_in old) event ≡ None → is_control event ≡ false → used_scan model event ≡ None → after.kind ≡ before.kind → Notes (is_open new) e.table a before after → ((t : ℕ) → touches event t ≡ nat_eq t a)
       → own_effect model.child_group (suc e.number) event (leg_tasks e.table) ≡ change a f (leg_tasks e.table) → ((x : LegTask) → (f x).group ≡ x.group) → IsLastScanAfter model old event new
   last_changes a f accepted plain unused same noted only own groups =
-      last_takes accepted plain unused same (changes_in model e event before after a f noted only own groups)
+      last_takes accepted plain unused same (changes_in model e event (is_open new) before after a f noted only own groups)
 
   -- a scan of a kind that the model uses
   pub last_noted : (on : CheckKind) → used_scan model event ≡ Some on → is_control event ≡ false → after.kind ≡ Some on → IsEmpty after.changed → IsLastScanAfter model old event new
@@ -203,7 +204,7 @@ module _ (model : Rules) (e old new : Engine) (left_waiting : Numbers) (event : 
       (λ (no : is_used ≡ false).
       let accepted : refusal_of model (state_in old) event ≡ None = ap (refusal_of model (state_in old)) (sym is) ∙ scan_free model (state_in old) on in
       last_takes accepted plain (kind_is ∙ cond-false (model.uses on) (Some on) None (sym uses ∙ no)) (ap (λ (l : KeptScan). l.kind) (kept no))
-      (λ some. stays_in model (state_in e) event before after (λ t. ap (λ given. touches given t) (sym is) ∙ scan_touches on t) (kept no)))
+      (λ some. stays_in model (state_in e) event (is_open new) before after (λ t. ap (λ given. touches given t) (sym is) ∙ scan_touches on t) (kept no)))
       (cases_Bool is_used)
 
 -- whether a scan was noted

@@ -29,6 +29,9 @@ pub mod LastScans
 pub mod BlameLists
 pub mod Blames
 pub mod BlamedScans
+pub mod OwnBlames
+pub mod OwnTakes
+pub mod Told
 pub mod QuietScans
 pub mod BootLemmas
 pub mod OpeningLemmas

@@ -1,11 +1,14 @@
 -- What a move of a task does.
-use Rattle.std.specs.Prelude.{◌≡◌, ℕ, true, nat_eq}
+use Rattle.std.specs.Prelude.{◌≡◌, ℕ, true, [], None, nat_eq}
 use Rattle.std.proofs.Common.{refl}
 use Rattle.lp_stack.specs.declared.number.TaskId.{TaskId}
 use Rattle.lp_definitions.specs.Tasks.{Grouping, Fate, change}
 use Rattle.lp_transition.specs.declared.engine.moves.Move.{Move}
 use Rattle.lp_transition.specs.declared.engine.moves.Move.TheVariants.{Sleep, Wake, Enter}
+use Rattle.lp_model.specs.Rules.{Rules}
 use Rattle.lp_definitions.specs.Leg.{LegTask}
+use Rattle.lp_machine.specs.Table.{Engine, state_in}
+use Rattle.lp_transition.specs.Blames.{refused_first, frame_blame}
 use Rattle.lp_machine.specs.Machine.{own_effect, put_in}
 use Rattle.lp_transition.specs.inside.Moves.{mode_after, move_event}
 use Rattle.lp_machine.proofs.EngineLemmas.{is_unchecked}
@@ -25,3 +28,9 @@ pub move_effect : (grouping : Grouping) (number : ℕ) (kind : Move) (t : TaskId
 move_effect grouping number Sleep t now = refl
 move_effect grouping number Wake t now = refl
 move_effect grouping number Enter t now = refl
+
+-- nobody is refused
+pub move_finds : (model : Rules) (e : Engine) (kind : Move) (t : TaskId) (group : ℕ) → frame_blame (refused_first model (state_in e) (move_event kind t) [] group) ≡ None
+move_finds model e Sleep t group = refl
+move_finds model e Wake t group = refl
+move_finds model e Enter t group = refl

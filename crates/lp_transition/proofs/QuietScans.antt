@@ -14,17 +14,18 @@ use Rattle.lp_definitions.specs.Events.{is_scan}
 use Rattle.lp_definitions.specs.Run.{switched}
 use Rattle.lp_definitions.specs.Sound.{IsSound}
 use Rattle.lp_machine.specs.Steps.{IsStep}
-use Rattle.lp_transition.specs.Blames.{or_blame, is_open, HasBlamesAfter}
-use Rattle.lp_transition.specs.Scan.{is_scan_kind, scan_event, verdicts_of, is_asked, verdicts_among, MayLeaveOut}
+use Rattle.lp_transition.specs.Blames.{or_blame}
+use Rattle.lp_transition.specs.Scan.{is_scan_kind, scan_event, verdicts_of, is_asked, verdicts_among}
 use Rattle.lp_tasks.specs.Passing.{passing}
-use Rattle.lp_transition.specs.LastScan.{IsLastScanAfter}
+use Rattle.lp_transition.specs.LastScan.{IsLastScanAfter, IsQuietScan}
 use Rattle.lp_machine.specs.Table.{Engine, LastScan, state_in}
-use Rattle.lp_transition.specs.Weigh.{Weighed, IsWeighed}
+use Rattle.lp_transition.specs.Weigh.{Weighed, IsWeighed, HasBlamesAfter}
 use Rattle.lp_transition.specs.inside.Blames.{blame_at}
 use Rattle.lp_transition.specs.inside.Invariant.{KeptScan, IsNoted, IsWhole, told_scan}
 use Rattle.lp_transition.specs.inside.ScanSteps.{is_judged, is_unrefused, switches_by, all_admit, tasks_of}
 use Rattle.lp_transition.proofs.AskedScans.{asked_none, among-enough, left-out, switches-among, completes-among}
-use Rattle.lp_transition.proofs.Blames.{Leaves, blamed_out}
+use Rattle.lp_transition.proofs.Blames.{Leaves}
+use Rattle.lp_transition.proofs.Told.{none_tells}
 use Rattle.lp_transition.proofs.BlamedScans.{leaves_scanned, blame_within}
 use Rattle.lp_transition.proofs.Effects.{HasTaken, with_table, with_scan}
 use Rattle.lp_machine_laws.proofs.Runs.{is_step}
@@ -41,14 +42,14 @@ quiet_step on = record { event = scan_event on; reply = record { what = Done; co
 
 -- ---- Its answer
 
-module _ (model : Rules) (lawful : IsLawful model) (on : CheckKind) (e : Engine) (sound : IsSound (state_in e)) (scan : is_scan_kind on ≡ true) (room : e.number < 1000000) (quiet : MayLeaveOut model on (state_in e) (λ group. false)) where
+module _ (model : Rules) (lawful : IsLawful model) (on : CheckKind) (e : Engine) (sound : IsSound (state_in e)) (scan : is_scan_kind on ≡ true) (room : e.number < 1000000) (quiet : IsQuietScan model e on) where
   -- nobody switches, and nothing completes
   quiet_reply : (record { what = Done; completed = false }) ≡ (let reply : Reply = record { what = switched (passing 0 65536 (switches_by e.table (verdicts_of model on (state_in e)))); completed = all_admit (verdicts_of model on (state_in e)) } in reply)
   quiet_reply =
       let s = state_in e in
       let none = asked_none model on s in
       let looked = is_asked s (λ group. false) in
-      let others = left-out model on s (λ group. false) quiet in
+      let others = left-out model on s (λ group. false) quiet.left_out in
       let switches = fun_ext (λ (group : ℕ). ap (λ (vs : List Verdict). switches_by e.table vs group) none ∙ switches-among model lawful on s sound looked others e.table (λ t x live. slot_from_live e.table t x live) group) in
       let tells : (false ≡ true) ↔ ((all_admit (verdicts_among model on s (λ group. false)) ≡ true) × (tasks_of (verdicts_among model on s (λ group. false)) ≡ tasks_of (verdicts_of model on s))) =
       ((λ no. absurd (false≢true no)), (λ both. absurd (false≢true (ap all_admit none ∙ both.0)))) in
@@ -60,7 +61,8 @@ module _ (model : Rules) (lawful : IsLawful model) (on : CheckKind) (e : Engine)
   quiet_weighed = record {
     room = room;
     reply = quiet_reply ∙ sym (answer-scan model lawful 65536 (state_in e) (omega arith) sound e.table (λ t x live. slot_from_live e.table t x live) on scan);
-    verdicts = verdicts-scan model (state_in e) on [] scan (among-enough model on (state_in e) (λ group. false) [] quiet (asked_none model on (state_in e)));
+    verdicts = verdicts-scan model (state_in e) on [] scan (among-enough model on (state_in e) (λ group. false) [] quiet.left_out (asked_none model on (state_in e)));
+    told = none_tells model e on scan quiet.last quiet.unchanged;
   }
 
 -- ---- The engine after it
@@ -90,7 +92,7 @@ noted_none on waiting last left before kind may_refuse fresh = record {
   left = λ t. ap (λ (set : Numbers). has set t) may_refuse ∙ kept_and (has last.may_refuse t);
 }
 
-module _ (model : Rules) (lawful : IsLawful model) (e old : Engine) (waiting : Numbers) (last left : KeptScan) (on : CheckKind) (was : e ≡ old) (whole : IsWhole model e waiting last) (scan : is_scan_kind on ≡ true) (room : old.number < 1000000) (quiet : MayLeaveOut model on (state_in old) (λ group. false)) where
+module _ (model : Rules) (lawful : IsLawful model) (e old : Engine) (waiting : Numbers) (last left : KeptScan) (on : CheckKind) (was : e ≡ old) (whole : IsWhole model e waiting last) (scan : is_scan_kind on ≡ true) (room : old.number < 1000000) (quiet : IsQuietScan model old on) where
   weighed : IsWeighed model old (quiet_step on)
   weighed = quiet_weighed model lawful on old (subst (λ (o : Engine). IsSound (state_in o)) was whole.engine.sound) scan room quiet
 
@@ -111,11 +113,11 @@ module _ (model : Rules) (lawful : IsLawful model) (e old : Engine) (waiting : N
   quiet_steps = is_step model lawful (state_in old) (state_in (record (with_table e.table e) { last_scan = told_scan left })) (scan_event on) (record { what = Done; completed = false }) weighed.reply taken.state
 
   pub quiet_blames : HasBlamesAfter model old (scan_event on) (record (with_table e.table e) { last_scan = told_scan left })
-  quiet_blames = record { verdicts = []; enough = weighed.verdicts; blames = leaves_blames.after }
+  quiet_blames = record { verdicts = []; enough = weighed.verdicts; told = weighed.told; blames = leaves_blames.after }
 
-  module _ (told : e.last_scan ≡ told_scan last) (same : old.last_scan.kind ≡ Some on) (kind : left.kind ≡ last.kind) (may_refuse : left.may_refuse ≡ last.may_refuse) (fresh : IsEmpty left.changed) where
+  module _ (told : e.last_scan ≡ told_scan last) (kind : left.kind ≡ last.kind) (may_refuse : left.may_refuse ≡ last.may_refuse) (fresh : IsEmpty left.changed) where
     noted : IsNoted on waiting [] last left
-    noted = noted_none on waiting last left (sym (ap (λ (l : LastScan). l.kind) told) ∙ (ap (λ (o : Engine). o.last_scan.kind) was ∙ same)) kind may_refuse fresh
+    noted = noted_none on waiting last left (sym (ap (λ (l : LastScan). l.kind) told) ∙ (ap (λ (o : Engine). o.last_scan.kind) was ∙ quiet.last)) kind may_refuse fresh
 
     -- the engine keeps what it has to: each group that waits is refused
     pub quiet_whole : IsWhole model (record (with_table e.table e) { last_scan = told_scan left }) waiting left
@@ -126,25 +128,8 @@ module _ (model : Rules) (lawful : IsLawful model) (e old : Engine) (waiting : N
     }
 
     -- and it tells of this scan
-    pub quiet_last : model.uses on ≡ true → IsLastScanAfter model old (scan_event on) (record (with_table e.table e) { last_scan = told_scan left })
-    quiet_last used =
-        last_scanned model e old (record (with_table e.table e) { last_scan = told_scan left }) waiting (scan_event on) last left was told refl taken on true scan refl (sym used)
+    pub quiet_last : IsLastScanAfter model old (scan_event on) (record (with_table e.table e) { last_scan = told_scan left })
+    quiet_last =
+        last_scanned model e old (record (with_table e.table e) { last_scan = told_scan left }) waiting (scan_event on) last left was told refl taken on true scan refl (sym quiet.used)
         (λ yes. (noted.noted, noted.fresh))
         (λ no. absurd (false≢true (sym no)))
-
--- ---- Whom it may leave out
-
--- where each group to which something happened since the last scan has a standing blame
-pub blamed_quiet : (model : Rules) → IsLawful model → (e old : Engine) (waiting : Numbers) (last : KeptScan) (on : CheckKind) (changed : Numbers) → e ≡ old → IsWhole model e waiting last
-    → MayLeaveOut model on (state_in old) (has changed) → ((group : ℕ) → group < 65536 → has changed group ≡ true → is_open old group ≡ false) → MayLeaveOut model on (state_in old) (λ group. false)
-blamed_quiet model lawful e old waiting last on changed was whole others blamed t x live off out =
-    ⊎_elim
-    (λ (touched : has changed x.group ≡ true). refused t x live off (blamed x.group few touched))
-    (λ (still_out : has changed x.group ≡ false). others t x live off still_out)
-    (cases_Bool (has changed x.group))
-  where
-    few : x.group < 65536
-    few = group_fits e t x whole.engine.sound whole.engine.wide (slot_from_live e.table t x (ap (λ (o : Engine). (state_in o).tasks t) was ∙ live))
-
-    refused : MayLeaveOut model on (state_in old) (is_open old)
-    refused = subst (λ (o : Engine). MayLeaveOut model on (state_in o) (is_open o)) was (blamed_out model lawful e on whole.engine.sound whole.blamed)

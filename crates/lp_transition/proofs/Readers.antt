@@ -38,7 +38,7 @@ module _ (model : Rules) (s : State) (event : Event) (serial : ℕ) where
   switched_fate (Live x) = switched_frames (switches_at model s event x.group) x
   switched_fate Dead = refl
 
-frames_stay : (model : Rules) (s : State) (event : Event) (t serial : ℕ) → has_frame_in (with_switches model s event) t serial ≡ has_frame_in (affected model s event) t serial
+pub frames_stay : (model : Rules) (s : State) (event : Event) (t serial : ℕ) → has_frame_in (with_switches model s event) t serial ≡ has_frame_in (affected model s event) t serial
 frames_stay model s event t serial = switched_fate model (affected model s event) event serial ((affected model s event).tasks t)
 
 -- ---- A leg

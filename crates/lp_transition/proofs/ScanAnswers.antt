@@ -20,7 +20,7 @@ use Rattle.lp_machine.specs.Machine.{switches_at, switched_groups, affected, ref
 use Rattle.lp_machine.specs.Table.{Table, Engine, slot, state_in}
 use Rattle.lp_tasks.specs.inside.Table.{is_in}
 use Rattle.lp_transition.specs.inside.Invariant.{IsEngine}
-use Rattle.lp_transition.specs.Weigh.{Weighed, IsWeighed, AreVerdictsFor}
+use Rattle.lp_transition.specs.Weigh.{Weighed, IsWeighed, AreVerdictsFor, Tells}
 use Rattle.lp_transition.specs.Scan.{is_scan_kind, scan_event, verdicts_of, AreEnough}
 use Rattle.lp_tasks.specs.Passing.{passing}
 use Rattle.lp_transition.specs.inside.ScanSteps.{tasks_of, is_found, switches_by, all_admit, groups_of}
@@ -121,20 +121,22 @@ reply-enough model lawful e waiting kind vs completed kept enough tells =
     (fun_ext (λ (group : ℕ). ap (λ (ws : List Verdict). switches_by e.table ws group) enough.found ∙ switches-among model lawful kind s kept.sound enough.looked enough.others e.table (λ t x live. slot_from_live e.table t x live) group))
     (completes-among model lawful kind s kept.sound enough.looked enough.others completed among)
 
-weighs_here : (model : Rules) → IsLawful model → (e : Engine) (waiting : Numbers) (kind : CheckKind) (vs : List Verdict) (completed : Bool) → IsEngine e waiting → is_scan_kind kind ≡ true → AreEnough model kind (state_in e) vs → e.number < 1000000 → Completes waiting vs completed
+weighs_here : (model : Rules) → IsLawful model → (e : Engine) (waiting : Numbers) (kind : CheckKind) (vs : List Verdict) (completed : Bool) → IsEngine e waiting → is_scan_kind kind ≡ true → AreEnough model kind (state_in e) vs → Tells model e (scan_event kind) vs → e.number < 1000000 → Completes waiting vs completed
     → IsWeighed model e (step_by kind e.table vs completed)
-weighs_here model lawful e waiting kind vs completed kept scan enough room tells =
+weighs_here model lawful e waiting kind vs completed kept scan enough told room tells =
     let there = answer-scan model lawful 65536 (state_in e) (omega arith) kept.sound e.table (λ t x live. slot_from_live e.table t x live) kind scan in
     record {
       room = room;
       reply = reply-enough model lawful e waiting kind vs completed kept enough tells ∙ sym there;
       verdicts = verdicts-scan model (state_in e) kind vs scan enough;
+      told = told;
     }
 
 -- a scan is weighed by what its verdicts tell
-pub weighs : (model : Rules) → IsLawful model → (e old : Engine) (waiting : Numbers) (kind : CheckKind) (vs : List Verdict) (completed : Bool) (step : Weighed) → e ≡ old → IsEngine e waiting → is_scan_kind kind ≡ true → AreEnough model kind (state_in old) vs → e.number < 1000000
+pub weighs : (model : Rules) → IsLawful model → (e old : Engine) (waiting : Numbers) (kind : CheckKind) (vs : List Verdict) (completed : Bool) (step : Weighed) → e ≡ old → IsEngine e waiting → is_scan_kind kind ≡ true → AreEnough model kind (state_in old) vs → Tells model old (scan_event kind) vs → e.number < 1000000
     → Completes waiting vs completed → step ≡ step_by kind e.table vs completed → IsWeighed model old step
-weighs model lawful e old waiting kind vs completed step was kept scan enough room tells is =
+weighs model lawful e old waiting kind vs completed step was kept scan enough told room tells is =
     subst (λ (o : Engine). IsWeighed model o step) was
     (subst (λ (st : Weighed). IsWeighed model e st) (sym is)
-    (weighs_here model lawful e waiting kind vs completed kept scan (subst (λ (o : Engine). AreEnough model kind (state_in o) vs) (sym was) enough) room tells))
+    (weighs_here model lawful e waiting kind vs completed kept scan (subst (λ (o : Engine). AreEnough model kind (state_in o) vs) (sym was) enough)
+    (subst (λ (o : Engine). Tells model o (scan_event kind) vs) (sym was) told) room tells))

@@ -106,39 +106,43 @@ module _ (model : Rules) (s : State) (event : Event) where
   stands_still t x apart live stays =
       ap (map_live (switched_task model now event)) (own_same event t apart ∙ live) ∙ ap Live (switched_not x stays)
 
-  -- the groups of those to whom something happens are in the set before it and after it, and no group left the set; so too with those tasks
-  pub record TakesIn (old new : KeptScan) : Type 0 where
+  -- of the groups that no frame holds back, those of whom something happens to a member are in the set before it and after it; no group
+  -- left the set; and so with those tasks
+  pub record TakesIn (opens : ℕ → Bool) (old new : KeptScan) : Type 0 where
     pub keeps : (group : ℕ) → has new.changed group ≡ false → has old.changed group ≡ false
-    pub before : (t : ℕ) (x : LegTask) → touches event t ≡ true → s.tasks t ≡ Live x → has new.changed x.group ≡ true
-    pub after : (t : ℕ) (x : LegTask) → touches event t ≡ true → (affected model s event).tasks t ≡ Live x → has new.changed x.group ≡ true
+    pub before : (t : ℕ) (x : LegTask) → touches event t ≡ true → s.tasks t ≡ Live x → opens x.group ≡ true → has new.changed x.group ≡ true
+    pub after : (t : ℕ) (x : LegTask) → touches event t ≡ true → (affected model s event).tasks t ≡ Live x → opens x.group ≡ true → has new.changed x.group ≡ true
     pub spares : (t : ℕ) → has new.may_refuse t ≡ false → has old.may_refuse t ≡ false
     pub doubts : (t : ℕ) → touches event t ≡ true → has new.may_refuse t ≡ true
 
   -- an event at which nothing happens to anybody, and nothing is noted
-  pub stays_in : (old new : KeptScan) → ((t : ℕ) → touches event t ≡ false) → new ≡ old → TakesIn old new
-  stays_in old new apart same = record {
+  pub stays_in : (opens : ℕ → Bool) (old new : KeptScan) → ((t : ℕ) → touches event t ≡ false) → new ≡ old → TakesIn opens old new
+  stays_in opens old new apart same = record {
     keeps = λ group out. sym (ap (λ (l : KeptScan). has l.changed group) same) ∙ out;
-    before = λ t x hit live. absurd (false≢true (sym (apart t) ∙ hit));
-    after = λ t x hit live. absurd (false≢true (sym (apart t) ∙ hit));
+    before = λ t x hit live free. absurd (false≢true (sym (apart t) ∙ hit));
+    after = λ t x hit live free. absurd (false≢true (sym (apart t) ∙ hit));
     spares = λ t out. sym (ap (λ (l : KeptScan). has l.may_refuse t) same) ∙ out;
     doubts = λ t hit. absurd (false≢true (sym (apart t) ∙ hit));
   }
 
-  -- a group to which nothing happens is refused as before
-  still_out : (on : CheckKind) (old new : KeptScan) → TakesIn old new → MayLeaveOut model on s (has old.changed) → MayLeaveOut model on (with_switches model s event) (has new.changed)
-  still_out on old new takes was t x live off out =
-      let w = left t x live off in
-      let apart = false_from_ne_true (touches event t) (λ (hit : touches event t ≡ true). false≢true (sym out ∙ takes.after t x hit w.0)) in
-      let r = was t x (sym (own_same event t apart) ∙ w.0) off (takes.keeps x.group out) in
-      let apart_too = false_from_ne_true (touches event r.member) (λ (hit : touches event r.member ≡ true). false≢true (sym out ∙ (ap (has new.changed) (sym r.grouped) ∙ takes.before r.member r.life hit r.live))) in
-      record {
-        member = r.member;
-        life = r.life;
-        live = stands_still r.member r.life apart_too r.live (ap (switches_at model now event) r.grouped ∙ w.1);
-        off = r.off;
-        grouped = r.grouped;
-        refused = r.refused;
-      }
+  -- a group to which nothing happens is refused as before, and so is one that a frame holds back
+  still_out : (on : CheckKind) (opens : ℕ → Bool) (old new : KeptScan) → TakesIn opens old new → MayLeaveOut model on (with_switches model s event) opens → MayLeaveOut model on s (has old.changed) → MayLeaveOut model on (with_switches model s event) (has new.changed)
+  still_out on opens old new takes held was t x live off out = ⊎_elim apart_from (λ (stuck : opens x.group ≡ false). held t x live off stuck) (cases_Bool (opens x.group))
+    where
+      apart_from : opens x.group ≡ true → RefusesMember model on (with_switches model s event) x.group
+      apart_from free =
+          let w = left t x live off in
+          let apart = false_from_ne_true (touches event t) (λ (hit : touches event t ≡ true). false≢true (sym out ∙ takes.after t x hit w.0 free)) in
+          let r = was t x (sym (own_same event t apart) ∙ w.0) off (takes.keeps x.group out) in
+          let apart_too = false_from_ne_true (touches event r.member) (λ (hit : touches event r.member ≡ true). false≢true (sym out ∙ (ap (has new.changed) (sym r.grouped) ∙ takes.before r.member r.life hit r.live (ap opens r.grouped ∙ free)))) in
+          record {
+            member = r.member;
+            life = r.life;
+            live = stands_still r.member r.life apart_too r.live (ap (switches_at model now event) r.grouped ∙ w.1);
+            off = r.off;
+            grouped = r.grouped;
+            refused = r.refused;
+          }
 
   -- and where nothing happens to anybody
   counted_out : (on : CheckKind) (old : Numbers) → MayLeaveOut model on s (has old) → MayLeaveOut model on (counted model s) (has old)
@@ -147,9 +151,9 @@ module _ (model : Rules) (s : State) (event : Event) where
       record { member = r.member; life = r.life; live = r.live; off = r.off; grouped = r.grouped; refused = r.refused }
 
   -- what a scan told stands after an event
-  still_unchanged : (on : CheckKind) (old new : KeptScan) → TakesIn old new → AreUnchanged model on s old → AreUnchanged model on (with_switches model s event) new
-  still_unchanged on old new takes was = record {
-    left_out = still_out on old new takes was.left_out;
+  still_unchanged : (on : CheckKind) (opens : ℕ → Bool) (old new : KeptScan) → TakesIn opens old new → MayLeaveOut model on (with_switches model s event) opens → AreUnchanged model on s old → AreUnchanged model on (with_switches model s event) new
+  still_unchanged on opens old new takes held was = record {
+    left_out = still_out on opens old new takes held was.left_out;
     admitted = λ t x live off out.
         let w = left t x live off in
         let apart = false_from_ne_true (touches event t) (λ (hit : touches event t ≡ true). false≢true (sym out ∙ takes.doubts t hit)) in
@@ -256,18 +260,20 @@ module _ (model : Rules) (e old new : Engine) (waiting left_waiting : Numbers) (
     switched = came ∙ next-accepted model (state_in e) event (ap (λ (o : Engine). refusal_of model (state_in o) event) was ∙ accepted) plain
 
     -- an accepted event whose task's group is noted
-    pub core_takes : after.kind ≡ before.kind → (is_some before.kind ≡ true → TakesIn model (state_in e) event before after) → IsCore model new left_waiting after
-    core_takes same takes = record {
+    pub core_takes : (opens : ℕ → Bool) → ((on : CheckKind) → MayLeaveOut model on (state_in new) opens) → after.kind ≡ before.kind → (is_some before.kind ≡ true → TakesIn model (state_in e) event opens before after) → IsCore model new left_waiting after
+    core_takes opens held same takes = record {
       engine = taken.kept;
       unchanged = λ on some.
           let was : before.kind ≡ Some on = sym same ∙ some in
           subst (λ (st : State). AreUnchanged model on st after) (sym switched)
-          (still_unchanged model (state_in e) event on before after (takes (ap is_some was)) (core.unchanged on was));
+          (still_unchanged model (state_in e) event on opens before after (takes (ap is_some was)) (subst (λ (st : State). MayLeaveOut model on st opens) switched (held on)) (core.unchanged on was));
     }
 
     -- a scan that the model doesn't use: nothing happens to anybody
     pub core_stays : ((t : ℕ) → touches event t ≡ false) → after ≡ before → IsCore model new left_waiting after
-    core_stays apart same = core_takes (ap (λ (l : KeptScan). l.kind) same) (λ some. stays_in model (state_in e) event before after apart same)
+    core_stays apart same =
+        core_takes (λ group. true) (λ on t x live off out. absurd (false≢true (sym out))) (ap (λ (l : KeptScan). l.kind) same)
+        (λ some. stays_in model (state_in e) event (λ group. true) before after apart same)
 
     -- who waits after the event is in the set of those that wait
     waits_after : (t : ℕ) (x : LegTask) → (with_switches model (state_in e) event).tasks t ≡ Live x → nat_eq x.level (state_in e).target ≡ false → has left_waiting t ≡ true
@@ -303,10 +309,10 @@ core_rests model new waiting before after core done =
 
 -- ---- What is noted of a task
 
--- the task that stands at a place of a table, and its group
-abbrev pub Notes : Table → ℕ → KeptScan → KeptScan → Type 0
-Notes table a before after =
-    ((group : ℕ) → has after.changed group ≡ (has before.changed group || (is_some before.kind && is_in group (slot table a))))
+-- the task that stands at a place of a table, and its group, if no frame holds it back
+abbrev pub Notes : (opens : ℕ → Bool) → Table → ℕ → KeptScan → KeptScan → Type 0
+Notes opens table a before after =
+    ((group : ℕ) → has after.changed group ≡ (has before.changed group || (is_some before.kind && (is_in group (slot table a) && opens group))))
     × ((t : ℕ) → has after.may_refuse t ≡ (has before.may_refuse t || (is_some before.kind && nat_eq t a)))
 
 in_same : (group : ℕ) (f : LegTask → LegTask) → ((x : LegTask) → (f x).group ≡ x.group) → (slot : Option LegTask) → is_in group (option_map f slot) ≡ is_in group slot
@@ -314,12 +320,12 @@ in_same group f groups None = refl
 in_same group f groups (Some x) = ap (λ n. nat_eq n group) (groups x)
 
 -- what is noted of a task after a change that leaves it in its group is what is noted of it before the change
-pub notes_before : (table new : Table) (a : ℕ) (f : LegTask → LegTask) (before after : KeptScan) → IsWide table → a < 65536 → new ≡ changed a f table → ((x : LegTask) → (f x).group ≡ x.group) → Notes new a before after → Notes table a before after
-notes_before table new a f before after wide h is groups noted = (
+pub notes_before : (opens : ℕ → Bool) (table new : Table) (a : ℕ) (f : LegTask → LegTask) (before after : KeptScan) → IsWide table → a < 65536 → new ≡ changed a f table → ((x : LegTask) → (f x).group ≡ x.group) → Notes opens new a before after → Notes opens table a before after
+notes_before opens table new a f before after wide h is groups noted = (
   λ group.
       let same : is_in group (slot new a) ≡ is_in group (slot table a) =
       ap (λ (t : Table). is_in group (slot t a)) is ∙ (ap (is_in group) (slot-changed table a f wide h) ∙ in_same group f groups (slot table a)) in
-      noted.0 group ∙ ap (λ b. has before.changed group || (is_some before.kind && b)) same,
+      noted.0 group ∙ ap (λ b. has before.changed group || (is_some before.kind && (b && opens group))) same,
   noted.1,
 )
 
@@ -327,9 +333,9 @@ first_out : (b c : Bool) → (b || c) ≡ false → b ≡ false
 first_out false c h = refl
 first_out true c h = h
 
-module _ (table : Table) (a : ℕ) (before after : KeptScan) (noted : Notes table a before after) (some : is_some before.kind ≡ true) where
+module _ (opens : ℕ → Bool) (table : Table) (a : ℕ) (before after : KeptScan) (noted : Notes opens table a before after) (some : is_some before.kind ≡ true) where
   kept_out : (group : ℕ) → has after.changed group ≡ false → has before.changed group ≡ false
-  kept_out group out = first_out (has before.changed group) (is_some before.kind && is_in group (slot table a)) (sym (noted.0 group) ∙ out)
+  kept_out group out = first_out (has before.changed group) (is_some before.kind && (is_in group (slot table a) && opens group)) (sym (noted.0 group) ∙ out)
 
   spared_out : (t : ℕ) → has after.may_refuse t ≡ false → has before.may_refuse t ≡ false
   spared_out t out = first_out (has before.may_refuse t) (is_some before.kind && nat_eq t a) (sym (noted.1 t) ∙ out)
@@ -339,25 +345,27 @@ module _ (table : Table) (a : ℕ) (before after : KeptScan) (noted : Notes tabl
       noted.1 t
       ∙ or_right (has before.may_refuse t) (is_some before.kind && nat_eq t a) (and_from (is_some before.kind) (nat_eq t a) some hit)
 
-  taken_in : (x : LegTask) → slot table a ≡ Some x → has after.changed x.group ≡ true
-  taken_in x there =
+  taken_in : (x : LegTask) → slot table a ≡ Some x → opens x.group ≡ true → has after.changed x.group ≡ true
+  taken_in x there free =
       noted.0 x.group
-      ∙ or_right (has before.changed x.group) (is_some before.kind && is_in x.group (slot table a))
-      (and_from (is_some before.kind) (is_in x.group (slot table a)) some (ap (is_in x.group) there ∙ eq-eqb x.group x.group refl))
+      ∙ or_right (has before.changed x.group) (is_some before.kind && (is_in x.group (slot table a) && opens x.group))
+      (and_from (is_some before.kind) (is_in x.group (slot table a) && opens x.group) some
+      (and_from (is_in x.group (slot table a)) (opens x.group) (ap (is_in x.group) there ∙ eq-eqb x.group x.group refl) free))
 
-module _ (model : Rules) (e : Engine) (event : Event) (before after : KeptScan) where
+module _ (model : Rules) (e : Engine) (event : Event) (opens : ℕ → Bool) (before after : KeptScan) where
   -- an event whose own effect is a change of a task, which keeps its group
-  pub changes_in : (a : ℕ) (f : LegTask → LegTask) → Notes e.table a before after → ((t : ℕ) → touches event t ≡ nat_eq t a) → own_effect model.child_group (suc e.number) event (leg_tasks e.table) ≡ change a f (leg_tasks e.table) → ((x : LegTask) → (f x).group ≡ x.group)
-      → is_some before.kind ≡ true → TakesIn model (state_in e) event before after
+  pub changes_in : (a : ℕ) (f : LegTask → LegTask) → Notes opens e.table a before after → ((t : ℕ) → touches event t ≡ nat_eq t a) → own_effect model.child_group (suc e.number) event (leg_tasks e.table) ≡ change a f (leg_tasks e.table) → ((x : LegTask) → (f x).group ≡ x.group)
+      → is_some before.kind ≡ true → TakesIn model (state_in e) event opens before after
   changes_in a f noted only own groups some = record {
-    keeps = kept_out e.table a before after noted some;
-    before = λ t x hit live. taken_in e.table a before after noted some x (slot_at t x hit live);
-    after = λ t x hit live.
+    keeps = kept_out opens e.table a before after noted some;
+    before = λ t x hit live free. taken_in opens e.table a before after noted some x (slot_at t x hit live) free;
+    after = λ t x hit live free.
         let is = sym (only_t t hit) ∙ (sym (ap (λ (w : ℕ → Fate LegTask). w t) own) ∙ live) in
         let w = live_from f (leg_tasks e.table t) x is in
-        ap (has after.changed) (sym (sym (groups w.0) ∙ ap (λ (y : LegTask). y.group) w.2)) ∙ taken_in e.table a before after noted some w.0 (slot_at t w.0 hit w.1);
-    spares = spared_out e.table a before after noted some;
-    doubts = λ t hit. doubted_in e.table a before after noted some t (at t hit);
+        let same : w.0.group ≡ x.group = sym (groups w.0) ∙ ap (λ (y : LegTask). y.group) w.2 in
+        ap (has after.changed) (sym same) ∙ taken_in opens e.table a before after noted some w.0 (slot_at t w.0 hit w.1) (ap opens same ∙ free);
+    spares = spared_out opens e.table a before after noted some;
+    doubts = λ t hit. doubted_in opens e.table a before after noted some t (at t hit);
   }
     where
       at : (t : ℕ) → touches event t ≡ true → nat_eq t a ≡ true
@@ -370,32 +378,33 @@ module _ (model : Rules) (e : Engine) (event : Event) (before after : KeptScan) 
       only_t t hit = cond-true (nat_eq t a) (map_live f (leg_tasks e.table t)) (leg_tasks e.table t) (at t hit)
 
 -- the end of a task
-pub dies_in : (model : Rules) (e : Engine) (a : TaskId) (before after : KeptScan) → Notes e.table a.0 before after → is_some before.kind ≡ true → TakesIn model (state_in e) (Die a) before after
-dies_in model e a before after noted some = record {
-  keeps = kept_out e.table a.0 before after noted some;
-  before = λ t x hit live. taken_in e.table a.0 before after noted some x (ap (slot e.table) (sym (eqb-true t a.0 hit)) ∙ slot_from_live e.table t x live);
-  after = λ t x hit live. absurd (dead_live x (sym (cond-true (nat_eq t a.0) Dead (leg_tasks e.table t) hit) ∙ live));
-  spares = spared_out e.table a.0 before after noted some;
-  doubts = λ t hit. doubted_in e.table a.0 before after noted some t hit;
+pub dies_in : (model : Rules) (e : Engine) (a : TaskId) (opens : ℕ → Bool) (before after : KeptScan) → Notes opens e.table a.0 before after → is_some before.kind ≡ true → TakesIn model (state_in e) (Die a) opens before after
+dies_in model e a opens before after noted some = record {
+  keeps = kept_out opens e.table a.0 before after noted some;
+  before = λ t x hit live free. taken_in opens e.table a.0 before after noted some x (ap (slot e.table) (sym (eqb-true t a.0 hit)) ∙ slot_from_live e.table t x live) free;
+  after = λ t x hit live free. absurd (dead_live x (sym (cond-true (nat_eq t a.0) Dead (leg_tasks e.table t) hit) ∙ live));
+  spares = spared_out opens e.table a.0 before after noted some;
+  doubts = λ t hit. doubted_in opens e.table a.0 before after noted some t hit;
 }
   where
     dead_live : (x : LegTask) → Dead ≡ Live x → ⊥
     dead_live x e = absurd (cc)
 
 -- and a birth, which is noted of the table with the child
-pub bears_in : (model : Rules) (e : Engine) (p c : TaskId) (how : ForkKind) (x : LegTask) (before after : KeptScan) → IsWide e.table → c.0 < 65536 → refusal_of model (state_in e) (Fork p c how) ≡ None → born_of model (state_in e) (Fork p c how) ≡ Some x
-    → Notes (with_task c.0 x e.table) c.0 before after → is_some before.kind ≡ true → TakesIn model (state_in e) (Fork p c how) before after
-bears_in model e p c how x before after wide h accepted born noted some = record {
-  keeps = kept_out (with_task c.0 x e.table) c.0 before after noted some;
-  before = λ t y hit live. absurd (none_some y (sym new.0 ∙ (ap (slot e.table) (sym (eqb-true t c.0 hit)) ∙ slot_from_live e.table t y live)));
-  after = λ t y hit live.
+pub bears_in : (model : Rules) (e : Engine) (p c : TaskId) (how : ForkKind) (x : LegTask) (opens : ℕ → Bool) (before after : KeptScan) → IsWide e.table → c.0 < 65536 → refusal_of model (state_in e) (Fork p c how) ≡ None → born_of model (state_in e) (Fork p c how) ≡ Some x
+    → Notes opens (with_task c.0 x e.table) c.0 before after → is_some before.kind ≡ true → TakesIn model (state_in e) (Fork p c how) opens before after
+bears_in model e p c how x opens before after wide h accepted born noted some = record {
+  keeps = kept_out opens (with_task c.0 x e.table) c.0 before after noted some;
+  before = λ t y hit live free. absurd (none_some y (sym new.0 ∙ (ap (slot e.table) (sym (eqb-true t c.0 hit)) ∙ slot_from_live e.table t y live)));
+  after = λ t y hit live free.
       let is = sym (cond-true (nat_eq t c.0) (map_live (bearing model.child_group c.0 how) (leg_tasks e.table p.0)) (leg_tasks e.table t) hit) ∙ live in
       let w = live_from (bearing model.child_group c.0 how) (leg_tasks e.table p.0) y is in
       let same : Some x ≡ Some y = sym brought ∙ (ap (child_of model.child_group c.0 (Fork p c how)) w.1 ∙ ap {A = LegTask} {B = Option LegTask} Some w.2) in
       let one : x ≡ y = cc in
-      ap (λ (z : LegTask). has after.changed z.group) (sym one) ∙ taken_in (with_task c.0 x e.table) c.0 before after noted some x (slot-with_task e.table c.0 x wide h);
-  spares = spared_out (with_task c.0 x e.table) c.0 before after noted some;
-  doubts = λ t hit. doubted_in (with_task c.0 x e.table) c.0 before after noted some t hit;
+      ap (λ (z : LegTask). has after.changed z.group) (sym one)
+      ∙ taken_in opens (with_task c.0 x e.table) c.0 before after noted some x (slot-with_task e.table c.0 x wide h) (ap (λ (z : LegTask). opens z.group) one ∙ free);
+  spares = spared_out opens (with_task c.0 x e.table) c.0 before after noted some;
+  doubts = λ t hit. doubted_in opens (with_task c.0 x e.table) c.0 before after noted some t hit;
 }
   where
     new : (slot e.table c.0 ≡ None) × (has e.table.used c.0 ≡ false)
@@ -415,10 +424,10 @@ own_check_touches kind.Stop t u = refl
 
 module _ (model : Rules) (e old new : Engine) (waiting left_waiting : Numbers) (event : Event) (before after : KeptScan) (was : e ≡ old) (core : IsCore model e waiting before) (taken : HasTaken model old event new left_waiting) (accepted : refusal_of model (state_in old) event ≡ None) (kind : after.kind ≡ before.kind) where
   -- after a change of a task
-  pub core_changes : (a : ℕ) (f : LegTask → LegTask) → is_control event ≡ false → Notes e.table a before after → ((t : ℕ) → touches event t ≡ nat_eq t a) → own_effect model.child_group (suc e.number) event (leg_tasks e.table) ≡ change a f (leg_tasks e.table) → ((x : LegTask) → (f x).group ≡ x.group)
+  pub core_changes : (opens : ℕ → Bool) → ((on : CheckKind) → MayLeaveOut model on (state_in new) opens) → (a : ℕ) (f : LegTask → LegTask) → is_control event ≡ false → Notes opens e.table a before after → ((t : ℕ) → touches event t ≡ nat_eq t a) → own_effect model.child_group (suc e.number) event (leg_tasks e.table) ≡ change a f (leg_tasks e.table) → ((x : LegTask) → (f x).group ≡ x.group)
       → IsCore model new left_waiting after
-  core_changes a f plain noted only own groups =
-      core_takes model e old new waiting left_waiting event before after was core taken accepted plain kind (changes_in model e event before after a f noted only own groups)
+  core_changes opens held a f plain noted only own groups =
+      core_takes model e old new waiting left_waiting event before after was core taken accepted plain opens held kind (changes_in model e event opens before after a f noted only own groups)
 
 -- ---- A scan that was taken
 

@@ -34,6 +34,7 @@ use Rattle.lp_tasks.proofs.MemberLemmas.{slot-positive, slot-below}
 use Rattle.lp_transition.proofs.SwitchedGroups.{switched-none, switched-one-group}
 use Rattle.lp_machine.proofs.Alone.{ChecksAlone}
 use Rattle.lp_transition.proofs.LoneChecks.{put_on, takes_switch, none-switches_now, others-stay_now}
+use Rattle.lp_transition.proofs.Told.{plain_tells}
 use Rattle.lp_transition.proofs.Completes.{answer-taken, not-completed, completed_by, completed}
 
 module _ (model : Rules) (lawful : IsLawful model) (e : Engine) (waiting : Numbers) (kept : IsEngine e waiting) (room : e.number < 1000000) where
@@ -248,7 +249,7 @@ pub weighed-as : (model : Rules) (e : Engine) (step : Weighed) (event : Event) (
 weighed-as model e step event reply plain room is answers =
     let weighed : Weighed = record { event = event; reply = reply; verdicts = [] } in
     let there : IsWeighed model e weighed =
-    record { room = room; reply = answers; verdicts = verdicts-none model (state_in e) event plain } in
+    record { room = room; reply = answers; verdicts = verdicts-none model (state_in e) event plain; told = plain_tells model e event [] plain } in
     subst (IsWeighed model e) (sym is) there
 
 -- the group of a live task is a number below 65,536

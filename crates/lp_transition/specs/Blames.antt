@@ -1,22 +1,23 @@
 -- The frame by which a waiting group is known to be refused, and what becomes of it at each event.
-use Rattle.std.specs.Prelude.{◌≡◌, ℕ, ◌<◌, Bool, true, false, List, map, Option, Some, None, is_none, if◌then◌else◌, nat_eq, slice_index_or}
+use Rattle.std.specs.Prelude.{◌≡◌, ℕ, ◌<◌, Bool, true, false, ◌&&◌, List, map, Option, Some, None, is_none, if◌then◌else◌, nat_eq, slice_index_or}
 use Rattle.std.specs.List.{range_with_len, list_any}
 use Rattle.std.specs.Option.{option_map}
 use Rattle.lp_model.specs.declared.check.CheckKind.{CheckKind}
+use Rattle.lp_model.specs.declared.check.CheckKind.TheVariants as check
 use Rattle.lp_model.specs.declared.check.Blame.{Blame}
 use Rattle.lp_model.specs.declared.check.Blame.TheVariants as blame
 use Rattle.lp_model.specs.declared.verdict.Verdict.{Verdict}
 use Rattle.lp_model.specs.Rules.{Rules}
 use Rattle.lp_definitions.specs.declared.event.Event.{Event}
+use Rattle.lp_definitions.specs.declared.event.Event.TheVariants.{Resched}
 use Rattle.lp_definitions.specs.declared.refusal.Refusal.{Refusal}
 use Rattle.lp_machine.specs.declared.standing_blame.StandingBlame.{StandingBlame}
 use Rattle.lp_definitions.specs.Events.{is_control}
 use Rattle.lp_definitions.specs.Tasks.{Live, on_live, first_of}
-use Rattle.lp_definitions.specs.Leg.{LegTask, State}
-use Rattle.lp_machine.specs.Machine.{view_of, affected, refusal_of}
+use Rattle.lp_definitions.specs.Leg.{LegTask, State, is_alone}
+use Rattle.lp_machine.specs.Machine.{outlines_of, view_of, waits_in, affected, refusal_of}
 use Rattle.lp_transition.specs.Scan.{verdicts_of, verdicts_at, is_of, first_refused}
 use Rattle.lp_machine.specs.Table.{Engine, state_in}
-use Rattle.lp_transition.specs.Weigh.{AreVerdictsFor}
 
 -- ---- Who is refused
 
@@ -46,6 +47,20 @@ pub record TellOf (model : Rules) (kind : CheckKind) (s : State) (asked : ℕ �
       (t : ℕ) (x : LegTask) → s.tasks t ≡ Live x → nat_eq x.level s.target ≡ false → asked x.group ≡ true →
       list_any (is_of s x.group) verdicts ≡ true
   pub first : (group : ℕ) → asked group ≡ true → first_refused s group verdicts ≡ first_refused s group (verdicts_of model kind s)
+
+-- why a task's own check in the kernel doesn't admit it, if the model uses the check
+abbrev pub own_blame : Rules → State → (task : ℕ) → Option Blame
+own_blame model s t =
+    if model.uses check.Resched then on_live None (λ x. model.blame check.Resched (view_of t x) s.aim) (s.tasks t) else None
+
+-- the member of the group that an accepted event is found to refuse first, with its blame: an own check in the kernel tells of the
+-- only member of a group that waits, and a scan by its verdicts
+abbrev pub refused_first : Rules → State → Event → List Verdict → (group : ℕ) → Option (ℕ × Blame)
+refused_first model s (Resched t) verdicts group =
+    if waits_in s group && is_alone s.bounds (outlines_of s.tasks) group t.0
+    then option_map (λ why. (t.0, why)) (own_blame model s t.0)
+    else None
+refused_first model s _ verdicts group = first_refused s group verdicts
 
 -- ---- Standing blames
 
@@ -77,13 +92,13 @@ or_blame (Some b) found = Some b
 -- ---- One event
 
 module _ (model : Rules) (e : Engine) (event : Event) (verdicts : List Verdict) (group : ℕ) where
-  -- the group's blame after an accepted event. It goes at a control event, and when its frame is popped; a scan finds
-  -- one of a group that has none where the first member that it refuses is refused for a frame. An own check finds
-  -- none: at an exit and an idle point there is no frame, and what the task finds elsewhere the next scan finds too
+  -- the group's blame after an accepted event. It goes at a control event, and when its frame is popped; a scan, or an own
+  -- check in the kernel, finds one of a group that has none where the first member that it refuses is refused for a frame.
+  -- At an exit and an idle point there is no frame
   abbrev pub blame_taken : Option StandingBlame
   blame_taken =
       if is_control event then None
-      else or_blame (while_there (affected model (state_in e) event) (blame_of e group)) (frame_blame (first_refused (state_in e) group verdicts))
+      else or_blame (while_there (affected model (state_in e) event) (blame_of e group)) (frame_blame (refused_first model (state_in e) event verdicts group))
 
   -- the same of an event that is refused, too: it leaves the blame as it was
   abbrev pub blame_by : Option Refusal → Option StandingBlame
@@ -99,8 +114,6 @@ abbrev pub AreBlamesAfter : Rules → Engine → Event → List Verdict → Engi
 AreBlamesAfter model old event verdicts new =
     (group : ℕ) → group < 65536 → blame_of new group ≡ blame_after model old event verdicts group
 
--- the same, by verdicts with which the event may be answered
-pub record HasBlamesAfter (model : Rules) (old : Engine) (event : Event) (new : Engine) : Type 0 where
-  pub verdicts : List Verdict
-  pub enough : AreVerdictsFor model (state_in old) event verdicts
-  pub blames : AreBlamesAfter model old event verdicts new
+-- each group that has a blame waits
+abbrev pub AreOfWaiting : Engine → Type 0
+AreOfWaiting e = (group : ℕ) → is_open e group ≡ false → waits_in (state_in e) group ≡ true

@@ -1,5 +1,5 @@
 -- What the engine knows of its last scan after each event: which waiting groups nothing happened to since.
-use Rattle.std.specs.Prelude.{◌≡◌, ◌⊎◌, ◌↔◌, ℕ, true, false, List, Option, Some, None, if◌then◌else◌, nat_eq}
+use Rattle.std.specs.Prelude.{◌≡◌, ◌⊎◌, ◌↔◌, ℕ, true, false, List, Option, Some, None, if◌then◌else◌, nat_eq, IsTrue}
 use Rattle.lp_numbers.specs.Numbers.{has, IsEmpty}
 use Rattle.lp_model.specs.Rules.{Rules}
 use Rattle.lp_model.specs.declared.check.CheckKind.{CheckKind}
@@ -12,8 +12,8 @@ use Rattle.lp_definitions.specs.Tasks.{Live}
 use Rattle.lp_definitions.specs.Leg.{LegTask, State}
 use Rattle.lp_machine.specs.Machine.{refusal_of}
 use Rattle.lp_machine.specs.Table.{Engine, state_in}
-use Rattle.lp_transition.specs.Blames.{TellOf}
-use Rattle.lp_transition.specs.Scan.{verdicts_of}
+use Rattle.lp_transition.specs.Blames.{TellOf, is_open}
+use Rattle.lp_transition.specs.Scan.{verdicts_of, MayLeaveOut}
 
 -- the kind of scan that the model uses, if it is one
 abbrev pub used_kind : Rules → CheckKind → Option CheckKind
@@ -32,6 +32,14 @@ TellOfChanges model e kind verdicts =
     (verdicts ≡ verdicts_of model kind (state_in e))
     ⊎ ((e.last_scan.kind ≡ Some kind) × TellOf model kind (state_in e) (has e.last_scan.changed) verdicts)
 
+-- a scan of this kind, which the model uses, may leave out every group that waits: the last one was of this kind, and nothing happened
+-- since to a group that no frame holds back
+pub record IsQuietScan (model : Rules) (e : Engine) (kind : CheckKind) : Type 0 where
+  pub used : IsTrue (model.uses kind)
+  pub last : e.last_scan.kind ≡ Some kind
+  pub unchanged : IsEmpty e.last_scan.changed
+  pub left_out : MayLeaveOut model kind (state_in e) (λ group. false)
+
 -- the members of the group are who they were, and each stands as it stood
 abbrev pub AreSameMembers : (before after : State) → (group : ℕ) → Type 0
 AreSameMembers before after group = (t : ℕ) (x : LegTask) → x.group ≡ group → (before.tasks t ≡ Live x) ↔ (after.tasks t ≡ Live x)
@@ -46,8 +54,8 @@ pub record IsLastScanAfter (model : Rules) (old : Engine) (event : Event) (new :
   pub opening : is_control event ≡ true → refusal_of model (state_in old) event ≡ None → new.last_scan.kind ≡ None
   -- after any other event it knows of none but the one from before
   pub kind : used_scan model event ≡ None → (on : CheckKind) → new.last_scan.kind ≡ Some on → old.last_scan.kind ≡ Some on
-  -- and a waiting group counts as unchanged where it did so, and nothing happened to it
+  -- and a waiting group that no frame holds back counts as unchanged where it did so, and nothing happened to it
   pub others :
       used_scan model event ≡ None → (on : CheckKind) → new.last_scan.kind ≡ Some on →
-      (t : ℕ) (x : LegTask) → (state_in new).tasks t ≡ Live x → nat_eq x.level (state_in new).target ≡ false → has new.last_scan.changed x.group ≡ false →
+      (t : ℕ) (x : LegTask) → (state_in new).tasks t ≡ Live x → nat_eq x.level (state_in new).target ≡ false → is_open new x.group ≡ true → has new.last_scan.changed x.group ≡ false →
       (has old.last_scan.changed x.group ≡ false) × AreSameMembers (state_in old) (state_in new) x.group

@@ -8,7 +8,7 @@ ghost use Rattle.lp_tasks.specs.Passing.{passing};
 ghost use Rattle.lp_transition.specs.Scan.{MayLeaveOut};
 ghost use Rattle.lp_definitions.specs.Sound.{IsSound};
 ghost use Rattle.lp_machine.specs.Table.{IsWide, slot, leg_tasks, bounds_of, state_in};
-ghost use Rattle.lp_transition.specs.Blames.{blame_of, has_frame_in, is_open};
+ghost use Rattle.lp_transition.specs.Blames.{blame_of, has_frame_in, is_open, AreOfWaiting};
 ghost use Rattle.lp_model.specs.declared.check.CheckKind.{CheckKind};
 ghost use Rattle.lp_definitions.specs.Leg.{is_alone};
 ghost use Rattle.lp_stack.specs.TaskView.{seen};
@@ -102,6 +102,7 @@ impl<M: Consistency> Core<M> {
         ensures fits { result ≤ 1000000 }
         ensures sound { IsSound (state_in self.now) }
         ensures wide { IsWide self.now.table }
+        ensures blamed { AreOfWaiting self.now }
     {
         u64::from(self.events)
     }

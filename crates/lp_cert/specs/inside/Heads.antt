@@ -73,6 +73,11 @@ abbrev pub HasFrameAs : (has_frame : (task serial : ℕ) → Bool) → Ongoing �
 HasFrameAs has_frame (Hold task serial from last) frame_stands = has_frame task.0 serial ≡ frame_stands
 HasFrameAs has_frame _ frame_stands = Unit {0}
 
+-- a reason is a hold whose frame is still on its task's stack
+abbrev pub is_held : (has_frame : (task serial : ℕ) → Bool) → Ongoing → Bool
+is_held has_frame (Hold task serial from last) = has_frame task.0 serial
+is_held has_frame _ = false
+
 abbrev pub is_busy : Blame → Bool
 is_busy blame.Busy = true
 is_busy _ = false

@@ -4,12 +4,10 @@ use Rattle.std.specs.Option.{option_map}
 use Rattle.lp_stack.specs.declared.number.GroupId.{GroupId}
 use Rattle.lp_numbers.specs.Numbers.{has, IsNextFrom}
 use Rattle.lp_model.specs.Rules.{Rules}
-use Rattle.lp_model.specs.declared.verdict.Verdict.{Verdict}
 use Rattle.lp_definitions.specs.declared.event.Event.{Event}
-use Rattle.lp_definitions.specs.Events.{is_scan}
 use Rattle.lp_machine.specs.Machine.{answer}
 use Rattle.lp_machine.specs.Table.{Engine, state_in}
-use Rattle.lp_transition.specs.Weigh.{Weighed, AreVerdictsFor, refusal_in}
+use Rattle.lp_transition.specs.Weigh.{Weighed, refusal_in}
 use Rattle.lp_definitions.specs.Certificates.{group_id}
 use Rattle.lp_tasks.specs.Passing.{passing}
 use Rattle.lp_definitions.specs.declared.cert.Claim.{Claim}
@@ -24,7 +22,6 @@ use Rattle.lp_cert.specs.inside.Bare.{bare_certs}
 use Rattle.lp_cert.specs.inside.LegRows.{HasRoom, KeptEnds}
 use Rattle.lp_cert.specs.inside.StepLines.{stepped_lines}
 use Rattle.lp_transition.specs.LastScan.{used_scan}
-use Rattle.lp_cert.specs.inside.ToldGroups.{Tells}
 use Rattle.lp_cert.specs.Waiters.{WaitingGroups, kept_cert}
 use Rattle.lp_cert.specs.inside.Waiters.{AreHeads, AreStanding, HasFewGroups, lines_at}
 use Rattle.lp_cert.specs.Invariant.{claim_of, upto_of, floor_waiters, end_waiters, open_end}
@@ -66,8 +63,8 @@ pub record IsReady (noted : ℕ) (current : Option OpenLeg) (waiters : WaitingGr
   pub room : 1 < waiters.reasons.room
   pub scan_room : 0 < waiters.reasons.scan_room
   pub end_room : ready.opens ≡ true → HasRoom ended
-  -- and for a look at all tasks, at a scan
-  pub all_room : is_scan ready.event ≡ true → 65536 ≤ waiters.reasons.room
+  -- and for what the verdicts of a scan find
+  pub verdict_room : ready.verdicts ≤ waiters.reasons.room
   pub left : ready.opens ≡ true → closing ≡ option_map (open_end noted waiters) current
 
 abbrev pub IfReady : ℕ → Option OpenLeg → WaitingGroups → KeptEnds → Option LegEnd → Option Ready → Type 0
@@ -112,15 +109,3 @@ pub record IsStepped (model : Rules) (e : Engine) (step : Weighed) (number : ℕ
 -- an event that is no scan as it is weighed
 abbrev pub plain_step : Rules → Engine → Event → Weighed
 plain_step model e event = record { event = event; reply = answer model (state_in e) event; verdicts = [] }
-
--- the step with other verdicts
-abbrev pub with_verdicts : Weighed → List Verdict → Weighed
-with_verdicts step verdicts = record { event = step.event; reply = step.reply; verdicts = verdicts }
-
--- what an event that opens no leg makes of the one under way, by verdicts by which it may be answered and that tell of each group
--- that has changed: its own, or those of all who wait
-pub record IsNoted (model : Rules) (e : Engine) (step : Weighed) (number : ℕ) (old new : OpenLeg) (before after : WaitingGroups) : Type 0 where
-  pub verdicts : List Verdict
-  pub enough : AreVerdictsFor model (state_in e) step.event verdicts
-  pub tells : Tells model e (with_verdicts step verdicts)
-  pub gone_on : IsStepped model e (with_verdicts step verdicts) number old new before after

@@ -15,7 +15,7 @@ use Rattle.lp_definitions.specs.declared.event.Event.{Event}
 use Rattle.lp_definitions.specs.declared.event.Event.TheVariants.{Resched, Walk, Stop, Fork, Die}
 use Rattle.lp_definitions.specs.Tasks.{on_live}
 use Rattle.lp_definitions.specs.Leg.{LegTask, State, some_live, is_alone}
-use Rattle.lp_machine.specs.Machine.{outlines_of, view_of}
+use Rattle.lp_machine.specs.Machine.{outlines_of}
 use Rattle.lp_machine.specs.Table.{Table, Engine, slot, leg_tasks, bounds_of, state_in}
 use Rattle.lp_tasks.specs.inside.Table.{is_in, is_off}
 use Rattle.lp_definitions.specs.declared.line.Line.{Line}
@@ -25,7 +25,7 @@ use Rattle.lp_cert.specs.declared.head.Waiter.{Waiter}
 use Rattle.lp_definitions.specs.Certificates.{after_refusal, birth_line, group_id}
 use Rattle.lp_cert.specs.Heads.{head_lines}
 use Rattle.lp_cert.specs.inside.Heads.{IsHead, IsUsed, Keeps}
-use Rattle.lp_transition.specs.Blames.{has_frame_in}
+use Rattle.lp_transition.specs.Blames.{has_frame_in, own_blame}
 use Rattle.lp_transition.specs.Scan.{member_verdict, first_refused}
 use Rattle.lp_cert.specs.Waiters.{no_head, LegReasons, head_of, WaitingGroups}
 
@@ -171,14 +171,7 @@ after_fork model p c how at parents lines group =
 abbrev pub after_death : (mine : ℕ) → (alone : Bool) → (ℕ → Option (List Line)) → (group : ℕ) → Option (List Line)
 after_death mine alone lines group = if nat_eq group mine && alone then None else lines group
 
--- why a task's own check with frames on its stack doesn't admit it, if the model uses the check
-abbrev pub own_blame : Rules → Engine → ℕ → Option Blame
-own_blame model e t =
-    if model.uses check.Resched
-    then on_live None (λ x. model.blame check.Resched (view_of t x) (state_in e).aim) (leg_tasks e.table t)
-    else None
-
--- the lines of a group after such a check by a task, which may be alone in its own group
+-- the lines of a group after an own check in the kernel by a task, which may be alone in its own group
 abbrev pub after_own_check : State → (t mine : ℕ) → (alone : Bool) → Option Blame → (ℕ → Option (List Line)) → (group : ℕ) → Option (List Line)
 after_own_check s t mine alone None lines group = lines group
 after_own_check s t mine alone (Some blame) lines group =
@@ -206,7 +199,7 @@ own_lines model e (Fork p c how) verdicts lines group =
 own_lines model e (Die t) verdicts lines group =
     on_live (lines group) (λ x. after_death x.group (is_lone e t.0 x.group) lines group) (leg_tasks e.table t.0)
 own_lines model e (Resched t) verdicts lines group =
-    on_live (lines group) (λ x. after_own_check (state_in e) t.0 x.group (is_lone e t.0 x.group) (own_blame model e t.0) lines group) (leg_tasks e.table t.0)
+    on_live (lines group) (λ x. after_own_check (state_in e) t.0 x.group (is_lone e t.0 x.group) (own_blame model (state_in e) t.0) lines group) (leg_tasks e.table t.0)
 own_lines model e _ verdicts lines group = lines group
 
 -- the group of a task that forks is a number below 65,536

@@ -4,7 +4,7 @@ ghost use Rattle.lp_definitions.specs.Events.{is_control};
 ghost use Rattle.lp_machine.specs.Machine.{refusal_of};
 ghost use Rattle.lp_machine.specs.Steps.{IsStep};
 ghost use Rattle.lp_machine.specs.Table.{state_in};
-ghost use Rattle.lp_transition.specs.Blames.{HasBlamesAfter};
+ghost use Rattle.lp_transition.specs.Weigh.{HasBlamesAfter};
 ghost use Rattle.lp_transition.specs.LastScan.{IsLastScanAfter};
 ghost use Rattle.std.specs.Option.{option_map};
 ghost use Rattle.lp_cert.specs.Ends.{IsMadeFurther};

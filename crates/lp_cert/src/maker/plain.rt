@@ -9,9 +9,8 @@ ghost use Rattle.lp_model.specs.Rules.{Rules};
 ghost use Rattle.lp_machine.specs.Machine.{refusal_of};
 ghost use Rattle.lp_machine.specs.Steps.{IsStep, StandsIn};
 ghost use Rattle.lp_machine.specs.Table.{Engine, state_in};
-ghost use Rattle.lp_transition.specs.Blames.{HasBlamesAfter};
 ghost use Rattle.lp_transition.specs.LastScan.{used_scan};
-ghost use Rattle.lp_transition.specs.Weigh.{Weighed, refusal_in};
+ghost use Rattle.lp_transition.specs.Weigh.{HasBlamesAfter, Weighed, refusal_in};
 ghost use Rattle.lp_cert.specs.Ends.{IsMadeFurther, IsMadeWith, made_upto, passed_upto};
 ghost use Rattle.lp_cert.specs.inside.Invariant.{HasFloor, IsStepped, is_settled};
 ghost use Rattle.lp_cert.specs.inside.OwnEffects.{HasEffectRoom, IsTold, after_effect};
@@ -33,9 +32,9 @@ impl Maker {
         requires room { core.now.number < 1000000 }
         ensures made { (event : Event) → is_quiet event ≡ true → IsMadeFurther M.rules core.now event (made_upto core.now.number self.now) (made_upto (core.now.number + 1) self.now) }
     {
-        // For the proof alone, which knows what every value keeps once a field is read.
+        // For the proof alone, which knows what every value keeps once a field is read, and of an engine what this call promises.
         let _ = &self.waiters;
-        let _ = core;
+        let _ = core.events();
     }
 
     /// Notes the events that passed since the last one noted, which the engine has taken. Never allocates.
@@ -59,7 +58,7 @@ impl Maker {
         requires plain { is_scan event ≡ false }
         requires stays { is_control event ≡ true → refusal_of M.rules (state_in core.old) event ≢ None }
         ensures step { IfOk result (λ reply. IsStep M.rules (state_in core.old) event reply (state_in core.new)) }
-        ensures made { OnOk result ((run : Run) → StandsIn M.rules run (state_in core.old) → IsMadeWith M.rules run core.old.last_scan self.old → IsMadeWith M.rules (plus run event) core.new.last_scan self.new) }
+        ensures made { OnOk result ((run : Run) → StandsIn M.rules run (state_in core.old) → IsMadeWith M.rules run core.old self.old → IsMadeWith M.rules (plus run event) core.new self.new) }
         ensures blames { OnOk result (HasBlamesAfter M.rules core.old event core.new) }
         ensures unchanged { OnErr result (core.new ≡ core.old) }
         ensures ended { OnErr result (self.new.ended ≡ self.old.ended) }

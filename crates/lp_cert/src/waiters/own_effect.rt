@@ -1,16 +1,15 @@
 //! What events that are no scans do to the groups that wait.
 ghost use Rattle.std.specs.Prelude.{◌≡◌, ◌<◌, ℕ, List, Bool, suc, [], true, None, IfSome, OnOk};
 ghost use Rattle.lp_model.specs.declared.verdict.Verdict.{Verdict};
-ghost use Rattle.lp_transition.specs.Blames.{has_frame_in};
+ghost use Rattle.lp_transition.specs.Blames.{has_frame_in, own_blame};
 ghost use Rattle.lp_transition.specs.LastScan.{used_scan};
 ghost use Rattle.lp_machine.specs.Table.{state_in};
 ghost use Rattle.lp_cert.specs.inside.Heads.{IsUsed};
 ghost use Rattle.lp_cert.specs.inside.OwnEffects.{HasEffectRoom, HasOwnRoom, IsTold, after_effect};
-ghost use Rattle.lp_cert.specs.inside.Waiters.{HasFewGroups, lines_at, own_blame, own_lines};
+ghost use Rattle.lp_cert.specs.inside.Waiters.{HasFewGroups, lines_at, own_lines};
 ghost use Rattle.lp_cert.specs.Waiters.{head_of};
 
-use super::Waiters;
-use super::held::is_held;
+use super::{Waiters, is_held};
 use crate::head::{OwnFork, Refused};
 use lp_model::{Blame, CheckKind, Consistency, ForkKind};
 use lp_stack::{GroupId, TaskId};
@@ -154,7 +153,7 @@ impl Waiters {
 
 /// Why a task's own check doesn't admit it, if the model uses the check; None where it does.
 fn own_blame<M: Consistency>(core: &Core<M>, task: TaskId) -> Option<Blame>
-    ensures blame { result ≡ own_blame M.rules core.now task.0 }
+    ensures blame { result ≡ own_blame M.rules (state_in core.now) task.0 }
     ensures used { IfSome result IsUsed }
 {
     let model = core.model();

@@ -1,12 +1,13 @@
 //! The legs of a trace.
-ghost use Rattle.std.specs.Prelude.{◌≡◌, ◌≤◌, ◌<◌, ◌+◌, ◌++◌, ℕ, false, length, slice_index_or, take, true, IfOk, IfSome, IsTrue, OnOk, Some};
+ghost use Rattle.std.specs.Prelude.{◌≡◌, ◌≤◌, ◌<◌, ◌+◌, ◌++◌, ℕ, false, length, slice_index_or, take, true, IfOk, IfSome, IsTrue, OnOk};
 ghost use Rattle.std.specs.Option.{option_map};
 ghost use Rattle.lp_checker.specs.Folds.{leg_with};
 ghost use Rattle.lp_definitions.specs.Run.{Run, leg_of, opens, plus};
 ghost use Rattle.lp_definitions.specs.Events.{is_control};
 ghost use Rattle.lp_machine.specs.Steps.{StandsIn};
 ghost use Rattle.lp_machine.specs.Table.{state_in};
-ghost use Rattle.lp_transition.specs.Scan.{is_scan_kind, scan_event, MayLeaveOut};
+ghost use Rattle.lp_transition.specs.LastScan.{IsQuietScan};
+ghost use Rattle.lp_transition.specs.Scan.{is_scan_kind, scan_event};
 ghost use Rattle.lp_replay.specs.Legs.{leg_numbered, opened_by, to_end};
 
 use super::fault::ReplayFault;
@@ -97,16 +98,14 @@ fn step<M: Consistency>(
 /// The kind of scan that an event is, where the engine needn't look at anybody for it.
 fn quiet_scan<M: Consistency>(core: &Core<M>, event: Event) -> Option<CheckKind>
     ensures scan { IfSome result (λ kind. (is_scan_kind kind ≡ true) × (event ≡ scan_event kind)) }
-    ensures used { IfSome result (λ kind. IsTrue (M.rules.uses kind)) }
-    ensures quiet { IfSome result (λ kind. MayLeaveOut M.rules kind (state_in core.now) (λ group. false)) }
-    ensures last { IfSome result (λ kind. core.now.last_scan.kind ≡ Some kind) }
+    ensures quiet { IfSome result (λ kind. IsQuietScan M.rules core.now kind) }
 {
     let kind = match event {
         Event::Walk => CheckKind::Walk,
         Event::Stop => CheckKind::Stop,
         _ => return None,
     };
-    if core.model().uses(kind) && core.is_quiet_scan(kind) {
+    if core.is_quiet_scan(kind) {
         Some(kind)
     } else {
         None

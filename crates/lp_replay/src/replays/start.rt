@@ -1,9 +1,10 @@
 //! The engine at the start of a trace.
-ghost use Rattle.std.specs.Prelude.{◌≡◌, length, map, None, IfOk};
+ghost use Rattle.std.specs.Prelude.{◌≡◌, ℕ, length, map, None, IfOk};
 ghost use Rattle.std.specs.List.{AllByRecursion};
 ghost use Rattle.lp_patch.specs.Patches.{patch_refusal};
 ghost use Rattle.lp_machine.specs.Steps.{StandsIn};
 ghost use Rattle.lp_machine.specs.Table.{state_in};
+ghost use Rattle.lp_transition.specs.Blames.{blame_of};
 ghost use Rattle.lp_text.specs.Traces.{functions};
 ghost use Rattle.lp_replay.specs.Outcome.{patch_of, run_of};
 
@@ -24,6 +25,7 @@ pub(super) fn engine<M: Consistency>(
 ) -> Result<Box<Core<M>>, ReplayFault>
     ensures stands { IfOk result (λ core. StandsIn M.rules (run_of trace.now) (state_in core.value)) }
     ensures unscanned { IfOk result (λ core. core.value.last_scan.kind ≡ None) }
+    ensures blameless { IfOk result (λ core. (group : ℕ) → blame_of core.value group ≡ None) }
 {
     let patches = stack(alloc, trace)?;
     engine_over(alloc, model, patches, trace)
@@ -39,6 +41,7 @@ pub(super) fn engine_over<M: Consistency>(
     requires { patches ≡ (run_of trace.now).patches }
     ensures stands { IfOk result (λ core. StandsIn M.rules (run_of trace.now) (state_in core.value)) }
     ensures unscanned { IfOk result (λ core. core.value.last_scan.kind ≡ None) }
+    ensures blameless { IfOk result (λ core. (group : ℕ) → blame_of core.value group ≡ None) }
 {
     let core = boot(alloc, model, patches, trace)?;
     Ok(Box::new(alloc, core)?)
@@ -54,6 +57,7 @@ fn boot<M: Consistency>(
     requires { patches ≡ (run_of trace.now).patches }
     ensures stands { IfOk result (λ core. StandsIn M.rules (run_of trace.now) (state_in core)) }
     ensures unscanned { IfOk result (λ core. core.last_scan.kind ≡ None) }
+    ensures blameless { IfOk result (λ core. (group : ℕ) → blame_of core group ≡ None) }
 {
     match Core::boot(alloc, model, patches, trace.boots()) {
         Ok(core) => Ok(core),

@@ -1,8 +1,9 @@
 //! The frames by which the waiting groups are known to be refused.
-ghost use Rattle.std.specs.Prelude.{◌≡◌, ◌<◌, ◌≤◌, ℕ, List, Option, None, true, false, if◌then◌else◌, length, nat_eq, slice_index_or, IfOk};
+ghost use Rattle.std.specs.Prelude.{◌≡◌, ◌<◌, ◌≤◌, ℕ, List, Option, None, Some, true, false, if◌then◌else◌, length, nat_eq, slice_index_or, IfOk};
 ghost use Rattle.std.specs.List.{list_any};
 ghost use Rattle.lp_numbers.specs.Numbers.{has};
 ghost use Rattle.lp_machine.specs.Table.{slot};
+ghost use Rattle.lp_tasks.specs.inside.Table.{is_in};
 ghost use Rattle.lp_transition.specs.Blames.{or_blame};
 ghost use Rattle.lp_transition.specs.inside.Blames.{blame_at, looked_at, found_by, told_of, IsDecided};
 ghost use Rattle.lp_transition.specs.inside.ScanSteps.{is_found};
@@ -112,6 +113,22 @@ impl Blames {
         self.of_group.put(group.0, None, None);
     }
 
+    /// The group of a task gets a blame that was found of it, if it has none.
+    pub(super) fn note_own(&mut self, tasks: &TaskTable, task: TaskId, found: Option<StandingBlame>)
+        ensures blames { (group : ℕ) → group < 65536 → blame_at self.new group ≡ (if is_in group (slot tasks.now task.0) then or_blame (blame_at self.old group) found else blame_at self.old group) }
+        ensures groups { length self.new ≤ 65536 }
+    {
+        // For the proof alone, which knows what every value keeps once a field is read.
+        let _ = &self.of_group;
+        let Some(blame) = found else {
+            return;
+        };
+        let Some(group) = tasks.group_of(task) else {
+            return;
+        };
+        set_if_none(&mut self.of_group, &mut self.noted, group, blame);
+    }
+
     /// After a scan: a group without a blame gets that of the first member that was refused, if
     /// that was for a frame. The groups of which a member was refused are then those of the set.
     #[inline(always)]
@@ -201,12 +218,28 @@ fn decide(
     let Blame::Frame(serial) = why else {
         return;
     };
-    if blame_of(of_group, group).is_none() {
-        noted.insert(group.0);
-        let blame = StandingBlame {
-            task: verdict.task,
-            serial,
-        };
-        of_group.put(group.0, Some(blame), None);
+    let blame = StandingBlame {
+        task: verdict.task,
+        serial,
+    };
+    set_if_none(of_group, noted, group, blame);
+}
+
+/// A group gets a blame, if it has none.
+fn set_if_none(
+    of_group: &mut BlameTable,
+    noted: &mut NumberSet,
+    group: GroupId,
+    blame: StandingBlame,
+)
+    requires count { length of_group.old ≤ 65536 }
+    ensures blames { (g : ℕ) → blame_at of_group.new g ≡ (if nat_eq g group.0 then or_blame (blame_at of_group.old g) (Some blame) else blame_at of_group.old g) }
+    ensures count { length of_group.new ≤ 65536 }
+    ensures others { ((g : ℕ) → has noted.old g ≡ false → blame_at of_group.old g ≡ None) → (g : ℕ) → has noted.new g ≡ false → blame_at of_group.new g ≡ None }
+{
+    if blame_of(of_group, group).is_some() {
+        return;
     }
+    noted.insert(group.0);
+    of_group.put(group.0, Some(blame), None);
 }

@@ -4,10 +4,10 @@ ghost use Rattle.lp_transition.specs.declared.engine.step.Halt.TheVariants.{NoMe
 ghost use Rattle.lp_definitions.specs.Events.{is_scan};
 ghost use Rattle.lp_transition.specs.Scan.{is_scan_kind, scan_event, verdicts_of};
 ghost use Rattle.lp_machine.specs.Steps.{IsStep};
-ghost use Rattle.lp_transition.specs.Blames.{AreBlamesAfter, HasBlamesAfter};
+ghost use Rattle.lp_transition.specs.Blames.{AreBlamesAfter};
 ghost use Rattle.lp_transition.specs.LastScan.{IsLastScanAfter};
 ghost use Rattle.lp_machine.specs.Table.{state_in};
-ghost use Rattle.lp_transition.specs.Weigh.{IsWeighed, is_switched, may_allocate, refusal_in};
+ghost use Rattle.lp_transition.specs.Weigh.{HasBlamesAfter, IsWeighed, is_switched, may_allocate, refusal_in};
 ghost use Rattle.lp_machine.specs.Machine.{refusal_of, answer, next};
 
 use super::Core;

@@ -1,19 +1,21 @@
 //! Own checks: those that a task makes of itself where it returns to user space, at its idle point,
 //! and where it would let another run.
-ghost use Rattle.std.specs.Prelude.{◌≡◌, [], ◌<◌, None, true, IfOk, IsErr, IsTrue};
+ghost use Rattle.std.specs.Prelude.{◌≡◌, ℕ, [], ◌<◌, None, true, if◌then◌else◌, IfOk, IsErr, IsTrue};
 ghost use Rattle.std.specs.Option.{ForSome};
 ghost use Rattle.lp_transition.specs.Weigh.{is_switched};
-ghost use Rattle.lp_transition.specs.Blames.{AreBlamesAfter};
+ghost use Rattle.lp_transition.specs.Blames.{AreBlamesAfter, frame_blame, refused_first};
 ghost use Rattle.lp_transition.specs.LastScan.{IsLastScanAfter};
 ghost use Rattle.lp_machine.specs.Table.{slot, state_in};
 ghost use Rattle.lp_machine.specs.Machine.{affected, switches_at, refusal_of, answer, next};
+ghost use Rattle.lp_tasks.specs.inside.Table.{is_in};
 ghost use Rattle.lp_tasks.specs.inside.OwnChecks.{is_own_kind, own_check_event, own_check_mode};
 
 use super::Core;
 use super::dispatch::done;
 use super::weigh::{group_of, is_only, one_group};
 use crate::{Reply, What};
-use lp_model::{CheckKind, Consistency};
+use lp_machine::StandingBlame;
+use lp_model::{Blame, CheckKind, Consistency};
 use lp_stack::{Mode, TaskId, View};
 use lp_tasks::own_check_mode;
 use std::alloc::{AllocError, Global};
@@ -75,6 +77,36 @@ impl<M: Consistency> Core<M> {
         self.model.admits(kind, &found, &aim)
     }
 
+    /// The frame for which an own check in the kernel refuses its task, where the task waits and is the only member of its
+    /// group.
+    fn own_blame(&self, kind: CheckKind, task: TaskId) -> Option<StandingBlame>
+        requires own_check { is_own_kind kind ≡ true }
+        ensures { (group : ℕ) → frame_blame (refused_first M.rules (state_in self.now) (own_check_event kind task) [] group) ≡ (if is_in group (slot self.now.table task.0) then result else None) }
+    {
+        // For the proof alone, which knows what every value keeps once a field is read.
+        let _ = &self.tasks;
+        let CheckKind::Resched = kind else {
+            return None;
+        };
+        if !self.waiting.contains(task.0) {
+            return None;
+        }
+        if !self.model.uses(kind) {
+            return None;
+        }
+        let live = self.tasks.get(task)?;
+        let lone = self.tasks.is_alone(live.group(), task);
+        if !lone {
+            return None;
+        }
+        let aim = self.aim();
+        let why = self.model.blame(kind, &live.view(task), &aim)?;
+        let Blame::Frame(serial) = why else {
+            return None;
+        };
+        Some(StandingBlame { task, serial })
+    }
+
     /// The answer says whether the group switches, so the model isn't asked twice: its second
     /// answer could only be the same, at the cost of the task's frames.
     pub(super) fn take_own_check(&mut self, kind: CheckKind, task: TaskId, switching: bool)
@@ -86,8 +118,10 @@ impl<M: Consistency> Core<M> {
         ensures blames { AreBlamesAfter M.rules self.old (own_check_event kind task) [] self.new }
         ensures last_scan { IsLastScanAfter M.rules self.old (own_check_event kind task) self.new }
     {
+        let found = self.own_blame(kind, task);
         self.events += 1;
-        self.unchanged.touch(&self.tasks, task);
+        self.blames.note_own(&self.tasks, task, found);
+        self.unchanged.touch(&self.tasks, &self.blames, task);
         self.tasks.reach_own_check(kind, task);
         if !switching {
             return;

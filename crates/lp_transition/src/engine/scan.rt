@@ -12,7 +12,7 @@ ghost use Rattle.lp_tasks.specs.inside.Table.{is_in};
 ghost use Rattle.lp_machine.specs.Machine.{view_of, waits_in, next};
 ghost use Rattle.lp_definitions.specs.Events.{is_scan, group_numbers};
 ghost use Rattle.lp_definitions.specs.Run.{switched};
-ghost use Rattle.lp_transition.specs.Weigh.{IsWeighed};
+ghost use Rattle.lp_transition.specs.Weigh.{IsWeighed, Tells};
 ghost use Rattle.lp_machine.specs.Steps.{IsReply};
 ghost use Rattle.lp_transition.specs.Scan.{is_scan_kind, scan_event, views_of, verdict_of, verdicts_of, verdicts_at, AreEnough};
 ghost use Rattle.lp_tasks.specs.Passing.{passing};
@@ -114,6 +114,7 @@ impl<M: Consistency> Core<M> {
         requires scan { is_scan_kind kind ≡ true }
         requires room { self.now.number < 1000000 }
         requires found { AreEnough M.rules kind (state_in self.now) verdicts.items }
+        requires told { Tells M.rules self.now (scan_event kind) verdicts.items }
         ensures reply { IfOk result (λ step. IsReply M.rules (state_in self.now) (scan_event kind) step.reply) }
         ensures weighed { IfOk result (λ step. IsWeighed M.rules self.now step) }
         ensures event { IfOk result (λ step. step.event ≡ scan_event kind) }

@@ -32,10 +32,10 @@ impl<M: Consistency> Core<M> {
     {
         self.tasks.call(task, func, self.events + 1);
         self.events += 1;
-        self.unchanged.touch(&self.tasks, task);
+        self.unchanged.touch(&self.tasks, &self.blames, task);
     }
 
-    /// An accepted return.
+    /// An accepted return. The blame goes first: only then is a group that it held back one to which something happened.
     #[inline(always)]
     pub(super) fn take_ret(&mut self, task: TaskId)
         requires room { self.old.number < 1000000 }
@@ -46,8 +46,8 @@ impl<M: Consistency> Core<M> {
     {
         self.tasks.ret(task);
         self.events += 1;
-        self.unchanged.touch(&self.tasks, task);
         self.blames.popped(&self.waiting, &self.tasks, task);
+        self.unchanged.touch(&self.tasks, &self.blames, task);
     }
 
     /// An accepted move of a task.
@@ -61,7 +61,7 @@ impl<M: Consistency> Core<M> {
     {
         self.tasks.set_mode(task, kind.mode());
         self.events += 1;
-        self.unchanged.touch(&self.tasks, task);
+        self.unchanged.touch(&self.tasks, &self.blames, task);
     }
 
     /// A child of a parent that switched is on the target already, and waits for nothing.
@@ -77,7 +77,7 @@ impl<M: Consistency> Core<M> {
         self.events += 1;
         put_number(&mut self.waiting, child.0, waits);
         self.tasks.put(child, live);
-        self.unchanged.touch(&self.tasks, child);
+        self.unchanged.touch(&self.tasks, &self.blames, child);
     }
 
     /// The child of an accepted fork, which begins in the kernel on its parent's level.
@@ -102,7 +102,7 @@ impl<M: Consistency> Core<M> {
     {
         self.events += 1;
         self.waiting.remove(task.0);
-        self.unchanged.touch(&self.tasks, task);
+        self.unchanged.touch(&self.tasks, &self.blames, task);
         self.tasks.remove(task);
         self.unchanged.reset_if_done(&self.waiting);
     }

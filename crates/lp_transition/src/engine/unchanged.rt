@@ -1,13 +1,14 @@
 //! Which waiting groups a scan needn't ask again, and which waiting tasks it would admit again.
-ghost use Rattle.std.specs.Prelude.{◌≡◌, ◌⊎◌, ◌&&◌, ◌||◌, not, ℕ, None, Some, is_some, nat_eq, false, IfOk, IfSome, IsTrue};
+ghost use Rattle.std.specs.Prelude.{◌≡◌, ◌⊎◌, ◌&&◌, ◌||◌, not, ℕ, None, Some, is_some, is_none, nat_eq, false, IfOk, IfSome, IsTrue};
 ghost use Rattle.std.specs.List.{list_any};
 ghost use Rattle.lp_numbers.specs.Numbers.{has, IsEmpty};
 ghost use Rattle.lp_machine.specs.Table.{slot};
+ghost use Rattle.lp_transition.specs.inside.Blames.{blame_at};
 ghost use Rattle.lp_transition.specs.inside.Invariant.{IsNoted};
 ghost use Rattle.lp_transition.specs.inside.ScanSteps.{admits_task};
 ghost use Rattle.lp_tasks.specs.inside.Table.{is_in};
 
-use super::scan::add_group;
+use super::blames::Blames;
 use lp_model::{CheckKind, Verdict};
 use lp_numbers::NumberSet;
 use lp_stack::TaskId;
@@ -17,12 +18,13 @@ use std::marker::Model;
 
 /// What the engine keeps of its last scan: each group that waits and hasn't changed since is
 /// refused by a scan of this kind again, and each task that waits is admitted by one, but for those
-/// of a set.
+/// of a set. A group that a frame holds back is refused whatever happens to it.
 pub(super) struct Unchanged {
     /// The kind of the leg's last scan that the model uses; None where there was none, or nobody
     /// waits.
     kind: Option<CheckKind>,
-    /// The groups to which something happened since, and of use where there was a scan.
+    /// The groups to which something happened since that no frame held back then, and of use where
+    /// there was a scan.
     changed: NumberSet,
     /// The tasks that a scan may refuse, and of use where there was a scan. A task that doesn't wait
     /// may be among them.
@@ -81,13 +83,13 @@ impl Unchanged {
     /// Something happens to a task, or it is born. Without a scan before there is nothing to note,
     /// so that a quiet event then costs a look at the kind.
     #[inline(always)]
-    pub(super) fn touch(&mut self, tasks: &TaskTable, task: TaskId)
+    pub(super) fn touch(&mut self, tasks: &TaskTable, blames: &Blames, task: TaskId)
         ensures kind { self.new.kind ≡ self.old.kind }
-        ensures changed { (group : ℕ) → has self.new.changed group ≡ (has self.old.changed group || (is_some self.old.kind && is_in group (slot tasks.now task.0))) }
+        ensures changed { (group : ℕ) → has self.new.changed group ≡ (has self.old.changed group || (is_some self.old.kind && (is_in group (slot tasks.now task.0) && is_none (blame_at blames.now group)))) }
         ensures may_refuse { (t : ℕ) → has self.new.may_refuse t ≡ (has self.old.may_refuse t || (is_some self.old.kind && nat_eq t task.0)) }
     {
         if self.kind.is_some() {
-            add_group(&mut self.changed, tasks, task);
+            add_open_group(&mut self.changed, tasks, blames, task);
             self.may_refuse.insert(task.0);
         }
     }
@@ -151,6 +153,20 @@ impl Unchanged {
             self.reset();
         }
     }
+}
+
+/// Takes in the group of a live task, if it has no standing blame.
+fn add_open_group(groups: &mut NumberSet, tasks: &TaskTable, blames: &Blames, task: TaskId)
+    ensures { (group : ℕ) → has groups.new group ≡ (has groups.old group || (is_in group (slot tasks.now task.0) && is_none (blame_at blames.now group))) }
+{
+    let Some(live) = tasks.get(task) else {
+        return;
+    };
+    let group = live.group();
+    if blames.of(group).is_some() {
+        return;
+    }
+    groups.insert(group.0);
 }
 
 /// Takes out the tasks that were admitted.

@@ -5,13 +5,12 @@ use Rattle.lp_cert.specs.inside.Heads.{HasFrameAs}
 use Rattle.lp_transition.specs.Blames.{has_frame_in}
 use Rattle.lp_machine.specs.Table.{state_in}
 use Rattle.lp_cert.specs.inside.Waiters.{is_left}
-use Rattle.lp_cert.proofs.WholeScans.{count_less}
 use Rattle.lp_cert.proofs.HeadLemmas.{frame_as}
 use Rattle.lp_cert.proofs.WaiterLemmas.{grouped, judges, not_left, others_left, blameless_judged, other_judged}
 use Rattle.lp_cert.proofs.waiters.judge.Goals as goal
 
-pub returns-clause-judged : goal.returns-clause-judged
-returns-clause-judged g c =
+pub returns : goal.returns
+returns g c =
     let group = c.in-Some-group_of.group in
     let s = state_in c.args.core.now in
     let mine = grouped c.args.core.now.table c.args.verdict.now.task.0 group c.in-Some-group_of.ensures in
@@ -22,31 +21,18 @@ returns-clause-judged g c =
     mine c.in-Some.is waits (subst (λ (h : Head). HasFrameAs (has_frame_in s) h.ongoing c.is_held.result) c.head.ensures (frame_as (has_frame_in s) _ c.is_held.result c.is_held.ensures)) c.refuse.ensures.refused c.refuse.ensures.others c.refuse.ensures.scans c.refuse.ensures.room c.refuse.ensures.scan_room
     (not_left c.args.waiting.now c.args.refused.now c.insert.new.self group.0 c.insert.ensures.after c.insert.ensures.numbers few) (others_left c.args.waiting.now c.args.refused.now c.insert.new.self group.0 c.insert.ensures.after)
 
-pub returns-clause-spent : goal.returns-clause-spent
-returns-clause-spent g c =
-    let group = c.in-Some-group_of.group in
-    let waits = sym c.is_left.ensures ∙ c.if-not-is_left.false in
-    let few : group.0 < 65536 = omega arith in
-    let less = count_less (is_left c.args.waiting.now c.args.refused.now) (is_left c.args.waiting.now c.insert.new.self) group.0 waits
-    (not_left c.args.waiting.now c.args.refused.now c.insert.new.self group.0 c.insert.ensures.after c.insert.ensures.numbers few)
-    (others_left c.args.waiting.now c.args.refused.now c.insert.new.self group.0 c.insert.ensures.after) 65536 few in
-    omega (arith, less, c.refuse.ensures.room)
-
 pub refuse-requires-clause-head : goal.refuse-requires-clause-head
 refuse-requires-clause-head g c = grind (arith, common_steps)
-
-pub refuse-requires-clause-room : goal.refuse-requires-clause-room
-refuse-requires-clause-room g c = c.requires.room c.in-Some-group_of.group.0 (omega arith) (sym c.is_left.ensures ∙ c.if-not-is_left.false)
 
 pub refuse-requires-clause-used : goal.refuse-requires-clause-used
 refuse-requires-clause-used g c = grind (arith, common_steps)
 
-pub returns-then-not-is_left-clause-judged : goal.returns-then-not-is_left-clause-judged
-returns-then-not-is_left-clause-judged g c =
+pub returns-then-not-is_left : goal.returns-then-not-is_left
+returns-then-not-is_left g c =
     let group = c.in-Some-group_of.group in
     let left : is_left c.args.waiting.now c.args.refused.now group.0 ≡ c.is_left.result = sym c.is_left.ensures in
     other_judged (state_in c.args.core.now) c.args.at c.args.verdict.now (is_left c.args.waiting.now c.args.refused.now) c.args.reasons.now c.in-Some.blame group
     (grouped c.args.core.now.table c.args.verdict.now.task.0 group c.in-Some-group_of.ensures) c.in-Some.is (left ∙ c.if-not-is_left.true)
 
-pub returns-in_default-clause-judged : goal.returns-in_default-clause-judged
-returns-in_default-clause-judged g c = blameless_judged (state_in c.args.core.now) c.args.at c.args.verdict.now (is_left c.args.waiting.now c.args.refused.now) c.args.reasons.now c.in_default.is
+pub returns-in_default : goal.returns-in_default
+returns-in_default g c = blameless_judged (state_in c.args.core.now) c.args.at c.args.verdict.now (is_left c.args.waiting.now c.args.refused.now) c.args.reasons.now c.in_default.is

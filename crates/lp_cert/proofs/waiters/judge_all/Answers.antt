@@ -15,10 +15,10 @@ loop-verdict-preserved g c =
     let within : i < length vs = omega arith in
     let step : take (i + 1) vs ≡ take i vs ++ get_or vs i none ∷ [] = rw add-one (take-suc vs i none within) in
     let s = state_in c.args.core.now in
-    let all = one_judged s c.args.at (take i vs) (get_or vs i none) (is_left c.args.waiting.now c.args.refused.now) (is_left c.args.waiting.now c.loop-verdict.refused) (is_left c.args.waiting.now c.judge.new.refused) c.args.reasons.now c.loop-verdict.reasons c.judge.new.reasons c.requires.stand c.loop-verdict.invariant.judged c.judge.ensures.judged in
+    let all = one_judged s c.args.at (take i vs) (get_or vs i none) (is_left c.args.waiting.now c.args.refused.now) (is_left c.args.waiting.now c.loop-verdict.refused) (is_left c.args.waiting.now c.judge.new.refused) c.args.reasons.now c.loop-verdict.reasons c.judge.new.reasons c.requires.stand c.loop-verdict.invariant.judged c.judge.ensures in
     record {
       judged = subst (λ (l : List Verdict). AreJudged s c.args.at l (is_left c.args.waiting.now c.args.refused.now) (is_left c.args.waiting.now c.judge.new.refused) c.args.reasons.now c.judge.new.reasons) (sym step) all;
-      stand = still_standing s c.args.at (take i vs) (get_or vs i none) (is_left c.args.waiting.now c.args.refused.now) (is_left c.args.waiting.now c.loop-verdict.refused) (is_left c.args.waiting.now c.judge.new.refused) c.args.reasons.now c.loop-verdict.reasons c.judge.new.reasons c.requires.stand c.loop-verdict.invariant.judged c.judge.ensures.judged;
+      stand = still_standing s c.args.at (take i vs) (get_or vs i none) (is_left c.args.waiting.now c.args.refused.now) (is_left c.args.waiting.now c.loop-verdict.refused) (is_left c.args.waiting.now c.judge.new.refused) c.args.reasons.now c.loop-verdict.reasons c.judge.new.reasons c.requires.stand c.loop-verdict.invariant.judged c.judge.ensures;
     }
 
 pub returns : goal.returns

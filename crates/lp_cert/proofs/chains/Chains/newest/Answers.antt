@@ -1,4 +1,4 @@
-use Rattle.std.proofs.Common.{ap, length, arith}
+use Rattle.std.proofs.Common.{ap}
 use Rattle.std.specs.List.{slice_get}
 use Rattle.lp_cert.proofs.chains.Chains.newest.Goals as goal
 

@@ -1,7 +1,9 @@
 use Rattle.std.proofs.Common.{◌≡◌, sym, subst, ◌∙◌}
 use Rattle.lp_cert.specs.Ends.{passed_upto}
 use Rattle.lp_cert.specs.Explained.{IsExplained}
-use Rattle.lp_cert.proofs.Explaining.{explained_noted, explained_passed, left, on_err, on_ok}
+use Rattle.lp_cert.proofs.Explaining.{explained_noted, explained_passed, left, on_err, on_ok, on_ok_two}
+use Rattle.lp_cert.proofs.Passed.{unscanned}
+use Rattle.lp_cert.proofs.PlainEvents.{plain_blames}
 use Rattle.lp_cert.proofs.explained.ExplainedCore.step.Goals as goal
 
 pub returns-then-is_quiet-clause-explained : goal.returns-then-is_quiet-clause-explained
@@ -9,9 +11,10 @@ returns-then-is_quiet-clause-explained g c =
     let model = g.M.Consistency.rules in
     let i = c.self.inside in
     let passed = rw c.deref_mut-core.ensures.value at c.let_pass.ensures.made in
-    on_ok _ _ _ (λ reply step last. λ run is.
-    explained_passed model run c.args.event i.core.value c.step_plain.new.self reply step i.maker last (passed c.args.event (sym c.is_quiet.ensures ∙ c.if-is_quiet.true)) (subst (IsExplained model run) (sym c.self.view_is) is))
-    c.step_plain.result (rw c.deref_mut-core.ensures.value at c.step_plain.ensures.step) (rw c.deref_mut-core.ensures.value at c.step_plain.ensures.last_scan)
+    let quiet = sym c.is_quiet.ensures ∙ c.if-is_quiet.true in
+    on_ok_two _ _ _ _ (λ reply step blames last. λ run is.
+    explained_passed model run c.args.event i.core.value c.step_plain.new.self reply step i.maker (plain_blames model i.core.value c.args.event c.step_plain.new.self (unscanned c.args.event quiet) blames) last (passed c.args.event quiet) (subst (IsExplained model run) (sym c.self.view_is) is))
+    c.step_plain.result (rw c.deref_mut-core.ensures.value at c.step_plain.ensures.step) (rw c.deref_mut-core.ensures.value at c.step_plain.ensures.blames) (rw c.deref_mut-core.ensures.value at c.step_plain.ensures.last_scan)
 
 pub returns-in_default-clause-explained : goal.returns-in_default-clause-explained
 returns-in_default-clause-explained g c =

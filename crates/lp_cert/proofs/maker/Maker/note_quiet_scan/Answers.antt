@@ -9,17 +9,16 @@ use Rattle.lp_cert.proofs.QuietScans.{quiet_made}
 use Rattle.lp_cert.proofs.maker.Maker.note_quiet_scan.Goals as goal
 
 pub returns-clause-made : goal.returns-clause-made
-returns-clause-made g c = λ yes run after stands is stands_after known.
+returns-clause-made g c = λ yes run after stands is stands_after blamed known.
     let i = c.self.inside in
     let model = g.M.Consistency.rules in
     let number = c.events.result + 1 in
     let old : Made = record { ended = i.ended.ends; current = option_map (open_end i.noted i.waiters) i.current; ready = option_map room_of i.ready } in
     let new : Made = record { ended = i.ended.ends; current = option_map (open_end number c.scan_nobody.new.self) i.current; ready = option_map room_of i.ready } in
-    let was : IsMadeWith model run c.args.core.now.last_scan old = rw (← c.self.view_is) at is in
-    let may = c.if-not-may_leave_out.false in
+    let was : IsMadeWith model run c.args.core.now old = rw (← c.self.view_is) at is in
     let under_way = open_leg i.current (sym c.is_settled.ensures ∙ c.if-is_settled.false) in
-    quiet_made model g.met.M.Consistency.lawful run c.args.core.now stands c.args.kind old was after stands_after known (c.may_leave_out.ensures.last may) c.events.ensures.wide (c.may_leave_out.ensures.quiet may)
-    c.requires.scan c.requires.room (c.may_leave_out.ensures.used may) new refl i.noted number under_way.0 i.waiters c.scan_nobody.new.self (ap (option_map (open_end i.noted i.waiters)) under_way.1) (c.may_leave_out.ensures.held may) (ap (λ m. m + 1) c.events.ensures.value) under_way.2
+    quiet_made model g.met.M.Consistency.lawful run c.args.core.now stands c.args.kind old was c.events.ensures.wide c.events.ensures.blamed after stands_after blamed known (c.is_quiet_scan.ensures c.if-not-is_quiet_scan.false)
+    c.requires.scan c.requires.room new refl i.noted number under_way.0 i.waiters c.scan_nobody.new.self (ap (option_map (open_end i.noted i.waiters)) under_way.1) (ap (λ m. m + 1) c.events.ensures.value) under_way.2
     c.scan_nobody.ensures.stood c.scan_nobody.ensures.lines
     (ap (option_map (open_end number c.scan_nobody.new.self)) under_way.1)
 
@@ -44,23 +43,6 @@ returns-clause-ready g c = grind (arith, common_steps)
 pub returns-then-is_settled-clause-quiet : goal.returns-then-is_settled-clause-quiet
 returns-then-is_settled-clause-quiet g c = λ yes. absurd (false≢true yes)
 
-pub returns-then-is_settled-clause-used : goal.returns-then-is_settled-clause-used
-returns-then-is_settled-clause-used g c = λ yes. absurd (false≢true yes)
-
-pub returns-then-is_settled-clause-last : goal.returns-then-is_settled-clause-last
-returns-then-is_settled-clause-last g c = λ yes. absurd (false≢true yes)
-
 pub returns-then-is_settled-clause-made : goal.returns-then-is_settled-clause-made
 returns-then-is_settled-clause-made g c = λ yes. absurd (false≢true yes)
 
-pub returns-then-not-may_leave_out-clause-quiet : goal.returns-then-not-may_leave_out-clause-quiet
-returns-then-not-may_leave_out-clause-quiet g c = λ yes. absurd (false≢true yes)
-
-pub returns-then-not-may_leave_out-clause-used : goal.returns-then-not-may_leave_out-clause-used
-returns-then-not-may_leave_out-clause-used g c = λ yes. absurd (false≢true yes)
-
-pub returns-then-not-may_leave_out-clause-last : goal.returns-then-not-may_leave_out-clause-last
-returns-then-not-may_leave_out-clause-last g c = λ yes. absurd (false≢true yes)
-
-pub returns-then-not-may_leave_out-clause-made : goal.returns-then-not-may_leave_out-clause-made
-returns-then-not-may_leave_out-clause-made g c = λ yes. absurd (false≢true yes)

@@ -12,7 +12,7 @@ use Rattle.lp_cert.proofs.PlainEvents.{control_unscanned, replied, turns, weighe
 use Rattle.lp_cert.proofs.maker.Maker.open_leg.Goals as goal
 
 pub returns-clause-made : goal.returns-clause-made
-returns-clause-made g c = λ run after stands is stands_after known.
+returns-clause-made g c = λ run after stands is stands_after blamed known.
     let i = c.self.inside in
     let model = g.M.Consistency.rules in
     let lawful = g.met.M.Consistency.lawful in
@@ -23,9 +23,9 @@ returns-clause-made g c = λ run after stands is stands_after known.
     let later = c.open.new.self in
     let old : Made = record { ended = i.ended.ends; current = option_map (open_end i.noted i.waiters) i.current; ready = option_map room_of i.ready } in
     let new : Made = record { ended = c.add_end.new.ended.ends; current = Some (open_end number later c.new.result); ready = None } in
-    let was : IsMadeWith model run e.last_scan old = rw (← c.self.view_is) at is in
+    let was : IsMadeWith model run e old = rw (← c.self.view_is) at is in
     let target = c.new_level-target.ensures.value in
-    turned_made model lawful run e stands (plain_step model e event) (weighed model lawful run e stands event (control_unscanned event c.requires.control) c.requires.room) old new was after stands_after known (turns model lawful run e stands event c.requires.control c.requires.accepted)
+    turned_made model lawful run e stands (plain_step model e event) (weighed model lawful run e stands event (control_unscanned event c.requires.control) c.requires.room) old new was c.events.ensures.wide c.events.ensures.blamed after stands_after blamed known (turns model lawful run e stands event c.requires.control c.requires.accepted)
     number later (ap (λ m. m + 1) c.events.ensures.value)
     (λ sound group. c.open.ensures sound group ∙ ap (λ level. if has_off s level group then Some [] else None) target)
     c.in_ok-add_end.ensures.ends

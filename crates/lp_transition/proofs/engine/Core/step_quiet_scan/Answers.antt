@@ -8,7 +8,7 @@ pub invariant_of-self : goal.invariant_of-self
 invariant_of-self g c =
     let i = c.self.inside in
     let e : Engine = record { number = i.events; from = i.from.0; target = i.target.0; patches = i.patches; table = i.tasks; blames = i.blames; last_scan = told_scan i.unchanged } in
-    quiet_whole g.M.Consistency.rules g.met.M.Consistency.lawful e c.args.self.now i.waiting i.unchanged c.clear_changed.new.self c.args.kind c.self.view_is c.self.invariant c.requires.scan c.requires.room c.requires.quiet refl c.requires.last c.clear_changed.ensures.kind c.clear_changed.ensures.may_refuse c.clear_changed.ensures.changed
+    quiet_whole g.M.Consistency.rules g.met.M.Consistency.lawful e c.args.self.now i.waiting i.unchanged c.clear_changed.new.self c.args.kind c.self.view_is c.self.invariant c.requires.scan c.requires.room c.requires.quiet refl c.clear_changed.ensures.kind c.clear_changed.ensures.may_refuse c.clear_changed.ensures.changed
 
 pub returns-clause-step : goal.returns-clause-step
 returns-clause-step g c =
@@ -27,4 +27,4 @@ pub returns-clause-last_scan : goal.returns-clause-last_scan
 returns-clause-last_scan g c =
     let i = c.self.inside in
     let e : Engine = record { number = i.events; from = i.from.0; target = i.target.0; patches = i.patches; table = i.tasks; blames = i.blames; last_scan = told_scan i.unchanged } in
-    quiet_last g.M.Consistency.rules g.met.M.Consistency.lawful e c.args.self.now i.waiting i.unchanged c.clear_changed.new.self c.args.kind c.self.view_is c.self.invariant c.requires.scan c.requires.room c.requires.quiet refl c.requires.last c.clear_changed.ensures.kind c.clear_changed.ensures.may_refuse c.clear_changed.ensures.changed c.requires.used
+    quiet_last g.M.Consistency.rules g.met.M.Consistency.lawful e c.args.self.now i.waiting i.unchanged c.clear_changed.new.self c.args.kind c.self.view_is c.self.invariant c.requires.scan c.requires.room c.requires.quiet refl c.clear_changed.ensures.kind c.clear_changed.ensures.may_refuse c.clear_changed.ensures.changed
